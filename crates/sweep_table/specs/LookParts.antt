@@ -1,0 +1,24 @@
+-- The searcher's looks: what contracts see of a sweep is its denominator and, per position, the overlook part.
+use Rattle.std.specs.Prelude.{ℕ, ◌≤◌, ◌==◌, if◌then◌else◌, List, length, slice_index}
+
+pub record LookParts : Type 0 where
+  pub denominator : ℕ
+  pub overlook : List ℕ
+
+-- the number of positions to look from, and of the cells that are looked at
+abbrev pub positions_of : LookParts → ℕ
+positions_of sweep = length sweep.overlook
+
+abbrev pub cells_of : LookParts → ℕ
+cells_of sweep = length sweep.overlook
+
+-- how much of a target in cell c a look from position p in period t misses, out of the denominator
+unfoldable pub factor_of : LookParts → ℕ → ℕ → ℕ → ℕ
+factor_of sweep t p c = if p == c then slice_index sweep.overlook p else sweep.denominator
+
+-- a denominator up to 1,000,000, 1 to 200 positions and cells, and no factor above the denominator
+pub record IsSweep (sweep : LookParts) : Type 0 where
+  pub denominator : (1 ≤ sweep.denominator) × (sweep.denominator ≤ 1000000)
+  pub positions : (1 ≤ positions_of sweep) × (positions_of sweep ≤ 200)
+  pub cells : (1 ≤ cells_of sweep) × (cells_of sweep ≤ 200)
+  pub within : (t p c : ℕ) → factor_of sweep t p c ≤ sweep.denominator
