@@ -1,0 +1,66 @@
+-- The canonical text of a problem: each line its fields with one blank between and a line feed.
+use Rattle.std.specs.Prelude.{ℕ, ◌==◌, if◌then◌else◌, List, [], ◌∷◌, ◌++◌, map, codes, Some}
+use Rattle.std.specs.List.{flat_map, range_with_len}
+use Rattle.std.specs.Fmt.{decimal}
+use Rattle.exact_parts.specs.Rows.{text_of}
+use Rattle.drift_chain.specs.declared.part.DriftPart.{DriftPart}
+use Rattle.drift_chain.specs.DriftRows.{row_of}
+use Rattle.search_grid.specs.Moves.{moves_from}
+use Rattle.sweep_table.specs.LookParts.{factor_of}
+use Rattle.search_model.specs.Problem.{Problem, first_of, cell_name, position_name}
+use Rattle.scenario_text.specs.declared.draft.Stage.TheVariants.{Ended}
+use Rattle.scenario_text.specs.State.{State, CellState}
+
+-- `NAME PART NAME PART ..`
+abbrev pub pair_fields : Problem → List DriftPart → List (List ℕ)
+pair_fields p entries = flat_map (λ e. cell_name p e.cell ∷ decimal e.part ∷ []) entries
+
+-- the cells with a positive first part, ascending
+abbrev pub first_entries : Problem → List DriftPart
+first_entries p = flat_map (λ c. if first_of p c == 0 then [] else record { cell = c; part = first_of p c } ∷ []) (range_with_len 0 p.cells)
+
+abbrev pub cell_row : List ℕ → List (List ℕ)
+cell_row name = codes "cell" ∷ name ∷ []
+
+abbrev pub moves_row : Problem → ℕ → List (List ℕ)
+moves_row p q = codes "moves" ∷ position_name p q ∷ map (position_name p) (moves_from p.moves q)
+
+abbrev pub drift_row : Problem → ℕ → List (List ℕ)
+drift_row p c = codes "drift" ∷ cell_name p c ∷ pair_fields p (row_of p.drift 1 c)
+
+-- the overlook part of a position is the factor at its own cell
+abbrev pub overlook_row : Problem → ℕ → List (List ℕ)
+overlook_row p q = codes "overlook" ∷ position_name p q ∷ decimal (factor_of p.sweep 1 q q) ∷ []
+
+-- the lines, each as its fields
+abbrev pub scenario_rows : Problem → List (List (List ℕ))
+scenario_rows p =
+    (codes "scenario" ∷ codes "1" ∷ [])
+    ∷ (codes "horizon" ∷ decimal p.horizon ∷ [])
+    ∷ (codes "parts" ∷ decimal p.total ∷ decimal p.drift.denominator ∷ decimal p.sweep.denominator ∷ [])
+    ∷ (map cell_row p.names
+    ++ ((codes "start" ∷ position_name p p.start ∷ [])
+    ∷ (codes "first" ∷ pair_fields p (first_entries p))
+    ∷ (map (moves_row p) (range_with_len 0 p.positions)
+    ++ (map (drift_row p) (range_with_len 0 p.cells)
+    ++ (map (overlook_row p) (range_with_len 0 p.positions)
+    ++ ((codes "end" ∷ []) ∷ []))))))
+
+abbrev pub canonical_text : Problem → List ℕ
+canonical_text p = text_of (scenario_rows p)
+
+-- what the canonical text says, read to its end
+abbrev pub cell_of : Problem → ℕ → CellState
+cell_of p c = record { name = cell_name p c; moves = moves_from p.moves c; drift = row_of p.drift 1 c; overlook = Some (factor_of p.sweep 1 c c) }
+
+abbrev pub state_of_problem : Problem → State
+state_of_problem p = record {
+  stage = Ended;
+  horizon = p.horizon;
+  total = p.total;
+  drift = p.drift.denominator;
+  look = p.sweep.denominator;
+  cells = map (cell_of p) (range_with_len 0 p.cells);
+  start = p.start;
+  first = first_entries p;
+}

@@ -1,0 +1,5 @@
+pub mod Lines
+pub mod State
+pub mod Reading
+pub mod Canonical
+pub mod Laws

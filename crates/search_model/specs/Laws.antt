@@ -1,0 +1,22 @@
+-- What the definitions say together.
+use Rattle.std.specs.Prelude.{ℕ, ◌≡◌, ◌≤◌, ◌*◌, ◌^◌, ◌-◌, ◌↔◌, List, length, sum_by, Contains}
+use Rattle.search_model.specs.Problem.{Problem, IsProblem}
+use Rattle.search_model.specs.Legal.{Follows, IsPath, walks}
+use Rattle.search_model.specs.Tracks.{tracks, weight_of, missed_weight, whole_weight}
+use Rattle.search_model.specs.Order.{IsBest}
+
+-- the weights of all tracks sum to the total times the drift's denominators
+abbrev pub WeightsSum : Type 0
+WeightsSum = (p : Problem) → IsProblem p → sum_by (weight_of p) (tracks p.cells p.horizon) ≡ p.total * p.drift.denominator ^ (p.horizon - 1)
+
+-- no looks miss more than the whole weight, so no value is cut off at 0
+abbrev pub NothingCutOff : Type 0
+NothingCutOff = (p : Problem) (q : List ℕ) → IsProblem p → missed_weight p q ≤ whole_weight p
+
+-- the walks from a are the lists of their length that follow the moves from a
+abbrev pub WalksFollow : Type 0
+WalksFollow = (rows : List (List ℕ)) (n a : ℕ) (y : List ℕ) → Contains (walks rows n a) y ↔ (Follows rows a y × (length y ≡ n))
+
+-- there is a best path, and no second one
+abbrev pub OneBest : Type 0
+OneBest = (p : Problem) → IsProblem p → (q : List ℕ) × IsBest p q × ((r : List ℕ) → IsBest p r → r ≡ q)

@@ -1,0 +1,9 @@
+pub mod Names
+pub mod Problem
+pub mod Legal
+pub mod Tracks
+pub mod PathPlaces
+pub mod Order
+pub mod Parts
+pub mod Faults
+pub mod Laws
