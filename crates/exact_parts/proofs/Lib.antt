@@ -1,0 +1,4 @@
+pub mod PlainDigits
+pub mod Canonical
+pub mod Written
+pub mod Widths

@@ -1,0 +1,16 @@
+//! Whole numbers that stay exact: how wide the sums of a scenario may grow, and numbers as decimal text.
+#![tactic(auto)]
+
+mod no_memory;
+mod number;
+mod reading;
+#[cfg(test)]
+mod tests;
+mod width;
+mod writing;
+
+pub use no_memory::NoMemory;
+pub use number::Number;
+pub use reading::{number_of, read_u128};
+pub use width::{fits, weight_of};
+pub use writing::{digits, push_u128};

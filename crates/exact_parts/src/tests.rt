@@ -1,0 +1,43 @@
+use super::*;
+use std::test::Fail;
+
+#[test]
+fn widths(rt: HostRuntime) {
+    assert!(rt; fits(4, 1024, 1024, 6));
+    assert!(rt; !fits(8, 1024, 1024, 6));
+}
+
+#[test]
+fn texts_are_read(rt: HostRuntime) {
+    let cases: [(&[u8], Option<u128>); 5] = [
+        (b"340282366920938463463374607431768211455", Some(u128::MAX)),
+        (b"340282366920938463463374607431768211456", None),
+        (b"0", Some(0)),
+        (b"01", None),
+        (b"", None),
+    ];
+    for (text, number) in cases {
+        assert_eq!(rt; read_u128(text), number);
+    }
+}
+
+#[test]
+fn a_long_number_is_above(rt: HostRuntime) -> Result<(), Fail> {
+    let nines = vec![in rt.alloc(); b'9'; 100_000]?;
+    assert_eq!(rt; number_of(&nines, u128::MAX), Number::Above);
+    assert_eq!(rt; number_of(b"1000000", 1_000_000), Number::Of(1_000_000));
+    assert_eq!(rt; number_of(b"1000001", 1_000_000), Number::Above);
+    assert_eq!(rt; number_of(b"+1", 1_000_000), Number::NotPlain);
+    Ok(())
+}
+
+#[test]
+fn a_number_is_appended(rt: HostRuntime) -> Result<(), Fail> {
+    let mut out = b"n ".to_vec(rt.alloc())?;
+    push_u128(&mut out, u128::MAX).map_err(|_| "no memory")?;
+    assert_eq!(rt;
+        out.as_slice(),
+        b"n 340282366920938463463374607431768211455".as_slice()
+    );
+    Ok(())
+}
