@@ -1,5 +1,5 @@
 -- The searcher's looks: what contracts see of a sweep is its denominator and, per position, the overlook part.
-use Rattle.std.specs.Prelude.{ℕ, ◌≤◌, ◌==◌, if◌then◌else◌, List, length, slice_index}
+use Rattle.std.specs.Prelude.{ℕ, ◌≡◌, ◌<◌, ◌≤◌, ◌==◌, ◌⊎◌, if◌then◌else◌, List, length, slice_index}
 
 pub record LookParts : Type 0 where
   pub denominator : ℕ
@@ -22,3 +22,18 @@ pub record IsSweep (sweep : LookParts) : Type 0 where
   pub positions : (1 ≤ positions_of sweep) × (positions_of sweep ≤ 200)
   pub cells : (1 ≤ cells_of sweep) × (cells_of sweep ≤ 200)
   pub within : (t p c : ℕ) → factor_of sweep t p c ≤ sweep.denominator
+
+-- the table of these overlook parts, one per cell
+abbrev pub parts_over : ℕ → List ℕ → LookParts
+parts_over denominator overlook = record { denominator = denominator; overlook = overlook }
+
+-- no overlook part, or more than 200
+abbrev pub HasWrongCount : List ℕ → Type 0
+HasWrongCount overlook = (length overlook ≡ 0) ⊎ (200 < length overlook)
+
+-- the count is right, and c is the least cell whose part exceeds the denominator
+pub record IsFirstOver (denominator : ℕ) (overlook : List ℕ) (c : ℕ) : Type 0 where
+  pub count : (1 ≤ length overlook) × (length overlook ≤ 200)
+  pub cell : c < length overlook
+  pub over : denominator < slice_index overlook c
+  pub earlier : (k : ℕ) → k < c → slice_index overlook k ≤ denominator

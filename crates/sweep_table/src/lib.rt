@@ -1,13 +1,9 @@
-// A library with one function.
+//! What the searcher's looks miss: per position and cell, how much of a target a look leaves undetected.
 #![tactic(auto)]
 
-ghost use Rattle.std.specs.Prelude.{◌≡◌};
-ghost use Rattle.sweep_table.specs.Echo.{echo_of};
+mod table;
 
-// The `ensures` clause is the contract: what `echo` returns is `echo_of` of its argument, a definition
-// in `specs/Echo.antt`, which a caller's clause can cite too.
-pub fn echo(x: usize) -> usize
-    ensures { result ≡ echo_of x }
-{
-    x
-}
+pub use table::{Sweep, SweepFault};
+
+#[cfg(test)]
+mod tests;

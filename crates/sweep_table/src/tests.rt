@@ -1,0 +1,24 @@
+use super::*;
+use std::test::Fail;
+
+#[test]
+fn a_part_may_be_the_whole_denominator(rt: HostRuntime) -> Result<(), Fail> {
+    let parts = [1, 2, 1].to_vec(rt.alloc())?;
+    let Ok(sweep) = Sweep::new(2, parts) else {
+        return Err(Fail::from("no sweep"));
+    };
+    assert_eq!(rt; sweep.denominator(), 2);
+    assert_eq!(rt; sweep.positions(), 3);
+    assert_eq!(rt; sweep.cells(), 3);
+    assert_eq!(rt; sweep.factor(1, 0, 0), 1);
+    assert_eq!(rt; sweep.factor(32, 1, 1), 2);
+    assert_eq!(rt; sweep.factor(1, 0, 1), 2);
+    Ok(())
+}
+
+#[test]
+fn the_least_cell_over_is_named(rt: HostRuntime) -> Result<(), Fail> {
+    let parts = [2, 3, 4].to_vec(rt.alloc())?;
+    assert_eq!(rt; Sweep::new(2, parts).err(), Some(SweepFault::PartOver(1)));
+    Ok(())
+}
