@@ -1,13 +1,18 @@
-// A library with one function.
+//! The path-constrained moving-target search problem (Stewart 1979; Eagle 1984; Eagle and Yee 1990): scenarios, paths,
+//! the order of standings, and the definitions that every contract above rests on.
 #![tactic(auto)]
 
-ghost use Rattle.std.specs.Prelude.{◌≡◌};
-ghost use Rattle.search_model.specs.Echo.{echo_of};
+mod laws;
+mod name;
+mod path;
+mod scenario;
+mod standing;
 
-// The `ensures` clause is the contract: what `echo` returns is `echo_of` of its argument, a definition
-// in `specs/Echo.antt`, which a caller's clause can cite too.
-pub fn echo(x: usize) -> usize
-    ensures { result ≡ echo_of x }
-{
-    x
-}
+#[cfg(test)]
+mod tests;
+
+pub use laws::{nothing_is_cut_off, one_best, walks_follow, weights_sum, worked_values};
+pub use name::Name;
+pub use path::Path;
+pub use scenario::{ModelFault, Parts, Scenario};
+pub use standing::{Standing, better, starts};
