@@ -1,13 +1,8 @@
-// A library with one function.
+//! How the target drifts: per cell, the parts of its next step.
 #![tactic(auto)]
 
-ghost use Rattle.std.specs.Prelude.{◌≡◌};
-ghost use Rattle.drift_chain.specs.Echo.{echo_of};
+mod chain;
+pub mod part;
 
-// The `ensures` clause is the contract: what `echo` returns is `echo_of` of its argument, a definition
-// in `specs/Echo.antt`, which a caller's clause can cite too.
-pub fn echo(x: usize) -> usize
-    ensures { result ≡ echo_of x }
-{
-    x
-}
+pub use chain::{Drift, DriftFault};
+pub use part::DriftPart;

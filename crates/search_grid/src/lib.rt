@@ -1,13 +1,6 @@
-// A library with one function.
+//! Where the searcher may go: per cell, the cells that one period can lead to.
 #![tactic(auto)]
 
-ghost use Rattle.std.specs.Prelude.{◌≡◌};
-ghost use Rattle.search_grid.specs.Echo.{echo_of};
+mod moves;
 
-// The `ensures` clause is the contract: what `echo` returns is `echo_of` of its argument, a definition
-// in `specs/Echo.antt`, which a caller's clause can cite too.
-pub fn echo(x: usize) -> usize
-    ensures { result ≡ echo_of x }
-{
-    x
-}
+pub use moves::{Grid, GridFault};

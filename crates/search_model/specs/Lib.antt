@@ -3,6 +3,7 @@ pub mod Problem
 pub mod Legal
 pub mod Tracks
 pub mod PathPlaces
+pub mod NamePlaces
 pub mod Order
 pub mod Parts
 pub mod Faults

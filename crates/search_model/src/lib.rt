@@ -2,16 +2,11 @@
 //! the order of standings, and the definitions that every contract above rests on.
 #![tactic(auto)]
 
-mod laws;
 mod name;
 mod path;
 mod scenario;
 mod standing;
 
-#[cfg(test)]
-mod tests;
-
-pub use laws::{nothing_is_cut_off, one_best, walks_follow, weights_sum, worked_values};
 pub use name::Name;
 pub use path::Path;
 pub use scenario::{ModelFault, Parts, Scenario};

@@ -1,6 +1,9 @@
 //! Scenarios.
 
-ghost use Rattle.std.specs.Prelude.{◌≡◌, ◌<◌, ◌≤◌, ◌↔◌, length, sum, IsTrue, IfOk, IfErr};
+ghost use Rattle.std.specs.Prelude.{◌≡◌, ◌<◌, ◌≤◌, ◌↔◌, ℕ, length, sum, IsTrue, IfOk, IfErr, IfSome, IfNone, Contains, All};
+ghost use Rattle.search_model.specs.Faults.{WithinLimits, SizesAgree};
+ghost use Rattle.search_model.specs.Legal.{last_of};
+ghost use Rattle.search_model.specs.Names.{IsName, IsRepeated, name_in};
 
 use crate::name::Name;
 use crate::path::Path;
@@ -60,4 +63,228 @@ pub enum ModelFault {
     DoubleName(u8),
     /// The widest sum doesn't fit 127 bits.
     TooWide,
+}
+
+/// The sum of a few parts.
+fn sum_of(parts: &[u32]) -> u64
+    requires { length parts.now ≤ 200 }
+    ensures { result ≡ sum parts.now }
+{
+    let mut total = 0;
+    for part in parts {
+        total += u64::from(*part);
+    }
+    total
+}
+
+/// Whether the horizon and the total are within their limits.
+fn within_limits(parts: &Parts) -> bool
+    ensures { IsTrue result ↔ WithinLimits parts.now }
+{
+    (1..=32).contains(&parts.horizon) && (1..=1_000_000).contains(&parts.total)
+}
+
+/// Whether all parts are of the same number of cells.
+fn sizes_agree(parts: &Parts) -> bool
+    ensures { IsTrue result ↔ SizesAgree parts.now }
+{
+    let cells = parts.drift.cells();
+    parts.names.len() == cells as usize
+        && parts.first.len() == cells as usize
+        && parts.grid.cells() == cells
+        && parts.sweep.positions() == cells
+        && parts.sweep.cells() == cells
+}
+
+/// Whether a name is one of these.
+fn stands_in(name: &[u8], names: &[Name]) -> bool
+    ensures { IsTrue result ↔ Contains names.now name.now }
+{
+    names.iter().any(|n| n.bytes() == name)
+}
+
+/// Whether the name of a cell stands before it.
+fn is_repeated(names: &[Name], c: usize) -> bool
+    requires { c < length names.now }
+    ensures value { IsTrue result ↔ IsRepeated names.now c }
+    ensures name { IsName (name_in names.now c) }
+{
+    let name = &names[c];
+    stands_in(name.bytes(), &names[..c])
+}
+
+/// The least cell whose name stands before it.
+fn first_repeated(names: &[Name]) -> Option<u8>
+    requires { length names.now ≤ 200 }
+    ensures some { IfSome result (λ c. IsRepeated names.now c × ((d : ℕ) → d < c → ¬ IsRepeated names.now d)) }
+    ensures none { IfNone result ((c : ℕ) → ¬ IsRepeated names.now c) }
+    ensures names { IfNone result (All IsName names.now) }
+{
+    for c in 0..names.len() {
+        if is_repeated(names, c) {
+            return Some(c as u8);
+        }
+    }
+    None
+}
+
+/// The last position of a prefix, or the start.
+fn last_or(start: u8, cells: &[u8]) -> u8
+    ensures { result ≡ last_of start cells.now }
+{
+    cells.last().copied().unwrap_or(start)
+}
+
+impl Scenario {
+    ghost use Rattle.search_model.specs.declared.scenario.ModelFault.{ModelFault};
+    ghost use Rattle.search_model.specs.Parts.{problem_of};
+    ghost use Rattle.search_model.specs.Faults.{HasFault, IsFirstFault};
+
+    /// The scenario of these parts, or the first fault.
+    pub fn new(parts: Parts) -> Result<Scenario, ModelFault>
+        ensures made { IfOk result (λ made. made ≡ problem_of parts) }
+        ensures sound { IfOk result (λ _. (fault : ModelFault) → ¬ HasFault parts fault) }
+        ensures fault { IfErr result (IsFirstFault parts) }
+    {
+        if !within_limits(&parts) {
+            return Err(ModelFault::OutOfLimits);
+        }
+        if !sizes_agree(&parts) {
+            return Err(ModelFault::SizesDiffer);
+        }
+        if parts.start >= parts.grid.cells() {
+            return Err(ModelFault::StartOutOfRange);
+        }
+        if sum_of(&parts.first) != u64::from(parts.total) {
+            return Err(ModelFault::WrongFirstSum);
+        }
+        if let Some(c) = first_repeated(&parts.names) {
+            return Err(ModelFault::DoubleName(c));
+        }
+        let d = parts.drift.denominator();
+        let g = parts.sweep.denominator();
+        if !fits(parts.total, d, g, parts.horizon) {
+            return Err(ModelFault::TooWide);
+        }
+        Ok(Scenario { parts })
+    }
+
+    ghost use Rattle.search_grid.specs.Moves.{moves_from};
+    ghost use Rattle.search_model.specs.Problem.{IsProblem, first_of, cell_name};
+    ghost use Rattle.search_model.specs.Legal.{IsLegal, moves_after};
+    ghost use Rattle.search_model.specs.Tracks.{whole_weight};
+
+    /// The number of cells, 1 to 200.
+    pub fn cells(&self) -> u8
+        ensures value { result ≡ self.now.cells }
+        ensures sound { IsProblem self.now }
+    {
+        self.parts.drift.cells()
+    }
+
+    /// The number of positions of the searcher, 1 to 200.
+    pub fn positions(&self) -> u8
+        ensures value { result ≡ self.now.positions }
+        ensures sound { IsProblem self.now }
+    {
+        self.parts.grid.cells()
+    }
+
+    /// The number of periods, 1 to 32.
+    pub fn horizon(&self) -> u32
+        ensures value { result ≡ self.now.horizon }
+        ensures sound { IsProblem self.now }
+    {
+        self.parts.horizon
+    }
+
+    /// The position where the searcher stands before period 1.
+    pub fn start(&self) -> u8
+        ensures value { result ≡ self.now.start }
+        ensures sound { IsProblem self.now }
+    {
+        self.parts.start
+    }
+
+    /// What the first parts sum to.
+    pub fn total(&self) -> u32
+        ensures { result ≡ self.now.total }
+    {
+        self.parts.total
+    }
+
+    /// The target's part in cell `c` in period 1, out of the total.
+    pub fn first(&self, c: u8) -> u32
+        requires { c < self.now.cells }
+        ensures { result ≡ first_of self.now c }
+    {
+        self.parts.first[c as usize]
+    }
+
+    /// The name of cell `c`.
+    pub fn name(&self, c: u8) -> &Name
+        requires { c < self.now.cells }
+        ensures { result.now ≡ cell_name self.now c }
+    {
+        &self.parts.names[c as usize]
+    }
+
+    /// The searcher's moves.
+    pub fn grid(&self) -> &Grid
+        ensures { result.now ≡ self.now.moves }
+    {
+        &self.parts.grid
+    }
+
+    /// The target's drift.
+    pub fn drift(&self) -> &Drift
+        ensures { result.now ≡ self.now.drift }
+    {
+        &self.parts.drift
+    }
+
+    /// The searcher's looks.
+    pub fn sweep(&self) -> &Sweep
+        ensures { result.now ≡ self.now.sweep }
+    {
+        &self.parts.sweep
+    }
+
+    /// The whole weight, of which a value is a part: below 2 ^ 127.
+    pub fn weight(&self) -> u128
+        ensures { result ≡ whole_weight self.now }
+    {
+        weight_of(
+            self.parts.total,
+            self.parts.drift.denominator(),
+            self.parts.sweep.denominator(),
+            self.parts.horizon,
+        )
+    }
+
+    /// The moves after a legal prefix: those of its last position, or of the start.
+    pub fn moves_after(&self, prefix: &Path) -> &[u8]
+        requires { IsLegal self.now prefix.now }
+        ensures { result.now ≡ moves_after self.now prefix.now }
+    {
+        let last = last_or(self.parts.start, prefix.cells());
+        self.parts.grid.moves(last)
+    }
+
+    /// Whether a prefix is legal: it follows the moves from the start and isn't longer than the horizon.
+    pub fn is_legal(&self, prefix: &Path) -> bool
+        ensures { IsTrue result ↔ IsLegal self.now prefix.now }
+    {
+        if prefix.len() > self.parts.horizon as usize {
+            return false;
+        }
+        let mut last = self.parts.start;
+        for c in prefix.cells() {
+            if !self.parts.grid.is_move(last, *c) {
+                return false;
+            }
+            last = *c;
+        }
+        true
+    }
 }

@@ -1,0 +1,17 @@
+-- The part that a row gives to a cell.
+use Rattle.std.proofs.Common.{ℕ, ◌<◌, ◌≡◌, ◌≢◌, List, length, get_or, map, All}
+use Rattle.std.specs.List.Sorted.{IsStrictlyIncreasing}
+use Rattle.drift_chain.specs.declared.part.DriftPart.{DriftPart}
+use Rattle.drift_chain.specs.DriftRows.{part_in}
+use Rattle.drift_chain.proofs.Ascending.{Ascends-from_keys, sum_at-none, sum_at-one}
+
+-- a row without the cell gives it nothing
+pub part_in-none : (row : List DriftPart) (d : ℕ) → All (λ entry. entry.cell ≢ d) row → part_in row d ≡ 0
+unfolding part_in
+part_in-none row d none = sum_at-none (λ entry. entry.cell) (λ entry. entry.part) d row none
+
+-- an ascending row gives the cell of an entry that entry's part
+pub part_in-entry : (row : List DriftPart) (k : ℕ) (e : DriftPart) → IsStrictlyIncreasing (map (λ entry. entry.cell) row) → k < length row →
+    part_in row (get_or row k e).cell ≡ (get_or row k e).part
+unfolding part_in
+part_in-entry row k e up inside = sum_at-one (λ entry. entry.cell) (λ entry. entry.part) row k e (Ascends-from_keys (λ entry. entry.cell) row up) inside

@@ -1,0 +1,95 @@
+//! The rows of the drift.
+
+ghost use Rattle.std.specs.Prelude.{◌≡◌, ℕ, ◌<◌, ◌≤◌, ◌↔◌, length, map, IsOk, IfOk, IfErr};
+ghost use Rattle.std.specs.List.Sorted.{IsStrictlyIncreasing};
+ghost use Rattle.drift_chain.specs.DriftRows.{part_in};
+
+use crate::part::DriftPart;
+use std::marker::Model;
+
+/// Per cell, its row: the parts of the next step, in ascending order of their cells.
+#[derive(Debug, Drop)]
+pub struct Drift {
+    denominator: u32,
+    rows: Vec<Vec<DriftPart>>,
+}
+
+/// Why rows of parts make no drift, or none was made. A fault of a row names its cell.
+#[derive(Clone, Copy, Debug, PartialEq, Eq)]
+pub enum DriftFault {
+    /// An entry's cell isn't a cell.
+    OutOfRange(u8),
+    /// An entry has no part.
+    ZeroPart(u8),
+    /// A cell has two entries.
+    DoubleEntry(u8),
+    /// The parts don't sum to the denominator.
+    WrongSum(u8),
+    /// No memory was found.
+    NoMemory,
+}
+
+impl Model for Drift {
+    ghost use Rattle.std.specs.Prelude.{map};
+    ghost use Rattle.drift_chain.specs.DriftRows.{DriftRows, IsDrift};
+
+    ghost Value = { DriftRows };
+
+    ghost view = { λ d. record { denominator = d.denominator; rows = map (λ row. row.items) d.rows.items } };
+
+    ghost invariant = { λ d. IsDrift (record { denominator = d.denominator; rows = map (λ row. row.items) d.rows.items }) };
+}
+
+impl Drift {
+    ghost use Rattle.drift_chain.specs.DriftRows.{drift_cells, row_of, part_of, IsDrift};
+
+    /// What the parts of each row sum to.
+    pub fn denominator(&self) -> u32
+        ensures value { result ≡ self.now.denominator }
+        ensures sound { IsDrift self.now }
+    {
+        self.denominator
+    }
+
+    /// The number of cells.
+    pub fn cells(&self) -> u8
+        ensures value { result ≡ drift_cells self.now }
+        ensures sound { IsDrift self.now }
+    {
+        self.rows.len() as u8
+    }
+
+    /// The row of cell `c` for the step after period `t`, in ascending order of cells.
+    pub fn row(&self, t: u32, c: u8) -> &[DriftPart]
+        requires first { 1 ≤ t }
+        requires last { t ≤ 31 }
+        requires cell { c < drift_cells self.now }
+        ensures value { result.now ≡ row_of self.now t c }
+        ensures sound { IsDrift self.now }
+    {
+        &self.rows[c as usize]
+    }
+
+    /// The part of the step from cell `c` to cell `d` after period `t`: 0 where `d` isn't in the row.
+    pub fn part(&self, t: u32, c: u8, d: u8) -> u32
+        requires first { 1 ≤ t }
+        requires last { t ≤ 31 }
+        requires from { c < drift_cells self.now }
+        requires to { d < drift_cells self.now }
+        ensures value { result ≡ part_of self.now t c d }
+        ensures sound { IsDrift self.now }
+    {
+        part_in_row(self.row(t, c), d)
+    }
+}
+
+// The part that an ascending row gives to cell `d`.
+fn part_in_row(row: &[DriftPart], d: u8) -> u32
+    requires { IsStrictlyIncreasing (map (λ entry. entry.cell) row.now) }
+    ensures { result ≡ part_in row.now d }
+{
+    match row.binary_search_by_key(&d, |entry| entry.cell) {
+        Ok(place) => row[place].part,
+        Err(_) => 0,
+    }
+}

@@ -1,0 +1,42 @@
+-- The first fault of parts.
+use Rattle.std.proofs.Common.{ℕ, ◌≡◌, ◌≢◌, ◌<◌, ◌≤◌, ◌⊎◌, length, sum, inl, inr, arith}
+use Rattle.exact_parts.specs.Width.{Fits}
+use Rattle.search_model.specs.declared.scenario.Parts.{Parts}
+use Rattle.search_model.specs.declared.scenario.ModelFault.{ModelFault}
+use Rattle.search_model.specs.declared.scenario.ModelFault.TheVariants.{OutOfLimits, SizesDiffer, StartOutOfRange, WrongFirstSum, DoubleName, TooWide}
+use Rattle.search_model.specs.Names.{IsRepeated}
+use Rattle.search_model.specs.Faults.{WithinLimits, SizesAgree, HasFault, GoesBefore, IsFirstFault}
+
+module _ (s : Parts) (limits : WithinLimits s) (sizes : SizesAgree s) (start : length s.grid ≤ s.start → ⊥) (total : sum s.first.items ≡ s.total) where
+  before_double : (c : ℕ) → ((d : ℕ) → d < c → ¬ IsRepeated s.names.items d) → (other : ModelFault) → GoesBefore other (DoubleName c) → ¬ HasFault s other
+  before_double c differ OutOfLimits before has = has limits
+  before_double c differ SizesDiffer before has = has sizes
+  before_double c differ StartOutOfRange before has = start has
+  before_double c differ WrongFirstSum before has = has total
+  before_double c differ (DoubleName d) before has = elim before [ inl less ↦ omega (arith, less) | inr same ↦ differ d same.1 has ]
+  before_double c differ TooWide before has = elim before [ inl less ↦ omega (arith, less) | inr same ↦ omega (arith, same.0) ]
+
+  -- a repeated name is the first fault where the sizes and sums are right and no name before it is repeated
+  pub double_is_first : (c : ℕ) → IsRepeated s.names.items c → ((d : ℕ) → d < c → ¬ IsRepeated s.names.items d) → IsFirstFault s (DoubleName c)
+  double_is_first c has differ = record { has = has; first = before_double c differ }
+
+  before_wide : ((d : ℕ) → ¬ IsRepeated s.names.items d) → (other : ModelFault) → GoesBefore other TooWide → ¬ HasFault s other
+  before_wide differ OutOfLimits before has = has limits
+  before_wide differ SizesDiffer before has = has sizes
+  before_wide differ StartOutOfRange before has = start has
+  before_wide differ WrongFirstSum before has = has total
+  before_wide differ (DoubleName d) before has = differ d has
+  before_wide differ TooWide before has = elim before [ inl less ↦ omega (arith, less) | inr same ↦ omega (arith, same.1) ]
+
+  -- too wide is the last fault
+  pub wide_is_first : ((d : ℕ) → ¬ IsRepeated s.names.items d) → ¬ Fits s.total s.drift.denominator s.sweep.denominator s.horizon → IsFirstFault s TooWide
+  wide_is_first differ has = record { has = has; first = before_wide differ }
+
+  -- then no fault is left
+  pub no_fault : ((d : ℕ) → ¬ IsRepeated s.names.items d) → Fits s.total s.drift.denominator s.sweep.denominator s.horizon → (fault : ModelFault) → ¬ HasFault s fault
+  no_fault differ fits OutOfLimits has = has limits
+  no_fault differ fits SizesDiffer has = has sizes
+  no_fault differ fits StartOutOfRange has = start has
+  no_fault differ fits WrongFirstSum has = has total
+  no_fault differ fits (DoubleName d) has = differ d has
+  no_fault differ fits TooWide has = has fits

@@ -1,0 +1,4 @@
+pub mod Places
+pub mod NameLemmas
+pub mod LegalLemmas
+pub mod FaultLemmas

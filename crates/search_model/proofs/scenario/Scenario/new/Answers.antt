@@ -1,0 +1,66 @@
+use Rattle.std.proofs.Common.{ℕ, ◌≡◌, ◌≤◌, ◌<◌, List, length, sum, All, subst, sym, ◌∙◌, ap, refl, arith}
+use Rattle.std.proofs.lemmas.Bool.{false≢true, true≢false}
+use Rattle.exact_parts.specs.Width.{Fits}
+use Rattle.search_model.specs.Names.{IsName, IsRepeated}
+use Rattle.search_model.specs.Problem.{IsProblem}
+use Rattle.search_model.specs.Parts.{problem_of}
+use Rattle.search_model.specs.Faults.{WithinLimits, SizesAgree, IsFirstFault}
+use Rattle.search_model.proofs.FaultLemmas.{double_is_first, wide_is_first, no_fault}
+use Rattle.search_model.proofs.scenario.Scenario.new.Goals as goal
+
+pub returns-in-Some-clause-fault : goal.returns-in-Some-clause-fault
+returns-in-Some-clause-fault c =
+    let s = c.args.parts in
+    let limits : WithinLimits s = c.if-not-within_limits.ensures.0 refl in
+    let sizes : SizesAgree s = c.if-not-sizes_agree.ensures.0 refl in
+    let total : sum s.first.items ≡ s.total = omega (arith, c.if-sum_of-from.false, c.sum_of.ensures, c.from.ensures, ap sum c.deref.ensures.value) in
+    let found = rw c.deref-2.ensures.value at c.in-Some.ensures.some in
+    double_is_first s limits sizes (λ out. omega (arith, out, c.if-parts-cells.false, c.cells.ensures.value)) total c.in-Some.c found.0 found.1
+
+pub returns-then-not-fits-clause-fault : goal.returns-then-not-fits-clause-fault
+returns-then-not-fits-clause-fault c =
+    let s = c.args.parts in
+    let limits : WithinLimits s = c.if-not-within_limits.ensures.0 refl in
+    let sizes : SizesAgree s = c.if-not-sizes_agree.ensures.0 refl in
+    let total : sum s.first.items ≡ s.total = omega (arith, c.if-sum_of-from.false, c.sum_of.ensures, c.from.ensures, ap sum c.deref.ensures.value) in
+    let differ = rw c.deref-2.ensures.value at c.in_default.ensures.none in
+    let wide : Fits s.total s.drift.denominator s.sweep.denominator s.horizon → ⊥ = rw (← c.denominator-d.ensures.value, ← c.denominator-g.ensures.value) (λ narrow. false≢true (c.if-not-fits.ensures.1 narrow)) in
+    wide_is_first s limits sizes (λ out. omega (arith, out, c.if-parts-cells.false, c.cells.ensures.value)) total differ wide
+
+pub returns-clause-sound : goal.returns-clause-sound
+returns-clause-sound c =
+    let s = c.args.parts in
+    let limits : WithinLimits s = c.if-not-within_limits.ensures.0 refl in
+    let sizes : SizesAgree s = c.if-not-sizes_agree.ensures.0 refl in
+    let total : sum s.first.items ≡ s.total = omega (arith, c.if-sum_of-from.false, c.sum_of.ensures, c.from.ensures, ap sum c.deref.ensures.value) in
+    let differ = rw c.deref-2.ensures.value at c.in_default.ensures.none in
+    let narrow : Fits s.total s.drift.denominator s.sweep.denominator s.horizon = rw (← c.denominator-d.ensures.value, ← c.denominator-g.ensures.value) (c.if-not-fits.ensures.0 refl) in
+    no_fault s limits sizes (λ out. omega (arith, out, c.if-parts-cells.false, c.cells.ensures.value)) total differ narrow
+
+pub invariant_of-result : goal.invariant_of-result
+invariant_of-result c =
+    let s = c.args.parts in
+    let limits : WithinLimits s = c.if-not-within_limits.ensures.0 refl in
+    let sizes : SizesAgree s = c.if-not-sizes_agree.ensures.0 refl in
+    let total : sum s.first.items ≡ s.total = omega (arith, c.if-sum_of-from.false, c.sum_of.ensures, c.from.ensures, ap sum c.deref.ensures.value) in
+    let narrow : Fits s.total s.drift.denominator s.sweep.denominator s.horizon = rw (← c.denominator-d.ensures.value, ← c.denominator-g.ensures.value) (c.if-not-fits.ensures.0 refl) in
+    record {
+      horizon = limits.horizon;
+      total = limits.total;
+      cells = c.denominator-d.ensures.sound.size;
+      positions = sizes.grid;
+      names_length = sizes.names;
+      names = rw c.deref-2.ensures.value at c.in_default.ensures.names;
+      names_differ = rw c.deref-2.ensures.value at c.in_default.ensures.none;
+      start = omega (arith, c.if-parts-cells.false, c.cells.ensures.value);
+      first_length = sizes.first;
+      first_total = total;
+      grid = c.cells.ensures.sound;
+      grid_positions = refl;
+      drift = c.denominator-d.ensures.sound;
+      drift_cells = refl;
+      sweep = c.denominator-g.ensures.sound;
+      sweep_positions = sizes.positions ∙ sym sizes.grid;
+      sweep_cells = sizes.cells;
+      fits = narrow;
+    }
