@@ -1,0 +1,10 @@
+//! Trees of bounds: the records that show why no path is better than a plan's.
+#![tactic(auto)]
+
+mod node;
+mod plan;
+mod tree;
+
+pub use node::{Kind, TreeNode};
+pub use plan::Plan;
+pub use tree::BoundTree;

@@ -1,0 +1,23 @@
+//! Records.
+
+use search_model::Path;
+
+/// How a prefix was closed.
+#[derive(Clone, Copy)]
+pub enum Kind {
+    /// Each child of the prefix has a record of its own.
+    Branch,
+    /// The prefix is a path of this value.
+    Whole(u128),
+    /// The greatest value below the prefix, by the mean bound (Martins 1993).
+    Mean(u128),
+    /// The greatest value below the prefix, times the look denominator, by the tangent at this path.
+    Tangent(u128, Path),
+}
+
+/// A record: a prefix and how it was closed.
+#[derive(Clone, Copy)]
+pub struct TreeNode {
+    pub prefix: Path,
+    pub kind: Kind,
+}
