@@ -13,6 +13,7 @@ use Rattle.scenario_text.specs.declared.draft.Stage.TheVariants.{Version, Horizo
 use Rattle.scenario_text.specs.declared.kind.TextKind.{TextKind}
 use Rattle.scenario_text.specs.declared.kind.TextKind.TheVariants.{NotText, BadLine, BadNumber, OverLimit, UnknownName, DoubleName, MissingRow, DoubleRow, WrongSum, PartOver, NoMove, TooWide, EarlyEnd}
 use Rattle.scenario_text.specs.declared.kind.TextFault.{TextFault}
+use Rattle.scenario_text.specs.declared.pair.Pair.{Pair}
 use Rattle.scenario_text.specs.Lines.{fields_of}
 use Rattle.scenario_text.specs.State.{State, CellState, bare}
 
@@ -64,11 +65,7 @@ has_double [] = false
 has_double (None ∷ cs) = has_double cs
 has_double (Some c ∷ cs) = list_any (λ d. is_some d && unwrap_or d 0 == c) cs || has_double cs
 
--- `NAME PART`
-pub record Pair : Type 0 where
-  pub cell : Option ℕ
-  pub part : Number
-
+-- the pairs of `NAME PART NAME PART ..`
 unfoldable pub pairs_of : List CellState → List (List ℕ) → List Pair
 pairs_of cells [] = []
 pairs_of cells (name ∷ []) = []

@@ -1,3 +1,6 @@
+ghost use Rattle.std.specs.Prelude.{◌≤◌, vec_len};
+ghost use Rattle.scenario_text.specs.Settled.{IsSettled};
+
 use drift_chain::DriftPart;
 use search_model::Name;
 
@@ -33,4 +36,6 @@ pub struct Draft {
     pub cells: Vec<CellDraft>,
     pub start: u8,
     pub first: Vec<DriftPart>,
+    ghost few: { vec_len cells ≤ 200 },
+    ghost settled: { IsSettled stage horizon total drift look },
 }

@@ -1,0 +1,9 @@
+pub mod Words
+pub mod Lines
+pub mod Plans
+pub mod Growing
+pub mod Laws
+pub mod Commands
+pub mod Run
+pub mod Makes
+pub mod Complete

@@ -1,0 +1,38 @@
+-- What stops a run, its status, and the one line that is said of it.
+use Rattle.std.specs.Prelude.{ℕ, List, [], ◌∷◌, ◌++◌, codes}
+use Rattle.std.specs.Fmt.{decimal}
+use Rattle.plan_command.specs.declared.status.Status.{Status}
+use Rattle.plan_command.specs.declared.status.Status.TheVariants as statuses
+use Rattle.plan_command.specs.declared.status.Stop.{Stop}
+use Rattle.plan_command.specs.declared.status.Stop.TheVariants.{Usage, BadScenario, ReadFault, WriteFault, NoMemory, TooManyNodes, TooLong}
+
+-- the numbers of the statuses
+abbrev pub code_of : Status → ℕ
+code_of statuses.Done = 0
+code_of statuses.Rejected = 1
+code_of statuses.Usage = 2
+code_of statuses.BadScenario = 3
+code_of statuses.BadPlan = 4
+code_of statuses.ReadFault = 5
+code_of statuses.WriteFault = 6
+code_of statuses.NoMemory = 7
+code_of statuses.TooManyNodes = 8
+code_of statuses.TooLong = 9
+
+abbrev pub status_of : Stop → Status
+status_of Usage = statuses.Usage
+status_of BadScenario = statuses.BadScenario
+status_of ReadFault = statuses.ReadFault
+status_of WriteFault = statuses.WriteFault
+status_of NoMemory = statuses.NoMemory
+status_of (TooManyNodes limit) = statuses.TooManyNodes
+status_of TooLong = statuses.TooLong
+
+unfoldable pub line_of : Stop → List ℕ
+line_of Usage = codes "usage: osp plan [--workers N] [--nodes N] / check / report [--json yes] / make NUMBER / drill NUMBER [--workers N]\n"
+line_of BadScenario = codes "bad scenario\n"
+line_of ReadFault = codes "read fault\n"
+line_of WriteFault = codes "write fault\n"
+line_of NoMemory = codes "no memory\n"
+line_of (TooManyNodes limit) = codes "too many nodes: " ++ decimal limit ++ 10 ∷ []
+line_of TooLong = codes "input too long\n"

@@ -1,0 +1,91 @@
+-- How a run may end: what source and sinks show before and after it, for each status.
+use Rattle.std.specs.Prelude.{◌≡◌, ◌⊎◌, ℕ, ◌+◌, List, [], Result, Ok, Err}
+use Rattle.std.specs.Io.KnownBytes.{Consumes, Appends, IsAtEnd}
+use Rattle.std.specs.declared.option.Option.{Option}
+use Rattle.byte_ports.specs.Causes.{Rose}
+use Rattle.byte_ports.specs.Taken.{TakesCount, AppendsPrefix}
+use Rattle.plan_command.specs.declared.request.Request.{Request}
+use Rattle.plan_command.specs.declared.status.Status.{Status}
+use Rattle.plan_command.specs.declared.status.Stop.{Stop}
+use Rattle.plan_command.specs.declared.status.Stop.TheVariants as stops
+use Rattle.plan_command.specs.Words.{Spells, limit_of}
+use Rattle.plan_command.specs.Lines.{status_of, line_of}
+use Rattle.plan_command.specs.Commands.{Answers, Refuses}
+
+-- What the source and the sink `out` show at one moment.
+pub record Shown : Type 0 where
+  pub left : Option (List ℕ)
+  pub read_faults : ℕ
+  pub wrote : Option (List ℕ)
+  pub write_faults : ℕ
+
+-- the same, by the meanings of a source and a sink
+abbrev pub shown : {S K : Type 0} → (S → Option (List ℕ)) → (S → ℕ) → (K → Option (List ℕ)) → (K → ℕ) → S → K → Shown
+shown left read_faults wrote write_faults source out =
+    record { left = left source; read_faults = read_faults source; wrote = wrote out; write_faults = write_faults out }
+
+-- The input was read whole.
+pub record ReadWhole (before after : Shown) (input : List ℕ) : Type 0 where
+  pub taken : Consumes before.left after.left input
+  pub ended : IsAtEnd after.left
+
+-- The whole answer stands in `out`.
+pub record Delivered (request : Request) (before after : Shown) (status : Status) : Type 0 where
+  pub input : List ℕ
+  pub text : List ℕ
+  pub read : ReadWhole before after input
+  pub answers : Answers request input status text
+  pub written : Appends before.wrote after.wrote text
+
+-- A front of an answer stands in `out`, perhaps nothing of it.
+pub record CutOff (request : Request) (before after : Shown) : Type 0 where
+  pub input : List ℕ
+  pub text : List ℕ
+  pub status : Status
+  pub read : ReadWhole before after input
+  pub answers : Answers request input status text
+  pub written : AppendsPrefix before.wrote after.wrote text
+
+-- The input was read whole and is refused.
+pub record Refused (request : Request) (before after : Shown) (stop : Stop) : Type 0 where
+  pub input : List ℕ
+  pub read : ReadWhole before after input
+  pub refuses : Refuses request input stop
+  pub unwritten : after.wrote ≡ before.wrote
+
+-- What a stop says of a request that was read from the words.
+abbrev pub Stopped : Request → Shown → Shown → Stop → Type 0
+Stopped request before after stops.ReadFault = Rose before.read_faults after.read_faults × (after.wrote ≡ before.wrote)
+Stopped request before after stops.TooLong = TakesCount before.left after.left (limit_of request + 1) × (after.wrote ≡ before.wrote)
+Stopped request before after stops.WriteFault = Rose before.write_faults after.write_faults × CutOff request before after
+Stopped request before after stops.NoMemory = (after.wrote ≡ before.wrote) ⊎ CutOff request before after
+Stopped request before after stop = Refused request before after stop
+
+-- How a run ends: it delivers an answer, or it stops. Words that spell no request stop it before it reads.
+pub data Ending : Type 0 where
+  delivered : Status → Ending
+  stopped : Stop → Ending
+
+abbrev pub Ends : List (List ℕ) → Shown → Shown → Ending → Type 0
+Ends words before after (stopped stops.Usage) = ((r : Request) → Spells words r → ⊥) × (after ≡ before)
+Ends words before after (stopped stop) = (r : Request) × Spells words r × Stopped r before after stop
+Ends words before after (delivered status) = (r : Request) × Spells words r × Delivered r before after status
+
+abbrev pub status_at : Ending → Status
+status_at (delivered status) = status
+status_at (stopped stop) = status_of stop
+
+-- what is said of it on `err`
+abbrev pub line_at : Ending → List ℕ
+line_at (delivered status) = []
+line_at (stopped stop) = line_of stop
+
+-- A line on `err`: a front of it, and all of it where no count rose.
+pub record Says (before after : Option (List ℕ)) (faults faults' wants wants' : ℕ) (line : List ℕ) : Type 0 where
+  pub front : AppendsPrefix before after line
+  pub whole : (Rose faults faults' → ⊥) → (Rose wants wants' → ⊥) → Appends before after line
+
+-- the ending that a result stands for
+abbrev pub ending_of : Result Status Stop → Ending
+ending_of (Ok status) = delivered status
+ending_of (Err stop) = stopped stop

@@ -1,0 +1,57 @@
+ghost use Rattle.std.specs.Prelude.{◌≡◌, ◌+◌, ◌++◌, ◌≤◌, take, length};
+ghost use Rattle.plan_command.specs.Lines.{line_of};
+ghost use Rattle.plan_command.specs.Run.{Says};
+
+use crate::status::Stop;
+use byte_ports::{Sink, write_all};
+use exact_parts::digits;
+
+/// Room for the longest line.
+const ROOM: usize = 160;
+
+/// Puts a piece behind the first `at` bytes.
+fn append(to: &mut [u8; ROOM], at: usize, piece: &[u8]) -> usize
+    requires { at + length piece.now ≤ 160 }
+    ensures text { take result to.new ≡ take at to.old ++ piece.now }
+    ensures len { result ≡ at + length piece.now }
+{
+    to[at..at + piece.len()].copy_from_slice(piece);
+    at + piece.len()
+}
+
+/// The line, in memory that is there already.
+#[tactic(auto, unfolding(crate::specs::Lines::line_of))]
+fn put_line(stop: Stop, to: &mut [u8; ROOM]) -> usize
+    ensures text { take result to.new ≡ line_of stop }
+    ensures len { result ≤ 160 }
+{
+    match stop {
+        Stop::Usage => append(
+            to,
+            0,
+            b"usage: osp plan [--workers N] [--nodes N] / check / report [--json yes] / make NUMBER / drill NUMBER [--workers N]\n",
+        ),
+        Stop::BadScenario => append(to, 0, b"bad scenario\n"),
+        Stop::ReadFault => append(to, 0, b"read fault\n"),
+        Stop::WriteFault => append(to, 0, b"write fault\n"),
+        Stop::NoMemory => append(to, 0, b"no memory\n"),
+        Stop::TooManyNodes(limit) => {
+            let mut number = [0u8; 39];
+            let len = digits(u128::from(limit), &mut number);
+            let at = append(to, 0, b"too many nodes: ");
+            let at = append(to, at, &number[..len]);
+            append(to, at, b"\n")
+        }
+        Stop::TooLong => append(to, 0, b"input too long\n"),
+    }
+}
+
+/// Says on `err` what stopped the run.
+pub fn say<E: Sink>(err: &mut E, stop: Stop)
+    ensures { Says (E.wrote err.old) (E.wrote err.new) (E.faults err.old) (E.faults err.new)
+        (E.wants err.old) (E.wants err.new) (line_of stop) }
+{
+    let mut line = [0u8; ROOM];
+    let len = put_line(stop, &mut line);
+    let _ = write_all(err, &line[..len]);
+}

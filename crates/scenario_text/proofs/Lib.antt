@@ -1,0 +1,5 @@
+pub mod Cuts
+pub mod Words
+pub mod Numbers
+pub mod Positions
+pub mod CellNames

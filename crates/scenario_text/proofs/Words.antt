@@ -1,0 +1,83 @@
+-- The first field of a line.
+use Rattle.std.proofs.Common.{◌≡◌, ◌≢◌, ℕ, zero, suc, ◌≤◌, ◌<◌, ◌+◌, Bool, true, false, cond, eqb, List, [], ◌∷◌, ◌++◌, length, get_or, take, drop, refl, sym, ap, ◌∙◌, arith, add-one}
+use Rattle.scenario_text.specs.Lines.{onto_first, is_blank, ends_field, fields_of}
+use Rattle.std.proofs.lemmas.List.{drop_all, append-nil}
+use Rattle.std.proofs.Math.Seq.{take-length}
+
+-- blanks at the front say nothing
+skip_more : (line : List ℕ) (i : ℕ) → i ≤ length line → ((k : ℕ) → k < i → is_blank (get_or line k 0) ≡ true) → fields_of line ≡ fields_of (drop i line)
+unfolding fields_of
+skip_more line zero le blanks = refl
+skip_more [] (suc i) le blanks = absurd (omega arith)
+skip_more (c ∷ cs) (suc i) le blanks = rw (blanks 0 (omega arith)) (skip_more cs i (omega arith) (λ k lt. blanks (suc k) (omega arith)))
+
+nothing : fields_of [] ≡ []
+unfolding fields_of
+nothing = refl
+
+pub skip_to : (line : List ℕ) (i : ℕ) → i < length line → ((k : ℕ) → k < i → is_blank (get_or line k 0) ≡ true) → fields_of line ≡ fields_of (drop i line)
+skip_to line i lt blanks = skip_more line i (omega arith) blanks
+
+pub skip_all : (line : List ℕ) → ((k : ℕ) → k < length line → is_blank (get_or line k 0) ≡ true) → fields_of line ≡ fields_of []
+skip_all line blanks = skip_more line (length line) (omega arith) blanks ∙ ap fields_of (drop_all (length line) line (omega arith))
+
+pub starts_at : (line : List ℕ) (i : ℕ) → i < length line → is_blank (get_or line i 0) ≡ false → ends_field (drop i line) ≡ false
+starts_at [] i lt not_blank = absurd (omega arith)
+starts_at (c ∷ cs) zero lt not_blank = not_blank
+starts_at (c ∷ cs) (suc i) lt not_blank = starts_at cs i (omega arith) not_blank
+
+word_more : (line : List ℕ) (i : ℕ) → i < length line → ((k : ℕ) → k < suc i → is_blank (get_or line k 0) ≡ false) → ends_field (drop (suc i) line) ≡ true → fields_of line ≡ take (suc i) line ∷ fields_of (drop (suc i) line)
+unfolding fields_of
+word_more [] i lt word after = absurd (omega arith)
+word_more (c ∷ cs) zero lt word after = rw (word 0 (omega arith), after) refl
+word_more (c ∷ cs) (suc i) lt word after =
+    let goes_on : ends_field cs ≡ false = starts_at cs 0 (omega arith) (word 1 (omega arith)) in
+    rw (word 0 (omega arith), goes_on) (ap (onto_first c) (word_more cs i (omega arith) (λ k below. word (suc k) (omega arith)) after))
+
+ends_there : (line : List ℕ) (i : ℕ) → i < length line → is_blank (get_or line i 0) ≡ true → ends_field (drop i line) ≡ true
+ends_there [] i lt blank = absurd (omega arith)
+ends_there (c ∷ cs) zero lt blank = blank
+ends_there (c ∷ cs) (suc i) lt blank = ends_there cs i (omega arith) blank
+
+-- a field that starts the line goes on past its first byte
+pub field_goes_on : (line : List ℕ) (i : ℕ) → is_blank (get_or line i 0) ≡ true → ends_field line ≡ false → 0 < i
+field_goes_on [] i blank starts = absurd cc
+field_goes_on (c ∷ cs) zero blank starts = absurd cc
+field_goes_on (c ∷ cs) (suc i) blank starts = omega arith
+
+pub field_is_some : (line : List ℕ) → ends_field line ≡ false → 0 < length line
+field_is_some [] starts = absurd cc
+field_is_some (c ∷ cs) starts = omega arith
+
+pub word_to : (line : List ℕ) (i : ℕ) → i < length line → ((k : ℕ) → k < i → is_blank (get_or line k 0) ≡ false) → is_blank (get_or line i 0) ≡ true → ends_field line ≡ false → fields_of line ≡ take i line ∷ fields_of (drop i line)
+word_to line zero lt word blank starts = absurd (omega (arith, field_goes_on line zero blank starts))
+word_to line (suc i) lt word blank starts = word_more line i (omega arith) word (ends_there line (suc i) lt blank)
+
+pub word_all : (line : List ℕ) → ends_field line ≡ false → ((k : ℕ) → k < length line → is_blank (get_or line k 0) ≡ false) → fields_of line ≡ line ∷ fields_of (drop (length line) line)
+word_all [] starts word = absurd cc
+word_all (c ∷ cs) starts word =
+    let gone : drop (suc (length cs)) (c ∷ cs) ≡ [] = drop_all (suc (length cs)) (c ∷ cs) (omega arith) in
+    let whole : take (suc (length cs)) (c ∷ cs) ≡ c ∷ cs = take-length (c ∷ cs) in
+    let one = word_more (c ∷ cs) (length cs) (omega arith) word (ap ends_field gone) in
+    rw whole at one
+
+test_false : (b : Bool) → (b ≡ true → ⊥) → b ≡ false
+test_false true h = absurd (h refl)
+test_false false h = refl
+
+-- what is not at its end starts a field
+pub starts_field : (line : List ℕ) → (ends_field line ≡ true → line ≡ []) → 0 < length line → ends_field line ≡ false
+starts_field line h long = test_false (ends_field line) (λ e. absurd (let none : length line ≡ 0 = ap length (h e) in omega arith))
+
+pub ruleset skip_steps = (skip_to, skip_all, starts_at)
+
+pub ruleset word_steps = (word_to, word_all, field_goes_on, field_is_some)
+
+pub fields_gone : (rest : List ℕ) → length rest ≡ 0 → fields_of rest ≡ []
+fields_gone [] e = nothing
+fields_gone (c ∷ cs) e = absurd (omega arith)
+
+pub fields_done : (done : List (List ℕ)) (rest : List ℕ) (fs : List (List ℕ)) → length rest ≡ 0 → done ++ fields_of rest ≡ fs → done ≡ fs
+fields_done done rest fs e so_far = sym (append-nil done) ∙ ap (λ (x : List (List ℕ)). done ++ x) (sym (fields_gone rest e)) ∙ so_far
+
+pub ruleset field_steps = (starts_field, fields_gone)

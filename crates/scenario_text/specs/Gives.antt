@@ -1,0 +1,13 @@
+-- What a function of the reader returns, seen by what reading gives.
+use Rattle.std.specs.Prelude.{◌≡◌, ℕ, Result, Ok, Err}
+use Rattle.scenario_text.specs.declared.draft.Draft.{Draft}
+use Rattle.scenario_text.specs.declared.kind.TextKind.{TextKind}
+use Rattle.scenario_text.specs.declared.stop.LineStop.{LineStop}
+use Rattle.scenario_text.specs.declared.stop.LineStop.TheVariants as line_stops
+use Rattle.scenario_text.specs.State.{State, state_of}
+
+-- the line was taken as reading takes it, or has that fault, unless memory ran out
+abbrev pub TakesLine : Draft → Result (Unit {0}) LineStop → Result State TextKind → Type 0
+TakesLine new (Ok _) read = read ≡ Ok (state_of new)
+TakesLine new (Err (line_stops.Fault kind)) read = read ≡ Err kind
+TakesLine new (Err line_stops.NoMemory) read = Unit {0}

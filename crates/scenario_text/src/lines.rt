@@ -1,0 +1,80 @@
+//! Text as lines, and a line as fields.
+
+ghost use Rattle.std.specs.Prelude.{◌≡◌, true, false, [], ◌∷◌, ◌<◌, ◌≤◌, drop, map, length, IfOk};
+ghost use Rattle.scenario_text.specs.Lines.{lines_of, is_blank as is_blank_lem, ends_field, fields_of as fields_lem};
+
+use std::alloc::{AllocError, Global};
+
+/// What follows the first `at` bytes.
+fn rest_from(text: &[u8], at: usize) -> &[u8]
+    requires { at ≤ length text.now }
+    ensures { result.now ≡ drop at text.now }
+{
+    &text[at..]
+}
+
+/// The first line, and what follows its line feed.
+#[tactic(auto, using(crate::proofs::Cuts::cut_steps))]
+pub fn cut_line(text: &[u8]) -> (&[u8], &[u8])
+    requires { 0 < length text.now }
+    ensures lines { lines_of text.now ≡ result.0.now ∷ lines_of result.1.now }
+    ensures shorter { length result.1.now < length text.now }
+{
+    for (i, c) in text.iter().enumerate() {
+        if *c == b'\n' {
+            return (&text[..i], rest_from(text, i + 1));
+        }
+    }
+    (text, rest_from(text, text.len()))
+}
+
+fn is_blank(c: u8) -> bool
+    ensures { result ≡ is_blank_lem c }
+{
+    c == b' ' || c == b'\t' || c == b'\r'
+}
+
+/// What follows the blanks at the front.
+#[tactic(auto, using(crate::proofs::Words::skip_steps))]
+fn skip_blanks(line: &[u8]) -> &[u8]
+    ensures fields { fields_lem line.now ≡ fields_lem result.now }
+    ensures starts { ends_field result.now ≡ true → result.now ≡ [] }
+    ensures shorter { length result.now ≤ length line.now }
+{
+    for (i, c) in line.iter().enumerate() {
+        if !is_blank(*c) {
+            return rest_from(line, i);
+        }
+    }
+    &[]
+}
+
+/// The field at the front, and what follows it.
+#[tactic(auto, using(crate::proofs::Words::word_steps))]
+fn cut_field(line: &[u8]) -> (&[u8], &[u8])
+    requires { ends_field line.now ≡ false }
+    ensures fields { fields_lem line.now ≡ result.0.now ∷ fields_lem result.1.now }
+    ensures shorter { length result.1.now < length line.now }
+{
+    for (i, c) in line.iter().enumerate() {
+        if is_blank(*c) {
+            return (&line[..i], rest_from(line, i));
+        }
+    }
+    (line, rest_from(line, line.len()))
+}
+
+/// The fields of a line.
+#[tactic(auto, using(crate::proofs::Words::field_steps))]
+pub fn fields_of(alloc: Global, line: &[u8]) -> Result<Vec<&[u8]>, AllocError>
+    ensures { IfOk result (λ v. map (λ f. f.now) v.items ≡ fields_lem line.now) }
+{
+    let mut fields = Vec::new(alloc);
+    let mut rest = skip_blanks(line);
+    while !rest.is_empty() {
+        let (field, after) = cut_field(rest);
+        fields.push(field)?;
+        rest = skip_blanks(after);
+    }
+    Ok(fields)
+}
