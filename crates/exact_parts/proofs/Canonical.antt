@@ -15,6 +15,7 @@ use Rattle.std.proofs.lemmas.Str.Parse.{digits_value-take-le}
 use Rattle.exact_parts.specs.Decimal.{is_plain}
 use Rattle.exact_parts.proofs.PlainDigits.{plain_digit}
 
+-- a first digit that isn't 0, or is 0 alone
 head_case : (zeroes : Bool) (d n : ℕ) (rest : Bool) → eqb d 48 ≡ zeroes → cond zeroes (eqb n 0) (is_ascii_digit d) && rest ≡ true → 0 < n → 48 < d
 head_case true d zero rest e h more = absurd (omega arith)
 head_case true d (suc n) rest e h more = grind (arith, common_steps)
@@ -45,6 +46,7 @@ decimal_one c range =
     let one : value (c ∷ []) ≡ digit_value c = omega arith in
     ap decimal one ∙ decimal_digit (digit_value c) (omega arith) ∙ ap (λ (x : ℕ). x ∷ []) glyph
 
+-- the front of a plain decimal is the text of the front's value
 front_is : (text : List ℕ) (i : ℕ) → is_plain text ≡ true → value text < 10 ^ 64 → i < length text → 1 < length text → (decimal (value (take (suc i) text)) ≡ take (suc i) text) × (0 < value (take (suc i) text))
 front_is text zero h small lt long =
     let c = get_or text 0 0 in
@@ -66,6 +68,7 @@ nothing_plain : is_plain [] ≡ true → ⊥
 unfolding is_plain
 nothing_plain h = grind arith
 
+-- a plain decimal is the text of its value
 pub decimal_of_plain : (text : List ℕ) → is_plain text ≡ true → value text < 10 ^ 64 → decimal (value text) ≡ text
 decimal_of_plain [] h small = absurd (nothing_plain h)
 decimal_of_plain (d ∷ []) h small = decimal_one d (plain_digit (d ∷ []) 0 h (omega arith))
@@ -73,6 +76,7 @@ decimal_of_plain (d ∷ e ∷ ds) h small =
     let all = front_is (d ∷ e ∷ ds) (suc (length ds)) h small (omega arith) (omega arith) in
     rw take-length at all.0
 
+-- what holds of the text of a number, built digit by digit
 abbrev IsText : ℕ → List ℕ → Type 0
 IsText n ds = (is_plain ds ≡ true) × (0 < n → 48 < get_or ds 0 0) × (value ds ≡ n)
 
@@ -102,6 +106,7 @@ text_more n (d ∷ ds) le h = (more_plain d ds (48 + n % 10) h.0 (h.1 (omega ari
 plain_texts : (n : ℕ) → n < 10 ^ 64 → (is_plain (decimal n) ≡ true) × (value (decimal n) ≡ n)
 plain_texts n small = let t = decimal_by_steps_wide IsText text_one text_more n small in (t.0, t.2)
 
+-- the same two facts about a text of which an equation is known, below 2 to the power 128
 pub is_text : (text : List ℕ) (n : ℕ) → is_plain text ≡ true → n ≡ value text → n < 2 ^ 128 → text ≡ decimal n
 is_text text n h e small = sym (ap decimal e ∙ decimal_of_plain text h (omega arith))
 

@@ -2,3 +2,6 @@ pub mod PlainDigits
 pub mod Canonical
 pub mod Written
 pub mod Widths
+pub mod Decimals
+pub mod AppendLemmas
+pub mod RowLemmas

@@ -1,3 +1,4 @@
+-- The digits of a plain decimal, read one after the other.
 use Rattle.std.proofs.Common.{◌≡◌, ℕ, ◌≤◌, ◌<◌, ◌+◌, ◌*◌, ◌^◌, Bool, true, false, cond, eqb, List, [], ◌∷◌, length, get_or, take, refl, sym, ap, subst, arith}
 use Rattle.std.specs.Char.{is_ascii_digit, digit_value}
 use Rattle.std.specs.Int.{IsInRange}
@@ -24,6 +25,7 @@ unfolding is_plain
 plain_all [] h = absurd cc
 plain_all (d ∷ ds) h = plain_first (eqb d 48) d (eqb (length ds) 0) (all_ascii_digits ds) refl (rw list_all_digits at h)
 
+-- each of its bytes is a digit
 pub plain_digit : (text : List ℕ) (i : ℕ) → is_plain text ≡ true → i < length text → IsInRange 48 57 (get_or text i 0)
 plain_digit text i h lt =
     let own = numerals_by_value (λ ds. all_ascii_digits ds ≡ true) tells_all_ascii_digits in
@@ -33,6 +35,7 @@ plain_digit text i h lt =
 pub value_more : (text : List ℕ) (i n : ℕ) → n ≡ digits_value 10 (take i text) → i < length text → digits_value 10 (take (i + 1) text) ≡ n * 10 + digit_value (get_or text i 0)
 value_more text i n e lt = rw e (digits_value_more 10 text i lt)
 
+-- a front is worth no more than the whole
 pub value_above : (text : List ℕ) (i : ℕ) → digits_value 10 (take i text) ≤ digits_value 10 text
 value_above text i = digits_value-take-le 10 text i (omega arith)
 

@@ -1,5 +1,5 @@
 -- Plain decimals: `0`, or a digit 1 to 9 followed by digits.
-use Rattle.std.specs.Prelude.{◌≡◌, ℕ, ◌<◌, ◌≤◌, Bool, true, false, ◌==◌, ◌&&◌, if◌then◌else◌, List, [], ◌∷◌, length}
+use Rattle.std.specs.Prelude.{◌≡◌, ℕ, ◌<◌, ◌≤◌, Bool, true, false, ◌==◌, ◌&&◌, nat_lt, not, if◌then◌else◌, List, [], ◌∷◌, length}
 use Rattle.std.specs.Char.{is_ascii_digit}
 use Rattle.std.specs.List.{list_all}
 use Rattle.std.specs.Str.Parse.{digits_value}
@@ -16,3 +16,8 @@ abbrev pub Spells : ℕ → List ℕ → Number → Type 0
 Spells most text NotPlain = is_plain text ≡ false
 Spells most text Above = (is_plain text ≡ true) × (most < digits_value 10 text)
 Spells most text (Of n) = (is_plain text ≡ true) × (n ≡ digits_value 10 text) × (n ≤ most)
+
+-- the same, as a function
+unfoldable pub number_at : ℕ → List ℕ → Number
+number_at most text =
+    if not (is_plain text) then NotPlain else (if nat_lt most (digits_value 10 text) then Above else Of (digits_value 10 text))

@@ -1,3 +1,4 @@
 pub mod Decimal
 pub mod Width
 pub mod Rows
+pub mod Appending

@@ -5,7 +5,7 @@ ghost use Rattle.std.specs.Int.{IsInRange};
 ghost use Rattle.std.specs.Option.{SomeIff};
 ghost use Rattle.std.specs.List.{list_all};
 ghost use Rattle.std.specs.Str.Parse.{digits_value};
-ghost use Rattle.exact_parts.specs.Decimal.{is_plain, Spells};
+ghost use Rattle.exact_parts.specs.Decimal.{is_plain, Spells, number_at};
 
 use crate::number::Number;
 
@@ -41,9 +41,10 @@ fn with_digit(n: u128, digit: u8) -> Option<u128>
 }
 
 /// The number that a field spells, where it is at most `most`. It is exact for a field of any length.
-#[tactic(auto, using(crate::proofs::PlainDigits::plain_steps))]
+#[tactic(auto, using(crate::proofs::PlainDigits::plain_steps), unfolding(crate::specs::Decimal::number_at))]
 pub fn number_of(text: &[u8], most: u128) -> Number
-    ensures { Spells most text.now result }
+    ensures spells { Spells most text.now result }
+    ensures same { result ≡ number_at most text.now }
 {
     if !is_plain_decimal(text) {
         return Number::NotPlain;

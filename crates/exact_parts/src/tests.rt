@@ -5,6 +5,7 @@ use std::test::Fail;
 fn widths(rt: HostRuntime) {
     assert!(rt; fits(4, 1024, 1024, 6));
     assert!(rt; !fits(8, 1024, 1024, 6));
+    assert_eq!(rt; weight_of(2, 2, 2, 2), 16);
 }
 
 #[test]
@@ -29,6 +30,13 @@ fn a_long_number_is_above(rt: HostRuntime) -> Result<(), Fail> {
     assert_eq!(rt; number_of(b"1000001", 1_000_000), Number::Above);
     assert_eq!(rt; number_of(b"+1", 1_000_000), Number::NotPlain);
     Ok(())
+}
+
+#[test]
+fn digits_stand_at_the_front(rt: HostRuntime) {
+    let mut to = [b'.'; 39];
+    assert_eq!(rt; digits(107, &mut to), 3);
+    assert_eq!(rt; &to[..4], b"107.".as_slice());
 }
 
 #[test]

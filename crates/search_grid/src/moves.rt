@@ -2,29 +2,13 @@
 
 ghost use Rattle.std.specs.Prelude.{◌≡◌, ℕ, ◌<◌, ◌↔◌, length, map, IsTrue, IsOk, IfOk, IfErr, Contains};
 
+use crate::faults::{GridFault, put_in_order};
 use std::marker::Model;
 
 /// Per cell, its moves in ascending order.
 #[derive(Debug, Drop)]
 pub struct Grid {
     rows: Vec<Vec<u8>>,
-}
-
-/// Why rows of moves make no grid, or none was made. A fault of a row names its cell.
-#[derive(Clone, Copy, Debug, PartialEq, Eq)]
-pub enum GridFault {
-    /// There is no row, or there are more than 200.
-    CellCount,
-    /// The row is empty.
-    NoMove(u8),
-    /// The row has more than 64 moves.
-    TooManyMoves(u8),
-    /// A move of the row isn't a cell.
-    OutOfRange(u8),
-    /// A move stands twice in the row.
-    DoubleMove(u8),
-    /// No memory was found.
-    NoMemory,
 }
 
 impl Model for Grid {
@@ -39,7 +23,24 @@ impl Model for Grid {
 }
 
 impl Grid {
+    ghost use Rattle.std.specs.Prelude.{Ok};
     ghost use Rattle.search_grid.specs.Moves.{IsGrid, moves_from};
+    ghost use Rattle.search_grid.specs.Faults.{HasSameMoves, HasFault, IsFirstFault};
+
+    /// Makes the grid whose cell `c` has the moves `rows[c]`, which it puts in ascending order.
+    ///
+    /// The error is `CellCount`, or else the fault of the least cell that has one, and of its faults the
+    /// first in the order of the variants. Takes no memory.
+    pub fn new(mut rows: Vec<Vec<u8>>) -> Result<Grid, GridFault>
+        ensures made { let given = map (λ row. row.items) rows.items in IfOk result (HasSameMoves given) }
+        ensures sound { IfOk result IsGrid }
+        ensures faultless { let given = map (λ row. row.items) rows.items in IsOk result ↔ ((fault : GridFault) → HasFault given fault → ⊥) }
+        ensures fault { let given = map (λ row. row.items) rows.items in IfErr result (IsFirstFault given) }
+        ensures kept { let given = map (λ row. row.items) rows.items in IsGrid given → result ≡ Ok given }
+    {
+        put_in_order(&mut rows)?;
+        Ok(Grid { rows })
+    }
 
     /// The number of cells.
     pub fn cells(&self) -> u8

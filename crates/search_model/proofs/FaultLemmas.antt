@@ -1,5 +1,5 @@
 -- The first fault of parts.
-use Rattle.std.proofs.Common.{ℕ, ◌≡◌, ◌≢◌, ◌<◌, ◌≤◌, ◌⊎◌, length, sum, inl, inr, arith}
+use Rattle.std.proofs.Common.{ℕ, ◌≡◌, ◌<◌, ◌≤◌, length, sum, inl, inr, arith}
 use Rattle.exact_parts.specs.Width.{Fits}
 use Rattle.search_model.specs.declared.scenario.Parts.{Parts}
 use Rattle.search_model.specs.declared.scenario.ModelFault.{ModelFault}

@@ -2,3 +2,14 @@ pub mod Places
 pub mod NameLemmas
 pub mod LegalLemmas
 pub mod FaultLemmas
+pub mod Sums
+pub mod DriftSums
+pub mod TrackSums
+pub mod After
+pub mod Totals
+pub mod PlainSteps
+pub mod Members
+pub mod WalkLemmas
+pub mod Orders
+pub mod Best
+pub mod Examples

@@ -1,7 +1,7 @@
 -- What the definitions say together.
 use Rattle.std.specs.Prelude.{ℕ, ◌≡◌, ◌≤◌, ◌*◌, ◌^◌, ◌-◌, ◌↔◌, List, length, sum_by, Contains}
 use Rattle.search_model.specs.Problem.{Problem, IsProblem}
-use Rattle.search_model.specs.Legal.{Follows, IsPath, walks}
+use Rattle.search_model.specs.Legal.{Follows, walks}
 use Rattle.search_model.specs.Tracks.{tracks, weight_of, missed_weight, whole_weight}
 use Rattle.search_model.specs.Order.{IsBest}
 

@@ -2,9 +2,11 @@ pub mod Names
 pub mod Problem
 pub mod Legal
 pub mod Tracks
+pub mod Following
 pub mod PathPlaces
 pub mod NamePlaces
 pub mod Order
 pub mod Parts
 pub mod Faults
 pub mod Laws
+pub mod Worked

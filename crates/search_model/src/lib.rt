@@ -2,12 +2,16 @@
 //! the order of standings, and the definitions that every contract above rests on.
 #![tactic(auto)]
 
+mod laws;
 mod name;
 mod path;
+mod plain_value;
 mod scenario;
 mod standing;
 
+pub use laws::{nothing_is_cut_off, one_best, walks_follow, weights_sum, worked_values};
 pub use name::Name;
 pub use path::Path;
+pub use plain_value::value;
 pub use scenario::{ModelFault, Parts, Scenario};
 pub use standing::{Standing, better, starts};

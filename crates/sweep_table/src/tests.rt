@@ -1,6 +1,9 @@
 use super::*;
 use std::test::Fail;
 
+// Holds of what may be shared between threads and moved to one.
+fn crosses_threads<T: Send + Sync + Drop>(_value: T) {}
+
 #[test]
 fn a_part_may_be_the_whole_denominator(rt: HostRuntime) -> Result<(), Fail> {
     let parts = [1, 2, 1].to_vec(rt.alloc())?;
@@ -13,6 +16,7 @@ fn a_part_may_be_the_whole_denominator(rt: HostRuntime) -> Result<(), Fail> {
     assert_eq!(rt; sweep.factor(1, 0, 0), 1);
     assert_eq!(rt; sweep.factor(32, 1, 1), 2);
     assert_eq!(rt; sweep.factor(1, 0, 1), 2);
+    crosses_threads(sweep);
     Ok(())
 }
 

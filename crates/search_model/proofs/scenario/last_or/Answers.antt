@@ -1,4 +1,4 @@
-use Rattle.std.proofs.Common.{◌≡◌, ◌∙◌, ap, unwrap_or}
+use Rattle.std.proofs.Common.{◌∙◌, ap, unwrap_or}
 use Rattle.search_model.proofs.LegalLemmas.{last_or_start}
 use Rattle.search_model.proofs.scenario.last_or.Goals as goal
 

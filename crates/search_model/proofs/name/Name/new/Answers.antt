@@ -1,8 +1,6 @@
-use Rattle.std.proofs.Common.{ℕ, ◌≡◌, ◌≤◌, ◌<◌, ◌-◌, ◌++◌, List, length, take, drop, replicate, ap, ◌∙◌, sym, arith, subst, refl, true}
+use Rattle.std.proofs.Common.{◌≡◌, ◌∙◌, sym, true}
 use Rattle.std.specs.List.{list_all}
-use Rattle.search_model.specs.PathPlaces.{IsPadded}
-use Rattle.search_model.specs.NamePlaces.{IsNamePlaces}
-use Rattle.search_model.specs.Names.{IsName, is_name_byte}
+use Rattle.search_model.specs.Names.{is_name_byte}
 use Rattle.search_model.proofs.NameLemmas.{some_in}
 use Rattle.search_model.proofs.Places.{filled_front}
 use Rattle.search_model.proofs.name.Name.new.Goals as goal

@@ -1,10 +1,7 @@
-use Rattle.std.proofs.Common.{ℕ, ◌≡◌, ◌≤◌, ◌<◌, List, length, sum, All, subst, sym, ◌∙◌, ap, refl, arith}
-use Rattle.std.proofs.lemmas.Bool.{false≢true, true≢false}
+use Rattle.std.proofs.Common.{◌≡◌, sum, sym, ◌∙◌, ap, refl, arith}
+use Rattle.std.proofs.lemmas.Bool.{false≢true}
 use Rattle.exact_parts.specs.Width.{Fits}
-use Rattle.search_model.specs.Names.{IsName, IsRepeated}
-use Rattle.search_model.specs.Problem.{IsProblem}
-use Rattle.search_model.specs.Parts.{problem_of}
-use Rattle.search_model.specs.Faults.{WithinLimits, SizesAgree, IsFirstFault}
+use Rattle.search_model.specs.Faults.{WithinLimits, SizesAgree}
 use Rattle.search_model.proofs.FaultLemmas.{double_is_first, wide_is_first, no_fault}
 use Rattle.search_model.proofs.scenario.Scenario.new.Goals as goal
 

@@ -1,0 +1,19 @@
+-- The text of rows of fields.
+use Rattle.std.proofs.Common.{◌≡◌, ℕ, List, [], ◌∷◌, ◌++◌, map, refl, sym, ◌∙◌, ap, append_assoc}
+use Rattle.std.specs.List.{join_with_byte, flat_map}
+use Rattle.std.proofs.lemmas.List.{append-nil}
+use Rattle.exact_parts.specs.Rows.{text_of, spaced}
+
+-- a row begins with its first field, and each other field has a blank before it
+pub join-fields : (f : List ℕ) (fs : List (List ℕ)) → join_with_byte 32 (f ∷ fs) ≡ f ++ spaced fs
+join-fields f [] = sym (append-nil f)
+join-fields f (g ∷ fs) = ap (λ (x : List ℕ). f ++ 32 ∷ x) (join-fields g fs)
+
+pub text_of-append : (rows more : List (List (List ℕ))) → text_of (rows ++ more) ≡ text_of rows ++ text_of more
+text_of-append [] more = refl
+text_of-append (row ∷ rows) more = ap (λ (x : List ℕ). join_with_byte 32 row ++ 10 ∷ x) (text_of-append rows more) ∙ sym (append_assoc (join_with_byte 32 row) (10 ∷ text_of rows) (text_of more))
+
+-- one row for each of these
+pub text_of-map : {X : Type 0} (f : X → List (List ℕ)) (xs : List X) → text_of (map f xs) ≡ flat_map (λ x. join_with_byte 32 (f x) ++ 10 ∷ []) xs
+text_of-map f [] = refl
+text_of-map f (x ∷ xs) = ap (λ (t : List ℕ). join_with_byte 32 (f x) ++ 10 ∷ t) (text_of-map f xs) ∙ sym (append_assoc (join_with_byte 32 (f x)) (10 ∷ []) _)

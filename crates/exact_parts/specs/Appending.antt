@@ -1,0 +1,6 @@
+-- What is left of a text that found no memory.
+use Rattle.std.specs.Prelude.{ℕ, ◌≡◌, List, ◌++◌, take}
+
+-- the old bytes, followed by a front of the text
+abbrev pub AppendsFront : List ℕ → List ℕ → List ℕ → Type 0
+AppendsFront old new text = (n : ℕ) × (new ≡ old ++ take n text)

@@ -1,0 +1,4 @@
+pub mod Ascending
+pub mod Grids
+pub mod MoveRows
+pub mod NamedFaults

@@ -1,0 +1,30 @@
+//! What the definitions say together.
+
+ghost use Rattle.search_model.specs.Laws.{WeightsSum, NothingCutOff, WalksFollow, OneBest};
+
+/// The weights of all tracks sum to the total times the drift's denominators.
+pub fn weights_sum()
+    ensures { WeightsSum }
+{}
+
+/// No looks miss more than the whole weight, so no value is cut off at 0.
+pub fn nothing_is_cut_off()
+    ensures { NothingCutOff }
+{}
+
+/// The walks of a length are the lists of that length that follow the moves.
+pub fn walks_follow()
+    ensures { WalksFollow }
+{}
+
+/// There is a best path, and no second one.
+pub fn one_best()
+    ensures { OneBest }
+{}
+
+ghost use Rattle.search_model.specs.Worked.{WorkedValues};
+
+/// The values of small problems, worked by hand.
+pub fn worked_values()
+    ensures { WorkedValues }
+{}
