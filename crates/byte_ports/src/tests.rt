@@ -1,10 +1,10 @@
 use crate::*;
 use std::test::Fail;
 
-// The bytes 0, 1, 2, .. up to a length.
-fn counting(rt: &HostRuntime, len: u8) -> Result<Vec<u8>, Fail> {
+// The bytes from one number up to another.
+fn counting(rt: &HostRuntime, from: u8, to: u8) -> Result<Vec<u8>, Fail> {
     let mut bytes = Vec::new(rt.alloc());
-    for byte in 0..len {
+    for byte in from..to {
         bytes.push(byte)?;
     }
     Ok(bytes)
@@ -22,11 +22,11 @@ fn a_source_is_read_to_its_end_or_its_limit(rt: HostRuntime) -> Result<(), Fail>
         (0, 0, Ok(0)),
     ];
     for (len, limit, want) in rows {
-        let mut source = MemSource::new(counting(&rt, len)?, 16, Vec::new(alloc));
+        let mut source = MemSource::new(counting(&rt, 0, len)?, 16, Vec::new(alloc));
         let got = read_all(alloc, &mut source, limit);
         match (got, want) {
             (Ok(bytes), Ok(count)) => {
-                assert_eq!(rt; bytes.as_slice(), counting(&rt, len)?.as_slice());
+                assert_eq!(rt; bytes.as_slice(), counting(&rt, 0, len)?.as_slice());
                 assert_eq!(rt; bytes.len(), count);
             }
             (Err(stop), Err(wanted)) => assert_eq!(rt; stop, wanted),
@@ -39,26 +39,28 @@ fn a_source_is_read_to_its_end_or_its_limit(rt: HostRuntime) -> Result<(), Fail>
 #[test]
 fn the_second_read_fails(rt: HostRuntime) -> Result<(), Fail> {
     let alloc = rt.alloc();
-    let mut source = MemSource::new(counting(&rt, 155)?, 16, [2].to_vec(alloc)?);
+    let mut source = MemSource::new(counting(&rt, 0, 155)?, 16, [2].to_vec(alloc)?);
     assert_eq!(rt;
         read_all(alloc, &mut source, 1000).err(),
         Some(ReadStop::Fault)
     );
     // What the first read took is gone, and the source goes on with what is left.
     let rest = read_all(alloc, &mut source, 1000)?;
-    assert_eq!(rt; rest.as_slice(), &counting(&rt, 155)?[16..]);
+    assert_eq!(rt; rest.as_slice(), counting(&rt, 16, 155)?.as_slice());
     Ok(())
 }
 
 #[test]
 fn the_third_write_fails(rt: HostRuntime) -> Result<(), Fail> {
     let alloc = rt.alloc();
-    let bytes = counting(&rt, 72)?;
     let mut sink = MemSink::new(alloc, 16, [3].to_vec(alloc)?);
-    assert_eq!(rt; write_all(&mut sink, &bytes), Err(WriteStop::Fault));
-    assert_eq!(rt; sink.wrote(), &bytes[..32]);
-    assert_eq!(rt; write_all(&mut sink, &bytes[32..]), Ok(()));
-    assert_eq!(rt; sink.wrote(), bytes.as_slice());
+    assert_eq!(rt;
+        write_all(&mut sink, &counting(&rt, 0, 72)?),
+        Err(WriteStop::Fault)
+    );
+    assert_eq!(rt; sink.wrote(), counting(&rt, 0, 32)?.as_slice());
+    assert_eq!(rt; write_all(&mut sink, &counting(&rt, 32, 72)?), Ok(()));
+    assert_eq!(rt; sink.wrote(), counting(&rt, 0, 72)?.as_slice());
     Ok(())
 }
 
@@ -75,7 +77,7 @@ fn nothing_to_write_makes_no_call(rt: HostRuntime) -> Result<(), Fail> {
 #[test]
 fn plain_memory_holds_what_was_written(rt: HostRuntime) -> Result<(), Fail> {
     let alloc = rt.alloc();
-    let bytes = counting(&rt, 200)?;
+    let bytes = counting(&rt, 0, 200)?;
     let mut sink = PlainSink::new(alloc);
     assert_eq!(rt; write_all(&mut sink, &bytes), Ok(()));
     let mut source = PlainSource::new(sink.wrote().to_vec(alloc)?);

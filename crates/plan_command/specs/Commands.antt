@@ -10,7 +10,7 @@ use Rattle.plan_command.specs.declared.status.Status.{Status}
 use Rattle.plan_command.specs.declared.status.Status.TheVariants as statuses
 use Rattle.plan_command.specs.declared.status.Stop.{Stop}
 use Rattle.plan_command.specs.declared.status.Stop.TheVariants as stops
-use Rattle.plan_command.specs.Plans.{IsFullPlan, HasMoreNodes}
+use Rattle.path_listing.specs.Plans.{IsFullPlan, HasMoreNodes}
 
 -- the input is the canonical text of this scenario
 pub record IsTextOf (p : Problem) (input : List ℕ) : Type 0 where

@@ -1,13 +1,16 @@
-// A library with one function.
+//! The commands of `osp`, from the words and the bytes read to the bytes written and the status.
 #![tactic(auto)]
 
-ghost use Rattle.std.specs.Prelude.{◌≡◌};
-ghost use Rattle.plan_command.specs.Echo.{echo_of};
+mod answer;
+mod gate;
+mod line;
+mod request;
+mod status;
+mod top;
+mod words;
 
-// The `ensures` clause is the contract: what `echo` returns is `echo_of` of its argument, a definition
-// in `specs/Echo.antt`, which a caller's clause can cite too.
-pub fn echo(x: usize) -> usize
-    ensures { result ≡ echo_of x }
-{
-    x
-}
+pub use gate::{Gate, OpenGate};
+pub use request::Request;
+pub use status::{Status, Stop, status_code};
+pub use top::run;
+pub use words::read_words;

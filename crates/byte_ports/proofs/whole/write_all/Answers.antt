@@ -1,21 +1,29 @@
 use Rattle.std.proofs.Common.{rules, arith}
 use Rattle.std.proofs.lemmas.Grind.{common_steps}
 use Rattle.byte_ports.specs.Runs.{Took}
-use Rattle.byte_ports.proofs.Steps.{Appends-nil, appends_more}
-use Rattle.byte_ports.proofs.Runs.{took_more}
+use Rattle.byte_ports.proofs.Runs.{Appends-nil, appends_more, took_more}
 use Rattle.byte_ports.proofs.whole.write_all.Goals as goal
 
 pub loop-done-init : goal.loop-done-init
-loop-done-init g c = (search rules, Appends-nil _, search rules, search rules, search rules, Took.none)
+loop-done-init g c =
+    record {
+      within = search rules;
+      appended = Appends-nil _;
+      faults_kept = search rules;
+      wants_kept = search rules;
+      untouched = search rules;
+      took = Took.none;
+    }
 
 pub loop-done-preserved : goal.loop-done-preserved
 loop-done-preserved g c =
     let before = c.loop-done.invariant in
-    let once = c.in-Ok.ensures in (
-      grind (arith, common_steps),
-      appends_more _ _ _ _ _ _ before.1 once.bytes,
-      grind arith,
-      grind arith,
-      λ none. absurd (omega (arith, none, once.bound.0)),
-      took_more _ _ _ _ _ _ _ before.5 once.once once.bound.0,
-    )
+    let once = c.in-Ok.ensures in
+    record {
+      within = grind (arith, common_steps);
+      appended = appends_more _ _ _ _ _ _ before.appended once.bytes;
+      faults_kept = grind arith;
+      wants_kept = grind arith;
+      untouched = λ none. absurd (omega (arith, none, once.bound.0));
+      took = took_more _ _ _ _ _ _ _ before.took once.once once.bound.0;
+    }

@@ -1,0 +1,58 @@
+ghost use Rattle.std.specs.Prelude.{◌≡◌};
+ghost use Rattle.plan_command.specs.Makes.{MakesOf};
+
+use crate::request::Request;
+use crate::status::{Status, Stop};
+use exact_parts::NoMemory;
+use path_listing::{SearchStop, search_all};
+use scenario_text::{CanonicalStop, read_canonical};
+use std::alloc::Global;
+use tree_format::print_plan;
+
+/// A text for `out`, and the status once it is written.
+#[derive(Debug, Drop)]
+pub struct Answer {
+    pub status: Status,
+    pub text: Vec<u8>,
+}
+
+impl From<NoMemory> for Stop {
+    ghost use Rattle.plan_command.specs.declared.status.Stop.TheVariants as stops;
+
+    ghost from_gives = { λ _ e. e ≡ stops.NoMemory };
+
+    fn from(_refused: NoMemory) -> Stop {
+        Stop::NoMemory
+    }
+}
+
+/// The scenario's best path with its exact value, and the tree that shows why no path is better.
+fn answer_plan(alloc: Global, input: &[u8]) -> Result<Answer, Stop>
+    ensures { MakesOf Request.Plan input.now result }
+{
+    let sc = match read_canonical(alloc, input) {
+        Ok(sc) => sc,
+        Err(CanonicalStop::NotCanonical) => return Err(Stop::BadScenario),
+        Err(CanonicalStop::NoMemory) => return Err(Stop::NoMemory),
+    };
+    let plan = match search_all(alloc, &sc) {
+        Ok(plan) => plan,
+        Err(SearchStop::Full) => return Err(Stop::TooManyNodes(1_048_576)),
+        Err(SearchStop::NoMemory) => return Err(Stop::NoMemory),
+    };
+    let mut text = Vec::new(alloc);
+    print_plan(&mut text, &sc, &plan)?;
+    Ok(Answer {
+        status: Status::Done,
+        text,
+    })
+}
+
+/// What the request makes of the input.
+pub fn answer_for(alloc: Global, request: Request, input: &[u8]) -> Result<Answer, Stop>
+    ensures { MakesOf request input.now result }
+{
+    match request {
+        Request::Plan => answer_plan(alloc, input),
+    }
+}
