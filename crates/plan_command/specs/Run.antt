@@ -1,5 +1,5 @@
 -- How a run may end: what source and sinks show before and after it, for each status.
-use Rattle.std.specs.Prelude.{◌≡◌, ◌⊎◌, ℕ, ◌+◌, List, [], Result, Ok, Err}
+use Rattle.std.specs.Prelude.{◌≡◌, ◌⊎◌, ℕ, ◌+◌, ◌≤◌, List, [], length, Result, Ok, Err}
 use Rattle.std.specs.Io.KnownBytes.{Consumes, Appends, IsAtEnd}
 use Rattle.std.specs.declared.option.Option.{Option}
 use Rattle.byte_ports.specs.Causes.{Rose}
@@ -24,16 +24,17 @@ abbrev pub shown : {S K : Type 0} → (S → Option (List ℕ)) → (S → ℕ) 
 shown left read_faults wrote write_faults source out =
     record { left = left source; read_faults = read_faults source; wrote = wrote out; write_faults = write_faults out }
 
--- The input was read whole.
-pub record ReadWhole (before after : Shown) (input : List ℕ) : Type 0 where
+-- The input was read whole, and it isn't longer than the request allows.
+pub record ReadWhole (request : Request) (before after : Shown) (input : List ℕ) : Type 0 where
   pub taken : Consumes before.left after.left input
   pub ended : IsAtEnd after.left
+  pub short : length input ≤ limit_of request
 
 -- The whole answer stands in `out`.
 pub record Delivered (request : Request) (before after : Shown) (status : Status) : Type 0 where
   pub input : List ℕ
   pub text : List ℕ
-  pub read : ReadWhole before after input
+  pub read : ReadWhole request before after input
   pub answers : Answers request input status text
   pub written : Appends before.wrote after.wrote text
 
@@ -42,14 +43,14 @@ pub record CutOff (request : Request) (before after : Shown) : Type 0 where
   pub input : List ℕ
   pub text : List ℕ
   pub status : Status
-  pub read : ReadWhole before after input
+  pub read : ReadWhole request before after input
   pub answers : Answers request input status text
   pub written : AppendsPrefix before.wrote after.wrote text
 
 -- The input was read whole and is refused.
 pub record Refused (request : Request) (before after : Shown) (stop : Stop) : Type 0 where
   pub input : List ℕ
-  pub read : ReadWhole before after input
+  pub read : ReadWhole request before after input
   pub refuses : Refuses request input stop
   pub unwritten : after.wrote ≡ before.wrote
 

@@ -7,14 +7,16 @@ use Rattle.search_model.specs.Legal.{walks}
 use Rattle.search_model.specs.Tracks.{tracks, steps_product, weight_of, miss_from, missed_weight}
 use Rattle.search_model.specs.Worked.{one_cell, two_cells, waiting_target, waiting_longer, OneCellValues, TwoCellsValues, WaitingTargetValues, WaitingLongerValues, WorkedValues}
 use Rattle.search_model.proofs.Best.{best_by_test}
+use Rattle.search_model.proofs.ExampleProblems.{one_cell_sound, two_cells_sound, waiting_target_sound, waiting_longer_sound}
 
 one_cell_values : OneCellValues
 unfolding tracks steps_product weight_of miss_from missed_weight row_of part_in factor_of walks moves_from
-one_cell_values = record { whole = refl; weights = refl; misses = (refl, refl); paths = refl; missed = refl; values = refl; best = best_by_test one_cell (0 ∷ []) (0, omega arith, refl) refl }
+one_cell_values = record { sound = one_cell_sound; whole = refl; weights = refl; misses = (refl, refl); paths = refl; missed = refl; values = refl; best = best_by_test one_cell (0 ∷ []) (0, omega arith, refl) refl }
 
 two_cells_values : TwoCellsValues
 unfolding tracks steps_product weight_of miss_from missed_weight row_of part_in factor_of walks moves_from
 two_cells_values = record {
+  sound = two_cells_sound;
   whole = refl;
   all_tracks = refl;
   weights = refl;
@@ -30,6 +32,7 @@ two_cells_values = record {
 waiting_target_values : WaitingTargetValues
 unfolding tracks steps_product weight_of miss_from missed_weight row_of part_in factor_of walks moves_from
 waiting_target_values = record {
+  sound = waiting_target_sound;
   whole = refl;
   weights = refl;
   misses = refl;
@@ -43,6 +46,7 @@ waiting_target_values = record {
 waiting_longer_values : WaitingLongerValues
 unfolding tracks steps_product weight_of miss_from missed_weight row_of part_in factor_of walks moves_from
 waiting_longer_values = record {
+  sound = waiting_longer_sound;
   whole = refl;
   weights = refl;
   misses = refl;

@@ -13,3 +13,4 @@ pub mod WalkLemmas
 pub mod Orders
 pub mod Best
 pub mod Examples
+pub mod ExampleProblems

@@ -1,7 +1,7 @@
 -- Small problems, and what the definitions make of them.
 use Rattle.std.specs.Prelude.{ℕ, ◌≡◌, [], ◌∷◌, map}
 use Rattle.drift_chain.specs.declared.part.DriftPart.{DriftPart}
-use Rattle.search_model.specs.Problem.{Problem}
+use Rattle.search_model.specs.Problem.{Problem, IsProblem}
 use Rattle.search_model.specs.Legal.{continuations}
 use Rattle.search_model.specs.Tracks.{tracks, weight_of, miss_of, whole_weight, missed_weight, value_of}
 use Rattle.search_model.specs.Order.{IsBest}
@@ -63,6 +63,7 @@ waiting_longer = waiting_for 3
 
 -- the one path finds the target in 1 of 2
 pub record OneCellValues : Type 0 where
+  pub sound : IsProblem one_cell
   pub whole : whole_weight one_cell ≡ 2
   pub weights : map (weight_of one_cell) (tracks 1 1) ≡ 1 ∷ []
   pub misses : (miss_of one_cell [] (0 ∷ []) ≡ 2) × (miss_of one_cell (0 ∷ []) (0 ∷ []) ≡ 1)
@@ -73,6 +74,7 @@ pub record OneCellValues : Type 0 where
 
 -- each look finds half of what is left, so all paths find 12 of 16, and the smallest one is best
 pub record TwoCellsValues : Type 0 where
+  pub sound : IsProblem two_cells
   pub whole : whole_weight two_cells ≡ 16
   pub all_tracks : tracks 2 2 ≡ (0 ∷ 0 ∷ []) ∷ (0 ∷ 1 ∷ []) ∷ (1 ∷ 0 ∷ []) ∷ (1 ∷ 1 ∷ []) ∷ []
   pub weights : map (weight_of two_cells) (tracks 2 2) ≡ 1 ∷ 1 ∷ 1 ∷ 1 ∷ []
@@ -86,6 +88,7 @@ pub record TwoCellsValues : Type 0 where
 
 -- the path that goes to the target's cell and stays finds 3 of 4
 pub record WaitingTargetValues : Type 0 where
+  pub sound : IsProblem waiting_target
   pub whole : whole_weight waiting_target ≡ 4
   pub weights : map (weight_of waiting_target) (tracks 3 2) ≡ 0 ∷ 0 ∷ 0 ∷ 0 ∷ 0 ∷ 0 ∷ 0 ∷ 0 ∷ 1 ∷ []
   pub misses : map (λ q. miss_of waiting_target q (2 ∷ 2 ∷ [])) ((1 ∷ []) ∷ (2 ∷ []) ∷ (1 ∷ 2 ∷ []) ∷ (2 ∷ 2 ∷ []) ∷ []) ≡ 4 ∷ 2 ∷ 2 ∷ 1 ∷ []
@@ -97,6 +100,7 @@ pub record WaitingTargetValues : Type 0 where
 
 -- with one period more it finds 7 of 8
 pub record WaitingLongerValues : Type 0 where
+  pub sound : IsProblem waiting_longer
   pub whole : whole_weight waiting_longer ≡ 8
   pub weights : map (weight_of waiting_longer) ((2 ∷ 2 ∷ 2 ∷ []) ∷ (2 ∷ 2 ∷ 1 ∷ []) ∷ (0 ∷ 0 ∷ 0 ∷ []) ∷ []) ≡ 1 ∷ 0 ∷ 0 ∷ []
   pub misses : map (λ q. miss_of waiting_longer q (2 ∷ 2 ∷ 2 ∷ [])) ((0 ∷ []) ∷ (2 ∷ 1 ∷ []) ∷ (2 ∷ 2 ∷ 1 ∷ []) ∷ (2 ∷ 2 ∷ 2 ∷ []) ∷ []) ≡ 8 ∷ 4 ∷ 2 ∷ 1 ∷ []

@@ -1,0 +1,6 @@
+pub mod Pairs
+pub mod Parts
+pub mod Moves
+pub mod Subtrees
+pub mod FullTrees
+pub mod Leading

@@ -1,0 +1,8 @@
+//! What the definitions say together.
+
+ghost use Rattle.path_listing.specs.Laws.{GrowsFullTree};
+
+/// From the empty prefix on, the search grows one record for each legal prefix, in ascending order.
+pub fn grows_full_tree()
+    ensures { GrowsFullTree }
+{}

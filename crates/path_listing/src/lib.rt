@@ -1,0 +1,8 @@
+//! The plan of a search that lists all paths.
+#![tactic(auto)]
+
+mod laws;
+mod search;
+
+pub use laws::grows_full_tree;
+pub use search::{MOST_NODES, SearchStop, search_all};
