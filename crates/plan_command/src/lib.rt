@@ -9,6 +9,9 @@ mod status;
 mod top;
 mod words;
 
+#[cfg(test)]
+mod tests;
+
 pub use gate::{Gate, OpenGate};
 pub use request::Request;
 pub use status::{Status, Stop, status_code};
