@@ -1,15 +1,18 @@
 -- Lists that ascend by a key.
-use Rattle.std.proofs.Common.{ℕ, zero, suc, ◌<◌, ◌≤◌, ◌≡◌, ◌≢◌, ◌==◌, ◌∙◌, if◌then◌else◌, List, [], ◌∷◌, length, get_or, map, refl, sym, arith, sum_by, All, AllPairs, Ok, Err, inl, inr}
+use Rattle.std.proofs.Common.{ℕ, zero, suc, ◌<◌, ◌≤◌, ◌≡◌, ◌≢◌, ◌==◌, ◌∙◌, if◌then◌else◌, List, [], ◌∷◌, length, get_or, map, refl, sym, arith, sum_by, All, AllPairs, Ok, Err, inl, inr, ◌+◌, Bool, true, false, not, ltb, MatchBool, add-one, ap, count_by, Contains, ◌⊎◌}
 use Rattle.std.proofs.Math.ListN.{length-map, get_or-map}
 use Rattle.std.specs.List.Sorted.{IsStrictlyIncreasing, IsNonDecreasingBy, IsBinarySearchResult}
 use Rattle.std.specs.Ordering.{nat_cmp, ordering_index}
 use Rattle.std.specs.declared.cmp.Ordering.TheVariants.{Less, Equal, Greater}
-use Rattle.std.proofs.lemmas.Bool.{cases_lt, eq-eqb, ne_eqb}
+use Rattle.std.proofs.lemmas.Bool.{cases_lt, eq-eqb, ne_eqb, cases_eq}
 use Rattle.std.proofs.lemmas.Bool.Decides.{nat_tests}
 use Rattle.std.proofs.lemmas.Cmp.{ranked}
+use Rattle.std.proofs.lemmas.List.{get_or-map as get_or_map}
 use Rattle.std.proofs.lemmas.List.Kept.{AllPairs-from_increasing}
-use Rattle.std.proofs.lemmas.List.Elements.{All-head, All-tail, All-weaker}
+use Rattle.std.proofs.lemmas.List.Elements.{All-head, All-tail, All-weaker, All-contains}
 use Rattle.std.proofs.lemmas.List.Sums.{sum_by-cons}
+use borrow.Author.Tests.{ltb-true, ltb-false}
+use Rattle.std.specs.List.{IsAllAdjacentAnswer}
 
 -- each key is below all later ones
 abbrev pub Ascends : {X : Type 0} → (X → ℕ) → List X → Type 0
@@ -71,3 +74,87 @@ absent_from_search key q at xs up parted k d inside same =
 -- where it finds one, that element has it
 pub found_from_search : {X : Type 0} (key : X → ℕ) (q at : ℕ) (xs : List X) (d : X) → IsBinarySearchResult (λ y. nat_cmp (key y) q) xs (Ok at) → key (get_or xs at d) ≡ q
 found_from_search key q at xs d equal = ranked (key (get_or xs at d)) q Equal (sym (equal d))
+
+-- one element at most has a key, where the list ascends
+pub count_at-le : {X : Type 0} (key : X → ℕ) (q : ℕ) (xs : List X) → Ascends key xs → count_by (λ y. key y == q) xs ≤ 1
+count_at-le key q [] up = omega arith
+count_at-le {X} key q (x ∷ xs) up =
+    let step = sum_by-cons (λ y. if key y == q then 1 else 0) x xs in
+    elim (cases_eq (key x) q) [
+      | inl same ↦
+          let above = All-weaker (λ y. key x < key y) (λ y. key y ≢ q) (λ y lt equal. omega arith) xs (Ascends-head key x xs up) in
+          rw (step, eq-eqb (key x) q same, sum_at-none key (λ _. 1) q xs above) (omega arith)
+      | inr apart ↦ rw (step, ne_eqb (key x) q apart) (omega (arith, count_at-le key q xs (Ascends-tail key x xs up)))
+    ]
+
+-- and two do, where two neighbours share it
+pub double-from_neighbours : {X : Type 0} (key : X → ℕ) (xs : List X) (k : ℕ) (d : X) → suc k < length xs → key (get_or xs (suc k) d) ≡ key (get_or xs k d) →
+    1 < count_by (λ y. key y == key (get_or xs k d)) xs
+double-from_neighbours key [] k d inside same = absurd (omega arith)
+double-from_neighbours key (x ∷ []) k d inside same = absurd (omega arith)
+double-from_neighbours {X} key (x ∷ y ∷ ys) zero d inside same =
+    let f : X → ℕ = λ z. if key z == key x then 1 else 0 in
+    rw (sum_by-cons f x (y ∷ ys), sum_by-cons f y ys, eq-eqb (key x) (key x) refl, eq-eqb (key y) (key x) same) (omega arith)
+double-from_neighbours {X} key (x ∷ y ∷ ys) (suc k) d inside same =
+    let f : X → ℕ = λ z. if key z == key (get_or (y ∷ ys) k d) then 1 else 0 in
+    rw (sum_by-cons f x (y ∷ ys)) (omega (arith, double-from_neighbours key (y ∷ ys) k d (omega arith) same))
+
+-- whether a list whose keys don't fall ascends, or a key stands in it twice
+double_or_ascends : {X : Type 0} (key : X → ℕ) (xs : List X) (r : Bool) (d : X) → IsNonDecreasingBy key xs → IsAllAdjacentAnswer (λ x y b. b ≡ ltb (key x) (key y)) xs r →
+    MatchBool (not r) ((q : ℕ) × (1 < count_by (λ y. key y == q) xs)) ((k : ℕ) → k + 1 < length xs → key (get_or xs k d) < key (get_or xs (k + 1) d))
+double_or_ascends key xs true d up below = λ k inside. ltb-true (key (get_or xs k d)) (key (get_or xs (k + 1) d)) (sym (below k d inside))
+double_or_ascends key xs false d up falls =
+    let k = falls.0 in
+    let next : suc k < length xs = omega (arith, falls.1) in
+    let above : key (get_or xs (k + 1) d) ≤ key (get_or xs k d) = ltb-false _ _ (sym (falls.2 d)) in
+    let not_below = up k (k + 1) d (omega arith) falls.1 in
+    let same : key (get_or xs (suc k) d) ≡ key (get_or xs k d) = rw (← add-one k) (omega arith) in
+    (key (get_or xs k d), double-from_neighbours key xs k d next same)
+
+-- keys that rise from each element to the next are strictly increasing
+keys_rise : {X : Type 0} (key : X → ℕ) (xs : List X) (d : X) → ((k : ℕ) → k + 1 < length xs → key (get_or xs k d) < key (get_or xs (k + 1) d)) → IsStrictlyIncreasing (map key xs)
+keys_rise key xs d up k inside =
+    let next : k + 1 < length xs = omega (arith, length-map xs key) in
+    let here : k < length xs = omega arith in
+    rw (get_or_map key xs k d 0 here, get_or_map key xs (k + 1) d 0 next) (up k next)
+
+pub double_or_keys_rise : {X : Type 0} (key : X → ℕ) (xs : List X) (r : Bool) (d : X) → IsNonDecreasingBy key xs → IsAllAdjacentAnswer (λ x y b. b ≡ ltb (key x) (key y)) xs r →
+    MatchBool (not r) ((q : ℕ) × (1 < count_by (λ y. key y == q) xs)) (IsStrictlyIncreasing (map key xs))
+double_or_keys_rise key xs true d up answer = keys_rise key xs d (double_or_ascends key xs true d up answer)
+double_or_keys_rise key xs false d up answer = double_or_ascends key xs false d up answer
+
+-- an element of an ascending list is its head, or above it
+head_or_above : {X : Type 0} (key : X → ℕ) (x y : X) (ys : List X) → Ascends key (y ∷ ys) → (k : ℕ) → k < length (y ∷ ys) → get_or (y ∷ ys) k x ≡ x → (x ≡ y) ⊎ (key y < key x)
+head_or_above key x y ys up zero inside is = inl (sym is)
+head_or_above key x y ys up (suc k) inside is = let above = Ascends-head key y ys up k x (omega arith) in inr (rw is at above)
+
+-- what is above the head stands in the rest
+in_rest : {X : Type 0} (key : X → ℕ) (x y : X) (ys : List X) → key y < key x → (k : ℕ) → k < length (y ∷ ys) → get_or (y ∷ ys) k x ≡ x → Contains ys x
+in_rest key x y ys above zero inside is = let same = ap key is in absurd (omega (arith, above, same))
+in_rest key x y ys above (suc k) inside is = (k, omega arith, is)
+
+-- what stands in the rest stands in the whole, and above the head
+in_whole : {X : Type 0} (x z : X) (xs : List X) → Contains xs z → Contains (x ∷ xs) z
+in_whole x z xs there = (suc there.0, omega (arith, there.1), there.2)
+
+above_head : {X : Type 0} (key : X → ℕ) (x z : X) (xs : List X) → Ascends key (x ∷ xs) → Contains xs z → key x < key z
+above_head key x z xs up there = All-contains (λ y. key x < key y) xs z (Ascends-head key x xs up) there
+
+-- two ascending lists with the same elements are the same
+pub same_ascending : {X : Type 0} (key : X → ℕ) (xs ys : List X) → Ascends key xs → Ascends key ys →
+    ((z : X) → Contains xs z → Contains ys z) → ((z : X) → Contains ys z → Contains xs z) → xs ≡ ys
+same_ascending key [] [] up up' to fro = refl
+same_ascending key [] (y ∷ ys) up up' to fro = let none = fro y (0, omega arith, refl) in absurd (omega (arith, none.1))
+same_ascending key (x ∷ xs) [] up up' to fro = let none = to x (0, omega arith, refl) in absurd (omega (arith, none.1))
+same_ascending key (x ∷ xs) (y ∷ ys) up up' to fro =
+    let there = to x (0, omega arith, refl) in
+    let back = fro y (0, omega arith, refl) in
+    let head : x ≡ y = elim (head_or_above key x y ys up' there.0 there.1 there.2) [
+      | inl same ↦ same
+      | inr below ↦ elim (head_or_above key y x xs up back.0 back.1 back.2) [ inl same ↦ sym same | inr above ↦ absurd (omega arith) ]
+    ] in
+    let keys : key x ≡ key y = ap key head in
+    let rest : xs ≡ ys = same_ascending key xs ys (Ascends-tail key x xs up) (Ascends-tail key y ys up')
+    (λ z here. let above = above_head key x z xs up here in let w = to z (in_whole x z xs here) in in_rest key z y ys (omega (arith, above, keys)) w.0 w.1 w.2)
+    (λ z here. let above = above_head key y z ys up' here in let w = fro z (in_whole y z ys here) in in_rest key z x xs (omega (arith, above, keys)) w.0 w.1 w.2) in
+    cc

@@ -1,2 +1,5 @@
 pub mod Ascending
+pub mod Drifts
+pub mod NamedFaults
+pub mod PartRows
 pub mod Parts

@@ -7,6 +7,10 @@ pub record DriftRows : Type 0 where
   pub denominator : ℕ
   pub rows : List (List DriftPart)
 
+-- the drift that has these rows, over one denominator
+abbrev pub drift_over : ℕ → List (List DriftPart) → DriftRows
+drift_over denominator rows = record { denominator = denominator; rows = rows }
+
 -- the number of cells
 abbrev pub drift_cells : DriftRows → ℕ
 drift_cells drift = length drift.rows

@@ -1,1 +1,2 @@
 pub mod DriftRows
+pub mod Faults

@@ -4,6 +4,7 @@ ghost use Rattle.std.specs.Prelude.{◌≡◌, ℕ, ◌<◌, ◌≤◌, ◌↔�
 ghost use Rattle.std.specs.List.Sorted.{IsStrictlyIncreasing};
 ghost use Rattle.drift_chain.specs.DriftRows.{part_in};
 
+use crate::faults::{DriftFault, put_in_order};
 use crate::part::DriftPart;
 use std::marker::Model;
 
@@ -12,21 +13,6 @@ use std::marker::Model;
 pub struct Drift {
     denominator: u32,
     rows: Vec<Vec<DriftPart>>,
-}
-
-/// Why rows of parts make no drift, or none was made. A fault of a row names its cell.
-#[derive(Clone, Copy, Debug, PartialEq, Eq)]
-pub enum DriftFault {
-    /// An entry's cell isn't a cell.
-    OutOfRange(u8),
-    /// An entry has no part.
-    ZeroPart(u8),
-    /// A cell has two entries.
-    DoubleEntry(u8),
-    /// The parts don't sum to the denominator.
-    WrongSum(u8),
-    /// No memory was found.
-    NoMemory,
 }
 
 impl Model for Drift {
@@ -41,7 +27,29 @@ impl Model for Drift {
 }
 
 impl Drift {
-    ghost use Rattle.drift_chain.specs.DriftRows.{drift_cells, row_of, part_of, IsDrift};
+    ghost use Rattle.std.specs.Prelude.{Ok};
+    ghost use Rattle.drift_chain.specs.DriftRows.{drift_cells, row_of, part_of, drift_over, IsDrift};
+    ghost use Rattle.drift_chain.specs.Faults.{HasSameParts, HasFault, IsFirstFault};
+
+    /// Makes the drift whose row of cell `c` is `rows[c]`, which it puts in ascending order of cells.
+    ///
+    /// The error is the fault of the least row that has one, and of its faults the first in the order of
+    /// the variants. Takes no memory.
+    pub fn new(denominator: u32, mut rows: Vec<Vec<DriftPart>>) -> Result<Drift, DriftFault>
+        requires some_denominator { 1 ≤ denominator }
+        requires most_denominator { denominator ≤ 1000000 }
+        requires some_row { 1 ≤ length rows.items }
+        requires most_rows { length rows.items ≤ 200 }
+        ensures denominator { IfOk result (λ drift. drift.denominator ≡ denominator) }
+        ensures made { let given = map (λ row. row.items) rows.items in IfOk result (λ drift. HasSameParts given drift.rows) }
+        ensures sound { IfOk result IsDrift }
+        ensures faultless { let given = map (λ row. row.items) rows.items in IsOk result ↔ ((fault : DriftFault) → HasFault denominator given fault → ⊥) }
+        ensures fault { let given = map (λ row. row.items) rows.items in IfErr result (IsFirstFault denominator given) }
+        ensures kept { let given = drift_over denominator (map (λ row. row.items) rows.items) in IsDrift given → result ≡ Ok given }
+    {
+        put_in_order(denominator, &mut rows)?;
+        Ok(Drift { denominator, rows })
+    }
 
     /// What the parts of each row sum to.
     pub fn denominator(&self) -> u32

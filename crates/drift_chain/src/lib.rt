@@ -2,7 +2,12 @@
 #![tactic(auto)]
 
 mod chain;
+mod faults;
 pub mod part;
 
-pub use chain::{Drift, DriftFault};
+pub use chain::Drift;
+pub use faults::DriftFault;
 pub use part::DriftPart;
+
+#[cfg(test)]
+mod tests;
