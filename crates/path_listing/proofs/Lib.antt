@@ -3,4 +3,5 @@ pub mod Parts
 pub mod Moves
 pub mod Subtrees
 pub mod FullTrees
+pub mod Unique
 pub mod Leading

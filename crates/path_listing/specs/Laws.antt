@@ -1,9 +1,14 @@
--- The records that the search grows are the full tree.
+-- What the definitions say together.
+use Rattle.std.specs.Prelude.{◌≡◌, List, []}
 use Rattle.search_model.specs.Problem.{Problem, IsProblem}
+use Rattle.bound_tree.specs.declared.node.TreeNode.{TreeNode}
 use Rattle.bound_tree.specs.FullTree.{IsFullTree}
 use Rattle.path_listing.specs.Growing.{below}
-use Rattle.std.specs.Prelude.{[]}
 
 -- from the empty prefix on, there is one record for each legal prefix, in ascending order
 abbrev pub GrowsFullTree : Type 0
 GrowsFullTree = (p : Problem) → IsProblem p → IsFullTree p (below p [])
+
+-- a problem has no second full tree
+abbrev pub OneFullTree : Type 0
+OneFullTree = (p : Problem) (records others : List TreeNode) → IsFullTree p records → IsFullTree p others → records ≡ others

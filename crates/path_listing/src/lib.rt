@@ -3,6 +3,8 @@
 
 mod laws;
 mod search;
+#[cfg(test)]
+mod tests;
 
-pub use laws::grows_full_tree;
+pub use laws::{grows_full_tree, one_full_tree};
 pub use search::{MOST_NODES, SearchStop, search_all};

@@ -114,9 +114,13 @@ fn grow(sc: &Scenario, prefix: &Path, found: &mut Findings) -> Result<(), Search
 }
 
 /// The best path with its value, and a record for each legal prefix in ascending order.
+///
+/// The error is `Full` only where there are more than `MOST_NODES` legal prefixes, and there no plan is made. It
+/// visits every track of the target for each path, so it is meant for small problems.
 pub fn search_all(alloc: Global, sc: &Scenario) -> Result<Plan, SearchStop>
     ensures plan { IfOk result (IsFullPlan sc.now) }
     ensures few { IfOk result (λ plan. length plan.tree ≤ 1048576) }
+    ensures fits { IfOk result (λ _. ¬ HasMoreNodes sc.now 1048576) }
     ensures full { IsErrOf result SearchStop.Full → HasMoreNodes sc.now 1048576 }
 {
     let mut found = Findings {

@@ -20,6 +20,13 @@ spelled_within most field NotPlain h = omega arith
 spelled_within most field Above h = omega arith
 spelled_within most field (Of n) h = h.2
 
+number_within : (plain : Bool) (most n : ℕ) → number_in (cond (not plain) NotPlain (cond (nat_lt most n) Above (Of n))) ≤ most
+number_within false most n = omega arith
+number_within true most n = grind (arith, common_steps)
+
+pub number_at_within : (most : ℕ) (field : List ℕ) → number_in (number_at most field) ≤ most
+number_at_within most field = number_within (is_plain field) most (digits_value 10 field)
+
 -- a number that is neither bad nor over is at least the least
 pub least_met : (least : ℕ) (x : Number) → is_bad least x ≡ false → is_over x ≡ false → least ≤ number_in x
 least_met least NotPlain bad over = absurd cc

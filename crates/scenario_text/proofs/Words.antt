@@ -1,7 +1,10 @@
 -- The first field of a line.
-use Rattle.std.proofs.Common.{◌≡◌, ◌≢◌, ℕ, zero, suc, ◌≤◌, ◌<◌, ◌+◌, Bool, true, false, cond, eqb, List, [], ◌∷◌, ◌++◌, length, get_or, take, drop, refl, sym, ap, ◌∙◌, arith, add-one}
+use Rattle.std.proofs.Common.{◌≡◌, ◌≢◌, ℕ, zero, suc, ◌≤◌, ◌<◌, ◌+◌, Bool, true, false, cond, eqb, List, [], ◌∷◌, ◌++◌, length, get_or, take, drop, refl, sym, ap, ◌∙◌, arith, add-one, map, Bor, subst}
 use Rattle.scenario_text.specs.Lines.{onto_first, is_blank, ends_field, fields_of}
-use Rattle.std.proofs.lemmas.List.{drop_all, append-nil}
+use Rattle.std.proofs.lemmas.List.{drop_all, append-nil, length-map}
+use Rattle.std.proofs.Math.ListN.{get_or-map}
+use Rattle.std.specs.Prelude.{All}
+use Rattle.std.proofs.lemmas.List.Elements.{All-cons, All-tail}
 use Rattle.std.proofs.Math.Seq.{take-length}
 
 -- blanks at the front say nothing
@@ -81,3 +84,28 @@ pub fields_done : (done : List (List ℕ)) (rest : List ℕ) (fs : List (List �
 fields_done done rest fs e so_far = sym (append-nil done) ∙ ap (λ (x : List (List ℕ)). done ++ x) (sym (fields_gone rest e)) ∙ so_far
 
 pub ruleset field_steps = (starts_field, fields_gone)
+
+-- a byte at the front leaves no piece empty
+some_onto : (c : ℕ) (pieces : List (List ℕ)) → All (λ f. 1 ≤ length f) pieces → All (λ f. 1 ≤ length f) (onto_first c pieces)
+some_onto c [] h = All-cons (λ (f : List ℕ). 1 ≤ length f) (c ∷ []) [] (omega arith) h
+some_onto c (piece ∷ pieces) h = All-cons (λ (f : List ℕ). 1 ≤ length f) (c ∷ piece) pieces (omega arith) (All-tail (λ (f : List ℕ). 1 ≤ length f) piece pieces h)
+
+some_by : (blank ends : Bool) (c : ℕ) (fields : List (List ℕ)) → All (λ f. 1 ≤ length f) fields → All (λ f. 1 ≤ length f) (cond blank fields (cond ends ((c ∷ []) ∷ fields) (onto_first c fields)))
+some_by true ends c fields h = h
+some_by false true c fields h = All-cons (λ (f : List ℕ). 1 ≤ length f) (c ∷ []) fields (omega arith) h
+some_by false false c fields h = some_onto c fields h
+
+-- no field is empty
+pub fields_some : (line : List ℕ) → All (λ f. 1 ≤ length f) (fields_of line)
+unfolding fields_of
+fields_some [] = λ k d lt. absurd (omega arith)
+fields_some (c ∷ cs) = some_by (is_blank c) (ends_field cs) c (fields_of cs) (fields_some cs)
+
+-- nor is one of a list that is mapped to fields
+pub mapped_some : (fields : List (Bor (List ℕ))) (line : List ℕ) → map (λ f. f.now) fields ≡ fields_of line → All (λ f. 1 ≤ length f.now) fields
+mapped_some fields line e = λ k d lt.
+    let P : List (List ℕ) → Type 0 = λ fs. All (λ f. 1 ≤ length f) fs in
+    let all : All (λ (f : List ℕ). 1 ≤ length f) (map (λ (f : Bor (List ℕ)). f.now) fields) = subst P (sym e) (fields_some line) in
+    let long : length (map (λ (f : Bor (List ℕ)). f.now) fields) ≡ length fields = length-map fields (λ f. f.now) in
+    let there = all k d.now (omega arith) in
+    rw (get_or-map (λ (f : Bor (List ℕ)). f.now) fields k d) at there

@@ -32,6 +32,14 @@ drift_row p c = codes "drift" ∷ cell_name p c ∷ pair_fields p (row_of p.drif
 abbrev pub overlook_row : Problem → ℕ → List (List ℕ)
 overlook_row p q = codes "overlook" ∷ position_name p q ∷ decimal (factor_of p.sweep 1 q q) ∷ []
 
+-- the rows of all cells, and the end
+abbrev pub table_rows : Problem → List (List (List ℕ))
+table_rows p =
+    map (moves_row p) (range_with_len 0 p.positions)
+    ++ (map (drift_row p) (range_with_len 0 p.cells)
+    ++ (map (overlook_row p) (range_with_len 0 p.positions)
+    ++ ((codes "end" ∷ []) ∷ [])))
+
 -- the lines, each as its fields
 abbrev pub scenario_rows : Problem → List (List (List ℕ))
 scenario_rows p =
@@ -41,12 +49,9 @@ scenario_rows p =
     ∷ (map cell_row p.names
     ++ ((codes "start" ∷ position_name p p.start ∷ [])
     ∷ (codes "first" ∷ pair_fields p (first_entries p))
-    ∷ (map (moves_row p) (range_with_len 0 p.positions)
-    ++ (map (drift_row p) (range_with_len 0 p.cells)
-    ++ (map (overlook_row p) (range_with_len 0 p.positions)
-    ++ ((codes "end" ∷ []) ∷ []))))))
+    ∷ table_rows p))
 
-abbrev pub canonical_text : Problem → List ℕ
+unfoldable pub canonical_text : Problem → List ℕ
 canonical_text p = text_of (scenario_rows p)
 
 -- what the canonical text says, read to its end

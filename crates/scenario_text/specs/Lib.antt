@@ -4,4 +4,6 @@ pub mod State
 pub mod Reading
 pub mod Gives
 pub mod Canonical
+pub mod Assembled
 pub mod Laws
+pub mod Printing

@@ -59,11 +59,15 @@ number_in (Of n) = n
 abbrev pub cell_named : List CellState → List ℕ → Option ℕ
 cell_named cells name = position (λ c. bytes_eq c.name name) cells
 
+-- a cell's number stands among others
+abbrev pub stands_in : Option ℕ → List (Option ℕ) → Bool
+stands_in None cs = false
+stands_in (Some c) cs = list_any (λ d. is_some d && unwrap_or d 0 == c) cs
+
 -- a cell's number stands twice
 unfoldable pub has_double : List (Option ℕ) → Bool
 has_double [] = false
-has_double (None ∷ cs) = has_double cs
-has_double (Some c ∷ cs) = list_any (λ d. is_some d && unwrap_or d 0 == c) cs || has_double cs
+has_double (c ∷ cs) = stands_in c cs || has_double cs
 
 -- the pairs of `NAME PART NAME PART ..`
 unfoldable pub pairs_of : List CellState → List (List ℕ) → List Pair
@@ -148,8 +152,11 @@ first_line s (word ∷ fields) =
 first_line s _ = Err BadLine
 
 -- the cell of that number
+abbrev pub cell_in : List CellState → ℕ → CellState
+cell_in cells c = unwrap_or (slice_get cells c) (bare [])
+
 abbrev pub cell_at : State → ℕ → CellState
-cell_at s c = unwrap_or (slice_get s.cells c) (bare [])
+cell_at s c = cell_in s.cells c
 
 abbrev pub with_cell : State → ℕ → CellState → State
 with_cell s c cell = record s { cells = set s.cells c cell }

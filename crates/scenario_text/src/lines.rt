@@ -1,6 +1,6 @@
 //! Text as lines, and a line as fields.
 
-ghost use Rattle.std.specs.Prelude.{◌≡◌, true, false, [], ◌∷◌, ◌<◌, ◌≤◌, drop, map, length, IfOk};
+ghost use Rattle.std.specs.Prelude.{◌≡◌, true, false, [], ◌∷◌, ◌<◌, ◌≤◌, drop, map, length, IfOk, All};
 ghost use Rattle.scenario_text.specs.Lines.{lines_of, is_blank as is_blank_lem, ends_field, fields_of as fields_lem};
 
 use std::alloc::{AllocError, Global};
@@ -67,7 +67,8 @@ fn cut_field(line: &[u8]) -> (&[u8], &[u8])
 /// The fields of a line.
 #[tactic(auto, using(crate::proofs::Words::field_steps))]
 pub fn fields_of(alloc: Global, line: &[u8]) -> Result<Vec<&[u8]>, AllocError>
-    ensures { IfOk result (λ v. map (λ f. f.now) v.items ≡ fields_lem line.now) }
+    ensures value { IfOk result (λ v. map (λ f. f.now) v.items ≡ fields_lem line.now) }
+    ensures some { IfOk result (λ v. All (λ f. 1 ≤ length f.now) v.items) }
 {
     let mut fields = Vec::new(alloc);
     let mut rest = skip_blanks(line);

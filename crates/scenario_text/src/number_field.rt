@@ -5,6 +5,9 @@ ghost use Rattle.scenario_text.specs.Reading.{number_at as number_at_lem, is_bad
 
 use exact_parts::{Number, number_of};
 
+/// The most of a part, and of a denominator.
+pub const MOST_PART: u128 = 1_000_000;
+
 /// What a field says in the place of a number of at most `most`.
 #[tactic(auto, using(crate::proofs::Numbers::number_steps))]
 pub fn number_at(field: &[u8], most: u128) -> Number

@@ -8,14 +8,12 @@ ghost use Rattle.scenario_text.specs.Reading.{number_in as number_in_lem, versio
 use crate::cell_names::{are_name_bytes, cell_named};
 use crate::draft::{CellDraft, Draft, Stage};
 use crate::kind::TextKind;
-use crate::number_field::{is_bad, is_over, number_at, number_in};
+use crate::number_field::{MOST_PART, is_bad, is_over, number_at, number_in};
 use crate::stop::LineStop;
 use exact_parts::Number;
 use search_model::Name;
 use std::alloc::Global;
 
-/// The most of a part, and of a denominator.
-const MOST_PART: u128 = 1_000_000;
 
 /// `scenario 1`
 pub fn take_version(draft: &mut Draft, fields: &[&[u8]]) -> Result<(), LineStop>

@@ -19,10 +19,13 @@ unbeaten beats order [] some = absurd (omega (arith, some))
 unbeaten beats order (a ∷ xs) some =
     let first = IsFirstBest-from_best_of order a xs in
     let x = best_of beats a xs in
-    let at : (d : _) → get_or (a ∷ xs) first.0 d ≡ x = λ d. get_or_default (a ∷ xs) first.0 d a first.1.0 ∙ first.2 in
-    (x, (first.0, first.1.0, at x), λ y h.
-    let unbeaten_at = first.1.1 h.0 y h.1 in
-    rw h.2 at (rw (at y) at unbeaten_at))
+    let at : (d : _) → get_or (a ∷ xs) first.0 d ≡ x = λ d. get_or_default (a ∷ xs) first.0 d a first.1.0 ∙ first.2 in (
+      x,
+      (first.0, first.1.0, at x),
+      λ y h.
+          let unbeaten_at = first.1.1 h.0 y h.1 in
+          rw h.2 at (rw (at y) at unbeaten_at),
+    )
 
 -- the order of paths by their standings
 by_standing : (p : Problem) → IsStrictWeakOrder (λ q r. better (standing_of p q) (standing_of p r))
@@ -58,8 +61,8 @@ pub best_by_test : (p : Problem) (q : List ℕ) → Contains (walks p.moves p.ho
 best_by_test p q listed all = record {
   path = listed_path p q listed;
   better = λ r other differ.
-  elim (or_cases _ _ (list_all-contains (is_it_or_worse p q) (walks p.moves p.horizon p.start) r all (path_listed p r other))) [
-    | inl same ↦ let parts = and_parts _ _ same in absurd (differ (sym (same_from_neither q r (not-true _ parts.0) (not-true _ parts.1))))
-    | inr h ↦ h
-  ];
+      elim (or_cases _ _ (list_all-contains (is_it_or_worse p q) (walks p.moves p.horizon p.start) r all (path_listed p r other))) [
+        | inl same ↦ let parts = and_parts _ _ same in absurd (differ (sym (same_from_neither q r (not-true _ parts.0) (not-true _ parts.1))))
+        | inr h ↦ h
+      ];
 }

@@ -14,3 +14,4 @@ pub mod Orders
 pub mod Best
 pub mod Examples
 pub mod ExampleProblems
+pub mod ExampleBounds

@@ -10,3 +10,6 @@ pub mod Parts
 pub mod Faults
 pub mod Laws
 pub mod Worked
+pub mod Bounds
+pub mod Opening
+pub mod WorkedBounds

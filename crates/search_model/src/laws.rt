@@ -23,8 +23,14 @@ pub fn one_best()
 {}
 
 ghost use Rattle.search_model.specs.Worked.{WorkedValues};
+ghost use Rattle.search_model.specs.WorkedBounds.{WorkedBounds};
 
 /// The values of small problems, worked by hand.
 pub fn worked_values()
     ensures { WorkedValues }
+{}
+
+/// The bounds of small problems, worked by hand.
+pub fn worked_bounds()
+    ensures { WorkedBounds }
 {}

@@ -22,14 +22,23 @@ kind_fields q (Tangent bound reference) = codes "T" ∷ decimal bound ∷ (numbe
 abbrev pub record_row : TreeNode → List (List ℕ)
 record_row r = kind_fields r.prefix r.kind
 
--- the lines, each as its fields
+-- the rows of the lines, each as its fields: `plan 1`, `path NAME ..`, `chance V W`, `nodes N`
+abbrev pub path_rows : Problem → List ℕ → List (List (List ℕ))
+path_rows p q = (codes "plan" ∷ codes "1" ∷ []) ∷ (codes "path" ∷ map (position_name p) q) ∷ []
+
+abbrev pub chance_row : ℕ → ℕ → List (List ℕ)
+chance_row value weight = codes "chance" ∷ decimal value ∷ decimal weight ∷ []
+
+abbrev pub count_row : ℕ → List (List ℕ)
+count_row n = codes "nodes" ∷ decimal n ∷ []
+
+-- and then the records, and `end`
 abbrev pub plan_rows : Problem → Plan → List (List (List ℕ))
 plan_rows p plan =
-    (codes "plan" ∷ codes "1" ∷ [])
-    ∷ (codes "path" ∷ map (position_name p) plan.standing.path)
-    ∷ (codes "chance" ∷ decimal plan.standing.value ∷ decimal plan.weight ∷ [])
-    ∷ (codes "nodes" ∷ decimal (length plan.tree) ∷ [])
-    ∷ (map record_row plan.tree ++ (codes "end" ∷ []) ∷ [])
+    path_rows p plan.standing.path
+    ++ (chance_row plan.standing.value plan.weight
+    ∷ count_row (length plan.tree)
+    ∷ (map record_row plan.tree ++ (codes "end" ∷ []) ∷ []))
 
 abbrev pub plan_text : Problem → Plan → List ℕ
 plan_text p plan = text_of (plan_rows p plan)

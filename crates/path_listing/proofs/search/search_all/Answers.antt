@@ -1,7 +1,8 @@
-use Rattle.std.proofs.Common.{[], zero-add}
+use Rattle.std.proofs.Common.{[], ◌≤◌, length, ap, arith, zero-add}
 use Rattle.std.proofs.lemmas.Result.{err_from_is_err_and}
 use Rattle.path_listing.specs.Growing.{below}
 use Rattle.path_listing.proofs.FullTrees.{grows_full}
+use Rattle.path_listing.proofs.Unique.{one_full}
 use Rattle.path_listing.proofs.Leading.{best_of_all}
 use Rattle.path_listing.proofs.search.search_all.Goals as goal
 
@@ -22,3 +23,10 @@ returns-clause-plan c =
       weight = c.weight.ensures;
       tree = rw (c.of.ensures, grown) (grows_full p c.first_standing.ensures.sound);
     }
+
+pub returns-clause-fits : goal.returns-clause-fits
+returns-clause-fits c =
+    let p = c.args.sc.now in
+    let grown = rw (c.new.ensures.items, c.empty.ensures) at c.in_ok-grow.ensures.nodes in
+    let few : length (below p []) ≤ 1048576 = rw grown at c.in_ok-grow.ensures.few in
+    λ more. omega (arith, few, more.2, ap length (one_full p more.0 (below p []) more.1 (grows_full p c.first_standing.ensures.sound)))

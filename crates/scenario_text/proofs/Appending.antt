@@ -1,0 +1,91 @@
+-- Texts that are appended one after the other.
+use Rattle.std.proofs.Common.{◌≡◌, ℕ, suc, zero, ◌+◌, ◌<◌, ◌≤◌, List, [], ◌∷◌, ◌++◌, map, length, get_or, take, drop, refl, sym, ap, ◌∙◌, subst, arith, append_assoc, add-one, zero-add}
+use Rattle.std.specs.Prelude.{Result, Ok, Err, OnOk, OnErr}
+use Rattle.std.specs.List.{flat_map, range_with_len}
+use Rattle.std.proofs.lemmas.List.{drop_more, take_more, take_all, take-append-drop}
+use Rattle.std.proofs.lemmas.List.FromFn.{length-range_with_len, get_or-range_with_len}
+use Rattle.std.proofs.lemmas.List.Concat.{flat_map-append, flat_map-cons}
+use Rattle.std.proofs.lemmas.List.{append-nil}
+use Rattle.exact_parts.specs.Appending.{AppendsFront}
+use Rattle.exact_parts.proofs.AppendLemmas.{stopped_within, stopped_before}
+
+-- a front of the first text is one of the whole
+pub front_of_first : (old new a b : List ℕ) → AppendsFront old new a → AppendsFront old new (a ++ b)
+front_of_first old new a b h = stopped_within old old new [] a b (a ++ b) (sym (append-nil old)) refl h
+
+-- and so is the first text with a front of the second
+pub front_of_second : (old out new a b : List ℕ) → out ≡ old ++ a → AppendsFront out new b → AppendsFront old new (a ++ b)
+front_of_second old out new a b e h = stopped_within old out new a b [] (a ++ b) e (ap (λ (t : List ℕ). a ++ t) (sym (append-nil b))) h
+
+pub both_appended : (old out new a b : List ℕ) → out ≡ old ++ a → new ≡ out ++ b → new ≡ old ++ (a ++ b)
+both_appended old out new a b e f = f ∙ ap (λ (t : List ℕ). t ++ b) e ∙ append_assoc old a b
+
+pub front_of_same : (old new a b : List ℕ) → b ≡ a → AppendsFront old new a → AppendsFront old new b
+front_of_same old new a b e h = subst (AppendsFront old new) (sym e) h
+
+-- the last call's answer, of the same text
+pub err_same : {E : Type 0} (r : Result (Unit {0}) E) (old new a b : List ℕ) → OnErr r (AppendsFront old new a) → b ≡ a → OnErr r (AppendsFront old new b)
+err_same r old new a b h e = subst (λ (t : List ℕ). OnErr r (AppendsFront old new t)) (sym e) h
+
+-- what holds anyhow holds at a refusal
+pub on_err : {T E : Type 0} (r : Result T E) (P : Type 0) → P → OnErr r P
+on_err (Ok x) P h = tt
+on_err (Err e) P h = h
+
+-- The texts of a list's elements, up to one of them.
+
+flat_map-split : {X : Type 0} (f : X → List ℕ) (xs : List X) (i : ℕ) (d : X) → i < length xs → flat_map f xs ≡ flat_map f (take i xs) ++ (f (get_or xs i d) ++ flat_map f (drop (i + 1) xs))
+flat_map-split f xs i d lt =
+    ap (flat_map f) (sym (take-append-drop i xs)) ∙ flat_map-append f (take i xs) (drop i xs) ∙ ap (λ (ys : List _). flat_map f (take i xs) ++ flat_map f ys) (drop_more xs i d lt)
+
+pub front_at : {X : Type 0} (f : X → List ℕ) (xs : List X) (i : ℕ) (d : X) (old out new : List ℕ) → i < length xs → out ≡ old ++ flat_map f (take i xs) → AppendsFront out new (f (get_or xs i d)) → AppendsFront old new (flat_map f xs)
+front_at f xs i d old out new lt e h =
+    stopped_within old out new (flat_map f (take i xs)) (f (get_or xs i d)) (flat_map f (drop (i + 1) xs)) (flat_map f xs) e (flat_map-split f xs i d lt) h
+
+-- or up to between two of them
+pub front_before : {X : Type 0} (f : X → List ℕ) (xs : List X) (i : ℕ) (old out : List ℕ) → out ≡ old ++ flat_map f (take i xs) → AppendsFront old out (flat_map f xs)
+front_before f xs i old out e =
+    stopped_before old out out (flat_map f (take i xs)) (flat_map f (drop i xs)) (flat_map f xs) e (ap (flat_map f) (sym (take-append-drop i xs)) ∙ flat_map-append f (take i xs) (drop i xs)) refl
+
+-- A text of three pieces, of which one after the other is appended.
+pub record IsThree (text a b c : List ℕ) : Type 0 where
+  pub whole : text ≡ a ++ (b ++ c)
+
+pub front_of_three-first : {text a b c : List ℕ} (old new : List ℕ) → IsThree text a b c → AppendsFront old new a → AppendsFront old new text
+front_of_three-first {a = a} {b = b} {c = c} old new is h = subst (AppendsFront old new) (sym is.whole) (front_of_first old new a (b ++ c) h)
+
+pub front_of_three-second : {text a b c : List ℕ} (old out new : List ℕ) → IsThree text a b c → out ≡ old ++ a → AppendsFront out new b → AppendsFront old new text
+front_of_three-second {a = a} {b = b} {c = c} old out new is e h = subst (AppendsFront old new) (sym is.whole) (front_of_second old out new a (b ++ c) e (front_of_first out new b c h))
+
+pub front_of_three-third : {text a b c : List ℕ} (old out more new : List ℕ) → IsThree text a b c → out ≡ old ++ a → more ≡ out ++ b → AppendsFront more new c → AppendsFront old new text
+front_of_three-third {a = a} {b = b} {c = c} old out more new is e f h = subst (AppendsFront old new) (sym is.whole) (front_of_second old out new a (b ++ c) e (front_of_second out more new b c f h))
+
+pub three_appended : {text a b c : List ℕ} (old out more new : List ℕ) → IsThree text a b c → out ≡ old ++ a → more ≡ out ++ b → new ≡ more ++ c → new ≡ old ++ text
+three_appended {a = a} {b = b} {c = c} old out more new is e f g = both_appended old out new a (b ++ c) e (both_appended out more new b c f g) ∙ ap (λ (t : List ℕ). old ++ t) (sym is.whole)
+
+-- The texts of a range of numbers.
+
+take-range : (k n a : ℕ) → k ≤ n → take k (range_with_len a n) ≡ range_with_len a k
+take-range zero n a le = refl
+take-range (suc k) zero a le = absurd (omega arith)
+take-range (suc k) (suc n) a le = ap (λ (cs : List ℕ). a ∷ cs) (take-range k n (a + 1) (omega arith))
+
+pub front_in_range : (f : ℕ → List ℕ) (n k : ℕ) (old out new : List ℕ) → k < n → out ≡ old ++ flat_map f (range_with_len 0 k) → AppendsFront out new (f k) → AppendsFront old new (flat_map f (range_with_len 0 n))
+front_in_range f n k old out new lt e h =
+    let cut : take k (range_with_len 0 n) ≡ range_with_len 0 k = take-range k n 0 (omega arith) in
+    let at : get_or (range_with_len 0 n) k 0 ≡ k = get_or-range_with_len 0 n k 0 lt ∙ zero-add k in
+    let long : length (range_with_len 0 n) ≡ n = length-range_with_len 0 n in
+    front_at f (range_with_len 0 n) k 0 old out new (omega arith) (e ∙ ap (λ (cs : List ℕ). old ++ flat_map f cs) (sym cut)) (rw at h)
+
+range_with_len-push : (n a : ℕ) → range_with_len a (suc n) ≡ range_with_len a n ++ (a + n) ∷ []
+range_with_len-push zero a = let same : a ≡ a + 0 = omega arith in ap (λ (c : ℕ). c ∷ []) same
+range_with_len-push (suc n) a =
+    let same : a + 1 + n ≡ a + suc n = omega arith in
+    ap (λ (cs : List ℕ). a ∷ cs) (range_with_len-push n (a + 1) ∙ ap (λ (c : ℕ). range_with_len (a + 1) n ++ c ∷ []) same)
+
+pub one_in_range : (f : ℕ → List ℕ) (k : ℕ) (old out new : List ℕ) → out ≡ old ++ flat_map f (range_with_len 0 k) → new ≡ out ++ f k → new ≡ old ++ flat_map f (range_with_len 0 (k + 1))
+one_in_range f k old out new e more =
+    let last : range_with_len 0 (k + 1) ≡ range_with_len 0 k ++ (0 + k) ∷ [] = rw add-one (range_with_len-push k 0) in
+    let same : 0 + k ≡ k = omega arith in
+    let whole : flat_map f (range_with_len 0 (k + 1)) ≡ flat_map f (range_with_len 0 k) ++ f k = rw last (rw same (flat_map-append f (range_with_len 0 k) (k ∷ []) ∙ ap (λ (t : List ℕ). flat_map f (range_with_len 0 k) ++ t) (append-nil (f k)))) in
+    rw whole (both_appended old out new (flat_map f (range_with_len 0 k)) (f k) e more)

@@ -1,0 +1,77 @@
+-- The positive first parts, as entries, are a row in order.
+use Rattle.std.proofs.Common.{◌≡◌, ℕ, zero, suc, ◌+◌, ◌<◌, ◌≤◌, List, [], ◌∷◌, map, length, refl, sym, ap, ◌∙◌, arith, inl, inr}
+use Rattle.std.specs.Prelude.{All, ◌==◌, if◌then◌else◌, sum, sum_by, slice_index}
+use Rattle.std.specs.List.{flat_map, range_with_len}
+use Rattle.std.proofs.lemmas.Bool.{cases_eq, eq-eqb, ne_eqb}
+use Rattle.std.proofs.lemmas.List.Elements.{All-nil, All-cons, All-weaker, All-map}
+use Rattle.std.proofs.lemmas.List.FromFn.{fill_by_all}
+use Rattle.std.proofs.lemmas.List.Sums.{sum_by-cons, sum-map}
+use Rattle.drift_chain.specs.declared.part.DriftPart.{DriftPart}
+use Rattle.drift_chain.specs.DriftRows.{IsDriftRow}
+use Rattle.search_model.specs.Problem.{Problem, IsProblem, first_of}
+use Rattle.scenario_text.specs.Canonical.{first_entries}
+use Rattle.scenario_text.proofs.Ascending.{Rises, Rises-cons, increasing_from_Rises}
+
+-- the entry of a number with a positive part
+abbrev entry_at : (ℕ → ℕ) → ℕ → List DriftPart
+entry_at f c = if f c == 0 then [] else record { cell = c; part = f c } ∷ []
+
+-- entries from a up to b, with this sum
+record Enters (a b total : ℕ) (es : List DriftPart) : Type 0 where
+  from : All (λ e. a ≤ e.cell) es
+  upto : All (λ e. e.cell < b) es
+  positive : All (λ e. 1 ≤ e.part) es
+  rises : Rises (map (λ e. e.cell) es)
+  total_is : sum_by (λ e. e.part) es ≡ total
+
+none_entered : (a b : ℕ) → Enters a b 0 []
+none_entered a b = record {
+  from = All-nil (λ e. a ≤ e.cell);
+  upto = All-nil (λ e. e.cell < b);
+  positive = All-nil (λ e. 1 ≤ e.part);
+  rises = λ k lt. absurd (omega arith);
+  total_is = refl;
+}
+
+one_more : (a b total part : ℕ) (es : List DriftPart) → a < b → 1 ≤ part → Enters (a + 1) b total es → Enters a b (part + total) (record { cell = a; part = part } ∷ es)
+one_more a b total part es lt some h = record {
+  from = All-cons (λ e. a ≤ e.cell) (record { cell = a; part = part }) es (omega arith) (All-weaker (λ e. a + 1 ≤ e.cell) (λ e. a ≤ e.cell) (λ e le. omega arith) es h.from);
+  upto = All-cons (λ e. e.cell < b) (record { cell = a; part = part }) es lt h.upto;
+  positive = All-cons (λ e. 1 ≤ e.part) (record { cell = a; part = part }) es some h.positive;
+  rises = Rises-cons a (map (λ e. e.cell) es) (All-map (λ c. a < c) (λ e. e.cell) es (All-weaker (λ e. a + 1 ≤ e.cell) (λ e. a < e.cell) (λ e le. omega arith) es h.from)) h.rises;
+  total_is = sum_by-cons (λ e. e.part) (record { cell = a; part = part }) es ∙ ap (λ (n : ℕ). part + n) h.total_is;
+}
+
+one_later : (a b total : ℕ) (es : List DriftPart) → Enters (a + 1) b total es → Enters a b total es
+one_later a b total es h = record {
+  from = All-weaker (λ e. a + 1 ≤ e.cell) (λ e. a ≤ e.cell) (λ e le. omega arith) es h.from;
+  upto = h.upto;
+  positive = h.positive;
+  rises = h.rises;
+  total_is = h.total_is;
+}
+
+entered : (n a b : ℕ) (f : ℕ → ℕ) → a + n ≡ b → Enters a b (sum_by f (range_with_len a n)) (flat_map (entry_at f) (range_with_len a n))
+entered zero a b f e = none_entered a b
+entered (suc n) a b f e =
+    let rest = entered n (a + 1) b f (omega arith) in
+    let total : sum_by f (range_with_len a (suc n)) ≡ f a + sum_by f (range_with_len (a + 1) n) = sum_by-cons f a (range_with_len (a + 1) n) in
+    elim (cases_eq (f a) 0) [
+      | inl nothing ↦ rw (total, eq-eqb (f a) 0 nothing) (let same : f a + sum_by f (range_with_len (a + 1) n) ≡ sum_by f (range_with_len (a + 1) n) = omega arith in rw same (one_later a b _ _ rest))
+      | inr some ↦ rw (total, ne_eqb (f a) 0 some) (one_more a b _ (f a) _ (omega arith) (omega arith) rest)
+    ]
+
+sum-by_place : (xs : List ℕ) → sum_by (slice_index xs) (range_with_len 0 (length xs)) ≡ sum xs
+sum-by_place xs = sym (sum-map (slice_index xs) (range_with_len 0 (length xs))) ∙ ap sum (sym (fill_by_all (slice_index xs) xs (length xs) 0 refl (λ k lt. refl)))
+
+-- the first entries of a problem, whose parts sum to the total
+pub IsDriftRow-first : (p : Problem) → IsProblem p → IsDriftRow p.total p.cells (first_entries p)
+IsDriftRow-first p h =
+    let row = entered p.cells 0 p.cells (first_of p) (omega arith) in
+    let total : sum_by (first_of p) (range_with_len 0 p.cells) ≡ p.total = ap (λ (n : ℕ). sum_by (first_of p) (range_with_len 0 n)) (sym h.first_length) ∙ sum-by_place p.first ∙ h.first_total in
+    record {
+      within = row.upto;
+      positive = row.positive;
+      ascending = increasing_from_Rises _ row.rises;
+      total = row.total_is ∙ total;
+    }

@@ -1,0 +1,41 @@
+-- Lists over a range of numbers, and the first place that passes a test.
+use Rattle.std.proofs.Common.{◌≡◌, ℕ, zero, suc, ◌+◌, ◌<◌, ◌≤◌, Bool, true, false, List, ◌∷◌, map, length, get_or, set, Some, None, refl, ap, arith}
+use Rattle.std.specs.List.{range_with_len, position, position_or_len, slice_get}
+use Rattle.std.proofs.lemmas.Bool.{lt-ltb, le-ltb}
+use Rattle.std.proofs.lemmas.List.Sums.{position_or_len_is}
+
+-- two functions that agree on the range
+pub map-range-same : {X : Type 0} (n a : ℕ) (f g : ℕ → X) → ((c : ℕ) → a ≤ c → c < a + n → f c ≡ g c) → map f (range_with_len a n) ≡ map g (range_with_len a n)
+map-range-same zero a f g same = refl
+map-range-same {X} (suc n) a f g same =
+    let head : f a ≡ g a = same a (omega arith) (omega arith) in
+    rw head (ap (λ (xs : List X). g a ∷ xs) (map-range-same n (a + 1) f g (λ c low high. same c (omega arith) (omega arith))))
+
+-- the element at place k
+pub slice_get-map-range : {X : Type 0} (n a k j : ℕ) (f : ℕ → X) → k < n → a + k ≡ j → slice_get (map f (range_with_len a n)) k ≡ Some (f j)
+slice_get-map-range zero a k j f lt at = absurd (omega arith)
+slice_get-map-range (suc n) a zero j f lt at = let here : a ≡ j = omega arith in ap (λ (c : ℕ). Some (f c)) here
+slice_get-map-range (suc n) a (suc k) j f lt at = slice_get-map-range n (a + 1) k j f (omega arith) (omega arith)
+
+-- a write of g at place k, where f and g agree elsewhere
+pub set-map-range : {X : Type 0} (n a k j : ℕ) (f g : ℕ → X) → k < n → a + k ≡ j → ((c : ℕ) → (c ≡ j → ⊥) → f c ≡ g c) → set (map f (range_with_len a n)) k (g j) ≡ map g (range_with_len a n)
+set-map-range zero a k j f g lt at same = absurd (omega arith)
+set-map-range {X} (suc n) a zero j f g lt at same =
+    let here : j ≡ a = omega arith in
+    let rest : map f (range_with_len (a + 1) n) ≡ map g (range_with_len (a + 1) n) = map-range-same n (a + 1) f g (λ c low high. same c (λ e. omega arith)) in
+    rw (here, rest) refl
+set-map-range {X} (suc n) a (suc k) j f g lt at same =
+    let head : f a ≡ g a = same a (λ e. omega arith) in
+    rw head (ap (λ (xs : List X). g a ∷ xs) (set-map-range n (a + 1) k j f g (omega arith) (omega arith) same))
+
+-- the first place that passes a test is found
+pub position-first : {X : Type 0} (p : X → Bool) (xs : List X) (i : ℕ) (d : X) → i < length xs → ((k : ℕ) → k < i → p (get_or xs k d) ≡ false) → p (get_or xs i d) ≡ true → position p xs ≡ Some i
+position-first p xs i d lt before here =
+    let at : position_or_len p xs ≡ i = position_or_len_is p xs i d (omega arith) before (λ _. here) in
+    rw (at, lt-ltb i (length xs) lt) refl
+
+-- and nothing is where no place passes
+pub position-none : {X : Type 0} (p : X → Bool) (xs : List X) (d : X) → ((k : ℕ) → k < length xs → p (get_or xs k d) ≡ false) → position p xs ≡ None
+position-none p xs d fails =
+    let at : position_or_len p xs ≡ length xs = position_or_len_is p xs (length xs) d (omega arith) fails (λ lt. absurd (omega arith)) in
+    rw (at, le-ltb (length xs) (length xs) (omega arith)) refl

@@ -1,0 +1,11 @@
+use Rattle.std.proofs.Common.{rules, arith, ◌≡◌, ◌≤◌, map, length, ℕ, ◌+◌, ◌-◌, ◌*◌, ◌<◌, Bool, true, false, nat_eq, nat_lt, List, [], ◌∷◌, ◌++◌, get_or, take, drop, Bor}
+use Rattle.std.proofs.lemmas.Grind.{common_steps}
+use Rattle.scenario_text.specs.Reading.{has_double, stands_in}
+use Rattle.scenario_text.proofs.PairSteps.{double_at}
+use Rattle.scenario_text.proofs.pairs.has_double.Goals as goal
+
+pub returns-then-stands_in : goal.returns-then-stands_in
+returns-then-stands_in c = let h = double_at _ _ c.loop-i-test.true in grind (arith, common_steps)
+
+pub loop-i-preserved : goal.loop-i-preserved
+loop-i-preserved c = let h = double_at _ _ c.loop-i-test.true in grind (arith, common_steps)

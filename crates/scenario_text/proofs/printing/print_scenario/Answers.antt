@@ -1,0 +1,20 @@
+use Rattle.std.proofs.lemmas.Result.{on_ok_weaker, on_err_weaker}
+use Rattle.scenario_text.proofs.Appending.{on_err, front_of_three-first, front_of_three-second, front_of_three-third, three_appended}
+use Rattle.scenario_text.proofs.Printed.{canonical_text-pieces}
+use Rattle.scenario_text.proofs.printing.print_scenario.Goals as goal
+
+pub returns-in_err-print_front-clause-no_memory : goal.returns-in_err-print_front-clause-no_memory
+returns-in_err-print_front-clause-no_memory c =
+    on_err _ _ (front_of_three-first _ _ (canonical_text-pieces c.args.sc.now) c.in_err-print_front.ensures.no_memory)
+
+pub returns-in_err-print_rows-clause-no_memory : goal.returns-in_err-print_rows-clause-no_memory
+returns-in_err-print_rows-clause-no_memory c =
+    on_err _ _ (front_of_three-second _ _ _ (canonical_text-pieces c.args.sc.now) c.in_ok-print_front.ensures.ok c.in_err-print_rows.ensures.no_memory)
+
+pub returns-clause-ok : goal.returns-clause-ok
+returns-clause-ok c =
+    on_ok_weaker _ (three_appended _ _ _ _ (canonical_text-pieces c.args.sc.now) c.in_ok-print_front.ensures.ok c.in_ok-print_rows.ensures.ok) c.push_all.ensures.ok
+
+pub returns-clause-no_memory : goal.returns-clause-no_memory
+returns-clause-no_memory c =
+    on_err_weaker _ (front_of_three-third _ _ _ _ (canonical_text-pieces c.args.sc.now) c.in_ok-print_front.ensures.ok c.in_ok-print_rows.ensures.ok) c.push_all.ensures.no_memory

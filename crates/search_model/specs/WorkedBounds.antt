@@ -1,0 +1,24 @@
+-- The bounds of the small problems.
+use Rattle.std.specs.Prelude.{ℕ, ◌≡◌, [], ◌∷◌}
+use Rattle.search_model.specs.Bounds.{reward_of, mean_of, tangent_of}
+use Rattle.search_model.specs.Worked.{two_cells, waiting_target, waiting_longer}
+
+-- after a first look each second look finds 4 of 16 more; the tangent at the best path is a bound out of twice 16
+pub record TwoCellsBounds : Type 0 where
+  pub rewards : (reward_of two_cells (0 ∷ []) 2 0 ≡ 4) × (reward_of two_cells (0 ∷ []) 2 1 ≡ 4) × (reward_of two_cells (1 ∷ []) 2 0 ≡ 4) × (reward_of two_cells (1 ∷ []) 2 1 ≡ 4)
+  pub means : (mean_of two_cells (0 ∷ []) ≡ 12) × (mean_of two_cells (1 ∷ []) ≡ 12)
+  pub tangent : tangent_of two_cells 0 (0 ∷ []) (0 ∷ 0 ∷ []) ≡ 32
+
+pub record WaitingTargetBounds : Type 0 where
+  pub reward : reward_of waiting_target (1 ∷ []) 2 2 ≡ 2
+  pub means : (mean_of waiting_target (0 ∷ []) ≡ 0) × (mean_of waiting_target (1 ∷ []) ≡ 2)
+
+pub record WaitingLongerBounds : Type 0 where
+  pub rewards : (reward_of waiting_longer (0 ∷ []) 2 2 ≡ 4) × (reward_of waiting_longer (0 ∷ []) 3 2 ≡ 4) × (reward_of waiting_longer (2 ∷ []) 2 2 ≡ 2) × (reward_of waiting_longer (2 ∷ 2 ∷ []) 3 2 ≡ 1)
+  pub means : (mean_of waiting_longer (0 ∷ []) ≡ 4) × (mean_of waiting_longer (1 ∷ []) ≡ 8) × (mean_of waiting_longer (2 ∷ []) ≡ 8) × (mean_of waiting_longer (2 ∷ 1 ∷ []) ≡ 6) × (mean_of waiting_longer (2 ∷ 2 ∷ []) ≡ 7)
+  pub tangents : (tangent_of waiting_longer 1 (1 ∷ []) (1 ∷ 2 ∷ 2 ∷ []) ≡ 12) × (tangent_of waiting_longer 1 (2 ∷ []) (2 ∷ 2 ∷ 2 ∷ []) ≡ 14) × (tangent_of waiting_longer 1 (2 ∷ 2 ∷ []) (2 ∷ 2 ∷ 2 ∷ []) ≡ 14)
+
+pub record WorkedBounds : Type 0 where
+  pub two : TwoCellsBounds
+  pub waiting : WaitingTargetBounds
+  pub longer : WaitingLongerBounds

@@ -1,0 +1,317 @@
+use super::*;
+use drift_chain::{Drift, DriftPart};
+use search_grid::Grid;
+use std::alloc::{AllocError, Global};
+use std::test::Fail;
+use sweep_table::Sweep;
+
+#[test]
+fn a_path_has_at_most_32_positions(rt: HostRuntime) -> Result<(), Fail> {
+    assert!(rt; Path::of(&[7; 33]).is_none());
+    let Some(path) = Path::of(&[7; 32]) else {
+        return Err(Fail::from("no path"));
+    };
+    assert_eq!(rt; path.len(), 32);
+    assert_eq!(rt; path.cells(), [7; 32].as_slice());
+    Ok(())
+}
+
+#[test]
+fn positions_are_pushed_and_popped(rt: HostRuntime) {
+    let mut path = Path::empty();
+    assert!(rt; path.is_empty());
+    path.push(3);
+    path.push(0);
+    path.push(5);
+    assert_eq!(rt; path.first(2).cells(), [3, 0].as_slice());
+    assert!(rt; path.first(0).is_empty());
+    path.pop();
+    assert_eq!(rt; path.cells(), [3, 0].as_slice());
+    assert!(rt; !path.is_empty());
+}
+
+#[test]
+fn names_are_short_and_plain(rt: HostRuntime) -> Result<(), Fail> {
+    let cases: [(&[u8], bool); 8] = [
+        (b"r0c0", true),
+        (b"azAZ09_-", true),
+        (b"abcdefghijklmnopqrstuvwx", true),
+        (b"abcdefghijklmnopqrstuvwxy", false),
+        (b"", false),
+        (b"a.b", false),
+        (b"a b", false),
+        (b"caf\xc3\xa9", false),
+    ];
+    for (bytes, is_name) in cases {
+        assert_eq!(rt; Name::new(bytes).is_some(), is_name);
+    }
+    let Some(name) = Name::new(b"r0c0") else {
+        return Err(Fail::from("no name"));
+    };
+    assert_eq!(rt; name.bytes(), b"r0c0".as_slice());
+    Ok(())
+}
+
+fn standing(value: u128, cells: &[u8]) -> Standing {
+    Standing {
+        path: Path::of(cells).unwrap_or(Path::empty()),
+        value,
+    }
+}
+
+#[test]
+fn of_equal_values_the_smaller_path_is_better(rt: HostRuntime) {
+    assert!(rt; better(&standing(3, &[2, 2]), &standing(2, &[0, 0])));
+    assert!(rt; better(&standing(3, &[1, 2]), &standing(3, &[2, 0])));
+    assert!(rt; better(&standing(3, &[1]), &standing(3, &[1, 0])));
+    assert!(rt; !better(&standing(3, &[1, 2]), &standing(3, &[1, 2])));
+    assert!(rt; !better(&standing(2, &[0, 0]), &standing(3, &[2, 2])));
+}
+
+#[test]
+fn a_path_begins_with_its_prefixes(rt: HostRuntime) {
+    let path = standing(0, &[1, 2]).path;
+    assert!(rt; starts(&Path::empty(), &path));
+    assert!(rt; starts(&standing(0, &[1]).path, &path));
+    assert!(rt; starts(&path, &path));
+    assert!(rt; !starts(&standing(0, &[2]).path, &path));
+    assert!(rt; !starts(&path, &Path::empty()));
+}
+
+fn lists_of(alloc: Global, lists: &[&[u8]]) -> Result<Vec<Vec<u8>>, AllocError> {
+    let mut rows = Vec::new(alloc);
+    for list in lists {
+        rows.push(list.to_vec(alloc)?)?;
+    }
+    Ok(rows)
+}
+
+// Per cell, the name of one byte.
+fn names_of(alloc: Global, letters: &[u8]) -> Result<Vec<Name>, Fail> {
+    let mut names = Vec::new(alloc);
+    for letter in letters {
+        let Some(name) = Name::new(&[*letter]) else {
+            return Err(Fail::from("no name"));
+        };
+        names.push(name)?;
+    }
+    Ok(names)
+}
+
+// Of three cells in a row: each keeps its neighbours.
+fn row_of_three(alloc: Global) -> Result<Grid, Fail> {
+    Grid::new(lists_of(alloc, &[&[0, 1], &[0, 1, 2], &[1, 2]])?).map_err(|_| Fail::from("no grid"))
+}
+
+// A target that stays where it is.
+fn staying(alloc: Global, cells: u8) -> Result<Drift, Fail> {
+    let mut rows = Vec::new(alloc);
+    for cell in 0..cells {
+        rows.push([DriftPart { cell, part: 1 }].to_vec(alloc)?)?;
+    }
+    if rows.is_empty() || rows.len() > 200 {
+        return Err(Fail::from("no drift of so many cells"));
+    }
+    Drift::new(1, rows).map_err(|_| Fail::from("no drift"))
+}
+
+// Looks that miss one part of this denominator.
+fn looks_of(alloc: Global, denominator: u32) -> Result<Sweep, Fail> {
+    if denominator == 0 || denominator > 1_000_000 {
+        return Err(Fail::from("no such denominator"));
+    }
+    Sweep::new(denominator, [1, 1, 1].to_vec(alloc)?).map_err(|_| Fail::from("no sweep"))
+}
+
+// What the tests change of a scenario.
+#[derive(Clone, Copy)]
+struct Given {
+    names: &'static [u8],
+    horizon: u32,
+    start: u8,
+    total: u32,
+    first: &'static [u32],
+    looks: u32,
+}
+
+// Three cells in a row, and a target that stays where it is.
+fn parts_of(alloc: Global, given: Given) -> Result<Parts, Fail> {
+    Ok(Parts {
+        names: names_of(alloc, given.names)?,
+        horizon: given.horizon,
+        start: given.start,
+        total: given.total,
+        first: given.first.to_vec(alloc)?,
+        grid: row_of_three(alloc)?,
+        drift: staying(alloc, 3)?,
+        sweep: looks_of(alloc, given.looks)?,
+    })
+}
+
+// The target waits in the last cell.
+fn waiting(alloc: Global, horizon: u32, start: u8) -> Result<Scenario, Fail> {
+    let given = Given {
+        names: b"abc",
+        horizon,
+        start,
+        total: 1,
+        first: &[0, 0, 1],
+        looks: 2,
+    };
+    Scenario::new(parts_of(alloc, given)?).map_err(|_| Fail::from("no scenario"))
+}
+
+#[test]
+fn a_scenario_is_made_of_its_parts(rt: HostRuntime) -> Result<(), Fail> {
+    let sc = waiting(rt.alloc(), 2, 1)?;
+    assert_eq!(rt; sc.positions(), 3);
+    assert_eq!(rt; sc.horizon(), 2);
+    assert_eq!(rt; sc.start(), 1);
+    assert_eq!(rt; sc.total(), 1);
+    assert_eq!(rt; sc.weight(), 4);
+    assert!(rt; sc.cells() == 3);
+    assert_eq!(rt; sc.first(2), 1);
+    assert_eq!(rt; sc.name(2).bytes(), b"c".as_slice());
+    Ok(())
+}
+
+#[test]
+fn legal_prefixes_follow_the_moves(rt: HostRuntime) -> Result<(), Fail> {
+    let sc = waiting(rt.alloc(), 2, 0)?;
+    let cases: [(&[u8], bool); 7] = [
+        (&[], true),
+        (&[0], true),
+        (&[1, 2], true),
+        (&[2], false),
+        (&[0, 2], false),
+        (&[9], false),
+        (&[0, 0, 0], false),
+    ];
+    for (cells, legal) in cases {
+        assert_eq!(rt; sc.is_legal(&standing(0, cells).path), legal);
+    }
+    Ok(())
+}
+
+#[test]
+fn moves_come_from_the_last_position(rt: HostRuntime) -> Result<(), Fail> {
+    let sc = waiting(rt.alloc(), 2, 1)?;
+    let cases: [(&[u8], &[u8]); 3] = [(&[], &[0, 1, 2]), (&[0], &[0, 1]), (&[1, 2], &[1, 2])];
+    for (cells, moves) in cases {
+        let prefix = standing(0, cells).path;
+        assert!(rt; sc.is_legal(&prefix));
+        assert_eq!(rt; sc.moves_after(&prefix), moves);
+    }
+    Ok(())
+}
+
+#[test]
+fn values_are_as_worked_by_hand(rt: HostRuntime) -> Result<(), Fail> {
+    let sc = waiting(rt.alloc(), 3, 1)?;
+    let cases: [(&[u8], u128); 6] = [
+        (&[0], 0),
+        (&[2], 4),
+        (&[2, 1], 4),
+        (&[2, 2], 6),
+        (&[2, 2, 1], 6),
+        (&[2, 2, 2], 7),
+    ];
+    for (cells, worked) in cases {
+        let prefix = standing(0, cells).path;
+        assert!(rt; sc.is_legal(&prefix));
+        assert_eq!(rt; value(&sc, &prefix), worked);
+    }
+    Ok(())
+}
+
+// Each has the faults of the later ones, too.
+const FAULTY: [(Given, ModelFault); 7] = [
+    (
+        Given {
+            names: b"aaa",
+            horizon: 33,
+            start: 3,
+            total: 2,
+            first: &[0, 1],
+            looks: 2,
+        },
+        ModelFault::OutOfLimits,
+    ),
+    (
+        Given {
+            names: b"aaa",
+            horizon: 2,
+            start: 3,
+            total: 2,
+            first: &[0, 1],
+            looks: 2,
+        },
+        ModelFault::SizesDiffer,
+    ),
+    (
+        Given {
+            names: b"aaa",
+            horizon: 2,
+            start: 3,
+            total: 2,
+            first: &[0, 0, 1],
+            looks: 2,
+        },
+        ModelFault::StartOutOfRange,
+    ),
+    (
+        Given {
+            names: b"aaa",
+            horizon: 2,
+            start: 1,
+            total: 2,
+            first: &[0, 0, 1],
+            looks: 2,
+        },
+        ModelFault::WrongFirstSum,
+    ),
+    (
+        Given {
+            names: b"aaa",
+            horizon: 32,
+            start: 1,
+            total: 1,
+            first: &[0, 0, 1],
+            looks: 1_000_000,
+        },
+        ModelFault::DoubleName(1),
+    ),
+    (
+        Given {
+            names: b"aba",
+            horizon: 32,
+            start: 1,
+            total: 1,
+            first: &[0, 0, 1],
+            looks: 1_000_000,
+        },
+        ModelFault::DoubleName(2),
+    ),
+    (
+        Given {
+            names: b"abc",
+            horizon: 32,
+            start: 1,
+            total: 1,
+            first: &[0, 0, 1],
+            looks: 1_000_000,
+        },
+        ModelFault::TooWide,
+    ),
+];
+
+#[test]
+fn the_first_fault_is_named(rt: HostRuntime) -> Result<(), Fail> {
+    for (given, fault) in FAULTY {
+        assert_eq!(rt;
+            Scenario::new(parts_of(rt.alloc(), given)?).err(),
+            Some(fault)
+        );
+    }
+    Ok(())
+}

@@ -1,0 +1,69 @@
+//! The lines of records.
+
+ghost use Rattle.std.specs.Prelude.{◌≡◌, ◌++◌, ◌∷◌, [], map, OnOk, OnErr};
+ghost use Rattle.exact_parts.specs.Appending.{AppendsFront};
+ghost use Rattle.exact_parts.specs.Rows.{text_of, spaced};
+ghost use Rattle.tree_format.specs.PlanText.{numbers, record_row};
+ghost use Rattle.tree_format.specs.RecordParts.{letter_of, bound_fields, reference_of};
+
+use crate::writing::{push_number, push_positions};
+use bound_tree::{Kind, TreeNode};
+use exact_parts::NoMemory;
+
+/// The letter of a kind of record.
+fn letter(kind: &Kind) -> u8
+    ensures { result ≡ letter_of kind.now }
+{
+    match kind {
+        Kind::Branch => b'B',
+        Kind::Whole(_) => b'W',
+        Kind::Mean(_) => b'M',
+        Kind::Tangent(_, _) => b'T',
+    }
+}
+
+/// Appends the value or the bound of a record, where it has one.
+fn push_bound(out: &mut Vec<u8>, kind: &Kind) -> Result<(), NoMemory>
+    ensures ok { OnOk result (out.new.items ≡ out.old.items ++ spaced (bound_fields kind.now)) }
+    ensures err { OnErr result (AppendsFront out.old.items out.new.items (spaced (bound_fields kind.now))) }
+{
+    match kind {
+        Kind::Branch => Ok(()),
+        Kind::Whole(n) | Kind::Mean(n) | Kind::Tangent(n, _) => push_number(out, *n),
+    }
+}
+
+/// Appends the positions of a reference, where the record has one.
+fn push_reference(out: &mut Vec<u8>, kind: &Kind) -> Result<(), NoMemory>
+    ensures ok { OnOk result (out.new.items ≡ out.old.items ++ spaced (numbers (reference_of kind.now))) }
+    ensures err { OnErr result (AppendsFront out.old.items out.new.items (spaced (numbers (reference_of kind.now)))) }
+{
+    match kind {
+        Kind::Tangent(_, reference) => push_positions(out, reference.cells()),
+        Kind::Branch | Kind::Whole(_) | Kind::Mean(_) => Ok(()),
+    }
+}
+
+/// Appends the line of a record.
+fn push_record(out: &mut Vec<u8>, record: &TreeNode) -> Result<(), NoMemory>
+    ensures ok { OnOk result (out.new.items ≡ out.old.items ++ text_of (record_row record.now ∷ [])) }
+    ensures err { OnErr result (AppendsFront out.old.items out.new.items (text_of (record_row record.now ∷ []))) }
+{
+    out.push(letter(&record.kind))?;
+    push_bound(out, &record.kind)?;
+    push_positions(out, record.prefix.cells())?;
+    push_reference(out, &record.kind)?;
+    out.push(b'\n')?;
+    Ok(())
+}
+
+/// Appends the lines of records.
+pub fn push_records(out: &mut Vec<u8>, records: &[TreeNode]) -> Result<(), NoMemory>
+    ensures ok { OnOk result (out.new.items ≡ out.old.items ++ text_of (map record_row records.now)) }
+    ensures err { OnErr result (AppendsFront out.old.items out.new.items (text_of (map record_row records.now))) }
+{
+    for r in records {
+        push_record(out, r)?;
+    }
+    Ok(())
+}
