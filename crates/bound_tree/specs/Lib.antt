@@ -1,1 +1,5 @@
 pub mod FullTree
+pub mod Cut
+pub mod Accepts
+pub mod Eat
+pub mod Laws

@@ -2,6 +2,7 @@
 #![tactic(auto)]
 
 mod assembling;
+mod canonical;
 mod cell_names;
 mod columns;
 mod digits;
@@ -17,9 +18,13 @@ mod printing;
 mod reading;
 mod rows;
 mod stop;
+#[cfg(test)]
+mod tests;
 mod taking;
 mod taking_line;
 
+pub use canonical::read_canonical;
 pub use kind::{TextFault, TextKind};
 pub use laws::canonical_text_reads_back;
 pub use printing::print_scenario;
+pub use stop::CanonicalStop;

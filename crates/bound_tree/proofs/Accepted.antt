@@ -1,0 +1,73 @@
+-- Accepted records leave no path that is better than the plan's.
+use Rattle.std.proofs.Common.{◌≡◌, ℕ, zero, suc, ◌+◌, ◌≤◌, ◌<◌, true, false, List, [], ◌∷◌, ◌++◌, map, length, take, sym, refl, ap, ◌∙◌, subst, arith, Contains, All}
+use Rattle.std.proofs.lemmas.List.Elements.{All-nil, All-cons, All-head, All-tail, All-contains}
+use Rattle.std.proofs.lemmas.List.{take_all, get_or_append_left, get_or-append-add, length-append}
+use Rattle.search_grid.specs.Moves.{moves_from}
+use Rattle.search_model.specs.declared.standing.Standing.{Standing}
+use Rattle.search_model.specs.Problem.{Problem}
+use Rattle.search_model.specs.Legal.{Follows, IsPath, last_of}
+use Rattle.search_model.specs.Tracks.{value_of}
+use Rattle.search_model.specs.Order.{better, standing_of}
+use Rattle.search_model.proofs.Members.{Contains-map}
+use Rattle.search_model.proofs.Orders.{better_total}
+use Rattle.bound_tree.specs.declared.node.Kind.{Kind}
+use Rattle.bound_tree.specs.declared.node.Kind.TheVariants.{Branch, Whole, Mean, Tangent}
+use Rattle.bound_tree.specs.declared.node.TreeNode.{TreeNode}
+use Rattle.bound_tree.specs.Accepts.{Extends, IsGoodKind, expected_by, AreEaten}
+use Rattle.bound_tree.specs.Laws.{IsPlainKind, AcceptedIsBest}
+
+-- what holds of all of two joined lists holds of all of the first, and of all of the second
+All-front : {X : Type 0} (P : X → Type 0) (xs ys : List X) → All P (xs ++ ys) → All P xs
+All-front P xs ys h = λ k d l. subst P (get_or_append_left xs ys d k l) (h k d (omega (arith, l, length-append xs ys)))
+
+All-back : {X : Type 0} (P : X → Type 0) (xs ys : List X) → All P (xs ++ ys) → All P ys
+All-back P xs ys h = λ k d l. subst P (get_or-append-add xs ys k d) (h (length xs + k) d (omega (arith, l, length-append xs ys)))
+
+-- a longer list that begins with a prefix goes on by a move
+next_move : (rows : List (List ℕ)) (a : ℕ) (q y : List ℕ) → Follows rows a y → take (length q) y ≡ q → length q < length y →
+    (b : ℕ) × (take (length (q ++ b ∷ [])) y ≡ q ++ b ∷ []) × Contains (moves_from rows (last_of a q)) b
+next_move rows a [] [] f e l = absurd (omega (arith, l))
+next_move rows a [] (b ∷ y) f e l = (b, refl, f.0)
+next_move rows a (x ∷ q) [] f e l = absurd (omega (arith, l))
+next_move rows a (x ∷ q) (b ∷ y) f e l =
+    let same : b ≡ x = cc in
+    let rest : take (length q) y ≡ q = cc in
+    let follows : Follows rows x y = subst (λ z. Follows rows z y) same f.1 in
+    let found = next_move rows x q y follows rest (omega (arith, l)) in
+    (found.0, cc (same, found.1), found.2)
+
+module _ (p : Problem) (s : Standing) where
+  -- no path below a prefix is better than the standing
+  abbrev NothingBetter : List ℕ → Type 0
+  NothingBetter q = (y : List ℕ) → Extends p q y → better (standing_of p y) s ≡ false
+
+  from_record : (q : List ℕ) (kind : Kind) → IsPlainKind kind → IsGoodKind p s q kind → All NothingBetter (expected_by p q kind) → NothingBetter q
+  from_record q Branch plain good below y x =
+      let next = next_move p.moves p.start q y x.path.follows x.front (omega (arith, good, x.path.whole)) in
+      All-contains (λ r. NothingBetter r) _ _ below (Contains-map (λ b. q ++ b ∷ []) _ next.0 next.2) y (record { path = x.path; front = next.1 })
+  from_record q (Whole n) plain good below y x =
+      let same : y ≡ q = sym (take_all (length q) y (omega (arith, good.0, x.path.whole))) ∙ x.front in
+      let P : List ℕ → Type 0 = λ z. better (standing_of p z) s ≡ false in
+      subst P (sym same) (subst (λ v. better (record { path = q; value = v }) s ≡ false) good.1 good.2)
+  from_record q (Mean b) plain good below y x = absurd plain
+  from_record q (Tangent b whole) plain good below y x = absurd plain
+
+  from_records : (qs : List (List ℕ)) (rs : List TreeNode) → All (λ r. IsPlainKind r.kind) rs → AreEaten p s qs rs → All (λ q. NothingBetter q) qs
+  from_records [] rs plain h = All-nil (λ q. NothingBetter q)
+  from_records (q ∷ qs) [] plain h = absurd h
+  from_records (q ∷ qs) (r ∷ rs) plain h =
+      let rest = from_records (expected_by p r.prefix r.kind ++ qs) rs (All-tail (λ r. IsPlainKind r.kind) r rs plain) h.2 in
+      let here : NothingBetter r.prefix = from_record r.prefix r.kind (All-head (λ r. IsPlainKind r.kind) r rs plain) h.1 (All-front (λ q. NothingBetter q) (expected_by p r.prefix r.kind) qs rest) in
+      All-cons (λ q. NothingBetter q) q qs (subst (λ q. NothingBetter q) h.0 here) (All-back (λ q. NothingBetter q) (expected_by p r.prefix r.kind) qs rest)
+
+  nothing_better : (rs : List TreeNode) → All (λ r. IsPlainKind r.kind) rs → AreEaten p s ([] ∷ []) rs → (y : List ℕ) → IsPath p y → better (standing_of p y) s ≡ false
+  nothing_better rs plain h y path = All-head (λ q. NothingBetter q) [] [] (from_records ([] ∷ []) rs plain h) y (record { path = path; front = refl })
+
+pub accepted_plan_is_best : AcceptedIsBest
+accepted_plan_is_best p plan sound plain a = record {
+  path = a.path;
+  better = λ y path n.
+      let none = nothing_better p plan.standing plan.tree plain a.tree y path in
+      let at : better (standing_of p y) (standing_of p plan.standing.path) ≡ false = rw (← a.value) none in
+      better_total (standing_of p plan.standing.path) (standing_of p y) (λ same. n (sym same)) at;
+}

@@ -1,0 +1,2 @@
+pub mod EatLemmas
+pub mod Accepted
