@@ -7,7 +7,19 @@ use Rattle.std.proofs.lemmas.List.FromFn.{length-range_with_len, get_or-range_wi
 use Rattle.std.proofs.lemmas.List.Concat.{flat_map-append, flat_map-cons}
 use Rattle.std.proofs.lemmas.List.{append-nil}
 use Rattle.exact_parts.specs.Appending.{AppendsFront}
-use Rattle.exact_parts.proofs.AppendLemmas.{stopped_within, stopped_before}
+use Rattle.exact_parts.proofs.AppendLemmas.{Stands, stands_stopped, stands_refused}
+
+-- where pieces of a text stand, the next piece stops early
+stopped_within : (old mid new done piece left text : List ℕ) → mid ≡ old ++ done → text ≡ done ++ (piece ++ left) → AppendsFront mid new piece → AppendsFront old new text
+stopped_within old mid new done piece left text before whole h =
+    let stands : Stands old mid (piece ++ left) text = record { done = done; appended = before; whole = whole } in
+    stands_stopped piece left stands h
+
+-- where pieces of a text stand, nothing more is appended
+stopped_before : (old mid new done left text : List ℕ) → mid ≡ old ++ done → text ≡ done ++ left → new ≡ mid → AppendsFront old new text
+stopped_before old mid new done left text before whole same =
+    let stands : Stands old mid left text = record { done = done; appended = before; whole = whole } in
+    stands_refused stands same
 
 -- a front of the first text is one of the whole
 pub front_of_first : (old new a b : List ℕ) → AppendsFront old new a → AppendsFront old new (a ++ b)
