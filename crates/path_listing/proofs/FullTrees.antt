@@ -27,7 +27,7 @@ listed_legal p q h =
 
 pub grows_full : GrowsFullTree
 grows_full p sound = record {
-  ascending = AllPairs-map (λ q r. smaller q r ≡ true) (λ (r : TreeNode). r.prefix) (below p []) (ascending_below p sound.grid (p.horizon - length {A = ℕ} []) [] (omega (arith, sound.start, sound.grid_positions)));
+  ascending = AllPairs-map (λ q r. smaller q r ≡ true) (λ (r : TreeNode). r.prefix) (below p []) (ascending_below p sound (p.horizon - length {A = ℕ} []) [] (omega (arith, sound.start, sound.grid_positions)));
   legal = λ q. (λ legal. Contains-map (λ (r : TreeNode). r.prefix) (below p []) (node_of p q) (legal_listed p q legal), listed_legal p q);
   kinds = kinds_below p (p.horizon - length {A = ℕ} []) [] (omega arith);
 }

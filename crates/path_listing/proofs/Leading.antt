@@ -43,8 +43,8 @@ leads_instead p rs s q leads path h =
       path = path;
       value = refl;
       unbeaten = All-push P rs (record { prefix = q; kind = Whole (value_of p q) })
-        (All-weaker (λ r. IsUnbeatenBy s r.prefix r.kind) P (λ r. unbeaten_by_better s t h r.prefix r.kind) rs leads.unbeaten)
-        (better_irreflexive t);
+          (All-weaker (λ r. IsUnbeatenBy s r.prefix r.kind) P (λ r. unbeaten_by_better s t h r.prefix r.kind) rs leads.unbeaten)
+          (better_irreflexive t);
     }
 
 -- the best of all records is the best path
@@ -52,9 +52,9 @@ pub best_of_all : (p : Problem) (s : Standing) → Leads p (below p []) s → Is
 best_of_all p s leads = record {
   path = leads.path;
   better = λ r path differ.
-    let legal : IsLegal p r = record { follows = path.follows; short = omega (arith, path.whole) } in
-    let listed = rw (node_of_path p r path.whole) at (legal_listed p r legal) in
-    let unbeaten = All-contains (λ r. IsUnbeatenBy s r.prefix r.kind) (below p []) _ leads.unbeaten listed in
-    let same : s ≡ standing_of p s.path = ap (λ v. record { path = s.path; value = v }) leads.value in
-    subst (λ (t : Standing). better t (standing_of p r) ≡ true) same (better_total s (standing_of p r) (λ e. differ (sym e)) unbeaten);
+      let legal : IsLegal p r = record { follows = path.follows; short = omega (arith, path.whole) } in
+      let listed = rw (node_of_path p r path.whole) at (legal_listed p r legal) in
+      let unbeaten = All-contains (λ r. IsUnbeatenBy s r.prefix r.kind) (below p []) _ leads.unbeaten listed in
+      let same : s ≡ standing_of p s.path = ap (λ v. record { path = s.path; value = v }) leads.value in
+      subst (λ (t : Standing). better t (standing_of p r) ≡ true) same (better_total s (standing_of p r) (λ e. differ (sym e)) unbeaten);
 }

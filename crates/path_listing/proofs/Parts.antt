@@ -14,6 +14,7 @@ All-flat_map {A} P f xs h = joined xs (All-weaker (Contains xs) Q h xs (All-cont
   where
     Q : A → Type 0
     Q = λ x. All P (f x)
+
     joined : (ys : List A) → All Q ys → All P (flat_map f ys)
     joined [] each = All-nil P
     joined (x ∷ ys) each = All-append P (f x) (flat_map f ys) (All-head Q x ys each) (joined ys (All-tail Q x ys each))
@@ -29,5 +30,5 @@ AllPairs-flat_map {A} {B} S R f (a ∷ xs) pairs each across =
     (All-head P a xs each)
     (AllPairs-flat_map S R f xs (AllPairs-tail S a xs pairs) (All-tail P a xs each) across)
     (All-weaker (Contains (f a)) Q
-      (λ x in'. All-flat_map (R x) f xs (λ b at. All-weaker (Contains (f b)) (R x) (λ y on. across a b (All-contains (S a) xs b (AllPairs-head S a xs pairs) at) x y in' on) (f b) (All-contains_itself (f b))))
-      (f a) (All-contains_itself (f a)))
+    (λ x in'. All-flat_map (R x) f xs (λ b at. All-weaker (Contains (f b)) (R x) (λ y on. across a b (All-contains (S a) xs b (AllPairs-head S a xs pairs) at) x y in' on) (f b) (All-contains_itself (f b))))
+    (f a) (All-contains_itself (f a)))

@@ -4,8 +4,7 @@ use Rattle.std.proofs.lemmas.List.{append-nil, take_all}
 use Rattle.std.proofs.lemmas.List.Folds.{length-flat_map-take}
 use Rattle.std.proofs.lemmas.List.Elements.{All-nil, All-cons, All-weaker, All-contains, All-contains_itself}
 use Rattle.std.proofs.lemmas.List.Kept.{AllPairs-from_increasing}
-use Rattle.search_grid.specs.Moves.{moves_from, IsGrid}
-use Rattle.search_model.specs.Problem.{Problem}
+use Rattle.search_model.specs.Problem.{Problem, IsProblem}
 use Rattle.search_model.specs.Legal.{last_of, moves_after, Follows}
 use Rattle.search_model.specs.Tracks.{value_of}
 use Rattle.search_model.specs.Order.{smaller}
@@ -43,7 +42,7 @@ below_shorter p q shorter =
     let n = p.horizon - suc (length q) in
     let e : p.horizon - length q ≡ suc n = omega arith in
     let child : (d : ℕ) → subtree p (q ++ d ∷ []) n ≡ below p (q ++ d ∷ []) =
-      λ d. let k : n ≡ p.horizon - length (q ++ d ∷ []) = omega (arith, length-append q (d ∷ [])) in ap (subtree p (q ++ d ∷ [])) k in
+    λ d. let k : n ≡ p.horizon - length (q ++ d ∷ []) = omega (arith, length-append q (d ∷ [])) in ap (subtree p (q ++ d ∷ [])) k in
     rw e (ap (λ rs. record { prefix = q; kind = Branch } ∷ rs) (flat_map-same _ _ (moves_after p q) child))
 
 -- records before some of the children and below one more are within those below the prefix
@@ -133,19 +132,19 @@ before_sibling : (p : Problem) (q : List ℕ) (d e n : ℕ) (r s : List ℕ) →
 before_sibling p q d e n r s less left right = rw (left.is, right.is) (smaller_by_move q d e left.rest right.rest less)
 
 -- the records below a prefix ascend
-pub ascending_below : (p : Problem) → IsGrid p.moves → (n : ℕ) (q : List ℕ) → last_of p.start q < length p.moves → AllPairs GoesBefore (subtree p q n)
+pub ascending_below : (p : Problem) → IsProblem p → (n : ℕ) (q : List ℕ) → last_of p.start q < length p.moves → AllPairs GoesBefore (subtree p q n)
 unfolding subtree
-ascending_below p grid zero q here = AllPairs-cons GoesBefore _ [] (All-nil (GoesBefore (record { prefix = q; kind = Whole (value_of p q) }))) (AllPairs-nil GoesBefore)
-ascending_below p grid (suc n) q here =
+ascending_below p sound zero q here = AllPairs-cons GoesBefore _ [] (All-nil (GoesBefore (record { prefix = q; kind = Whole (value_of p q) }))) (AllPairs-nil GoesBefore)
+ascending_below p sound (suc n) q here =
     let child = λ (d : ℕ). subtree p (q ++ d ∷ []) n in
     let within = λ (d : ℕ). λ (r : TreeNode). All-contains (λ r. Continues p (q ++ d ∷ []) n r.prefix) (child d) r (continued p n (q ++ d ∷ [])) in
     let first = GoesBefore (record { prefix = q; kind = Branch }) in
     AllPairs-cons GoesBefore _ _
     (All-flat_map first child (moves_after p q) (λ d move.
-      All-weaker (λ r. Continues p (q ++ d ∷ []) n r.prefix) first (λ r more. before_child p q d n r.prefix more) (child d) (continued p n (q ++ d ∷ []))))
+    All-weaker (λ r. Continues p (q ++ d ∷ []) n r.prefix) first (λ r more. before_child p q d n r.prefix more) (child d) (continued p n (q ++ d ∷ []))))
     (AllPairs-flat_map (λ d e. d < e) GoesBefore child (moves_after p q)
-      (AllPairs-from_increasing (moves_after p q) (grid.each (last_of p.start q) here).ascending)
-      (All-weaker (Contains (moves_after p q)) (λ d. AllPairs GoesBefore (child d))
-        (λ d move. ascending_below p grid n (q ++ d ∷ []) (rw last_of-push (move_within p.moves grid (last_of p.start q) d here move)))
-        (moves_after p q) (All-contains_itself (moves_after p q)))
-      (λ d e less r s left right. before_sibling p q d e n r.prefix s.prefix less (within d r left) (within e s right)))
+    (AllPairs-from_increasing (moves_after p q) (sound.grid.each (last_of p.start q) here).ascending)
+    (All-weaker (Contains (moves_after p q)) (λ d. AllPairs GoesBefore (child d))
+    (λ d move. ascending_below p sound n (q ++ d ∷ []) (rw last_of-push (move_within p.moves sound.grid (last_of p.start q) d here move)))
+    (moves_after p q) (All-contains_itself (moves_after p q)))
+    (λ d e less r s left right. before_sibling p q d e n r.prefix s.prefix less (within d r left) (within e s right)))

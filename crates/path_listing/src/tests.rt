@@ -7,49 +7,46 @@ use std::alloc::{AllocError, Global};
 use std::test::Fail;
 use sweep_table::Sweep;
 
-// A list of rows.
-fn rows_of<T: Copy>(alloc: Global, lists: &[&[T]]) -> Result<Vec<Vec<T>>, AllocError> {
-    let mut rows = Vec::new(alloc);
-    for list in lists {
-        rows.push(list.to_vec(alloc)?)?;
-    }
-    Ok(rows)
-}
-
 // One cell, where the target stands and stays; half of the looks miss.
 fn one_cell(alloc: Global) -> Result<Scenario, Fail> {
-    let mut names = Vec::new(alloc);
-    names.push(Name::new(b"a").ok_or("no name")?)?;
+    let name = Name::new(b"a").ok_or("no name")?;
+    let stays = vec![in alloc; DriftPart { cell: 0, part: 1 }]?;
     Ok(Scenario::new(Parts {
-        names,
+        names: vec![in alloc; name]?,
         horizon: 1,
         start: 0,
         total: 1,
-        first: [1].to_vec(alloc)?,
-        grid: Grid::new(rows_of(alloc, &[&[0]])?)?,
-        drift: Drift::new(1, rows_of(alloc, &[&[DriftPart { cell: 0, part: 1 }]])?)?,
-        sweep: Sweep::new(2, [1].to_vec(alloc)?)?,
+        first: vec![in alloc; 1]?,
+        grid: Grid::new(vec![in alloc; vec![in alloc; 0]?]?)?,
+        drift: Drift::new(1, vec![in alloc; stays]?)?,
+        sweep: Sweep::new(2, vec![in alloc; 1]?)?,
     })?)
+}
+
+// The even chance of either of two cells.
+fn either(alloc: Global) -> Result<Vec<DriftPart>, AllocError> {
+    [
+        DriftPart { cell: 0, part: 1 },
+        DriftPart { cell: 1, part: 1 },
+    ]
+    .to_vec(alloc)
 }
 
 // Two cells and two periods; the target moves as it likes, and no look misses.
 fn two_cells(alloc: Global) -> Result<Scenario, Fail> {
-    let mut names = Vec::new(alloc);
-    names.push(Name::new(b"a").ok_or("no name")?)?;
-    names.push(Name::new(b"b").ok_or("no name")?)?;
-    let either = [
-        DriftPart { cell: 0, part: 1 },
-        DriftPart { cell: 1, part: 1 },
-    ];
+    let a = Name::new(b"a").ok_or("no name")?;
+    let b = Name::new(b"b").ok_or("no name")?;
+    let moves = vec![in alloc; vec![in alloc; 0, 1]?, vec![in alloc; 0, 1]?]?;
+    let drifts = vec![in alloc; either(alloc)?, either(alloc)?]?;
     Ok(Scenario::new(Parts {
-        names,
+        names: vec![in alloc; a, b]?,
         horizon: 2,
         start: 0,
         total: 2,
-        first: [1, 1].to_vec(alloc)?,
-        grid: Grid::new(rows_of(alloc, &[&[0, 1], &[0, 1]])?)?,
-        drift: Drift::new(2, rows_of(alloc, &[&either, &either])?)?,
-        sweep: Sweep::new(2, [0, 0].to_vec(alloc)?)?,
+        first: vec![in alloc; 1, 1]?,
+        grid: Grid::new(moves)?,
+        drift: Drift::new(2, drifts)?,
+        sweep: Sweep::new(2, vec![in alloc; 0, 0]?)?,
     })?)
 }
 

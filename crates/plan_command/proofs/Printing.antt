@@ -40,6 +40,6 @@ module _ (p : Problem) (sound : IsProblem p) where
     positions = follows_positions plan.standing.path full.best.path.follows;
     few = few;
     records = λ k d lt.
-    let r = get_or plan.tree k d in
-    record_printable r ((full.tree.legal r.prefix).1 (holds_prefix plan.tree k d lt)) (full.tree.kinds k d lt);
+        let r = get_or plan.tree k d in
+        record_printable r ((full.tree.legal r.prefix).1 (holds_prefix plan.tree k d lt)) (full.tree.kinds k d lt);
   }

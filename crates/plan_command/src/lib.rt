@@ -6,11 +6,10 @@ mod gate;
 mod line;
 mod request;
 mod status;
-mod top;
-mod words;
-
 #[cfg(test)]
 mod tests;
+mod top;
+mod words;
 
 pub use gate::{Gate, OpenGate};
 pub use request::Request;

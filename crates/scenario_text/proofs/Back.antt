@@ -1,11 +1,9 @@
 -- The canonical text of a problem reads back.
-use Rattle.std.proofs.Common.{◌≡◌, ℕ, zero, suc, ◌+◌, ◌<◌, ◌≤◌, true, false, List, [], ◌∷◌, ◌++◌, map, length, refl, sym, ap, ◌∙◌, subst, arith}
+use Rattle.std.proofs.Common.{◌≡◌, ℕ, zero, suc, ◌+◌, ◌<◌, ◌≤◌, true, false, List, [], ◌∷◌, ◌++◌, map, length, refl, sym, ap, subst, arith}
 use Rattle.std.specs.Prelude.{codes}
 use Rattle.std.specs.Fmt.{decimal}
 use Rattle.std.specs.List.{range_with_len, list_any}
 use Rattle.std.proofs.lemmas.Bool.{lt-ltb, le-ltb, ne_eqb}
-use Rattle.std.proofs.lemmas.List.{length-map, get_or-map}
-use Rattle.std.proofs.lemmas.List.FromFn.{fill_by_all}
 use Rattle.drift_chain.specs.DriftRows.{row_of}
 use Rattle.search_grid.specs.Moves.{moves_from}
 use Rattle.search_model.specs.Problem.{Problem, IsProblem, cell_name, position_name}
@@ -50,9 +48,9 @@ after_rows-complete : (p : Problem) → IsProblem p → after_rows p p.positions
 after_rows-complete p h =
     ap (λ (cells : List CellState). record (complete p) { cells = cells })
     (map-range-same p.cells 0 (cell_after p p.positions p.cells p.positions) (cell_of p) (λ c low high.
-      let placed = lt-ltb c p.positions (omega (arith, h.positions)) in
-      let within = lt-ltb c p.cells (omega arith) in
-      rw (placed, within) refl))
+    let placed = lt-ltb c p.positions (omega (arith, h.positions)) in
+    let within = lt-ltb c p.cells (omega arith) in
+    rw (placed, within) refl))
 
 -- the rows from the overlook parts on, from the drift rows on, from the moves on, and from the start on
 abbrev end_rows : List (List (List ℕ))
@@ -82,11 +80,11 @@ parts_rows p = (codes "parts" ∷ decimal p.total ∷ decimal p.drift.denominato
 Reads-rows : (p : Problem) → IsProblem p → Reads (after_rows p 0 0 0) (move_rows p) (state_of_problem p)
 Reads-rows p h =
     let end : Reads (after_rows p p.positions p.cells p.positions) end_rows (state_of_problem p) =
-        subst (λ (s : State). Reads s end_rows (state_of_problem p)) (sym (after_rows-complete p h)) (Reads-end (complete p) (state_of_problem p) (codes "end" ∷ []) (Takes-end p h) refl) in
+    subst (λ (s : State). Reads s end_rows (state_of_problem p)) (sym (after_rows-complete p h)) (Reads-end (complete p) (state_of_problem p) (codes "end" ∷ []) (Takes-end p h) refl) in
     let looks : Reads (after_rows p p.positions p.cells 0) (look_rows p) (state_of_problem p) =
-        Reads-range p.positions 0 p.positions (overlook_row p) (after_rows p p.positions p.cells) end_rows (state_of_problem p) (omega arith) (λ k lt. Takes-overlook p h p.positions p.cells k (omega (arith, h.positions))) (λ k e. cc) end in
+    Reads-range p.positions 0 p.positions (overlook_row p) (after_rows p p.positions p.cells) end_rows (state_of_problem p) (omega arith) (λ k lt. Takes-overlook p h p.positions p.cells k (omega (arith, h.positions))) (λ k e. cc) end in
     let drifts : Reads (after_rows p p.positions 0 0) (drift_rows p) (state_of_problem p) =
-        Reads-range p.cells 0 p.cells (drift_row p) (λ j. after_rows p p.positions j 0) (look_rows p) (state_of_problem p) (omega arith) (λ j lt. Takes-drift p h p.positions j 0 lt) (λ j e. cc) looks in
+    Reads-range p.cells 0 p.cells (drift_row p) (λ j. after_rows p p.positions j 0) (look_rows p) (state_of_problem p) (omega arith) (λ j lt. Takes-drift p h p.positions j 0 lt) (λ j e. cc) looks in
     Reads-range p.positions 0 p.positions (moves_row p) (λ i. after_rows p i 0 0) (drift_rows p) (state_of_problem p) (omega arith) (λ i lt. Takes-moves p h i 0 0 (omega (arith, h.positions))) (λ i e. cc) drifts
 
 -- before the first row, each cell has its name alone
@@ -98,7 +96,7 @@ after_rows-none p =
 Reads-start : (p : Problem) → IsProblem p → Reads (after_cells p p.cells) (start_rows p) (state_of_problem p)
 Reads-start p h =
     let rows : Reads (record (started p) { stage = Rows; first = first_entries p }) (move_rows p) (state_of_problem p) =
-        subst (λ (s : State). Reads s (move_rows p) (state_of_problem p)) (sym (after_rows-none p)) (Reads-rows p h) in
+    subst (λ (s : State). Reads s (move_rows p) (state_of_problem p)) (sym (after_rows-none p)) (Reads-rows p h) in
     Reads-row _ _ _ _ (first_rows p) (Takes-start p h) (λ e. cc) (Reads-row _ _ _ _ (move_rows p) (Takes-first p h) (λ e. cc) rows)
 
 Reads-cells : (p : Problem) → IsProblem p → Reads (after_cells p 0) (cells_rows p) (state_of_problem p)

@@ -1,9 +1,9 @@
 -- The cell of a name, among the cells of a draft.
-use Rattle.std.proofs.Common.{◌≡◌, ℕ, ◌<◌, List, [], ◌∷◌, length, map, Option, Some, None, refl, sym, ap, ◌∙◌, arith}
+use Rattle.std.proofs.Common.{◌≡◌, ℕ, List, map}
 use Rattle.std.specs.Prelude.{position}
 use Rattle.std.specs.Str.{bytes_eq}
 use Rattle.scenario_text.specs.declared.draft.CellDraft.{CellDraft}
-use Rattle.scenario_text.specs.State.{CellState, cell_state, bare}
+use Rattle.scenario_text.specs.State.{cell_state}
 use Rattle.scenario_text.specs.Reading.{cell_named}
 use Rattle.scenario_text.proofs.Positions.{position_map}
 use Rattle.std.proofs.lemmas.List.{map_push, length-map}

@@ -1,5 +1,5 @@
 -- The parts of a problem have no fault.
-use Rattle.std.proofs.Common.{◌≡◌, ◌<◌, arith, sym, ◌∙◌}
+use Rattle.std.proofs.Common.{arith, ◌∙◌}
 use Rattle.search_model.specs.declared.scenario.Parts.{Parts}
 use Rattle.search_model.specs.declared.scenario.ModelFault.{ModelFault}
 use Rattle.search_model.specs.declared.scenario.ModelFault.TheVariants.{OutOfLimits, SizesDiffer, StartOutOfRange, WrongFirstSum, DoubleName, TooWide}

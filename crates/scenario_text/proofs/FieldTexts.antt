@@ -39,7 +39,10 @@ AreFields-names p h (c ∷ cs) within = (IsField-cell_name p h c (All-head (λ c
 -- the pairs of some entries
 pub AreFields-pairs : (p : Problem) → IsProblem p → (es : List DriftPart) → All (λ e. e.cell < p.cells) es → All (λ e. e.part ≤ 1000000) es → AreFields (pair_fields p es)
 AreFields-pairs p h [] within small = tt
-AreFields-pairs p h (e ∷ es) within small =
-    (IsField-cell_name p h e.cell (All-head (λ e. e.cell < p.cells) e es within),
-    (IsField-decimal e.part (omega (arith, All-head (λ e. e.part ≤ 1000000) e es small)),
-    AreFields-pairs p h es (All-tail (λ e. e.cell < p.cells) e es within) (All-tail (λ e. e.part ≤ 1000000) e es small)))
+AreFields-pairs p h (e ∷ es) within small = (
+  IsField-cell_name p h e.cell (All-head (λ e. e.cell < p.cells) e es within),
+  (
+    IsField-decimal e.part (omega (arith, All-head (λ e. e.part ≤ 1000000) e es small)),
+    AreFields-pairs p h es (All-tail (λ e. e.cell < p.cells) e es within) (All-tail (λ e. e.part ≤ 1000000) e es small),
+  ),
+)

@@ -1,5 +1,5 @@
 -- One line after the other, as a loop takes them.
-use Rattle.std.proofs.Common.{◌≡◌, ℕ, ◌+◌, ◌<◌, List, [], ◌∷◌, length, Result, Ok, Err, refl, sym, ap, ◌∙◌, arith}
+use Rattle.std.proofs.Common.{◌≡◌, ℕ, ◌+◌, List, [], ◌∷◌, length, Result, Ok, Err, refl, sym, ◌∙◌, arith}
 use Rattle.scenario_text.specs.declared.draft.Stage.{Stage}
 use Rattle.scenario_text.specs.declared.draft.Stage.TheVariants.{Version, Horizon, Parts, Cells, First, Rows, Ended}
 use Rattle.scenario_text.specs.declared.kind.TextKind.{TextKind}
@@ -11,7 +11,7 @@ use Rattle.scenario_text.specs.declared.stop.LineStop.{LineStop}
 use Rattle.scenario_text.specs.declared.stop.LineStop.TheVariants as line_stops
 use Rattle.scenario_text.specs.Gives.{TakesLine, Gives, stop_at}
 use Rattle.scenario_text.specs.State.{State}
-use Rattle.scenario_text.specs.Reading.{line_at, lines_at, go_on, unless_ended}
+use Rattle.scenario_text.specs.Reading.{line_at, lines_at, unless_ended}
 
 pub at_fault : (s : State) (number : ℕ) (line : List ℕ) (lines ls : List (List ℕ)) (kind : TextKind) → ls ≡ line ∷ lines → line_at s line ≡ Err kind → lines_at s number ls ≡ Err (record { line = number; kind = kind })
 unfolding lines_at

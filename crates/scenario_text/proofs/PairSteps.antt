@@ -4,10 +4,9 @@ use Rattle.std.specs.Prelude.{◌||◌, All}
 use Rattle.std.proofs.Math.Seq.{drop-nil}
 use Rattle.std.proofs.lemmas.List.{append-nil, map_push, take_all}
 use Rattle.std.proofs.lemmas.List.Elements.{All-cons}
-use Rattle.exact_parts.specs.declared.number.Number.{Number}
 use Rattle.scenario_text.specs.declared.pair.Pair.{Pair}
 use Rattle.scenario_text.specs.State.{CellState}
-use Rattle.scenario_text.specs.Reading.{number_at, number_in, cell_named, pairs_of, stands_in, has_double, entries_of, total_of}
+use Rattle.scenario_text.specs.Reading.{number_at, number_in, cell_named, pairs_of, stands_in, has_double, total_of}
 use Rattle.scenario_text.proofs.Numbers.{number_at_within}
 
 -- what follows a place is all that is left from there

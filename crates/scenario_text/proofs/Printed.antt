@@ -1,8 +1,8 @@
 -- The lines of the canonical text, in the pieces in which they are printed.
-use Rattle.std.proofs.Common.{◌≡◌, ℕ, Bool, true, false, cond, List, [], ◌∷◌, ◌++◌, map, length, refl, sym, ap, ◌∙◌, append_assoc, arith}
+use Rattle.std.proofs.Common.{◌≡◌, ℕ, Bool, true, false, cond, List, [], ◌∷◌, ◌++◌, map, refl, sym, ap, ◌∙◌, append_assoc, arith}
 use Rattle.std.specs.Prelude.{codes, ◌==◌, if◌then◌else◌}
 use Rattle.std.specs.Fmt.{decimal}
-use Rattle.std.specs.List.{flat_map, join_with_byte, range_with_len}
+use Rattle.std.specs.List.{flat_map, range_with_len}
 use Rattle.std.proofs.lemmas.List.{append-nil, length-map, get_or-map}
 use Rattle.std.proofs.lemmas.List.FromFn.{fill_by_all}
 use Rattle.std.proofs.lemmas.List.Concat.{flat_map-append}
@@ -14,7 +14,7 @@ use Rattle.drift_chain.specs.DriftRows.{row_of}
 use Rattle.search_model.specs.Problem.{Problem, IsProblem, first_of, cell_name}
 use Rattle.scenario_text.specs.Canonical.{first_entries, pair_fields, canonical_text, table_rows, moves_row, drift_row, overlook_row, cell_row}
 use Rattle.scenario_text.proofs.Appending.{IsThree}
-use Rattle.scenario_text.specs.Printing.{line_of, name_text, entry_text, first_text, moves_text, drift_text, overlook_text, cell_text, chance_text, horizon_text, parts_text, head_text, front_text, rows_text}
+use Rattle.scenario_text.specs.Printing.{line_of, name_text, entry_text, first_text, moves_text, drift_text, overlook_text, cell_text, chance_text, head_text, front_text, rows_text}
 
 -- a line: its first field, the others, the line feed
 line_of-spaced : (f : List ℕ) (fs : List (List ℕ)) → line_of (f ∷ fs) ≡ f ++ (spaced fs ++ 10 ∷ [])
@@ -32,11 +32,13 @@ spaced-pairs p (e ∷ es) =
 
 -- a line with a name: the keyword and the name, the other fields, the line feed
 named_line : (word name : List ℕ) (fs : List (List ℕ)) (rest : List ℕ) → spaced fs ≡ rest → IsThree (line_of (word ∷ name ∷ fs)) (word ++ 32 ∷ (name ++ [])) rest (10 ∷ [])
-named_line word name fs rest e = record { whole =
-    line_of-spaced word (name ∷ fs)
-    ∙ ap (λ (t : List ℕ). word ++ 32 ∷ (t ++ 10 ∷ [])) (ap (λ (t : List ℕ). name ++ t) e)
-    ∙ ap (λ (t : List ℕ). word ++ 32 ∷ t) (append_assoc name rest (10 ∷ []) ∙ ap (λ (t : List ℕ). t ++ (rest ++ 10 ∷ [])) (sym (append-nil name)))
-    ∙ sym (append_assoc word (32 ∷ (name ++ [])) (rest ++ 10 ∷ [])) }
+named_line word name fs rest e = record {
+  whole =
+      line_of-spaced word (name ∷ fs)
+      ∙ ap (λ (t : List ℕ). word ++ 32 ∷ (t ++ 10 ∷ [])) (ap (λ (t : List ℕ). name ++ t) e)
+      ∙ ap (λ (t : List ℕ). word ++ 32 ∷ t) (append_assoc name rest (10 ∷ []) ∙ ap (λ (t : List ℕ). t ++ (rest ++ 10 ∷ [])) (sym (append-nil name)))
+      ∙ sym (append_assoc word (32 ∷ (name ++ [])) (rest ++ 10 ∷ []));
+}
 
 pub moves_text-pieces : (p : Problem) (q : ℕ) → IsThree (moves_text p q) (codes "moves " ++ (cell_name p q ++ [])) (flat_map (name_text p) (moves_from p.moves q)) (10 ∷ [])
 moves_text-pieces p q = named_line (codes "moves") (cell_name p q) (map (cell_name p) (moves_from p.moves q)) _ (spaced-names p (moves_from p.moves q))
@@ -60,9 +62,11 @@ pub chance_text-pieces : (p : Problem) → IsThree (chance_text p) (codes "start
 chance_text-pieces p =
     let rest = flat_map (first_text p) (range_with_len 0 p.cells) ++ 10 ∷ [] in
     let first : line_of (codes "first" ∷ pair_fields p (first_entries p)) ≡ codes "first" ++ rest =
-        line_of-spaced (codes "first") (pair_fields p (first_entries p)) ∙ ap (λ (t : List ℕ). codes "first" ++ (t ++ 10 ∷ [])) (spaced-pairs p (first_entries p) ∙ entries_of p (range_with_len 0 p.cells)) in
-    record { whole = ap (λ (t : List ℕ). line_of (codes "start" ∷ cell_name p p.start ∷ []) ++ t) first
-    ∙ ap (λ (t : List ℕ). codes "start " ++ t) (append_assoc (cell_name p p.start) (10 ∷ []) (codes "first" ++ rest) ∙ sym (append_assoc (cell_name p p.start) (10 ∷ codes "first") rest)) }
+    line_of-spaced (codes "first") (pair_fields p (first_entries p)) ∙ ap (λ (t : List ℕ). codes "first" ++ (t ++ 10 ∷ [])) (spaced-pairs p (first_entries p) ∙ entries_of p (range_with_len 0 p.cells)) in
+    record {
+      whole = ap (λ (t : List ℕ). line_of (codes "start" ∷ cell_name p p.start ∷ []) ++ t) first
+          ∙ ap (λ (t : List ℕ). codes "start " ++ t) (append_assoc (cell_name p p.start) (10 ∷ []) (codes "first" ++ rest) ∙ sym (append_assoc (cell_name p p.start) (10 ∷ codes "first") rest));
+    }
 
 -- The whole text.
 
@@ -99,10 +103,12 @@ unfolding canonical_text
 canonical_text-pieces p =
     let start : List (List ℕ) = codes "start" ∷ cell_name p p.start ∷ [] in
     let first : List (List ℕ) = codes "first" ∷ pair_fields p (first_entries p) in
-    record { whole =
-      head_lines (codes "scenario" ∷ codes "1" ∷ []) (codes "horizon" ∷ decimal p.horizon ∷ []) (codes "parts" ∷ decimal p.total ∷ decimal p.drift.denominator ∷ decimal p.sweep.denominator ∷ []) (map cell_row p.names ++ (start ∷ first ∷ table_rows p))
-      ∙ ap (λ (t : List ℕ). head_text p ++ t) (two_lines (map cell_row p.names) start first (table_rows p) ∙ ap (λ (t : List ℕ). (text_of (map cell_row p.names) ++ chance_text p) ++ t) (table_text p))
-      ∙ sym (append_assoc (head_text p) (text_of (map cell_row p.names) ++ chance_text p) (rows_text p ++ codes "end\n")) }
+    record {
+      whole =
+          head_lines (codes "scenario" ∷ codes "1" ∷ []) (codes "horizon" ∷ decimal p.horizon ∷ []) (codes "parts" ∷ decimal p.total ∷ decimal p.drift.denominator ∷ decimal p.sweep.denominator ∷ []) (map cell_row p.names ++ (start ∷ first ∷ table_rows p))
+          ∙ ap (λ (t : List ℕ). head_text p ++ t) (two_lines (map cell_row p.names) start first (table_rows p) ∙ ap (λ (t : List ℕ). (text_of (map cell_row p.names) ++ chance_text p) ++ t) (table_text p))
+          ∙ sym (append_assoc (head_text p) (text_of (map cell_row p.names) ++ chance_text p) (rows_text p ++ codes "end\n"));
+    }
 
 pub front_text-pieces : (p : Problem) → IsThree (front_text p) (head_text p) (text_of (map cell_row p.names)) (chance_text p)
 front_text-pieces p = record { whole = refl }

@@ -1,11 +1,11 @@
 -- Rows that are taken one after the other.
-use Rattle.std.proofs.Common.{◌≡◌, ℕ, zero, suc, ◌+◌, ◌<◌, false, List, [], ◌∷◌, ◌++◌, map, Ok, Result, refl, ap, ◌∙◌, subst, arith}
+use Rattle.std.proofs.Common.{◌≡◌, ℕ, zero, suc, ◌+◌, ◌<◌, false, List, [], ◌∷◌, ◌++◌, map, Ok, ◌∙◌, subst, arith}
 use Rattle.std.specs.List.{range_with_len, join_with_byte}
 use Rattle.exact_parts.specs.Rows.{text_of}
 use Rattle.scenario_text.specs.declared.draft.Stage.TheVariants.{Ended}
 use Rattle.scenario_text.specs.Lines.{lines_of}
 use Rattle.scenario_text.specs.State.{State}
-use Rattle.scenario_text.specs.Reading.{says_nothing, stage_line, line_at, lines_at, unless_ended}
+use Rattle.scenario_text.specs.Reading.{says_nothing, stage_line, line_at, lines_at}
 use Rattle.scenario_text.proofs.Loop.{at_line, at_last}
 use Rattle.scenario_text.proofs.Joined.{AreFields, fields_of-join, row_is_text, lines_of-row}
 

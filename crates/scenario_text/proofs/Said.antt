@@ -1,5 +1,5 @@
 -- What a draft says of a problem, sort by sort.
-use Rattle.std.proofs.Common.{◌≡◌, ℕ, zero, suc, ◌<◌, ◌+◌, eqb, cond, inl, inr, List, [], ◌∷◌, ◌++◌, length, get_or, map, set, replicate, Result, Ok, Some, refl, sym, ap, ◌∙◌, subst, arith, append_assoc, add-one}
+use Rattle.std.proofs.Common.{◌≡◌, ℕ, zero, suc, ◌+◌, eqb, cond, inl, inr, List, [], ◌∷◌, ◌++◌, length, get_or, map, replicate, Result, Ok, refl, sym, ap, ◌∙◌, subst, arith, append_assoc}
 use Rattle.std.specs.Prelude.{unwrap_or, slice_index}
 use Rattle.std.specs.List.{flat_map, range_with_len}
 use Rattle.std.proofs.Math.Seq.{set-append_seam}
@@ -10,7 +10,7 @@ use Rattle.drift_chain.specs.declared.part.DriftPart.{DriftPart}
 use Rattle.drift_chain.specs.DriftRows.{DriftRows, row_of, drift_over, drift_cells}
 use Rattle.search_grid.specs.Moves.{moves_from}
 use Rattle.sweep_table.specs.LookParts.{LookParts, factor_of, parts_over}
-use Rattle.search_model.specs.Problem.{Problem, IsProblem, first_of, cell_name}
+use Rattle.search_model.specs.Problem.{Problem, IsProblem, first_of}
 use Rattle.scenario_text.specs.declared.draft.CellDraft.{CellDraft}
 use Rattle.scenario_text.specs.declared.draft.Draft.{Draft}
 use Rattle.scenario_text.specs.State.{State, CellState, cell_state, state_of}

@@ -1,5 +1,5 @@
 -- Text as lines, and a line as fields.
-use Rattle.std.specs.Prelude.{ℕ, Bool, true, false, List, [], ◌∷◌, ◌==◌, ◌||◌, if◌then◌else◌}
+use Rattle.std.specs.Prelude.{ℕ, Bool, true, List, [], ◌∷◌, ◌==◌, ◌||◌, if◌then◌else◌}
 
 -- a byte at the front of the first piece, where there is one
 abbrev pub onto_first : ℕ → List (List ℕ) → List (List ℕ)

@@ -14,8 +14,11 @@ use std::alloc::{AllocError, Global};
 pub fn are_name_bytes(name: &[u8]) -> bool
     ensures { result ≡ list_all is_name_byte_lem name.now }
 {
-    name.iter()
-        .all(|c| c.is_ascii_lowercase() || c.is_ascii_uppercase() || c.is_ascii_digit() || *c == b'_' || *c == b'-')
+    name.iter().all(|c| c.is_ascii_lowercase()
+        || c.is_ascii_uppercase()
+        || c.is_ascii_digit()
+        || *c == b'_'
+        || *c == b'-')
 }
 
 fn place_named(cells: &[CellDraft], name: &[u8]) -> Option<usize>

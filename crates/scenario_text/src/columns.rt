@@ -66,11 +66,7 @@ fn place_part(parts: &mut [u32], entry: &DriftPart)
 }
 
 /// Per cell the part of the entries, and 0 where none is of that cell.
-pub fn parts_of(
-    alloc: Global,
-    cells: usize,
-    entries: &[DriftPart],
-) -> Result<Vec<u32>, AllocError>
+pub fn parts_of(alloc: Global, cells: usize, entries: &[DriftPart]) -> Result<Vec<u32>, AllocError>
     ensures { IfOk result (λ v. v.items ≡ placed entries.now (replicate cells 0)) }
 {
     let mut parts = vec![in alloc; 0; cells]?;

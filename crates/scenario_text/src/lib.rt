@@ -18,10 +18,10 @@ mod printing;
 mod reading;
 mod rows;
 mod stop;
-#[cfg(test)]
-mod tests;
 mod taking;
 mod taking_line;
+#[cfg(test)]
+mod tests;
 
 pub use canonical::read_canonical;
 pub use kind::{TextFault, TextKind};

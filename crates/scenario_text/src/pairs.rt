@@ -52,7 +52,10 @@ pub fn cells_named(
     requires { length cells.now ≤ 200 }
     ensures { IfOk result (λ v. v.items ≡ map (cell_named_lem (map cell_state cells.now)) (map (λ f. f.now) names.now)) }
 {
-    names.iter().map(|name| cell_named(cells, name)).collect(alloc)
+    names
+        .iter()
+        .map(|name| cell_named(cells, name))
+        .collect(alloc)
 }
 
 /// Whether a part is no plain decimal, or 0.

@@ -201,13 +201,7 @@ fn push_overlook(out: &mut Vec<u8>, sc: &Scenario, q: u8) -> Result<(), NoMemory
     let part = Digits::of(sc.sweep().factor(1, q, q));
     push_all(
         out,
-        &[
-            b"overlook ",
-            sc.name(q).bytes(),
-            b" ",
-            part.bytes(),
-            b"\n",
-        ],
+        &[b"overlook ", sc.name(q).bytes(), b" ", part.bytes(), b"\n"],
     )
 }
 

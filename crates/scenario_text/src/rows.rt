@@ -11,7 +11,10 @@ use crate::draft::{CellDraft, Draft, Stage};
 use crate::kind::TextKind;
 use crate::number_field::{MOST_PART, is_bad, is_over, number_at, number_in};
 use crate::pair::Pair;
-use crate::pairs::{any_bad, any_nameless, any_over, any_unknown, are_pairs, cells_named, cells_of, entries_of, has_double, numbers_of, pairs_of, total_of};
+use crate::pairs::{
+    any_bad, any_nameless, any_over, any_unknown, are_pairs, cells_named, cells_of, entries_of,
+    has_double, numbers_of, pairs_of, total_of,
+};
 use crate::stop::LineStop;
 use drift_chain::DriftPart;
 use exact_parts::{Number, fits};
@@ -44,11 +47,7 @@ fn set_first(alloc: Global, draft: &mut Draft, pairs: &[Pair]) -> Result<(), Lin
 }
 
 /// `first NAME PART NAME PART ..`
-pub fn take_first(
-    alloc: Global,
-    draft: &mut Draft,
-    fields: &[&[u8]],
-) -> Result<(), LineStop>
+pub fn take_first(alloc: Global, draft: &mut Draft, fields: &[&[u8]]) -> Result<(), LineStop>
     requires { draft.old.stage ≡ Stage.First }
     ensures { TakesLine draft.new result (first_line (state_of draft.old) (map (λ f. f.now) fields.now)) }
 {
@@ -99,11 +98,7 @@ fn set_moves(
 }
 
 /// `moves NAME NAME NAME ..`, behind its keyword
-pub fn take_moves(
-    alloc: Global,
-    draft: &mut Draft,
-    fields: &[&[u8]],
-) -> Result<(), LineStop>
+pub fn take_moves(alloc: Global, draft: &mut Draft, fields: &[&[u8]]) -> Result<(), LineStop>
     ensures { TakesLine draft.new result (moves_line (state_of draft.old) (map (λ f. f.now) fields.now)) }
 {
     match fields {
@@ -178,11 +173,7 @@ fn set_drift_pairs(
 }
 
 /// `drift NAME NAME PART NAME PART ..`, behind its keyword
-pub fn take_drift(
-    alloc: Global,
-    draft: &mut Draft,
-    fields: &[&[u8]],
-) -> Result<(), LineStop>
+pub fn take_drift(alloc: Global, draft: &mut Draft, fields: &[&[u8]]) -> Result<(), LineStop>
     ensures { TakesLine draft.new result (drift_line (state_of draft.old) (map (λ f. f.now) fields.now)) }
 {
     match fields {
@@ -220,11 +211,7 @@ fn set_overlook(draft: &mut Draft, cell: Option<u8>, part: u32) -> Result<(), Li
     Ok(())
 }
 
-fn set_overlook_part(
-    draft: &mut Draft,
-    cell: Option<u8>,
-    part: Number,
-) -> Result<(), LineStop>
+fn set_overlook_part(draft: &mut Draft, cell: Option<u8>, part: Number) -> Result<(), LineStop>
     requires cell { IfSome cell (λ c. c < vec_len draft.old.cells) }
     requires within { number_in_lem part ≤ 1000000 }
     ensures { TakesLine draft.new result (overlook_part (state_of draft.old) cell part) }

@@ -14,15 +14,12 @@ use exact_parts::Number;
 use search_model::Name;
 use std::alloc::Global;
 
-
 /// `scenario 1`
 pub fn take_version(draft: &mut Draft, fields: &[&[u8]]) -> Result<(), LineStop>
     ensures { TakesLine draft.new result (version_line (state_of draft.old) (map (λ f. f.now) fields.now)) }
 {
     match fields {
-        [word, version]
-            if *word == b"scenario".as_slice() && *version == b"1".as_slice() =>
-        {
+        [word, version] if *word == b"scenario".as_slice() && *version == b"1".as_slice() => {
             draft.stage = Stage::Horizon;
             Ok(())
         }

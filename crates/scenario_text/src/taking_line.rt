@@ -36,11 +36,7 @@ fn says_nothing(fields: &[&[u8]]) -> bool
 }
 
 /// `cell NAME` or `start NAME`
-fn take_cells(
-    alloc: Global,
-    draft: &mut Draft,
-    fields: &[&[u8]],
-) -> Result<(), LineStop>
+fn take_cells(alloc: Global, draft: &mut Draft, fields: &[&[u8]]) -> Result<(), LineStop>
     requires due { draft.old.stage ≡ Stage.Cells }
     requires some { All (λ f. 1 ≤ length f.now) fields.now }
     ensures { TakesLine draft.new result (cells_line (state_of draft.old) (map (λ f. f.now) fields.now)) }
@@ -55,11 +51,7 @@ fn take_cells(
 }
 
 /// A row of a cell, or `end`
-fn take_row(
-    alloc: Global,
-    draft: &mut Draft,
-    fields: &[&[u8]],
-) -> Result<(), LineStop>
+fn take_row(alloc: Global, draft: &mut Draft, fields: &[&[u8]]) -> Result<(), LineStop>
     requires { draft.old.stage ≡ Stage.Rows }
     ensures { TakesLine draft.new result (row_line (state_of draft.old) (map (λ f. f.now) fields.now)) }
 {
@@ -72,11 +64,7 @@ fn take_row(
     }
 }
 
-fn take_fields(
-    alloc: Global,
-    draft: &mut Draft,
-    fields: &[&[u8]],
-) -> Result<(), LineStop>
+fn take_fields(alloc: Global, draft: &mut Draft, fields: &[&[u8]]) -> Result<(), LineStop>
     requires { All (λ f. 1 ≤ length f.now) fields.now }
     ensures { TakesLine draft.new result (stage_line draft.old.stage (state_of draft.old) (map (λ f. f.now) fields.now)) }
 {

@@ -3,23 +3,32 @@ use search_model::Scenario;
 use std::alloc::Global;
 use std::test::Fail;
 
-const ONE_CELL: &[u8] = b"scenario 1\nhorizon 1\nparts 1 1 2\ncell a\nstart a\nfirst a 1\nmoves a a\ndrift a a 1\noverlook a 1\nend\n";
+const ONE_CELL: &[u8] =
+    b"scenario 1\nhorizon 1\nparts 1 1 2\ncell a\nstart a\nfirst a 1\nmoves a a\ndrift a a 1\noverlook a 1\nend\n";
 
-const TWO_CELLS: &[u8] = b"scenario 1\nhorizon 2\nparts 2 2 2\ncell a\ncell b\nstart a\nfirst a 1 b 1\nmoves a a b\nmoves b a b\ndrift a a 1 b 1\ndrift b a 1 b 1\noverlook a 0\noverlook b 0\nend\n";
+const TWO_CELLS: &[u8] =
+    b"scenario 1\nhorizon 2\nparts 2 2 2\ncell a\ncell b\nstart a\nfirst a 1 b 1\nmoves a a b\nmoves b a b\ndrift a a 1 b 1\ndrift b a 1 b 1\noverlook a 0\noverlook b 0\nend\n";
 
-const WAITING: &[u8] = b"scenario 1\nhorizon 2\nparts 1 1 2\ncell a\ncell b\ncell c\nstart b\nfirst c 1\nmoves a a b\nmoves b a b c\nmoves c b c\ndrift a a 1\ndrift b b 1\ndrift c c 1\noverlook a 1\noverlook b 1\noverlook c 1\nend\n";
+const WAITING: &[u8] =
+    b"scenario 1\nhorizon 2\nparts 1 1 2\ncell a\ncell b\ncell c\nstart b\nfirst c 1\nmoves a a b\nmoves b a b c\nmoves c b c\ndrift a a 1\ndrift b b 1\ndrift c c 1\noverlook a 1\noverlook b 1\noverlook c 1\nend\n";
 
-const WAITING_LONGER: &[u8] = b"scenario 1\nhorizon 3\nparts 1 1 2\ncell a\ncell b\ncell c\nstart b\nfirst c 1\nmoves a a b\nmoves b a b c\nmoves c b c\ndrift a a 1\ndrift b b 1\ndrift c c 1\noverlook a 1\noverlook b 1\noverlook c 1\nend\n";
+const WAITING_LONGER: &[u8] =
+    b"scenario 1\nhorizon 3\nparts 1 1 2\ncell a\ncell b\ncell c\nstart b\nfirst c 1\nmoves a a b\nmoves b a b c\nmoves c b c\ndrift a a 1\ndrift b b 1\ndrift c c 1\noverlook a 1\noverlook b 1\noverlook c 1\nend\n";
 
-const RATE_FOR_ALL: &[u8] = b"scenario 1\nhorizon 2\nparts 1 1 2\ncell a\ncell b\ncell c\nstart b\nfirst c 1\nmoves a a b\nmoves b a b c\nmoves c b c\ndrift a a 1\ndrift b b 1\ndrift c c 1\nrate 1\nend\n";
+const RATE_FOR_ALL: &[u8] =
+    b"scenario 1\nhorizon 2\nparts 1 1 2\ncell a\ncell b\ncell c\nstart b\nfirst c 1\nmoves a a b\nmoves b a b c\nmoves c b c\ndrift a a 1\ndrift b b 1\ndrift c c 1\nrate 1\nend\n";
 
-const COMMENT: &[u8] = b"# one cell\nscenario 1\nhorizon 1\nparts 1 1 2\ncell a\nstart a\nfirst a 1\nmoves a a\ndrift a a 1\noverlook a 1\nend\n";
+const COMMENT: &[u8] =
+    b"# one cell\nscenario 1\nhorizon 1\nparts 1 1 2\ncell a\nstart a\nfirst a 1\nmoves a a\ndrift a a 1\noverlook a 1\nend\n";
 
-const TWO_BLANKS: &[u8] = b"scenario 1\nhorizon  1\nparts 1 1 2\ncell a\nstart a\nfirst a 1\nmoves a a\ndrift a a 1\noverlook a 1\nend\n";
+const TWO_BLANKS: &[u8] =
+    b"scenario 1\nhorizon  1\nparts 1 1 2\ncell a\nstart a\nfirst a 1\nmoves a a\ndrift a a 1\noverlook a 1\nend\n";
 
-const LINE_FEED_MORE: &[u8] = b"scenario 1\nhorizon 1\nparts 1 1 2\ncell a\nstart a\nfirst a 1\nmoves a a\ndrift a a 1\noverlook a 1\nend\n\n";
+const LINE_FEED_MORE: &[u8] =
+    b"scenario 1\nhorizon 1\nparts 1 1 2\ncell a\nstart a\nfirst a 1\nmoves a a\ndrift a a 1\noverlook a 1\nend\n\n";
 
-const NO_LAST_LINE_FEED: &[u8] = b"scenario 1\nhorizon 1\nparts 1 1 2\ncell a\nstart a\nfirst a 1\nmoves a a\ndrift a a 1\noverlook a 1\nend";
+const NO_LAST_LINE_FEED: &[u8] =
+    b"scenario 1\nhorizon 1\nparts 1 1 2\ncell a\nstart a\nfirst a 1\nmoves a a\ndrift a a 1\noverlook a 1\nend";
 
 fn read(alloc: Global, text: &[u8]) -> Result<Scenario, Fail> {
     match read_canonical(alloc, text) {

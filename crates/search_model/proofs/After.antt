@@ -4,7 +4,6 @@ use Rattle.std.specs.List.{range_with_len}
 use Rattle.std.proofs.lemmas.Nat.{mul-le}
 use Rattle.std.proofs.Math.Nat.{pow-zero, pow-suc, le_refl, mul-le-mul_left}
 use Rattle.drift_chain.specs.DriftRows.{row_of, part_of}
-use Rattle.sweep_table.specs.LookParts.{factor_of}
 use Rattle.search_model.specs.Problem.{Problem, first_of, IsProblem}
 use Rattle.search_model.specs.Tracks.{tracks, steps_product, weight_of, miss_from, missed_weight, whole_weight}
 use Rattle.search_model.specs.Following.{look_factor, after_of}

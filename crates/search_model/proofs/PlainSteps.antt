@@ -1,20 +1,18 @@
 -- The steps of the plain recursion over the tracks.
-use Rattle.std.proofs.Common.{ℕ, suc, zero, ◌+◌, ◌*◌, ◌-◌, ◌^◌, ◌<◌, ◌≤◌, ◌≡◌, List, [], ◌∷◌, length, get_or, drop, take, refl, sym, ap, ◌∙◌, subst, arith, sum_by, All, add-one}
+use Rattle.std.proofs.Common.{ℕ, suc, ◌+◌, ◌*◌, ◌-◌, ◌^◌, ◌<◌, ◌≤◌, ◌≡◌, List, [], ◌∷◌, length, get_or, drop, take, sym, arith, sum_by, All}
 use Rattle.std.specs.List.{range_with_len}
 use Rattle.std.proofs.lemmas.Nat.{mul-le}
 use Rattle.std.proofs.Math.Nat.{pow-suc}
-use Rattle.std.proofs.Math.Seq.{take-length}
 use Rattle.std.proofs.lemmas.List.Sums.{sum_by_more}
 use Rattle.std.proofs.lemmas.List.Elements.{All-nil, All-cons, All-tail}
 use Rattle.drift_chain.specs.declared.part.DriftPart.{DriftPart}
 use Rattle.drift_chain.specs.DriftRows.{row_of}
 use Rattle.search_model.specs.Problem.{Problem, first_of, IsProblem}
 use Rattle.search_model.specs.Legal.{Follows}
-use Rattle.search_model.specs.Tracks.{missed_weight}
 use Rattle.search_model.specs.Following.{look_factor, after_of}
 use Rattle.search_model.proofs.Sums.{sum_by-range_more}
 use Rattle.search_model.proofs.LegalLemmas.{move_within}
-use Rattle.search_model.proofs.After.{after_of-zero, after_of-by_row, after_of-le, look_factor-le, missed_weight-by_first}
+use Rattle.search_model.proofs.After.{after_of-zero, after_of-by_row, after_of-le, look_factor-le}
 use Rattle.search_model.proofs.Totals.{powers_fit, after_entries-fit, missed_cells-fit}
 
 -- what an entry of a row adds

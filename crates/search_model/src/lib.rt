@@ -11,7 +11,9 @@ mod standing;
 #[cfg(test)]
 mod tests;
 
-pub use laws::{nothing_is_cut_off, one_best, walks_follow, weights_sum, worked_bounds, worked_values};
+pub use laws::{
+    nothing_is_cut_off, one_best, walks_follow, weights_sum, worked_bounds, worked_values,
+};
 pub use name::Name;
 pub use path::Path;
 pub use plain_value::value;

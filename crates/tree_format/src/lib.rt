@@ -4,6 +4,8 @@
 mod head;
 mod printing;
 mod records;
+#[cfg(test)]
+mod tests;
 mod writing;
 
 pub use printing::print_plan;

@@ -18,6 +18,6 @@ returns-clause-leads c =
     let found = c.args.found.now in
     elim c.if-better.branch [
       | then-better w ↦ rw (w.found-is, c.in_ok-push.ensures.items, c.value.ensures)
-        (leads_instead p found.nodes.items found.best c.args.path.now c.requires.leads c.requires.path (rw c.value.ensures at (sym c.better.ensures ∙ w.if-better.true)))
+          (leads_instead p found.nodes.items found.best c.args.path.now c.requires.leads c.requires.path (rw c.value.ensures at (sym c.better.ensures ∙ w.if-better.true)))
       | else-better w ↦ rw (w.found-is, c.in_ok-push.ensures.items) (leads_on p found.nodes.items found.best _ c.requires.leads (sym c.better.ensures ∙ w.if-better.false))
     ]

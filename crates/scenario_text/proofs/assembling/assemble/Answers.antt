@@ -1,10 +1,9 @@
-use Rattle.std.proofs.Common.{◌≡◌, map, Ok, ap, sym, ◌∙◌, List, ℕ, length, replicate, Vec, Global, inl}
+use Rattle.std.proofs.Common.{◌≡◌, map, ap, ◌∙◌, List, Vec, Global, inl}
 use Rattle.search_grid.specs.Moves.{IsGrid}
-use Rattle.drift_chain.specs.DriftRows.{DriftRows, IsDrift, drift_over}
+use Rattle.drift_chain.specs.DriftRows.{IsDrift, drift_over}
 use Rattle.drift_chain.specs.declared.part.DriftPart.{DriftPart}
-use Rattle.sweep_table.specs.LookParts.{LookParts, IsSweep, parts_over}
-use Rattle.search_model.specs.Problem.{Problem, IsProblem}
-use Rattle.scenario_text.specs.Assembled.{placed}
+use Rattle.sweep_table.specs.LookParts.{IsSweep, parts_over}
+use Rattle.search_model.specs.Problem.{IsProblem}
 use Rattle.scenario_text.proofs.Said.{said, kept_as, same_problem}
 use Rattle.scenario_text.proofs.assembling.assemble.Goals as goal
 

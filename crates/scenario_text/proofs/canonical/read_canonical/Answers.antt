@@ -1,4 +1,4 @@
-use Rattle.std.proofs.Common.{◌≡◌, ◌≢◌, ◌∙◌, ℕ, List, Result, Ok, Err, ap, sym, inl, inr, Bool, false, true, arith}
+use Rattle.std.proofs.Common.{◌≡◌, ◌∙◌, ℕ, List, Result, Ok, Err, ap, sym, inl, inr, Bool, false, arith}
 use Rattle.std.specs.Prelude.{IsTrue}
 use Rattle.scenario_text.specs.declared.stop.CanonicalStop.{CanonicalStop}
 use Rattle.std.proofs.lemmas.Grind.{common_steps}
@@ -20,8 +20,8 @@ returns-in_err-scenario-clause-exact c = λ p h e.
     elim (c.read_scenario.ensures p h (lines_say c.args.text.now p h e)) [
       | inl ok ↦ absurd (let bad : ⊥ = cc (c.in_err-scenario.was) in bad)
       | inr out ↦
-        let was : c.read_scenario.result ≡ Err c.in_err-scenario.field-0.0 = c.in_err-scenario.was in
-        inr (grind (arith, common_steps, was, out, c.from_residual.ensures.0, c.from_residual.ensures.1))
+          let was : c.read_scenario.result ≡ Err c.in_err-scenario.field-0.0 = c.in_err-scenario.was in
+          inr (grind (arith, common_steps, was, out, c.from_residual.ensures.0, c.from_residual.ensures.1))
     ]
 
 pub returns-in_err-is_text_of-clause-exact : goal.returns-in_err-is_text_of-clause-exact
@@ -55,6 +55,6 @@ returns-in_err-scenario-clause-not_canonical c = λ stop p h e.
     elim (c.read_scenario.ensures p h (lines_say c.args.text.now p h e)) [
       | inl ok ↦ absurd (let bad : ⊥ = cc (c.in_err-scenario.was) in bad)
       | inr out ↦
-        let was : c.read_scenario.result ≡ Err c.in_err-scenario.field-0.0 = c.in_err-scenario.was in
-        grind (arith, common_steps, was, out, stop, c.from_residual.ensures.0, c.from_residual.ensures.1)
+          let was : c.read_scenario.result ≡ Err c.in_err-scenario.field-0.0 = c.in_err-scenario.was in
+          grind (arith, common_steps, was, out, stop, c.from_residual.ensures.0, c.from_residual.ensures.1)
     ]

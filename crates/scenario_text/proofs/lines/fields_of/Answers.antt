@@ -1,6 +1,5 @@
-use Rattle.std.proofs.Common.{◌≡◌, map, sym}
+use Rattle.std.proofs.Common.{sym}
 use Rattle.std.proofs.lemmas.Bool.{eqb-true}
-use Rattle.scenario_text.specs.Lines.{fields_of}
 use Rattle.scenario_text.proofs.Words.{fields_done, mapped_some}
 use Rattle.scenario_text.proofs.lines.fields_of.Goals as goal
 

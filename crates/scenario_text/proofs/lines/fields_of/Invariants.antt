@@ -1,4 +1,4 @@
-use Rattle.std.proofs.Common.{◌≡◌, ℕ, ◌<◌, get_or, true, map, ◌++◌, [], length}
+use Rattle.std.proofs.Common.{◌≡◌, true, map, ◌++◌, [], length}
 use Rattle.scenario_text.specs.Lines.{ends_field, fields_of}
 use Rattle.scenario_text.proofs.lines.fields_of.Given as goal
 

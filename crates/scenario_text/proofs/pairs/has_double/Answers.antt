@@ -1,6 +1,5 @@
-use Rattle.std.proofs.Common.{rules, arith, ◌≡◌, ◌≤◌, map, length, ℕ, ◌+◌, ◌-◌, ◌*◌, ◌<◌, Bool, true, false, nat_eq, nat_lt, List, [], ◌∷◌, ◌++◌, get_or, take, drop, Bor}
+use Rattle.std.proofs.Common.{arith}
 use Rattle.std.proofs.lemmas.Grind.{common_steps}
-use Rattle.scenario_text.specs.Reading.{has_double, stands_in}
 use Rattle.scenario_text.proofs.PairSteps.{double_at}
 use Rattle.scenario_text.proofs.pairs.has_double.Goals as goal
 

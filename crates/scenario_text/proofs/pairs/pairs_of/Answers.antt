@@ -1,10 +1,9 @@
-use Rattle.std.proofs.Common.{rules, arith, ◌≡◌, ◌≤◌, map, length, ℕ, ◌+◌, ◌-◌, ◌*◌, ◌<◌, Bool, true, false, nat_eq, nat_lt, List, [], ◌∷◌, ◌++◌, get_or, take, drop, Bor, sym, ◌∙◌, ap, subst}
+use Rattle.std.proofs.Common.{arith, ◌≡◌, ◌≤◌, map, length, ℕ, ◌<◌, List, [], ◌++◌, Bor, sym, ◌∙◌, ap, subst}
 use Rattle.std.proofs.lemmas.List.{append-nil, length-map}
-use Rattle.std.proofs.lemmas.Grind.{common_steps}
 use Rattle.std.specs.Prelude.{All}
 use Rattle.scenario_text.specs.declared.pair.Pair.{Pair}
 use Rattle.scenario_text.specs.State.{CellState, cell_state}
-use Rattle.scenario_text.specs.Reading.{pairs_of, cell_named, number_at, number_in}
+use Rattle.scenario_text.specs.Reading.{pairs_of, number_in}
 use Rattle.scenario_text.proofs.PairSteps.{pair_at, one_more, no_pair, pairs_within}
 use Rattle.scenario_text.proofs.pairs.pairs_of.Goals as goal
 

@@ -1,4 +1,4 @@
-use Rattle.std.proofs.Common.{◌≡◌, ◌+◌, ◌*◌, ◌≤◌, None, arith}
+use Rattle.std.proofs.Common.{None, arith}
 use Rattle.exact_parts.specs.declared.number.Number.TheVariants.{NotPlain}
 use Rattle.scenario_text.specs.declared.pair.Pair.{Pair}
 use Rattle.scenario_text.proofs.PairSteps.{total_at}

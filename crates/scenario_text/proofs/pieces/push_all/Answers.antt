@@ -1,4 +1,4 @@
-use Rattle.std.proofs.Common.{◌≡◌, ◌∙◌, arith, rules}
+use Rattle.std.proofs.Common.{◌≡◌, ◌∙◌, rules}
 use Rattle.scenario_text.proofs.Appending.{on_err, front_before}
 use Rattle.scenario_text.proofs.pieces.push_all.Goals as goal
 

@@ -7,7 +7,7 @@ use Rattle.scenario_text.proofs.printing.print_cells.Goals as goal
 pub returns-in_err-push_cell-clause-no_memory : goal.returns-in_err-push_cell-clause-no_memory
 returns-in_err-push_cell-clause-no_memory c =
     on_err _ _ (front_of_same _ _ _ _ (cell_lines c.args.sc.now c.cells-c-end.ensures.sound)
-      (front_in_range (cell_text c.args.sc.now) _ _ _ _ _ (omega arith) c.loop-c.invariant c.in_err-push_cell.ensures.no_memory))
+    (front_in_range (cell_text c.args.sc.now) _ _ _ _ _ (omega arith) c.loop-c.invariant c.in_err-push_cell.ensures.no_memory))
 
 pub loop-c-preserved : goal.loop-c-preserved
 loop-c-preserved c = one_in_range (cell_text c.args.sc.now) _ _ _ _ c.loop-c.invariant c.in_ok-push_cell.ensures.ok

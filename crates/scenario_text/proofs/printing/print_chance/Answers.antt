@@ -1,4 +1,4 @@
-use Rattle.std.proofs.Common.{◌≡◌, ◌++◌, [], ◌∷◌, rules}
+use Rattle.std.proofs.Common.{◌≡◌, ◌++◌, ◌∷◌, rules}
 use Rattle.std.specs.Prelude.{codes}
 use Rattle.std.specs.List.{flat_map, range_with_len}
 use Rattle.std.proofs.lemmas.Result.{on_ok_weaker, on_err_weaker}

@@ -1,4 +1,4 @@
-use Rattle.std.proofs.Common.{rules, arith}
+use Rattle.std.proofs.Common.{arith}
 use Rattle.scenario_text.specs.Printing.{name_text}
 use Rattle.scenario_text.proofs.Appending.{on_err, front_at}
 use Rattle.scenario_text.proofs.printing.push_names.Goals as goal

@@ -1,5 +1,5 @@
 use Rattle.std.proofs.Common.{sym, ◌∙◌, rules}
-use Rattle.scenario_text.specs.State.{state_of, blank_state}
+use Rattle.scenario_text.specs.State.{state_of}
 use Rattle.scenario_text.proofs.Loop.{at_stop, at_last}
 use Rattle.scenario_text.proofs.reading.read_lines.Goals as goal
 

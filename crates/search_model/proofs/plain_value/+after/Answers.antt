@@ -1,9 +1,6 @@
-use Rattle.std.proofs.Common.{ℕ, suc, ◌≡◌, ◌+◌, ◌*◌, ◌-◌, ◌<◌, ◌≤◌, length, drop, take, sum_by, ap, sym, subst, ◌∙◌, arith, All, add-one}
+use Rattle.std.proofs.Common.{◌≡◌, ◌+◌, ◌-◌, ◌<◌, sum_by, ap, ◌∙◌, arith, All}
 use Rattle.std.proofs.lemmas.List.{take_all}
-use Rattle.std.proofs.lemmas.List.Sums.{sum_by_more}
-use Rattle.drift_chain.specs.declared.part.DriftPart.{DriftPart}
-use Rattle.drift_chain.specs.DriftRows.{row_of, IsDriftRow}
-use Rattle.search_model.specs.Following.{look_factor, after_of}
+use Rattle.drift_chain.specs.DriftRows.{row_of}
 use Rattle.search_model.proofs.PlainSteps.{entry_term, after_of-end, next_fits, entry_fits, entries_done, later_positions, row_within}
 use Rattle.search_model.proofs.plain_value.+after.Goals as goal
 

@@ -1,8 +1,5 @@
-use Rattle.std.proofs.Common.{ℕ, ◌≡◌, ◌+◌, ◌*◌, ◌-◌, ◌<◌, ◌≤◌, drop, sum_by, ap, sym, refl, ◌∙◌, arith}
+use Rattle.std.proofs.Common.{ℕ, ◌≡◌, ◌+◌, ◌*◌, sum_by, ap, sym, refl, ◌∙◌, arith}
 use Rattle.std.specs.List.{range_with_len}
-use Rattle.search_model.specs.Problem.{first_of}
-use Rattle.search_model.specs.Tracks.{missed_weight}
-use Rattle.search_model.specs.Following.{look_factor, after_of}
 use Rattle.search_model.proofs.Sums.{sum_by-range_more}
 use Rattle.search_model.proofs.After.{missed_weight-by_first}
 use Rattle.search_model.proofs.PlainSteps.{first_term, first_fits}

@@ -1,4 +1,4 @@
-use Rattle.std.proofs.Common.{ℕ, ◌≡◌, ◌<◌, ◌≤◌, length, arith}
+use Rattle.std.proofs.Common.{arith}
 use Rattle.search_model.proofs.PlainSteps.{positions_follow}
 use Rattle.search_model.proofs.Totals.{nothing_is_cut_off}
 use Rattle.search_model.proofs.plain_value.value.Goals as goal
