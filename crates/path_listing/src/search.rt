@@ -11,14 +11,15 @@ use bound_tree::{BoundTree, Kind, Plan, TreeNode};
 use search_model::{Path, Scenario, Standing, better, value};
 use std::alloc::{AllocFailed, Global};
 
-/// The most records of a plan.
+/// The most records of a plan, one for each legal prefix.
 pub const MOST_NODES: usize = 1_048_576;
 
 /// Why a search gave no plan.
 #[derive(Clone, Copy, Debug, PartialEq, Eq)]
 pub enum SearchStop {
+    /// No memory was found.
     NoMemory,
-    /// There are more records than the limit.
+    /// There are more legal prefixes than `MOST_NODES`.
     Full,
 }
 
