@@ -1,6 +1,6 @@
 -- What grows from the empty prefix is the full tree.
-use Rattle.std.proofs.Common.{ℕ, ◌+◌, ◌-◌, ◌<◌, ◌≤◌, ◌≡◌, ◌↔◌, ◌∙◌, List, [], length, true, map, sym, subst, arith, Contains}
-use Rattle.search_model.specs.Problem.{Problem, IsProblem}
+use Rattle.std.proofs.Common.{ℕ, ◌-◌, ◌≡◌, ◌∙◌, List, [], length, true, sym, subst, arith, Contains}
+use Rattle.search_model.specs.Problem.{Problem}
 use Rattle.search_model.specs.Legal.{IsLegal}
 use Rattle.search_model.specs.Order.{smaller}
 use Rattle.search_model.proofs.Members.{Contains-map, Contains-map_cases}

@@ -5,3 +5,4 @@ pub mod Subtrees
 pub mod FullTrees
 pub mod Unique
 pub mod Leading
+pub mod Eaten

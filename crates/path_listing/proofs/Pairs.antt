@@ -1,5 +1,5 @@
 -- What holds of each element of a list and each later one.
-use Rattle.std.proofs.Common.{ℕ, zero, suc, List, [], ◌∷◌, ◌++◌, map, arith, All, AllPairs}
+use Rattle.std.proofs.Common.{zero, suc, List, [], ◌∷◌, ◌++◌, map, arith, All, AllPairs}
 use Rattle.std.proofs.lemmas.List.Elements.{All-append, All-head, All-tail, All-map}
 
 pub AllPairs-nil : {X : Type 0} (R : X → X → Type 0) → AllPairs R []

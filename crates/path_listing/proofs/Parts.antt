@@ -1,5 +1,5 @@
 -- Lists that are joined from parts.
-use Rattle.std.proofs.Common.{◌≡◌, List, [], ◌∷◌, ◌++◌, refl, All, AllPairs, Contains, flat_map}
+use Rattle.std.proofs.Common.{◌≡◌, List, [], ◌∷◌, refl, All, AllPairs, Contains, flat_map}
 use Rattle.std.proofs.lemmas.List.Elements.{All-nil, All-append, All-head, All-tail, All-weaker, All-contains, All-contains_itself}
 use Rattle.path_listing.proofs.Pairs.{AllPairs-nil, AllPairs-head, AllPairs-tail, AllPairs-append}
 

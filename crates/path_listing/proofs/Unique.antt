@@ -1,5 +1,5 @@
 -- Ascending lists with the same elements are the same.
-use Rattle.std.proofs.Common.{ℕ, ◌≡◌, ◌∙◌, ◌↔◌, true, List, [], ◌∷◌, map, inl, inr, refl, sym, ap, subst, All, AllPairs, Contains}
+use Rattle.std.proofs.Common.{ℕ, ◌≡◌, ◌∙◌, true, List, [], ◌∷◌, map, inl, inr, refl, sym, ap, subst, All, AllPairs, Contains}
 use Rattle.std.proofs.lemmas.Bool.{true≢false}
 use Rattle.std.proofs.lemmas.List.Elements.{All-head, All-tail, All-contains}
 use Rattle.search_model.specs.Problem.{Problem}
@@ -7,7 +7,7 @@ use Rattle.search_model.specs.Order.{smaller}
 use Rattle.search_model.proofs.Members.{Contains-nil, Contains-head, Contains-tail, Contains-cons_cases}
 use Rattle.search_model.proofs.Orders.{smaller_irreflexive, smaller_one_way}
 use Rattle.bound_tree.specs.declared.node.TreeNode.{TreeNode}
-use Rattle.bound_tree.specs.FullTree.{full_kind, prefixes_of, IsFullTree}
+use Rattle.bound_tree.specs.FullTree.{full_kind, prefixes_of}
 use Rattle.path_listing.specs.Laws.{OneFullTree}
 use Rattle.path_listing.proofs.Pairs.{AllPairs-head, AllPairs-tail}
 use Rattle.path_listing.proofs.Subtrees.{node_of}

@@ -4,7 +4,7 @@ use Rattle.std.specs.Fmt.{decimal}
 use Rattle.plan_command.specs.declared.status.Status.{Status}
 use Rattle.plan_command.specs.declared.status.Status.TheVariants as statuses
 use Rattle.plan_command.specs.declared.status.Stop.{Stop}
-use Rattle.plan_command.specs.declared.status.Stop.TheVariants.{Usage, BadScenario, ReadFault, WriteFault, NoMemory, TooManyNodes, TooLong}
+use Rattle.plan_command.specs.declared.status.Stop.TheVariants.{Usage, BadScenario, BadPlan, ReadFault, WriteFault, NoMemory, TooManyNodes, TooLong}
 
 -- the numbers of the statuses
 abbrev pub code_of : Status → ℕ
@@ -22,6 +22,7 @@ code_of statuses.TooLong = 9
 abbrev pub status_of : Stop → Status
 status_of Usage = statuses.Usage
 status_of BadScenario = statuses.BadScenario
+status_of BadPlan = statuses.BadPlan
 status_of ReadFault = statuses.ReadFault
 status_of WriteFault = statuses.WriteFault
 status_of NoMemory = statuses.NoMemory
@@ -31,6 +32,7 @@ status_of TooLong = statuses.TooLong
 unfoldable pub line_of : Stop → List ℕ
 line_of Usage = codes "usage: osp plan [--workers N] [--nodes N] / check / report [--json yes] / make NUMBER / drill NUMBER [--workers N]\n"
 line_of BadScenario = codes "bad scenario\n"
+line_of BadPlan = codes "bad plan\n"
 line_of ReadFault = codes "read fault\n"
 line_of WriteFault = codes "write fault\n"
 line_of NoMemory = codes "no memory\n"

@@ -54,6 +54,10 @@ pub record Refused (request : Request) (before after : Shown) (stop : Stop) : Ty
   pub refuses : Refuses request input stop
   pub unwritten : after.wrote ≡ before.wrote
 
+-- Words of a request that refuses its input so.
+abbrev pub IsRefusal : List (List ℕ) → Shown → Shown → Stop → Type 0
+IsRefusal words before after stop = (request : Request) × Spells words request × Refused request before after stop
+
 -- What a stop says of a request that was read from the words.
 abbrev pub Stopped : Request → Shown → Shown → Stop → Type 0
 Stopped request before after stops.ReadFault = Rose before.read_faults after.read_faults × (after.wrote ≡ before.wrote)

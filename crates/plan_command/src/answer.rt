@@ -1,12 +1,13 @@
 ghost use Rattle.std.specs.Prelude.{◌≡◌};
 ghost use Rattle.plan_command.specs.Makes.{MakesOf};
 
+use crate::checking::answer_check;
 use crate::request::Request;
 use crate::status::{Status, Stop};
 use exact_parts::NoMemory;
 use path_listing::{SearchStop, search_all};
 use scenario_text::{CanonicalStop, read_canonical};
-use std::alloc::Global;
+use std::alloc::{AllocError, Global};
 use tree_format::print_plan;
 
 /// A text for `out`, and the status once it is written.
@@ -22,6 +23,16 @@ impl From<NoMemory> for Stop {
     ghost from_gives = { λ _ e. e ≡ stops.NoMemory };
 
     fn from(_refused: NoMemory) -> Stop {
+        Stop::NoMemory
+    }
+}
+
+impl From<AllocError> for Stop {
+    ghost use Rattle.plan_command.specs.declared.status.Stop.TheVariants as stops;
+
+    ghost from_gives = { λ _ e. e ≡ stops.NoMemory };
+
+    fn from(_refused: AllocError) -> Stop {
         Stop::NoMemory
     }
 }
@@ -54,5 +65,6 @@ pub fn answer_for(alloc: Global, request: Request, input: &[u8]) -> Result<Answe
 {
     match request {
         Request::Plan => answer_plan(alloc, input),
+        Request::Check => answer_check(alloc, input),
     }
 }

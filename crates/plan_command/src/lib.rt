@@ -2,9 +2,11 @@
 #![tactic(auto)]
 
 mod answer;
+mod checking;
 mod gate;
 mod line;
 mod request;
+mod spaces;
 mod status;
 #[cfg(test)]
 mod tests;

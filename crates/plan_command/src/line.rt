@@ -32,6 +32,7 @@ fn put_line(stop: Stop, to: &mut [u8; ROOM]) -> usize
             b"usage: osp plan [--workers N] [--nodes N] / check / report [--json yes] / make NUMBER / drill NUMBER [--workers N]\n",
         ),
         Stop::BadScenario => append(to, 0, b"bad scenario\n"),
+        Stop::BadPlan => append(to, 0, b"bad plan\n"),
         Stop::ReadFault => append(to, 0, b"read fault\n"),
         Stop::WriteFault => append(to, 0, b"write fault\n"),
         Stop::NoMemory => append(to, 0, b"no memory\n"),

@@ -3,4 +3,6 @@
 pub enum Request {
     /// `plan`: plan the scenario of the input.
     Plan,
+    /// `check`: check the plan that follows the scenario in the input.
+    Check,
 }

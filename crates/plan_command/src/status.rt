@@ -49,6 +49,7 @@ pub fn status_code(s: Status) -> u8
 pub enum Stop {
     Usage,
     BadScenario,
+    BadPlan,
     ReadFault,
     WriteFault,
     NoMemory,
@@ -68,6 +69,7 @@ impl Stop {
         match self {
             Stop::Usage => Status::Usage,
             Stop::BadScenario => Status::BadScenario,
+            Stop::BadPlan => Status::BadPlan,
             Stop::ReadFault => Status::ReadFault,
             Stop::WriteFault => Status::WriteFault,
             Stop::NoMemory => Status::NoMemory,

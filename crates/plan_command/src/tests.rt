@@ -4,161 +4,242 @@ use super::*;
 use byte_ports::{MemSink, MemSource};
 use std::test::Fail;
 
-const ONE_CELL: &[u8] =
-    b"scenario 1\nhorizon 1\nparts 1 1 2\ncell a\nstart a\nfirst a 1\nmoves a a\ndrift a a 1\noverlook a 1\nend\n";
+const ONE_CELL: &str =
+    "scenario 1\nhorizon 1\nparts 1 1 2\ncell a\nstart a\nfirst a 1\nmoves a a\ndrift a a 1\noverlook a 1\nend\n";
 
-const ONE_CELL_PLAN: &[u8] = b"plan 1\npath a\nchance 1 2\nnodes 2\nB\nW 1 0\nend\n";
+const ONE_CELL_PLAN: &str = "plan 1\npath a\nchance 1 2\nnodes 2\nB\nW 1 0\nend\n";
 
-const TWO_CELLS: &[u8] =
-    b"scenario 1\nhorizon 2\nparts 2 2 2\ncell a\ncell b\nstart a\nfirst a 1 b 1\nmoves a a b\nmoves b a b\ndrift a a 1 b 1\ndrift b a 1 b 1\noverlook a 0\noverlook b 0\nend\n";
+const TWO_CELLS: &str =
+    "scenario 1\nhorizon 2\nparts 2 2 2\ncell a\ncell b\nstart a\nfirst a 1 b 1\nmoves a a b\nmoves b a b\ndrift a a 1 b 1\ndrift b a 1 b 1\noverlook a 0\noverlook b 0\nend\n";
 
-const TWO_CELLS_PLAN: &[u8] =
-    b"plan 1\npath a a\nchance 12 16\nnodes 7\nB\nB 0\nW 12 0 0\nW 12 0 1\nB 1\nW 12 1 0\nW 12 1 1\nend\n";
+const TWO_CELLS_PLAN: &str =
+    "plan 1\npath a a\nchance 12 16\nnodes 7\nB\nB 0\nW 12 0 0\nW 12 0 1\nB 1\nW 12 1 0\nW 12 1 1\nend\n";
 
-const ONE_RATE: &[u8] =
-    b"scenario 1\nhorizon 2\nparts 1 1 2\ncell a\ncell b\ncell c\nstart b\nfirst c 1\nmoves a a b\nmoves b a b c\nmoves c b c\ndrift a a 1\ndrift b b 1\ndrift c c 1\nrate 1\nend\n";
+const MEAN_PLAN: &str =
+    "plan 1\npath a a\nchance 12 16\nnodes 5\nB\nB 0\nW 12 0 0\nW 12 0 1\nM 12 1\nend\n";
 
-const USAGE: &[u8] =
-    b"usage: osp plan [--workers N] [--nodes N] / check / report [--json yes] / make NUMBER / drill NUMBER [--workers N]\n";
+const ONE_RATE: &str =
+    "scenario 1\nhorizon 2\nparts 1 1 2\ncell a\ncell b\ncell c\nstart b\nfirst c 1\nmoves a a b\nmoves b a b c\nmoves c b c\ndrift a a 1\ndrift b b 1\ndrift c c 1\nrate 1\nend\n";
 
-/// Runs these words on this input, 16 bytes a read, and compares the status and what was written.
+const USAGE: &str =
+    "usage: osp plan [--workers N] [--nodes N] / check / report [--json yes] / make NUMBER / drill NUMBER [--workers N]\n";
+
+/// A run: its word, the two parts of its input, and how it is to end.
+#[derive(Drop)]
+struct Row<'a> {
+    word: &'a str,
+    scenario: &'a str,
+    plan: &'a str,
+    status: Status,
+    out: &'a str,
+    err: &'a str,
+}
+
+/// Whether a run, 16 bytes a read and a write, ends so.
 fn ends(
-    rt: &HostRuntime,
-    words: &[&str],
-    input: &[u8],
+    rt: &impl AllocGlobal,
+    row: &Row,
     read_fails: &[u64],
     write_fails: &[u64],
-    status: Status,
-    out: &[u8],
-    err: &[u8],
-) -> Result<(), Fail> {
-    let mut given = Vec::new(rt.alloc());
-    for word in words {
-        given.push(String::from_str(rt.alloc(), word)?)?;
-    }
-    let mut source = MemSource::new(
-        input.to_vec(rt.alloc())?,
-        16,
-        read_fails.to_vec(rt.alloc())?,
-    );
-    let mut written = MemSink::new(rt.alloc(), 16, write_fails.to_vec(rt.alloc())?);
-    let mut said = MemSink::new(rt.alloc(), 16, Vec::new(rt.alloc()));
-    let ended = run(rt, &given, &mut source, &mut written, &mut said, &OpenGate);
-    assert_eq!(rt; ended, status);
-    assert_eq!(rt; written.wrote(), out);
-    assert_eq!(rt; said.wrote(), err);
-    Ok(())
+) -> Result<bool, Fail> {
+    let alloc = rt.alloc();
+    let mut words = Vec::new(alloc);
+    words.push(String::from_str(alloc, row.word)?)?;
+    let mut input = row.scenario.as_bytes().to_vec(alloc)?;
+    input.extend_from_slice(row.plan.as_bytes())?;
+    let mut source = MemSource::new(input, 16, read_fails.to_vec(alloc)?);
+    let mut out = MemSink::new(alloc, 16, write_fails.to_vec(alloc)?);
+    let mut err = MemSink::new(alloc, 16, Vec::new(alloc));
+    let status = run(rt, &words, &mut source, &mut out, &mut err, &OpenGate);
+    Ok(
+        status == row.status
+            && out.wrote() == row.out.as_bytes()
+            && err.wrote() == row.err.as_bytes(),
+    )
 }
 
 #[test]
 fn plans(rt: HostRuntime) -> Result<(), Fail> {
-    ends(
-        &rt,
-        &["plan"],
-        ONE_CELL,
-        &[],
-        &[],
-        Status::Done,
-        ONE_CELL_PLAN,
-        b"",
-    )?;
-    ends(
-        &rt,
-        &["plan"],
-        TWO_CELLS,
-        &[],
-        &[],
-        Status::Done,
-        TWO_CELLS_PLAN,
-        b"",
-    )
-}
-
-#[test]
-fn refusals(rt: HostRuntime) -> Result<(), Fail> {
-    ends(
-        &rt,
-        &["plan"],
-        ONE_RATE,
-        &[],
-        &[],
-        Status::BadScenario,
-        b"",
-        b"bad scenario\n",
-    )?;
-    ends(
-        &rt,
-        &["plan"],
-        b"",
-        &[],
-        &[],
-        Status::BadScenario,
-        b"",
-        b"bad scenario\n",
-    )?;
-    ends(&rt, &["fly"], ONE_CELL, &[], &[], Status::Usage, b"", USAGE)?;
-    ends(&rt, &[], ONE_CELL, &[], &[], Status::Usage, b"", USAGE)
-}
-
-#[test]
-fn faults(rt: HostRuntime) -> Result<(), Fail> {
-    ends(
-        &rt,
-        &["plan"],
-        TWO_CELLS,
-        &[2],
-        &[],
-        Status::ReadFault,
-        b"",
-        b"read fault\n",
-    )?;
-    ends(
-        &rt,
-        &["plan"],
-        TWO_CELLS,
-        &[],
-        &[3],
-        Status::WriteFault,
-        b"plan 1\npath a a\nchance 12 16\nnod",
-        b"write fault\n",
-    )
-}
-
-#[test]
-fn an_input_past_the_limit(rt: HostRuntime) -> Result<(), Fail> {
-    let mut long = Vec::new(rt.alloc());
-    for _ in 0..1_048_577 {
-        long.push(b'\n')?;
+    let rows = [
+        Row {
+            word: "plan",
+            scenario: ONE_CELL,
+            plan: "",
+            status: Status::Done,
+            out: ONE_CELL_PLAN,
+            err: "",
+        },
+        Row {
+            word: "plan",
+            scenario: TWO_CELLS,
+            plan: "",
+            status: Status::Done,
+            out: TWO_CELLS_PLAN,
+            err: "",
+        },
+        Row {
+            word: "plan",
+            scenario: ONE_RATE,
+            plan: "",
+            status: Status::BadScenario,
+            out: "",
+            err: "bad scenario\n",
+        },
+        Row {
+            word: "plan",
+            scenario: "",
+            plan: "",
+            status: Status::BadScenario,
+            out: "",
+            err: "bad scenario\n",
+        },
+        Row {
+            word: "plan",
+            scenario: ONE_CELL,
+            plan: "\n",
+            status: Status::BadScenario,
+            out: "",
+            err: "bad scenario\n",
+        },
+        Row {
+            word: "fly",
+            scenario: ONE_CELL,
+            plan: "",
+            status: Status::Usage,
+            out: "",
+            err: USAGE,
+        },
+    ];
+    for row in &rows {
+        assert!(rt; ends(&rt, row, &[], &[])?);
     }
-    let mut words = Vec::new(rt.alloc());
-    words.push(String::from_str(rt.alloc(), "plan")?)?;
-    let mut source = MemSource::new(long, 65_536, Vec::new(rt.alloc()));
-    let mut out = MemSink::new(rt.alloc(), 16, Vec::new(rt.alloc()));
-    let mut err = MemSink::new(rt.alloc(), 16, Vec::new(rt.alloc()));
-    assert_eq!(rt;
-        run(&rt, &words, &mut source, &mut out, &mut err, &OpenGate),
-        Status::TooLong
-    );
-    assert_eq!(rt; out.wrote(), b"".as_slice());
-    assert_eq!(rt; err.wrote(), b"input too long\n".as_slice());
     Ok(())
 }
 
 #[test]
-fn numbers_of_statuses(rt: HostRuntime) {
-    let all = [
-        Status::Done,
-        Status::Rejected,
-        Status::Usage,
-        Status::BadScenario,
-        Status::BadPlan,
-        Status::ReadFault,
-        Status::WriteFault,
-        Status::NoMemory,
-        Status::TooManyNodes,
-        Status::TooLong,
+fn checks(rt: HostRuntime) -> Result<(), Fail> {
+    let rows = [
+        Row {
+            word: "check",
+            scenario: ONE_CELL,
+            plan: ONE_CELL_PLAN,
+            status: Status::Done,
+            out: "accepted\n",
+            err: "",
+        },
+        Row {
+            word: "check",
+            scenario: TWO_CELLS,
+            plan: TWO_CELLS_PLAN,
+            status: Status::Done,
+            out: "accepted\n",
+            err: "",
+        },
+        Row {
+            word: "check",
+            scenario: ONE_CELL,
+            plan: "plan 1\npath a\nchance 1 2\nnodes 1\nB\nend\n",
+            status: Status::Rejected,
+            out: "rejected 6 MissingChild\n",
+            err: "",
+        },
+        Row {
+            word: "check",
+            scenario: ONE_CELL,
+            plan: "plan 1\npath a\nchance 0 2\nnodes 2\nB\nW 1 0\nend\n",
+            status: Status::Rejected,
+            out: "rejected 3 ValueWrong\n",
+            err: "",
+        },
+        Row {
+            word: "check",
+            scenario: ONE_CELL,
+            plan: "plan 1\npath a\nchance 1 2\nnodes 3\nB\nW 1 0\nW 1 0\nend\n",
+            status: Status::Rejected,
+            out: "rejected 7 NotChild\n",
+            err: "",
+        },
+        Row {
+            word: "check",
+            scenario: TWO_CELLS,
+            plan: MEAN_PLAN,
+            status: Status::BadPlan,
+            out: "",
+            err: "bad plan\n",
+        },
+        Row {
+            word: "check",
+            scenario: ONE_CELL,
+            plan: "",
+            status: Status::BadPlan,
+            out: "",
+            err: "bad plan\n",
+        },
+        Row {
+            word: "check",
+            scenario: ONE_RATE,
+            plan: ONE_CELL_PLAN,
+            status: Status::BadScenario,
+            out: "",
+            err: "bad scenario\n",
+        },
     ];
-    for (i, status) in all.iter().enumerate() {
-        assert_eq!(rt; usize::from(status_code(*status)), i);
+    for row in &rows {
+        assert!(rt; ends(&rt, row, &[], &[])?);
     }
+    Ok(())
+}
+
+#[test]
+fn blanks_between_the_scenario_and_the_plan(rt: HostRuntime) -> Result<(), Fail> {
+    let plan = "\n \t\r\nplan 1\npath a\nchance 1 2\nnodes 2\nB\nW 1 0\nend\n";
+    let row = Row {
+        word: "check",
+        scenario: ONE_CELL,
+        plan,
+        status: Status::Done,
+        out: "accepted\n",
+        err: "",
+    };
+    assert!(rt; ends(&rt, &row, &[], &[])?);
+    Ok(())
+}
+
+#[test]
+fn faults(rt: HostRuntime) -> Result<(), Fail> {
+    let read = Row {
+        word: "plan",
+        scenario: TWO_CELLS,
+        plan: "",
+        status: Status::ReadFault,
+        out: "",
+        err: "read fault\n",
+    };
+    assert!(rt; ends(&rt, &read, &[2], &[])?);
+    let out = "plan 1\npath a a\nchance 12 16\nnod";
+    let write = Row {
+        word: "plan",
+        scenario: TWO_CELLS,
+        plan: "",
+        status: Status::WriteFault,
+        out,
+        err: "write fault\n",
+    };
+    assert!(rt; ends(&rt, &write, &[], &[3])?);
+    Ok(())
+}
+
+#[test]
+fn an_input_past_the_limit(rt: HostRuntime) -> Result<(), Fail> {
+    let alloc = rt.alloc();
+    let mut words = Vec::new(alloc);
+    words.push(String::from_str(alloc, "plan")?)?;
+    let mut source = MemSource::new(vec![in alloc; b'\n'; 1_048_577]?, 65_536, Vec::new(alloc));
+    let mut out = MemSink::new(alloc, 16, Vec::new(alloc));
+    let mut err = MemSink::new(alloc, 16, Vec::new(alloc));
+    let status = run(&rt, &words, &mut source, &mut out, &mut err, &OpenGate);
+    assert_eq!(rt; status, Status::TooLong);
+    assert_eq!(rt; out.wrote(), b"".as_slice());
+    assert_eq!(rt; err.wrote(), b"input too long\n".as_slice());
+    Ok(())
 }

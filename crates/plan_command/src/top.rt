@@ -1,17 +1,24 @@
-ghost use Rattle.std.specs.Prelude.{◌≡◌, ◌+◌, ◌<◌, ◌≤◌, ◌⊎◌, ◌↔◌, ℕ, List, length, map, string_bytes, IsErrOf};
+ghost use Rattle.std.specs.Prelude.{◌≡◌, ◌+◌, ◌<◌, ◌≤◌, ◌⊎◌, ◌↔◌, ◌++◌, ◌∷◌, [], ℕ, List, Some, codes, length, map, string_bytes, IsErrOf};
+ghost use Rattle.std.specs.Fmt.{decimal};
 ghost use Rattle.std.specs.Io.KnownBytes.{Consumes, Appends, IsAtEnd};
 ghost use Rattle.byte_ports.specs.Causes.{Rose};
 ghost use Rattle.byte_ports.specs.Taken.{TakesCount};
 ghost use Rattle.search_model.specs.Problem.{Problem, IsProblem};
+ghost use Rattle.search_model.specs.Order.{IsBest};
 ghost use Rattle.scenario_text.specs.Canonical.{canonical_text};
 ghost use Rattle.bound_tree.specs.declared.plan.Plan.{Plan};
+ghost use Rattle.bound_tree.specs.Accepts.{Accepts};
 ghost use Rattle.tree_format.specs.PlanText.{plan_text};
-ghost use Rattle.path_listing.specs.Plans.{IsFullPlan};
+ghost use Rattle.tree_checker.specs.declared.verdict.RejectAt.{RejectAt};
+ghost use Rattle.tree_checker.specs.Reasons.{first_reason};
+ghost use Rattle.tree_checker.specs.Whys.{name_of};
+ghost use Rattle.path_listing.specs.Plans.{HasMoreNodes};
 ghost use Rattle.plan_command.specs.declared.request.Request.{Request};
+ghost use Rattle.plan_command.specs.declared.status.Stop.{Stop};
 ghost use Rattle.plan_command.specs.Words.{Spells, SpellNone, limit_of};
-ghost use Rattle.plan_command.specs.Lines.{line_of};
-ghost use Rattle.plan_command.specs.Commands.{IsNoScenario, IsTooLarge};
-ghost use Rattle.plan_command.specs.Run.{shown, Ends, Ending, ending_of, status_at, line_at, Says, ReadWhole, CutOff};
+ghost use Rattle.plan_command.specs.Plans.{IsCertified, BeginsWith, IsPlanRest};
+ghost use Rattle.plan_command.specs.Commands.{Refuses};
+ghost use Rattle.plan_command.specs.Run.{shown, Ends, Ending, ending_of, status_at, line_at, Says, CutOff, IsRefusal};
 ghost use Rattle.plan_command.specs.Complete.{IsHeard, IsUndisturbed, IsStopDue, IsDue};
 
 use crate::answer::answer_for;
@@ -69,38 +76,57 @@ pub fn run<R: AllocGlobal, S: Source, K: Sink, E: Sink, G: Gate>(
         × Says (E.wrote err.old) (E.wrote err.new) (E.faults err.old) (E.faults err.new)
         (E.wants err.old) (E.wants err.new) (line_at end) }
 
-    // `plan` at Done: the source was read to its end, its bytes are the canonical text of a scenario, and `out` grew by
-    // the text of a plan with the best path, its exact value and a record for each legal prefix.
+    // `plan` at Done: the source was read to its end, its bytes are the canonical text of a scenario with no more legal
+    // prefixes than the limit, and `out` grew by the text of a plan with the best path, its exact value and the whole
+    // weight, whose records are accepted.
     ensures planned { Spells (map string_bytes words.now) Request.Plan → result ≡ Status.Done →
-        (p : Problem) × IsProblem p × Consumes (S.left source.old) (S.left source.new) (canonical_text p) × IsAtEnd (S.left source.new)
-        × ((plan : Plan) × IsFullPlan p plan × Appends (K.wrote out.old) (K.wrote out.new) (plan_text p plan)) }
+        (p : Problem) × IsProblem p × (HasMoreNodes p 1048576 → ⊥)
+        × Consumes (S.left source.old) (S.left source.new) (canonical_text p) × IsAtEnd (S.left source.new)
+        × ((plan : Plan) × IsCertified p plan × Appends (K.wrote out.old) (K.wrote out.new) (plan_text p plan)) }
+
+    // `check` at Done: the source was read to its end, its bytes are a scenario and a plan that is accepted, and so the
+    // plan's path is the best; `out` grew by `accepted`.
+    ensures accepted { Spells (map string_bytes words.now) Request.Check → result ≡ Status.Done →
+        (input : List ℕ) × Consumes (S.left source.old) (S.left source.new) input × IsAtEnd (S.left source.new)
+        × ((p : Problem) × (rest : List ℕ) × (plan : Plan) × BeginsWith p input rest × IsPlanRest p rest plan
+        × Accepts p plan × IsBest p plan.standing.path) × Appends (K.wrote out.old) (K.wrote out.new) (codes "accepted\n") }
+
+    // Rejected comes only where the input is a scenario and a plan that isn't accepted; `out` grew by the first reason.
+    ensures rejected { result ≡ Status.Rejected →
+        (input : List ℕ) × Consumes (S.left source.old) (S.left source.new) input × IsAtEnd (S.left source.new)
+        × ((p : Problem) × (rest : List ℕ) × (plan : Plan) × (at : RejectAt) × BeginsWith p input rest × IsPlanRest p rest plan
+        × (Accepts p plan → ⊥) × (first_reason p plan ≡ Some at)
+        × Appends (K.wrote out.old) (K.wrote out.new) (codes "rejected " ++ decimal at.line ++ 32 ∷ (name_of at.why ++ 10 ∷ []))) }
 
     // Usage comes exactly where the words spell no request, and nothing is read then.
     ensures usage { (result ≡ Status.Usage) ↔ SpellNone (map string_bytes words.now) }
     ensures nothing_read { result ≡ Status.Usage → (source.new ≡ source.old) × (K.wrote out.new ≡ K.wrote out.old) }
 
-    // BadScenario comes only where the whole input was read and is no scenario's canonical text.
-    ensures bad_scenario { result ≡ Status.BadScenario → (input : List ℕ) × IsNoScenario input
-        × Consumes (S.left source.old) (S.left source.new) input × IsAtEnd (S.left source.new) × (K.wrote out.new ≡ K.wrote out.old) }
+    // BadScenario, BadPlan and TooManyNodes come only where the whole input was read and is refused so.
+    ensures bad_scenario { result ≡ Status.BadScenario → IsRefusal (map string_bytes words.now)
+        (shown S.left S.faults K.wrote K.faults source.old out.old)
+        (shown S.left S.faults K.wrote K.faults source.new out.new) Stop.BadScenario }
+    ensures bad_plan { result ≡ Status.BadPlan → IsRefusal (map string_bytes words.now)
+        (shown S.left S.faults K.wrote K.faults source.old out.old)
+        (shown S.left S.faults K.wrote K.faults source.new out.new) Stop.BadPlan }
+    ensures too_many_nodes { result ≡ Status.TooManyNodes → IsRefusal (map string_bytes words.now)
+        (shown S.left S.faults K.wrote K.faults source.old out.old)
+        (shown S.left S.faults K.wrote K.faults source.new out.new) (Stop.TooManyNodes 1048576) }
 
-    // TooManyNodes comes only where the input is the text of a scenario with more legal prefixes than the limit.
-    ensures too_many_nodes { result ≡ Status.TooManyNodes → (input : List ℕ) × IsTooLarge input 1048576
-        × Consumes (S.left source.old) (S.left source.new) input × IsAtEnd (S.left source.new) × (K.wrote out.new ≡ K.wrote out.old) }
+    // TooLong comes only where one byte more than the request's limit was taken.
+    ensures too_long { result ≡ Status.TooLong → (request : Request) × Spells (map string_bytes words.now) request
+        × TakesCount (S.left source.old) (S.left source.new) (limit_of request + 1) × (K.wrote out.new ≡ K.wrote out.old) }
 
-    // TooLong comes only where one byte more than the limit was taken.
-    ensures too_long { result ≡ Status.TooLong → TakesCount (S.left source.old) (S.left source.new) 1048577 × (K.wrote out.new ≡ K.wrote out.old) }
-
-    // A fault comes only where the count rose in this call.
+    // A fault comes only where the count rose in this call; at a write fault `out` grew by a front of the answer.
     ensures read_fault { result ≡ Status.ReadFault → Rose (S.faults source.old) (S.faults source.new) × (K.wrote out.new ≡ K.wrote out.old) }
     ensures write_fault { result ≡ Status.WriteFault → Rose (K.faults out.old) (K.faults out.new)
-        × CutOff Request.Plan (shown S.left S.faults K.wrote K.faults source.old out.old) (shown S.left S.faults K.wrote K.faults source.new out.new) }
+        × ((request : Request) × Spells (map string_bytes words.now) request × CutOff request
+        (shown S.left S.faults K.wrote K.faults source.old out.old) (shown S.left S.faults K.wrote K.faults source.new out.new)) }
 
     // At NoMemory `out` is unchanged, or grew by a front of the answer.
     ensures no_memory { result ≡ Status.NoMemory → (K.wrote out.new ≡ K.wrote out.old)
-        ⊎ CutOff Request.Plan (shown S.left S.faults K.wrote K.faults source.old out.old) (shown S.left S.faults K.wrote K.faults source.new out.new) }
-
-    // No plan is read yet.
-    ensures no_plan_read { (result ≡ Status.Rejected → ⊥) × (result ≡ Status.BadPlan → ⊥) }
+        ⊎ ((request : Request) × Spells (map string_bytes words.now) request × CutOff request
+        (shown S.left S.faults K.wrote K.faults source.old out.old) (shown S.left S.faults K.wrote K.faults source.new out.new)) }
 
     // An input that the source tells is answered, or refused, as it is due.
     ensures complete { (request : Request) (input : List ℕ) →
@@ -108,11 +134,12 @@ pub fn run<R: AllocGlobal, S: Source, K: Sink, E: Sink, G: Gate>(
         (shown S.left S.faults K.wrote K.faults source.old out.old)
         (shown S.left S.faults K.wrote K.faults source.new out.new) request input
         → length input ≤ limit_of request → IsDue request input result }
-    ensures no_scenario { (input : List ℕ) →
+    // A refusal that is due comes, whatever the sink does.
+    ensures refused { (request : Request) (input : List ℕ) (stop : Stop) →
         IsHeard (map string_bytes words.now)
         (shown S.left S.faults K.wrote K.faults source.old out.old)
-        (shown S.left S.faults K.wrote K.faults source.new out.new) Request.Plan input
-        → length input ≤ 1048576 → IsNoScenario input → IsStopDue Stop.BadScenario result }
+        (shown S.left S.faults K.wrote K.faults source.new out.new) request input
+        → length input ≤ limit_of request → Refuses request input stop → IsStopDue stop result }
     ensures longer { (request : Request) (input : List ℕ) →
         IsHeard (map string_bytes words.now)
         (shown S.left S.faults K.wrote K.faults source.old out.old)

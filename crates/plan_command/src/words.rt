@@ -10,6 +10,7 @@ fn request_of(word: &str) -> Option<Request>
 {
     match word {
         "plan" => Some(Request::Plan),
+        "check" => Some(Request::Check),
         _ => None,
     }
 }
@@ -32,5 +33,6 @@ pub fn limit_of_request(request: Request) -> usize
 {
     match request {
         Request::Plan => 1_048_576,
+        Request::Check => 336_592_896,
     }
 }

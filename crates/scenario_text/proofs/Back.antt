@@ -1,17 +1,19 @@
 -- The canonical text of a problem reads back.
-use Rattle.std.proofs.Common.{◌≡◌, ℕ, zero, suc, ◌+◌, ◌<◌, ◌≤◌, true, false, List, [], ◌∷◌, ◌++◌, map, length, refl, sym, ap, subst, arith}
+use Rattle.std.proofs.Common.{◌≡◌, ℕ, zero, suc, ◌+◌, ◌<◌, ◌≤◌, true, false, List, [], ◌∷◌, ◌++◌, map, length, refl, sym, ap, ◌∙◌, subst, arith}
 use Rattle.std.specs.Prelude.{codes}
 use Rattle.std.specs.Fmt.{decimal}
 use Rattle.std.specs.List.{range_with_len, list_any}
 use Rattle.std.proofs.lemmas.Bool.{lt-ltb, le-ltb, ne_eqb}
+use Rattle.std.proofs.lemmas.List.{append-nil}
 use Rattle.drift_chain.specs.DriftRows.{row_of}
 use Rattle.search_grid.specs.Moves.{moves_from}
 use Rattle.search_model.specs.Problem.{Problem, IsProblem, cell_name, position_name}
 use Rattle.scenario_text.specs.declared.draft.Stage.TheVariants.{Rows}
 use Rattle.scenario_text.specs.State.{State, CellState, blank_state}
-use Rattle.scenario_text.specs.Reading.{lacks_row, is_narrow}
+use Rattle.scenario_text.specs.Lines.{lines_of}
+use Rattle.scenario_text.specs.Reading.{lacks_row, is_narrow, lines_at}
 use Rattle.scenario_text.specs.Canonical.{cell_row, moves_row, drift_row, overlook_row, first_entries, canonical_text, scenario_rows, cell_of, state_of_problem, pair_fields}
-use Rattle.scenario_text.specs.Laws.{CanonicalReadsBack}
+use Rattle.scenario_text.specs.Laws.{CanonicalFrontReadsBack, CanonicalReadsBack}
 use Rattle.scenario_text.proofs.Ranges.{map-range-same}
 use Rattle.scenario_text.proofs.Printed.{cell_rows}
 use Rattle.scenario_text.proofs.PairTexts.{some_entry}
@@ -110,6 +112,9 @@ Reads-scenario p h =
     (Reads-row _ _ _ _ (parts_rows p) (Takes-horizon p h) (λ e. cc)
     (Reads-row _ _ _ _ (cells_rows p) (Takes-parts p h) (λ e. cc) (Reads-cells p h)))
 
-pub canonical_reads_back : CanonicalReadsBack
+pub canonical_front_reads_back : CanonicalFrontReadsBack
 unfolding canonical_text
-canonical_reads_back p h = Reads-scenario p h 1
+canonical_front_reads_back p rest h = Reads-scenario p h 1 rest
+
+pub canonical_reads_back : CanonicalReadsBack
+canonical_reads_back p h = ap (λ (text : List ℕ). lines_at blank_state 1 (lines_of text)) (sym (append-nil (canonical_text p))) ∙ canonical_front_reads_back p [] h

@@ -6,6 +6,7 @@ pub mod CellNames
 pub mod PairSteps
 pub mod CellRows
 pub mod Loop
+pub mod Determined
 pub mod Said
 pub mod Faultless
 pub mod Joined
@@ -21,3 +22,5 @@ pub mod RowLines
 pub mod Appending
 pub mod Printed
 pub mod Back
+pub mod TextsDiffer
+pub mod Fronts

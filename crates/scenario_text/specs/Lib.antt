@@ -5,5 +5,6 @@ pub mod Reading
 pub mod Gives
 pub mod Canonical
 pub mod Assembled
+pub mod Fronts
 pub mod Laws
 pub mod Printing

@@ -23,8 +23,8 @@ mod taking_line;
 #[cfg(test)]
 mod tests;
 
-pub use canonical::read_canonical;
+pub use canonical::{read_canonical, read_canonical_front};
 pub use kind::{TextFault, TextKind};
-pub use laws::canonical_text_reads_back;
+pub use laws::{canonical_front_reads_back, canonical_text_reads_back, canonical_texts_differ};
 pub use printing::print_scenario;
 pub use stop::CanonicalStop;

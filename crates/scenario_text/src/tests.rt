@@ -9,6 +9,9 @@ const ONE_CELL: &[u8] =
 const TWO_CELLS: &[u8] =
     b"scenario 1\nhorizon 2\nparts 2 2 2\ncell a\ncell b\nstart a\nfirst a 1 b 1\nmoves a a b\nmoves b a b\ndrift a a 1 b 1\ndrift b a 1 b 1\noverlook a 0\noverlook b 0\nend\n";
 
+const TWO_CELLS_AND_MORE: &[u8] =
+    b"scenario 1\nhorizon 2\nparts 2 2 2\ncell a\ncell b\nstart a\nfirst a 1 b 1\nmoves a a b\nmoves b a b\ndrift a a 1 b 1\ndrift b a 1 b 1\noverlook a 0\noverlook b 0\nend\n\n\nplan 1\n";
+
 const WAITING: &[u8] =
     b"scenario 1\nhorizon 2\nparts 1 1 2\ncell a\ncell b\ncell c\nstart b\nfirst c 1\nmoves a a b\nmoves b a b c\nmoves c b c\ndrift a a 1\ndrift b b 1\ndrift c c 1\noverlook a 1\noverlook b 1\noverlook c 1\nend\n";
 
@@ -72,6 +75,36 @@ fn other_texts_are_not_canonical(rt: HostRuntime) {
     for text in texts {
         assert_eq!(rt;
             read_canonical(rt.alloc(), text).err(),
+            Some(CanonicalStop::NotCanonical)
+        );
+    }
+}
+
+fn read_front(alloc: Global, text: &[u8]) -> Result<(Scenario, usize), Fail> {
+    match read_canonical_front(alloc, text) {
+        Ok(front) => Ok(front),
+        Err(_) => Err(Fail::from("a canonical front was not read")),
+    }
+}
+
+#[test]
+fn a_canonical_front_is_read_with_its_length(rt: HostRuntime) -> Result<(), Fail> {
+    for text in [TWO_CELLS, TWO_CELLS_AND_MORE] {
+        let (scenario, length) = read_front(rt.alloc(), text)?;
+        let mut printed = Vec::new(rt.alloc());
+        print_scenario(&mut printed, &scenario)?;
+        assert_eq!(rt; length, 155);
+        assert_eq!(rt; printed.as_slice(), TWO_CELLS);
+    }
+    Ok(())
+}
+
+#[test]
+fn other_texts_have_no_canonical_front(rt: HostRuntime) {
+    let texts: [&[u8]; 4] = [b"", COMMENT, TWO_BLANKS, NO_LAST_LINE_FEED];
+    for text in texts {
+        assert_eq!(rt;
+            read_canonical_front(rt.alloc(), text).err(),
             Some(CanonicalStop::NotCanonical)
         );
     }

@@ -1,1 +1,7 @@
 pub mod LineTexts
+pub mod Cuts
+pub mod FieldSteps
+pub mod Loop
+pub mod RowTexts
+pub mod Said
+pub mod ReadsBack

@@ -1,5 +1,5 @@
 -- The text of a plan: each plan has one spelling.
-use Rattle.std.specs.Prelude.{ℕ, ◌≡◌, ◌<◌, ◌≤◌, List, [], ◌∷◌, ◌++◌, map, length, codes, All}
+use Rattle.std.specs.Prelude.{ℕ, ◌^◌, ◌≡◌, ◌<◌, ◌≤◌, List, [], ◌∷◌, ◌++◌, map, length, codes, All}
 use Rattle.std.specs.Fmt.{decimal}
 use Rattle.exact_parts.specs.Rows.{text_of}
 use Rattle.search_model.specs.Problem.{Problem, position_name}
@@ -67,3 +67,15 @@ pub record IsPrintable (p : Problem) (plan : Plan) : Type 0 where
   pub positions : ArePositions p plan.standing.path
   pub few : length plan.tree ≤ 1048576
   pub records : All (IsPrintableRecord p) plan.tree
+
+-- numbers below 2 to the power 128, as all are that a program holds
+abbrev pub IsNarrowKind : Kind → Type 0
+IsNarrowKind Branch = Unit {0}
+IsNarrowKind (Whole value) = value < 2 ^ 128
+IsNarrowKind (Mean bound) = bound < 2 ^ 128
+IsNarrowKind (Tangent bound reference) = bound < 2 ^ 128
+
+pub record IsNarrow (plan : Plan) : Type 0 where
+  pub value : plan.standing.value < 2 ^ 128
+  pub weight : plan.weight < 2 ^ 128
+  pub records : All (λ r. IsNarrowKind r.kind) plan.tree

@@ -45,14 +45,14 @@ fn push_reference(out: &mut Vec<u8>, kind: &Kind) -> Result<(), NoMemory>
 }
 
 /// Appends the line of a record.
-fn push_record(out: &mut Vec<u8>, record: &TreeNode) -> Result<(), NoMemory>
-    ensures ok { OnOk result (out.new.items ≡ out.old.items ++ text_of (record_row record.now ∷ [])) }
-    ensures err { OnErr result (AppendsFront out.old.items out.new.items (text_of (record_row record.now ∷ []))) }
+fn push_record(out: &mut Vec<u8>, node: &TreeNode) -> Result<(), NoMemory>
+    ensures ok { OnOk result (out.new.items ≡ out.old.items ++ text_of (record_row node.now ∷ [])) }
+    ensures err { OnErr result (AppendsFront out.old.items out.new.items (text_of (record_row node.now ∷ []))) }
 {
-    out.push(letter(&record.kind))?;
-    push_bound(out, &record.kind)?;
-    push_positions(out, record.prefix.cells())?;
-    push_reference(out, &record.kind)?;
+    out.push(letter(&node.kind))?;
+    push_bound(out, &node.kind)?;
+    push_positions(out, node.prefix.cells())?;
+    push_reference(out, &node.kind)?;
     out.push(b'\n')?;
     Ok(())
 }

@@ -1,4 +1,5 @@
 use super::*;
+use crate::printable::is_printable;
 use bound_tree::{BoundTree, Kind, Plan, TreeNode};
 use drift_chain::{Drift, DriftPart};
 use search_grid::Grid;
@@ -6,10 +7,6 @@ use search_model::{Name, Parts, Path, Scenario, Standing};
 use std::alloc::Global;
 use std::test::Fail;
 use sweep_table::Sweep;
-
-mod printable;
-
-use printable::is_printable;
 
 // Cells of these names, each a move of each, from each of which the target goes to each with the same part.
 fn even_scenario(alloc: Global, names: &[&[u8]], horizon: u32) -> Result<Scenario, Fail> {
@@ -135,5 +132,69 @@ fn a_mean_and_a_tangent(rt: HostRuntime) -> Result<(), Fail> {
     let expected =
         b"plan 1\npath c c c\nchance 7 8\nnodes 8\nB\nM 4 0\nT 12 1 1 2 2\nB 2\nM 6 2 1\nB 2 2\nW 6 2 2 1\nW 7 2 2 2\nend\n";
     assert_eq!(rt; text_of(alloc, &sc, &plan)?.as_slice(), expected.as_slice());
+    Ok(())
+}
+
+const ONE_CELL_PLAN: &[u8] = b"plan 1\npath a\nchance 1 2\nnodes 2\nB\nW 1 0\nend\n";
+
+const TWO_CELLS_PLAN: &[u8] =
+    b"plan 1\npath a a\nchance 12 16\nnodes 7\nB\nB 0\nW 12 0 0\nW 12 0 1\nB 1\nW 12 1 0\nW 12 1 1\nend\n";
+
+const BOUNDED_PLAN: &[u8] =
+    b"plan 1\npath c c c\nchance 7 8\nnodes 8\nB\nM 4 0\nT 12 1 1 2 2\nB 2\nM 6 2 1\nB 2 2\nW 6 2 2 1\nW 7 2 2 2\nend\n";
+
+fn reads_back(alloc: Global, names: &[&[u8]], horizon: u32, text: &[u8]) -> Result<bool, Fail> {
+    let sc = even_scenario(alloc, names, horizon)?;
+    match read_plan(alloc, &sc, text) {
+        Ok(plan) => Ok(text_of(alloc, &sc, &plan)?.as_slice() == text),
+        Err(_) => Ok(false),
+    }
+}
+
+#[test]
+fn texts_of_plans_are_read_and_print_back(rt: HostRuntime) -> Result<(), Fail> {
+    let alloc = rt.alloc();
+    assert!(rt; reads_back(alloc, &[b"a"], 1, ONE_CELL_PLAN)?);
+    assert!(rt; reads_back(alloc, &[b"a", b"b"], 2, TWO_CELLS_PLAN)?);
+    assert!(rt; reads_back(alloc, &[b"a", b"b", b"c"], 3, BOUNDED_PLAN)?);
+    Ok(())
+}
+
+#[test]
+fn other_texts_are_no_plans(rt: HostRuntime) -> Result<(), Fail> {
+    let alloc = rt.alloc();
+    let sc = even_scenario(alloc, &[b"a", b"b"], 2)?;
+    // a line feed is missing at the end, a carriage return stands at the end of line 1, a name is unknown, there are 33
+    // names, one record more is announced than stands there, and one less, a cell number is too great, a number has a 0
+    // in front, one isn't below 2 to the power 128, there are two blanks, and a byte stands behind `end`
+    let texts: [&[u8]; 11] = [
+        b"plan 1\npath a a\nchance 12 16\nnodes 1\nB\nend",
+        b"plan 1\r\npath a a\nchance 12 16\nnodes 1\nB\nend\n",
+        b"plan 1\npath a x\nchance 12 16\nnodes 1\nB\nend\n",
+        b"plan 1\npath a a a a a a a a a a a a a a a a a a a a a a a a a a a a a a a a a\nchance 12 16\nnodes 1\nB\nend\n",
+        b"plan 1\npath a a\nchance 12 16\nnodes 2\nB\nend\n",
+        b"plan 1\npath a a\nchance 12 16\nnodes 0\nB\nend\n",
+        b"plan 1\npath a a\nchance 12 16\nnodes 1\nW 12 0 2\nend\n",
+        b"plan 1\npath a a\nchance 12 16\nnodes 1\nW 012 0 0\nend\n",
+        b"plan 1\npath a a\nchance 340282366920938463463374607431768211456 16\nnodes 1\nB\nend\n",
+        b"plan 1\npath a  a\nchance 12 16\nnodes 1\nB\nend\n",
+        b"plan 1\npath a a\nchance 12 16\nnodes 1\nB\nend\n ",
+    ];
+    for text in texts {
+        assert_eq!(rt; read_plan(alloc, &sc, text).err(), Some(PlanStop::NotPlan));
+    }
+    Ok(())
+}
+
+#[test]
+fn plans_without_bounds(rt: HostRuntime) -> Result<(), Fail> {
+    let alloc = rt.alloc();
+    let two = even_scenario(alloc, &[b"a", b"b"], 2)?;
+    let three = even_scenario(alloc, &[b"a", b"b", b"c"], 3)?;
+    assert!(rt; read_plain_plan(alloc, &two, TWO_CELLS_PLAN).is_ok());
+    assert_eq!(rt;
+        read_plain_plan(alloc, &three, BOUNDED_PLAN).err(),
+        Some(PlanStop::NotPlan)
+    );
     Ok(())
 }

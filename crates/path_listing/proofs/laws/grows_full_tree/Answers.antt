@@ -1,5 +1,4 @@
 use Rattle.path_listing.proofs.FullTrees.{grows_full}
-use Rattle.path_listing.proofs.Subtrees.{ascending_below}
 use Rattle.path_listing.proofs.laws.grows_full_tree.Goals as goal
 
 pub returns : goal.returns

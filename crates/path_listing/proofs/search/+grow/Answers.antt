@@ -1,4 +1,4 @@
-use Rattle.std.proofs.Common.{ℕ, ◌<◌, ◌≤◌, length, arith, length-append, rules}
+use Rattle.std.proofs.Common.{◌<◌, ◌≤◌, length, arith, length-append}
 use Rattle.std.proofs.lemmas.List.Elements.{Contains-get_or}
 use Rattle.std.proofs.lemmas.Result.{err_from_is_err_and}
 use Rattle.search_model.specs.Legal.{moves_after}

@@ -1,5 +1,4 @@
 use Rattle.std.proofs.Common.{◌≡◌, ◌-◌, ◌≤◌, ◌++◌, ◌∷◌, [], length, take, flat_map}
-use Rattle.bound_tree.specs.declared.node.Kind.TheVariants.{Branch}
 use Rattle.path_listing.specs.Growing.{below, Leads}
 use Rattle.path_listing.proofs.search.+grow.Given as goal
 

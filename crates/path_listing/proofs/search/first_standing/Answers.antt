@@ -1,4 +1,4 @@
-use Rattle.std.proofs.Common.{ℕ, ◌<◌, ◌++◌, ◌∷◌, [], length, arith, length-append}
+use Rattle.std.proofs.Common.{arith, length-append}
 use Rattle.path_listing.proofs.Moves.{some_move, follows_first}
 use Rattle.path_listing.proofs.search.first_standing.Goals as goal
 

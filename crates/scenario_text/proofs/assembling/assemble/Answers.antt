@@ -4,7 +4,8 @@ use Rattle.drift_chain.specs.DriftRows.{IsDrift, drift_over}
 use Rattle.drift_chain.specs.declared.part.DriftPart.{DriftPart}
 use Rattle.sweep_table.specs.LookParts.{IsSweep, parts_over}
 use Rattle.search_model.specs.Problem.{IsProblem}
-use Rattle.scenario_text.proofs.Said.{said, kept_as, same_problem}
+use Rattle.scenario_text.proofs.Determined.{same_problem}
+use Rattle.scenario_text.proofs.Said.{said, kept_as}
 use Rattle.scenario_text.proofs.assembling.assemble.Goals as goal
 
 pub returns-in_err-grid : goal.returns-in_err-grid

@@ -1,0 +1,81 @@
+//! The command `check`.
+
+ghost use Rattle.std.specs.Prelude.{◌≡◌, ◌++◌, ◌∷◌, ◌≤◌, [], codes, drop, length, IfOk};
+ghost use Rattle.std.specs.Fmt.{decimal};
+ghost use Rattle.bound_tree.specs.Laws.{IsPlain};
+ghost use Rattle.tree_checker.specs.Whys.{name_of};
+ghost use Rattle.plan_command.specs.Checks.{ReadsRest, ReadsBoth, TellsVerdict};
+ghost use Rattle.plan_command.specs.Makes.{MakesOf};
+
+use crate::answer::Answer;
+use crate::request::Request;
+use crate::spaces::{rest_from, skip_spaces};
+use crate::status::{Status, Stop};
+use bound_tree::Plan;
+use exact_parts::{NoMemory, push_u128};
+use scenario_text::{CanonicalStop, read_canonical_front};
+use search_model::Scenario;
+use std::alloc::Global;
+use tree_checker::{RejectAt, Verdict, check, why_name};
+use tree_format::{PlanStop, read_plain_plan};
+
+/// The plan behind the blanks and line feeds at the front.
+fn read_rest(alloc: Global, sc: &Scenario, rest: &[u8]) -> Result<Plan, PlanStop>
+    ensures { ReadsRest sc.now rest.now result }
+{
+    read_plain_plan(alloc, sc, skip_spaces(rest))
+}
+
+/// The scenario that the input begins with, and the plan that follows.
+fn read_both(alloc: Global, input: &[u8]) -> Result<(Scenario, Plan), Stop>
+    ensures { ReadsBoth input.now result }
+{
+    let (sc, len) = match read_canonical_front(alloc, input) {
+        Ok(front) => front,
+        Err(CanonicalStop::NotCanonical) => return Err(Stop::BadScenario),
+        Err(CanonicalStop::NoMemory) => return Err(Stop::NoMemory),
+    };
+    match read_rest(alloc, &sc, rest_from(input, len)) {
+        Ok(plan) => Ok((sc, plan)),
+        Err(PlanStop::NotPlan) => Err(Stop::BadPlan),
+        Err(PlanStop::NoMemory) => Err(Stop::NoMemory),
+    }
+}
+
+/// The line of a rejection.
+fn rejection(alloc: Global, at: RejectAt) -> Result<Vec<u8>, NoMemory>
+    ensures { IfOk result (λ v. v.items ≡ codes "rejected " ++ decimal at.line ++ 32 ∷ (name_of at.why ++ 10 ∷ [])) }
+{
+    let mut text = Vec::from_slice(alloc, b"rejected ")?;
+    push_u128(&mut text, u128::from(at.line))?;
+    text.push(b' ')?;
+    text.extend_from_slice(why_name(at.why).as_bytes())?;
+    text.push(b'\n')?;
+    Ok(text)
+}
+
+/// Whether the plan is accepted, or the first reason against it.
+fn tell_verdict(alloc: Global, sc: &Scenario, plan: &Plan) -> Result<Answer, Stop>
+    requires plain { IsPlain plan.now }
+    requires few { length plan.now.tree ≤ 1048576 }
+    ensures { TellsVerdict sc.now plan.now result }
+{
+    match check(alloc, sc, plan)? {
+        Verdict::Accepted => Ok(Answer {
+            status: Status::Done,
+            text: Vec::from_slice(alloc, b"accepted\n")?,
+        }),
+        Verdict::Rejected(at) => Ok(Answer {
+            status: Status::Rejected,
+            text: rejection(alloc, at)?,
+        }),
+    }
+}
+
+/// The verdict on the plan that follows the scenario in the input.
+pub fn answer_check(alloc: Global, input: &[u8]) -> Result<Answer, Stop>
+    ensures { MakesOf Request.Check input.now result }
+{
+    let (sc, plan) = read_both(alloc, input)?;
+    tell_verdict(alloc, &sc, &plan)
+}

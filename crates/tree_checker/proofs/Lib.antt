@@ -1,0 +1,3 @@
+pub mod Paths
+pub mod Reason
+pub mod Rooms

@@ -1,0 +1,61 @@
+-- What a record makes expected is legal, and has room on the stack.
+use Rattle.std.proofs.Common.{subst, ◌≡◌, ℕ, ◌+◌, ◌*◌, ◌≤◌, ◌<◌, List, [], ◌∷◌, ◌++◌, map, reverse, length, refl, arith, length-append, get_or, All, Contains}
+use Rattle.std.proofs.lemmas.List.{length-map, reverse-append}
+use Rattle.std.proofs.lemmas.List.Elements.{All-head, All-tail, All-nil, All-map, All-contains_itself}
+use Rattle.search_model.specs.Problem.{Problem, IsProblem}
+use Rattle.search_model.specs.Legal.{IsLegal, last_of, moves_after}
+use Rattle.search_model.proofs.LegalLemmas.{last_within}
+use Rattle.search_model.proofs.WalkLemmas.{follows-append}
+use Rattle.bound_tree.specs.declared.node.Kind.{Kind}
+use Rattle.bound_tree.specs.declared.node.Kind.TheVariants.{Branch, Whole, Mean, Tangent}
+use Rattle.bound_tree.specs.Accepts.{expected_by}
+use Rattle.tree_checker.specs.Room.{HasRoom}
+
+-- a legal prefix has at most 64 moves
+pub few_moves : (p : Problem) (q : List ℕ) → IsProblem p → IsLegal p q → length (moves_after p q) ≤ 64
+few_moves p q sound legal =
+    let start = sound.start in
+    let positions = sound.grid_positions in
+    (sound.grid.each (last_of p.start q) (last_within p.moves sound.grid p.start (omega (arith, start, positions)) q legal.follows)).few
+
+child_is_legal : (p : Problem) (q : List ℕ) (d : ℕ) → IsLegal p q → length q < p.horizon → Contains (moves_after p q) d → IsLegal p (q ++ d ∷ [])
+child_is_legal p q d legal short move = record {
+  follows = (follows-append p.moves p.start q (d ∷ [])).1 (legal.follows, (move, tt));
+  short = omega (arith, short, length-append q (d ∷ []));
+}
+
+-- what a record at a legal prefix makes expected is legal
+pub legal_expected : (p : Problem) (q : List ℕ) (kind : Kind) → IsLegal p q → (kind ≡ Branch → length q < p.horizon) → All (IsLegal p) (expected_by p q kind)
+legal_expected p q Branch legal short =
+    All-map (IsLegal p) (λ a. q ++ a ∷ []) (moves_after p q)
+    (λ k d l. child_is_legal p q (get_or (moves_after p q) k d) legal (short refl) (All-contains_itself (moves_after p q) k d l))
+legal_expected p q (Whole n) legal short = All-nil (IsLegal p)
+legal_expected p q (Mean b) legal short = All-nil (IsLegal p)
+legal_expected p q (Tangent b whole) legal short = All-nil (IsLegal p)
+
+-- where at most 63 prefixes for each position of q are expected behind it, up to 64 children of q have room before them
+HasRoom-children : (q : List ℕ) (ms : List ℕ) (qs : List (List ℕ)) → length ms ≤ 64 → length qs ≤ 63 * length q → HasRoom qs → HasRoom (map (λ d. q ++ d ∷ []) ms ++ qs)
+HasRoom-children q [] qs few small room = room
+HasRoom-children q (m ∷ ms) qs few small room = (
+  omega (arith, few, small, length-append (map (λ d. q ++ d ∷ []) ms) qs, length-map {A = ℕ} {B = List ℕ}, length-append q (m ∷ [])),
+  HasRoom-children q ms qs (omega (arith, few)) small room,
+)
+
+-- what was on top of a stack, and what was below it
+pub popped : (old new : List (List ℕ)) (q : List ℕ) → old ≡ new ++ q ∷ [] → reverse old ≡ q ∷ reverse new
+popped old new q e = rw e (reverse-append new (q ∷ []))
+
+-- what holds of the expected prefixes holds of the first and of the others
+pub split_legal : (p : Problem) (qs : List (List ℕ)) (q : List ℕ) (rest : List (List ℕ)) → qs ≡ q ∷ rest → All (IsLegal p) qs → IsLegal p q × All (IsLegal p) rest
+split_legal p qs q rest e all = let split = subst (All (IsLegal p)) e all in (All-head (IsLegal p) q rest split, All-tail (IsLegal p) q rest split)
+
+-- behind a prefix that is shorter than the horizon there is room for 64 more
+pub room_left : (p : Problem) (q : List ℕ) (qs : List (List ℕ)) → IsProblem p → length q < p.horizon → HasRoom (q ∷ qs) → length qs + 64 ≤ 2048
+room_left p q qs sound short room = let first = room.0 in let most = sound.horizon.1 in omega (arith, first, most, short)
+
+-- where there was room for the prefix, there is room for what its record makes expected
+pub room_expected : (p : Problem) (q : List ℕ) (kind : Kind) (qs : List (List ℕ)) → IsProblem p → IsLegal p q → HasRoom (q ∷ qs) → HasRoom (expected_by p q kind ++ qs)
+room_expected p q Branch qs sound legal room = HasRoom-children q (moves_after p q) qs (few_moves p q sound legal) (let first = room.0 in omega (arith, first)) room.1
+room_expected p q (Whole n) qs sound legal room = room.1
+room_expected p q (Mean b) qs sound legal room = room.1
+room_expected p q (Tangent b whole) qs sound legal room = room.1

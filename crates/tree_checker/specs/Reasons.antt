@@ -1,0 +1,89 @@
+-- The first reason against a plan, with the line of its text.
+use Rattle.std.specs.Prelude.{ℕ, ◌+◌, Bool, true, not, ◌&&◌, ◌==◌, nat_eq, nat_lt, if◌then◌else◌, List, [], ◌∷◌, ◌++◌, length, Option, Some, None}
+use Rattle.std.specs.List.{list_any}
+use Rattle.std.specs.Option.{option_or}
+use Rattle.search_grid.specs.Moves.{moves_from}
+use Rattle.search_model.specs.declared.standing.Standing.{Standing}
+use Rattle.search_model.specs.Problem.{Problem}
+use Rattle.search_model.specs.Tracks.{value_of, whole_weight}
+use Rattle.search_model.specs.Order.{smaller, better}
+use Rattle.search_model.specs.Bounds.{mean_of}
+use Rattle.bound_tree.specs.declared.node.Kind.{Kind}
+use Rattle.bound_tree.specs.declared.node.Kind.TheVariants.{Branch, Whole, Mean, Tangent}
+use Rattle.bound_tree.specs.declared.node.TreeNode.{TreeNode}
+use Rattle.bound_tree.specs.declared.plan.Plan.{Plan}
+use Rattle.bound_tree.specs.Cut.{is_cut}
+use Rattle.bound_tree.specs.Accepts.{expected_by}
+use Rattle.tree_checker.specs.declared.verdict.Why.{Why}
+use Rattle.tree_checker.specs.declared.verdict.Why.TheVariants.{PathIllegal, ValueWrong, WeightWrong, NotChild, MissingChild, WholeWrong, BoundWrong, NotCut}
+use Rattle.tree_checker.specs.declared.verdict.RejectAt.{RejectAt}
+use Rattle.tree_checker.specs.declared.verdict.Verdict.{Verdict}
+use Rattle.tree_checker.specs.declared.verdict.Verdict.TheVariants.{Accepted, Rejected}
+
+-- a test that a plan is to pass, and the reason where it fails
+abbrev pub Test : Type 0
+Test = Bool × Why
+
+-- of tests in their order, the reason of the first that fails
+abbrev pub first_failed : List Test → Option Why
+first_failed [] = None
+first_failed (t ∷ ts) = if t.0 then first_failed ts else Some t.1
+
+-- whether each position is a move of the one before, the first a move of a
+abbrev pub follows : List (List ℕ) → ℕ → List ℕ → Bool
+follows rows a [] = true
+follows rows a (b ∷ q) = list_any (nat_eq b) (moves_from rows a) && follows rows b q
+
+-- whether a prefix is a path
+abbrev pub is_path : Problem → List ℕ → Bool
+is_path p q = length q == p.horizon && follows p.moves p.start q
+
+-- the tests of the path line
+abbrev pub path_tests : Problem → List ℕ → List Test
+path_tests p q = (is_path p q, PathIllegal) ∷ []
+
+-- the tests of the value and the weight of the path
+abbrev pub value_tests : Problem → Standing → ℕ → List Test
+value_tests p s weight = (s.value == value_of p s.path, ValueWrong) ∷ (weight == whole_weight p, WeightWrong) ∷ []
+
+-- the tests of a kind at a prefix, under the plan's standing; of a tangent only the length is tested so far
+abbrev pub kind_tests : Problem → Standing → List ℕ → Kind → List Test
+kind_tests p s q Branch = (nat_lt (length q) p.horizon, WholeWrong) ∷ []
+kind_tests p s q (Whole n) =
+    (length q == p.horizon, WholeWrong) ∷ (n == value_of p q, WholeWrong) ∷ (not (better (record { path = q; value = n }) s), NotCut) ∷ []
+kind_tests p s q (Mean b) = (nat_lt (length q) p.horizon, WholeWrong) ∷ (b == mean_of p q, BoundWrong) ∷ (is_cut b q s, NotCut) ∷ []
+kind_tests p s q (Tangent b whole) = (nat_lt (length q) p.horizon, WholeWrong) ∷ []
+
+-- the tests of a record where prefix q is expected; past the first two the record's prefix is q
+abbrev pub record_tests : Problem → Standing → List ℕ → TreeNode → List Test
+record_tests p s q r = (not (smaller q r.prefix), MissingChild) ∷ (not (smaller r.prefix q), NotChild) ∷ kind_tests p s q r.kind
+
+-- a reason stands at a line
+abbrev pub at_line : ℕ → Option Why → Option RejectAt
+at_line line None = None
+at_line line (Some w) = Some (record { line = line; why = w })
+
+-- the first reason of the path line and of the line after it
+abbrev pub head_reason : Problem → Standing → ℕ → Option RejectAt
+head_reason p s weight = option_or (at_line 2 (first_failed (path_tests p s.path))) (at_line 3 (first_failed (value_tests p s weight)))
+
+-- where the records have ended, a prefix that is still expected is missed in the line of `end`
+abbrev pub end_reason : ℕ → List (List ℕ) → Option RejectAt
+end_reason line [] = None
+end_reason line (q ∷ qs) = Some (record { line = line; why = MissingChild })
+
+-- the first reason of the records from a line on, and of the line of `end`, where these prefixes are expected
+abbrev pub tree_reason : Problem → Standing → ℕ → List TreeNode → List (List ℕ) → Option RejectAt
+tree_reason p s line [] qs = end_reason line qs
+tree_reason p s line (r ∷ rs) [] = Some (record { line = line; why = NotChild })
+tree_reason p s line (r ∷ rs) (q ∷ qs) =
+    option_or (at_line line (first_failed (record_tests p s q r))) (tree_reason p s (line + 1) rs (expected_by p q r.kind ++ qs))
+
+-- the first reason against a plan: its head in lines 2 and 3, and its records from line 5 on
+abbrev pub first_reason : Problem → Plan → Option RejectAt
+first_reason p plan = option_or (head_reason p plan.standing plan.weight) (tree_reason p plan.standing 5 plan.tree ([] ∷ []))
+
+-- what is said of a plan with this first reason
+abbrev pub verdict_of : Option RejectAt → Verdict
+verdict_of None = Accepted
+verdict_of (Some r) = Rejected r

@@ -1,0 +1,39 @@
+//! The check of a whole plan.
+
+ghost use Rattle.std.specs.Prelude.{◌≡◌, ◌≤◌, ◌↔◌, length, IfOk};
+ghost use Rattle.bound_tree.specs.Accepts.{Accepts};
+ghost use Rattle.bound_tree.specs.Laws.{IsPlain};
+ghost use Rattle.tree_checker.specs.Reasons.{first_reason, verdict_of};
+
+use crate::checker::Checker;
+use crate::verdict::Verdict;
+use bound_tree::Plan;
+use exact_parts::NoMemory;
+use search_model::Scenario;
+use std::alloc::Global;
+
+/// The verdict on a plan.
+fn verdict(alloc: Global, sc: &Scenario, plan: &Plan) -> Result<Verdict, NoMemory>
+    requires plain { IsPlain plan.now }
+    requires few { length plan.now.tree ≤ 1048576 }
+    ensures { IfOk result (λ v. v ≡ verdict_of (first_reason sc.now plan.now)) }
+{
+    let mut checker = Checker::tables(alloc, sc)?;
+    checker.head(sc, &plan.standing, plan.weight);
+    for node in plan.tree.nodes() {
+        checker.node(sc, node);
+    }
+    Ok(checker.finish())
+}
+
+/// Whether a plan of branches and whole paths alone, with at most 1,048,576 records, is accepted; else the first
+/// reason against it. It sums over the target's tracks for each whole path, so it is meant for small problems.
+#[tactic(auto, using(crate::proofs::Reason::accepted_verdict))]
+pub fn check(alloc: Global, sc: &Scenario, plan: &Plan) -> Result<Verdict, NoMemory>
+    requires plain { IsPlain plan.now }
+    requires few { length plan.now.tree ≤ 1048576 }
+    ensures exact { IfOk result (λ v. v ≡ verdict_of (first_reason sc.now plan.now)) }
+    ensures accepted { IfOk result (λ v. (v ≡ Verdict.Accepted) ↔ Accepts sc.now plan.now) }
+{
+    verdict(alloc, sc, plan)
+}

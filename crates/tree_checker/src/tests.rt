@@ -1,0 +1,276 @@
+ghost use Rattle.std.specs.Prelude.{◌≡◌, length, All, IfOk};
+ghost use Rattle.bound_tree.specs.Laws.{IsPlainKind};
+
+use super::*;
+use bound_tree::{BoundTree, Kind, Plan, TreeNode};
+use drift_chain::{Drift, DriftPart};
+use exact_parts::NoMemory;
+use search_grid::Grid;
+use search_model::{Name, Parts, Path, Scenario, Standing};
+use std::alloc::{AllocError, Global};
+use std::test::Fail;
+use sweep_table::Sweep;
+
+// One cell, where the target stands and stays; half of the looks miss.
+fn one_cell(alloc: Global) -> Result<Scenario, Fail> {
+    let name = Name::new(b"a").ok_or("no name")?;
+    let stays = vec![in alloc; DriftPart { cell: 0, part: 1 }]?;
+    Ok(Scenario::new(Parts {
+        names: vec![in alloc; name]?,
+        horizon: 1,
+        start: 0,
+        total: 1,
+        first: vec![in alloc; 1]?,
+        grid: Grid::new(vec![in alloc; vec![in alloc; 0]?]?)?,
+        drift: Drift::new(1, vec![in alloc; stays]?)?,
+        sweep: Sweep::new(2, vec![in alloc; 1]?)?,
+    })?)
+}
+
+// The even chance of either of two cells.
+fn either(alloc: Global) -> Result<Vec<DriftPart>, AllocError> {
+    [
+        DriftPart { cell: 0, part: 1 },
+        DriftPart { cell: 1, part: 1 },
+    ]
+    .to_vec(alloc)
+}
+
+// Two cells and two periods; the target moves as it likes, and no look misses.
+fn two_cells(alloc: Global) -> Result<Scenario, Fail> {
+    let a = Name::new(b"a").ok_or("no name")?;
+    let b = Name::new(b"b").ok_or("no name")?;
+    let moves = vec![in alloc; vec![in alloc; 0, 1]?, vec![in alloc; 0, 1]?]?;
+    let drifts = vec![in alloc; either(alloc)?, either(alloc)?]?;
+    Ok(Scenario::new(Parts {
+        names: vec![in alloc; a, b]?,
+        horizon: 2,
+        start: 0,
+        total: 2,
+        first: vec![in alloc; 1, 1]?,
+        grid: Grid::new(moves)?,
+        drift: Drift::new(2, drifts)?,
+        sweep: Sweep::new(2, vec![in alloc; 0, 0]?)?,
+    })?)
+}
+
+fn path_of(cells: &[u8]) -> Path {
+    Path::of(cells).unwrap_or(Path::empty())
+}
+
+fn kind_of(value: Option<u128>) -> Kind
+    ensures { IsPlainKind result }
+{
+    match value {
+        None => Kind::Branch,
+        Some(n) => Kind::Whole(n),
+    }
+}
+
+fn nodes_of(alloc: Global, records: &[(&[u8], Option<u128>)]) -> Result<Vec<TreeNode>, NoMemory>
+    ensures plain { IfOk result (λ nodes. All (λ r. IsPlainKind r.kind) nodes.items) }
+    ensures few { IfOk result (λ nodes. length nodes.items ≡ length records.now) }
+{
+    let mut nodes = Vec::new(alloc);
+    for (prefix, value) in records {
+        let node = TreeNode {
+            prefix: path_of(prefix),
+            kind: kind_of(*value),
+        };
+        nodes.push(node)?;
+    }
+    Ok(nodes)
+}
+
+// What is said of the plan of this path, value, weight and records: of each its prefix, and its value where it is whole.
+fn said(
+    alloc: Global,
+    sc: &Scenario,
+    path: &[u8],
+    value: u128,
+    weight: u128,
+    records: &[(&[u8], Option<u128>)],
+) -> Result<Verdict, Fail> {
+    if records.len() > 1_000 {
+        return Err(Fail::from("too many records"));
+    }
+    let nodes = nodes_of(alloc, records)?;
+    let standing = Standing {
+        path: path_of(path),
+        value,
+    };
+    let plan = Plan {
+        standing,
+        weight,
+        tree: BoundTree::of(nodes),
+    };
+    Ok(check(alloc, sc, &plan)?)
+}
+
+fn rejected(line: u64, why: Why) -> Verdict {
+    Verdict::Rejected(RejectAt { line, why })
+}
+
+// A branch, and a path of two cells, which all have one value.
+const B: Option<u128> = None;
+
+const W: Option<u128> = Some(12);
+
+#[test]
+fn plans_of_one_cell(rt: HostRuntime) -> Result<(), Fail> {
+    let sc = one_cell(rt.alloc())?;
+    let rows: [(&[u8], u128, u128, &[(&[u8], Option<u128>)], Verdict); 9] = [
+        (&[0], 1, 2, &[(&[], B), (&[0], Some(1))], Verdict::Accepted),
+        (
+            &[],
+            1,
+            2,
+            &[(&[], B), (&[0], Some(1))],
+            rejected(2, Why::PathIllegal),
+        ),
+        (
+            &[0],
+            0,
+            2,
+            &[(&[], B), (&[0], Some(1))],
+            rejected(3, Why::ValueWrong),
+        ),
+        (
+            &[0],
+            1,
+            1,
+            &[(&[], B), (&[0], Some(1))],
+            rejected(3, Why::WeightWrong),
+        ),
+        (&[0], 1, 2, &[], rejected(5, Why::MissingChild)),
+        (&[0], 1, 2, &[(&[], B)], rejected(6, Why::MissingChild)),
+        (
+            &[0],
+            1,
+            2,
+            &[(&[], B), (&[0], B)],
+            rejected(6, Why::WholeWrong),
+        ),
+        (
+            &[0],
+            1,
+            2,
+            &[(&[], B), (&[0], Some(0))],
+            rejected(6, Why::WholeWrong),
+        ),
+        (
+            &[0],
+            1,
+            2,
+            &[(&[], B), (&[0], Some(1)), (&[0], Some(1))],
+            rejected(7, Why::NotChild),
+        ),
+    ];
+    for (path, value, weight, records, verdict) in rows {
+        assert_eq!(rt;
+            said(rt.alloc(), &sc, path, value, weight, records)?,
+            verdict
+        );
+    }
+    Ok(())
+}
+
+#[test]
+fn plans_of_two_cells(rt: HostRuntime) -> Result<(), Fail> {
+    let sc = two_cells(rt.alloc())?;
+    let rows: [(&[u8], u128, &[(&[u8], Option<u128>)], Verdict); 9] = [
+        (
+            &[0, 0],
+            12,
+            &[
+                (&[], B),
+                (&[0], B),
+                (&[0, 0], W),
+                (&[0, 1], W),
+                (&[1], B),
+                (&[1, 0], W),
+                (&[1, 1], W),
+            ],
+            Verdict::Accepted,
+        ),
+        // The path stands in a cell that there is not.
+        (&[0, 2], 12, &[(&[], B)], rejected(2, Why::PathIllegal)),
+        (&[0, 0], 11, &[(&[], B)], rejected(3, Why::ValueWrong)),
+        // A record before the one that is expected is missing.
+        (
+            &[0, 0],
+            12,
+            &[
+                (&[], B),
+                (&[0], B),
+                (&[0, 0], W),
+                (&[1], B),
+                (&[1, 0], W),
+                (&[1, 1], W),
+            ],
+            rejected(8, Why::MissingChild),
+        ),
+        // The first record has a path that is as good and smaller than the plan's.
+        (
+            &[0, 1],
+            12,
+            &[
+                (&[], B),
+                (&[0], B),
+                (&[0, 0], W),
+                (&[0, 1], W),
+                (&[1], B),
+                (&[1, 0], W),
+                (&[1, 1], W),
+            ],
+            rejected(7, Why::NotCut),
+        ),
+        // A record stands twice.
+        (
+            &[0, 0],
+            12,
+            &[(&[], B), (&[0], B), (&[0, 0], W), (&[0, 0], W)],
+            rejected(8, Why::NotChild),
+        ),
+        // A prefix is whole before the horizon.
+        (
+            &[0, 0],
+            12,
+            &[(&[], B), (&[0], W)],
+            rejected(6, Why::WholeWrong),
+        ),
+        // The greatest child is missing.
+        (
+            &[0, 0],
+            12,
+            &[(&[], B), (&[0], B), (&[0, 0], W), (&[0, 1], W)],
+            rejected(9, Why::MissingChild),
+        ),
+        // A record stands past the end.
+        (
+            &[0, 0],
+            12,
+            &[
+                (&[], B),
+                (&[0], B),
+                (&[0, 0], W),
+                (&[0, 1], W),
+                (&[1], B),
+                (&[1, 0], W),
+                (&[1, 1], W),
+                (&[1, 1], W),
+            ],
+            rejected(12, Why::NotChild),
+        ),
+    ];
+    for (path, value, records, verdict) in rows {
+        assert_eq!(rt; said(rt.alloc(), &sc, path, value, 16, records)?, verdict);
+    }
+    Ok(())
+}
+
+#[test]
+fn reasons_have_their_names(rt: HostRuntime) {
+    assert_eq!(rt; why_name(Why::PathIllegal), "PathIllegal");
+    assert_eq!(rt; why_name(Why::ReferenceWrong), "ReferenceWrong");
+}

@@ -1,0 +1,40 @@
+-- The text of a number or a name says it.
+use Rattle.std.proofs.Common.{◌≡◌, ℕ, ◌<◌, ◌-◌, ◌^◌, List, [], ◌∷◌, map, length, get_or, take, Option, Some, refl, ap, ◌∙◌, arith, get_or-take}
+use Rattle.std.specs.Prelude.{All}
+use Rattle.std.specs.Fmt.{decimal}
+use Rattle.std.specs.Str.{bytes_eq}
+use Rattle.std.proofs.lemmas.Bool.{false_from_ne_true}
+use Rattle.std.proofs.lemmas.List.{length-take-le, get_or_default}
+use Rattle.std.proofs.lemmas.List.Elements.{All-head, All-tail}
+use Rattle.std.proofs.lemmas.Slice.Eq.{bytes_eq-Decides}
+use Rattle.exact_parts.proofs.Decimals.{number_at-decimal}
+use Rattle.search_model.specs.Names.{name_in, IsRepeated}
+use Rattle.search_model.specs.Problem.{Problem, IsProblem, position_name}
+use Rattle.tree_format.specs.Reading.{said, amount_in, place_in, position_named, all_of}
+use Rattle.tree_format.proofs.FieldSteps.{position-first}
+
+pub amount_in-decimal : (n : ℕ) → n < 2 ^ 128 → amount_in (decimal n) ≡ Some n
+amount_in-decimal n small = ap said (number_at-decimal 340282366920938463463374607431768211455 n (omega arith) (omega arith))
+
+pub place_in-decimal : (p : Problem) → IsProblem p → (q : ℕ) → q < p.positions → place_in p (decimal q) ≡ Some q
+place_in-decimal p h q lt = ap said (number_at-decimal (p.positions - 1) q (omega arith) (omega (arith, h.cells.1, h.positions)))
+
+-- two positions have two names
+names_apart : (names : List (List ℕ)) → ((c : ℕ) → ¬ IsRepeated names c) → (j k : ℕ) → j < k → k < length names → name_in names j ≡ name_in names k → ⊥
+names_apart names differ j k below within same =
+    let cut : length (take k names) ≡ k = length-take-le k names (omega arith) in
+    let at : get_or (take k names) j (name_in names k) ≡ get_or names j (name_in names k) = get_or-take k names j (name_in names k) below in
+    differ k (within, (j, omega arith, at ∙ get_or_default names j (name_in names k) [] (omega arith) ∙ same))
+
+pub position_named-name : (p : Problem) → IsProblem p → (q : ℕ) → q < p.positions → position_named p (position_name p q) ≡ Some q
+position_named-name p h q lt =
+    let within : q < length p.names = omega (arith, h.names_length, h.positions) in
+    position-first (λ n. bytes_eq n (position_name p q)) p.names q [] within
+    (λ k below. false_from_ne_true _ (λ e. names_apart p.names h.names_differ k q below within ((bytes_eq-Decides (position_name p k) (position_name p q)).0 e)))
+    ((bytes_eq-Decides (position_name p q) (position_name p q)).1 refl)
+
+-- fields that say these numbers, one each
+pub all_of-map : (says : List ℕ → Option ℕ) (g : ℕ → List ℕ) (P : ℕ → Type 0) → ((q : ℕ) → P q → says (g q) ≡ Some q) → (qs : List ℕ) → All P qs → all_of says (map g qs) ≡ Some qs
+unfolding all_of
+all_of-map says g P each [] h = refl
+all_of-map says g P each (q ∷ qs) h = rw (each q (All-head P q qs h), all_of-map says g P each qs (All-tail P q qs h)) refl

@@ -1,0 +1,136 @@
+//! The fields of a record's line.
+
+ghost use Rattle.std.specs.Prelude.{◌≡◌, ◌≤◌, ◌↔◌, map, length, IsTrue, Ok};
+ghost use Rattle.tree_format.specs.State.{state_of};
+ghost use Rattle.tree_format.specs.Gives.{TakesLine};
+ghost use Rattle.tree_format.specs.Reading.{branch_line, bounded_line, tangent_of as tangent_of_lem, tangent_at as tangent_at_lem, tangent_line, node_line, with_node};
+
+use crate::draft::Draft;
+use crate::fields::{amount_in, places_in};
+use crate::kind::PlanKind;
+use crate::stop::LineStop;
+use bound_tree::{Kind, TreeNode};
+use search_model::{Path, Scenario};
+
+/// A number, and the prefix behind it.
+#[derive(Clone, Copy)]
+pub struct Bounded {
+    pub bound: u128,
+    pub prefix: Path,
+}
+
+/// Whether there are no more cells than periods.
+fn fits_prefix(sc: &Scenario, cells: &[&[u8]]) -> bool
+    ensures value { IsTrue result ↔ (length cells.now ≤ sc.now.horizon) }
+    ensures few { IsTrue result → length cells.now ≤ 32 }
+{
+    cells.len() <= sc.horizon() as usize
+}
+
+fn read_branch(sc: &Scenario, cells: &[&[u8]]) -> Result<TreeNode, PlanKind>
+    ensures { result ≡ branch_line sc.now (map (λ f. f.now) cells.now) }
+{
+    if !fits_prefix(sc, cells) {
+        return Err(PlanKind::BadLine);
+    }
+    match places_in(sc, cells) {
+        None => Err(PlanKind::BadNumber),
+        Some(prefix) => Ok(TreeNode {
+            prefix,
+            kind: Kind::Branch,
+        }),
+    }
+}
+
+fn read_bounded(sc: &Scenario, fields: &[&[u8]]) -> Result<Bounded, PlanKind>
+    ensures { result ≡ bounded_line sc.now (map (λ f. f.now) fields.now) }
+{
+    match fields {
+        [] => Err(PlanKind::BadLine),
+        [bound, cells @ ..] => {
+            if !fits_prefix(sc, cells) {
+                return Err(PlanKind::BadLine);
+            }
+            match (amount_in(bound), places_in(sc, cells)) {
+                (Some(bound), Some(prefix)) => Ok(Bounded { bound, prefix }),
+                _ => Err(PlanKind::BadNumber),
+            }
+        }
+    }
+}
+
+fn tangent_of(
+    bound: Option<u128>,
+    prefix: Option<Path>,
+    reference: Option<Path>,
+) -> Result<TreeNode, PlanKind>
+    ensures { result ≡ tangent_of_lem bound prefix reference }
+{
+    match (bound, prefix, reference) {
+        (Some(bound), Some(prefix), Some(reference)) => Ok(TreeNode {
+            prefix,
+            kind: Kind::Tangent(bound, reference),
+        }),
+        _ => Err(PlanKind::BadNumber),
+    }
+}
+
+fn tangent_at(sc: &Scenario, bound: &[u8], cells: &[&[u8]]) -> Result<TreeNode, PlanKind>
+    ensures { result ≡ tangent_at_lem sc.now bound.now (map (λ f. f.now) cells.now) }
+{
+    let horizon = sc.horizon() as usize;
+    if cells.len() < horizon || cells.len() > 2 * horizon {
+        return Err(PlanKind::BadLine);
+    }
+    let own = cells.len() - horizon;
+    tangent_of(
+        amount_in(bound),
+        places_in(sc, &cells[..own]),
+        places_in(sc, &cells[own..]),
+    )
+}
+
+fn read_tangent(sc: &Scenario, fields: &[&[u8]]) -> Result<TreeNode, PlanKind>
+    ensures { result ≡ tangent_line sc.now (map (λ f. f.now) fields.now) }
+{
+    match fields {
+        [] => Err(PlanKind::BadLine),
+        [bound, cells @ ..] => tangent_at(sc, bound, cells),
+    }
+}
+
+/// A record, from the fields of its line.
+pub fn read_node(sc: &Scenario, fields: &[&[u8]]) -> Result<TreeNode, PlanKind>
+    ensures { result ≡ node_line sc.now (map (λ f. f.now) fields.now) }
+{
+    match fields {
+        [letter, cells @ ..] if *letter == b"B".as_slice() => read_branch(sc, cells),
+        [letter, fields @ ..] if *letter == b"W".as_slice() => {
+            let Bounded { bound, prefix } = read_bounded(sc, fields)?;
+            Ok(TreeNode {
+                prefix,
+                kind: Kind::Whole(bound),
+            })
+        }
+        [letter, fields @ ..] if *letter == b"M".as_slice() => {
+            let Bounded { bound, prefix } = read_bounded(sc, fields)?;
+            Ok(TreeNode {
+                prefix,
+                kind: Kind::Mean(bound),
+            })
+        }
+        [letter, fields @ ..] if *letter == b"T".as_slice() => read_tangent(sc, fields),
+        _ => Err(PlanKind::BadLine),
+    }
+}
+
+/// Takes a record of this prefix and kind, where one is due.
+pub fn push_node(draft: &mut Draft, prefix: Path, kind: Kind) -> Result<(), LineStop>
+    ensures { TakesLine draft.new result (with_node (state_of draft.old) (Ok (record { prefix = prefix; kind = kind }))) }
+{
+    if draft.nodes.len() as u128 >= draft.count {
+        return Err(LineStop::Fault(PlanKind::WrongCount));
+    }
+    draft.nodes.push(TreeNode { prefix, kind })?;
+    Ok(())
+}
