@@ -8,7 +8,7 @@ use Rattle.bound_tree.specs.declared.node.TreeNode.{TreeNode}
 use Rattle.bound_tree.specs.FullTree.{prefixes_of}
 use Rattle.path_listing.specs.Growing.{below}
 use Rattle.path_listing.specs.Laws.{GrowsFullTree}
-use Rattle.path_listing.proofs.Pairs.{AllPairs-map}
+use Rattle.list_laws.proofs.Pairs.{AllPairs-map}
 use Rattle.path_listing.proofs.Subtrees.{node_of, Continues, continued, listed, kinds_below, ascending_below}
 use Rattle.std.proofs.lemmas.List.Elements.{All-contains}
 

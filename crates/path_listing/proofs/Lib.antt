@@ -1,5 +1,3 @@
-pub mod Pairs
-pub mod Parts
 pub mod Moves
 pub mod Subtrees
 pub mod FullTrees

@@ -15,8 +15,8 @@ use Rattle.bound_tree.specs.declared.node.Kind.TheVariants.{Branch, Whole}
 use Rattle.bound_tree.specs.declared.node.TreeNode.{TreeNode}
 use Rattle.bound_tree.specs.FullTree.{full_kind}
 use Rattle.path_listing.specs.Growing.{subtree, below}
-use Rattle.path_listing.proofs.Pairs.{AllPairs-nil, AllPairs-cons}
-use Rattle.path_listing.proofs.Parts.{flat_map-same, All-flat_map, AllPairs-flat_map}
+use Rattle.list_laws.proofs.Pairs.{AllPairs-nil, AllPairs-cons}
+use Rattle.list_laws.proofs.Parts.{flat_map-same, All-flat_map, AllPairs-flat_map}
 
 -- the record of a prefix in a full tree
 abbrev pub node_of : Problem → List ℕ → TreeNode

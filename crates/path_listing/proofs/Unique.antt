@@ -9,7 +9,7 @@ use Rattle.search_model.proofs.Orders.{smaller_irreflexive, smaller_one_way}
 use Rattle.bound_tree.specs.declared.node.TreeNode.{TreeNode}
 use Rattle.bound_tree.specs.FullTree.{full_kind, prefixes_of}
 use Rattle.path_listing.specs.Laws.{OneFullTree}
-use Rattle.path_listing.proofs.Pairs.{AllPairs-head, AllPairs-tail}
+use Rattle.list_laws.proofs.Pairs.{AllPairs-head, AllPairs-tail}
 use Rattle.path_listing.proofs.Subtrees.{node_of}
 
 -- a list is smaller than another

@@ -1,7 +1,7 @@
 -- Lists that are joined from parts.
 use Rattle.std.proofs.Common.{◌≡◌, List, [], ◌∷◌, refl, All, AllPairs, Contains, flat_map}
 use Rattle.std.proofs.lemmas.List.Elements.{All-nil, All-append, All-head, All-tail, All-weaker, All-contains, All-contains_itself}
-use Rattle.path_listing.proofs.Pairs.{AllPairs-nil, AllPairs-head, AllPairs-tail, AllPairs-append}
+use Rattle.list_laws.proofs.Pairs.{AllPairs-nil, AllPairs-head, AllPairs-tail, AllPairs-append}
 
 -- equal parts are equal when joined
 pub flat_map-same : {A B : Type 0} (f g : A → List B) (xs : List A) → ((x : A) → f x ≡ g x) → flat_map f xs ≡ flat_map g xs
