@@ -5,3 +5,4 @@ pub mod Widths
 pub mod Decimals
 pub mod AppendLemmas
 pub mod RowLemmas
+pub mod Percents

@@ -3,6 +3,7 @@
 
 mod no_memory;
 mod number;
+mod percent;
 mod reading;
 #[cfg(test)]
 mod tests;
@@ -11,6 +12,7 @@ mod writing;
 
 pub use no_memory::NoMemory;
 pub use number::Number;
+pub use percent::{push_percent, worked_percents};
 pub use reading::{number_of, read_u128};
 pub use width::{fits, weight_of};
 pub use writing::{digits, push_u128};

@@ -49,3 +49,20 @@ fn a_number_is_appended(rt: HostRuntime) -> Result<(), Fail> {
     );
     Ok(())
 }
+
+#[test]
+fn shares_are_cut_off_after_three_digits(rt: HostRuntime) -> Result<(), Fail> {
+    let cases: [(u128, u128, &[u8]); 5] = [
+        (2, 3, b"66.666"),
+        (1, 16, b"6.250"),
+        (1, 1, b"100.000"),
+        (0, 5, b"0.000"),
+        (1, (1 << 123) - 1, b"0.000"),
+    ];
+    for (v, w, text) in cases {
+        let mut out = Vec::new(rt.alloc());
+        push_percent(&mut out, v, w).map_err(|_| "no memory")?;
+        assert_eq!(rt; out.as_slice(), text);
+    }
+    Ok(())
+}

@@ -2,3 +2,4 @@ pub mod Ascending
 pub mod Grids
 pub mod MoveRows
 pub mod NamedFaults
+pub mod Beside

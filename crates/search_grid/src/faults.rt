@@ -5,6 +5,8 @@ ghost use Rattle.std.specs.List.Sorted.{IsNonDecreasing, IsStrictlyIncreasing};
 ghost use Rattle.search_grid.specs.Moves.{moves_from, IsMoveRow, IsGrid};
 ghost use Rattle.search_grid.specs.Faults.{HasSameMoves, HasDouble, IsFirstOfRow, IsFirstFault};
 
+use std::alloc::AllocFailed;
+
 /// The most cells of a grid.
 const MAX_CELLS: usize = 200;
 
@@ -26,6 +28,16 @@ pub enum GridFault {
     DoubleMove(u8),
     /// No memory was found.
     NoMemory,
+}
+
+impl<T: Drop> From<AllocFailed<T>> for GridFault {
+    ghost use Rattle.search_grid.specs.declared.faults.GridFault.TheVariants.{NoMemory};
+
+    ghost from_gives = { λ _ e. e ≡ NoMemory };
+
+    fn from(_refused: AllocFailed<T>) -> GridFault {
+        GridFault::NoMemory
+    }
 }
 
 // Puts each row in ascending order, if the rows then make a grid.

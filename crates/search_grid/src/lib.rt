@@ -3,9 +3,11 @@
 
 mod faults;
 mod moves;
+mod sides;
 
 pub use faults::GridFault;
 pub use moves::Grid;
+pub use sides::worked_sides;
 
 #[cfg(test)]
 mod tests;

@@ -1,8 +1,10 @@
 //! The lists of moves.
 
-ghost use Rattle.std.specs.Prelude.{◌≡◌, ℕ, ◌<◌, ◌↔◌, length, map, IsTrue, IsOk, IfOk, IfErr, Contains};
+ghost use Rattle.std.specs.Prelude.{◌≡◌, ℕ, ◌<◌, ◌≤◌, ◌*◌, ◌↔◌, length, map, IsTrue, IsOk, IfOk, IfErr, Contains};
 
 use crate::faults::{GridFault, put_in_order};
+use crate::sides::all_beside;
+use std::alloc::Global;
 use std::marker::Model;
 
 /// Per cell, its moves in ascending order.
@@ -25,6 +27,8 @@ impl Model for Grid {
 impl Grid {
     ghost use Rattle.std.specs.Prelude.{Ok};
     ghost use Rattle.search_grid.specs.Moves.{IsGrid, moves_from};
+    ghost use Rattle.search_grid.specs.Sides.{side_moves};
+    ghost use Rattle.search_grid.specs.declared.faults.GridFault.TheVariants.{NoMemory};
     ghost use Rattle.search_grid.specs.Faults.{HasSameMoves, HasFault, IsFirstFault};
 
     /// Makes the grid whose cell `c` has the moves `rows[c]`, which it puts in ascending order.
@@ -39,6 +43,22 @@ impl Grid {
         ensures kept { let given = map (λ row. row.items) rows.items in IsGrid given → result ≡ Ok given }
     {
         put_in_order(&mut rows)?;
+        Ok(Grid { rows })
+    }
+
+    /// Makes the grid of so many rows and columns, counted row by row from 0: from a cell the searcher stays, or goes
+    /// one cell up, down, left or right.
+    ///
+    /// The only error is `NoMemory`.
+    pub fn four_neighbour(alloc: Global, rows: u8, columns: u8) -> Result<Grid, GridFault>
+        requires some_row { 1 ≤ rows }
+        requires some_column { 1 ≤ columns }
+        requires few { rows * columns ≤ 200 }
+        ensures made { IfOk result (λ grid. grid ≡ side_moves rows columns) }
+        ensures sound { IfOk result IsGrid }
+        ensures no_memory { IfErr result (λ fault. fault ≡ NoMemory) }
+    {
+        let rows = all_beside(alloc, rows, columns)?;
         Ok(Grid { rows })
     }
 

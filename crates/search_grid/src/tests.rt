@@ -56,3 +56,25 @@ fn each_fault_of_a_row_has_its_name(rt: HostRuntime) -> Result<(), Fail> {
     );
     Ok(())
 }
+
+#[test]
+fn the_cells_at_the_sides_are_moves(rt: HostRuntime) -> Result<(), Fail> {
+    let cases: [(u8, u8, u8, &[u8]); 8] = [
+        (1, 2, 0, &[0, 1]),
+        (1, 2, 1, &[0, 1]),
+        (3, 3, 4, &[1, 3, 4, 5, 7]),
+        (3, 3, 0, &[0, 1, 3]),
+        (3, 3, 8, &[5, 7, 8]),
+        (2, 3, 2, &[1, 2, 5]),
+        (2, 3, 3, &[0, 3, 4]),
+        (200, 1, 199, &[198, 199]),
+    ];
+    for (rows, columns, cell, moves) in cases {
+        let Ok(grid) = Grid::four_neighbour(rt.alloc(), rows, columns) else {
+            return Err(Fail::from("no grid"));
+        };
+        assert!(rt; cell < grid.cells());
+        assert_eq!(rt; grid.moves(cell), moves);
+    }
+    Ok(())
+}

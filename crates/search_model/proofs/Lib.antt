@@ -15,3 +15,4 @@ pub mod Best
 pub mod Examples
 pub mod ExampleProblems
 pub mod ExampleBounds
+pub mod Rates

@@ -4,6 +4,8 @@ use Rattle.search_model.specs.Problem.{Problem, IsProblem}
 use Rattle.search_model.specs.Legal.{Follows, walks}
 use Rattle.search_model.specs.Tracks.{tracks, weight_of, missed_weight, whole_weight}
 use Rattle.search_model.specs.Order.{IsBest}
+use Rattle.search_model.specs.Bounds.{IsRate}
+use Rattle.sweep_table.specs.LookParts.{IsOneRate}
 
 -- the weights of all tracks sum to the total times the drift's denominators
 abbrev pub WeightsSum : Type 0
@@ -20,3 +22,7 @@ WalksFollow = (rows : List (List ℕ)) (n a : ℕ) (y : List ℕ) → Contains (
 -- there is a best path, and no second one
 abbrev pub OneBest : Type 0
 OneBest = (p : Problem) → IsProblem p → (q : List ℕ) × IsBest p q × ((r : List ℕ) → IsBest p r → r ≡ q)
+
+-- a sweep has one rate exactly where that is the rate of the problem's look factors
+abbrev pub OneRateIsRate : Type 0
+OneRateIsRate = (p : Problem) (rate : ℕ) → IsProblem p → IsOneRate p.sweep rate ↔ IsRate p rate

@@ -1,5 +1,5 @@
 -- The bounds of the small problems.
-use Rattle.std.specs.Prelude.{ℕ, ◌≡◌, [], ◌∷◌}
+use Rattle.std.specs.Prelude.{◌≡◌, [], ◌∷◌}
 use Rattle.search_model.specs.Bounds.{reward_of, mean_of, tangent_of}
 use Rattle.search_model.specs.Worked.{two_cells, waiting_target, waiting_longer}
 

@@ -1,6 +1,6 @@
 //! What the definitions say together.
 
-ghost use Rattle.search_model.specs.Laws.{WeightsSum, NothingCutOff, WalksFollow, OneBest};
+ghost use Rattle.search_model.specs.Laws.{WeightsSum, NothingCutOff, WalksFollow, OneBest, OneRateIsRate};
 
 /// The weights of all tracks sum to the total times the drift's denominators.
 pub fn weights_sum()
@@ -20,6 +20,11 @@ pub fn walks_follow()
 /// There is a best path, and no second one.
 pub fn one_best()
     ensures { OneBest }
+{}
+
+/// `Sweep::one_rate` answers the rate of a scenario's look factors, and `None` where they have none.
+pub fn one_rate_is_rate()
+    ensures { OneRateIsRate }
 {}
 
 ghost use Rattle.search_model.specs.Worked.{WorkedValues};

@@ -5,6 +5,9 @@ use std::alloc::{AllocError, Global};
 use std::test::Fail;
 use sweep_table::Sweep;
 
+// Holds of what may be shared between threads and moved to one.
+fn crosses_threads<T: Send + Sync + Drop>(_value: T) {}
+
 #[test]
 fn a_path_has_at_most_32_positions(rt: HostRuntime) -> Result<(), Fail> {
     assert!(rt; Path::of(&[7; 33]).is_none());
@@ -172,6 +175,8 @@ fn a_scenario_is_made_of_its_parts(rt: HostRuntime) -> Result<(), Fail> {
     assert!(rt; sc.cells() == 3);
     assert_eq!(rt; sc.first(2), 1);
     assert_eq!(rt; sc.name(2).bytes(), b"c".as_slice());
+    crosses_threads(sc);
+    crosses_threads(standing(7, &[2, 2, 2]));
     Ok(())
 }
 

@@ -1,5 +1,5 @@
 -- The searcher's looks: what contracts see of a sweep is its denominator and, per position, the overlook part.
-use Rattle.std.specs.Prelude.{ℕ, ◌≡◌, ◌<◌, ◌≤◌, ◌==◌, ◌⊎◌, if◌then◌else◌, List, length, slice_index}
+use Rattle.std.specs.Prelude.{ℕ, ◌≡◌, ◌<◌, ◌≤◌, ◌==◌, ◌⊎◌, if◌then◌else◌, List, length, slice_index, All, Contains}
 
 pub record LookParts : Type 0 where
   pub denominator : ℕ
@@ -37,3 +37,9 @@ pub record IsFirstOver (denominator : ℕ) (overlook : List ℕ) (c : ℕ) : Typ
   pub cell : c < length overlook
   pub over : denominator < slice_index overlook c
   pub earlier : (k : ℕ) → k < c → slice_index overlook k ≤ denominator
+
+-- every overlook part is the rate or the denominator, and the rate is the least of them
+pub record IsOneRate (sweep : LookParts) (rate : ℕ) : Type 0 where
+  pub either : All (λ part. (part ≡ rate) ⊎ (part ≡ sweep.denominator)) sweep.overlook
+  pub least : All (λ part. rate ≤ part) sweep.overlook
+  pub reached : Contains sweep.overlook rate

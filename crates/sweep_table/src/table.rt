@@ -1,6 +1,6 @@
 //! The table of look factors.
 
-ghost use Rattle.std.specs.Prelude.{◌≡◌, ℕ, ◌<◌, ◌≤◌, ◌↔◌, IfOk, IfSome, IfNone, IsOk, IsErrOf, length, slice_index};
+ghost use Rattle.std.specs.Prelude.{◌≡◌, ℕ, ◌<◌, ◌≤◌, ◌↔◌, ◌⊎◌, [], IfOk, IfSome, IfNone, IsOk, IsErrOf, IsTrue, length, slice_index, All, Contains};
 
 use std::marker::Model;
 
@@ -34,7 +34,7 @@ impl Model for Sweep {
 }
 
 impl Sweep {
-    ghost use Rattle.sweep_table.specs.LookParts.{factor_of, positions_of, cells_of, parts_over, IsSweep, HasWrongCount, IsFirstOver};
+    ghost use Rattle.sweep_table.specs.LookParts.{factor_of, positions_of, cells_of, parts_over, IsSweep, IsOneRate, HasWrongCount, IsFirstOver};
 
     /// Makes the table of a look that misses, of a target in the searcher's own cell, that cell's part
     /// out of `denominator`, and all of a target elsewhere.
@@ -100,6 +100,36 @@ impl Sweep {
             self.denominator
         }
     }
+
+    /// The least overlook part, where every part is that one or the denominator.
+    pub fn one_rate(&self) -> Option<u32>
+        ensures some { IfSome result (IsOneRate self.now) }
+        ensures none { IfNone result ((rate : ℕ) → ¬ IsOneRate self.now rate) }
+        ensures sound { IsSweep self.now }
+    {
+        let rate = least_of(&self.overlook)?;
+        if are_either(&self.overlook, rate, self.denominator) {
+            Some(rate)
+        } else {
+            None
+        }
+    }
+}
+
+// The least of some parts.
+fn least_of(parts: &[u32]) -> Option<u32>
+    ensures least { IfSome result (λ least. All (λ part. least ≤ part) parts.now) }
+    ensures reached { IfSome result (Contains parts.now) }
+    ensures none { IfNone result (parts.now ≡ []) }
+{
+    parts.iter().copied().min()
+}
+
+// Whether each part is one of these two.
+fn are_either(parts: &[u32], one: u32, other: u32) -> bool
+    ensures { IsTrue result ↔ All (λ part. (part ≡ one) ⊎ (part ≡ other)) parts.now }
+{
+    parts.iter().all(|part| *part == one || *part == other)
 }
 
 // The least cell whose part exceeds the denominator.
