@@ -1,0 +1,11 @@
+pub mod TrackSteps
+pub mod MassSteps
+pub mod MassTotals
+pub mod LaterTracks
+pub mod Missed
+pub mod Rewards
+pub mod Examples
+pub mod RowSteps
+pub mod BeliefSteps
+pub mod Looks
+pub mod PrefixValues

@@ -1,0 +1,4 @@
+pub mod Masses
+pub mod Belief
+pub mod Laws
+pub mod Worked

@@ -1,0 +1,60 @@
+//! A look and a step of the drift, over plain lists of masses.
+
+ghost use Rattle.std.specs.Prelude.{◌≡◌, ◌<◌, ◌≤◌, ◌+◌, ◌*◌, ◌^◌, ℕ, length, slice_index, sum_by, All};
+ghost use Rattle.std.specs.List.{range_with_len};
+ghost use Rattle.drift_chain.specs.DriftRows.{part_in, part_of, drift_cells};
+ghost use Rattle.sweep_table.specs.LookParts.{factor_of, positions_of, cells_of};
+
+use drift_chain::{Drift, DriftPart};
+use sweep_table::Sweep;
+
+/// Multiplies each mass by the factor of a look from position `a` in period `t`.
+pub fn weaken(masses: &mut [u128], sweep: &Sweep, t: u32, a: u8)
+    requires cells { length masses.old ≡ cells_of sweep.now }
+    requires first { 1 ≤ t }
+    requires last { t ≤ 32 }
+    requires position { a < positions_of sweep.now }
+    requires fits { (c : ℕ) → c < length masses.old → slice_index masses.old c * factor_of sweep.now t a c < 2 ^ 127 }
+    ensures each { (c : ℕ) → c < length masses.old → slice_index masses.new c ≡ slice_index masses.old c * factor_of sweep.now t a c }
+{
+    for c in 0..sweep.cells() {
+        masses[c as usize] *= u128::from(sweep.factor(t, a, c));
+    }
+}
+
+/// Adds what a row sends on of a mass.
+fn spread(next: &mut [u128], row: &[DriftPart], mass: u128)
+    requires entries { All (λ entry. entry.cell < length next.old) row.now }
+    requires fits { (d : ℕ) → d < length next.old → slice_index next.old d + mass * part_in row.now d < 2 ^ 127 }
+    ensures each { (d : ℕ) → d < length next.old → slice_index next.new d ≡ slice_index next.old d + mass * part_in row.now d }
+{
+    for entry in row {
+        next[entry.cell as usize] += mass * u128::from(entry.part);
+    }
+}
+
+/// Adds what a row sends on of a mass, in no time where there is none.
+fn spread_some(next: &mut [u128], row: &[DriftPart], mass: u128)
+    requires entries { All (λ entry. entry.cell < length next.old) row.now }
+    requires fits { (d : ℕ) → d < length next.old → slice_index next.old d + mass * part_in row.now d < 2 ^ 127 }
+    ensures each { (d : ℕ) → d < length next.old → slice_index next.new d ≡ slice_index next.old d + mass * part_in row.now d }
+{
+    if mass > 0 {
+        spread(next, row, mass);
+    }
+}
+
+/// Writes into `next` what the drift makes of the masses in the step after period `t`.
+pub fn move_on(next: &mut [u128], masses: &[u128], drift: &Drift, t: u32)
+    requires cells { length next.old ≡ length masses.now }
+    requires rows { length masses.now ≡ drift_cells drift.now }
+    requires first { 1 ≤ t }
+    requires last { t ≤ 31 }
+    requires fits { (d : ℕ) → d < length masses.now → sum_by (λ c. slice_index masses.now c * part_of drift.now t c d) (range_with_len 0 (length masses.now)) < 2 ^ 127 }
+    ensures each { (d : ℕ) → d < length masses.now → slice_index next.new d ≡ sum_by (λ c. slice_index masses.now c * part_of drift.now t c d) (range_with_len 0 (length masses.now)) }
+{
+    next.fill(0);
+    for c in 0..drift.cells() {
+        spread_some(next, drift.row(t, c), masses[c as usize]);
+    }
+}
