@@ -1,0 +1,6 @@
+pub mod Filtered
+pub mod Splits
+pub mod Meeting
+pub mod Examples
+pub mod RowSteps
+pub mod Tables

@@ -1,0 +1,4 @@
+pub mod Masses
+pub mod Table
+pub mod Laws
+pub mod Worked

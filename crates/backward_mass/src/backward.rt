@@ -1,0 +1,68 @@
+//! The backward pass.
+
+ghost use Rattle.std.specs.Prelude.{◌≡◌, ◌<◌, ◌≤◌, ◌^◌, List, ℕ, IfOk};
+ghost use Rattle.search_model.specs.Problem.{Problem, IsProblem};
+ghost use Rattle.search_model.specs.Legal.{IsPath};
+ghost use Rattle.backward_mass.specs.Masses.{backward_of};
+ghost use Rattle.backward_mass.specs.Table.{IsMadeFor, IsFilled};
+
+use crate::periods::fill_periods;
+use exact_parts::NoMemory;
+use search_model::{Path, Scenario};
+use std::alloc::Global;
+use std::marker::Model;
+
+/// Per period and cell, the sum over all that may follow the cell of drift parts times the factors of a path's later
+/// looks.
+#[derive(Drop)]
+pub struct Backward {
+    cells: u8,
+    horizon: u32,
+    masses: Vec<u128>,
+}
+
+impl Model for Backward {
+    ghost use Rattle.std.specs.Prelude.{◌≡◌, ◌*◌, length};
+    ghost use Rattle.backward_mass.specs.Table.{BackwardTable};
+
+    ghost Value = { BackwardTable };
+
+    ghost view = { λ b. record { cells = b.cells; horizon = b.horizon; masses = b.masses.items } };
+
+    ghost invariant = { λ b. length b.masses.items ≡ b.horizon * b.cells };
+}
+
+impl Backward {
+    /// Room for the masses of a scenario's paths: one for each cell of each period.
+    pub fn tables(alloc: Global, sc: &Scenario) -> Result<Backward, NoMemory>
+        ensures { IfOk result (IsMadeFor sc.now) }
+    {
+        let size = sc.horizon() as usize * usize::from(sc.cells());
+        Ok(Backward {
+            cells: sc.cells(),
+            horizon: sc.horizon(),
+            masses: vec![in alloc; 0; size]?,
+        })
+    }
+
+    /// Computes the masses of a path, in place of those that stood there. Takes no memory.
+    pub fn fill(&mut self, sc: &Scenario, path: &Path)
+        requires made { IsMadeFor sc.now self.old }
+        requires path { IsPath sc.now path.now }
+        ensures { IsFilled sc.now path.now self.new }
+    {
+        fill_periods(&mut self.masses, sc, path.cells());
+    }
+
+    /// The mass of cell `c` in period `t`, under the looks after period `t` of the path that the masses were last
+    /// computed of: below 2 ^ 127.
+    pub fn at(&self, t: u32, c: u8) -> u128
+        requires first { 1 ≤ t }
+        requires last { t ≤ self.now.horizon }
+        requires cell { c < self.now.cells }
+        ensures mass { (p : Problem) (q : List ℕ) → IsFilled p q self.now → result ≡ backward_of p q t c }
+        ensures fits { (p : Problem) (q : List ℕ) → IsProblem p → IsFilled p q self.now → result < 2 ^ 127 }
+    {
+        self.masses[(t as usize - 1) * usize::from(self.cells) + usize::from(c)]
+    }
+}
