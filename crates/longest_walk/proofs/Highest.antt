@@ -1,0 +1,90 @@
+-- Rewards that agree, and rewards that are bounded.
+use Rattle.std.proofs.Common.{ℕ, zero, suc, ◌+◌, ◌≤◌, ◌<◌, ◌≡◌, List, [], ◌∷◌, map, length, refl, ap, ◌∙◌, arith, All, Contains}
+use Rattle.std.specs.List.{range_with_len}
+use Rattle.std.proofs.lemmas.List.FromFn.{length-range_with_len, get_or-range_with_len}
+use Rattle.std.proofs.lemmas.List.Elements.{All-nil, All-cons, All-map, All-weaker, All-contains_itself}
+use Rattle.std.proofs.lemmas.List.Sums.{sum_by-cons}
+use Rattle.search_grid.specs.Moves.{IsGrid}
+use Rattle.search_model.specs.Legal.{walks, Follows}
+use Rattle.search_model.specs.Bounds.{sum_along, greatest}
+use Rattle.search_model.proofs.Members.{Contains-map}
+use Rattle.search_model.proofs.LegalLemmas.{move_within}
+use Rattle.search_model.proofs.WalkLemmas.{listed_walk}
+use Rattle.longest_walk.specs.Sums.{highest, highest_sum}
+use Rattle.longest_walk.specs.Laws.{SameRewardsSameSum, HighestAbove, HighestBelow}
+use Rattle.longest_walk.proofs.Greatest.{greatest_above, greatest_below, map_agree}
+
+-- along one walk
+sum_along-same : (rows : List (List ℕ)) → IsGrid rows → (r s : ℕ → ℕ → ℕ) (n t a : ℕ) (y : List ℕ) → a < length rows → Follows rows a y → length y ≡ n →
+    ((u q : ℕ) → t ≤ u → u < t + n → q < length rows → r u q ≡ s u q) → sum_along r t y ≡ sum_along s t y
+unfolding sum_along
+sum_along-same rows grid r s n t a [] here follows long same = refl
+sum_along-same rows grid r s zero t a (b ∷ y) here follows long same = cc
+sum_along-same rows grid r s (suc n) t a (b ∷ y) here follows long same =
+    let there : b < length rows = move_within rows grid a b here follows.0 in
+    let first : r t b ≡ s t b = same t b (omega arith) (omega arith) there in
+    let rest : sum_along r (t + 1) y ≡ sum_along s (t + 1) y = sum_along-same rows grid r s n (t + 1) b y there follows.1 (cc) (λ u q from to at. same u q (omega (arith, from)) (omega (arith, to)) at) in
+    omega (arith, first, rest)
+
+pub same_rewards_same_sum : SameRewardsSameSum
+same_rewards_same_sum rows r s n t a grid here same =
+    ap greatest (map_agree (sum_along r t) (sum_along s t) (walks rows n a)
+    (All-weaker (Contains (walks rows n a)) (λ y. sum_along r t y ≡ sum_along s t y)
+    (λ y listed. let known = listed_walk rows n a y listed in sum_along-same rows grid r s n t a y here known.0 known.1 same)
+    (walks rows n a) (All-contains_itself (walks rows n a))))
+
+-- a number below the length stands in the range
+Contains-range : (n q : ℕ) → q < n → Contains (range_with_len 0 n) q
+Contains-range n q less =
+    (q, rw length-range_with_len less, get_or-range_with_len 0 n q q less ∙ omega arith)
+
+-- no reward is above the highest of its period
+pub highest_above_reward : (cells : ℕ) (r : ℕ → ℕ → ℕ) (t q : ℕ) → q < cells → r t q ≤ highest cells r t
+highest_above_reward cells r t q less = greatest_above (map (r t) (range_with_len 0 cells)) (r t q) (Contains-map (r t) (range_with_len 0 cells) q (Contains-range cells q less))
+
+-- the first period's highest reward, and those of the rest
+pub highest_sum-suc : (cells : ℕ) (r : ℕ → ℕ → ℕ) (n t : ℕ) → highest_sum cells r (suc n) t ≡ highest cells r t + highest_sum cells r n (t + 1)
+highest_sum-suc cells r n t = sum_by-cons (highest cells r) t (range_with_len (t + 1) n)
+
+-- along one walk
+sum_along_below_highest : (rows : List (List ℕ)) → IsGrid rows → (r : ℕ → ℕ → ℕ) (n t a : ℕ) (y : List ℕ) → a < length rows → Follows rows a y → length y ≡ n →
+    sum_along r t y ≤ highest_sum (length rows) r n t
+unfolding sum_along
+sum_along_below_highest rows grid r n t a [] here follows long = omega arith
+sum_along_below_highest rows grid r zero t a (b ∷ y) here follows long = cc
+sum_along_below_highest rows grid r (suc n) t a (b ∷ y) here follows long =
+    let there : b < length rows = move_within rows grid a b here follows.0 in
+    let first = highest_above_reward (length rows) r t b there in
+    let rest = sum_along_below_highest rows grid r n (t + 1) b y there follows.1 (cc) in
+    omega (arith, first, rest, highest_sum-suc (length rows) r n t)
+
+pub highest_above : HighestAbove
+highest_above rows r n t a grid here =
+    greatest_below (highest_sum (length rows) r n t) (map (sum_along r t) (walks rows n a))
+    (All-map (λ v. v ≤ highest_sum (length rows) r n t) (sum_along r t) (walks rows n a)
+    (All-weaker (Contains (walks rows n a)) (λ y. sum_along r t y ≤ highest_sum (length rows) r n t)
+    (λ y listed. let known = listed_walk rows n a y listed in sum_along_below_highest rows grid r n t a y here known.0 known.1)
+    (walks rows n a) (All-contains_itself (walks rows n a))))
+
+-- each number of a range is within it
+All-range : (P : ℕ → Type 0) (a n : ℕ) → ((q : ℕ) → a ≤ q → q < a + n → P q) → All P (range_with_len a n)
+All-range P a zero each = All-nil P
+All-range P a (suc n) each = All-cons P a (range_with_len (a + 1) n) (each a (omega arith) (omega arith)) (All-range P (a + 1) n (λ q from to. each q (omega (arith, from)) (omega (arith, to))))
+
+pub highest_below : HighestBelow
+highest_below cells most r zero t each = omega arith
+highest_below cells most r (suc n) t each =
+    let first : highest cells r t ≤ most =
+    greatest_below most (map (r t) (range_with_len 0 cells)) (All-map (λ v. v ≤ most) (r t) (range_with_len 0 cells)
+    (All-range (λ q. r t q ≤ most) 0 cells (λ q from to. each t q (omega arith) (omega arith) (omega (arith, to))))) in
+    let rest = highest_below cells most r n (t + 1) (λ u q from to less. each u q (omega (arith, from)) (omega (arith, to)) less) in
+    omega (arith, first, rest, highest_sum-suc cells r n t)
+
+-- fewer periods have no greater sum
+pub highest_sum-later : (cells : ℕ) (r : ℕ → ℕ → ℕ) (j n t : ℕ) → highest_sum cells r n (t + j) ≤ highest_sum cells r (j + n) t
+highest_sum-later cells r zero n t = let e : t + 0 ≡ t = omega arith in let f : 0 + n ≡ n = omega arith in rw (e, f) (omega arith)
+highest_sum-later cells r (suc j) n t =
+    let rest = highest_sum-later cells r j n (t + 1) in
+    let e : t + suc j ≡ t + 1 + j = omega arith in
+    let f : suc j + n ≡ suc (j + n) = omega arith in
+    rw (e, f) (omega (arith, rest, highest_sum-suc cells r (j + n) t))

@@ -1,0 +1,8 @@
+pub mod Greatest
+pub mod Steps
+pub mod LeastWalks
+pub mod Highest
+pub mod RowSteps
+pub mod Filling
+pub mod LeastSteps
+pub mod Examples

@@ -1,0 +1,69 @@
+-- The greatest sum over longer walks, by way of each first move.
+use Rattle.std.proofs.Common.{ℕ, suc, ◌+◌, ◌≤◌, ◌<◌, ◌≡◌, List, [], ◌∷◌, ◌++◌, map, length, refl, ap, ◌∙◌, All, Contains, flat_map}
+use Rattle.std.proofs.lemmas.List.{length-map, map-append}
+use Rattle.std.proofs.lemmas.List.Elements.{All-weaker, All-contains_itself}
+use Rattle.search_grid.specs.Moves.{moves_from, IsGrid}
+use Rattle.search_model.specs.Legal.{walks}
+use Rattle.search_model.specs.Bounds.{sum_along, greatest}
+use Rattle.search_model.proofs.Members.{Contains-some, Contains-map}
+use Rattle.search_model.proofs.LegalLemmas.{move_within}
+use Rattle.search_model.proofs.WalkLemmas.{some_walk, walk_listed}
+use Rattle.longest_walk.specs.Sums.{greatest_sum}
+use Rattle.longest_walk.proofs.Greatest.{greatest-one, greatest_above, greatest-raised, greatest-flat_map, map_agree}
+
+-- the greatest sum over the walks that are on a cell in period t and go on for n periods more
+abbrev pub sum_through : List (List ℕ) → (ℕ → ℕ → ℕ) → ℕ → ℕ → ℕ → ℕ
+sum_through rows r n t d = r t d + greatest_sum rows r n (t + 1) d
+
+-- no walk, no sum
+pub greatest_sum-zero : (rows : List (List ℕ)) (r : ℕ → ℕ → ℕ) (t a : ℕ) → greatest_sum rows r 0 t a ≡ 0
+unfolding walks sum_along
+greatest_sum-zero rows r t a = greatest-one 0
+
+-- a first cell adds its reward to each sum
+sums-first : (r : ℕ → ℕ → ℕ) (t b : ℕ) (ys : List (List ℕ)) → map (sum_along r t) (map (λ y. b ∷ y) ys) ≡ map (λ v. r t b + v) (map (sum_along r (t + 1)) ys)
+unfolding sum_along
+sums-first r t b [] = refl
+sums-first r t b (y ∷ ys) = ap (λ vs. (r t b + sum_along r (t + 1) y) ∷ vs) (sums-first r t b ys)
+
+map-flat_map : {A B : Type 0} (f : B → ℕ) (g : A → List B) (xs : List A) → map f (flat_map g xs) ≡ flat_map (λ x. map f (g x)) xs
+map-flat_map f g [] = refl
+map-flat_map f g (x ∷ xs) = map-append f (g x) (flat_map g xs) ∙ ap (λ vs. map f (g x) ++ vs) (map-flat_map f g xs)
+
+-- each cell has a walk of each length
+pub some_walks : (rows : List (List ℕ)) → IsGrid rows → (n a : ℕ) → a < length rows → 0 < length (walks rows n a)
+some_walks rows grid n a here =
+    let walk = some_walk rows grid n a here in
+    Contains-some (walks rows n a) walk.0 (walk_listed rows n a walk.0 walk.1 walk.2)
+
+-- by way of one first move
+sums-through : (rows : List (List ℕ)) → IsGrid rows → (r : ℕ → ℕ → ℕ) (n t b : ℕ) → b < length rows →
+    greatest (map (sum_along r t) (map (λ y. b ∷ y) (walks rows n b))) ≡ sum_through rows r n t b
+sums-through rows grid r n t b here =
+    ap greatest (sums-first r t b (walks rows n b))
+    ∙ greatest-raised (r t b) (map (sum_along r (t + 1)) (walks rows n b)) (rw length-map (some_walks rows grid n b here))
+
+-- what holds of each cell holds of each move
+pub All-moves : (rows : List (List ℕ)) → IsGrid rows → (P : ℕ → Type 0) → ((d : ℕ) → d < length rows → P d) → (a : ℕ) → a < length rows → All P (moves_from rows a)
+All-moves rows grid P each a here =
+    All-weaker (Contains (moves_from rows a)) P (λ d move. each d (move_within rows grid a d here move)) (moves_from rows a) (All-contains_itself (moves_from rows a))
+
+-- the greatest sum over walks that are longer by one is the greatest by way of a first move
+pub greatest_sum-suc : (rows : List (List ℕ)) → IsGrid rows → (r : ℕ → ℕ → ℕ) (n t a : ℕ) → a < length rows →
+    greatest_sum rows r (suc n) t a ≡ greatest (map (sum_through rows r n t) (moves_from rows a))
+unfolding walks
+greatest_sum-suc rows grid r n t a here =
+    let parts : ℕ → List (List ℕ) = λ b. map (λ y. b ∷ y) (walks rows n b) in
+    ap greatest (map-flat_map (sum_along r t) parts (moves_from rows a))
+    ∙ greatest-flat_map (λ b. map (sum_along r t) (parts b)) (moves_from rows a)
+    ∙ ap greatest (map_agree (λ b. greatest (map (sum_along r t) (parts b))) (sum_through rows r n t) (moves_from rows a)
+    (All-moves rows grid (λ b. greatest (map (sum_along r t) (parts b)) ≡ sum_through rows r n t b) (λ b within. sums-through rows grid r n t b within) a here))
+
+-- the first cell's reward, and the sum of the rest
+pub sum_along-cons : (r : ℕ → ℕ → ℕ) (t b : ℕ) (y : List ℕ) → sum_along r t (b ∷ y) ≡ r t b + sum_along r (t + 1) y
+unfolding sum_along
+sum_along-cons r t b y = refl
+
+-- no walk has more than the greatest sum
+pub sum_along-below : (rows : List (List ℕ)) (r : ℕ → ℕ → ℕ) (n t a : ℕ) (y : List ℕ) → Contains (walks rows n a) y → sum_along r t y ≤ greatest_sum rows r n t a
+sum_along-below rows r n t a y listed = greatest_above (map (sum_along r t) (walks rows n a)) (sum_along r t y) (Contains-map (sum_along r t) (walks rows n a) y listed)

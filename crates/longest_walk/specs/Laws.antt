@@ -1,0 +1,30 @@
+-- What the definitions say together.
+use Rattle.std.specs.Prelude.{ℕ, ◌≡◌, ◌+◌, ◌≤◌, ◌<◌, ◌*◌, List, length}
+use Rattle.search_grid.specs.Moves.{IsGrid}
+use Rattle.longest_walk.specs.Sums.{greatest_sum, IsLeastBest, highest_sum}
+
+-- rewards that are the same in each period from t on and at each cell have the same greatest sum
+abbrev pub SameRewardsSameSum : Type 0
+SameRewardsSameSum =
+    (rows : List (List ℕ)) (r s : ℕ → ℕ → ℕ) (n t a : ℕ) → IsGrid rows → a < length rows →
+    ((u q : ℕ) → t ≤ u → u < t + n → q < length rows → r u q ≡ s u q) →
+    greatest_sum rows r n t a ≡ greatest_sum rows s n t a
+
+-- from each cell there is one least walk of the greatest sum, and no second one
+abbrev pub OneLeastBest : Type 0
+OneLeastBest =
+    (rows : List (List ℕ)) (r : ℕ → ℕ → ℕ) (n t a : ℕ) → IsGrid rows → a < length rows →
+    (y : List ℕ) × IsLeastBest rows r n t a y × ((z : List ℕ) → IsLeastBest rows r n t a z → z ≡ y)
+
+-- no walk has more than the greatest rewards of its periods together
+abbrev pub HighestAbove : Type 0
+HighestAbove =
+    (rows : List (List ℕ)) (r : ℕ → ℕ → ℕ) (n t a : ℕ) → IsGrid rows → a < length rows →
+    greatest_sum rows r n t a ≤ highest_sum (length rows) r n t
+
+-- where no reward is above a bound, the greatest rewards of n periods are together at most n times the bound
+abbrev pub HighestBelow : Type 0
+HighestBelow =
+    (cells most : ℕ) (r : ℕ → ℕ → ℕ) (n t : ℕ) →
+    ((u q : ℕ) → t ≤ u → u < t + n → q < cells → r u q ≤ most) →
+    highest_sum cells r n t ≤ n * most

@@ -1,0 +1,12 @@
+//! Longest walks: the greatest sum of rewards over all continuations of the searcher's path, and the least continuation
+//! that reaches it.
+#![tactic(auto)]
+
+mod laws;
+mod rows;
+#[cfg(test)]
+mod tests;
+mod walk;
+
+pub use laws::{highest_above, highest_below, one_least_best, same_rewards_same_sum, worked_walks};
+pub use walk::Walk;

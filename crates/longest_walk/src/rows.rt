@@ -1,0 +1,102 @@
+//! The rows of the table, one for each period, with one sum for each cell.
+
+ghost use Rattle.std.specs.Prelude.{◌≡◌, ℕ, ◌+◌, ◌-◌, ◌*◌, ◌^◌, ◌<◌, ◌≤◌, List, length, drop, slice_index, All};
+ghost use Rattle.std.specs.List.Sorted.{IsStrictlyIncreasing};
+ghost use Rattle.search_grid.specs.Moves.{moves_from};
+ghost use Rattle.search_model.specs.Bounds.{greatest};
+ghost use Rattle.search_model.specs.Order.{Starts};
+ghost use Rattle.longest_walk.specs.Sums.{entry_at, highest_sum, IsLeastBest};
+ghost use Rattle.longest_walk.specs.Tables.{HasSums};
+ghost use Rattle.longest_walk.specs.Rows.{sums_at, IsLeastMove};
+
+use search_grid::Grid;
+use search_model::Path;
+
+// The greatest sum among some cells, in the row that begins at `row`.
+pub(crate) fn greatest_at(sums: &[u128], row: usize, cells: &[u8]) -> u128
+    requires { All (λ d. row + d < length sums.now) cells.now }
+    ensures { result ≡ greatest (sums_at sums.now row cells.now) }
+{
+    let mut best = 0;
+    for d in cells {
+        best = sums[row + usize::from(*d)].max(best);
+    }
+    best
+}
+
+// The first of some cells that have the greatest sum among them, in the row that begins at `row`.
+pub(crate) fn least_move(sums: &[u128], row: usize, cells: &[u8]) -> u8
+    requires some { 1 ≤ length cells.now }
+    requires within { All (λ d. row + d < length sums.now) cells.now }
+    requires ascending { IsStrictlyIncreasing cells.now }
+    ensures { IsLeastMove sums.now row cells.now result }
+{
+    let mut best = 0;
+    for i in 1..cells.len() {
+        if sums[row + usize::from(cells[i])] > sums[row + usize::from(cells[best])] {
+            best = i;
+        }
+    }
+    cells[best]
+}
+
+// Fills the row that begins at `here` from the row of the period after it, which begins at `next`.
+fn fill_row(sums: &mut [u128], grid: &Grid, rewards: &[u128], here: usize, next: usize)
+    requires order { here + length grid.now ≤ next }
+    requires rewards { here + length grid.now ≤ length rewards.now }
+    requires sums { next + length grid.now ≤ length sums.old }
+    requires fits { (c : ℕ) → c < length grid.now
+        → slice_index rewards.now (here + c) + greatest (sums_at sums.old next (moves_from grid.now c)) < 2 ^ 128 }
+    ensures row { (c : ℕ) → c < length grid.now
+        → slice_index sums.new (here + c) ≡ slice_index rewards.now (here + c) + greatest (sums_at sums.old next (moves_from grid.now c)) }
+    ensures later { (i : ℕ) → next ≤ i → slice_index sums.new i ≡ slice_index sums.old i }
+{
+    for c in 0..grid.cells() {
+        let place = here + usize::from(c);
+        sums[place] = rewards[place] + greatest_at(sums, next, grid.moves(c));
+    }
+}
+
+// Fills the row of the last period, which begins at `last`: after it comes nothing.
+fn fill_last(sums: &mut [u128], rewards: &[u128], last: usize)
+    requires last { last ≤ length sums.old }
+    requires rewards { length rewards.now ≡ length sums.old }
+    ensures { (i : ℕ) → last ≤ i → slice_index sums.new i ≡ slice_index rewards.now i }
+{
+    sums[last..].copy_from_slice(&rewards[last..]);
+}
+
+// Fills the rows of the periods after `k`, the last one first.
+pub(crate) fn fill_rows(sums: &mut [u128], grid: &Grid, rewards: &[u128], horizon: usize, k: usize)
+    requires horizon { horizon ≤ 32 }
+    requires period { k < horizon }
+    requires rewards { length rewards.now ≡ horizon * length grid.now }
+    requires sums { length sums.old ≡ horizon * length grid.now }
+    requires fits { let cells = length grid.now in highest_sum cells (entry_at cells rewards.now) (horizon - k) (k + 1) < 2 ^ 127 }
+    ensures { HasSums grid.now (length grid.now) horizon rewards.now k sums.new }
+{
+    let cells = usize::from(grid.cells());
+    fill_last(sums, rewards, (horizon - 1) * cells);
+    for t in (k + 1..horizon).rev() {
+        fill_row(sums, grid, rewards, (t - 1) * cells, t * cells);
+    }
+}
+
+// Appends the cells of the least walk of the greatest sum from a cell, one least move after another.
+pub(crate) fn append_least(sums: &[u128], grid: &Grid, horizon: usize, from: u8, to: &mut Path)
+    requires horizon { horizon ≤ 32 }
+    requires from { from < length grid.now }
+    requires sums { length sums.now ≡ horizon * length grid.now }
+    requires room { length to.old ≤ horizon }
+    ensures kept { Starts to.old to.new }
+    ensures least { let k = length to.old in let cells = length grid.now in
+        (rewards : List ℕ) → HasSums grid.now cells horizon rewards k sums.now
+        → IsLeastBest grid.now (entry_at cells rewards) (horizon - k) (k + 1) from (drop k to.new) }
+{
+    let cells = usize::from(grid.cells());
+    let mut at = from;
+    for t in to.len()..horizon {
+        at = least_move(sums, t * cells, grid.moves(at));
+        to.push(at);
+    }
+}
