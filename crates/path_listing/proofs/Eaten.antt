@@ -1,19 +1,17 @@
 -- The full tree is accepted with the best path.
-use Rattle.std.proofs.Common.{◌≡◌, ◌≢◌, ℕ, zero, suc, ◌+◌, ◌-◌, ◌<◌, ◌≤◌, true, false, List, [], ◌∷◌, ◌++◌, map, length, inl, inr, sym, refl, ap, ◌∙◌, subst, arith, append_assoc, Contains}
+use Rattle.std.proofs.Common.{◌≡◌, ℕ, zero, suc, ◌+◌, ◌-◌, false, List, [], ◌∷◌, ◌++◌, map, length, inl, inr, sym, refl, ap, ◌∙◌, subst, arith, append_assoc, Contains}
 use Rattle.std.specs.List.{flat_map}
 use Rattle.std.proofs.lemmas.List.{append-nil, length-append}
 use Rattle.search_model.specs.declared.standing.Standing.{Standing}
-use Rattle.search_model.specs.Problem.{Problem, IsProblem}
+use Rattle.search_model.specs.Problem.{Problem}
 use Rattle.search_model.specs.Legal.{IsLegal, IsPath, moves_after}
-use Rattle.search_model.specs.Tracks.{value_of}
 use Rattle.search_model.specs.Order.{better, standing_of, IsBest}
 use Rattle.search_model.proofs.Members.{Contains-head, Contains-tail}
 use Rattle.search_model.proofs.Orders.{same_or_differ, better_irreflexive, better_one_way}
 use Rattle.bound_tree.specs.declared.node.TreeNode.{TreeNode}
 use Rattle.bound_tree.specs.declared.plan.Plan.{Plan}
-use Rattle.bound_tree.specs.Accepts.{children_of, AreEaten, Accepts}
+use Rattle.bound_tree.specs.Accepts.{AreEaten}
 use Rattle.path_listing.specs.Growing.{subtree, below}
-use Rattle.path_listing.specs.Plans.{IsFullPlan}
 use Rattle.path_listing.specs.Laws.{FullPlanAccepted}
 use Rattle.path_listing.proofs.Moves.{legal_further}
 use Rattle.path_listing.proofs.FullTrees.{grows_full}

@@ -50,6 +50,50 @@ fn two_cells(alloc: Global) -> Result<Scenario, Fail> {
     })?)
 }
 
+// A row of the drift over nine cells: of ten parts two stay in cell `c`, and one goes to each other cell.
+fn spread_from(alloc: Global, c: u8) -> Result<Vec<DriftPart>, Fail> {
+    let mut row = Vec::new(alloc);
+    for d in 0..9 {
+        let part = if c == d { 2 } else { 1 };
+        row.push(DriftPart { cell: d, part })?;
+    }
+    Ok(row)
+}
+
+fn nine_names(alloc: Global) -> Result<Vec<Name>, Fail> {
+    let mut names = Vec::new(alloc);
+    for letter in b"abcdefghi" {
+        names.push(Name::new(&[*letter]).ok_or("no name")?)?;
+    }
+    Ok(names)
+}
+
+// Three rows of three cells, and six periods: the target moves from each cell to all, in 9 ^ 6 tracks; half of the looks
+// miss.
+fn nine_cells(alloc: Global) -> Result<Scenario, Fail> {
+    let drifts = vec![in alloc;
+        spread_from(alloc, 0)?,
+        spread_from(alloc, 1)?,
+        spread_from(alloc, 2)?,
+        spread_from(alloc, 3)?,
+        spread_from(alloc, 4)?,
+        spread_from(alloc, 5)?,
+        spread_from(alloc, 6)?,
+        spread_from(alloc, 7)?,
+        spread_from(alloc, 8)?,
+    ]?;
+    Ok(Scenario::new(Parts {
+        names: nine_names(alloc)?,
+        horizon: 6,
+        start: 0,
+        total: 45,
+        first: vec![in alloc; 1, 2, 3, 4, 5, 6, 7, 8, 9]?,
+        grid: Grid::four_neighbour(alloc, 3, 3)?,
+        drift: Drift::new(10, drifts)?,
+        sweep: Sweep::new(2, vec![in alloc; 1; 9]?)?,
+    })?)
+}
+
 // Whether a record is the branch of a prefix.
 fn is_branch(node: &TreeNode, prefix: &[u8]) -> bool {
     matches!(node.kind, Kind::Branch) && node.prefix.cells() == prefix
@@ -91,5 +135,15 @@ fn of_equal_values_the_least_path_is_planned(rt: HostRuntime) -> Result<(), Fail
     assert!(rt; is_branch(&nodes[4], &[1]));
     assert!(rt; is_whole(&nodes[5], 12, &[1, 0]));
     assert!(rt; is_whole(&nodes[6], 12, &[1, 1]));
+    Ok(())
+}
+
+#[test]
+fn many_tracks_take_no_time(rt: HostRuntime) -> Result<(), Fail> {
+    let plan = search_all(rt.alloc(), &nine_cells(rt.alloc())?)?;
+    assert_eq!(rt; plan.standing.path.cells(), [3, 6, 7, 8, 5, 4].as_slice());
+    assert_eq!(rt; plan.standing.value, 82_190_312);
+    assert_eq!(rt; plan.weight, 288_000_000);
+    assert_eq!(rt; plan.tree.nodes().len(), 3_107);
     Ok(())
 }

@@ -1,5 +1,5 @@
 -- What a checker keeps of a plan that it is given piece by piece.
-use Rattle.std.specs.Prelude.{ℕ, List, [], ◌∷◌, All, Option, None}
+use Rattle.std.specs.Prelude.{ℕ, ◌≡◌, List, [], ◌∷◌, All, Option, None}
 use Rattle.std.specs.Option.{option_or}
 use Rattle.search_model.specs.declared.standing.Standing.{Standing}
 use Rattle.search_model.specs.Problem.{Problem}
@@ -8,20 +8,22 @@ use Rattle.bound_tree.specs.declared.node.TreeNode.{TreeNode}
 use Rattle.tree_checker.specs.declared.verdict.RejectAt.{RejectAt}
 use Rattle.tree_checker.specs.Reasons.{head_reason, end_reason, tree_reason}
 
--- the plan's standing, the first reason so far, the prefixes that are expected next, and the line of the next record
+-- the plan's standing, the first reason so far, the prefixes that are expected next, the line of the next record, and the
+-- number of cells of the scenario that the checker was made for
 pub record Progress : Type 0 where
   pub standing : Standing
   pub reason : Option RejectAt
   pub expected : List (List ℕ)
   pub line : ℕ
+  pub cells : ℕ
 
 -- nothing was read
-abbrev pub at_start : Progress
-at_start = record { standing = record { path = []; value = 0 }; reason = None; expected = []; line = 5 }
+abbrev pub at_start : Problem → Progress
+at_start p = record { standing = record { path = []; value = 0 }; reason = None; expected = []; line = 5; cells = p.cells }
 
 -- the head was read: the empty prefix is expected in line 5
 abbrev pub after_head : Problem → Standing → ℕ → Progress
-after_head p s weight = record { standing = s; reason = head_reason p s weight; expected = [] ∷ []; line = 5 }
+after_head p s weight = record { standing = s; reason = head_reason p s weight; expected = [] ∷ []; line = 5; cells = p.cells }
 
 -- the first reason, should these records follow and then the end
 abbrev pub reason_if : Problem → Progress → List TreeNode → Option RejectAt
@@ -34,3 +36,7 @@ reason_at_end g = option_or g.reason (end_reason g.line g.expected)
 -- only legal prefixes are expected
 abbrev pub ExpectsLegal : Problem → Progress → Type 0
 ExpectsLegal p g = All (IsLegal p) g.expected
+
+-- the checker was made for a scenario of as many cells
+abbrev pub IsMadeFor : Problem → Progress → Type 0
+IsMadeFor p g = g.cells ≡ p.cells

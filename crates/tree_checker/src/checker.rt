@@ -1,6 +1,6 @@
 //! The checker.
 
-ghost use Rattle.std.specs.Prelude.{◌≡◌, ◌+◌, ◌<◌, ◌≤◌, ◌^◌, ◌∷◌, List, IfOk, IsSome, reverse, vec_capacity, All};
+ghost use Rattle.std.specs.Prelude.{◌≡◌, ◌+◌, ◌<◌, ◌≤◌, ◌^◌, ◌∷◌, List, IfOk, IsSome, length, reverse, vec_capacity, All};
 ghost use Rattle.std.specs.Option.{option_or};
 ghost use Rattle.search_model.specs.Legal.{IsLegal};
 ghost use Rattle.bound_tree.specs.declared.node.TreeNode.{TreeNode};
@@ -11,6 +11,7 @@ ghost use Rattle.tree_checker.specs.Room.{HasRoom};
 use crate::reasons::{head_reason, record_reason};
 use crate::stack::{pop_prefix, push_expected, push_prefix};
 use crate::verdict::{RejectAt, Verdict, Why};
+use belief_update::Belief;
 use bound_tree::TreeNode;
 use exact_parts::NoMemory;
 use search_model::{Path, Scenario, Standing};
@@ -21,23 +22,25 @@ use std::marker::Model;
 const ROOM: usize = 2_048;
 
 /// Checks a plan that it is given piece by piece: first its head, then each record, then its end. Its lines are those of
-/// the plan's text: 2 and 3 for the head, 5 for the first record. After it was made it takes no memory.
+/// the plan's text: 2 and 3 for the head, 5 for the first record. After it was made it takes no memory. It is used with
+/// the scenario that it was made for, or one of as many cells.
 #[derive(Drop)]
 pub struct Checker {
     standing: Standing,
     reason: Option<RejectAt>,
     expected: Vec<Path>,
     line: u64,
+    belief: Belief,
 }
 
 impl Model for Checker {
-    ghost use Rattle.std.specs.Prelude.{◌≤◌, reverse, vec_capacity};
+    ghost use Rattle.std.specs.Prelude.{◌≤◌, length, reverse, vec_capacity};
     ghost use Rattle.tree_checker.specs.Progress.{Progress};
     ghost use Rattle.tree_checker.specs.Room.{HasRoom};
 
     ghost Value = { Progress };
 
-    ghost view = { λ c. record { standing = c.standing; reason = c.reason; expected = reverse c.expected.items; line = c.line } };
+    ghost view = { λ c. record { standing = c.standing; reason = c.reason; expected = reverse c.expected.items; line = c.line; cells = length c.belief.masses } };
 
     ghost invariant = { λ c. (2048 ≤ vec_capacity c.expected) × HasRoom (reverse c.expected.items) };
 }
@@ -49,16 +52,19 @@ fn take_record(
     standing: &Standing,
     line: u64,
     expected: &mut Vec<Path>,
+    belief: &mut Belief,
     node: &TreeNode,
 ) -> Option<RejectAt>
     requires legal { All (IsLegal sc.now) (reverse expected.old.items) }
     requires room { HasRoom (reverse expected.old.items) }
     requires capacity { 2048 ≤ vec_capacity expected.old }
     requires plain { IsPlainKind node.now.kind }
+    requires cells { length belief.old.masses ≡ sc.now.cells }
     ensures reason { (rs : List TreeNode) → option_or result (tree_reason sc.now standing.now (line + 1) rs (reverse expected.new.items)) ≡ tree_reason sc.now standing.now line (node.now ∷ rs) (reverse expected.old.items) }
     ensures legal { All (IsLegal sc.now) (reverse expected.new.items) }
     ensures room { HasRoom (reverse expected.new.items) }
     ensures capacity { 2048 ≤ vec_capacity expected.new }
+    ensures cells { length belief.new.masses ≡ sc.now.cells }
 {
     let _sound = sc.horizon();
     let Some(prefix) = pop_prefix(expected) else {
@@ -67,7 +73,7 @@ fn take_record(
             why: Why::NotChild,
         });
     };
-    match record_reason(sc, standing, &prefix, node) {
+    match record_reason(sc, belief, standing, &prefix, node) {
         Some(why) => Some(RejectAt { line, why }),
         None => {
             push_expected(expected, sc, &prefix, &node.kind);
@@ -77,11 +83,11 @@ fn take_record(
 }
 
 impl Checker {
-    ghost use Rattle.tree_checker.specs.Progress.{at_start, after_head, reason_if, reason_at_end, ExpectsLegal};
+    ghost use Rattle.tree_checker.specs.Progress.{at_start, after_head, reason_if, reason_at_end, ExpectsLegal, IsMadeFor};
 
     /// A checker for the plans of a scenario, with all the memory that it will need.
-    pub fn tables(alloc: Global, _sc: &Scenario) -> Result<Checker, NoMemory>
-        ensures { IfOk result (λ c. c ≡ at_start) }
+    pub fn tables(alloc: Global, sc: &Scenario) -> Result<Checker, NoMemory>
+        ensures { IfOk result (λ c. c ≡ at_start sc.now) }
     {
         Ok(Checker {
             standing: Standing {
@@ -91,16 +97,18 @@ impl Checker {
             reason: None,
             expected: Vec::with_capacity(alloc, ROOM)?,
             line: 5,
+            belief: Belief::start(alloc, sc)?,
         })
     }
 
     /// Begins a plan: its path with its value, and the weight that the value is out of.
     pub fn head(&mut self, sc: &Scenario, standing: &Standing, weight: u128)
+        requires { IsMadeFor sc.now self.old }
         ensures begun { self.new ≡ after_head sc.now standing.now weight }
         ensures legal { ExpectsLegal sc.now self.new }
     {
         self.standing = *standing;
-        self.reason = head_reason(sc, standing, weight);
+        self.reason = head_reason(sc, &mut self.belief, standing, weight);
         self.expected.clear();
         push_prefix(&mut self.expected, Path::empty());
         self.line = 5;
@@ -111,13 +119,22 @@ impl Checker {
         requires legal { ExpectsLegal sc.now self.old }
         requires plain { IsPlainKind node.now.kind }
         requires line { self.old.line < 2 ^ 63 }
+        requires made { IsMadeFor sc.now self.old }
         ensures reason { (rs : List TreeNode) → reason_if sc.now self.new rs ≡ reason_if sc.now self.old (node.now ∷ rs) }
         ensures legal { ExpectsLegal sc.now self.new }
         ensures line { self.new.line ≤ self.old.line + 1 }
+        ensures made { IsMadeFor sc.now self.new }
         ensures settled { IsSome self.old.reason → self.new ≡ self.old }
     {
         if self.reason.is_none() {
-            self.reason = take_record(sc, &self.standing, self.line, &mut self.expected, node);
+            self.reason = take_record(
+                sc,
+                &self.standing,
+                self.line,
+                &mut self.expected,
+                &mut self.belief,
+                node,
+            );
             self.line += 1;
         }
     }

@@ -27,7 +27,8 @@ fn verdict(alloc: Global, sc: &Scenario, plan: &Plan) -> Result<Verdict, NoMemor
 }
 
 /// Whether a plan of branches and whole paths alone, with at most 1,048,576 records, is accepted; else the first
-/// reason against it. It sums over the target's tracks for each whole path, so it is meant for small problems.
+/// reason against it. Each value is computed by one belief that looks and drifts along the path, so the time grows with
+/// the number of records and not with that of the target's tracks.
 #[tactic(auto, using(crate::proofs::Reason::accepted_verdict))]
 pub fn check(alloc: Global, sc: &Scenario, plan: &Plan) -> Result<Verdict, NoMemory>
     requires plain { IsPlain plan.now }

@@ -1,13 +1,14 @@
 //! The tests of a plan's parts.
 
-ghost use Rattle.std.specs.Prelude.{◌≡◌, IsTrue};
+ghost use Rattle.std.specs.Prelude.{◌≡◌, IsTrue, length};
 ghost use Rattle.search_model.specs.Legal.{IsLegal};
 ghost use Rattle.bound_tree.specs.Laws.{IsPlainKind};
 ghost use Rattle.tree_checker.specs.Reasons.{first_failed, is_path as is_path_lem, value_tests, kind_tests, record_tests, head_reason as head_reason_lem};
 
 use crate::verdict::{RejectAt, Why};
+use belief_update::{Belief, prefix_value};
 use bound_tree::{Kind, TreeNode};
-use search_model::{Path, Scenario, Standing, better, value};
+use search_model::{Path, Scenario, Standing, better};
 
 /// Whether a prefix is legal and as long as the horizon.
 #[tactic(auto, using(crate::proofs::Paths::legal_is_path))]
@@ -19,11 +20,18 @@ fn is_path(sc: &Scenario, path: &Path) -> bool
 }
 
 /// The first reason against the value and the weight of a path.
-fn value_reason(sc: &Scenario, standing: &Standing, weight: u128) -> Option<Why>
-    requires { IsLegal sc.now standing.now.path }
-    ensures { result ≡ first_failed (value_tests sc.now standing.now weight) }
+fn value_reason(
+    sc: &Scenario,
+    belief: &mut Belief,
+    standing: &Standing,
+    weight: u128,
+) -> Option<Why>
+    requires cells { length belief.old.masses ≡ sc.now.cells }
+    requires legal { IsLegal sc.now standing.now.path }
+    ensures reason { result ≡ first_failed (value_tests sc.now standing.now weight) }
+    ensures cells { length belief.new.masses ≡ sc.now.cells }
 {
-    if standing.value != value(sc, &standing.path) {
+    if standing.value != prefix_value(sc, belief, &standing.path) {
         Some(Why::ValueWrong)
     } else if weight != sc.weight() {
         Some(Why::WeightWrong)
@@ -33,8 +41,15 @@ fn value_reason(sc: &Scenario, standing: &Standing, weight: u128) -> Option<Why>
 }
 
 /// The first reason against a plan's path, value and weight.
-pub(crate) fn head_reason(sc: &Scenario, standing: &Standing, weight: u128) -> Option<RejectAt>
-    ensures { result ≡ head_reason_lem sc.now standing.now weight }
+pub(crate) fn head_reason(
+    sc: &Scenario,
+    belief: &mut Belief,
+    standing: &Standing,
+    weight: u128,
+) -> Option<RejectAt>
+    requires cells { length belief.old.masses ≡ sc.now.cells }
+    ensures reason { result ≡ head_reason_lem sc.now standing.now weight }
+    ensures cells { length belief.new.masses ≡ sc.now.cells }
 {
     if !is_path(sc, &standing.path) {
         return Some(RejectAt {
@@ -42,16 +57,25 @@ pub(crate) fn head_reason(sc: &Scenario, standing: &Standing, weight: u128) -> O
             why: Why::PathIllegal,
         });
     }
-    let why = value_reason(sc, standing, weight)?;
+    let why = value_reason(sc, belief, standing, weight)?;
     Some(RejectAt { line: 3, why })
 }
 
 /// The first reason against a path as a record.
-fn whole_reason(sc: &Scenario, standing: &Standing, whole: &Standing) -> Option<Why>
-    requires { IsLegal sc.now whole.now.path }
-    ensures { result ≡ first_failed (kind_tests sc.now standing.now whole.now.path (Kind.Whole whole.now.value)) }
+fn whole_reason(
+    sc: &Scenario,
+    belief: &mut Belief,
+    standing: &Standing,
+    whole: &Standing,
+) -> Option<Why>
+    requires cells { length belief.old.masses ≡ sc.now.cells }
+    requires legal { IsLegal sc.now whole.now.path }
+    ensures reason { result ≡ first_failed (kind_tests sc.now standing.now whole.now.path (Kind.Whole whole.now.value)) }
+    ensures cells { length belief.new.masses ≡ sc.now.cells }
 {
-    if whole.path.len() != sc.horizon() as usize || whole.value != value(sc, &whole.path) {
+    if whole.path.len() != sc.horizon() as usize
+        || whole.value != prefix_value(sc, belief, &whole.path)
+    {
         Some(Why::WholeWrong)
     } else if better(whole, standing) {
         Some(Why::NotCut)
@@ -61,10 +85,18 @@ fn whole_reason(sc: &Scenario, standing: &Standing, whole: &Standing) -> Option<
 }
 
 /// The first reason against a branch or a whole path at a legal prefix.
-fn kind_reason(sc: &Scenario, standing: &Standing, prefix: &Path, kind: &Kind) -> Option<Why>
+fn kind_reason(
+    sc: &Scenario,
+    belief: &mut Belief,
+    standing: &Standing,
+    prefix: &Path,
+    kind: &Kind,
+) -> Option<Why>
+    requires cells { length belief.old.masses ≡ sc.now.cells }
     requires legal { IsLegal sc.now prefix.now }
     requires plain { IsPlainKind kind.now }
-    ensures { result ≡ first_failed (kind_tests sc.now standing.now prefix.now kind.now) }
+    ensures reason { result ≡ first_failed (kind_tests sc.now standing.now prefix.now kind.now) }
+    ensures cells { length belief.new.masses ≡ sc.now.cells }
 {
     match kind {
         Kind::Branch => {
@@ -79,7 +111,7 @@ fn kind_reason(sc: &Scenario, standing: &Standing, prefix: &Path, kind: &Kind) -
                 path: *prefix,
                 value: *number,
             };
-            whole_reason(sc, standing, &whole)
+            whole_reason(sc, belief, standing, &whole)
         }
         Kind::Mean(_) | Kind::Tangent(..) => unreachable!(),
     }
@@ -88,19 +120,22 @@ fn kind_reason(sc: &Scenario, standing: &Standing, prefix: &Path, kind: &Kind) -
 /// The first reason against a record where a legal prefix is expected.
 pub(crate) fn record_reason(
     sc: &Scenario,
+    belief: &mut Belief,
     standing: &Standing,
     expected: &Path,
     node: &TreeNode,
 ) -> Option<Why>
+    requires cells { length belief.old.masses ≡ sc.now.cells }
     requires legal { IsLegal sc.now expected.now }
     requires plain { IsPlainKind node.now.kind }
-    ensures { result ≡ first_failed (record_tests sc.now standing.now expected.now node.now) }
+    ensures reason { result ≡ first_failed (record_tests sc.now standing.now expected.now node.now) }
+    ensures cells { length belief.new.masses ≡ sc.now.cells }
 {
     if expected.cells().cmp(node.prefix.cells()).is_lt() {
         Some(Why::MissingChild)
     } else if node.prefix.cells().cmp(expected.cells()).is_lt() {
         Some(Why::NotChild)
     } else {
-        kind_reason(sc, standing, expected, &node.kind)
+        kind_reason(sc, belief, standing, expected, &node.kind)
     }
 }

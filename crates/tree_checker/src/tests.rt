@@ -54,6 +54,59 @@ fn two_cells(alloc: Global) -> Result<Scenario, Fail> {
     })?)
 }
 
+// A row of the drift over nine cells: of ten parts two stay in cell `c`, and one goes to each other cell.
+fn spread_from(alloc: Global, c: u8) -> Result<Vec<DriftPart>, Fail> {
+    let mut row = Vec::new(alloc);
+    for d in 0..9 {
+        let part = if c == d { 2 } else { 1 };
+        row.push(DriftPart { cell: d, part })?;
+    }
+    Ok(row)
+}
+
+fn nine_names(alloc: Global) -> Result<Vec<Name>, Fail> {
+    let mut names = Vec::new(alloc);
+    for letter in b"abcdefghi" {
+        names.push(Name::new(&[*letter]).ok_or("no name")?)?;
+    }
+    Ok(names)
+}
+
+// The moves of a round trip: each cell leads to the next one alone.
+fn round_trip(alloc: Global) -> Result<Grid, Fail> {
+    let mut moves = Vec::new(alloc);
+    for next in [1, 2, 3, 4, 5, 6, 7, 8, 0] {
+        moves.push(vec![in alloc; next]?)?;
+    }
+    Ok(Grid::new(moves)?)
+}
+
+// A round trip of nine cells, and twelve periods: there is one path, and the target moves from each cell to all, in 9 ^ 12
+// tracks; half of the looks miss.
+fn nine_cells(alloc: Global) -> Result<Scenario, Fail> {
+    let drifts = vec![in alloc;
+        spread_from(alloc, 0)?,
+        spread_from(alloc, 1)?,
+        spread_from(alloc, 2)?,
+        spread_from(alloc, 3)?,
+        spread_from(alloc, 4)?,
+        spread_from(alloc, 5)?,
+        spread_from(alloc, 6)?,
+        spread_from(alloc, 7)?,
+        spread_from(alloc, 8)?,
+    ]?;
+    Ok(Scenario::new(Parts {
+        names: nine_names(alloc)?,
+        horizon: 12,
+        start: 0,
+        total: 45,
+        first: vec![in alloc; 1, 2, 3, 4, 5, 6, 7, 8, 9]?,
+        grid: round_trip(alloc)?,
+        drift: Drift::new(10, drifts)?,
+        sweep: Sweep::new(2, vec![in alloc; 1; 9]?)?,
+    })?)
+}
+
 fn path_of(cells: &[u8]) -> Path {
     Path::of(cells).unwrap_or(Path::empty())
 }
@@ -266,6 +319,38 @@ fn plans_of_two_cells(rt: HostRuntime) -> Result<(), Fail> {
     for (path, value, records, verdict) in rows {
         assert_eq!(rt; said(rt.alloc(), &sc, path, value, 16, records)?, verdict);
     }
+    Ok(())
+}
+
+#[test]
+fn many_tracks_take_no_time(rt: HostRuntime) -> Result<(), Fail> {
+    let sc = nine_cells(rt.alloc())?;
+    let path = [1, 2, 3, 4, 5, 6, 7, 8, 0, 1, 2, 3].as_slice();
+    let value = 8_835_288_789_141_930;
+    let weight = 18_432_000_000_000_000;
+    let records: [(&[u8], Option<u128>); 13] = [
+        (&path[..0], B),
+        (&path[..1], B),
+        (&path[..2], B),
+        (&path[..3], B),
+        (&path[..4], B),
+        (&path[..5], B),
+        (&path[..6], B),
+        (&path[..7], B),
+        (&path[..8], B),
+        (&path[..9], B),
+        (&path[..10], B),
+        (&path[..11], B),
+        (path, Some(value)),
+    ];
+    assert_eq!(rt;
+        said(rt.alloc(), &sc, path, value, weight, &records)?,
+        Verdict::Accepted
+    );
+    assert_eq!(rt;
+        said(rt.alloc(), &sc, path, value - 1, weight, &records)?,
+        rejected(3, Why::ValueWrong)
+    );
     Ok(())
 }
 

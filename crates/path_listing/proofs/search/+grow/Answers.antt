@@ -22,7 +22,7 @@ grow-requires t c =
     let shorter : length q < p.horizon = omega (arith, c.requires.legal.short) in
     let inside : c.loop-d.d-index < length (moves_after p q) = rw c.moves_after-d-items.ensures at c.loop-d-test.true in (
       rw c.extended.ensures (omega (arith, length-append q, shorter, c.decreases)),
-      (rw (c.extended.ensures, c.moves_after-d-items.ensures) (legal_further p q _ c.requires.legal shorter (Contains-get_or (moves_after p q) c.loop-d.d-index 0 inside)), (c.loop-d.invariant.leads, c.loop-d.invariant.few)),
+      (c.loop-d.invariant.cells, (rw (c.extended.ensures, c.moves_after-d-items.ensures) (legal_further p q _ c.requires.legal shorter (Contains-get_or (moves_after p q) c.loop-d.d-index 0 inside)), (c.loop-d.invariant.leads, c.loop-d.invariant.few))),
     )
 
 pub returns-in_err-grow-clause-full : goal.returns-in_err-grow-clause-full

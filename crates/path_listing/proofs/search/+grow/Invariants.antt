@@ -12,4 +12,5 @@ invariant-loop-d l = record {
   nodes : l.found.nodes.items ≡ l.initial.found.nodes.items ++ flat_map (λ d. below l.sc (l.prefix ++ d ∷ [])) (take l.d-index l.d-items);
   few : length l.found.nodes.items ≤ 1048576;
   leads : Leads l.sc l.found.nodes.items l.found.best;
+  cells : length l.belief.masses ≡ l.sc.cells;
 }

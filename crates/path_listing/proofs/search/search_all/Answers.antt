@@ -9,7 +9,7 @@ use Rattle.path_listing.proofs.search.search_all.Goals as goal
 pub returns-in_err-grow-clause-full : goal.returns-in_err-grow-clause-full
 returns-in_err-grow-clause-full c =
     let p = c.args.sc.now in
-    let gave = err_from_is_err_and c.from_residual.result c.from_residual.ensures.1 in
+    let gave = err_from_is_err_and c.from_residual-in_err-grow.result c.from_residual-in_err-grow.ensures.1 in
     rw (gave.1, gave.2) (λ full. (below p [], grows_full p c.first_standing.ensures.sound, rw (c.new.ensures.items, c.empty.ensures, zero-add) at (c.in_err-grow.ensures.full (cc))))
 
 pub returns-clause-plan : goal.returns-clause-plan

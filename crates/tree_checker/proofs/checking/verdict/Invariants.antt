@@ -1,6 +1,6 @@
 use Rattle.std.proofs.Common.{◌≡◌, ◌+◌, ◌≤◌, drop}
 use Rattle.tree_checker.specs.Reasons.{first_reason}
-use Rattle.tree_checker.specs.Progress.{reason_if, ExpectsLegal}
+use Rattle.tree_checker.specs.Progress.{reason_if, ExpectsLegal, IsMadeFor}
 use Rattle.tree_checker.proofs.checking.verdict.Given as goal
 
 -- what is left of the records leads to the first reason of all
@@ -9,4 +9,5 @@ invariant-loop-node l = record {
   reason : reason_if l.sc l.checker (drop l.node-index l.plan.tree) ≡ first_reason l.sc l.plan;
   legal : ExpectsLegal l.sc l.checker;
   line : l.checker.line ≤ 5 + l.node-index;
+  made : IsMadeFor l.sc l.checker;
 }
