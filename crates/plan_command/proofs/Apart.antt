@@ -1,19 +1,31 @@
--- Texts that begin with a scenario's.
-use Rattle.std.proofs.Common.{ℕ, ◌≡◌, List, [], ◌∷◌, ◌++◌, sym, ap, ◌∙◌, subst}
-use Rattle.search_model.specs.Problem.{Problem, IsProblem}
-use Rattle.scenario_text.specs.Canonical.{canonical_text}
-use Rattle.scenario_text.proofs.TextsDiffer.{canonical_texts_differ}
+-- An input spells one scenario.
+use Rattle.std.proofs.Common.{ℕ, ◌≡◌, List, length, drop, Result, Ok, sym, ap, ◌∙◌, subst, arith}
+use Rattle.search_model.specs.Problem.{Problem}
+use Rattle.scenario_text.specs.declared.kind.TextFault.{TextFault}
+use Rattle.scenario_text.specs.Lines.{after_lines}
+use Rattle.scenario_text.specs.Reading.{Front}
+use Rattle.scenario_text.specs.Scenarios.{Says, IsTextOf}
+use Rattle.scenario_text.proofs.Determined.{one_problem}
+use Rattle.plan_command.specs.Plans.{BeginsWith}
 
--- what follows the same front is the same
-after_same : (front rest more : List ℕ) → front ++ rest ≡ front ++ more → rest ≡ more
-after_same [] rest more e = e
-after_same (c ∷ cs) rest more e = after_same cs rest more (cc)
+-- one reading gives one front
+same_front_read : (a b : Front) (read : Result Front TextFault) → read ≡ Ok a → read ≡ Ok b → a ≡ b
+same_front_read a b read h g = cc
 
-pub canonical_apart : (p q : Problem) (rest more : List ℕ) → IsProblem p → IsProblem q → canonical_text p ++ rest ≡ canonical_text q ++ more → p ≡ q
-canonical_apart p q rest more h g e = canonical_texts_differ p q rest more h g e
+pub same_scenario : (p q : Problem) (input : List ℕ) → IsTextOf p input → IsTextOf q input → p ≡ q
+same_scenario p q input h g =
+    let P : Front → Type 0 = λ f. Says f.state q in
+    one_problem h.front.state p q h.says (subst P (same_front_read g.front h.front _ g.read h.read) g.says)
 
--- a text has one rest behind its scenario
-pub canonical_rest : (p q : Problem) (rest more : List ℕ) → IsProblem p → IsProblem q → canonical_text p ++ rest ≡ canonical_text q ++ more → rest ≡ more
-canonical_rest p q rest more h g e =
-    let same = canonical_apart p q rest more h g e in
-    after_same (canonical_text p) rest more (e ∙ ap (λ (t : Problem). canonical_text t ++ more) (sym same))
+pub same_front : (p q : Problem) (input rest more : List ℕ) → BeginsWith p input rest → BeginsWith q input more → p ≡ q
+same_front p q input rest more h g =
+    let P : Front → Type 0 = λ f. Says f.state q in
+    one_problem h.front.front.state p q h.front.says (subst P (same_front_read g.front.front h.front.front _ g.front.read h.front.read) g.front.says)
+
+-- and has one rest behind it
+pub same_rest : (p q : Problem) (input rest more : List ℕ) → BeginsWith p input rest → BeginsWith q input more → rest ≡ more
+same_rest p q input rest more h g =
+    let one : h.front.front ≡ g.front.front = same_front_read h.front.front g.front.front _ h.front.read g.front.read in
+    let lines : length (after_lines h.front.front.line input) ≡ length (after_lines g.front.front.line input) = ap (λ (f : Front). length (after_lines f.line input)) one in
+    let bytes : h.bytes ≡ g.bytes = omega (arith, lines, h.front.bytes, g.front.bytes) in
+    h.follows ∙ ap (λ (n : ℕ). drop n input) bytes ∙ sym g.follows

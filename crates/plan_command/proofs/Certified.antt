@@ -1,9 +1,8 @@
 -- A full plan is certified.
-use Rattle.std.proofs.Common.{ℕ, ◌≡◌, ◌==◌, List, length, sym, subst, All}
+use Rattle.std.proofs.Common.{ℕ, ◌==◌, List, length, sym, subst}
 use Rattle.std.proofs.lemmas.Bool.{cond_both}
 use Rattle.search_model.specs.Problem.{Problem, IsProblem}
 use Rattle.search_model.specs.Tracks.{value_of}
-use Rattle.bound_tree.specs.declared.node.Kind.{Kind}
 use Rattle.bound_tree.specs.declared.node.Kind.TheVariants.{Branch, Whole}
 use Rattle.bound_tree.specs.declared.plan.Plan.{Plan}
 use Rattle.bound_tree.specs.FullTree.{full_kind}

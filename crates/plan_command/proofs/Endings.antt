@@ -1,9 +1,8 @@
 -- What an ending says of a source that tells its input.
-use Rattle.std.proofs.Common.{ℕ, ◌≡◌, ◌+◌, ◌<◌, ◌≤◌, ◌⊎◌, List, [], ◌++◌, length, Option, Some, None, Result, Ok, Err, refl, sym, ap, ◌∙◌, inl, inr, subst, arith, length-append}
+use Rattle.std.proofs.Common.{ℕ, ◌≡◌, ◌+◌, ◌<◌, ◌≤◌, List, [], ◌++◌, length, Option, Some, None, Result, Ok, Err, refl, sym, ap, ◌∙◌, inl, inr, subst, arith, length-append}
 use Rattle.std.proofs.lemmas.List.{append-nil}
 use Rattle.std.proofs.KnownBytes.{Appends-nil}
-use Rattle.std.specs.Io.KnownBytes.{Consumes, Appends, IsAtEnd}
-use Rattle.byte_ports.specs.Causes.{Rose}
+use Rattle.std.specs.Io.KnownBytes.{Consumes, IsAtEnd}
 use Rattle.byte_ports.specs.Taken.{TakesCount}
 use Rattle.plan_command.specs.declared.request.Request.{Request}
 use Rattle.plan_command.specs.declared.request.Request.TheVariants.{Plan, Check}
@@ -13,7 +12,7 @@ use Rattle.plan_command.specs.declared.status.Stop.TheVariants as stops
 use Rattle.plan_command.specs.Words.{Spells, limit_of}
 use Rattle.plan_command.specs.Lines.{status_of}
 use Rattle.plan_command.specs.Commands.{Answers, Refuses}
-use Rattle.plan_command.specs.Run.{Shown, ReadWhole, Delivered, CutOff, Refused, Stopped, Ends, ending_of, status_at, Says}
+use Rattle.plan_command.specs.Run.{Shown, ReadWhole, Delivered, Refused, Stopped, Ends, ending_of, status_at, Says}
 use Rattle.plan_command.specs.Complete.{IsHeard, IsUndisturbed, IsStopDue, IsDue}
 use Rattle.plan_command.proofs.Exclusive.{answers_or_refuses, refuses_once}
 
@@ -70,7 +69,7 @@ module _ (words : List (List ℕ)) (before after : Shown) (request : Request) (i
       let mine = of_request (λ r. Delivered r before after status) calm.heard r spelled delivered in
       inl (mine.text, told_answer calm.heard mine.input status mine.text mine.read mine.answers)
   ends_as_due (Err stops.Usage) ends calm short = absurd (ends.0 request calm.heard.spelled)
-  ends_as_due (Err stops.BadScenario) (r, spelled, refused) calm short = refused_due calm.heard stops.BadScenario (of_request (λ r. Refused r before after stops.BadScenario) calm.heard r spelled refused)
+  ends_as_due (Err (stops.BadScenario fault)) (r, spelled, refused) calm short = refused_due calm.heard (stops.BadScenario fault) (of_request (λ r. Refused r before after (stops.BadScenario fault)) calm.heard r spelled refused)
   ends_as_due (Err stops.BadPlan) (r, spelled, refused) calm short = refused_due calm.heard stops.BadPlan (of_request (λ r. Refused r before after stops.BadPlan) calm.heard r spelled refused)
   ends_as_due (Err stops.ReadFault) (r, spelled, fault) calm short = absurd (calm.heard.read fault.0)
   ends_as_due (Err stops.WriteFault) (r, spelled, fault) calm short = absurd (calm.write fault.0)
@@ -90,7 +89,7 @@ module _ (words : List (List ℕ)) (before after : Shown) (request : Request) (i
       let mine = of_request (λ r. Delivered r before after status) heard r spelled delivered in
       absurd (answers_or_refuses request input status mine.text stop (told_answer heard mine.input status mine.text mine.read mine.answers) due)
   ends_refused (Err stops.Usage) stop ends heard short due = absurd (ends.0 request heard.spelled)
-  ends_refused (Err stops.BadScenario) stop (r, spelled, refused) heard short due = other_refusal heard stop stops.BadScenario due (of_request (λ r. Refused r before after stops.BadScenario) heard r spelled refused)
+  ends_refused (Err (stops.BadScenario fault)) stop (r, spelled, refused) heard short due = other_refusal heard stop (stops.BadScenario fault) due (of_request (λ r. Refused r before after (stops.BadScenario fault)) heard r spelled refused)
   ends_refused (Err stops.BadPlan) stop (r, spelled, refused) heard short due = other_refusal heard stop stops.BadPlan due (of_request (λ r. Refused r before after stops.BadPlan) heard r spelled refused)
   ends_refused (Err stops.ReadFault) stop (r, spelled, fault) heard short due = absurd (heard.read fault.0)
   ends_refused (Err stops.WriteFault) stop (r, spelled, fault) heard short due =
@@ -109,8 +108,8 @@ module _ (words : List (List ℕ)) (before after : Shown) (request : Request) (i
   ends_longer (Ok status) (r, spelled, delivered) heard long =
       let mine = of_request (λ r. Delivered r before after status) heard r spelled delivered in absurd (not_longer heard mine.input mine.read long)
   ends_longer (Err stops.Usage) ends heard long = absurd (ends.0 request heard.spelled)
-  ends_longer (Err stops.BadScenario) (r, spelled, refused) heard long =
-      let mine = of_request (λ r. Refused r before after stops.BadScenario) heard r spelled refused in absurd (not_longer heard mine.input mine.read long)
+  ends_longer (Err (stops.BadScenario fault)) (r, spelled, refused) heard long =
+      let mine = of_request (λ r. Refused r before after (stops.BadScenario fault)) heard r spelled refused in absurd (not_longer heard mine.input mine.read long)
   ends_longer (Err stops.BadPlan) (r, spelled, refused) heard long =
       let mine = of_request (λ r. Refused r before after stops.BadPlan) heard r spelled refused in absurd (not_longer heard mine.input mine.read long)
   ends_longer (Err stops.ReadFault) (r, spelled, fault) heard long = absurd (heard.read fault.0)

@@ -1,14 +1,17 @@
 -- What endings say of the answers to a check, and of a write that failed.
-use Rattle.std.proofs.Common.{ℕ, ◌≡◌, ◌⊎◌, List, [], ◌∷◌, ◌++◌, Some, Ok, Err, refl, sym, ap, ◌∙◌, inl, inr, subst}
+use Rattle.std.proofs.Common.{ℕ, ◌≡◌, List, [], ◌∷◌, ◌++◌, Some, sym, ◌∙◌, inl, inr, subst}
 use Rattle.std.specs.Prelude.{codes}
 use Rattle.std.specs.Fmt.{decimal}
 use Rattle.std.specs.Io.KnownBytes.{Consumes, Appends, IsAtEnd}
 use Rattle.byte_ports.specs.Causes.{Rose}
 use Rattle.search_model.specs.Problem.{Problem}
 use Rattle.search_model.specs.Order.{IsBest}
+use Rattle.scenario_text.specs.Scenarios.{IsTextOf}
 use Rattle.bound_tree.specs.declared.plan.Plan.{Plan as APlan}
 use Rattle.bound_tree.specs.Accepts.{Accepts}
 use Rattle.bound_tree.proofs.Accepted.{accepted_plan_is_best}
+use Rattle.path_listing.specs.Plans.{HasMoreNodes}
+use Rattle.tree_format.specs.PlanText.{plan_text}
 use Rattle.tree_checker.specs.declared.verdict.RejectAt.{RejectAt}
 use Rattle.tree_checker.specs.Reasons.{first_reason}
 use Rattle.tree_checker.specs.Whys.{name_of}
@@ -20,8 +23,8 @@ use Rattle.plan_command.specs.declared.status.Stop.{Stop}
 use Rattle.plan_command.specs.declared.status.Stop.TheVariants as stops
 use Rattle.plan_command.specs.Words.{Spells}
 use Rattle.plan_command.specs.Lines.{status_of}
-use Rattle.plan_command.specs.Plans.{BeginsWith, IsPlanRest}
-use Rattle.plan_command.specs.Commands.{Answers, IsVerdict}
+use Rattle.plan_command.specs.Plans.{IsCertified, BeginsWith, IsPlanRest}
+use Rattle.plan_command.specs.Commands.{IsVerdict}
 use Rattle.plan_command.specs.Run.{Shown, Delivered, CutOff, Ends, delivered, stopped}
 use Rattle.plan_command.proofs.Endings.{spelled_once}
 
@@ -43,6 +46,24 @@ accepting p plan text verdict = elim verdict [
 ]
 
 module _ (words : List (List ℕ)) (before after : Shown) where
+  pub planned_input : (status : Status) → Ends words before after (delivered status) → Spells words Plan → status ≡ statuses.Done →
+      (p : Problem) × (input : List ℕ) × IsTextOf p input × (HasMoreNodes p 1048576 → ⊥)
+      × Consumes before.left after.left input × IsAtEnd after.left
+      × ((plan : APlan) × IsCertified p plan × Appends before.wrote after.wrote (plan_text p plan))
+  planned_input status (r, spelled, whole) asked done =
+      let P : Request → Type 0 = λ r. Delivered r before after status in
+      let d = subst P (spelled_once words r Plan spelled asked) whole in
+      let found = d.answers.1 in
+      let certified = found.3 in (
+        found.0,
+        d.input,
+        found.1,
+        found.2,
+        d.read.taken,
+        d.read.ended,
+        (certified.0, certified.1, subst (λ t. Appends before.wrote after.wrote t) certified.2 d.written),
+      )
+
   pub accepted_input : (status : Status) → Ends words before after (delivered status) → Spells words Check → status ≡ statuses.Done →
       (input : List ℕ) × Consumes before.left after.left input × IsAtEnd after.left × AcceptsInput input × Appends before.wrote after.wrote (codes "accepted\n")
   accepted_input status (r, spelled, whole) check done =
@@ -57,7 +78,7 @@ module _ (words : List (List ℕ)) (before after : Shown) where
         d.input,
         d.read.taken,
         d.read.ended,
-        (p, read.0, plan, read.1, told.1, taken.0, accepted_plan_is_best p plan read.1.sound told.1.plain taken.0),
+        (p, read.0, plan, read.1, told.1, taken.0, accepted_plan_is_best p plan read.1.front.says.sound told.1.plain taken.0),
         subst (λ t. Appends before.wrote after.wrote t) taken.1 d.written,
       )
 
@@ -93,7 +114,7 @@ module _ (words : List (List ℕ)) (before after : Shown) where
       Rose before.write_faults after.write_faults × ((request : Request) × Spells words request × CutOff request before after)
   write_failed stops.WriteFault (r, spelled, fault) e = (fault.0, (r, spelled, fault.1))
   write_failed stops.Usage ends e = let bad : ⊥ = cc in absurd bad
-  write_failed stops.BadScenario ends e = let bad : ⊥ = cc in absurd bad
+  write_failed (stops.BadScenario fault) ends e = let bad : ⊥ = cc in absurd bad
   write_failed stops.BadPlan ends e = let bad : ⊥ = cc in absurd bad
   write_failed stops.ReadFault ends e = let bad : ⊥ = cc in absurd bad
   write_failed stops.NoMemory ends e = let bad : ⊥ = cc in absurd bad

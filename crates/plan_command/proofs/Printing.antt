@@ -1,5 +1,5 @@
 -- A full plan can be written.
-use Rattle.std.proofs.Common.{ℕ, ◌≡◌, ◌<◌, ◌≤◌, ◌==◌, Bool, true, false, List, length, sym, ap, ◌∙◌, subst, arith, get_or, All, Contains}
+use Rattle.std.proofs.Common.{ℕ, ◌≡◌, ◌<◌, ◌≤◌, ◌==◌, List, length, sym, subst, arith, get_or, Contains}
 use Rattle.std.proofs.lemmas.List.{length-map, get_or-map}
 use Rattle.std.proofs.lemmas.Bool.{cond_both}
 use Rattle.search_model.specs.Problem.{Problem, IsProblem}
@@ -7,10 +7,10 @@ use Rattle.search_model.specs.Legal.{Follows, IsLegal}
 use Rattle.search_model.specs.Tracks.{value_of}
 use Rattle.search_model.proofs.PlainSteps.{positions_follow}
 use Rattle.bound_tree.specs.declared.node.Kind.{Kind}
-use Rattle.bound_tree.specs.declared.node.Kind.TheVariants.{Branch, Whole, Mean, Tangent}
+use Rattle.bound_tree.specs.declared.node.Kind.TheVariants.{Branch, Whole}
 use Rattle.bound_tree.specs.declared.node.TreeNode.{TreeNode}
 use Rattle.bound_tree.specs.declared.plan.Plan.{Plan}
-use Rattle.bound_tree.specs.FullTree.{full_kind, prefixes_of, IsFullTree}
+use Rattle.bound_tree.specs.FullTree.{full_kind, prefixes_of}
 use Rattle.path_listing.specs.Plans.{IsFullPlan}
 use Rattle.tree_format.specs.PlanText.{ArePositions, IsPrintableKind, IsPrintableRecord, IsPrintable}
 

@@ -1,9 +1,8 @@
 -- A scenario and a plan on one input.
-use Rattle.std.proofs.Common.{ℕ, ◌≡◌, ◌≢◌, ◌≤◌, true, false, List, [], ◌∷◌, ◌++◌, length, take, drop, Result, Ok, Err, IfOk, refl, sym, ap, subst, ◌∙◌}
+use Rattle.std.proofs.Common.{ℕ, ◌≡◌, ◌≢◌, false, List, ◌++◌, drop, Result, Ok, Err, IfOk, refl, sym, ap, subst, ◌∙◌}
 use Rattle.std.specs.Prelude.{IsErrOf}
-use Rattle.std.proofs.lemmas.List.{take-append-drop}
-use Rattle.search_model.specs.Problem.{Problem, IsProblem}
-use Rattle.scenario_text.specs.Canonical.{canonical_text}
+use Rattle.search_model.specs.Problem.{Problem}
+use Rattle.scenario_text.specs.Scenarios.{IsFront}
 use Rattle.bound_tree.specs.declared.plan.Plan.{Plan}
 use Rattle.bound_tree.specs.Laws.{IsPlain}
 use Rattle.tree_format.specs.declared.stop.PlanStop.{PlanStop}
@@ -36,11 +35,8 @@ rest_read p rest tail (Err NotPlan) skips is printable narrow plain none =
 rest_read p rest tail (Err NoMemory) skips is printable narrow plain none = tt
 
 -- what follows the front is the rest
-pub front_read : (p : Problem) (input : List ℕ) (n : ℕ) → IsProblem p → take n input ≡ canonical_text p → BeginsWith p input (drop n input)
-front_read p input n sound front = record {
-  sound = sound;
-  text = sym (take-append-drop n input) ∙ ap (λ (t : List ℕ). t ++ drop n input) front;
-}
+pub front_read : (p : Problem) (input : List ℕ) (n : ℕ) → IsFront input p n → BeginsWith p input (drop n input)
+front_read p input n front = record { bytes = n; front = front; follows = refl }
 
 -- where no plan was read there is none
 pub none_read : (p : Problem) (rest : List ℕ) (stop : PlanStop) → stop ≡ NotPlan → ReadsRest p rest (Err stop) → (plan : Plan) → IsPlanRest p rest plan → ⊥

@@ -1,6 +1,7 @@
 -- What the functions of a check return.
 use Rattle.std.specs.Prelude.{◌≡◌, ℕ, List, Result, Ok, Err}
 use Rattle.search_model.specs.Problem.{Problem}
+use Rattle.scenario_text.specs.Reading.{front_of}
 use Rattle.bound_tree.specs.declared.plan.Plan.{Plan}
 use Rattle.tree_format.specs.declared.stop.PlanStop.{PlanStop}
 use Rattle.tree_format.specs.declared.stop.PlanStop.TheVariants as plan_stops
@@ -8,7 +9,7 @@ use Rattle.plan_command.specs.declared.answer.Answer.{Answer}
 use Rattle.plan_command.specs.declared.status.Stop.{Stop}
 use Rattle.plan_command.specs.declared.status.Stop.TheVariants as stops
 use Rattle.plan_command.specs.Plans.{BeginsWith, IsPlanRest}
-use Rattle.plan_command.specs.Commands.{BeginsWithNone, HasNoPlan, IsVerdict}
+use Rattle.plan_command.specs.Commands.{HasNoPlan, IsVerdict}
 
 -- the plan that follows blanks, or there is none, or no memory was found
 abbrev pub ReadsRest : Problem → List ℕ → Result Plan PlanStop → Type 0
@@ -19,7 +20,7 @@ ReadsRest p rest (Err plan_stops.NoMemory) = Unit {0}
 -- the scenario and the plan of the input, or what it lacks
 abbrev pub ReadsBoth : List ℕ → Result (Problem × Plan) Stop → Type 0
 ReadsBoth input (Ok both) = (rest : List ℕ) × BeginsWith both.0 input rest × IsPlanRest both.0 rest both.1
-ReadsBoth input (Err stops.BadScenario) = BeginsWithNone input
+ReadsBoth input (Err (stops.BadScenario fault)) = front_of input ≡ Err fault
 ReadsBoth input (Err stops.BadPlan) = HasNoPlan input
 ReadsBoth input (Err stops.NoMemory) = Unit {0}
 ReadsBoth input (Err _) = ⊥

@@ -1,8 +1,9 @@
 -- What each request makes of its input.
-use Rattle.std.specs.Prelude.{◌≡◌, ◌≢◌, ◌⊎◌, ℕ, List, [], ◌∷◌, ◌++◌, codes, Some}
+use Rattle.std.specs.Prelude.{◌≡◌, ◌⊎◌, ℕ, List, [], ◌∷◌, ◌++◌, codes, Some, Err}
 use Rattle.std.specs.Fmt.{decimal}
-use Rattle.search_model.specs.Problem.{Problem, IsProblem}
-use Rattle.scenario_text.specs.Canonical.{canonical_text}
+use Rattle.search_model.specs.Problem.{Problem}
+use Rattle.scenario_text.specs.Reading.{front_of, alone_of}
+use Rattle.scenario_text.specs.Scenarios.{IsTextOf}
 use Rattle.bound_tree.specs.declared.plan.Plan.{Plan as APlan}
 use Rattle.bound_tree.specs.Accepts.{Accepts}
 use Rattle.tree_format.specs.PlanText.{plan_text}
@@ -17,11 +18,6 @@ use Rattle.plan_command.specs.declared.status.Status.TheVariants as statuses
 use Rattle.plan_command.specs.declared.status.Stop.{Stop}
 use Rattle.plan_command.specs.declared.status.Stop.TheVariants as stops
 use Rattle.plan_command.specs.Plans.{IsCertified, BeginsWith, IsPlanRest}
-
--- the input is the canonical text of this scenario
-pub record IsTextOf (p : Problem) (input : List ℕ) : Type 0 where
-  pub sound : IsProblem p
-  pub text : input ≡ canonical_text p
 
 -- the text of a certified plan of the input's scenario, which has no more legal prefixes than the limit
 abbrev pub IsPlanned : List ℕ → List ℕ → Type 0
@@ -45,14 +41,6 @@ abbrev pub Answers : Request → List ℕ → Status → List ℕ → Type 0
 Answers Plan input status text = (status ≡ statuses.Done) × IsPlanned input text
 Answers Check input status text = IsChecked input status text
 
--- the input is no scenario's canonical text
-abbrev pub IsNoScenario : List ℕ → Type 0
-IsNoScenario input = (p : Problem) → IsTextOf p input → ⊥
-
--- the input doesn't begin with a scenario's canonical text
-abbrev pub BeginsWithNone : List ℕ → Type 0
-BeginsWithNone input = (p : Problem) (rest : List ℕ) → BeginsWith p input rest → ⊥
-
 -- the input is the text of a scenario with more legal prefixes than the limit
 abbrev pub IsTooLarge : List ℕ → ℕ → Type 0
 IsTooLarge input limit = (p : Problem) × IsTextOf p input × HasMoreNodes p limit
@@ -63,9 +51,9 @@ HasNoPlan input = (p : Problem) × ((rest : List ℕ) × BeginsWith p input rest
 
 -- the request refuses the input
 abbrev pub Refuses : Request → List ℕ → Stop → Type 0
-Refuses Plan input stops.BadScenario = IsNoScenario input
+Refuses Plan input (stops.BadScenario fault) = alone_of input ≡ Err fault
 Refuses Plan input (stops.TooManyNodes limit) = (limit ≡ 1048576) × IsTooLarge input limit
 Refuses Plan input _ = ⊥
-Refuses Check input stops.BadScenario = BeginsWithNone input
+Refuses Check input (stops.BadScenario fault) = front_of input ≡ Err fault
 Refuses Check input stops.BadPlan = HasNoPlan input
 Refuses Check input _ = ⊥

@@ -1,11 +1,11 @@
 -- When a run answers its input, or refuses it.
-use Rattle.std.specs.Prelude.{◌≡◌, ℕ, ◌<◌, ◌≤◌, ◌⊎◌, List, length, Some}
+use Rattle.std.specs.Prelude.{◌≡◌, ℕ, ◌⊎◌, List, Some}
 use Rattle.byte_ports.specs.Causes.{Rose}
 use Rattle.plan_command.specs.declared.request.Request.{Request}
 use Rattle.plan_command.specs.declared.status.Status.{Status}
-use Rattle.plan_command.specs.declared.status.Status.TheVariants.{NoMemory, TooLong}
+use Rattle.plan_command.specs.declared.status.Status.TheVariants.{NoMemory}
 use Rattle.plan_command.specs.declared.status.Stop.{Stop}
-use Rattle.plan_command.specs.Words.{Spells, limit_of}
+use Rattle.plan_command.specs.Words.{Spells}
 use Rattle.plan_command.specs.Lines.{status_of}
 use Rattle.plan_command.specs.Commands.{Answers, Refuses}
 use Rattle.plan_command.specs.Run.{Shown}

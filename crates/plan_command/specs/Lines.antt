@@ -1,6 +1,7 @@
 -- What stops a run, its status, and the one line that is said of it.
 use Rattle.std.specs.Prelude.{ℕ, List, [], ◌∷◌, ◌++◌, codes}
 use Rattle.std.specs.Fmt.{decimal}
+use Rattle.scenario_text.specs.Kinds.{name_of}
 use Rattle.plan_command.specs.declared.status.Status.{Status}
 use Rattle.plan_command.specs.declared.status.Status.TheVariants as statuses
 use Rattle.plan_command.specs.declared.status.Stop.{Stop}
@@ -21,7 +22,7 @@ code_of statuses.TooLong = 9
 
 abbrev pub status_of : Stop → Status
 status_of Usage = statuses.Usage
-status_of BadScenario = statuses.BadScenario
+status_of (BadScenario fault) = statuses.BadScenario
 status_of BadPlan = statuses.BadPlan
 status_of ReadFault = statuses.ReadFault
 status_of WriteFault = statuses.WriteFault
@@ -31,7 +32,7 @@ status_of TooLong = statuses.TooLong
 
 unfoldable pub line_of : Stop → List ℕ
 line_of Usage = codes "usage: osp plan [--workers N] [--nodes N] / check / report [--json yes] / make NUMBER / drill NUMBER [--workers N]\n"
-line_of BadScenario = codes "bad scenario\n"
+line_of (BadScenario fault) = codes "bad scenario: line " ++ decimal fault.line ++ 32 ∷ (name_of fault.kind ++ 10 ∷ [])
 line_of BadPlan = codes "bad plan\n"
 line_of ReadFault = codes "read fault\n"
 line_of WriteFault = codes "write fault\n"

@@ -1,10 +1,10 @@
 -- What a plan run owes, and what a check run reads.
-use Rattle.std.specs.Prelude.{ℕ, ◌≡◌, ◌++◌, Bool, ◌||◌, ◌==◌, List, IsTrue}
+use Rattle.std.specs.Prelude.{ℕ, ◌≡◌, ◌++◌, Bool, ◌||◌, ◌==◌, List, drop, IsTrue}
 use Rattle.std.specs.List.{list_all}
-use Rattle.search_model.specs.Problem.{Problem, IsProblem}
+use Rattle.search_model.specs.Problem.{Problem}
 use Rattle.search_model.specs.Tracks.{value_of, whole_weight}
 use Rattle.search_model.specs.Order.{IsBest}
-use Rattle.scenario_text.specs.Canonical.{canonical_text}
+use Rattle.scenario_text.specs.Scenarios.{IsFront}
 use Rattle.bound_tree.specs.declared.plan.Plan.{Plan}
 use Rattle.bound_tree.specs.Accepts.{Accepts}
 use Rattle.bound_tree.specs.Laws.{IsPlain}
@@ -18,10 +18,11 @@ pub record IsCertified (p : Problem) (plan : Plan) : Type 0 where
   pub plain : IsPlain plan
   pub accepted : Accepts p plan
 
--- the input is the canonical text of this scenario, and then the rest
+-- the input begins with the text of this scenario, up to its line `end`, and then comes the rest
 pub record BeginsWith (p : Problem) (input rest : List ℕ) : Type 0 where
-  pub sound : IsProblem p
-  pub text : input ≡ canonical_text p ++ rest
+  pub bytes : ℕ
+  pub front : IsFront input p bytes
+  pub follows : rest ≡ drop bytes input
 
 -- blank, tab, carriage return and line feed
 abbrev pub is_space : ℕ → Bool

@@ -6,7 +6,7 @@ use crate::request::Request;
 use crate::status::{Status, Stop};
 use exact_parts::NoMemory;
 use path_listing::{SearchStop, search_all};
-use scenario_text::{CanonicalStop, read_canonical};
+use scenario_text::{TextStop, read_scenario_alone};
 use std::alloc::{AllocError, Global};
 use tree_format::print_plan;
 
@@ -41,10 +41,10 @@ impl From<AllocError> for Stop {
 fn answer_plan(alloc: Global, input: &[u8]) -> Result<Answer, Stop>
     ensures { MakesOf Request.Plan input.now result }
 {
-    let sc = match read_canonical(alloc, input) {
+    let sc = match read_scenario_alone(alloc, input) {
         Ok(sc) => sc,
-        Err(CanonicalStop::NotCanonical) => return Err(Stop::BadScenario),
-        Err(CanonicalStop::NoMemory) => return Err(Stop::NoMemory),
+        Err(TextStop::Fault(fault)) => return Err(Stop::BadScenario(fault)),
+        Err(TextStop::NoMemory) => return Err(Stop::NoMemory),
     };
     let plan = match search_all(alloc, &sc) {
         Ok(plan) => plan,

@@ -13,7 +13,7 @@ use crate::spaces::{rest_from, skip_spaces};
 use crate::status::{Status, Stop};
 use bound_tree::Plan;
 use exact_parts::{NoMemory, push_u128};
-use scenario_text::{CanonicalStop, read_canonical_front};
+use scenario_text::{TextStop, read_scenario};
 use search_model::Scenario;
 use std::alloc::Global;
 use tree_checker::{RejectAt, Verdict, check, why_name};
@@ -30,10 +30,10 @@ fn read_rest(alloc: Global, sc: &Scenario, rest: &[u8]) -> Result<Plan, PlanStop
 fn read_both(alloc: Global, input: &[u8]) -> Result<(Scenario, Plan), Stop>
     ensures { ReadsBoth input.now result }
 {
-    let (sc, len) = match read_canonical_front(alloc, input) {
+    let (sc, len) = match read_scenario(alloc, input) {
         Ok(front) => front,
-        Err(CanonicalStop::NotCanonical) => return Err(Stop::BadScenario),
-        Err(CanonicalStop::NoMemory) => return Err(Stop::NoMemory),
+        Err(TextStop::Fault(fault)) => return Err(Stop::BadScenario(fault)),
+        Err(TextStop::NoMemory) => return Err(Stop::NoMemory),
     };
     match read_rest(alloc, &sc, rest_from(input, len)) {
         Ok(plan) => Ok((sc, plan)),

@@ -1,10 +1,13 @@
 ghost use Rattle.std.specs.Prelude.{◌≡◌, ◌+◌, ◌++◌, ◌≤◌, take, length};
+ghost use Rattle.std.specs.Fmt.{decimal};
+ghost use Rattle.plan_command.specs.declared.status.Stop.{Stop};
 ghost use Rattle.plan_command.specs.Lines.{line_of};
 ghost use Rattle.plan_command.specs.Run.{Says};
 
 use crate::status::Stop;
 use byte_ports::{Sink, write_all};
 use exact_parts::digits;
+use scenario_text::{TextFault, text_kind_name};
 
 /// Room for the longest line.
 const ROOM: usize = 160;
@@ -19,6 +22,30 @@ fn append(to: &mut [u8; ROOM], at: usize, piece: &[u8]) -> usize
     at + piece.len()
 }
 
+/// Puts a number behind the first `at` bytes.
+fn append_number(to: &mut [u8; ROOM], at: usize, number: u64) -> usize
+    requires { at ≤ 100 }
+    ensures text { take result to.new ≡ take at to.old ++ decimal number }
+    ensures len { result ≤ at + 39 }
+{
+    let mut places = [0u8; 39];
+    let len = digits(u128::from(number), &mut places);
+    append(to, at, &places[..len])
+}
+
+/// The line of a scenario's first fault.
+#[tactic(auto, unfolding(crate::specs::Lines::line_of))]
+fn put_fault(fault: TextFault, to: &mut [u8; ROOM]) -> usize
+    ensures text { take result to.new ≡ line_of (Stop.BadScenario fault) }
+    ensures len { result ≤ 160 }
+{
+    let at = append(to, 0, b"bad scenario: line ");
+    let at = append_number(to, at, fault.line);
+    let at = append(to, at, b" ");
+    let at = append(to, at, text_kind_name(fault.kind).as_bytes());
+    append(to, at, b"\n")
+}
+
 /// The line, in memory that is there already.
 #[tactic(auto, unfolding(crate::specs::Lines::line_of))]
 fn put_line(stop: Stop, to: &mut [u8; ROOM]) -> usize
@@ -31,16 +58,14 @@ fn put_line(stop: Stop, to: &mut [u8; ROOM]) -> usize
             0,
             b"usage: osp plan [--workers N] [--nodes N] / check / report [--json yes] / make NUMBER / drill NUMBER [--workers N]\n",
         ),
-        Stop::BadScenario => append(to, 0, b"bad scenario\n"),
+        Stop::BadScenario(fault) => put_fault(fault, to),
         Stop::BadPlan => append(to, 0, b"bad plan\n"),
         Stop::ReadFault => append(to, 0, b"read fault\n"),
         Stop::WriteFault => append(to, 0, b"write fault\n"),
         Stop::NoMemory => append(to, 0, b"no memory\n"),
         Stop::TooManyNodes(limit) => {
-            let mut number = [0u8; 39];
-            let len = digits(u128::from(limit), &mut number);
             let at = append(to, 0, b"too many nodes: ");
-            let at = append(to, at, &number[..len]);
+            let at = append_number(to, at, limit);
             append(to, at, b"\n")
         }
         Stop::TooLong => append(to, 0, b"input too long\n"),

@@ -1,6 +1,8 @@
 ghost use Rattle.std.specs.Prelude.{◌≡◌};
 ghost use Rattle.plan_command.specs.Lines.{code_of};
 
+use scenario_text::TextFault;
+
 /// How a run ended.
 #[derive(Clone, Copy, Debug, PartialEq, Eq)]
 pub enum Status {
@@ -48,7 +50,8 @@ pub fn status_code(s: Status) -> u8
 #[derive(Clone, Copy, Debug, PartialEq, Eq)]
 pub enum Stop {
     Usage,
-    BadScenario,
+    /// The first fault of the scenario's text.
+    BadScenario(TextFault),
     BadPlan,
     ReadFault,
     WriteFault,
@@ -68,7 +71,7 @@ impl Stop {
     {
         match self {
             Stop::Usage => Status::Usage,
-            Stop::BadScenario => Status::BadScenario,
+            Stop::BadScenario(_) => Status::BadScenario,
             Stop::BadPlan => Status::BadPlan,
             Stop::ReadFault => Status::ReadFault,
             Stop::WriteFault => Status::WriteFault,

@@ -21,6 +21,9 @@ const MEAN_PLAN: &str =
 const ONE_RATE: &str =
     "scenario 1\nhorizon 2\nparts 1 1 2\ncell a\ncell b\ncell c\nstart b\nfirst c 1\nmoves a a b\nmoves b a b c\nmoves c b c\ndrift a a 1\ndrift b b 1\ndrift c c 1\nrate 1\nend\n";
 
+const ONE_RATE_PLAN: &str =
+    "plan 1\npath c c\nchance 3 4\nnodes 11\nB\nB 0\nW 0 0 0\nW 0 0 1\nB 1\nW 0 1 0\nW 0 1 1\nW 2 1 2\nB 2\nW 2 2 1\nW 3 2 2\nend\n";
+
 const USAGE: &str =
     "usage: osp plan [--workers N] [--nodes N] / check / report [--json yes] / make NUMBER / drill NUMBER [--workers N]\n";
 
@@ -58,13 +61,25 @@ fn ends(
     )
 }
 
+/// A bad scenario of a row: `plan` tells the first fault, and writes nothing.
+fn bad<'a>(scenario: &'a str, err: &'a str) -> Row<'a> {
+    Row {
+        word: "plan",
+        scenario,
+        plan: "",
+        status: Status::BadScenario,
+        out: "",
+        err,
+    }
+}
+
 #[test]
 fn plans(rt: HostRuntime) -> Result<(), Fail> {
     let rows = [
         Row {
             word: "plan",
             scenario: ONE_CELL,
-            plan: "",
+            plan: "\n",
             status: Status::Done,
             out: ONE_CELL_PLAN,
             err: "",
@@ -81,25 +96,9 @@ fn plans(rt: HostRuntime) -> Result<(), Fail> {
             word: "plan",
             scenario: ONE_RATE,
             plan: "",
-            status: Status::BadScenario,
-            out: "",
-            err: "bad scenario\n",
-        },
-        Row {
-            word: "plan",
-            scenario: "",
-            plan: "",
-            status: Status::BadScenario,
-            out: "",
-            err: "bad scenario\n",
-        },
-        Row {
-            word: "plan",
-            scenario: ONE_CELL,
-            plan: "\n",
-            status: Status::BadScenario,
-            out: "",
-            err: "bad scenario\n",
+            status: Status::Done,
+            out: ONE_RATE_PLAN,
+            err: "",
         },
         Row {
             word: "fly",
@@ -109,6 +108,45 @@ fn plans(rt: HostRuntime) -> Result<(), Fail> {
             out: "",
             err: USAGE,
         },
+    ];
+    for row in &rows {
+        assert!(rt; ends(&rt, row, &[], &[])?);
+    }
+    Ok(())
+}
+
+#[test]
+fn scenarios_with_faults(rt: HostRuntime) -> Result<(), Fail> {
+    let rows = [
+        bad("", "bad scenario: line 1 EarlyEnd\n"),
+        bad(
+            "scenario 1\nhorizon 2\nparts 2 2 2\ncell a\ncell b\nstart a\nfirst a 1 b 1\nmoves a a b\nmoves b a b\ndrift a a 1 b 1\ndrift b a 1\noverlook a 0\noverlook b 0\nend\n",
+            "bad scenario: line 11 WrongSum\n",
+        ),
+        bad(
+            "scenario 1\nhorizon 2\nparts 2 2 2\ncell a\ncell a\nstart a\nfirst a 1 b 1\nmoves a a b\nmoves b a b\ndrift a a 1 b 1\ndrift b a 1 b 1\noverlook a 0\noverlook b 0\nend\n",
+            "bad scenario: line 5 DoubleName\n",
+        ),
+        bad(
+            "scenario 1\nhorizon 2\nparts 2 2 2\ncell a\ncell b\nstart c\nfirst a 1 b 1\nmoves a a b\nmoves b a b\ndrift a a 1 b 1\ndrift b a 1 b 1\noverlook a 0\noverlook b 0\nend\n",
+            "bad scenario: line 6 UnknownName\n",
+        ),
+        bad(
+            "scenario 1\nhorizon 2\nparts 2 2 2\ncell a\ncell b\nstart a\nfirst a 1 b 1\nmoves a a b\nmoves b a b\ndrift a a 1 b 1\ndrift b a 1 b 1\noverlook a 0\noverlook b 0\nend\nend\n",
+            "bad scenario: line 15 Rest\n",
+        ),
+        bad(
+            "scenario 1\nhorizon 6\nparts 8 1024 1024\ncell a\nstart a\nfirst a 8\nmoves a a\ndrift a a 1024\nrate 512\nend\n",
+            "bad scenario: line 10 TooWide\n",
+        ),
+        bad(
+            "scenario 1\nhorizon 32\nparts 1000000 1000000 1000000\ncell a\nstart a\nfirst a 1000000\nmoves a a\ndrift a a 1000000\nrate 0\nend\n",
+            "bad scenario: line 10 TooWide\n",
+        ),
+        bad(
+            "scenario 1\nhorizon 1\nparts 1 1 2\ncell a\nstart a\nfirst a 1\nrate 1\nmoves a \t\r\n",
+            "bad scenario: line 8 NoMove\n",
+        ),
     ];
     for row in &rows {
         assert!(rt; ends(&rt, row, &[], &[])?);
@@ -178,10 +216,18 @@ fn checks(rt: HostRuntime) -> Result<(), Fail> {
         Row {
             word: "check",
             scenario: ONE_RATE,
+            plan: ONE_RATE_PLAN,
+            status: Status::Done,
+            out: "accepted\n",
+            err: "",
+        },
+        Row {
+            word: "check",
+            scenario: "scenario 1\nhorizon 33\n",
             plan: ONE_CELL_PLAN,
             status: Status::BadScenario,
             out: "",
-            err: "bad scenario\n",
+            err: "bad scenario: line 2 OverLimit\n",
         },
     ];
     for row in &rows {

@@ -3,9 +3,10 @@ ghost use Rattle.std.specs.Fmt.{decimal};
 ghost use Rattle.std.specs.Io.KnownBytes.{Consumes, Appends, IsAtEnd};
 ghost use Rattle.byte_ports.specs.Causes.{Rose};
 ghost use Rattle.byte_ports.specs.Taken.{TakesCount};
-ghost use Rattle.search_model.specs.Problem.{Problem, IsProblem};
+ghost use Rattle.search_model.specs.Problem.{Problem};
 ghost use Rattle.search_model.specs.Order.{IsBest};
-ghost use Rattle.scenario_text.specs.Canonical.{canonical_text};
+ghost use Rattle.scenario_text.specs.declared.kind.TextFault.{TextFault};
+ghost use Rattle.scenario_text.specs.Scenarios.{IsTextOf};
 ghost use Rattle.bound_tree.specs.declared.plan.Plan.{Plan};
 ghost use Rattle.bound_tree.specs.Accepts.{Accepts};
 ghost use Rattle.tree_format.specs.PlanText.{plan_text};
@@ -76,12 +77,12 @@ pub fn run<R: AllocGlobal, S: Source, K: Sink, E: Sink, G: Gate>(
         × Says (E.wrote err.old) (E.wrote err.new) (E.faults err.old) (E.faults err.new)
         (E.wants err.old) (E.wants err.new) (line_at end) }
 
-    // `plan` at Done: the source was read to its end, its bytes are the canonical text of a scenario with no more legal
+    // `plan` at Done: the source was read to its end, its bytes are the text of a scenario alone with no more legal
     // prefixes than the limit, and `out` grew by the text of a plan with the best path, its exact value and the whole
     // weight, whose records are accepted.
     ensures planned { Spells (map string_bytes words.now) Request.Plan → result ≡ Status.Done →
-        (p : Problem) × IsProblem p × (HasMoreNodes p 1048576 → ⊥)
-        × Consumes (S.left source.old) (S.left source.new) (canonical_text p) × IsAtEnd (S.left source.new)
+        (p : Problem) × (input : List ℕ) × IsTextOf p input × (HasMoreNodes p 1048576 → ⊥)
+        × Consumes (S.left source.old) (S.left source.new) input × IsAtEnd (S.left source.new)
         × ((plan : Plan) × IsCertified p plan × Appends (K.wrote out.old) (K.wrote out.new) (plan_text p plan)) }
 
     // `check` at Done: the source was read to its end, its bytes are a scenario and a plan that is accepted, and so the
@@ -102,10 +103,11 @@ pub fn run<R: AllocGlobal, S: Source, K: Sink, E: Sink, G: Gate>(
     ensures usage { (result ≡ Status.Usage) ↔ SpellNone (map string_bytes words.now) }
     ensures nothing_read { result ≡ Status.Usage → (source.new ≡ source.old) × (K.wrote out.new ≡ K.wrote out.old) }
 
-    // BadScenario, BadPlan and TooManyNodes come only where the whole input was read and is refused so.
-    ensures bad_scenario { result ≡ Status.BadScenario → IsRefusal (map string_bytes words.now)
+    // BadScenario, BadPlan and TooManyNodes come only where the whole input was read and is refused so; BadScenario with
+    // the first fault of the scenario's text.
+    ensures bad_scenario { result ≡ Status.BadScenario → (fault : TextFault) × IsRefusal (map string_bytes words.now)
         (shown S.left S.faults K.wrote K.faults source.old out.old)
-        (shown S.left S.faults K.wrote K.faults source.new out.new) Stop.BadScenario }
+        (shown S.left S.faults K.wrote K.faults source.new out.new) (Stop.BadScenario fault) }
     ensures bad_plan { result ≡ Status.BadPlan → IsRefusal (map string_bytes words.now)
         (shown S.left S.faults K.wrote K.faults source.old out.old)
         (shown S.left S.faults K.wrote K.faults source.new out.new) Stop.BadPlan }

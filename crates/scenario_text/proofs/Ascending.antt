@@ -5,7 +5,7 @@ use Rattle.std.specs.List.{list_any}
 use Rattle.std.specs.List.Sorted.{IsStrictlyIncreasing}
 use Rattle.std.proofs.lemmas.Bool.{ne_eqb}
 use Rattle.std.proofs.lemmas.List.Elements.{All-head, All-tail, All-from_get_or}
-use Rattle.scenario_text.specs.Reading.{has_double}
+use Rattle.scenario_text.specs.Fields.{has_double}
 
 -- ascending, with the next place as a successor
 abbrev pub Rises : List ℕ → Type 0

@@ -1,41 +1,56 @@
 -- The canonical text of a problem reads back.
-use Rattle.std.proofs.Common.{◌≡◌, ℕ, zero, suc, ◌+◌, ◌<◌, ◌≤◌, true, false, List, [], ◌∷◌, ◌++◌, map, length, refl, sym, ap, ◌∙◌, subst, arith}
-use Rattle.std.specs.Prelude.{codes}
+use Rattle.std.proofs.Common.{◌≡◌, ℕ, zero, suc, ◌+◌, ◌<◌, Bool, true, false, List, [], ◌∷◌, ◌++◌, map, length, Some, None, Ok, refl, sym, ap, ◌∙◌, subst, arith}
+use Rattle.std.specs.Prelude.{codes, ◌==◌, is_none}
 use Rattle.std.specs.Fmt.{decimal}
 use Rattle.std.specs.List.{range_with_len, list_any}
-use Rattle.std.proofs.lemmas.Bool.{lt-ltb, le-ltb, ne_eqb}
-use Rattle.std.proofs.lemmas.List.{append-nil}
+use Rattle.std.proofs.lemmas.Bool.{lt-ltb, ne_eqb}
+use Rattle.std.proofs.lemmas.List.{append-nil, length-append}
+use Rattle.std.proofs.lemmas.List.FromFn.{fill_by_all}
+use Rattle.drift_chain.specs.declared.part.DriftPart.{DriftPart}
 use Rattle.drift_chain.specs.DriftRows.{row_of}
 use Rattle.search_grid.specs.Moves.{moves_from}
+use Rattle.sweep_table.specs.LookParts.{factor_of}
 use Rattle.search_model.specs.Problem.{Problem, IsProblem, cell_name, position_name}
 use Rattle.scenario_text.specs.declared.draft.Stage.TheVariants.{Rows}
-use Rattle.scenario_text.specs.State.{State, CellState, blank_state}
-use Rattle.scenario_text.specs.Lines.{lines_of}
-use Rattle.scenario_text.specs.Reading.{lacks_row, is_narrow, lines_at}
-use Rattle.scenario_text.specs.Canonical.{cell_row, moves_row, drift_row, overlook_row, first_entries, canonical_text, scenario_rows, cell_of, state_of_problem, pair_fields}
+use Rattle.scenario_text.specs.State.{State, blank_state}
+use Rattle.scenario_text.specs.Lines.{lines_of, after_lines}
+use Rattle.scenario_text.specs.Reading.{lacks_row, is_narrow, first_said, front_of}
+use Rattle.scenario_text.specs.Canonical.{cell_row, moves_row, drift_row, overlook_row, first_entries, canonical_text, scenario_rows, state_of_problem, front_of_problem, pair_fields}
 use Rattle.scenario_text.specs.Laws.{CanonicalFrontReadsBack, CanonicalReadsBack}
+use Rattle.scenario_text.proofs.CanonicalSaid.{canonical_says}
 use Rattle.scenario_text.proofs.Ranges.{map-range-same}
 use Rattle.scenario_text.proofs.Printed.{cell_rows}
 use Rattle.scenario_text.proofs.PairTexts.{some_entry}
 use Rattle.scenario_text.proofs.RowsRead.{Takes, Reads, Reads-row, Reads-end, Reads-range}
-use Rattle.scenario_text.proofs.HeadLines.{word, named_cell, after_cells, started, Takes-version, Takes-horizon, Takes-parts, Takes-cell, Takes-start, Takes-first}
-use Rattle.scenario_text.proofs.RowLines.{cell_after, after_rows, Takes-moves, Takes-drift, Takes-overlook}
+use Rattle.scenario_text.proofs.HeadLines.{word, moves_after, parts_after, overlook_after, after_cells, after_all_cells, named, Takes-version, Takes-horizon, Takes-parts, Takes-cell, Takes-start, Takes-first}
+use Rattle.scenario_text.proofs.RowLines.{after_rows, Takes-moves, Takes-drift, Takes-overlook}
 
 -- all rows were read
 abbrev complete : Problem → State
 complete p = record (state_of_problem p) { stage = Rows }
 
-row_complete : (p : Problem) → IsProblem p → (c : ℕ) → c < p.cells → lacks_row (cell_of p c) ≡ false
-row_complete p h c lt =
-    let moves = h.grid.each c (omega (arith, h.grid_positions, h.positions)) in
-    let drift = some_entry _ _ _ (h.drift.each 1 c (omega (arith, h.drift_cells))) h.drift.denominator.0 in
-    let some_move = ne_eqb (length (moves_from p.moves c)) 0 (λ e. omega (arith, moves.some)) in
-    let some_part = ne_eqb (length (row_of p.drift 1 c)) 0 (λ e. omega arith) in
-    rw (some_move, some_part) refl
+-- no element over a range passes a test that each number fails
+none_in_range : {X : Type 0} (test : X → Bool) (f : ℕ → X) (n a : ℕ) → ((c : ℕ) → c < a + n → test (f c) ≡ false) → list_any test (map f (range_with_len a n)) ≡ false
+none_in_range test f zero a fails = refl
+none_in_range test f (suc n) a fails = rw (fails a (omega arith), none_in_range test f n (a + 1) (λ c lt. fails c (omega arith))) refl
 
-none_lacks : (p : Problem) → IsProblem p → (n a : ℕ) → a + n ≤ p.cells → list_any lacks_row (map (cell_of p) (range_with_len a n)) ≡ false
-none_lacks p h zero a le = refl
-none_lacks p h (suc n) a le = rw (row_complete p h a (omega arith), none_lacks p h n (a + 1) (omega arith)) refl
+-- the moves are what is read of each cell
+moves_all : (p : Problem) → IsProblem p → map (moves_from p.moves) (range_with_len 0 p.cells) ≡ p.moves
+unfolding moves_from
+moves_all p h = sym (fill_by_all (moves_from p.moves) p.moves p.cells [] (h.grid_positions ∙ h.positions) (λ k lt. refl))
+
+none_lacks : (p : Problem) → IsProblem p → lacks_row (complete p) ≡ false
+none_lacks p h =
+    let some_move : list_any (λ row. length row == 0) (map (moves_from p.moves) (range_with_len 0 p.cells)) ≡ false =
+    none_in_range (λ row. length row == 0) (moves_from p.moves) p.cells 0 (λ c lt.
+    let row = h.grid.each c (omega (arith, h.grid_positions, h.positions)) in
+    ne_eqb (length (moves_from p.moves c)) 0 (λ e. omega (arith, row.some))) in
+    let moves : list_any (λ row. length row == 0) p.moves ≡ false = rw (moves_all p h) at some_move in
+    let parts = none_in_range (λ row. length row == 0) (row_of p.drift 1) p.cells 0 (λ c lt.
+    let some = some_entry _ _ _ (h.drift.each 1 c (omega (arith, h.drift_cells))) h.drift.denominator.0 in
+    ne_eqb (length (row_of p.drift 1 c)) 0 (λ e. omega arith)) in
+    let overlook = none_in_range is_none (λ c. Some (factor_of p.sweep 1 c c)) p.positions 0 (λ c lt. refl) in
+    rw (moves, parts, overlook) refl
 
 Takes-end : (p : Problem) → IsProblem p → Takes (complete p) (codes "end" ∷ []) (state_of_problem p)
 Takes-end p h =
@@ -43,16 +58,21 @@ Takes-end p h =
     record {
       fields = (word (codes "end") (omega arith) refl, tt);
       says = refl;
-      taken = rw (none_lacks p h p.cells 0 (omega arith), narrow) refl;
+      taken = rw (none_lacks p h, narrow) refl;
     }
 
-after_rows-complete : (p : Problem) → IsProblem p → after_rows p p.positions p.cells p.positions ≡ complete p
-after_rows-complete p h =
-    ap (λ (cells : List CellState). record (complete p) { cells = cells })
-    (map-range-same p.cells 0 (cell_after p p.positions p.cells p.positions) (cell_of p) (λ c low high.
-    let placed = lt-ltb c p.positions (omega (arith, h.positions)) in
-    let within = lt-ltb c p.cells (omega arith) in
-    rw (placed, within) refl))
+after_all_rows : (p : Problem) → IsProblem p → after_rows p p.positions p.cells p.positions ≡ complete p
+after_all_rows p h =
+    let moves : map (moves_after p p.positions) (range_with_len 0 p.cells) ≡ p.moves =
+    map-range-same p.cells 0 (moves_after p p.positions) (moves_from p.moves) (λ c low high. let within = lt-ltb c p.positions (omega (arith, h.positions)) in rw within refl) ∙ moves_all p h in
+    let parts : map (parts_after p p.cells) (range_with_len 0 p.cells) ≡ map (row_of p.drift 1) (range_with_len 0 p.cells) =
+    map-range-same p.cells 0 (parts_after p p.cells) (row_of p.drift 1) (λ c low high. let within = lt-ltb c p.cells (omega arith) in rw within refl) in
+    let overlook : map (overlook_after p p.positions) (range_with_len 0 p.cells) ≡ map (λ c. Some (factor_of p.sweep 1 c c)) (range_with_len 0 p.positions) =
+    map-range-same p.cells 0 (overlook_after p p.positions) (λ c. Some (factor_of p.sweep 1 c c)) (λ c low high. let within = lt-ltb c p.positions (omega (arith, h.positions)) in rw within refl)
+    ∙ ap (λ (n : ℕ). map (λ c. Some (factor_of p.sweep 1 c c)) (range_with_len 0 n)) (sym h.positions) in
+    ap (λ (xs : List (List ℕ)). record (after_rows p p.positions p.cells p.positions) { moves = xs }) moves
+    ∙ ap (λ (xs : List (List DriftPart)). record (after_rows p p.positions p.cells p.positions) { moves = p.moves; parts = xs }) parts
+    ∙ ap (λ (xs : List _). record (after_rows p p.positions p.cells p.positions) { moves = p.moves; parts = map (row_of p.drift 1) (range_with_len 0 p.cells); overlook = xs }) overlook
 
 -- the rows from the overlook parts on, from the drift rows on, from the moves on, and from the start on
 abbrev end_rows : List (List (List ℕ))
@@ -82,29 +102,22 @@ parts_rows p = (codes "parts" ∷ decimal p.total ∷ decimal p.drift.denominato
 Reads-rows : (p : Problem) → IsProblem p → Reads (after_rows p 0 0 0) (move_rows p) (state_of_problem p)
 Reads-rows p h =
     let end : Reads (after_rows p p.positions p.cells p.positions) end_rows (state_of_problem p) =
-    subst (λ (s : State). Reads s end_rows (state_of_problem p)) (sym (after_rows-complete p h)) (Reads-end (complete p) (state_of_problem p) (codes "end" ∷ []) (Takes-end p h) refl) in
+    subst (λ (s : State). Reads s end_rows (state_of_problem p)) (sym (after_all_rows p h)) (Reads-end (complete p) (state_of_problem p) (codes "end" ∷ []) (Takes-end p h) refl) in
     let looks : Reads (after_rows p p.positions p.cells 0) (look_rows p) (state_of_problem p) =
     Reads-range p.positions 0 p.positions (overlook_row p) (after_rows p p.positions p.cells) end_rows (state_of_problem p) (omega arith) (λ k lt. Takes-overlook p h p.positions p.cells k (omega (arith, h.positions))) (λ k e. cc) end in
     let drifts : Reads (after_rows p p.positions 0 0) (drift_rows p) (state_of_problem p) =
     Reads-range p.cells 0 p.cells (drift_row p) (λ j. after_rows p p.positions j 0) (look_rows p) (state_of_problem p) (omega arith) (λ j lt. Takes-drift p h p.positions j 0 lt) (λ j e. cc) looks in
     Reads-range p.positions 0 p.positions (moves_row p) (λ i. after_rows p i 0 0) (drift_rows p) (state_of_problem p) (omega arith) (λ i lt. Takes-moves p h i 0 0 (omega (arith, h.positions))) (λ i e. cc) drifts
 
--- before the first row, each cell has its name alone
-after_rows-none : (p : Problem) → record (started p) { stage = Rows; first = first_entries p } ≡ after_rows p 0 0 0
-after_rows-none p =
-    ap (λ (cells : List CellState). record (after_rows p 0 0 0) { cells = cells })
-    (map-range-same p.cells 0 (named_cell p) (cell_after p 0 0 0) (λ c low high. let among = le-ltb c 0 (omega arith) in rw among refl))
-
-Reads-start : (p : Problem) → IsProblem p → Reads (after_cells p p.cells) (start_rows p) (state_of_problem p)
+Reads-start : (p : Problem) → IsProblem p → Reads (named p) (start_rows p) (state_of_problem p)
 Reads-start p h =
-    let rows : Reads (record (started p) { stage = Rows; first = first_entries p }) (move_rows p) (state_of_problem p) =
-    subst (λ (s : State). Reads s (move_rows p) (state_of_problem p)) (sym (after_rows-none p)) (Reads-rows p h) in
-    Reads-row _ _ _ _ (first_rows p) (Takes-start p h) (λ e. cc) (Reads-row _ _ _ _ (move_rows p) (Takes-first p h) (λ e. cc) rows)
+    Reads-row _ _ _ _ (first_rows p) (Takes-start p h) (λ e. cc) (Reads-row _ _ _ _ (move_rows p) (Takes-first p h) (λ e. cc) (Reads-rows p h))
 
 Reads-cells : (p : Problem) → IsProblem p → Reads (after_cells p 0) (cells_rows p) (state_of_problem p)
 Reads-cells p h =
+    let start : Reads (after_cells p p.cells) (start_rows p) (state_of_problem p) = subst (λ (s : State). Reads s (start_rows p) (state_of_problem p)) (sym (after_all_cells p h)) (Reads-start p h) in
     subst (λ (rows : List (List (List ℕ))). Reads (after_cells p 0) (rows ++ start_rows p) (state_of_problem p)) (sym (cell_rows p h))
-    (Reads-range p.cells 0 p.cells (λ c. cell_row (cell_name p c)) (after_cells p) (start_rows p) (state_of_problem p) (omega arith) (Takes-cell p h) (λ k e. cc) (Reads-start p h))
+    (Reads-range p.cells 0 p.cells (λ c. cell_row (cell_name p c)) (after_cells p) (start_rows p) (state_of_problem p) (omega arith) (Takes-cell p h) (λ k e. cc) start)
 
 Reads-scenario : (p : Problem) → IsProblem p → Reads blank_state (scenario_rows p) (state_of_problem p)
 Reads-scenario p h =
@@ -112,9 +125,34 @@ Reads-scenario p h =
     (Reads-row _ _ _ _ (parts_rows p) (Takes-horizon p h) (λ e. cc)
     (Reads-row _ _ _ _ (cells_rows p) (Takes-parts p h) (λ e. cc) (Reads-cells p h)))
 
-pub canonical_front_reads_back : CanonicalFrontReadsBack
+-- the canonical text is read up to its end, and cut off, whatever follows it
+front_read : (p : Problem) (rest : List ℕ) → IsProblem p → front_of (canonical_text p ++ rest) ≡ Ok (front_of_problem p)
 unfolding canonical_text
-canonical_front_reads_back p rest h = Reads-scenario p h 1 rest
+front_read p rest h = (Reads-scenario p h).lines 1 (length (scenario_rows p)) rest (omega arith)
+
+front_cut : (p : Problem) (rest : List ℕ) → IsProblem p → after_lines (length (scenario_rows p)) (canonical_text p ++ rest) ≡ rest
+unfolding canonical_text
+front_cut p rest h = (Reads-scenario p h).cut rest
+
+pub canonical_front_reads_back : CanonicalFrontReadsBack
+canonical_front_reads_back p rest h = record {
+  front = front_of_problem p;
+  read = front_read p rest h;
+  says = canonical_says p h;
+  bytes = ap (λ (t : List ℕ). length (canonical_text p) + length t) (front_cut p rest h) ∙ sym (length-append (canonical_text p) rest);
+}
+
+nothing_more : (number : ℕ) → first_said number (lines_of []) ≡ None
+unfolding first_said lines_of
+nothing_more number = refl
 
 pub canonical_reads_back : CanonicalReadsBack
-canonical_reads_back p h = ap (λ (text : List ℕ). lines_at blank_state 1 (lines_of text)) (sym (append-nil (canonical_text p))) ∙ canonical_front_reads_back p [] h
+canonical_reads_back p h =
+    let text : canonical_text p ++ [] ≡ canonical_text p = append-nil (canonical_text p) in
+    let read : front_of (canonical_text p) ≡ Ok (front_of_problem p) = rw text at (front_read p [] h) in
+    let cut : after_lines (length (scenario_rows p)) (canonical_text p) ≡ [] = rw text at (front_cut p [] h) in
+    record {
+      front = front_of_problem p;
+      read = rw (read, cut, nothing_more (length (scenario_rows p) + 1)) refl;
+      says = canonical_says p h;
+    }

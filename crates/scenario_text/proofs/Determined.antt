@@ -1,107 +1,59 @@
--- A problem is determined by what its canonical text says.
-use Rattle.std.proofs.Common.{◌≡◌, ℕ, zero, suc, ◌+◌, eqb, cond, inl, inr, List, [], ◌∷◌, ◌++◌, length, get_or, map, replicate, refl, sym, ap, ◌∙◌, subst, arith, append_assoc}
-use Rattle.std.specs.Prelude.{unwrap_or, slice_index}
-use Rattle.std.specs.List.{flat_map, range_with_len}
-use Rattle.std.proofs.Math.Seq.{set-append_seam}
-use Rattle.std.proofs.lemmas.Bool.{cases_eq, eq-eqb, ne_eqb}
-use Rattle.std.proofs.lemmas.List.{length-append}
-use Rattle.std.proofs.lemmas.List.FromFn.{fill_by_all, length-map-range_with_len}
+-- What was read is one problem.
+use Rattle.std.proofs.Common.{◌≡◌, ℕ, ◌<◌, List, length, refl, sym, ap, ◌∙◌, subst, arith}
+use Rattle.std.proofs.lemmas.Grind.{same_number_lists}
+use Rattle.std.proofs.lemmas.List.Sorted.{IsPermutation-sym, IsPermutation-trans}
 use Rattle.drift_chain.specs.declared.part.DriftPart.{DriftPart}
-use Rattle.drift_chain.specs.DriftRows.{DriftRows, row_of, drift_over, drift_cells}
+use Rattle.drift_chain.specs.DriftRows.{DriftRows, drift_over, IsDrift}
+use Rattle.drift_chain.specs.Faults.{HasSameParts, parts_from}
+use Rattle.drift_chain.proofs.Drifts.{same_drift}
+use Rattle.search_grid.specs.Faults.{HasSameMoves}
 use Rattle.search_grid.specs.Moves.{moves_from}
-use Rattle.sweep_table.specs.LookParts.{LookParts, factor_of, parts_over}
-use Rattle.search_model.specs.Problem.{Problem, IsProblem, first_of}
-use Rattle.scenario_text.specs.State.{State, CellState}
-use Rattle.scenario_text.specs.Canonical.{cell_of, first_entries, state_of_problem}
-use Rattle.scenario_text.specs.Assembled.{placed}
-use Rattle.scenario_text.proofs.PairSteps.{map_map}
+use Rattle.search_grid.proofs.Grids.{same_grid}
+use Rattle.sweep_table.specs.LookParts.{LookParts}
+use Rattle.search_model.specs.Problem.{Problem}
+use Rattle.scenario_text.specs.Laws.{OneProblem}
 
--- the problem of these parts
-abbrev pub problem_over : List (List ℕ) → ℕ → ℕ → ℕ → List ℕ → List (List ℕ) → DriftRows → LookParts → Problem
-problem_over names horizon start total first moves drift sweep =
-    record { names = names; cells = drift_cells drift; positions = length moves; horizon = horizon; start = start; total = total; first = first; moves = moves; drift = drift; sweep = sweep }
+-- problems of the same parts are the same
+abbrev made_of : List (List ℕ) → ℕ → ℕ → ℕ → ℕ → ℕ → List ℕ → List (List ℕ) → DriftRows → LookParts → Problem
+made_of names cells positions horizon start total first moves drift sweep =
+    record { names = names; cells = cells; positions = positions; horizon = horizon; start = start; total = total; first = first; moves = moves; drift = drift; sweep = sweep }
 
--- the problem that a state says
-abbrev pub problem_said : State → Problem
-problem_said s =
-    problem_over
-    (map (λ c. c.name) s.cells)
-    s.horizon
-    s.start
-    s.total
-    (placed s.first (replicate (length s.cells) 0))
-    (map (λ c. c.moves) s.cells)
-    (drift_over s.drift (map (λ c. c.drift) s.cells))
-    (parts_over s.look (map (λ c. unwrap_or c.overlook 0) s.cells))
+same_parts : (p q : Problem) → p.names ≡ q.names → p.cells ≡ q.cells → p.positions ≡ q.positions → p.horizon ≡ q.horizon → p.start ≡ q.start → p.total ≡ q.total → p.first ≡ q.first → p.moves ≡ q.moves → p.drift ≡ q.drift → p.sweep ≡ q.sweep → p ≡ q
+same_parts p q names cells positions horizon start total first moves drift sweep =
+    let same : made_of p.names p.cells p.positions p.horizon p.start p.total p.first p.moves p.drift p.sweep ≡ made_of q.names q.cells q.positions q.horizon q.start q.total q.first q.moves q.drift q.sweep =
+    rw (names, cells, positions, horizon, start, total, first, moves, drift, sweep) refl in
+    same
 
--- a list is what is read of it at each place
-pub read_of_all : {X : Type 0} (xs : List X) (n : ℕ) (d : X) → length xs ≡ n → map (λ c. get_or xs c d) (range_with_len 0 n) ≡ xs
-read_of_all xs n d long = sym (fill_by_all (λ c. get_or xs c d) xs n d long (λ k lt. refl))
+-- rows with the moves of the same rows have the same moves
+moves_shared : (given xs ys : List (List ℕ)) → HasSameMoves given xs → HasSameMoves given ys → HasSameMoves xs ys
+moves_shared given xs ys g h = record {
+  cells = h.cells ∙ sym g.cells;
+  moves = λ c inside.
+      let there : c < length given = omega (arith, g.cells) in
+      IsPermutation-trans (moves_from xs c) (moves_from given c) (moves_from ys c) (IsPermutation-sym (moves_from given c) (moves_from xs c) (g.moves c there)) (h.moves c there);
+}
 
--- what is read of each cell
-column : {X : Type 0} (f : CellState → X) (p : Problem) → map f (state_of_problem p).cells ≡ map (λ c. f (cell_of p c)) (range_with_len 0 p.cells)
-column f p = map_map f (cell_of p) (range_with_len 0 p.cells)
+parts_shared : (given xs ys : List (List DriftPart)) → HasSameParts given xs → HasSameParts given ys → HasSameParts xs ys
+parts_shared given xs ys g h = record {
+  cells = h.cells ∙ sym g.cells;
+  parts = λ c inside.
+      let there : c < length given = omega (arith, g.cells) in
+      IsPermutation-trans (parts_from xs c) (parts_from given c) (parts_from ys c) (IsPermutation-sym (parts_from given c) (parts_from xs c) (g.parts c there)) (h.parts c there);
+}
 
-names_said : (p : Problem) → IsProblem p → map (λ c. c.name) (state_of_problem p).cells ≡ p.names
-names_said p h = column (λ s. s.name) p ∙ read_of_all p.names p.cells [] h.names_length
+same_rows : (d e : ℕ) (xs ys : List (List DriftPart)) → d ≡ e → IsDrift (drift_over d xs) → IsDrift (drift_over e ys) → HasSameParts xs ys → drift_over d xs ≡ drift_over e ys
+same_rows d e xs ys same right right' parts =
+    let left : IsDrift (drift_over e xs) = subst (λ (n : ℕ). IsDrift (drift_over n xs)) same right in
+    let rows : ys ≡ xs = same_drift e xs ys left right' parts in
+    rw (same, rows) refl
 
-moves_said : (p : Problem) → IsProblem p → map (λ c. c.moves) (state_of_problem p).cells ≡ p.moves
-unfolding moves_from
-moves_said p h = column (λ s. s.moves) p ∙ read_of_all p.moves p.cells [] (h.grid_positions ∙ h.positions)
-
-drift_said : (p : Problem) → IsProblem p → map (λ c. c.drift) (state_of_problem p).cells ≡ p.drift.rows
-unfolding row_of
-drift_said p h = column (λ s. s.drift) p ∙ read_of_all p.drift.rows p.cells [] h.drift_cells
-
-own_factor : (sweep : LookParts) (c : ℕ) → slice_index sweep.overlook c ≡ factor_of sweep 1 c c
-unfolding factor_of
-own_factor sweep c = rw (eq-eqb c c refl) refl
-
-overlook_said : (p : Problem) → IsProblem p → map (λ c. unwrap_or c.overlook 0) (state_of_problem p).cells ≡ p.sweep.overlook
-overlook_said p h =
-    column (λ s. unwrap_or s.overlook 0) p
-    ∙ sym (fill_by_all (λ c. factor_of p.sweep 1 c c) p.sweep.overlook p.cells 0 (h.sweep_positions ∙ h.positions) (λ k lt. own_factor p.sweep k))
-
--- the entries of the positive parts, each at its place
-abbrev entry_at : (ℕ → ℕ) → ℕ → List DriftPart
-entry_at v c = cond (eqb (v c) 0) [] (record { cell = c; part = v c } ∷ [])
-
-one_placed : (v : ℕ → ℕ) (before more : List ℕ) (entries : List DriftPart) → placed (entry_at v (length before) ++ entries) (before ++ 0 ∷ more) ≡ placed entries (before ++ v (length before) ∷ more)
-one_placed v before more entries =
-    elim (cases_eq (v (length before)) 0) [
-      | inl none ↦ rw (eq-eqb _ _ none, none) refl
-      | inr some ↦ rw (ne_eqb _ _ some) (ap (placed entries) (set-append_seam before 0 more (v (length before))))
-    ]
-
-all_placed : (m : ℕ) (v : ℕ → ℕ) (k : ℕ) (before : List ℕ) → length before ≡ k → placed (flat_map (entry_at v) (range_with_len k m)) (before ++ replicate m 0) ≡ before ++ map v (range_with_len k m)
-all_placed zero v k before e = refl
-all_placed (suc m) v k before e =
-    let rest : List DriftPart = flat_map (entry_at v) (range_with_len (k + 1) m) in
-    let P : ℕ → Type 0 = λ j. placed (entry_at v j ++ rest) (before ++ 0 ∷ replicate m 0) ≡ placed rest (before ++ v j ∷ replicate m 0) in
-    let long : length (before ++ v k ∷ []) ≡ k + 1 = length-append before (v k ∷ []) ∙ omega arith in
-    subst P e (one_placed v before (replicate m 0) rest)
-    ∙ ap (placed rest) (sym (append_assoc before (v k ∷ []) (replicate m 0)))
-    ∙ all_placed m v (k + 1) (before ++ v k ∷ []) long
-    ∙ append_assoc before (v k ∷ []) (map v (range_with_len (k + 1) m))
-
-first_said : (p : Problem) → IsProblem p → placed (first_entries p) (replicate p.cells 0) ≡ p.first
-first_said p h = all_placed p.cells (first_of p) 0 [] refl ∙ read_of_all p.first p.cells 0 h.first_length
-
-first_back : (p : Problem) → IsProblem p → placed (first_entries p) (replicate (length (state_of_problem p).cells) 0) ≡ p.first
-first_back p h = ap (λ (n : ℕ). placed (first_entries p) (replicate n 0)) (length-map-range_with_len (cell_of p) 0 p.cells) ∙ first_said p h
-
--- the problem's parts make the problem
-pub same_problem : (p : Problem) → IsProblem p → (names : List (List ℕ)) (horizon start total : ℕ) (first : List ℕ) (moves : List (List ℕ)) (drift : DriftRows) (sweep : LookParts)
-    → names ≡ p.names → horizon ≡ p.horizon → start ≡ p.start → total ≡ p.total → first ≡ p.first → moves ≡ p.moves → drift ≡ p.drift → sweep ≡ p.sweep
-    → problem_over names horizon start total first moves drift sweep ≡ p
-same_problem p h names horizon start total first moves drift sweep names_is horizon_is start_is total_is first_is moves_is drift_is sweep_is =
-    rw (names_is, horizon_is, start_is, total_is, first_is, moves_is, drift_is, sweep_is, h.drift_cells, h.grid_positions) refl
-
--- the state of a problem says that problem
-pub said_back : (p : Problem) → IsProblem p → problem_said (state_of_problem p) ≡ p
-said_back p h =
-    same_problem p h _ p.horizon p.start p.total _ _ _ _ (names_said p h) refl refl refl (first_back p h) (moves_said p h) (ap (drift_over p.drift.denominator) (drift_said p h)) (ap (parts_over p.sweep.denominator) (overlook_said p h))
-
--- and so no other problem has it
-pub same_said : (p q : Problem) → IsProblem p → IsProblem q → state_of_problem p ≡ state_of_problem q → p ≡ q
-same_said p q h g e = sym (said_back p h) ∙ ap problem_said e ∙ said_back q g
+pub one_problem : OneProblem
+one_problem s p q g h =
+    let names : p.names ≡ q.names = g.names ∙ sym h.names in
+    let cells : p.cells ≡ q.cells = sym g.sound.names_length ∙ ap length names ∙ h.sound.names_length in
+    let firsts : p.first ≡ q.first = same_number_lists p.first q.first (g.sound.first_length ∙ cells ∙ sym h.sound.first_length) (λ c inside.
+    let here : c < p.cells = omega (arith, g.sound.first_length) in
+    g.first c here ∙ sym (h.first c (omega (arith, cells)))) in
+    let moves : q.moves ≡ p.moves = same_grid p.moves q.moves g.sound.grid h.sound.grid (moves_shared s.moves p.moves q.moves g.moves h.moves) in
+    let drift : p.drift ≡ q.drift = same_rows p.drift.denominator q.drift.denominator p.drift.rows q.drift.rows (g.denominator ∙ sym h.denominator) g.sound.drift h.sound.drift (parts_shared s.parts p.drift.rows q.drift.rows g.parts h.parts) in
+    same_parts p q names cells (g.sound.positions ∙ cells ∙ sym h.sound.positions) (g.horizon ∙ sym h.horizon) (g.start ∙ sym h.start) (g.total ∙ sym h.total) firsts (sym moves) drift (g.sweep ∙ sym h.sweep)

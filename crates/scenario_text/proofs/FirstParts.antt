@@ -1,5 +1,5 @@
 -- The positive first parts, as entries, are a row in order.
-use Rattle.std.proofs.Common.{◌≡◌, ℕ, zero, suc, ◌+◌, ◌<◌, ◌≤◌, List, [], ◌∷◌, map, length, refl, sym, ap, ◌∙◌, arith, inl, inr}
+use Rattle.std.proofs.Common.{◌≡◌, ℕ, zero, suc, ◌+◌, ◌<◌, ◌≤◌, cond, eqb, List, [], ◌∷◌, ◌++◌, map, length, refl, sym, ap, ◌∙◌, arith, zero-add, inl, inr}
 use Rattle.std.specs.Prelude.{All, ◌==◌, if◌then◌else◌, sum, sum_by, slice_index}
 use Rattle.std.specs.List.{flat_map, range_with_len}
 use Rattle.std.proofs.lemmas.Bool.{cases_eq, eq-eqb, ne_eqb}
@@ -7,7 +7,7 @@ use Rattle.std.proofs.lemmas.List.Elements.{All-nil, All-cons, All-weaker, All-m
 use Rattle.std.proofs.lemmas.List.FromFn.{fill_by_all}
 use Rattle.std.proofs.lemmas.List.Sums.{sum_by-cons, sum-map}
 use Rattle.drift_chain.specs.declared.part.DriftPart.{DriftPart}
-use Rattle.drift_chain.specs.DriftRows.{IsDriftRow}
+use Rattle.drift_chain.specs.DriftRows.{IsDriftRow, part_in}
 use Rattle.search_model.specs.Problem.{Problem, IsProblem, first_of}
 use Rattle.scenario_text.specs.Canonical.{first_entries}
 use Rattle.scenario_text.proofs.Ascending.{Rises, Rises-cons, increasing_from_Rises}
@@ -75,3 +75,36 @@ IsDriftRow-first p h =
       ascending = increasing_from_Rises _ row.rises;
       total = row.total_is ∙ total;
     }
+
+-- Such entries give each number its part.
+
+none_at : (a d v : ℕ) → v ≡ 0 → cond (eqb a d) v 0 ≡ 0
+none_at a d v none = elim (cases_eq a d) [ inl same ↦ rw (eq-eqb a d same) none | inr other ↦ rw (ne_eqb a d other) refl ]
+
+part_more : (f : ℕ → ℕ) (a d : ℕ) (es : List DriftPart) → part_in (entry_at f a ++ es) d ≡ cond (eqb a d) (f a) 0 + part_in es d
+unfolding part_in
+part_more f a d es =
+    let more : sum_by (λ e. if e.cell == d then e.part else 0) (record { cell = a; part = f a } ∷ es) ≡ cond (eqb a d) (f a) 0 + part_in es d = sum_by-cons (λ e. if e.cell == d then e.part else 0) (record { cell = a; part = f a }) es in
+    elim (cases_eq (f a) 0) [
+      | inl nothing ↦ rw (eq-eqb (f a) 0 nothing, none_at a d (f a) nothing) (sym (zero-add (part_in es d)))
+      | inr some ↦ rw (ne_eqb (f a) 0 some) more
+    ]
+
+part_before : (n a d : ℕ) (f : ℕ → ℕ) → d < a → part_in (flat_map (entry_at f) (range_with_len a n)) d ≡ 0
+unfolding part_in
+part_before zero a d f lt = refl
+part_before (suc n) a d f lt = part_more f a d (flat_map (entry_at f) (range_with_len (a + 1) n)) ∙ rw (ne_eqb a d (λ e. omega arith), part_before n (a + 1) d f (omega arith)) refl
+
+part_entered : (n a d : ℕ) (f : ℕ → ℕ) → a ≤ d → d < a + n → part_in (flat_map (entry_at f) (range_with_len a n)) d ≡ f d
+part_entered zero a d f low high = absurd (omega arith)
+part_entered (suc n) a d f low high =
+    elim (cases_eq a d) [
+      | inl same ↦
+          let after : part_in (flat_map (entry_at f) (range_with_len (a + 1) n)) d ≡ 0 = part_before n (a + 1) d f (omega arith) in
+          part_more f a d (flat_map (entry_at f) (range_with_len (a + 1) n)) ∙ rw (eq-eqb a d same, after, same) (omega arith)
+      | inr other ↦ part_more f a d (flat_map (entry_at f) (range_with_len (a + 1) n)) ∙ rw (ne_eqb a d other, part_entered n (a + 1) d f (omega arith) (omega arith)) (zero-add (f d))
+    ]
+
+-- the first parts of a problem are those of its first entries
+pub part_in-first : (p : Problem) (c : ℕ) → c < p.cells → first_of p c ≡ part_in (first_entries p) c
+part_in-first p c lt = sym (part_entered p.cells 0 c (first_of p) (omega arith) (omega arith))

@@ -1,21 +1,27 @@
 -- The lines before the rows are taken: version, horizon, parts, cells, start and first parts.
-use Rattle.std.proofs.Common.{◌≡◌, ℕ, ◌+◌, ◌<◌, true, List, [], ◌∷◌, ◌++◌, map, length, None, Ok, refl, sym, ap, ◌∙◌, arith}
-use Rattle.std.specs.Prelude.{codes}
+use Rattle.std.proofs.Common.{◌≡◌, ℕ, ◌+◌, ◌<◌, true, false, List, [], ◌∷◌, ◌++◌, map, length, Option, Some, None, Ok, refl, sym, ap, ◌∙◌, arith}
+use Rattle.std.specs.Prelude.{codes, nat_lt, if◌then◌else◌}
 use Rattle.std.specs.Fmt.{decimal}
 use Rattle.std.specs.List.{range_with_len, list_all}
 use Rattle.std.proofs.lemmas.Bool.{le-ltb, lt-ltb, lt-leb, eq-eqb}
 use Rattle.std.proofs.lemmas.List.Elements.{All-get_or}
 use Rattle.std.proofs.lemmas.List.FromFn.{length-map-range_with_len, map-range_with_len_more}
+use Rattle.drift_chain.specs.declared.part.DriftPart.{DriftPart}
+use Rattle.drift_chain.specs.DriftRows.{row_of}
+use Rattle.search_grid.specs.Moves.{moves_from}
+use Rattle.sweep_table.specs.LookParts.{factor_of}
 use Rattle.search_model.specs.Names.{IsName, is_name_byte}
 use Rattle.search_model.specs.Problem.{Problem, IsProblem, cell_name, position_name}
 use Rattle.scenario_text.specs.declared.draft.Stage.TheVariants.{Horizon, Parts, Cells, First, Rows}
-use Rattle.scenario_text.specs.State.{State, CellState, blank_state, bare}
-use Rattle.scenario_text.specs.Reading.{cell_named, cell_line, with_first}
+use Rattle.scenario_text.specs.declared.pair.Pair.{Pair}
+use Rattle.scenario_text.specs.State.{State, blank_state}
+use Rattle.scenario_text.specs.Fields.{cell_named}
+use Rattle.scenario_text.specs.Reading.{cell_line, with_name, with_first}
 use Rattle.scenario_text.specs.Canonical.{cell_row, first_entries, pair_fields}
 use Rattle.scenario_text.proofs.Joined.{is_field_byte, IsField}
 use Rattle.scenario_text.proofs.FieldTexts.{IsField-decimal, IsField-cell_name, AreFields-pairs}
-use Rattle.scenario_text.proofs.NamesApart.{cell_named-at, cell_named-next}
-use Rattle.scenario_text.proofs.PairTexts.{number_at-decimal, Knows, said, pairs_of-entries, IsSaid, IsSaid-row, some_entry, are_pairs-entries, parts_within}
+use Rattle.scenario_text.proofs.NamesApart.{cell_named-at, cell_named-next, names_all}
+use Rattle.scenario_text.proofs.PairTexts.{number_at-decimal, said, pairs_of-entries, IsSaid, IsSaid-row, some_entry, are_pairs-entries, parts_within}
 use Rattle.scenario_text.proofs.FirstParts.{IsDriftRow-first}
 use Rattle.scenario_text.proofs.RowsRead.{Takes}
 
@@ -39,11 +45,17 @@ Takes-horizon p h =
       taken = rw (number, least) refl;
     }
 
--- the cells that have only a name yet
-abbrev pub named_cell : Problem → ℕ → CellState
-named_cell p c = bare (cell_name p c)
+-- the rows of a cell where the first i cells have their moves, the first j their drift and the first k their overlook part
+abbrev pub moves_after : Problem → ℕ → ℕ → List ℕ
+moves_after p i c = if nat_lt c i then moves_from p.moves c else []
 
--- the first m cells were named
+abbrev pub parts_after : Problem → ℕ → ℕ → List DriftPart
+parts_after p j c = if nat_lt c j then row_of p.drift 1 c else []
+
+abbrev pub overlook_after : Problem → ℕ → ℕ → Option ℕ
+overlook_after p k c = if nat_lt c k then Some (factor_of p.sweep 1 c c) else None
+
+-- the first m cells were named, and have no rows yet
 abbrev pub after_cells : Problem → ℕ → State
 after_cells p m = record {
   stage = Cells;
@@ -51,9 +63,13 @@ after_cells p m = record {
   total = p.total;
   drift = p.drift.denominator;
   look = p.sweep.denominator;
-  cells = map (named_cell p) (range_with_len 0 m);
+  names = map (cell_name p) (range_with_len 0 m);
+  gridded = false;
   start = 0;
   first = [];
+  moves = map (moves_after p 0) (range_with_len 0 m);
+  parts = map (parts_after p 0) (range_with_len 0 m);
+  overlook = map (overlook_after p 0) (range_with_len 0 m);
 }
 
 pub Takes-parts : (p : Problem) → IsProblem p → Takes (dated p) (codes "parts" ∷ decimal p.total ∷ decimal p.drift.denominator ∷ decimal p.sweep.denominator ∷ []) (after_cells p 0)
@@ -71,51 +87,70 @@ Takes-parts p h =
     }
 
 -- a new name behind those that were read
-cell_line-taken : (s : State) (name : List ℕ) → IsName name → length s.cells < 200 → cell_named s.cells name ≡ None → cell_line s name ≡ Ok (record s { cells = s.cells ++ bare name ∷ [] })
+cell_line-taken : (s : State) (name : List ℕ) → IsName name → length s.names < 200 → cell_named s.names name ≡ None → cell_line s name ≡ Ok (with_name s name)
 cell_line-taken s name h few new =
     let short = le-ltb 24 (length name) h.short in
-    let room = lt-leb 200 (length s.cells) few in
+    let room = lt-leb 200 (length s.names) few in
     let bytes : list_all is_name_byte name ≡ true = h.bytes in
     rw (bytes, short, room, new) refl
 
+-- the next of some, behind the others
+next_of : {X : Type 0} (f : ℕ → X) (k : ℕ) (x : X) → f k ≡ x → map f (range_with_len 0 k) ++ x ∷ [] ≡ map f (range_with_len 0 (k + 1))
+next_of {X} f k x e = ap (λ (y : X). map f (range_with_len 0 k) ++ y ∷ []) (sym e) ∙ sym (map-range_with_len_more f 0 k k (omega arith))
+
+next_named : (p : Problem) (k : ℕ) → with_name (after_cells p k) (cell_name p k) ≡ after_cells p (k + 1)
+next_named p k =
+    let none = le-ltb k 0 (omega arith) in
+    let names = next_of (cell_name p) k (cell_name p k) refl in
+    let moves = next_of (moves_after p 0) k [] (rw none refl) in
+    let parts = next_of (parts_after p 0) k [] (rw none refl) in
+    let overlook = next_of (overlook_after p 0) k None (rw none refl) in
+    rw (names, moves, parts, overlook) refl
+
 pub Takes-cell : (p : Problem) → IsProblem p → (k : ℕ) → k < p.cells → Takes (after_cells p k) (cell_row (cell_name p k)) (after_cells p (k + 1))
 Takes-cell p h k lt =
-    let long : length (map (named_cell p) (range_with_len 0 k)) ≡ k = length-map-range_with_len (named_cell p) 0 k in
+    let long : length (map (cell_name p) (range_with_len 0 k)) ≡ k = length-map-range_with_len (cell_name p) 0 k in
     let name : IsName (cell_name p k) = All-get_or IsName p.names k [] (omega (arith, h.names_length)) h.names in
     record {
       fields = (word (codes "cell") (omega arith) refl, (IsField-cell_name p h k lt, tt));
       says = refl;
-      taken =
-          cell_line-taken (after_cells p k) (cell_name p k) name (omega (arith, h.cells.1)) (cell_named-next p h k (omega arith) (named_cell p) (λ c. refl) lt)
-          ∙ ap (λ (cells : List CellState). Ok (record (after_cells p k) { cells = cells })) (sym (map-range_with_len_more (named_cell p) 0 k k (omega arith)));
+      taken = cell_line-taken (after_cells p k) (cell_name p k) name (omega (arith, h.cells.1)) (cell_named-next p h k lt) ∙ ap Ok (next_named p k);
     }
 
-abbrev pub started : Problem → State
-started p = record (after_cells p p.cells) { stage = First; start = p.start }
+-- all cells were named
+abbrev pub named : Problem → State
+named p = record (after_cells p p.cells) { names = p.names }
 
-pub Takes-start : (p : Problem) → IsProblem p → Takes (after_cells p p.cells) (codes "start" ∷ position_name p p.start ∷ []) (started p)
+pub after_all_cells : (p : Problem) → IsProblem p → after_cells p p.cells ≡ named p
+after_all_cells p h = ap (λ (names : List (List ℕ)). record (after_cells p p.cells) { names = names }) (names_all p h)
+
+abbrev pub started : Problem → State
+started p = record (named p) { stage = First; start = p.start }
+
+pub Takes-start : (p : Problem) → IsProblem p → Takes (named p) (codes "start" ∷ position_name p p.start ∷ []) (started p)
 Takes-start p h =
     let start : p.start < p.cells = omega (arith, h.start, h.positions) in
-    let long : length (map (named_cell p) (range_with_len 0 p.cells)) ≡ p.cells = length-map-range_with_len (named_cell p) 0 p.cells in
-    let some = lt-ltb 0 (length (map (named_cell p) (range_with_len 0 p.cells))) (omega (arith, h.cells.0)) in
-    let found = cell_named-at p h p.cells (omega arith) (named_cell p) (λ c. refl) p.start start in
+    let some = lt-ltb 0 (length p.names) (omega (arith, h.cells.0, h.names_length)) in
+    let found = cell_named-at p h p.start start in
     record {
       fields = (word (codes "start") (omega arith) refl, (IsField-cell_name p h p.start start, tt));
       says = refl;
       taken = rw (some, found) refl;
     }
 
-with_first-taken : (s : State) (pairs : List _) (es : List _) → IsSaid s.total es pairs → with_first s pairs ≡ Ok (record s { stage = Rows; first = es })
+with_first-taken : (s : State) (pairs : List Pair) (es : List DriftPart) → IsSaid s.total es pairs → with_first s pairs ≡ Ok (record s { stage = Rows; first = es })
 with_first-taken s pairs es h =
     let total = eq-eqb _ _ h.total in
-    rw (h.bad, h.over, h.unknown, h.double, total, h.entries) refl
+    rw (h.faultless, total, h.entries) refl
 
-pub Takes-first : (p : Problem) → IsProblem p → Takes (started p) (codes "first" ∷ pair_fields p (first_entries p)) (record (started p) { stage = Rows; first = first_entries p })
+abbrev pub first_taken : Problem → State
+first_taken p = record (started p) { stage = Rows; first = first_entries p }
+
+pub Takes-first : (p : Problem) → IsProblem p → Takes (started p) (codes "first" ∷ pair_fields p (first_entries p)) (first_taken p)
 Takes-first p h =
     let row = IsDriftRow-first p h in
     let small = parts_within p.total p.cells 1000000 (first_entries p) row h.total.1 in
-    let knows : Knows p (started p).cells = record { known = cell_named-at p h p.cells (omega arith) (named_cell p) (λ c. refl) } in
-    let pairs = pairs_of-entries p (started p).cells knows (first_entries p) row.within small in
+    let pairs = pairs_of-entries p h (first_entries p) row.within small in
     let even = are_pairs-entries p (first_entries p) (some_entry p.total p.cells (first_entries p) row h.total.0) in
     record {
       fields = (word (codes "first") (omega arith) refl, AreFields-pairs p h (first_entries p) row.within small);

@@ -1,12 +1,12 @@
 -- A row of fields is read as those fields, and the text of rows as their lines.
-use Rattle.std.proofs.Common.{◌≡◌, ℕ, ◌<◌, Bool, true, false, List, [], ◌∷◌, ◌++◌, length, refl, sym, ap, ◌∙◌, arith}
+use Rattle.std.proofs.Common.{◌≡◌, ℕ, suc, ◌<◌, Bool, true, false, List, [], ◌∷◌, ◌++◌, length, refl, sym, ap, ◌∙◌, arith}
 use Rattle.std.specs.Prelude.{◌||◌, not, nat_lt}
 use Rattle.std.specs.List.{list_all, join_with_byte}
 use Rattle.std.proofs.lemmas.Bool.{and_parts, ne_eqb}
 use Rattle.std.proofs.lemmas.List.{append-nil}
 use Rattle.std.proofs.lemmas.Grind.{common_steps}
-use Rattle.scenario_text.specs.Lines.{onto_first, is_blank, ends_field, fields_of, lines_of}
-use Rattle.scenario_text.specs.Reading.{is_text_byte}
+use Rattle.scenario_text.specs.Lines.{onto_first, is_blank, ends_field, fields_of, lines_of, after_lines}
+use Rattle.scenario_text.specs.Fields.{is_text_byte}
 
 -- a byte of a field: one of text that is no blank
 abbrev pub is_field_byte : ℕ → Bool
@@ -102,3 +102,19 @@ row_is_text (f ∷ g ∷ fs) h = list_all-append is_text_byte f (32 ∷ join_wit
 -- a row is the first line of a text that begins with it
 pub lines_of-row : (fs : List (List ℕ)) (rest : List ℕ) → AreFields fs → lines_of (join_with_byte 32 fs ++ 10 ∷ rest) ≡ join_with_byte 32 fs ∷ lines_of rest
 lines_of-row fs rest h = lines_of-line (join_with_byte 32 fs) rest (row_is_text fs h)
+
+-- behind the line feed of a line without line feeds
+after_lines-line : (n : ℕ) (l rest : List ℕ) → list_all is_text_byte l ≡ true → after_lines (suc n) (l ++ 10 ∷ rest) ≡ after_lines n rest
+unfolding after_lines
+after_lines-line n [] rest bytes = refl
+after_lines-line n (c ∷ cs) rest bytes =
+    let b = and_parts (is_text_byte c) (list_all is_text_byte cs) bytes in
+    rw (ne_eqb c 10 (text_byte_is_no_feed c b.0)) (after_lines-line n cs rest b.1)
+
+-- and so behind a row
+pub after_lines-row : (n : ℕ) (fs : List (List ℕ)) (rest : List ℕ) → AreFields fs → after_lines (suc n) (join_with_byte 32 fs ++ 10 ∷ rest) ≡ after_lines n rest
+after_lines-row n fs rest h = after_lines-line n (join_with_byte 32 fs) rest (row_is_text fs h)
+
+pub after_no_lines : (text : List ℕ) → after_lines 0 text ≡ text
+unfolding after_lines
+after_no_lines text = refl

@@ -1,15 +1,14 @@
 -- A cell is found by its name, since no name is repeated.
-use Rattle.std.proofs.Common.{◌≡◌, ℕ, ◌<◌, ◌≤◌, false, List, [], map, length, get_or, take, Some, None, refl, ap, ◌∙◌, arith, get_or-take}
+use Rattle.std.proofs.Common.{◌≡◌, ℕ, ◌<◌, false, List, [], map, length, get_or, take, Some, None, refl, sym, ap, ◌∙◌, arith, get_or-take}
 use Rattle.std.specs.List.{range_with_len}
 use Rattle.std.specs.Str.{bytes_eq}
 use Rattle.std.proofs.lemmas.Bool.{false_from_ne_true}
 use Rattle.std.proofs.lemmas.List.{length-take-le, get_or_default}
-use Rattle.std.proofs.lemmas.List.FromFn.{length-map-range_with_len, get_or-map-range_with_len}
+use Rattle.std.proofs.lemmas.List.FromFn.{fill_by_all, length-map-range_with_len, get_or-map-range_with_len}
 use Rattle.std.proofs.lemmas.Slice.Eq.{bytes_eq-Decides}
 use Rattle.search_model.specs.Names.{name_in, IsRepeated}
 use Rattle.search_model.specs.Problem.{Problem, IsProblem, cell_name}
-use Rattle.scenario_text.specs.State.{CellState, bare}
-use Rattle.scenario_text.specs.Reading.{cell_named}
+use Rattle.scenario_text.specs.Fields.{cell_named}
 use Rattle.scenario_text.proofs.Ranges.{position-first, position-none}
 
 -- two cells have two names
@@ -19,28 +18,28 @@ names_apart names differ j k below within same =
     let at : get_or (take k names) j (name_in names k) ≡ get_or names j (name_in names k) = get_or-take k names j (name_in names k) below in
     differ k (within, (j, omega arith, at ∙ get_or_default names j (name_in names k) [] (omega arith) ∙ same))
 
-pub other_name : (p : Problem) → IsProblem p → (j k : ℕ) → j < k → k < p.cells → bytes_eq (cell_name p j) (cell_name p k) ≡ false
-other_name p h j k below within =
-    false_from_ne_true _ (λ e. names_apart p.names h.names_differ j k below (omega (arith, h.names_length)) ((bytes_eq-Decides (cell_name p j) (cell_name p k)).0 e))
+-- a problem's names
+module _ (p : Problem) (h : IsProblem p) where
+  -- that of an earlier cell is another
+  other_name : (j k : ℕ) → j < k → k < p.cells → bytes_eq (cell_name p k) (cell_name p j) ≡ false
+  other_name j k below within =
+      false_from_ne_true _ (λ e. names_apart p.names h.names_differ j k below (omega (arith, h.names_length)) (sym ((bytes_eq-Decides (cell_name p k) (cell_name p j)).0 e)))
 
--- cells with the names of a problem's first m cells
-module _ (p : Problem) (h : IsProblem p) (m : ℕ) (few : m ≤ p.cells) (f : ℕ → CellState) (named : (c : ℕ) → (f c).name ≡ cell_name p c) where
-  abbrev these : List CellState
-  these = map f (range_with_len 0 m)
-
-  test_at : (name : List ℕ) (k : ℕ) → k < m → bytes_eq (get_or these k (bare [])).name name ≡ bytes_eq (cell_name p k) name
-  test_at name k lt = ap (λ (c : CellState). bytes_eq c.name name) (get_or-map-range_with_len f 0 m k k (bare []) lt (omega arith)) ∙ ap (λ (n : List ℕ). bytes_eq n name) (named k)
-
-  -- a name among them is that of its number
-  pub cell_named-at : (c : ℕ) → c < m → cell_named these (cell_name p c) ≡ Some c
+  -- a name is that of its number
+  pub cell_named-at : (c : ℕ) → c < p.cells → cell_named p.names (cell_name p c) ≡ Some c
   cell_named-at c lt =
-      let long : length these ≡ m = length-map-range_with_len f 0 m in
-      position-first (λ x. bytes_eq x.name (cell_name p c)) these c (bare []) (omega arith)
-      (λ k below. test_at (cell_name p c) k (omega arith) ∙ other_name p h k c below (omega arith))
-      (test_at (cell_name p c) c lt ∙ (bytes_eq-Decides (cell_name p c) (cell_name p c)).1 refl)
+      position-first (bytes_eq (cell_name p c)) p.names c [] (omega (arith, h.names_length)) (λ k below. other_name k c below lt) ((bytes_eq-Decides (cell_name p c) (cell_name p c)).1 refl)
 
-  -- the next name isn't among them
-  pub cell_named-next : m < p.cells → cell_named these (cell_name p m) ≡ None
-  cell_named-next lt =
-      let long : length these ≡ m = length-map-range_with_len f 0 m in
-      position-none (λ x. bytes_eq x.name (cell_name p m)) these (bare []) (λ k below. test_at (cell_name p m) k (omega arith) ∙ other_name p h k m (omega arith) lt)
+  -- the first k of them
+  abbrev these : ℕ → List (List ℕ)
+  these k = map (cell_name p) (range_with_len 0 k)
+
+  -- the next one isn't among them
+  pub cell_named-next : (k : ℕ) → k < p.cells → cell_named (these k) (cell_name p k) ≡ None
+  cell_named-next k lt =
+      let long : length (these k) ≡ k = length-map-range_with_len (cell_name p) 0 k in
+      position-none (bytes_eq (cell_name p k)) (these k) [] (λ j below.
+      ap (bytes_eq (cell_name p k)) (get_or-map-range_with_len (cell_name p) 0 k j j [] (omega arith) (omega arith)) ∙ other_name j k (omega arith) lt)
+
+  pub names_all : these p.cells ≡ p.names
+  names_all = sym (fill_by_all (cell_name p) p.names p.cells [] h.names_length (λ k lt. refl))

@@ -7,7 +7,7 @@ use Rattle.std.proofs.lemmas.Grind.{common_steps}
 use Rattle.exact_parts.specs.declared.number.Number.{Number}
 use Rattle.exact_parts.specs.declared.number.Number.TheVariants.{NotPlain, Above, Of}
 use Rattle.exact_parts.specs.Decimal.{is_plain, Spells}
-use Rattle.scenario_text.specs.Reading.{number_at, is_bad, is_over, number_in}
+use Rattle.scenario_text.specs.Fields.{number_at, is_bad, is_over, number_in}
 
 -- what a field spells is what it says in a number's place
 pub spelled : (most : ℕ) (field : List ℕ) (x : Number) → Spells most field x → x ≡ number_at most field

@@ -1,90 +1,251 @@
 -- Pairs of a line, one after the other.
-use Rattle.std.proofs.Common.{◌≡◌, ℕ, zero, suc, ◌≤◌, ◌<◌, ◌+◌, Bool, true, false, List, [], ◌∷◌, ◌++◌, length, ◌-◌, get_or, map, take, drop, add-one, Option, Some, None, refl, sym, ap, ◌∙◌, arith, length-drop, append_assoc, Bor}
-use Rattle.std.specs.Prelude.{◌||◌, All}
-use Rattle.std.proofs.Math.Seq.{drop-nil}
-use Rattle.std.proofs.lemmas.List.{append-nil, map_push, take_all}
-use Rattle.std.proofs.lemmas.List.Elements.{All-cons}
+use Rattle.std.proofs.Common.{◌≡◌, ℕ, suc, ◌<◌, ◌%◌, Bool, true, false, cond, eqb, List, [], ◌∷◌, ◌++◌, length, map, Option, Some, None, refl, sym, ap, ◌∙◌, subst, arith, append_assoc}
+use Rattle.std.specs.Prelude.{◌||◌, ◌&&◌, ◌==◌, nat_le, is_some, is_none, unwrap_or, if◌then◌else◌, Result, Ok, Err, OnOk}
+use Rattle.std.specs.List.{list_any}
+use Rattle.std.proofs.lemmas.List.{append-nil, map_push}
+use Rattle.std.proofs.lemmas.Bool.{eq-eqb, ne_eqb, le-leb}
+use Rattle.drift_chain.specs.declared.part.DriftPart.{DriftPart}
+use Rattle.scenario_text.specs.declared.kind.TextKind.TheVariants.{BadNumber, OverLimit, UnknownName, DoubleName}
 use Rattle.scenario_text.specs.declared.pair.Pair.{Pair}
-use Rattle.scenario_text.specs.State.{CellState}
-use Rattle.scenario_text.specs.Reading.{number_at, number_in, cell_named, pairs_of, stands_in, has_double, total_of}
-use Rattle.scenario_text.proofs.Numbers.{number_at_within}
+use Rattle.scenario_text.specs.declared.pairs.Pairs.{Pairs}
+use Rattle.scenario_text.specs.declared.pairs.Scan.{Scan}
+use Rattle.scenario_text.specs.Lines.{onto_first, ends_field, fields_of}
+use Rattle.scenario_text.specs.Fields.{is_bad, is_over, number_in, number_at, cell_named, stands_in, has_double, entries_of, pairs_of, pairs_fault, are_pairs}
+use Rattle.scenario_text.specs.Scanning.{HasSeen, IsMarked, IsAdded}
+use Rattle.scenario_text.specs.Gives.{AreScanned}
+use Rattle.scenario_text.proofs.Words.{fields_gone, starts_field}
 
--- what follows a place is all that is left from there
-pub rest_is : {A : Type 0} (xs : List A) (n : ℕ) → take (length xs - n) (drop n xs) ≡ drop n xs
-rest_is xs n = take_all (length xs - n) (drop n xs) (omega (arith, length-drop n xs))
+or_false : (a : Bool) → (a || false) ≡ a
+or_false true = refl
+or_false false = refl
 
--- a pair is taken from the front of the fields
-pub pair_more : (cells : List CellState) (name part : List ℕ) (fields : List (List ℕ)) → pairs_of cells (name ∷ part ∷ fields) ≡ record { cell = cell_named cells name; part = number_at 1000000 part } ∷ pairs_of cells fields
-unfolding pairs_of
-pair_more cells name part fields = refl
+or_left : (a b : Bool) → (a || b) ≡ false → a ≡ false
+or_left true b e = e
+or_left false b e = refl
 
--- fewer than two fields are no pair
-pub no_pair : (cells : List CellState) (fields : List (List ℕ)) → length fields < 2 → pairs_of cells fields ≡ []
-unfolding pairs_of
-no_pair cells [] few = refl
-no_pair cells (name ∷ []) few = refl
-no_pair cells (name ∷ part ∷ fields) few = absurd (omega arith)
+or_right : (a b : Bool) → (a || b) ≡ false → b ≡ false
+or_right true b e = absurd cc
+or_right false b e = e
 
-pub pair_at : (cells : List CellState) (fields : List (Bor (List ℕ))) (d e : Bor (List ℕ)) → 2 ≤ length fields
-    → pairs_of cells (map (λ f. f.now) fields) ≡ record { cell = cell_named cells (get_or fields 0 d).now; part = number_at 1000000 (get_or fields 1 e).now } ∷ pairs_of cells (map (λ f. f.now) (take (length fields - 2) (drop 2 fields)))
-pair_at cells [] d e long = absurd (omega arith)
-pair_at cells (name ∷ []) d e long = absurd (omega arith)
-pair_at cells (name ∷ part ∷ fields) d e long = rw (rest_is (name ∷ part ∷ fields) 2) (pair_more cells name.now part.now (map (λ f. f.now) fields))
+or_assoc : (a b c : Bool) → ((a || b) || c) ≡ (a || (b || c))
+or_assoc true b c = refl
+or_assoc false b c = refl
 
--- one pair more, of which the rest begins with it
-pub one_more : {A : Type 0} (done : List A) (x : A) (more rest whole : List A) → done ++ rest ≡ whole → rest ≡ x ∷ more → (done ++ x ∷ []) ++ more ≡ whole
-one_more done x more rest whole so_far e = append_assoc done (x ∷ []) more ∙ ap (λ ys. done ++ ys) (sym e) ∙ so_far
+crossed : (a b c d : Bool) → ((a || b) || (c || d)) ≡ ((a || c) || (b || d))
+crossed true b c d = refl
+crossed false true true d = refl
+crossed false true false d = refl
+crossed false false c d = refl
 
--- the parts of pairs are within their limit
-pub pairs_within : (cells : List CellState) (fields : List (List ℕ)) → All (λ x. number_in x.part ≤ 1000000) (pairs_of cells fields)
-unfolding pairs_of
-pairs_within cells [] = λ k d lt. absurd (omega arith)
-pairs_within cells (name ∷ []) = λ k d lt. absurd (omega arith)
-pairs_within cells (name ∷ part ∷ fields) = All-cons (λ (x : Pair). number_in x.part ≤ 1000000) _ (pairs_of cells fields) (number_at_within 1000000 part) (pairs_within cells fields)
+and_false : (a : Bool) → (a && false) ≡ false
+and_false true = refl
+and_false false = refl
 
-double_at_suc : (cells : List (Option ℕ)) (i : ℕ) → i < length cells → has_double (drop i cells) ≡ (stands_in (get_or cells i None) (drop (suc i) cells) || has_double (drop (suc i) cells))
+any_push : {X : Type 0} (p : X → Bool) (xs : List X) (y : X) → list_any p (xs ++ y ∷ []) ≡ (list_any p xs || p y)
+any_push p [] y = or_false (p y)
+any_push p (x ∷ xs) y = ap (λ b. p x || b) (any_push p xs y) ∙ sym (or_assoc (p x) (list_any p xs) (p y))
+
+-- A cell more.
+
+eqb_sym : (a b : ℕ) → eqb a b ≡ eqb b a
+eqb_sym a b = grind arith
+
+stands_nowhere : (c : Option ℕ) → stands_in c [] ≡ false
+stands_nowhere None = refl
+stands_nowhere (Some c) = refl
+
+stands_both : (c d : Option ℕ) → stands_in c (d ∷ []) ≡ stands_in d (c ∷ [])
+stands_both None None = refl
+stands_both None (Some d) = refl
+stands_both (Some c) None = refl
+stands_both (Some c) (Some d) = rw (eqb_sym d c) refl
+
+stands_first : (c d : Option ℕ) (cs : List (Option ℕ)) → stands_in c (d ∷ cs) ≡ (stands_in c (d ∷ []) || stands_in c cs)
+stands_first None d cs = refl
+stands_first (Some c) d cs = ap (λ b. b || stands_in (Some c) cs) (sym (or_false (is_some d && unwrap_or d 0 == c)))
+
+stands_push : (c d : Option ℕ) (cs : List (Option ℕ)) → stands_in c (cs ++ d ∷ []) ≡ (stands_in c cs || stands_in c (d ∷ []))
+stands_push None d cs = refl
+stands_push (Some c) d cs = any_push (λ d. is_some d && unwrap_or d 0 == c) cs d ∙ ap (λ b. stands_in (Some c) cs || b) (sym (or_false (is_some d && unwrap_or d 0 == c)))
+
+-- a cell more stands twice if it stands among the others
+pub double_push : (cs : List (Option ℕ)) (c : Option ℕ) → has_double (cs ++ c ∷ []) ≡ (has_double cs || stands_in c cs)
 unfolding has_double
-double_at_suc [] i lt = absurd (omega arith)
-double_at_suc (c ∷ cells) zero lt = refl
-double_at_suc (c ∷ cells) (suc i) lt = double_at_suc cells i (omega arith)
+double_push [] c = or_false (stands_in c [])
+double_push (a ∷ cs) c =
+    rw (stands_push a c cs, double_push cs c, stands_first c a cs, stands_both a c) (crossed (stands_in a cs) (stands_in c (a ∷ [])) (has_double cs) (stands_in c cs))
 
--- a cell stands again behind it, or the doubles are behind it
-pub double_at : (cells : List (Option ℕ)) (i : ℕ) → i < length cells → has_double (drop i cells) ≡ (stands_in (get_or cells i None) (take (length cells - (i + 1)) (drop (i + 1) cells)) || has_double (drop (i + 1) cells))
-double_at cells i lt = rw (rest_is cells (i + 1)) (rw add-one (double_at_suc cells i lt))
+some_cell : (o : Option ℕ) → is_none o ≡ false → is_some o ≡ true
+some_cell None e = absurd cc
+some_cell (Some c) e = refl
 
--- behind the last cell nothing stands twice
-pub double_end : (cells : List (Option ℕ)) (i : ℕ) → length cells ≤ i → has_double (drop i cells) ≡ false
+-- a cell has an entry if it stands among the cells
+pub has_entry : (done : List Pair) (cell : ℕ) → list_any (λ x. is_none x.cell) done ≡ false → list_any (λ e. e.cell == cell) (entries_of done) ≡ stands_in (Some cell) (map (λ x. x.cell) done)
+has_entry [] cell known = refl
+has_entry (x ∷ done) cell known =
+    let here : is_some x.cell ≡ true = some_cell x.cell (or_left _ _ known) in
+    let rest = has_entry done cell (or_right _ _ known) in
+    rw (here, rest) refl
+
+-- A pair more.
+
+last_true : (a b c d : Bool) → (a || (b || (c || d))) ≡ true → a ≡ false → b ≡ false → c ≡ false → d ≡ true
+last_true a b c d any e f g = rw (e, f, g) at any
+
+-- the marks of one pair more are those of all
+marked_any : {X : Type 0} (p : X → Bool) (done : List X) (x : X) (old new : Bool) → old ≡ list_any p done → new ≡ (old || p x) → new ≡ list_any p (done ++ x ∷ [])
+marked_any p done x old new seen e = e ∙ ap (λ b. b || p x) seen ∙ sym (any_push p done x)
+
+was_false : (old new more : Bool) → new ≡ (old || more) → new ≡ false → old ≡ false
+was_false old new more e f = or_left old more (sym e ∙ f)
+
+cells_push : (done : List Pair) (x : Pair) → has_double (map (λ x. x.cell) (done ++ x ∷ [])) ≡ (has_double (map (λ x. x.cell) done) || stands_in x.cell (map (λ x. x.cell) done))
+cells_push done x = rw (map_push (λ (x : Pair). x.cell) done x) (double_push (map (λ x. x.cell) done) x.cell)
+
+entries_push : (done : List Pair) (x : Pair) (cell : ℕ) → x.cell ≡ Some cell → entries_of done ++ record { cell = cell; part = number_in x.part } ∷ [] ≡ entries_of (done ++ x ∷ [])
+entries_push done x cell is =
+    ap (λ (o : Option ℕ). entries_of done ++ record { cell = unwrap_or o 0; part = number_in x.part } ∷ []) (sym is) ∙ sym (map_push (λ (x : Pair). record { cell = unwrap_or x.cell 0; part = number_in x.part }) done x)
+
+-- a pair more, where something is wrong, so that nothing is added
+pub seen_marked : (done : List Pair) (x : Pair) (old new : Scan) → IsMarked old x new → (new.bad || (new.over || (new.unknown || new.double))) ≡ true → HasSeen done old → HasSeen (done ++ x ∷ []) new
+seen_marked done x old new m any h = record {
+  bad = marked_any (λ x. is_bad 1 x.part) done x old.bad new.bad h.bad m.bad;
+  over = marked_any (λ x. is_over x.part) done x old.over new.over h.over m.over;
+  unknown = marked_any (λ x. is_none x.cell) done x old.unknown new.unknown h.unknown m.unknown;
+  double = λ b o u.
+      let twice : new.double ≡ true = last_true _ _ _ _ any b o u in
+      let before : old.double ≡ has_double (map (λ x. x.cell) done) = h.double (was_false _ _ _ m.bad b) (was_false _ _ _ m.over o) (was_false _ _ _ m.unknown u) in
+      let true_before : has_double (map (λ (x : Pair). x.cell) done) ≡ true = sym before ∙ sym m.double ∙ twice in
+      rw (cells_push done x, true_before) twice;
+  entries = λ b o u d. absurd (let twice : new.double ≡ true = last_true _ _ _ _ any b o u in let bad : ⊥ = cc in bad);
+}
+
+-- a pair more, where nothing is wrong so far
+pub seen_added : (done : List Pair) (x : Pair) (cell : ℕ) (old marked new : Scan) → x.cell ≡ Some cell → IsMarked old x marked → (marked.bad || (marked.over || (marked.unknown || marked.double))) ≡ false → IsAdded marked (record { cell = cell; part = number_in x.part }) new → HasSeen done old → HasSeen (done ++ x ∷ []) new
+seen_added done x cell old marked new is m none a h =
+    let b0 : marked.bad ≡ false = or_left _ _ none in
+    let none_1 : (marked.over || (marked.unknown || marked.double)) ≡ false = or_right marked.bad (marked.over || (marked.unknown || marked.double)) none in
+    let o0 : marked.over ≡ false = or_left _ _ none_1 in
+    let none_2 : (marked.unknown || marked.double) ≡ false = or_right marked.over (marked.unknown || marked.double) none_1 in
+    let u0 : marked.unknown ≡ false = or_left _ _ none_2 in
+    let d0 : marked.double ≡ false = or_right marked.unknown marked.double none_2 in
+    let b : old.bad ≡ false = was_false _ _ _ m.bad b0 in
+    let o : old.over ≡ false = was_false _ _ _ m.over o0 in
+    let u : old.unknown ≡ false = was_false _ _ _ m.unknown u0 in
+    let d : old.double ≡ false = sym m.double ∙ d0 in
+    let entries : old.entries.items ≡ entries_of done = h.entries b o u d in
+    let same : marked.entries.items ≡ entries_of done = rw m.entries entries in
+    let no_double : has_double (map (λ (x : Pair). x.cell) done) ≡ false = sym (h.double b o u) ∙ d in
+    let among : list_any (λ (e : DriftPart). e.cell == cell) (entries_of done) ≡ stands_in (Some cell) (map (λ x. x.cell) done) = has_entry done cell (sym h.unknown ∙ u) in
+    record {
+      bad = marked_any (λ x. is_bad 1 x.part) done x old.bad new.bad h.bad (a.bad ∙ m.bad);
+      over = marked_any (λ x. is_over x.part) done x old.over new.over h.over (a.over ∙ m.over);
+      unknown = marked_any (λ x. is_none x.cell) done x old.unknown new.unknown h.unknown (a.unknown ∙ m.unknown);
+      double = λ _ _ _. rw (cells_push done x, no_double, is) (a.double ∙ ap (list_any (λ (e : DriftPart). e.cell == cell)) same ∙ among);
+      entries = λ _ _ _ twice. a.entries twice ∙ ap (λ (es : List DriftPart). es ++ record { cell = cell; part = number_in x.part } ∷ []) same ∙ entries_push done x cell is;
+    }
+
+pub on_ok : {T E : Type 0} (r : Result T E) (P Q : Type 0) → (P → Q) → OnOk r P → OnOk r Q
+on_ok (Ok x) P Q f h = f h
+on_ok (Err e) P Q f h = tt
+
+-- The pairs of a text, read up to a rest.
+
+pub record IsScanned (names : List (List ℕ)) (text rest : List ℕ) (scan : Scan) : Type 0 where
+  pub done : List Pair
+  pub seen : HasSeen done scan
+  pub so_far : done ++ pairs_of names (fields_of rest) ≡ pairs_of names (fields_of text)
+  pub even : length (fields_of rest) % 2 ≡ length (fields_of text) % 2
+  pub starts : ends_field rest ≡ true → rest ≡ []
+
+-- nothing was seen yet
+pub scan_starts : (names : List (List ℕ)) (text rest : List ℕ) (scan : Scan) → fields_of text ≡ fields_of rest → (ends_field rest ≡ true → rest ≡ []) → scan.bad ≡ false → scan.over ≡ false → scan.unknown ≡ false → scan.double ≡ false → scan.entries.items ≡ [] → IsScanned names text rest scan
 unfolding has_double
-double_end [] i le = ap has_double (drop-nil {A = Option ℕ} i)
-double_end (c ∷ cells) zero le = absurd (omega arith)
-double_end (c ∷ cells) (suc i) le = double_end cells i (omega arith)
+scan_starts names text rest scan same starts bad over unknown double entries = record {
+  done = [];
+  seen = record { bad = bad; over = over; unknown = unknown; double = λ _ _ _. double; entries = λ _ _ _ _. entries };
+  so_far = ap (pairs_of names) (sym same);
+  even = ap (λ fs. length fs % 2) (sym same);
+  starts = starts;
+}
 
-total_suc : (ps : List Pair) (i : ℕ) (d : Pair) → i < length ps → total_of (drop i ps) ≡ number_in (get_or ps i d).part + total_of (drop (suc i) ps)
-unfolding total_of
-total_suc [] i d lt = absurd (omega arith)
-total_suc (q ∷ ps) zero d lt = refl
-total_suc (q ∷ ps) (suc i) d lt = total_suc ps i d (omega arith)
+pair_first : (names : List (List ℕ)) (name part : List ℕ) (fields : List (List ℕ)) → pairs_of names (name ∷ part ∷ fields) ≡ record { cell = cell_named names name; part = number_at 1000000 part } ∷ pairs_of names fields
+unfolding pairs_of
+pair_first names name part fields = refl
 
--- the total of what is left
-pub total_at : (ps : List Pair) (i : ℕ) (d : Pair) → i < length ps → total_of (drop i ps) ≡ number_in (get_or ps i d).part + total_of (drop (i + 1) ps)
-total_at ps i d lt = rw add-one (total_suc ps i d lt)
+-- one pair more was seen
+pub scan_more : (names : List (List ℕ)) (text rest name after part left : List ℕ) (x : Pair) (old new : Scan) → fields_of rest ≡ name ∷ fields_of after → fields_of after ≡ part ∷ fields_of left → (ends_field left ≡ true → left ≡ [])
+    → x ≡ record { cell = cell_named names name; part = number_at 1000000 part } → ((done : List Pair) → HasSeen done old → HasSeen (done ++ x ∷ []) new) → IsScanned names text rest old → IsScanned names text left new
+scan_more names text rest name after part left x old new one two starts is add s =
+    let both : fields_of rest ≡ name ∷ part ∷ fields_of left = one ∙ ap (λ (fs : List (List ℕ)). name ∷ fs) two in
+    let first : pairs_of names (fields_of rest) ≡ x ∷ pairs_of names (fields_of left) = ap (pairs_of names) both ∙ pair_first names name part (fields_of left) ∙ ap (λ (y : Pair). y ∷ pairs_of names (fields_of left)) (sym is) in
+    let long : length (fields_of rest) ≡ suc (suc (length (fields_of left))) = ap length both in
+    record {
+      done = s.done ++ x ∷ [];
+      seen = add s.done s.seen;
+      so_far = append_assoc s.done (x ∷ []) (pairs_of names (fields_of left)) ∙ ap (λ (ys : List Pair). s.done ++ ys) (sym first) ∙ s.so_far;
+      even = let e = s.even in omega (arith, long, e);
+      starts = starts;
+    }
 
-pub total_end : (ps : List Pair) (i : ℕ) → length ps ≤ i → total_of (drop i ps) ≡ 0
-unfolding total_of
-total_end [] i le = ap total_of (drop-nil {A = Pair} i)
-total_end (p ∷ ps) zero le = absurd (omega arith)
-total_end (p ∷ ps) (suc i) le = total_end ps i (omega arith)
+-- a name without a part is left
+pub scan_odd : (names : List (List ℕ)) (text rest name after : List ℕ) (scan : Scan) → fields_of rest ≡ name ∷ fields_of after → length after ≡ 0 → IsScanned names text rest scan → are_pairs (fields_of text) ≡ false
+scan_odd names text rest name after scan one none s =
+    let long : length (fields_of rest) ≡ 1 = ap length one ∙ ap (λ (fs : List (List ℕ)). suc (length fs)) (fields_gone after none) in
+    let odd : eqb (length (fields_of text) % 2) 0 ≡ false = ne_eqb _ _ (λ e. let even = s.even in omega (arith, long, even, e)) in
+    rw odd (and_false (nat_le 2 (length (fields_of text))))
 
-pub ruleset pair_steps = (pair_more, no_pair, pairs_within, append-nil)
+pairs_none : (names : List (List ℕ)) → pairs_of names [] ≡ []
+unfolding pairs_of
+pairs_none names = refl
 
-pub ruleset double_steps = (double_at, double_end)
+-- no field is no pair
+pub scan_none : (text rest : List ℕ) → fields_of text ≡ fields_of rest → length rest ≡ 0 → are_pairs (fields_of text) ≡ false
+scan_none text rest same none = rw (same ∙ fields_gone rest none) refl
 
-pub ruleset sum_steps = (total_at, total_end)
+some_onto : (c : ℕ) (pieces : List (List ℕ)) → 0 < length (onto_first c pieces)
+some_onto c [] = omega arith
+some_onto c (piece ∷ pieces) = omega arith
 
-pub ruleset entry_steps = (map_push)
+some_by_end : (ends : Bool) (c : ℕ) (fields : List (List ℕ)) → 0 < length (cond ends ((c ∷ []) ∷ fields) (onto_first c fields))
+some_by_end true c fields = omega arith
+some_by_end false c fields = some_onto c fields
 
-pub map_map : {X Y Z : Type 0} (g : Y → Z) (f : X → Y) (xs : List X) → map g (map f xs) ≡ map (λ x. g (f x)) xs
-map_map g f [] = refl
-map_map g f (x ∷ xs) = ap (λ ys. g (f x) ∷ ys) (map_map g f xs)
+some_field : (line : List ℕ) → ends_field line ≡ false → 0 < length (fields_of line)
+unfolding fields_of
+some_field [] e = absurd cc
+some_field (c ∷ cs) e = rw e (some_by_end (ends_field cs) c (fields_of cs))
 
-pub ruleset names_steps = (map_map)
+-- what is not empty starts a field
+pub begun : (line : List ℕ) (empty : Bool) → (ends_field line ≡ true → line ≡ []) → empty ≡ (length line == 0) → empty ≡ false → ends_field line ≡ false
+begun [] empty starts is some = absurd (let bad : ⊥ = cc in bad)
+begun (c ∷ cs) empty starts is some = starts_field (c ∷ cs) starts (omega arith)
+
+-- no test passes
+no_fault : (b o u d : Bool) → (if b then Some BadNumber else (if o then Some OverLimit else (if u then Some UnknownName else (if d then Some DoubleName else None)))) ≡ None → (b ≡ false) × (o ≡ false) × (u ≡ false) × (d ≡ false)
+no_fault true o u d e = absurd cc
+no_fault false true u d e = absurd cc
+no_fault false false true d e = absurd cc
+no_fault false false false true e = absurd cc
+no_fault false false false false e = (refl, refl, refl, refl)
+
+-- all pairs were seen
+pub scan_ends : (names : List (List ℕ)) (text first rest : List ℕ) (scan : Scan) (pairs : Pairs) → fields_of text ≡ fields_of first → ends_field first ≡ false → length rest ≡ 0 → ((done : List Pair) → HasSeen done scan → pairs.fault ≡ pairs_fault done) → pairs.entries.items ≡ scan.entries.items → IsScanned names text rest scan
+    → (are_pairs (fields_of text) ≡ true) × AreScanned (pairs_of names (fields_of text)) pairs
+scan_ends names text first rest scan pairs same begun none fault entries s =
+    let gone : fields_of rest ≡ [] = fields_gone rest none in
+    let empty : length (fields_of rest) ≡ 0 = ap length gone in
+    let some : 0 < length (fields_of text) = rw same (some_field first begun) in
+    let even_text : length (fields_of text) % 2 ≡ 0 = let even = s.even in omega (arith, even, empty) in
+    let two : nat_le 2 (length (fields_of text)) ≡ true = le-leb 2 (length (fields_of text)) (omega (arith, some, even_text)) in
+    let even : eqb (length (fields_of text) % 2) 0 ≡ true = eq-eqb _ _ even_text in
+    let no_pairs : pairs_of names (fields_of rest) ≡ [] = ap (pairs_of names) gone ∙ pairs_none names in
+    let whole : s.done ≡ pairs_of names (fields_of text) = sym (append-nil s.done) ∙ ap (λ (ys : List Pair). s.done ++ ys) (sym no_pairs) ∙ s.so_far in
+    let P : List Pair → Type 0 = λ list. AreScanned list pairs in
+    let scanned : AreScanned s.done pairs = record {
+      fault = fault s.done s.seen;
+      entries = λ e.
+          let (b, o, u, d) = no_fault _ _ _ _ e in
+          entries ∙ s.seen.entries (s.seen.bad ∙ b) (s.seen.over ∙ o) (s.seen.unknown ∙ u) (s.seen.double (s.seen.bad ∙ b) (s.seen.over ∙ o) (s.seen.unknown ∙ u) ∙ d);
+    } in
+    (rw (two, even) refl, subst P whole scanned)

@@ -4,7 +4,7 @@ use Rattle.scenario_text.specs.Lines.{onto_first, is_blank, ends_field, fields_o
 use Rattle.std.proofs.lemmas.List.{drop_all, append-nil, length-map}
 use Rattle.std.proofs.Math.ListN.{get_or-map}
 use Rattle.std.specs.Prelude.{All}
-use Rattle.std.proofs.lemmas.List.Elements.{All-cons, All-tail}
+use Rattle.std.proofs.lemmas.List.Elements.{All-cons, All-head, All-tail}
 use Rattle.std.proofs.Math.Seq.{take-length}
 
 -- blanks at the front say nothing
@@ -83,6 +83,27 @@ fields_gone (c ∷ cs) e = absurd (omega arith)
 pub fields_done : (done : List (List ℕ)) (rest : List ℕ) (fs : List (List ℕ)) → length rest ≡ 0 → done ++ fields_of rest ≡ fs → done ≡ fs
 fields_done done rest fs e so_far = sym (append-nil done) ∙ ap (λ (x : List (List ℕ)). done ++ x) (sym (fields_gone rest e)) ∙ so_far
 
+-- the fields so far are the first ones, where none is left or so many were taken
+first_done : {X : Type 0} (done rest fs : List X) (most : ℕ) → done ++ rest ≡ fs → length done ≤ most → (length done < most → rest ≡ []) → done ≡ take most fs
+first_done [] rest fs zero so_far le gone = refl
+first_done [] rest fs (suc most) so_far le gone = ap (take (suc most)) (sym (gone (omega arith)) ∙ so_far)
+first_done (x ∷ done) rest fs zero so_far le gone = absurd (omega arith)
+first_done {X} (x ∷ done) rest fs (suc most) so_far le gone =
+    let more : done ≡ take most (done ++ rest) = first_done done rest (done ++ rest) most refl (omega arith) (λ lt. gone (omega arith)) in
+    ap (λ (xs : List X). x ∷ xs) more ∙ ap (take (suc most)) so_far
+
+-- no field is left
+pub first_all : (done : List (List ℕ)) (rest : List ℕ) (fs : List (List ℕ)) (most : ℕ) → done ++ fields_of rest ≡ fs → length done ≤ most → length rest ≡ 0 → done ≡ take most fs
+first_all done rest fs most so_far le e = first_done done (fields_of rest) fs most so_far le (λ _. fields_gone rest e)
+
+-- so many fields were taken
+pub first_most : (done : List (List ℕ)) (rest : List ℕ) (fs : List (List ℕ)) (most : ℕ) → done ++ fields_of rest ≡ fs → length done ≤ most → most ≤ length done → done ≡ take most fs
+first_most done rest fs most so_far le full = first_done done (fields_of rest) fs most so_far le (λ lt. absurd (omega arith))
+
+-- behind the first of no fields there are none
+pub after_none : (line rest : List ℕ) → fields_of line ≡ fields_of rest → length rest ≡ 0 → fields_of rest ≡ drop 1 (fields_of line)
+after_none line rest same e = rw same (rw (fields_gone rest e) refl)
+
 pub ruleset field_steps = (starts_field, fields_gone)
 
 -- a byte at the front leaves no piece empty
@@ -101,11 +122,16 @@ unfolding fields_of
 fields_some [] = λ k d lt. absurd (omega arith)
 fields_some (c ∷ cs) = some_by (is_blank c) (ends_field cs) c (fields_of cs) (fields_some cs)
 
--- nor is one of a list that is mapped to fields
-pub mapped_some : (fields : List (Bor (List ℕ))) (line : List ℕ) → map (λ f. f.now) fields ≡ fields_of line → All (λ f. 1 ≤ length f.now) fields
-mapped_some fields line e = λ k d lt.
+front_some : (fs more : List (List ℕ)) → All (λ f. 1 ≤ length f) (fs ++ more) → All (λ f. 1 ≤ length f) fs
+front_some [] more all = λ k d lt. absurd (omega arith)
+front_some (f ∷ fs) more all =
+    All-cons (λ (f : List ℕ). 1 ≤ length f) f fs (All-head (λ (f : List ℕ). 1 ≤ length f) f (fs ++ more) all) (front_some fs more (All-tail (λ (f : List ℕ). 1 ≤ length f) f (fs ++ more) all))
+
+-- nor is one of a list that is mapped to the first fields
+pub mapped_some : (fields : List (Bor (List ℕ))) (more : List (List ℕ)) (line : List ℕ) → map (λ f. f.now) fields ++ more ≡ fields_of line → All (λ f. 1 ≤ length f.now) fields
+mapped_some fields more line e = λ k d lt.
     let P : List (List ℕ) → Type 0 = λ fs. All (λ f. 1 ≤ length f) fs in
-    let all : All (λ (f : List ℕ). 1 ≤ length f) (map (λ (f : Bor (List ℕ)). f.now) fields) = subst P (sym e) (fields_some line) in
+    let all : All (λ (f : List ℕ). 1 ≤ length f) (map (λ (f : Bor (List ℕ)). f.now) fields) = front_some (map (λ (f : Bor (List ℕ)). f.now) fields) more (subst P (sym e) (fields_some line)) in
     let long : length (map (λ (f : Bor (List ℕ)). f.now) fields) ≡ length fields = length-map fields (λ f. f.now) in
     let there = all k d.now (omega arith) in
     rw (get_or-map (λ (f : Bor (List ℕ)). f.now) fields k d) at there

@@ -1,5 +1,5 @@
 -- The canonical text of a problem: each line its fields with one blank between and a line feed.
-use Rattle.std.specs.Prelude.{ℕ, ◌==◌, if◌then◌else◌, List, [], ◌∷◌, ◌++◌, map, codes, Some}
+use Rattle.std.specs.Prelude.{ℕ, ◌==◌, if◌then◌else◌, List, [], ◌∷◌, ◌++◌, map, length, codes, false, Some}
 use Rattle.std.specs.List.{flat_map, range_with_len}
 use Rattle.std.specs.Fmt.{decimal}
 use Rattle.exact_parts.specs.Rows.{text_of}
@@ -9,7 +9,8 @@ use Rattle.search_grid.specs.Moves.{moves_from}
 use Rattle.sweep_table.specs.LookParts.{factor_of}
 use Rattle.search_model.specs.Problem.{Problem, first_of, cell_name, position_name}
 use Rattle.scenario_text.specs.declared.draft.Stage.TheVariants.{Ended}
-use Rattle.scenario_text.specs.State.{State, CellState}
+use Rattle.scenario_text.specs.State.{State}
+use Rattle.scenario_text.specs.Reading.{Front}
 
 -- `NAME PART NAME PART ..`
 abbrev pub pair_fields : Problem → List DriftPart → List (List ℕ)
@@ -55,9 +56,6 @@ unfoldable pub canonical_text : Problem → List ℕ
 canonical_text p = text_of (scenario_rows p)
 
 -- what the canonical text says, read to its end
-abbrev pub cell_of : Problem → ℕ → CellState
-cell_of p c = record { name = cell_name p c; moves = moves_from p.moves c; drift = row_of p.drift 1 c; overlook = Some (factor_of p.sweep 1 c c) }
-
 abbrev pub state_of_problem : Problem → State
 state_of_problem p = record {
   stage = Ended;
@@ -65,7 +63,15 @@ state_of_problem p = record {
   total = p.total;
   drift = p.drift.denominator;
   look = p.sweep.denominator;
-  cells = map (cell_of p) (range_with_len 0 p.cells);
+  names = p.names;
+  gridded = false;
   start = p.start;
   first = first_entries p;
+  moves = p.moves;
+  parts = map (row_of p.drift 1) (range_with_len 0 p.cells);
+  overlook = map (λ c. Some (factor_of p.sweep 1 c c)) (range_with_len 0 p.positions);
 }
+
+-- its lines up to the last one
+abbrev pub front_of_problem : Problem → Front
+front_of_problem p = record { state = state_of_problem p; line = length (scenario_rows p) }

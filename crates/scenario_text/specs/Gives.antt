@@ -1,13 +1,20 @@
--- What a function of the reader returns, seen by what reading gives.
-use Rattle.std.specs.Prelude.{◌≡◌, ℕ, Result, Ok, Err}
+-- What the functions of the reader return, seen by what reading gives.
+use Rattle.std.specs.Prelude.{◌≡◌, ℕ, true, false, List, Option, Some, None, Result, Ok, Err}
 use Rattle.scenario_text.specs.declared.draft.Draft.{Draft}
 use Rattle.scenario_text.specs.declared.kind.TextKind.{TextKind}
 use Rattle.scenario_text.specs.declared.kind.TextFault.{TextFault}
+use Rattle.scenario_text.specs.declared.pair.Pair.{Pair}
+use Rattle.scenario_text.specs.declared.pairs.Pairs.{Pairs}
+use Rattle.scenario_text.specs.declared.reading.DraftFront.{DraftFront}
 use Rattle.scenario_text.specs.declared.stop.LineStop.{LineStop}
 use Rattle.scenario_text.specs.declared.stop.LineStop.TheVariants as line_stops
 use Rattle.scenario_text.specs.declared.stop.TextStop.{TextStop}
 use Rattle.scenario_text.specs.declared.stop.TextStop.TheVariants as text_stops
+use Rattle.scenario_text.specs.Lines.{after_lines}
+use Rattle.scenario_text.specs.Fields.{are_pairs, pairs_of, pairs_fault, entries_of}
+use Rattle.scenario_text.specs.Reading.{front_of}
 use Rattle.scenario_text.specs.State.{State, state_of}
+use Rattle.scenario_text.specs.Sound.{IsSound}
 
 -- the line was taken as reading takes it, or has that fault, unless memory ran out
 abbrev pub TakesLine : Draft → Result (Unit {0}) LineStop → Result State TextKind → Type 0
@@ -15,11 +22,22 @@ TakesLine new (Ok _) read = read ≡ Ok (state_of new)
 TakesLine new (Err (line_stops.Fault kind)) read = read ≡ Err kind
 TakesLine new (Err line_stops.NoMemory) read = Unit {0}
 
--- the text was read as its lines are, or has that fault, unless memory ran out
-abbrev pub Gives : Result Draft TextStop → Result State TextFault → Type 0
-Gives (Ok draft) read = read ≡ Ok (state_of draft)
-Gives (Err (text_stops.Fault fault)) read = read ≡ Err fault
-Gives (Err text_stops.NoMemory) read = Unit {0}
+-- the first fault of pairs, and their entries where they have none
+pub record AreScanned (list : List Pair) (pairs : Pairs) : Type 0 where
+  pub fault : pairs.fault ≡ pairs_fault list
+  pub entries : pairs_fault list ≡ None → pairs.entries.items ≡ entries_of list
+
+-- the pairs that these fields are, where they are pairs
+abbrev pub Scans : List (List ℕ) → List (List ℕ) → Option Pairs → Type 0
+Scans names fields None = are_pairs fields ≡ false
+Scans names fields (Some pairs) = (are_pairs fields ≡ true) × AreScanned (pairs_of names fields) pairs
+
+-- the text was read up to its line `end`, or has that fault, unless memory ran out
+abbrev pub ReadsDraft : List ℕ → Result DraftFront TextStop → Type 0
+ReadsDraft text (Ok front) =
+    (front_of text ≡ Ok (record { state = state_of front.draft; line = front.line })) × IsSound (state_of front.draft) × (front.rest.now ≡ after_lines front.line text)
+ReadsDraft text (Err (text_stops.Fault fault)) = front_of text ≡ Err fault
+ReadsDraft text (Err text_stops.NoMemory) = Unit {0}
 
 -- the stop of a line of that number
 abbrev pub stop_at : ℕ → LineStop → TextStop

@@ -1,19 +1,23 @@
--- The canonical text reads back, and canonical texts differ.
-use Rattle.std.specs.Prelude.{◌≡◌, ℕ, List, ◌++◌, Ok}
+-- The canonical text reads back, and a text spells one scenario.
+use Rattle.std.specs.Prelude.{◌≡◌, ℕ, List, ◌++◌, length, Ok}
 use Rattle.search_model.specs.Problem.{Problem, IsProblem}
-use Rattle.scenario_text.specs.Lines.{lines_of}
-use Rattle.scenario_text.specs.State.{blank_state}
-use Rattle.scenario_text.specs.Reading.{lines_at}
-use Rattle.scenario_text.specs.Canonical.{canonical_text, state_of_problem}
+use Rattle.scenario_text.specs.Reading.{front_of, alone_of}
+use Rattle.scenario_text.specs.State.{State}
+use Rattle.scenario_text.specs.Canonical.{canonical_text, state_of_problem, front_of_problem}
+use Rattle.scenario_text.specs.Scenarios.{Says, IsFront, IsTextOf}
 
--- the canonical text of a problem is read as what that problem says
+-- what was read is one problem
+abbrev pub OneProblem : Type 0
+OneProblem = (s : State) (p q : Problem) → Says s p → Says s q → p ≡ q
+
+-- what the canonical text of a problem says is that problem
+abbrev pub CanonicalSays : Type 0
+CanonicalSays = (p : Problem) → IsProblem p → Says (state_of_problem p) p
+
+-- the canonical text of a problem is a text of that problem alone
 abbrev pub CanonicalReadsBack : Type 0
-CanonicalReadsBack = (p : Problem) → IsProblem p → lines_at blank_state 1 (lines_of (canonical_text p)) ≡ Ok (state_of_problem p)
+CanonicalReadsBack = (p : Problem) → IsProblem p → IsTextOf p (canonical_text p)
 
--- and so it is whatever follows it
+-- and so it is with all of its bytes, whatever follows it
 abbrev pub CanonicalFrontReadsBack : Type 0
-CanonicalFrontReadsBack = (p : Problem) (rest : List ℕ) → IsProblem p → lines_at blank_state 1 (lines_of (canonical_text p ++ rest)) ≡ Ok (state_of_problem p)
-
--- no text begins with the canonical texts of two problems
-abbrev pub CanonicalTextsDiffer : Type 0
-CanonicalTextsDiffer = (p q : Problem) (rest more : List ℕ) → IsProblem p → IsProblem q → canonical_text p ++ rest ≡ canonical_text q ++ more → p ≡ q
+CanonicalFrontReadsBack = (p : Problem) (rest : List ℕ) → IsProblem p → IsFront (canonical_text p ++ rest) p (length (canonical_text p))

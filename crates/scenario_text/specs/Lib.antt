@@ -1,10 +1,13 @@
+pub mod Kinds
 pub mod Lines
-pub mod Settled
 pub mod State
+pub mod Fields
+pub mod Grids
 pub mod Reading
+pub mod Sound
+pub mod Scenarios
 pub mod Gives
+pub mod Scanning
 pub mod Canonical
-pub mod Assembled
-pub mod Fronts
 pub mod Laws
 pub mod Printing

@@ -1,5 +1,5 @@
 -- Text as lines, and a line as fields.
-use Rattle.std.specs.Prelude.{ℕ, Bool, true, List, [], ◌∷◌, ◌==◌, ◌||◌, if◌then◌else◌}
+use Rattle.std.specs.Prelude.{ℕ, zero, suc, Bool, true, List, [], ◌∷◌, ◌==◌, ◌||◌, if◌then◌else◌}
 
 -- a byte at the front of the first piece, where there is one
 abbrev pub onto_first : ℕ → List (List ℕ) → List (List ℕ)
@@ -10,6 +10,12 @@ onto_first c (piece ∷ pieces) = (c ∷ piece) ∷ pieces
 unfoldable pub lines_of : List ℕ → List (List ℕ)
 lines_of [] = []
 lines_of (c ∷ cs) = if c == 10 then [] ∷ lines_of cs else onto_first c (lines_of cs)
+
+-- what follows the first n line feeds
+unfoldable pub after_lines : ℕ → List ℕ → List ℕ
+after_lines zero text = text
+after_lines (suc n) [] = []
+after_lines (suc n) (c ∷ cs) = if c == 10 then after_lines n cs else after_lines (suc n) cs
 
 -- blank, tab, carriage return
 abbrev pub is_blank : ℕ → Bool

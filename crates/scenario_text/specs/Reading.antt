@@ -1,92 +1,21 @@
 -- Reading line by line: what a line adds to what has been read, or its first fault.
-use Rattle.std.specs.Prelude.{ℕ, ◌+◌, ◌-◌, ◌*◌, ◌^◌, ◌%◌, Bool, true, false, not, ◌&&◌, ◌||◌, ◌==◌, nat_lt, nat_le, if◌then◌else◌, List, [], ◌∷◌, ◌++◌, map, length, set, slice_get, Option, Some, None, is_none, is_some, unwrap_or, position, Result, Ok, Err, codes}
+use Rattle.std.specs.Prelude.{ℕ, ◌+◌, ◌-◌, ◌*◌, ◌^◌, Bool, true, false, not, ◌&&◌, ◌||◌, ◌==◌, nat_lt, nat_le, if◌then◌else◌, List, [], ◌∷◌, ◌++◌, map, length, set, slice_index_or, replicate, Option, Some, None, is_none, is_some, unwrap_or, Result, Ok, Err, codes}
 use Rattle.std.specs.List.{list_all, list_any}
-use Rattle.std.specs.Str.{bytes_eq}
-use Rattle.std.specs.Str.Parse.{digits_value}
 use Rattle.exact_parts.specs.declared.number.Number.{Number}
-use Rattle.exact_parts.specs.declared.number.Number.TheVariants.{NotPlain, Above, Of}
-use Rattle.exact_parts.specs.Decimal.{is_plain}
 use Rattle.drift_chain.specs.declared.part.DriftPart.{DriftPart}
 use Rattle.search_model.specs.Names.{is_name_byte}
+use Rattle.search_grid.specs.Moves.{moves_from}
+use Rattle.search_grid.specs.Sides.{side_moves}
 use Rattle.scenario_text.specs.declared.draft.Stage.{Stage}
-use Rattle.scenario_text.specs.declared.draft.Stage.TheVariants.{Version, Horizon, Parts, Cells, First, Rows, Ended}
+use Rattle.scenario_text.specs.declared.draft.Stage.TheVariants.{Version, Horizon, Parts, Cells, Start, First, Rows, Ended}
 use Rattle.scenario_text.specs.declared.kind.TextKind.{TextKind}
-use Rattle.scenario_text.specs.declared.kind.TextKind.TheVariants.{NotText, BadLine, BadNumber, OverLimit, UnknownName, DoubleName, MissingRow, DoubleRow, WrongSum, PartOver, NoMove, TooWide, EarlyEnd}
+use Rattle.scenario_text.specs.declared.kind.TextKind.TheVariants.{NotText, BadLine, BadNumber, OverLimit, UnknownName, DoubleName, MissingRow, DoubleRow, WrongSum, PartOver, NoMove, TooWide, EarlyEnd, Rest}
 use Rattle.scenario_text.specs.declared.kind.TextFault.{TextFault}
 use Rattle.scenario_text.specs.declared.pair.Pair.{Pair}
-use Rattle.scenario_text.specs.Lines.{fields_of}
-use Rattle.scenario_text.specs.State.{State, CellState, bare}
-
--- tab, carriage return and 0x20 to 0x7E
-abbrev pub is_text_byte : ℕ → Bool
-is_text_byte c = (c == 9 || c == 13) || not (nat_lt c 32 || nat_lt 126 c)
-
--- blanks alone, or a comment
-abbrev pub says_nothing : List (List ℕ) → Bool
-says_nothing [] = true
-says_nothing ([] ∷ fields) = false
-says_nothing ((c ∷ cs) ∷ fields) = c == 35
-
-abbrev pub is_word : List ℕ → List ℕ → Bool
-is_word field word = bytes_eq field word
-
--- Numbers.
-
--- what a field says in the place of a number of at most most
-abbrev pub number_at : ℕ → List ℕ → Number
-number_at most field =
-    if not (is_plain field) then NotPlain else (if nat_lt most (digits_value 10 field) then Above else Of (digits_value 10 field))
-
--- no plain decimal, or below the least
-abbrev pub is_bad : ℕ → Number → Bool
-is_bad least NotPlain = true
-is_bad least Above = false
-is_bad least (Of n) = nat_lt n least
-
-abbrev pub is_over : Number → Bool
-is_over NotPlain = false
-is_over Above = true
-is_over (Of n) = false
-
-abbrev pub number_in : Number → ℕ
-number_in NotPlain = 0
-number_in Above = 0
-number_in (Of n) = n
-
--- Cells and pairs of a cell with its part.
-
--- the number of the cell with this name
-abbrev pub cell_named : List CellState → List ℕ → Option ℕ
-cell_named cells name = position (λ c. bytes_eq c.name name) cells
-
--- a cell's number stands among others
-abbrev pub stands_in : Option ℕ → List (Option ℕ) → Bool
-stands_in None cs = false
-stands_in (Some c) cs = list_any (λ d. is_some d && unwrap_or d 0 == c) cs
-
--- a cell's number stands twice
-unfoldable pub has_double : List (Option ℕ) → Bool
-has_double [] = false
-has_double (c ∷ cs) = stands_in c cs || has_double cs
-
--- the pairs of `NAME PART NAME PART ..`
-unfoldable pub pairs_of : List CellState → List (List ℕ) → List Pair
-pairs_of cells [] = []
-pairs_of cells (name ∷ []) = []
-pairs_of cells (name ∷ part ∷ fields) = record { cell = cell_named cells name; part = number_at 1000000 part } ∷ pairs_of cells fields
-
--- one pair or more
-abbrev pub are_pairs : List (List ℕ) → Bool
-are_pairs fields = nat_le 2 (length fields) && length fields % 2 == 0
-
-abbrev pub entries_of : List Pair → List DriftPart
-entries_of pairs = map (λ x. record { cell = unwrap_or x.cell 0; part = number_in x.part }) pairs
-
-unfoldable pub total_of : List Pair → ℕ
-total_of [] = 0
-total_of (x ∷ xs) = number_in x.part + total_of xs
-
--- The lines.
+use Rattle.scenario_text.specs.Lines.{lines_of, fields_of, after_lines, is_blank}
+use Rattle.scenario_text.specs.Fields.{is_text_byte, says_nothing, is_word, number_at, is_bad, is_over, number_in, cell_named, has_double, pairs_of, are_pairs, entries_of, total_of, pairs_fault}
+use Rattle.scenario_text.specs.Grids.{grid_names, spread_rows}
+use Rattle.scenario_text.specs.State.{State, blank_state}
 
 -- `scenario 1`
 abbrev pub version_line : State → List (List ℕ) → Result State TextKind
@@ -117,49 +46,81 @@ parts_line s (word ∷ a ∷ d ∷ g ∷ []) =
     if is_word word (codes "parts") then with_parts s (number_at 1000000 a) (number_at 1000000 d) (number_at 1000000 g) else Err BadLine
 parts_line s _ = Err BadLine
 
--- `cell NAME`
+-- `cell NAME`: a cell that has no rows yet
+abbrev pub with_name : State → List ℕ → State
+with_name s name = record s { names = s.names ++ name ∷ []; moves = s.moves ++ [] ∷ []; parts = s.parts ++ [] ∷ []; overlook = s.overlook ++ None ∷ [] }
+
 abbrev pub cell_line : State → List ℕ → Result State TextKind
 cell_line s name =
     if not (list_all is_name_byte name) then Err BadLine else
-    (if nat_lt 24 (length name) || nat_le 200 (length s.cells) then Err OverLimit else
-    (if is_some (cell_named s.cells name) then Err DoubleName else
-    Ok (record s { cells = s.cells ++ bare name ∷ [] })))
+    (if nat_lt 24 (length name) || nat_le 200 (length s.names) then Err OverLimit else
+    (if is_some (cell_named s.names name) then Err DoubleName else
+    Ok (with_name s name)))
+
+-- `grid R C`: all cells, with their moves
+abbrev pub with_cells : State → ℕ → ℕ → State
+with_cells s rows cols =
+    record s {
+      stage = Start;
+      names = grid_names rows cols;
+      gridded = true;
+      moves = side_moves rows cols;
+      parts = replicate (rows * cols) [];
+      overlook = replicate (rows * cols) None;
+    }
+
+abbrev pub with_grid : State → Number → Number → Result State TextKind
+with_grid s rows cols =
+    if is_bad 1 rows || is_bad 1 cols then Err BadNumber else
+    (if (is_over rows || is_over cols) || nat_lt 200 (number_in rows * number_in cols) then Err OverLimit else
+    Ok (with_cells s (number_in rows) (number_in cols)))
 
 -- `start NAME`
 abbrev pub with_start : State → Option ℕ → Result State TextKind
 with_start s None = Err UnknownName
 with_start s (Some c) = Ok (record s { stage = First; start = c })
 
+abbrev pub start_line : State → List (List ℕ) → Result State TextKind
+start_line s (word ∷ name ∷ []) = if is_word word (codes "start") then with_start s (cell_named s.names name) else Err BadLine
+start_line s _ = Err BadLine
+
+-- a cell, or the grid before any cell, or the start behind a cell
 abbrev pub cells_line : State → List (List ℕ) → Result State TextKind
 cells_line s (word ∷ name ∷ []) =
     if is_word word (codes "cell") then cell_line s name else
-    (if is_word word (codes "start") && nat_lt 0 (length s.cells) then with_start s (cell_named s.cells name) else Err BadLine)
+    (if nat_lt 0 (length s.names) then start_line s (word ∷ name ∷ []) else Err BadLine)
+cells_line s (word ∷ rows ∷ cols ∷ []) =
+    if is_word word (codes "grid") && length s.names == 0 then with_grid s (number_at 200 rows) (number_at 200 cols) else Err BadLine
 cells_line s _ = Err BadLine
+
+-- a fault, or else what follows
+abbrev pub unless_fault : Option TextKind → Result State TextKind → Result State TextKind
+unless_fault (Some kind) more = Err kind
+unless_fault None more = more
 
 -- `first NAME PART NAME PART ..`
 abbrev pub with_first : State → List Pair → Result State TextKind
 with_first s pairs =
-    if list_any (λ x. is_bad 1 x.part) pairs then Err BadNumber else
-    (if list_any (λ x. is_over x.part) pairs then Err OverLimit else
-    (if list_any (λ x. is_none x.cell) pairs then Err UnknownName else
-    (if has_double (map (λ x. x.cell) pairs) then Err DoubleName else
+    unless_fault (pairs_fault pairs)
     (if not (total_of pairs == s.total) then Err WrongSum else
-    Ok (record s { stage = Rows; first = entries_of pairs })))))
+    Ok (record s { stage = Rows; first = entries_of pairs }))
+
+abbrev pub first_pairs : State → List (List ℕ) → Result State TextKind
+first_pairs s fields = if are_pairs fields then with_first s (pairs_of s.names fields) else Err BadLine
 
 abbrev pub first_line : State → List (List ℕ) → Result State TextKind
-first_line s (word ∷ fields) =
-    if is_word word (codes "first") && are_pairs fields then with_first s (pairs_of s.cells fields) else Err BadLine
+first_line s (word ∷ fields) = if is_word word (codes "first") then first_pairs s fields else Err BadLine
 first_line s _ = Err BadLine
 
--- the cell of that number
-abbrev pub cell_in : List CellState → ℕ → CellState
-cell_in cells c = unwrap_or (slice_get cells c) (bare [])
+-- a cell has a row of that sort
+abbrev pub has_moves : State → ℕ → Bool
+has_moves s c = nat_lt 0 (length (moves_from s.moves c))
 
-abbrev pub cell_at : State → ℕ → CellState
-cell_at s c = cell_in s.cells c
+abbrev pub has_parts : State → ℕ → Bool
+has_parts s c = nat_lt 0 (length (slice_index_or s.parts c []))
 
-abbrev pub with_cell : State → ℕ → CellState → State
-with_cell s c cell = record s { cells = set s.cells c cell }
+abbrev pub has_overlook : State → ℕ → Bool
+has_overlook s c = is_some (slice_index_or s.overlook c None)
 
 -- `moves NAME NAME NAME ..`
 abbrev pub with_moves : State → Option ℕ → List (Option ℕ) → Result State TextKind
@@ -167,41 +128,44 @@ with_moves s None moves = Err UnknownName
 with_moves s (Some c) moves =
     if list_any (λ m. is_none m) moves then Err UnknownName else
     (if has_double moves then Err DoubleName else
-    (if nat_lt 0 (length (cell_at s c).moves) then Err DoubleRow else
+    (if has_moves s c then Err DoubleRow else
     (if length moves == 0 then Err NoMove else
-    Ok (with_cell s c (record (cell_at s c) { moves = map (λ m. unwrap_or m 0) moves })))))
+    Ok (record s { moves = set s.moves c (map (λ m. unwrap_or m 0) moves) }))))
 
 abbrev pub moves_line : State → List (List ℕ) → Result State TextKind
 moves_line s (name ∷ moves) =
-    if nat_lt 64 (length moves) then Err OverLimit else with_moves s (cell_named s.cells name) (map (cell_named s.cells) moves)
+    if nat_lt 64 (length moves) then Err OverLimit else with_moves s (cell_named s.names name) (map (cell_named s.names) moves)
 moves_line s _ = Err BadLine
 
--- `drift NAME NAME PART NAME PART ..`
-abbrev pub with_drift : State → Option ℕ → List Pair → Result State TextKind
-with_drift s None pairs = Err UnknownName
-with_drift s (Some c) pairs =
-    if list_any (λ x. is_none x.cell) pairs then Err UnknownName else
-    (if has_double (map (λ x. x.cell) pairs) then Err DoubleName else
-    (if nat_lt 0 (length (cell_at s c).drift) then Err DoubleRow else
-    (if not (total_of pairs == s.drift) then Err WrongSum else
-    Ok (with_cell s c (record (cell_at s c) { drift = entries_of pairs })))))
+-- the fault of a row whose own cell is unknown: numbers go before names
+abbrev pub unknown_after : Option TextKind → TextKind
+unknown_after (Some BadNumber) = BadNumber
+unknown_after (Some OverLimit) = OverLimit
+unknown_after _ = UnknownName
 
-abbrev pub drift_pairs : State → Option ℕ → List Pair → Result State TextKind
-drift_pairs s c pairs =
-    if list_any (λ x. is_bad 1 x.part) pairs then Err BadNumber else
-    (if list_any (λ x. is_over x.part) pairs then Err OverLimit else with_drift s c pairs)
+-- `drift NAME NAME PART NAME PART ..`
+abbrev pub with_parts_of : State → Option ℕ → List Pair → Result State TextKind
+with_parts_of s None pairs = Err (unknown_after (pairs_fault pairs))
+with_parts_of s (Some c) pairs =
+    unless_fault (pairs_fault pairs)
+    (if has_parts s c then Err DoubleRow else
+    (if not (total_of pairs == s.drift) then Err WrongSum else
+    Ok (record s { parts = set s.parts c (entries_of pairs) })))
+
+abbrev pub drift_pairs : State → Option ℕ → List (List ℕ) → Result State TextKind
+drift_pairs s c fields = if are_pairs fields then with_parts_of s c (pairs_of s.names fields) else Err BadLine
 
 abbrev pub drift_line : State → List (List ℕ) → Result State TextKind
-drift_line s (name ∷ fields) = if are_pairs fields then drift_pairs s (cell_named s.cells name) (pairs_of s.cells fields) else Err BadLine
+drift_line s (name ∷ fields) = drift_pairs s (cell_named s.names name) fields
 drift_line s _ = Err BadLine
 
 -- `overlook NAME PART`
 abbrev pub with_overlook : State → Option ℕ → ℕ → Result State TextKind
 with_overlook s None part = Err UnknownName
 with_overlook s (Some c) part =
-    if is_some (cell_at s c).overlook then Err DoubleRow else
+    if has_overlook s c then Err DoubleRow else
     (if nat_lt s.look part then Err PartOver else
-    Ok (with_cell s c (record (cell_at s c) { overlook = Some part })))
+    Ok (record s { overlook = set s.overlook c (Some part) }))
 
 abbrev pub overlook_part : State → Option ℕ → Number → Result State TextKind
 overlook_part s c part =
@@ -209,19 +173,51 @@ overlook_part s c part =
     (if is_over part then Err OverLimit else with_overlook s c (number_in part))
 
 abbrev pub overlook_line : State → List (List ℕ) → Result State TextKind
-overlook_line s (name ∷ part ∷ []) = overlook_part s (cell_named s.cells name) (number_at 1000000 part)
+overlook_line s (name ∷ part ∷ []) = overlook_part s (cell_named s.names name) (number_at 1000000 part)
 overlook_line s _ = Err BadLine
 
+-- `spread PART`: the drift row of every cell of a grid
+abbrev pub with_spread : State → ℕ → Result State TextKind
+with_spread s part =
+    if list_any (λ row. nat_lt 0 (length row)) s.parts then Err DoubleRow else
+    (if list_any (λ row. nat_lt s.drift (part * (length row - 1))) s.moves then Err WrongSum else
+    Ok (record s { parts = spread_rows s.drift part s.moves }))
+
+abbrev pub spread_part : State → Number → Result State TextKind
+spread_part s part =
+    if is_bad 0 part then Err BadNumber else
+    (if is_over part then Err OverLimit else with_spread s (number_in part))
+
+abbrev pub spread_line : State → List (List ℕ) → Result State TextKind
+spread_line s (part ∷ []) = if s.gridded then spread_part s (number_at 1000000 part) else Err BadLine
+spread_line s _ = Err BadLine
+
+-- `rate PART`: the overlook part of every cell
+abbrev pub with_rate : State → ℕ → Result State TextKind
+with_rate s part =
+    if list_any (λ o. is_some o) s.overlook then Err DoubleRow else
+    (if nat_lt s.look part then Err PartOver else
+    Ok (record s { overlook = replicate (length s.names) (Some part) }))
+
+abbrev pub rate_part : State → Number → Result State TextKind
+rate_part s part =
+    if is_bad 0 part then Err BadNumber else
+    (if is_over part then Err OverLimit else with_rate s (number_in part))
+
+abbrev pub rate_line : State → List (List ℕ) → Result State TextKind
+rate_line s (part ∷ []) = rate_part s (number_at 1000000 part)
+rate_line s _ = Err BadLine
+
 -- `end`
-abbrev pub lacks_row : CellState → Bool
-lacks_row c = length c.moves == 0 || (length c.drift == 0 || is_none c.overlook)
+abbrev pub lacks_row : State → Bool
+lacks_row s = list_any (λ row. length row == 0) s.moves || (list_any (λ row. length row == 0) s.parts || list_any (λ o. is_none o) s.overlook)
 
 abbrev pub is_narrow : State → Bool
 is_narrow s = nat_lt ((s.horizon + 10) * s.total * s.drift ^ (s.horizon - 1) * s.look ^ (s.horizon + 1)) (2 ^ 127)
 
 abbrev pub end_line : State → List (List ℕ) → Result State TextKind
 end_line s [] =
-    if list_any lacks_row s.cells then Err MissingRow else
+    if lacks_row s then Err MissingRow else
     (if not (is_narrow s) then Err TooWide else
     Ok (record s { stage = Ended }))
 end_line s _ = Err BadLine
@@ -233,13 +229,16 @@ row_line s (word ∷ fields) =
     if is_word word (codes "moves") then moves_line s fields else
     (if is_word word (codes "drift") then drift_line s fields else
     (if is_word word (codes "overlook") then overlook_line s fields else
-    (if is_word word (codes "end") then end_line s fields else Err BadLine)))
+    (if is_word word (codes "spread") then spread_line s fields else
+    (if is_word word (codes "rate") then rate_line s fields else
+    (if is_word word (codes "end") then end_line s fields else Err BadLine)))))
 
 abbrev pub stage_line : Stage → State → List (List ℕ) → Result State TextKind
 stage_line Version s fields = version_line s fields
 stage_line Horizon s fields = horizon_line s fields
 stage_line Parts s fields = parts_line s fields
 stage_line Cells s fields = cells_line s fields
+stage_line Start s fields = start_line s fields
 stage_line First s fields = first_line s fields
 stage_line Rows s fields = row_line s fields
 stage_line Ended s fields = Err BadLine
@@ -250,16 +249,43 @@ line_at s line =
     if says_nothing (fields_of line) then Ok s else
     (if not (list_all is_text_byte line) then Err NotText else stage_line s.stage s (fields_of line))
 
+-- what was read up to a line `end`, and the number of that line
+pub record Front : Type 0 where
+  pub state : State
+  pub line : ℕ
+
 -- a line was taken: the text ends here, or goes on
-abbrev pub unless_ended : Stage → State → Result State TextFault → Result State TextFault
-unless_ended Ended s more = Ok s
-unless_ended _ s more = more
+abbrev pub unless_ended : Stage → State → ℕ → Result Front TextFault → Result Front TextFault
+unless_ended Ended s number more = Ok (record { state = s; line = number })
+unless_ended _ s number more = more
 
-abbrev pub go_on : Result State TextKind → ℕ → (State → Result State TextFault) → Result State TextFault
+abbrev pub go_on : Result State TextKind → ℕ → (State → Result Front TextFault) → Result Front TextFault
 go_on (Err kind) number more = Err (record { line = number; kind = kind })
-go_on (Ok s) number more = unless_ended s.stage s (more s)
+go_on (Ok s) number more = unless_ended s.stage s number (more s)
 
--- what the lines say, the first of them having this number, up to the line `end`
-unfoldable pub lines_at : State → ℕ → List (List ℕ) → Result State TextFault
+-- what the lines say, the first of them having this number, up to the line `end`; the first line with a fault decides
+unfoldable pub lines_at : State → ℕ → List (List ℕ) → Result Front TextFault
 lines_at s number [] = Err (record { line = number; kind = EarlyEnd })
 lines_at s number (line ∷ lines) = go_on (line_at s line) number (λ t. lines_at t (number + 1) lines)
+
+-- what a text says up to its line `end`
+abbrev pub front_of : List ℕ → Result Front TextFault
+front_of text = lines_at blank_state 1 (lines_of text)
+
+-- the first of some lines that holds a byte other than blanks, the first of them having this number
+unfoldable pub first_said : ℕ → List (List ℕ) → Option ℕ
+first_said number [] = None
+first_said number (line ∷ lines) = if list_all is_blank line then first_said (number + 1) lines else Some number
+
+-- behind the line `end` nothing may be said
+abbrev pub unless_more : Option ℕ → Front → Result Front TextFault
+unless_more (Some number) front = Err (record { line = number; kind = Rest })
+unless_more None front = Ok front
+
+abbrev pub alone : List ℕ → Result Front TextFault → Result Front TextFault
+alone text (Err fault) = Err fault
+alone text (Ok front) = unless_more (first_said (front.line + 1) (lines_of (after_lines front.line text))) front
+
+-- what a text says that ends with its line `end`
+abbrev pub alone_of : List ℕ → Result Front TextFault
+alone_of text = alone text (front_of text)

@@ -1,97 +1,138 @@
 //! The scenario that a draft says.
 
-ghost use Rattle.std.specs.Prelude.{◌≡◌, Ok, map};
+ghost use Rattle.std.specs.Prelude.{◌≡◌, ◌<◌, ◌≤◌, ℕ, List, All, map, length, slice_index, sum, sum_by, unwrap_or, IfOk};
+ghost use Rattle.search_grid.specs.declared.faults.GridFault.{GridFault};
 ghost use Rattle.search_grid.specs.Moves.{IsGrid};
-ghost use Rattle.drift_chain.specs.DriftRows.{drift_over, IsDrift};
-ghost use Rattle.drift_chain.specs.declared.part.DriftPart.{DriftPart};
+ghost use Rattle.search_grid.specs.Faults.{HasSameMoves, HasFault as HasGridFault};
+ghost use Rattle.drift_chain.specs.declared.faults.DriftFault.{DriftFault};
+ghost use Rattle.drift_chain.specs.DriftRows.{part_in, IsDrift};
+ghost use Rattle.drift_chain.specs.Faults.{HasSameParts, HasFault as HasDriftFault};
 ghost use Rattle.sweep_table.specs.LookParts.{parts_over, IsSweep};
-ghost use Rattle.search_model.specs.Problem.{Problem, IsProblem};
+ghost use Rattle.search_model.specs.Names.{IsName};
 ghost use Rattle.search_model.specs.Parts.{problem_of};
+ghost use Rattle.search_model.specs.Problem.{IsProblem};
+ghost use Rattle.scenario_text.specs.declared.draft.Stage.{Stage};
 ghost use Rattle.scenario_text.specs.State.{state_of};
-ghost use Rattle.scenario_text.specs.Canonical.{state_of_problem};
-ghost use Rattle.scenario_text.specs.Assembled.{Makes};
+ghost use Rattle.scenario_text.specs.Sound.{IsSound, AreEntries};
+ghost use Rattle.scenario_text.specs.Scenarios.{Says};
 
-use crate::columns::{columns_of, parts_of};
 use crate::draft::Draft;
-use crate::stop::CanonicalStop;
 use drift_chain::{Drift, DriftPart};
+use indexmap::IndexSet;
 use search_grid::Grid;
-use search_model::{Parts, Scenario};
-use std::alloc::Global;
+use search_model::{Name, Parts, Scenario};
+use std::alloc::{AllocError, Global};
 use sweep_table::Sweep;
 
-/// The most of a denominator.
-const MOST_PARTS: u32 = 1_000_000;
+fn names_of(alloc: Global, keys: &IndexSet<Vec<u8>>) -> Result<Vec<Name>, AllocError>
+    requires { All IsName (map (λ n. n.items) keys.now.keys) }
+    ensures { IfOk result (λ v. v.items ≡ map (λ n. n.items) keys.now.keys) }
+{
+    let all = keys.as_slice();
+    let mut names = Vec::new(alloc);
+    for key in all {
+        let Some(name) = Name::new(key) else {
+            unreachable!()
+        };
+        names.push(name)?;
+    }
+    Ok(names)
+}
 
-fn grid_of(rows: Vec<Vec<u8>>) -> Result<Grid, CanonicalStop>
-    ensures { let given = map (λ row. row.items) rows.items in IsGrid given → result ≡ Ok given }
+/// Per cell the part of the entries, and 0 where none is of that cell.
+fn parts_of(alloc: Global, cells: usize, entries: &[DriftPart]) -> Result<Vec<u32>, AllocError>
+    requires { (total : ℕ) × AreEntries cells total entries.now }
+    ensures cells { IfOk result (λ v. length v.items ≡ cells) }
+    ensures parts { IfOk result (λ v. (c : ℕ) → c < cells → slice_index v.items c ≡ part_in entries.now c) }
+    ensures total { IfOk result (λ v. sum v.items ≡ sum_by (λ e. e.part) entries.now) }
+{
+    let mut parts = vec![in alloc; 0; cells]?;
+    for entry in entries {
+        parts[entry.cell as usize] = entry.part;
+    }
+    Ok(parts)
+}
+
+fn overlook_of(alloc: Global, parts: &[Option<u32>]) -> Result<Vec<u32>, AllocError>
+    ensures { IfOk result (λ v. v.items ≡ map (λ o. unwrap_or o 0) parts.now) }
+{
+    parts.iter().map(|o| o.unwrap_or(0)).collect(alloc)
+}
+
+fn grid_of(rows: Vec<Vec<u8>>) -> Grid
+    requires { (fault : GridFault) → HasGridFault (map (λ row. row.items) rows.items) fault → ⊥ }
+    ensures made { HasSameMoves (map (λ row. row.items) rows.items) result }
+    ensures sound { IsGrid result }
 {
     match Grid::new(rows) {
-        Ok(grid) => Ok(grid),
-        Err(_) => Err(CanonicalStop::NotCanonical),
+        Ok(grid) => grid,
+        Err(_) => unreachable!(),
     }
 }
 
-fn drift_of(denominator: u32, rows: Vec<Vec<DriftPart>>) -> Result<Drift, CanonicalStop>
-    ensures { let given = drift_over denominator (map (λ row. row.items) rows.items) in IsDrift given → result ≡ Ok given }
+fn drift_of(denominator: u32, rows: Vec<Vec<DriftPart>>) -> Drift
+    requires some_denominator { 1 ≤ denominator }
+    requires most_denominator { denominator ≤ 1000000 }
+    requires some_row { 1 ≤ length rows.items }
+    requires most_rows { length rows.items ≤ 200 }
+    requires faultless { (fault : DriftFault) → HasDriftFault denominator (map (λ row. row.items) rows.items) fault → ⊥ }
+    ensures denominator { result.denominator ≡ denominator }
+    ensures made { HasSameParts (map (λ row. row.items) rows.items) result.rows }
+    ensures sound { IsDrift result }
 {
-    if denominator == 0 || denominator > MOST_PARTS || rows.is_empty() || rows.len() > 200 {
-        return Err(CanonicalStop::NotCanonical);
-    }
     match Drift::new(denominator, rows) {
-        Ok(drift) => Ok(drift),
-        Err(_) => Err(CanonicalStop::NotCanonical),
+        Ok(drift) => drift,
+        Err(_) => unreachable!(),
     }
 }
 
-fn sweep_of(denominator: u32, overlook: Vec<u32>) -> Result<Sweep, CanonicalStop>
-    ensures { let given = parts_over denominator overlook.items in IsSweep given → result ≡ Ok given }
+fn sweep_of(denominator: u32, overlook: Vec<u32>) -> Sweep
+    requires { IsSweep (parts_over denominator overlook.items) }
+    ensures { result ≡ parts_over denominator overlook.items }
 {
-    if denominator == 0 || denominator > MOST_PARTS {
-        return Err(CanonicalStop::NotCanonical);
-    }
     match Sweep::new(denominator, overlook) {
-        Ok(sweep) => Ok(sweep),
-        Err(_) => Err(CanonicalStop::NotCanonical),
+        Ok(sweep) => sweep,
+        Err(_) => unreachable!(),
     }
 }
 
-fn scenario_of(parts: Parts) -> Result<Scenario, CanonicalStop>
-    ensures { let given = problem_of parts in IsProblem given → result ≡ Ok given }
+fn scenario_of(parts: Parts) -> Scenario
+    requires { IsProblem (problem_of parts) }
+    ensures { result ≡ problem_of parts }
 {
     match Scenario::new(parts) {
-        Ok(scenario) => Ok(scenario),
-        Err(_) => Err(CanonicalStop::NotCanonical),
+        Ok(scenario) => scenario,
+        Err(_) => unreachable!(),
     }
 }
 
-/// The scenario that a draft says. A draft that says no scenario gives any answer.
-pub fn assemble(alloc: Global, draft: Draft) -> Result<Scenario, CanonicalStop>
-    ensures { (p : Problem) → IsProblem p → state_of draft ≡ state_of_problem p → Makes result p }
+/// The parts of the scenario that a draft says.
+fn model_parts(alloc: Global, draft: Draft) -> Result<Parts, AllocError>
+    requires sound { IsSound (state_of draft) }
+    requires whole { draft.stage ≡ Stage.Ended }
+    ensures { IfOk result (λ parts. Says (state_of draft) (problem_of parts)) }
 {
-    let Draft {
-        stage: _,
-        horizon,
-        total,
-        drift,
-        look,
-        cells,
-        start,
+    let names = names_of(alloc, &draft.names)?;
+    let first = parts_of(alloc, draft.names.len(), &draft.first)?;
+    let overlook = overlook_of(alloc, &draft.overlook)?;
+    Ok(Parts {
+        names,
+        horizon: draft.horizon,
+        start: draft.start,
+        total: draft.total,
         first,
-    } = draft;
-    let first = parts_of(alloc, cells.len(), &first)?;
-    let columns = columns_of(alloc, cells)?;
-    let grid = grid_of(columns.moves)?;
-    let drift = drift_of(drift, columns.drift)?;
-    let sweep = sweep_of(look, columns.overlook)?;
-    scenario_of(Parts {
-        names: columns.names,
-        horizon,
-        start,
-        total,
-        first,
-        grid,
-        drift,
-        sweep,
+        grid: grid_of(draft.moves),
+        drift: drift_of(draft.drift, draft.parts),
+        sweep: sweep_of(draft.look, overlook),
     })
+}
+
+/// The scenario that a draft says.
+pub fn assemble(alloc: Global, draft: Draft) -> Result<Scenario, AllocError>
+    requires sound { IsSound (state_of draft) }
+    requires whole { draft.stage ≡ Stage.Ended }
+    ensures { IfOk result (Says (state_of draft)) }
+{
+    let parts = model_parts(alloc, draft)?;
+    Ok(scenario_of(parts))
 }

@@ -1,8 +1,5 @@
-ghost use Rattle.std.specs.Prelude.{◌≤◌, vec_len};
-ghost use Rattle.scenario_text.specs.Settled.{IsSettled};
-
 use drift_chain::DriftPart;
-use search_model::Name;
+use indexmap::IndexSet;
 
 /// The line that is due.
 #[derive(Clone, Copy, Debug, PartialEq, Eq)]
@@ -10,22 +7,18 @@ pub enum Stage {
     Version,
     Horizon,
     Parts,
+    /// A cell, the grid before any cell, or the start behind a cell.
     Cells,
+    /// The start behind a grid.
+    Start,
     First,
+    /// A row of a cell, a shorthand, or the end.
     Rows,
     Ended,
 }
 
-/// What was read of one cell. A cell that has no row of moves or of drift yet has an empty one, which no line gives.
-#[derive(Drop)]
-pub struct CellDraft {
-    pub name: Name,
-    pub moves: Vec<u8>,
-    pub drift: Vec<DriftPart>,
-    pub overlook: Option<u32>,
-}
-
-/// What was read so far.
+/// What was read so far. A cell's number is its name's place in the set. The last three lists have an element a cell; one
+/// that has no row of moves or of parts yet has an empty one, which no line gives.
 #[derive(Drop)]
 pub struct Draft {
     pub stage: Stage,
@@ -33,9 +26,12 @@ pub struct Draft {
     pub total: u32,
     pub drift: u32,
     pub look: u32,
-    pub cells: Vec<CellDraft>,
+    pub names: IndexSet<Vec<u8>>,
+    /// Whether the cells are those of a line `grid`.
+    pub gridded: bool,
     pub start: u8,
     pub first: Vec<DriftPart>,
-    ghost few: { vec_len cells ≤ 200 },
-    ghost settled: { IsSettled stage horizon total drift look },
+    pub moves: Vec<Vec<u8>>,
+    pub parts: Vec<Vec<DriftPart>>,
+    pub overlook: Vec<Option<u32>>,
 }

@@ -1,3 +1,6 @@
+ghost use Rattle.std.specs.Prelude.{◌≡◌};
+ghost use Rattle.scenario_text.specs.Kinds.{name_of};
+
 /// What is wrong with a line; in one line the first of these that holds is named.
 #[derive(Clone, Copy, Debug, PartialEq, Eq)]
 pub enum TextKind {
@@ -37,4 +40,26 @@ pub enum TextKind {
 pub struct TextFault {
     pub line: u64,
     pub kind: TextKind,
+}
+
+/// The kind's name, as it is told beside the line.
+pub fn text_kind_name(kind: TextKind) -> &'static str
+    ensures { result.now ≡ name_of kind }
+{
+    match kind {
+        TextKind::NotText => "NotText",
+        TextKind::BadLine => "BadLine",
+        TextKind::BadNumber => "BadNumber",
+        TextKind::OverLimit => "OverLimit",
+        TextKind::UnknownName => "UnknownName",
+        TextKind::DoubleName => "DoubleName",
+        TextKind::MissingRow => "MissingRow",
+        TextKind::DoubleRow => "DoubleRow",
+        TextKind::WrongSum => "WrongSum",
+        TextKind::PartOver => "PartOver",
+        TextKind::NoMove => "NoMove",
+        TextKind::TooWide => "TooWide",
+        TextKind::EarlyEnd => "EarlyEnd",
+        TextKind::Rest => "Rest",
+    }
 }

@@ -2,9 +2,8 @@
 #![tactic(auto)]
 
 mod assembling;
-mod canonical;
 mod cell_names;
-mod columns;
+mod cells;
 mod digits;
 mod draft;
 mod kind;
@@ -17,14 +16,18 @@ mod pieces;
 mod printing;
 mod reading;
 mod rows;
+mod scenarios;
+mod shorthands;
 mod stop;
 mod taking;
 mod taking_line;
 #[cfg(test)]
 mod tests;
 
-pub use canonical::{read_canonical, read_canonical_front};
-pub use kind::{TextFault, TextKind};
-pub use laws::{canonical_front_reads_back, canonical_text_reads_back, canonical_texts_differ};
+pub use kind::{TextFault, TextKind, text_kind_name};
+pub use laws::{
+    canonical_front_reads_back, canonical_text_reads_back, canonical_text_says, one_problem_a_text,
+};
 pub use printing::print_scenario;
-pub use stop::CanonicalStop;
+pub use scenarios::{read_scenario, read_scenario_alone};
+pub use stop::TextStop;

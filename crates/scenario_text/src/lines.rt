@@ -1,7 +1,7 @@
 //! Text as lines, and a line as fields.
 
-ghost use Rattle.std.specs.Prelude.{◌≡◌, true, false, [], ◌∷◌, ◌<◌, ◌≤◌, drop, map, length, IfOk, All};
-ghost use Rattle.scenario_text.specs.Lines.{lines_of, is_blank as is_blank_lem, ends_field, fields_of as fields_lem};
+ghost use Rattle.std.specs.Prelude.{◌≡◌, true, false, [], ◌∷◌, ◌<◌, ◌≤◌, drop, take, map, length, IfOk, All};
+ghost use Rattle.scenario_text.specs.Lines.{lines_of, after_lines, is_blank as is_blank_lem, ends_field, fields_of as fields_lem};
 
 use std::alloc::{AllocError, Global};
 
@@ -18,6 +18,7 @@ fn rest_from(text: &[u8], at: usize) -> &[u8]
 pub fn cut_line(text: &[u8]) -> (&[u8], &[u8])
     requires { 0 < length text.now }
     ensures lines { lines_of text.now ≡ result.0.now ∷ lines_of result.1.now }
+    ensures rest { result.1.now ≡ after_lines 1 text.now }
     ensures shorter { length result.1.now < length text.now }
 {
     for (i, c) in text.iter().enumerate() {
@@ -28,7 +29,7 @@ pub fn cut_line(text: &[u8]) -> (&[u8], &[u8])
     (text, rest_from(text, text.len()))
 }
 
-fn is_blank(c: u8) -> bool
+pub fn is_blank(c: u8) -> bool
     ensures { result ≡ is_blank_lem c }
 {
     c == b' ' || c == b'\t' || c == b'\r'
@@ -36,7 +37,7 @@ fn is_blank(c: u8) -> bool
 
 /// What follows the blanks at the front.
 #[tactic(auto, using(crate::proofs::Words::skip_steps))]
-fn skip_blanks(line: &[u8]) -> &[u8]
+pub fn skip_blanks(line: &[u8]) -> &[u8]
     ensures fields { fields_lem line.now ≡ fields_lem result.now }
     ensures starts { ends_field result.now ≡ true → result.now ≡ [] }
     ensures shorter { length result.now ≤ length line.now }
@@ -51,7 +52,7 @@ fn skip_blanks(line: &[u8]) -> &[u8]
 
 /// The field at the front, and what follows it.
 #[tactic(auto, using(crate::proofs::Words::word_steps))]
-fn cut_field(line: &[u8]) -> (&[u8], &[u8])
+pub fn cut_field(line: &[u8]) -> (&[u8], &[u8])
     requires { ends_field line.now ≡ false }
     ensures fields { fields_lem line.now ≡ result.0.now ∷ fields_lem result.1.now }
     ensures shorter { length result.1.now < length line.now }
@@ -64,18 +65,29 @@ fn cut_field(line: &[u8]) -> (&[u8], &[u8])
     (line, rest_from(line, line.len()))
 }
 
-/// The fields of a line.
+/// The first fields of a line, so many at most.
 #[tactic(auto, using(crate::proofs::Words::field_steps))]
-pub fn fields_of(alloc: Global, line: &[u8]) -> Result<Vec<&[u8]>, AllocError>
-    ensures value { IfOk result (λ v. map (λ f. f.now) v.items ≡ fields_lem line.now) }
+pub fn first_fields(alloc: Global, line: &[u8], most: usize) -> Result<Vec<&[u8]>, AllocError>
+    ensures value { IfOk result (λ v. map (λ f. f.now) v.items ≡ take most (fields_lem line.now)) }
     ensures some { IfOk result (λ v. All (λ f. 1 ≤ length f.now) v.items) }
 {
     let mut fields = Vec::new(alloc);
     let mut rest = skip_blanks(line);
-    while !rest.is_empty() {
+    while !rest.is_empty() && fields.len() < most {
         let (field, after) = cut_field(rest);
         fields.push(field)?;
         rest = skip_blanks(after);
     }
     Ok(fields)
+}
+
+/// What follows the first field of a line that has one.
+pub fn after_field(line: &[u8]) -> &[u8]
+    ensures { fields_lem result.now ≡ drop 1 (fields_lem line.now) }
+{
+    let line = skip_blanks(line);
+    if line.is_empty() {
+        return line;
+    }
+    cut_field(line).1
 }

@@ -1,17 +1,27 @@
 //! The lines of a text, one after the other.
 
-ghost use Rattle.std.specs.Prelude.{◌≡◌, ◌↔◌, IsTrue};
-ghost use Rattle.scenario_text.specs.State.{blank_state};
-ghost use Rattle.scenario_text.specs.Gives.{Gives, stop_at};
-ghost use Rattle.scenario_text.specs.Lines.{lines_of};
-ghost use Rattle.scenario_text.specs.Reading.{lines_at};
+ghost use Rattle.std.specs.Prelude.{◌≡◌, ◌<◌, ◌+◌, ◌^◌, ◌↔◌, length, IsTrue};
+ghost use Rattle.std.specs.List.{list_all};
+ghost use Rattle.scenario_text.specs.Lines.{lines_of, is_blank as is_blank_lem};
+ghost use Rattle.scenario_text.specs.Reading.{first_said as first_said_lem};
+ghost use Rattle.scenario_text.specs.State.{state_of, blank_state};
+ghost use Rattle.scenario_text.specs.Gives.{ReadsDraft, stop_at};
 
 use crate::draft::{Draft, Stage};
 use crate::kind::{TextFault, TextKind};
-use crate::lines::cut_line;
+use crate::lines::{cut_line, is_blank};
 use crate::stop::{LineStop, TextStop};
 use crate::taking_line::take_line;
+use indexmap::IndexSet;
 use std::alloc::Global;
+
+/// What was read up to the line `end`, the number of that line, and what follows its line feed.
+#[derive(Drop)]
+pub struct DraftFront<'a> {
+    pub draft: Draft,
+    pub line: u64,
+    pub rest: &'a [u8],
+}
 
 fn at_number(number: u64, stop: LineStop) -> TextStop
     ensures { result ≡ stop_at number stop }
@@ -28,21 +38,31 @@ fn is_ended(stage: Stage) -> bool
     matches!(stage, Stage::Ended)
 }
 
-/// What the text says, up to its line `end`.
-#[tactic(auto, using(crate::proofs::Loop::loop_steps))]
-pub fn read_lines(alloc: Global, text: &[u8]) -> Result<Draft, TextStop>
-    ensures { Gives result (lines_at blank_state 1 (lines_of text.now)) }
+fn blank_draft(alloc: Global) -> Draft
+    ensures { state_of result ≡ blank_state }
 {
-    let mut draft = Draft {
+    Draft {
         stage: Stage::Version,
         horizon: 0,
         total: 0,
         drift: 0,
         look: 0,
-        cells: Vec::new(alloc),
+        names: IndexSet::new(alloc),
+        gridded: false,
         start: 0,
         first: Vec::new(alloc),
-    };
+        moves: Vec::new(alloc),
+        parts: Vec::new(alloc),
+        overlook: Vec::new(alloc),
+    }
+}
+
+/// What the text says, up to its line `end`.
+#[tactic(auto, using(crate::proofs::Loop::loop_steps))]
+pub fn read_draft(alloc: Global, text: &[u8]) -> Result<DraftFront<'_>, TextStop>
+    ensures { ReadsDraft text.now result }
+{
+    let mut draft = blank_draft(alloc);
     let mut rest = text;
     let mut number = 1u64;
     while !rest.is_empty() {
@@ -51,14 +71,43 @@ pub fn read_lines(alloc: Global, text: &[u8]) -> Result<Draft, TextStop>
             Ok(()) => {}
             Err(stop) => return Err(at_number(number, stop)),
         }
-        if is_ended(draft.stage) {
-            return Ok(draft);
-        }
         rest = after;
+        if is_ended(draft.stage) {
+            return Ok(DraftFront {
+                draft,
+                line: number,
+                rest,
+            });
+        }
         number += 1;
     }
     Err(TextStop::Fault(TextFault {
         line: number,
         kind: TextKind::EarlyEnd,
     }))
+}
+
+fn is_all_blank(line: &[u8]) -> bool
+    ensures { result ≡ list_all is_blank_lem line.now }
+{
+    line.iter().all(|c| is_blank(*c))
+}
+
+/// The number of the first line that holds a byte other than blanks, where the first line has this number.
+#[tactic(auto, using(crate::proofs::Loop::said_steps))]
+pub fn first_said(text: &[u8], first: u64) -> Option<u64>
+    requires { first + length text.now < 2 ^ 64 }
+    ensures { result ≡ first_said_lem first (lines_of text.now) }
+{
+    let mut rest = text;
+    let mut number = first;
+    while !rest.is_empty() {
+        let (line, after) = cut_line(rest);
+        if !is_all_blank(line) {
+            return Some(number);
+        }
+        rest = after;
+        number += 1;
+    }
+    None
 }

@@ -31,47 +31,19 @@ impl<T: Drop> From<AllocFailed<T>> for LineStop {
     }
 }
 
-/// Why a text was not read to its line `end`.
+/// Why no scenario was read from a text.
 #[derive(Clone, Copy, Debug, PartialEq, Eq)]
 pub enum TextStop {
     Fault(TextFault),
     NoMemory,
 }
 
-/// Why no scenario was read.
-#[derive(Clone, Copy, Debug, PartialEq, Eq)]
-pub enum CanonicalStop {
-    /// The text is no scenario's canonical text.
-    NotCanonical,
-    NoMemory,
-}
-
-impl From<AllocError> for CanonicalStop {
-    ghost use Rattle.scenario_text.specs.declared.stop.CanonicalStop.TheVariants.{NoMemory};
+impl From<AllocError> for TextStop {
+    ghost use Rattle.scenario_text.specs.declared.stop.TextStop.TheVariants.{NoMemory};
 
     ghost from_gives = { λ _ e. e ≡ NoMemory };
 
-    fn from(_refused: AllocError) -> CanonicalStop {
-        CanonicalStop::NoMemory
-    }
-}
-
-impl<T: Drop> From<AllocFailed<T>> for CanonicalStop {
-    ghost use Rattle.scenario_text.specs.declared.stop.CanonicalStop.TheVariants.{NoMemory};
-
-    ghost from_gives = { λ _ e. e ≡ NoMemory };
-
-    fn from(_refused: AllocFailed<T>) -> CanonicalStop {
-        CanonicalStop::NoMemory
-    }
-}
-
-impl From<exact_parts::NoMemory> for CanonicalStop {
-    ghost use Rattle.scenario_text.specs.declared.stop.CanonicalStop.TheVariants.{NoMemory};
-
-    ghost from_gives = { λ _ e. e ≡ NoMemory };
-
-    fn from(_refused: exact_parts::NoMemory) -> CanonicalStop {
-        CanonicalStop::NoMemory
+    fn from(_refused: AllocError) -> TextStop {
+        TextStop::NoMemory
     }
 }

@@ -1,17 +1,22 @@
 //! The lines above the rows.
 
-ghost use Rattle.std.specs.Prelude.{◌≡◌, ◌≤◌, map, length};
+ghost use Rattle.std.specs.Prelude.{◌≡◌, ◌≤◌, List, None, Ok, map, take, length};
+ghost use Rattle.scenario_text.specs.declared.pair.Pair.{Pair};
+ghost use Rattle.scenario_text.specs.Lines.{fields_of as fields_lem};
 ghost use Rattle.scenario_text.specs.State.{state_of};
-ghost use Rattle.scenario_text.specs.Gives.{TakesLine};
-ghost use Rattle.scenario_text.specs.Reading.{number_in as number_in_lem, version_line, with_horizon, horizon_line, with_parts, parts_line, cell_line, with_start, cell_named as cell_named_lem};
+ghost use Rattle.scenario_text.specs.Sound.{IsSound};
+ghost use Rattle.scenario_text.specs.Gives.{TakesLine, AreScanned};
+ghost use Rattle.scenario_text.specs.Fields.{number_in as number_in_lem, cell_named as cell_named_lem};
+ghost use Rattle.scenario_text.specs.Reading.{version_line, with_horizon, horizon_line, with_parts, parts_line, with_name, cell_line, with_start, start_line, with_first, first_pairs, first_line};
 
 use crate::cell_names::{are_name_bytes, cell_named};
-use crate::draft::{CellDraft, Draft, Stage};
+use crate::draft::{Draft, Stage};
 use crate::kind::TextKind;
+use crate::lines::after_field;
 use crate::number_field::{MOST_PART, is_bad, is_over, number_at, number_in};
+use crate::pairs::{Pairs, scan_pairs, total_of};
 use crate::stop::LineStop;
 use exact_parts::Number;
-use search_model::Name;
 use std::alloc::Global;
 
 /// `scenario 1`
@@ -27,7 +32,6 @@ pub fn take_version(draft: &mut Draft, fields: &[&[u8]]) -> Result<(), LineStop>
     }
 }
 
-#[tactic(auto, using(crate::proofs::Numbers::least_met))]
 fn set_horizon(draft: &mut Draft, t: Number) -> Result<(), LineStop>
     requires { number_in_lem t ≤ 32 }
     ensures { TakesLine draft.new result (with_horizon (state_of draft.old) t) }
@@ -53,9 +57,7 @@ pub fn take_horizon(draft: &mut Draft, fields: &[&[u8]]) -> Result<(), LineStop>
     }
 }
 
-#[tactic(auto, using(crate::proofs::Numbers::least_met))]
 fn set_parts(draft: &mut Draft, a: Number, d: Number, g: Number) -> Result<(), LineStop>
-    requires due { draft.old.stage ≡ Stage.Parts }
     requires total { number_in_lem a ≤ 1000000 }
     requires drift { number_in_lem d ≤ 1000000 }
     requires look { number_in_lem g ≤ 1000000 }
@@ -76,7 +78,6 @@ fn set_parts(draft: &mut Draft, a: Number, d: Number, g: Number) -> Result<(), L
 
 /// `parts A D G`
 pub fn take_parts(draft: &mut Draft, fields: &[&[u8]]) -> Result<(), LineStop>
-    requires { draft.old.stage ≡ Stage.Parts }
     ensures { TakesLine draft.new result (parts_line (state_of draft.old) (map (λ f. f.now) fields.now)) }
 {
     match fields {
@@ -90,44 +91,104 @@ pub fn take_parts(draft: &mut Draft, fields: &[&[u8]]) -> Result<(), LineStop>
     }
 }
 
+/// Adds a cell that has no rows yet.
+fn push_cell(alloc: Global, draft: &mut Draft, name: &[u8]) -> Result<(), LineStop>
+    requires new { cell_named_lem (state_of draft.old).names name.now ≡ None }
+    ensures { TakesLine draft.new result (Ok (with_name (state_of draft.old) name.now)) }
+{
+    let mut bytes = Vec::new(alloc);
+    bytes.extend_from_slice(name)?;
+    draft.names.insert(bytes)?;
+    draft.moves.push(Vec::new(alloc))?;
+    draft.parts.push(Vec::new(alloc))?;
+    draft.overlook.push(None)?;
+    Ok(())
+}
+
 /// `cell NAME`
-#[tactic(auto, using(crate::proofs::CellNames::cell_steps))]
 pub fn take_cell(alloc: Global, draft: &mut Draft, name: &[u8]) -> Result<(), LineStop>
-    requires { 1 ≤ length name.now }
+    requires { IsSound (state_of draft.old) }
     ensures { TakesLine draft.new result (cell_line (state_of draft.old) name.now) }
 {
     if !are_name_bytes(name) {
         return Err(LineStop::Fault(TextKind::BadLine));
     }
-    if name.len() > 24 || draft.cells.len() >= 200 {
+    if name.len() > 24 || draft.names.len() >= 200 {
         return Err(LineStop::Fault(TextKind::OverLimit));
     }
-    if cell_named(&draft.cells, name).is_some() {
+    if cell_named(&draft.names, name).is_some() {
         return Err(LineStop::Fault(TextKind::DoubleName));
     }
-    let Some(name) = Name::new(name) else {
-        unreachable!()
-    };
-    draft.cells.push(CellDraft {
-        name,
-        moves: Vec::new(alloc),
-        drift: Vec::new(alloc),
-        overlook: None,
-    })?;
-    Ok(())
+    push_cell(alloc, draft, name)
 }
 
-/// `start NAME`
-pub fn take_start(draft: &mut Draft, name: &[u8]) -> Result<(), LineStop>
-    requires { draft.old.stage ≡ Stage.Cells }
-    ensures { TakesLine draft.new result (with_start (state_of draft.old) (cell_named_lem (state_of draft.old).cells name.now)) }
+fn set_start(draft: &mut Draft, name: &[u8]) -> Result<(), LineStop>
+    requires { IsSound (state_of draft.old) }
+    ensures { TakesLine draft.new result (with_start (state_of draft.old) (cell_named_lem (state_of draft.old).names name.now)) }
 {
-    match cell_named(&draft.cells, name) {
+    match cell_named(&draft.names, name) {
         None => Err(LineStop::Fault(TextKind::UnknownName)),
         Some(c) => {
             draft.stage = Stage::First;
             draft.start = c;
             Ok(())
         }
+    }
+}
+
+/// `start NAME`
+pub fn take_start(draft: &mut Draft, fields: &[&[u8]]) -> Result<(), LineStop>
+    requires { IsSound (state_of draft.old) }
+    ensures { TakesLine draft.new result (start_line (state_of draft.old) (map (λ f. f.now) fields.now)) }
+{
+    match fields {
+        [word, name] if *word == b"start".as_slice() => set_start(draft, name),
+        _ => Err(LineStop::Fault(TextKind::BadLine)),
+    }
+}
+
+fn set_first(draft: &mut Draft, pairs: Pairs) -> Result<(), LineStop>
+    ensures { (list : List Pair) → AreScanned list pairs → TakesLine draft.new result (with_first (state_of draft.old) list) }
+{
+    if let Some(kind) = pairs.fault {
+        return Err(LineStop::Fault(kind));
+    }
+    if total_of(&pairs.entries) != u128::from(draft.total) {
+        return Err(LineStop::Fault(TextKind::WrongSum));
+    }
+    draft.first = pairs.entries;
+    draft.stage = Stage::Rows;
+    Ok(())
+}
+
+/// The pairs of `first NAME PART NAME PART ..`, behind its keyword
+fn take_first_pairs(alloc: Global, draft: &mut Draft, text: &[u8]) -> Result<(), LineStop>
+    requires { IsSound (state_of draft.old) }
+    ensures { TakesLine draft.new result (first_pairs (state_of draft.old) (fields_lem text.now)) }
+{
+    match scan_pairs(alloc, &draft.names, text)? {
+        None => Err(LineStop::Fault(TextKind::BadLine)),
+        Some(pairs) => set_first(draft, pairs),
+    }
+}
+
+/// `first NAME PART NAME PART ..`, of which the first fields are given beside the line
+pub fn take_first(
+    alloc: Global,
+    draft: &mut Draft,
+    fields: &[&[u8]],
+    line: &[u8],
+) -> Result<(), LineStop>
+    requires sound { IsSound (state_of draft.old) }
+    requires front { map (λ f. f.now) fields.now ≡ take 67 (fields_lem line.now) }
+    ensures { TakesLine draft.new result (first_line (state_of draft.old) (fields_lem line.now)) }
+{
+    match fields {
+        [word, ..] if *word == b"first".as_slice() => take_first_pairs(
+            alloc,
+            draft,
+            after_field(line),
+        ),
+        _ => Err(LineStop::Fault(TextKind::BadLine)),
     }
 }

@@ -1,7 +1,7 @@
 use Rattle.std.proofs.Common.{Ok, Err, refl, sym, ◌∙◌}
-use Rattle.plan_command.specs.Run.{Ending, delivered}
+use Rattle.plan_command.specs.Run.{delivered}
 use Rattle.plan_command.proofs.Endings.{ends_as_due, ends_refused, ends_longer, says_nothing}
-use Rattle.plan_command.proofs.Outcomes.{accepted_input, rejected_input, write_failed}
+use Rattle.plan_command.proofs.Outcomes.{planned_input, accepted_input, rejected_input, write_failed}
 use Rattle.plan_command.proofs.top.run.Goals as goal
 
 pub returns-in-Ok-clause-ended : goal.returns-in-Ok-clause-ended
@@ -24,6 +24,9 @@ returns-in-Err-clause-refused g c = λ request input stop heard short due. rw c.
 
 pub returns-in-Err-clause-longer : goal.returns-in-Err-clause-longer
 returns-in-Err-clause-longer g c = λ request input heard long. rw c.status.ensures (ends_longer _ _ _ request input (Err c.in-Err.stop) c.in-Err.ensures.ends heard long)
+
+pub returns-in-Ok-clause-planned : goal.returns-in-Ok-clause-planned
+returns-in-Ok-clause-planned g c = λ asked done. planned_input _ _ _ c.in-Ok.status c.in-Ok.ensures.ends asked done
 
 pub returns-in-Ok-clause-accepted : goal.returns-in-Ok-clause-accepted
 returns-in-Ok-clause-accepted g c = λ check done. accepted_input _ _ _ c.in-Ok.status c.in-Ok.ensures.ends check done

@@ -1,6 +1,6 @@
-use Rattle.std.proofs.Common.{◌≡◌, ◌+◌, ◌*◌, ◌≤◌, drop}
-use Rattle.scenario_text.specs.Reading.{total_of}
+use Rattle.std.proofs.Common.{◌≡◌, ◌*◌, ◌≤◌, take}
+use Rattle.std.specs.Prelude.{sum_by}
 use Rattle.scenario_text.proofs.pairs.total_of.Given as goal
 
-abbrev pub invariant-loop-pair : goal.invariant-loop-pair
-invariant-loop-pair l = (l.sum + total_of (drop l.pair-index l.pairs) ≡ total_of l.pairs) × (l.sum ≤ 1000000 * l.pair-index)
+abbrev pub invariant-loop-entry : goal.invariant-loop-entry
+invariant-loop-entry l = (l.sum ≡ sum_by (λ e. e.part) (take l.entry-index l.entries)) × (l.sum ≤ 4294967296 * l.entry-index)

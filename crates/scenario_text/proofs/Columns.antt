@@ -1,0 +1,45 @@
+-- Columns of a draft, seen as lists, and a name that joins its set.
+use Rattle.std.proofs.Common.{◌≡◌, ℕ, ◌+◌, ◌<◌, ◌≤◌, Bool, false, ◌||◌, List, [], ◌∷◌, ◌++◌, map, length, take, None, refl, sym, ap, ◌∙◌, arith, inl, inr}
+use Rattle.std.specs.List.{list_any, position, position_or_len}
+use Rattle.std.specs.Str.{bytes_eq}
+use Rattle.std.proofs.lemmas.Bool.{lt-ltb, cases_order}
+use Rattle.std.proofs.lemmas.List.{map_push, take_more, length-map}
+use Rattle.std.proofs.lemmas.List.Folds.{list_any_none}
+use Rattle.std.proofs.lemmas.List.Sums.{fails_before_first}
+use Rattle.search_grid.specs.Moves.{moves_from}
+use Rattle.indexmap.specs.IndexSet.{insert_key}
+
+-- a test passes on a mapped list where it passes behind the map
+pub list_any-map : {X Y : Type 0} (p : Y → Bool) (f : X → Y) (xs : List X) → list_any p (map f xs) ≡ list_any (λ x. p (f x)) xs
+list_any-map p f [] = refl
+list_any-map p f (x ∷ xs) = ap (λ (b : Bool). p (f x) || b) (list_any-map p f xs)
+
+-- where no place is found, no element passes
+none_before : {X : Type 0} (p : X → Bool) (xs : List X) → position p xs ≡ None → length xs ≤ position_or_len p xs
+none_before p xs e =
+    elim (cases_order (position_or_len p xs) (length xs)) [
+      | inl same ↦ omega arith
+      | inr (inl below) ↦ absurd (let test = lt-ltb (position_or_len p xs) (length xs) below in let some = rw test at e in cc)
+      | inr (inr above) ↦ omega arith
+    ]
+
+pub none_passes : {X : Type 0} (p : X → Bool) (xs : List X) → position p xs ≡ None → list_any p xs ≡ false
+none_passes p xs e = list_any_none p xs (λ k d lt. fails_before_first p xs k d (omega (arith, none_before p xs e)))
+
+-- a name that isn't there goes last
+pub inserted_last : {K : Type 0} (eq : K → K → Bool) (view : K → List ℕ) (keys : List K) (name : K) → ((k : K) → eq name k ≡ bytes_eq (view name) (view k)) → position (bytes_eq (view name)) (map view keys) ≡ None → map view (insert_key eq keys name) ≡ map view keys ++ view name ∷ []
+inserted_last eq view keys name same new =
+    let none : list_any (λ k. bytes_eq (view name) (view k)) keys ≡ false = sym (list_any-map (bytes_eq (view name)) view keys) ∙ none_passes (bytes_eq (view name)) (map view keys) new in
+    let none_eq : list_any (eq name) keys ≡ false = any_same (eq name) (λ k. bytes_eq (view name) (view k)) keys same ∙ none in
+    rw none_eq (map_push view keys name)
+  where
+    any_same : {X : Type 0} (p q : X → Bool) (xs : List X) → ((x : X) → p x ≡ q x) → list_any p xs ≡ list_any q xs
+    any_same p q [] h = refl
+    any_same p q (x ∷ xs) h = rw (h x, any_same p q xs h) refl
+
+-- the row of the next position joins those before it
+pub moves_next : (rows : List (List ℕ)) (c : ℕ) → c < length rows → take (c + 1) rows ≡ take c rows ++ moves_from rows c ∷ []
+unfolding moves_from
+moves_next rows c lt = take_more rows c [] lt
+
+pub ruleset column_steps = (length-map)

@@ -1,0 +1,96 @@
+-- Where the line `end` of a text stands, and what follows it.
+use Rattle.std.proofs.Common.{◌≡◌, ℕ, zero, suc, ◌+◌, ◌-◌, ◌<◌, ◌≤◌, Bool, true, false, List, [], ◌∷◌, length, Option, Some, None, Result, Ok, Err, refl, sym, ap, ◌∙◌, arith, subst}
+use Rattle.std.specs.Prelude.{◌==◌, if◌then◌else◌}
+use Rattle.search_model.specs.Problem.{Problem}
+use Rattle.scenario_text.specs.declared.draft.Stage.{Stage}
+use Rattle.scenario_text.specs.declared.draft.Stage.TheVariants.{Version, Horizon, Parts, Cells, Start, First, Rows, Ended}
+use Rattle.scenario_text.specs.declared.kind.TextKind.{TextKind}
+use Rattle.scenario_text.specs.declared.kind.TextFault.{TextFault}
+use Rattle.scenario_text.specs.Lines.{onto_first, lines_of, after_lines}
+use Rattle.scenario_text.specs.State.{State}
+use Rattle.scenario_text.specs.Reading.{Front, line_at, lines_at, go_on, unless_ended, first_said, unless_more, alone, alone_of, front_of}
+use Rattle.scenario_text.specs.Scenarios.{Says, IsFront, IsTextOf}
+use Rattle.scenario_text.proofs.SoundFields.{err_ok}
+
+-- all was read, and the line is before that number
+abbrev AtEnd : Front → ℕ → Type 0
+AtEnd front most = (front.state.stage ≡ Ended) × (front.line < most)
+
+at_stage : (stage : Stage) (t : State) (number most : ℕ) (more : Result Front TextFault) (front : Front) → t.stage ≡ stage → number < most → (more ≡ Ok front → AtEnd front most) →
+    unless_ended stage t number more ≡ Ok front → AtEnd front most
+at_stage Version t number most more front e lt further is = further is
+at_stage Horizon t number most more front e lt further is = further is
+at_stage Parts t number most more front e lt further is = further is
+at_stage Cells t number most more front e lt further is = further is
+at_stage Start t number most more front e lt further is = further is
+at_stage First t number most more front e lt further is = further is
+at_stage Rows t number most more front e lt further is = further is
+at_stage Ended t number most more front e lt further is =
+    let here : Front = record { state = t; line = number } in
+    let same : here ≡ front = cc in
+    subst (λ f. AtEnd f most) same (e, lt)
+
+at_result : (r : Result State TextKind) (number most : ℕ) (more : State → Result Front TextFault) (front : Front) → number < most → ((t : State) → more t ≡ Ok front → AtEnd front most) →
+    go_on r number more ≡ Ok front → AtEnd front most
+at_result (Err kind) number most more front lt further is = absurd (err_ok _ front is)
+at_result (Ok t) number most more front lt further is = at_stage t.stage t number most (more t) front refl lt (further t) is
+
+at_lines : (lines : List (List ℕ)) (s : State) (number : ℕ) (front : Front) → lines_at s number lines ≡ Ok front → AtEnd front (number + length lines)
+unfolding lines_at
+at_lines [] s number front is = absurd (err_ok _ front is)
+at_lines (line ∷ lines) s number front is =
+    at_result (line_at s line) number (number + length (line ∷ lines)) (λ t. lines_at t (number + 1) lines) front (omega arith)
+    (λ t e. let further = at_lines lines t (number + 1) front e in (further.0, omega (arith, further.1))) is
+
+pub front_ended : (text : List ℕ) (front : Front) → front_of text ≡ Ok front → front.state.stage ≡ Ended
+front_ended text front is = (at_lines (lines_of text) _ 1 front is).0
+
+-- Lines have bytes.
+one_shorter : (b : Bool) (most : ℕ) (xs ys : List ℕ) → length xs ≤ most → length ys ≤ most → length (if b then xs else ys) ≤ suc most
+one_shorter true most xs ys le le' = omega (arith, le)
+one_shorter false most xs ys le le' = omega (arith, le')
+
+pub after_short : (n : ℕ) (text : List ℕ) → length (after_lines n text) ≤ length text
+unfolding after_lines
+after_short zero text = omega arith
+after_short (suc n) [] = omega arith
+after_short (suc n) (c ∷ cs) = one_shorter (c == 10) (length cs) _ _ (after_short n cs) (after_short (suc n) cs)
+
+one_or_all : {P : Type 0} (c n : ℕ) (pieces : List (List ℕ)) → suc n ≤ length (onto_first c pieces) → (n ≡ 0 → P) → (suc n ≤ length pieces → P) → P
+one_or_all c n [] le one all = one (omega (arith, le))
+one_or_all c n (piece ∷ pieces) le one all = all le
+
+one_line : (b : Bool) (c n : ℕ) (cs : List ℕ) → (n ≤ length (lines_of cs) → n + length (after_lines n cs) ≤ length cs) → (suc n ≤ length (lines_of cs) → suc n + length (after_lines (suc n) cs) ≤ length cs) →
+    suc n ≤ length (if b then [] ∷ lines_of cs else onto_first c (lines_of cs)) → suc n + length (if b then after_lines n cs else after_lines (suc n) cs) ≤ suc (length cs)
+one_line true c n cs here further le = omega (arith, here (omega (arith, le)))
+one_line false c n cs here further le =
+    one_or_all c n (lines_of cs) le (λ none. omega (arith, none, after_short (suc n) cs)) (λ all. omega (arith, further all))
+
+room : (n : ℕ) (text : List ℕ) → n ≤ length (lines_of text) → n + length (after_lines n text) ≤ length text
+unfolding lines_of after_lines
+room zero text le = omega arith
+room (suc n) [] le = absurd (omega arith)
+room (suc n) (c ∷ cs) le = one_line (c == 10) c n cs (room n cs) (room (suc n) cs) le
+
+pub front_room : (text : List ℕ) (front : Front) → front_of text ≡ Ok front → front.line + length (after_lines front.line text) ≤ length text
+front_room text front is =
+    let line = (at_lines (lines_of text) _ 1 front is).1 in
+    room front.line text (omega (arith, line))
+
+-- What was read is the scenario at the front, and of the whole text where nothing more is said.
+pub IsFront-read : (text rest : List ℕ) (front : Front) (p : Problem) (n : ℕ) → front_of text ≡ Ok front → rest ≡ after_lines front.line text → Says front.state p → n ≡ length text - length rest → IsFront text p n
+IsFront-read text rest front p n read behind says bytes =
+    let same : length rest ≡ length (after_lines front.line text) = ap (λ (r : List ℕ). length r) behind in
+    record { front = front; read = read; says = says; bytes = omega (arith, bytes, same, after_short front.line text) }
+
+pub alone_fault : (text rest : List ℕ) (front : Front) (number : ℕ) → front_of text ≡ Ok front → rest ≡ after_lines front.line text → Some number ≡ first_said (front.line + 1) (lines_of rest) →
+    alone_of text ≡ unless_more (Some number) front
+alone_fault text rest front number read behind said =
+    ap (alone text) read ∙ ap (λ (r : List ℕ). unless_more (first_said (front.line + 1) (lines_of r)) front) (sym behind) ∙ ap (λ (o : Option ℕ). unless_more o front) (sym said)
+
+pub IsTextOf-read : (text rest : List ℕ) (front : Front) (p : Problem) → front_of text ≡ Ok front → rest ≡ after_lines front.line text → None ≡ first_said (front.line + 1) (lines_of rest) → Says front.state p → IsTextOf p text
+IsTextOf-read text rest front p read behind said says = record {
+  front = front;
+  read = ap (alone text) read ∙ ap (λ (r : List ℕ). unless_more (first_said (front.line + 1) (lines_of r)) front) (sym behind) ∙ ap (λ (o : Option ℕ). unless_more o front) (sym said);
+  says = says;
+}

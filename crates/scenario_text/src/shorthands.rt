@@ -1,0 +1,283 @@
+//! Lines that say something of all cells at once: `grid`, `spread` and `rate`.
+
+ghost use Rattle.std.specs.Prelude.{◌≡◌, ◌≤◌, ◌*◌, ◌-◌, ◌==◌, ◌++◌, ◌∷◌, [], nat_lt, if◌then◌else◌, map, filter, replicate, length, is_some, false, Ok, IfOk, OnOk};
+ghost use Rattle.std.specs.List.{list_any};
+ghost use Rattle.scenario_text.specs.Fields.{number_in as number_in_lem};
+ghost use Rattle.scenario_text.specs.Grids.{grid_name as grid_name_lem, grid_names as grid_names_lem, rest_of as rest_lem, spread_row as spread_row_lem, spread_rows as spread_rows_lem};
+ghost use Rattle.scenario_text.specs.State.{state_of};
+ghost use Rattle.scenario_text.specs.Sound.{IsSound};
+ghost use Rattle.scenario_text.specs.Gives.{TakesLine};
+ghost use Rattle.scenario_text.specs.Reading.{with_cells, with_grid, with_spread, spread_part, spread_line, with_rate, rate_part, rate_line};
+
+use crate::digits::Digits;
+use crate::draft::{Draft, Stage};
+use crate::kind::TextKind;
+use crate::number_field::{MOST_PART, is_bad, is_over, number_at, number_in};
+use crate::stop::LineStop;
+use drift_chain::DriftPart;
+use exact_parts::Number;
+use indexmap::IndexSet;
+use search_grid::Grid;
+use std::alloc::{AllocError, Global};
+
+/// The most cells.
+const MOST_CELLS: u128 = 200;
+
+fn grid_name(alloc: Global, cols: u8, c: u8) -> Result<Vec<u8>, AllocError>
+    requires { 1 ≤ cols }
+    ensures { IfOk result (λ name. name.items ≡ grid_name_lem cols c) }
+{
+    let row = Digits::of(u32::from(c / cols));
+    let col = Digits::of(u32::from(c % cols));
+    let mut name = Vec::new(alloc);
+    name.push(b'r')?;
+    name.extend_from_slice(row.bytes())?;
+    name.push(b'c')?;
+    name.extend_from_slice(col.bytes())?;
+    Ok(name)
+}
+
+fn grid_names(alloc: Global, rows: u8, cols: u8) -> Result<IndexSet<Vec<u8>>, AllocError>
+    requires some { (1 ≤ rows) × (1 ≤ cols) }
+    requires few { rows * cols ≤ 200 }
+    ensures { IfOk result (λ names. map (λ n. n.items) names.keys ≡ grid_names_lem rows cols) }
+{
+    let mut names = IndexSet::new(alloc);
+    for c in 0..rows * cols {
+        let name = grid_name(alloc, cols, c)?;
+        names.insert(name)?;
+    }
+    Ok(names)
+}
+
+fn rows_of(alloc: Global, grid: &Grid) -> Result<Vec<Vec<u8>>, AllocError>
+    ensures { IfOk result (λ rows. map (λ row. row.items) rows.items ≡ grid.now) }
+{
+    let mut rows = Vec::new(alloc);
+    for c in 0..grid.cells() {
+        let mut row = Vec::new(alloc);
+        row.extend_from_slice(grid.moves(c))?;
+        rows.push(row)?;
+    }
+    Ok(rows)
+}
+
+fn no_parts(alloc: Global, cells: u8) -> Result<Vec<Vec<DriftPart>>, AllocError>
+    ensures { IfOk result (λ rows. map (λ row. row.items) rows.items ≡ replicate cells []) }
+{
+    let mut rows = Vec::new(alloc);
+    for _ in 0..cells {
+        rows.push(Vec::new(alloc))?;
+    }
+    Ok(rows)
+}
+
+fn set_cells(alloc: Global, draft: &mut Draft, rows: u8, cols: u8) -> Result<(), LineStop>
+    requires some { (1 ≤ rows) × (1 ≤ cols) }
+    requires few { rows * cols ≤ 200 }
+    ensures { TakesLine draft.new result (Ok (with_cells (state_of draft.old) rows cols)) }
+{
+    let grid = match Grid::four_neighbour(alloc, rows, cols) {
+        Ok(grid) => grid,
+        Err(_) => return Err(LineStop::NoMemory),
+    };
+    draft.names = grid_names(alloc, rows, cols)?;
+    draft.moves = rows_of(alloc, &grid)?;
+    draft.parts = no_parts(alloc, rows * cols)?;
+    draft.overlook = vec![in alloc; None; (rows * cols) as usize]?;
+    draft.gridded = true;
+    draft.stage = Stage::Start;
+    Ok(())
+}
+
+/// `grid R C`, by its numbers
+pub fn take_grid(
+    alloc: Global,
+    draft: &mut Draft,
+    rows: Number,
+    cols: Number,
+) -> Result<(), LineStop>
+    requires rows { number_in_lem rows ≤ 200 }
+    requires cols { number_in_lem cols ≤ 200 }
+    ensures { TakesLine draft.new result (with_grid (state_of draft.old) rows cols) }
+{
+    if is_bad(rows, 1) || is_bad(cols, 1) {
+        return Err(LineStop::Fault(TextKind::BadNumber));
+    }
+    if is_over(rows) || is_over(cols) {
+        return Err(LineStop::Fault(TextKind::OverLimit));
+    }
+    let (rows, cols) = (number_in(rows), number_in(cols));
+    if rows * cols > 200 {
+        return Err(LineStop::Fault(TextKind::OverLimit));
+    }
+    set_cells(alloc, draft, rows as u8, cols as u8)
+}
+
+// Whether so many side neighbours take more than the denominator.
+fn takes_more(denominator: u32, part: u32, moves: usize) -> bool
+    ensures { result ≡ nat_lt denominator (part * (moves - 1)) }
+{
+    u128::from(denominator) < u128::from(part) * (moves.saturating_sub(1) as u128)
+}
+
+fn any_takes_more(rows: &[Vec<u8>], denominator: u32, part: u32) -> bool
+    ensures { result ≡ list_any (λ row. nat_lt denominator (part * (length row.items - 1))) rows.now }
+{
+    rows.iter()
+        .any(|row| takes_more(denominator, part, row.len()))
+}
+
+fn any_parts(rows: &[Vec<DriftPart>]) -> bool
+    ensures { result ≡ list_any (λ row. nat_lt 0 (length row.items)) rows.now }
+{
+    rows.iter().any(|row| !row.is_empty())
+}
+
+// What stays in a cell of so many moves.
+fn rest_of(denominator: u32, part: u32, moves: usize) -> u32
+    requires { part * (moves - 1) ≤ denominator }
+    ensures { result ≡ rest_lem denominator part moves }
+{
+    let taken = u128::from(part) * (moves.saturating_sub(1) as u128);
+    (u128::from(denominator) - taken) as u32
+}
+
+// The part that a move takes in the row of a cell, to which the rest goes.
+fn part_to(c: u8, rest: u32, part: u32, m: u8) -> u32
+    ensures { result ≡ (if m == c then rest else part) }
+{
+    if m == c { rest } else { part }
+}
+
+// Adds an entry, unless its part is 0.
+fn push_part(row: &mut Vec<DriftPart>, entry: DriftPart) -> Result<(), AllocError>
+    ensures { OnOk result (row.new.items ≡ row.old.items ++ filter (λ e. nat_lt 0 e.part) (entry ∷ [])) }
+{
+    if entry.part > 0 {
+        row.push(entry)?;
+    }
+    Ok(())
+}
+
+fn spread_row(
+    alloc: Global,
+    denominator: u32,
+    part: u32,
+    c: u8,
+    moves: &[u8],
+) -> Result<Vec<DriftPart>, AllocError>
+    requires { part * (length moves.now - 1) ≤ denominator }
+    ensures { IfOk result (λ row. row.items ≡ spread_row_lem denominator part c moves.now) }
+{
+    let rest = rest_of(denominator, part, moves.len());
+    let mut row = Vec::new(alloc);
+    for m in moves {
+        push_part(
+            &mut row,
+            DriftPart {
+                cell: *m,
+                part: part_to(c, rest, part, *m),
+            },
+        )?;
+    }
+    Ok(row)
+}
+
+fn spread_rows(
+    alloc: Global,
+    denominator: u32,
+    part: u32,
+    moves: &[Vec<u8>],
+) -> Result<Vec<Vec<DriftPart>>, AllocError>
+    requires few { length moves.now ≤ 200 }
+    requires enough { list_any (λ row. nat_lt denominator (part * (length row.items - 1))) moves.now ≡ false }
+    ensures { IfOk result (λ rows. map (λ row. row.items) rows.items ≡ spread_rows_lem denominator part (map (λ row. row.items) moves.now)) }
+{
+    let mut rows = Vec::new(alloc);
+    for (c, row) in moves.iter().enumerate() {
+        rows.push(spread_row(alloc, denominator, part, c as u8, row)?)?;
+    }
+    Ok(rows)
+}
+
+fn set_spread(alloc: Global, draft: &mut Draft, part: u32) -> Result<(), LineStop>
+    requires { IsSound (state_of draft.old) }
+    ensures { TakesLine draft.new result (with_spread (state_of draft.old) part) }
+{
+    if any_parts(&draft.parts) {
+        return Err(LineStop::Fault(TextKind::DoubleRow));
+    }
+    if any_takes_more(&draft.moves, draft.drift, part) {
+        return Err(LineStop::Fault(TextKind::WrongSum));
+    }
+    draft.parts = spread_rows(alloc, draft.drift, part, &draft.moves)?;
+    Ok(())
+}
+
+fn set_spread_part(alloc: Global, draft: &mut Draft, part: Number) -> Result<(), LineStop>
+    requires sound { IsSound (state_of draft.old) }
+    requires within { number_in_lem part ≤ 1000000 }
+    ensures { TakesLine draft.new result (spread_part (state_of draft.old) part) }
+{
+    if is_bad(part, 0) {
+        return Err(LineStop::Fault(TextKind::BadNumber));
+    }
+    if is_over(part) {
+        return Err(LineStop::Fault(TextKind::OverLimit));
+    }
+    set_spread(alloc, draft, number_in(part))
+}
+
+/// `spread PART`, behind its keyword
+pub fn take_spread(alloc: Global, draft: &mut Draft, fields: &[&[u8]]) -> Result<(), LineStop>
+    requires { IsSound (state_of draft.old) }
+    ensures { TakesLine draft.new result (spread_line (state_of draft.old) (map (λ f. f.now) fields.now)) }
+{
+    match fields {
+        [part] if draft.gridded => set_spread_part(alloc, draft, number_at(part, MOST_PART)),
+        _ => Err(LineStop::Fault(TextKind::BadLine)),
+    }
+}
+
+fn any_overlook(parts: &[Option<u32>]) -> bool
+    ensures { result ≡ list_any (λ o. is_some o) parts.now }
+{
+    parts.iter().any(|o| o.is_some())
+}
+
+fn set_rate(alloc: Global, draft: &mut Draft, part: u32) -> Result<(), LineStop>
+    ensures { TakesLine draft.new result (with_rate (state_of draft.old) part) }
+{
+    if any_overlook(&draft.overlook) {
+        return Err(LineStop::Fault(TextKind::DoubleRow));
+    }
+    if part > draft.look {
+        return Err(LineStop::Fault(TextKind::PartOver));
+    }
+    draft.overlook = vec![in alloc; Some(part); draft.names.len()]?;
+    Ok(())
+}
+
+fn set_rate_part(alloc: Global, draft: &mut Draft, part: Number) -> Result<(), LineStop>
+    requires { number_in_lem part ≤ 1000000 }
+    ensures { TakesLine draft.new result (rate_part (state_of draft.old) part) }
+{
+    if is_bad(part, 0) {
+        return Err(LineStop::Fault(TextKind::BadNumber));
+    }
+    if is_over(part) {
+        return Err(LineStop::Fault(TextKind::OverLimit));
+    }
+    set_rate(alloc, draft, number_in(part))
+}
+
+/// `rate PART`, behind its keyword
+pub fn take_rate(alloc: Global, draft: &mut Draft, fields: &[&[u8]]) -> Result<(), LineStop>
+    ensures { TakesLine draft.new result (rate_line (state_of draft.old) (map (λ f. f.now) fields.now)) }
+{
+    match fields {
+        [part] => set_rate_part(alloc, draft, number_at(part, MOST_PART)),
+        _ => Err(LineStop::Fault(TextKind::BadLine)),
+    }
+}
