@@ -1,0 +1,93 @@
+-- That the bound fits: what a prefix misses by the masses after it, no reward above the whole weight, and no sum of them
+-- above so many whole weights.
+use Rattle.std.proofs.Common.{ℕ, suc, ◌+◌, ◌*◌, ◌-◌, ◌^◌, ◌<◌, ◌≤◌, ◌≡◌, List, length, sym, ap, ◌∙◌, arith, sum, sum_by}
+use Rattle.std.specs.List.{range_with_len}
+use Rattle.std.proofs.lemmas.List.Sums.{sum-map}
+use Rattle.std.proofs.Math.Nat.{pow-suc, mul-le-mul_left, le_refl, one-le-pow, one-le-mul}
+use Rattle.std.proofs.lemmas.Nat.{mul-le}
+use Rattle.exact_parts.proofs.Widths.{scaled_part_fits}
+use Rattle.sweep_table.specs.LookParts.{factor_of}
+use Rattle.search_model.specs.Problem.{Problem, IsProblem}
+use Rattle.search_model.specs.Tracks.{missed_weight, whole_weight}
+use Rattle.search_model.specs.Bounds.{reward_of}
+use Rattle.search_model.proofs.Sums.{sum_by-range-le, sum_by-times}
+use Rattle.search_model.proofs.Totals.{nothing_is_cut_off, whole_weight-fits}
+use Rattle.longest_walk.specs.Sums.{entry_at, greatest_sum, highest_sum}
+use Rattle.longest_walk.proofs.Highest.{highest_above, highest_below}
+use Rattle.belief_update.specs.Masses.{mass_of, masses_of, looks_to}
+use Rattle.belief_update.specs.Belief.{BeliefState, IsBelief}
+use Rattle.belief_update.proofs.Missed.{missed_by_masses_hold}
+use Rattle.belief_update.proofs.Rewards.{rewards_by_masses_hold}
+use Rattle.mean_bound.specs.Rewards.{found_of, HasRewards}
+use Rattle.mean_bound.proofs.Found.{found_is}
+
+-- what is found of some masses, times the parts to come, is within all of them times these and one look's parts
+scaled_within : (found most masses g drifts looks : ℕ) → found ≤ most → most ≡ masses * g → found * drifts * looks ≤ masses * drifts * (looks * g)
+scaled_within found most masses g drifts looks le is =
+    let within : found ≤ masses * g = omega (arith, le, is) in
+    let scaled = mul-le _ _ _ _ within (le_refl (drifts * looks)) in
+    omega (arith, scaled)
+
+module _ (p : Problem) (sound : IsProblem p) (q : List ℕ) where
+  -- the masses of a belief after a prefix, times the parts of what is to come, are what the prefix misses
+  pub missed_is : (t : ℕ) (b : BeliefState) → 1 ≤ t → length q ≤ t → t ≤ p.horizon → IsBelief p (looks_to t q) b →
+      sum b.masses * (p.drift.denominator ^ (p.horizon - t) * p.sweep.denominator ^ (p.horizon - length q)) ≡ missed_weight p q
+  missed_is t b some short last belief =
+      let law = missed_by_masses_hold p sound q t some short last in
+      rw belief.masses (omega (arith, law))
+
+  -- a look finds no more than is missed
+  reward-le_missed : (t a : ℕ) → length q < t → t ≤ p.horizon → reward_of p q t a ≤ missed_weight p q
+  reward-le_missed t a later last =
+      let all = range_with_len 0 p.cells in
+      let g = p.sweep.denominator in
+      let mass : ℕ → ℕ = mass_of p (looks_to t q) in
+      let drifts = p.drift.denominator ^ (p.horizon - t) in
+      let looks = g ^ (p.horizon - length q - 1) in
+      let found : sum_by (λ c. mass c * (g - factor_of p.sweep t a c)) all ≤ sum_by (λ c. mass c * g) all =
+      sum_by-range-le p.cells (λ c. mass c * (g - factor_of p.sweep t a c)) (λ c. mass c * g) (λ c lt. mul-le-mul_left (mass c) (omega arith)) in
+      let whole : sum_by (λ c. mass c * g) all ≡ sum (masses_of p (looks_to t q)) * g = sum_by-times mass g all ∙ ap (λ (s : ℕ). s * g) (sym (sum-map mass all)) in
+      let more : g ^ (p.horizon - length q) ≡ looks * g = ap (λ (n : ℕ). g ^ n) (let e : p.horizon - length q ≡ suc (p.horizon - length q - 1) = omega (arith, later, last) in e) ∙ pow-suc g (p.horizon - length q - 1) in
+      let missed = missed_by_masses_hold p sound q t (omega (arith, later)) (omega (arith, later)) last in
+      let reward = rewards_by_masses_hold p sound q t a later last in
+      rw (reward, missed, more) (scaled_within _ _ _ g drifts looks found whole)
+
+  -- no reward is above the whole weight
+  pub reward-le : (t a : ℕ) → length q < t → t ≤ p.horizon → reward_of p q t a ≤ whole_weight p
+  reward-le t a later last = omega (arith, reward-le_missed t a later last, nothing_is_cut_off p q sound)
+
+  -- nor do the greatest rewards of all periods sum to more than so many times the whole weight
+  pub highest-le : (rewards : List ℕ) → length q < p.horizon → HasRewards p q rewards →
+      highest_sum p.cells (entry_at p.cells rewards) (p.horizon - length q) (length q + 1) ≤ (p.horizon - length q) * whole_weight p
+  highest-le rewards short each =
+      highest_below p.cells (whole_weight p) (entry_at p.cells rewards) (p.horizon - length q) (length q + 1) (λ u a from to here.
+      let later : length q < u = omega (arith, from) in
+      let last : u ≤ p.horizon = omega (arith, to, short) in
+      rw (each u a later last here) (reward-le u a later last))
+
+  -- and no walk after the prefix has more
+  pub greatest-le : (a : ℕ) → length q < p.horizon → a < length p.moves →
+      greatest_sum p.moves (reward_of p q) (p.horizon - length q) (length q + 1) a ≤ (p.horizon - length q) * whole_weight p
+  greatest-le a short here =
+      let above = highest_above p.moves (reward_of p q) (p.horizon - length q) (length q + 1) a sound.grid here in
+      let below = highest_below (length p.moves) (whole_weight p) (reward_of p q) (p.horizon - length q) (length q + 1) (λ u c from to there. reward-le u c (omega (arith, from)) (omega (arith, to, short))) in
+      omega (arith, above, below)
+
+  -- so many whole weights, and one more, fit
+  pub weights_fit : (n : ℕ) → n ≤ p.horizon → n * whole_weight p + whole_weight p < 2 ^ 127
+  weights_fit n few =
+      let fits = scaled_part_fits p.total p.drift.denominator p.sweep.denominator p.horizon (n + 1) (p.horizon - 1) p.horizon (omega (arith, sound.drift.denominator)) (omega (arith, sound.sweep.denominator)) sound.fits (omega (arith, few)) (omega arith) (omega arith) in
+      omega (arith, fits)
+
+  -- what a look finds fits
+  pub found_fits : (t a : ℕ) (b : BeliefState) → length q < t → t ≤ p.horizon → a < p.cells → IsBelief p (looks_to t q) b →
+      found_of p b (p.drift.denominator ^ (p.horizon - t) * p.sweep.denominator ^ (p.horizon - (length q + 1))) a < 2 ^ 127
+  found_fits t a b later last here belief =
+      omega (arith, found_is p sound q t a b later last here belief, reward-le t a later last, whole_weight-fits p sound)
+
+-- there are some parts to come
+pub some_parts : (p : Problem) → IsProblem p → (i j : ℕ) → 1 ≤ p.drift.denominator ^ i * p.sweep.denominator ^ j
+some_parts p sound i j =
+    let drifts = one-le-pow i p.drift.denominator (omega (arith, sound.drift.denominator)) in
+    let looks = one-le-pow j p.sweep.denominator (omega (arith, sound.sweep.denominator)) in
+    one-le-mul drifts looks

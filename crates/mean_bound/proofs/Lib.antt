@@ -1,0 +1,5 @@
+pub mod Found
+pub mod Fitting
+pub mod Rows
+pub mod Walked
+pub mod TrailSteps

@@ -1,0 +1,37 @@
+-- What contracts see of the tables of the mean bound, and when they are right.
+use Rattle.std.specs.Prelude.{ℕ, ◌≡◌, ◌+◌, ◌-◌, ◌*◌, ◌<◌, ◌++◌, List, length}
+use Rattle.search_model.specs.Problem.{Problem}
+use Rattle.search_model.specs.Legal.{last_of, IsLegal}
+use Rattle.search_model.specs.Bounds.{reward_of}
+use Rattle.longest_walk.specs.Sums.{IsLeastBest}
+use Rattle.longest_walk.specs.Tables.{Tables, IsFilled}
+use Rattle.mean_bound.specs.declared.trail.Trail.{Trail}
+use Rattle.mean_bound.specs.Trails.{IsTrailFor}
+use Rattle.mean_bound.specs.Rewards.{HasRewards}
+
+-- the beliefs along the last prefix, the rewards after the last one that was bounded, and the walks of these rewards
+pub record MeanState : Type 0 where
+  pub trail : Trail
+  pub rewards : List ℕ
+  pub walk : Tables
+
+-- the tables were made for this scenario
+pub record IsMadeFor (p : Problem) (m : MeanState) : Type 0 where
+  pub trail_for : IsTrailFor p m.trail
+  pub size : length m.rewards ≡ p.horizon * p.cells
+  pub cells : m.walk.cells ≡ p.cells
+  pub horizon : m.walk.horizon ≡ p.horizon
+
+-- the tables hold the rewards after this legal prefix, and the walks of these rewards from its last position
+pub record IsFilledFor (p : Problem) (q : List ℕ) (m : MeanState) : Type 0 where
+  pub legal : IsLegal p q
+  pub short : length q < p.horizon
+  pub rewarded : HasRewards p q m.rewards
+  pub walked : IsFilled m.walk p.moves m.rewards (last_of p.start q) (length q)
+
+-- a prefix, followed by the least of its continuations that reach the greatest sum of rewards
+abbrev pub AddsLeastBest : Problem → List ℕ → List ℕ → Type 0
+AddsLeastBest p q whole =
+    (y : List ℕ)
+    × (whole ≡ q ++ y)
+    × IsLeastBest p.moves (reward_of p q) (p.horizon - length q) (length q + 1) (last_of p.start q) y

@@ -1,0 +1,13 @@
+//! The mean bound (Martins 1993): the value of a prefix, and the greatest sum of the rewards that looks after it would
+//! have if each of them were the only one.
+#![tactic(auto)]
+
+mod mean;
+mod parts;
+mod rewards;
+#[cfg(test)]
+mod tests;
+mod trail;
+mod values;
+
+pub use mean::Mean;
