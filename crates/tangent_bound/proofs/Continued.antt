@@ -1,0 +1,84 @@
+-- The walks below a prefix of a path, over a table of gains.
+use Rattle.std.proofs.Common.{ℕ, ◌+◌, ◌*◌, ◌-◌, ◌<◌, ◌≤◌, ◌≡◌, List, [], ◌∷◌, ◌++◌, length, take, drop, refl, sym, ap, ◌∙◌, arith, subst, All, length-drop}
+use Rattle.std.proofs.lemmas.List.{take-append-drop}
+use Rattle.std.proofs.lemmas.List.Elements.{All-head, All-tail, All-drop}
+use Rattle.search_model.specs.Problem.{Problem, IsProblem}
+use Rattle.search_model.specs.Legal.{last_of, Follows, IsLegal, IsPath}
+use Rattle.search_model.specs.Bounds.{sum_along, gain_of}
+use Rattle.search_model.proofs.LegalLemmas.{last_within}
+use Rattle.search_model.proofs.WalkLemmas.{walk_listed, follows-append}
+use Rattle.longest_walk.specs.Sums.{entry_at, greatest_sum, highest_sum}
+use Rattle.longest_walk.proofs.Steps.{sum_along-below}
+use Rattle.longest_walk.proofs.Highest.{same_rewards_same_sum, highest_above, highest_below}
+use Rattle.tangent_bound.specs.Gains.{AreGains}
+use Rattle.tangent_bound.proofs.Found.{gain-le}
+use Rattle.tangent_bound.proofs.Sizes.{most_of}
+use Rattle.tangent_bound.proofs.WholePath.{all_within}
+
+-- numbers that agree along some positions have the same sum
+sum_along-agree : (cells : ℕ) (r s : ℕ → ℕ → ℕ) (t : ℕ) (y : List ℕ) → All (λ a. a < cells) y → ((u a : ℕ) → t ≤ u → u < t + length y → a < cells → r u a ≡ s u a) →
+    sum_along r t y ≡ sum_along s t y
+unfolding sum_along
+sum_along-agree cells r s t [] within agree = refl
+sum_along-agree cells r s t (b ∷ y) within agree =
+    let first : r t b ≡ s t b = agree t b (omega arith) (omega arith) (All-head (λ a. a < cells) b y within) in
+    let rest = sum_along-agree cells r s (t + 1) y (All-tail (λ a. a < cells) b y within) (λ u a from to here. agree u a (omega (arith, from)) (omega (arith, to)) here) in
+    omega (arith, first, rest)
+
+-- a prefix with periods left, a reference path that begins with it, and the gains of the periods after it
+pub record IsTable (p : Problem) (rate : ℕ) (q x gains : List ℕ) : Type 0 where
+  pub sound : IsProblem p
+  pub prefix : IsLegal p q
+  pub more : length q < p.horizon
+  pub path : IsPath p x
+  pub begins : take (length q) x ≡ q
+  pub are : AreGains p rate x (length q) p.horizon gains
+
+module _ {p : Problem} {rate : ℕ} {q x gains : List ℕ} (table : IsTable p rate q x gains) where
+  positions : length p.moves ≡ p.cells
+  positions = table.sound.grid_positions ∙ table.sound.positions
+
+  -- the last position of the prefix is one
+  pub last_inside : last_of p.start q < length p.moves
+  last_inside = last_within p.moves table.sound.grid p.start (omega (arith, table.sound.start, table.sound.grid_positions)) q table.prefix.follows
+
+  -- the rest of the reference goes on from the prefix
+  rest_follows : Follows p.moves (last_of p.start q) (drop (length q) x)
+  rest_follows =
+      let whole : q ++ drop (length q) x ≡ x = ap (λ (y : List ℕ). y ++ drop (length q) x) (sym table.begins) ∙ take-append-drop (length q) x in
+      ((follows-append p.moves p.start q (drop (length q) x)).0 (subst (Follows p.moves p.start) (sym whole) table.path.follows)).1
+
+  rest_long : length (drop (length q) x) ≡ p.horizon - length q
+  rest_long = omega (arith, length-drop (length q) x, table.path.whole)
+
+  -- so its sum is no more than the greatest
+  pub rest_below : sum_along (entry_at p.cells gains) (length q + 1) (drop (length q) x) ≤ greatest_sum p.moves (entry_at p.cells gains) (p.horizon - length q) (length q + 1) (last_of p.start q)
+  rest_below = sum_along-below p.moves (entry_at p.cells gains) (p.horizon - length q) (length q + 1) (last_of p.start q) (drop (length q) x) (walk_listed p.moves (p.horizon - length q) (last_of p.start q) (drop (length q) x) rest_follows rest_long)
+
+  -- the numbers of the periods after the prefix are gains
+  agree : (u a : ℕ) → length q + 1 ≤ u → u < length q + 1 + (p.horizon - length q) → a < p.cells → entry_at p.cells gains u a ≡ gain_of p rate x u a
+  agree u a from to here = table.are u (omega (arith, from)) (omega (arith, to, table.more)) a here
+
+  -- the highest of them are bounded
+  pub highest_bounded : highest_sum p.cells (entry_at p.cells gains) (p.horizon - length q) (length q + 1) ≤ (p.horizon - length q) * most_of p
+  highest_bounded =
+      highest_below p.cells (most_of p) (entry_at p.cells gains) (p.horizon - length q) (length q + 1)
+      (λ u a from to here. rw (agree u a from to here) (gain-le p table.sound x table.path u (omega (arith, from)) (omega (arith, to, table.more)) rate a here))
+
+  -- so is the greatest sum
+  pub greatest_bounded : greatest_sum p.moves (entry_at p.cells gains) (p.horizon - length q) (length q + 1) (last_of p.start q) ≤ (p.horizon - length q) * most_of p
+  greatest_bounded =
+      omega (arith, rw positions at (highest_above p.moves (entry_at p.cells gains) (p.horizon - length q) (length q + 1) (last_of p.start q) table.sound.grid last_inside), highest_bounded)
+
+  -- the greatest sum is that of the gains
+  pub greatest_is : greatest_sum p.moves (entry_at p.cells gains) (p.horizon - length q) (length q + 1) (last_of p.start q) ≡ greatest_sum p.moves (gain_of p rate x) (p.horizon - length q) (length q + 1) (last_of p.start q)
+  greatest_is =
+      same_rewards_same_sum p.moves (entry_at p.cells gains) (gain_of p rate x) (p.horizon - length q) (length q + 1) (last_of p.start q) table.sound.grid last_inside
+      (λ u a from to here. agree u a from to (omega (arith, here, positions)))
+
+  -- and so is the sum along the rest of the reference
+  pub rest_is : sum_along (entry_at p.cells gains) (length q + 1) (drop (length q) x) ≡ sum_along (gain_of p rate x) (length q + 1) (drop (length q) x)
+  rest_is =
+      sum_along-agree p.cells (entry_at p.cells gains) (gain_of p rate x) (length q + 1) (drop (length q) x)
+      (rw table.sound.positions at (All-drop (λ a. a < p.positions) (length q) x (all_within p table.sound x table.path.follows)))
+      (λ u a from to here. agree u a from (omega (arith, to, rest_long)) here)

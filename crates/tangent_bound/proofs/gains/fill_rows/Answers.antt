@@ -1,0 +1,12 @@
+use Rattle.tangent_bound.proofs.RowSteps.{gains_more}
+use Rattle.tangent_bound.proofs.gains.fill_rows.Goals as goal
+
+pub loop-n-preserved : goal.loop-n-preserved
+loop-n-preserved c =
+    let p = c.args.sc.now in
+    let x = c.args.reference.now in
+    let row = c.fill_row.ensures.row x (record { path = c.requires.path; belief = c.look_on.ensures; backward = c.requires.backward }) in
+    record {
+      gains = gains_more p c.args.rate x c.args.k c.loop-n.n c.loop-n.gains c.fill_row.new.gains c.loop-n.invariant.gains row c.fill_row.ensures.earlier;
+      belief = c.look_on.ensures;
+    }

@@ -1,0 +1,136 @@
+//! The gains of one more look, over a flat table: period after period, and in each position after position.
+
+ghost use Rattle.std.specs.Prelude.{◌≡◌, ◌<◌, ◌≤◌, ◌+◌, ◌-◌, ◌*◌, ◌^◌, ℕ, List, length, slice_index, take, drop, All};
+ghost use Rattle.search_model.specs.Legal.{IsLegal, IsPath};
+ghost use Rattle.search_model.specs.Bounds.{gain_of, sum_along};
+ghost use Rattle.belief_update.specs.Belief.{BeliefState};
+ghost use Rattle.backward_mass.specs.Table.{IsMadeFor, IsFilled};
+ghost use Rattle.longest_walk.specs.Sums.{entry_at};
+ghost use Rattle.tangent_bound.specs.Gains.{IsAfter, IsMet, IsGainRow, AreGains};
+
+use crate::steps::look_on;
+use backward_mass::Backward;
+use belief_update::{Belief, prefix_value};
+use search_model::{Path, Scenario};
+
+/// What one more look from position `a` in period `t` finds of what the reference misses, where the belief is after the
+/// reference's look of that period. A look covers its own cell alone, and there only where it finds something at all.
+fn gain(sc: &Scenario, rate: u32, belief: &Belief, backward: &Backward, t: u32, a: u8) -> u128
+    requires rate { rate ≤ sc.now.sweep.denominator }
+    requires met { (path : List ℕ) × IsMet sc.now path t belief.now backward.now }
+    requires first { 1 ≤ t }
+    requires last { t ≤ sc.now.horizon }
+    requires position { a < sc.now.cells }
+    ensures { (path : List ℕ) → IsMet sc.now path t belief.now backward.now → result ≡ gain_of sc.now rate path t a }
+{
+    let _sound = sc.cells();
+    let sweep = sc.sweep();
+    let denominator = sweep.denominator();
+    if sweep.factor(t, a, a) < denominator {
+        let before = belief.at(a);
+        let after = backward.at(t, a);
+        u128::from(denominator - rate) * (before * after)
+    } else {
+        0
+    }
+}
+
+/// Writes the gains of period `t`, where the belief is after the reference's look of that period.
+fn fill_row(
+    gains: &mut [u128],
+    sc: &Scenario,
+    rate: u32,
+    belief: &Belief,
+    backward: &Backward,
+    t: u32,
+)
+    requires size { length gains.old ≡ sc.now.horizon * sc.now.cells }
+    requires rate { rate ≤ sc.now.sweep.denominator }
+    requires met { (path : List ℕ) × IsMet sc.now path t belief.now backward.now }
+    requires first { 1 ≤ t }
+    requires last { t ≤ sc.now.horizon }
+    ensures row { (path : List ℕ) → IsMet sc.now path t belief.now backward.now → IsGainRow sc.now rate path t gains.new }
+    ensures earlier { (i : ℕ) → i < (t - 1) * sc.now.cells → slice_index gains.new i ≡ slice_index gains.old i }
+{
+    let here = (t as usize - 1) * usize::from(sc.cells());
+    for a in 0..sc.cells() {
+        gains[here + usize::from(a)] = gain(sc, rate, belief, backward, t, a);
+    }
+}
+
+/// Writes the gains of the periods after `k`, where the belief is after the first `k` looks of the reference, and leaves
+/// the belief after all its looks.
+fn fill_rows(
+    gains: &mut [u128],
+    sc: &Scenario,
+    rate: u32,
+    belief: &mut Belief,
+    backward: &Backward,
+    reference: &Path,
+    k: u32,
+)
+    requires size { length gains.old ≡ sc.now.horizon * sc.now.cells }
+    requires rate { rate ≤ sc.now.sweep.denominator }
+    requires path { IsPath sc.now reference.now }
+    requires backward { IsFilled sc.now reference.now backward.now }
+    requires belief { IsAfter sc.now (take k reference.now) belief.old }
+    requires period { k ≤ sc.now.horizon }
+    ensures gains { AreGains sc.now rate reference.now k sc.now.horizon gains.new }
+    ensures belief { IsAfter sc.now reference.now belief.new }
+{
+    for n in k..sc.horizon() {
+        look_on(sc, belief, reference, n);
+        fill_row(gains, sc, rate, belief, backward, n + 1);
+    }
+}
+
+/// Writes the gains of the periods after a prefix of the reference, and leaves the belief after the reference's looks.
+/// What the prefix finds by itself isn't asked for: only the belief after it is.
+pub(crate) fn fill_after(
+    gains: &mut [u128],
+    sc: &Scenario,
+    rate: u32,
+    belief: &mut Belief,
+    backward: &mut Backward,
+    prefix: &Path,
+    reference: &Path,
+)
+    requires size { length gains.old ≡ sc.now.horizon * sc.now.cells }
+    requires rate { rate ≤ sc.now.sweep.denominator }
+    requires cells { length belief.old.masses ≡ sc.now.cells }
+    requires made { IsMadeFor sc.now backward.old }
+    requires prefix { IsLegal sc.now prefix.now }
+    requires path { IsPath sc.now reference.now }
+    requires begins { take (length prefix.now) reference.now ≡ prefix.now }
+    ensures gains { AreGains sc.now rate reference.now (length prefix.now) sc.now.horizon gains.new }
+    ensures belief { IsAfter sc.now reference.now belief.new }
+    ensures made { IsMadeFor sc.now backward.new }
+{
+    backward.fill(sc, reference);
+    let _found = prefix_value(sc, belief, prefix);
+    fill_rows(
+        gains,
+        sc,
+        rate,
+        belief,
+        backward,
+        reference,
+        prefix.len() as u32,
+    );
+}
+
+/// The sum of the gains along a path after its first `k` positions.
+pub(crate) fn sum_after(gains: &[u128], cells: u8, path: &[u8], k: u32) -> u128
+    requires size { length gains.now ≡ length path.now * cells }
+    requires within { All (λ a. a < cells) path.now }
+    requires few { length path.now ≤ 32 }
+    requires period { k ≤ length path.now }
+    requires fits { sum_along (entry_at cells gains.now) (k + 1) (drop k path.now) < 2 ^ 128 }
+    ensures { result ≡ sum_along (entry_at cells gains.now) (k + 1) (drop k path.now) }
+{
+    let mut sum = 0;
+    for n in k as usize..path.len() {
+        sum += gains[n * usize::from(cells) + usize::from(path[n])];
+    }
+    sum
+}

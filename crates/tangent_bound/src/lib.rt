@@ -1,0 +1,10 @@
+//! The tangent bound: how much the paths below a prefix find at most, by convexity at a reference path.
+#![tactic(auto)]
+
+mod gains;
+mod steps;
+mod tangent;
+#[cfg(test)]
+mod tests;
+
+pub use tangent::Tangent;
