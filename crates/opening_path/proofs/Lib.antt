@@ -1,0 +1,4 @@
+pub mod FirstLeast
+pub mod GreedySteps
+pub mod Openings
+pub mod OneOpening
