@@ -1,0 +1,5 @@
+pub mod Rule
+pub mod Kits
+pub mod Thefts
+pub mod Pools
+pub mod News
