@@ -1,2 +1,10 @@
+pub mod TrackMembers
+pub mod Continuing
+pub mod Misses
+pub mod MeanBound
+pub mod Tangents
+pub mod Closing
+pub mod Convex
+pub mod TangentBound
 pub mod EatLemmas
 pub mod Accepted

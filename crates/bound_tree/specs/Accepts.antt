@@ -28,6 +28,10 @@ IsGoodKind p s q (Tangent b whole) =
 abbrev pub IsGood : Problem → Standing → TreeNode → Type 0
 IsGood p s r = IsGoodKind p s r.prefix r.kind
 
+-- the prefixes of records
+abbrev pub prefixes_of : List TreeNode → List (List ℕ)
+prefixes_of records = map (λ r. r.prefix) records
+
 -- the legal children of a prefix, ascending
 abbrev pub children_of : Problem → List ℕ → List (List ℕ)
 children_of p q = map (λ a. q ++ a ∷ []) (moves_after p q)

@@ -1,5 +1,7 @@
 //! Laws over the definitions.
 
+ghost use Rattle.bound_tree.specs.BoundLaws.{MeanIsAbove, LooksAreConvex, TangentIsAbove};
+ghost use Rattle.bound_tree.specs.CutLaws.{CutStays, FinerCutStays, ClosedStays, MeanStays, BranchedBefore, ClosesOnce, ClosedIsGood};
 ghost use Rattle.bound_tree.specs.Eat.{EatenByEither};
 ghost use Rattle.bound_tree.specs.Laws.{AcceptedIsBest};
 
@@ -9,8 +11,55 @@ pub fn eaten_by_either()
     ensures { EatenByEither }
 {}
 
-/// The path of an accepted plan whose records are branches and whole paths alone is the best.
+/// The path of an accepted plan is the best.
 #[tactic(auto, using(crate::proofs::Accepted::accepted_plan_is_best))]
 pub fn accepted_is_best()
     ensures { AcceptedIsBest }
+{}
+
+/// No path finds more than the mean bound of a prefix that it extends (Martins 1993).
+#[tactic(auto, using(crate::proofs::MeanBound::mean_is_above))]
+pub fn mean_is_above()
+    ensures { MeanIsAbove }
+{}
+
+/// What looks at one rate miss of a target is convex in the number of looks that cover it.
+#[tactic(auto, using(crate::proofs::Convex::looks_are_convex))]
+pub fn looks_are_convex()
+    ensures { LooksAreConvex }
+{}
+
+/// At one rate the tangent bound of a prefix is no less than what each path that extends it finds, times the look
+/// denominator.
+#[tactic(auto, using(crate::proofs::TangentBound::tangent_is_above))]
+pub fn tangent_is_above()
+    ensures { TangentIsAbove }
+{}
+
+/// What a standing cuts, every better standing cuts, also in finer parts, with which a tangent is compared.
+#[tactic(auto, using(crate::proofs::Closing::cut_stays, crate::proofs::Closing::finer_cut_stays))]
+pub fn cut_stays()
+    ensures whole { CutStays }
+    ensures finer { FinerCutStays }
+{}
+
+/// What is closed by a bound is closed by a bound under better standings, by the mean bound if it was that, and what
+/// branches under a standing branched under the worse ones.
+#[tactic(auto, using(crate::proofs::Closing::closed_stays, crate::proofs::Closing::mean_stays))]
+pub fn closed_stays()
+    ensures stays { ClosedStays }
+    ensures mean { MeanStays }
+    ensures before { BranchedBefore }
+{}
+
+/// Under a standing each legal prefix is closed in exactly one way.
+#[tactic(auto, using(crate::proofs::Closing::closes_once))]
+pub fn closes_once()
+    ensures { ClosesOnce }
+{}
+
+/// What is closed under a standing is good in itself under that standing and every better one, where it isn't a whole
+/// path that is better still.
+pub fn closed_is_good()
+    ensures { ClosedIsGood }
 {}

@@ -1,12 +1,17 @@
 //! Trees of bounds: the records that show why no path is better than a plan's.
 #![tactic(auto)]
 
+mod cut;
 mod laws;
 mod node;
 mod plan;
 mod tree;
 
-pub use laws::{accepted_is_best, eaten_by_either};
+pub use cut::{cuts, in_parts};
+pub use laws::{
+    accepted_is_best, closed_is_good, closed_stays, closes_once, cut_stays, eaten_by_either,
+    looks_are_convex, mean_is_above, tangent_is_above,
+};
 pub use node::{Kind, TreeNode};
 pub use plan::Plan;
 pub use tree::BoundTree;

@@ -1,24 +1,33 @@
--- A full plan is certified.
-use Rattle.std.proofs.Common.{ℕ, ◌==◌, List, length, sym, subst}
-use Rattle.std.proofs.lemmas.Bool.{cond_both}
-use Rattle.search_model.specs.Problem.{Problem, IsProblem}
+-- A plan that the search gives from the opening is certified.
+use Rattle.std.proofs.Common.{ℕ, ◌≡◌, ap, subst}
+use Rattle.search_model.specs.declared.standing.Standing.{Standing}
+use Rattle.search_model.specs.Problem.{Problem}
 use Rattle.search_model.specs.Tracks.{value_of}
-use Rattle.bound_tree.specs.declared.node.Kind.TheVariants.{Branch, Whole}
+use Rattle.search_model.specs.Order.{IsBest, standing_of}
+use Rattle.search_model.specs.Opening.{IsOpening}
 use Rattle.bound_tree.specs.declared.plan.Plan.{Plan}
-use Rattle.bound_tree.specs.FullTree.{full_kind}
-use Rattle.bound_tree.specs.Laws.{IsPlainKind}
-use Rattle.path_listing.specs.Plans.{IsFullPlan}
-use Rattle.path_listing.proofs.Eaten.{full_plan_accepted}
+use Rattle.bound_tree.specs.Accepts.{Accepts}
+use Rattle.bound_tree.specs.Close.{IsExact}
+use Rattle.tree_search.specs.Plans.{BranchesWhereOpen, HasMoreLive}
 use Rattle.plan_command.specs.Plans.{IsCertified}
 
-full_kind_plain : (p : Problem) (q : List ℕ) → IsPlainKind (full_kind p q)
-full_kind_plain p q = cond_both (length q == p.horizon) (Whole (value_of p q)) Branch IsPlainKind (λ _. tt) (λ _. tt)
+-- an opening's standing is the path with its value
+opening_standing : (p : Problem) (s : Standing) → s.value ≡ value_of p s.path → s ≡ standing_of p s.path
+opening_standing p s value = ap (λ (n : ℕ). let t : Standing = record { path = s.path; value = n } in t) value
 
-pub full_plan_certified : (p : Problem) (plan : Plan) → IsProblem p → IsFullPlan p plan → IsCertified p plan
-full_plan_certified p plan sound full = record {
-  best = full.best;
-  value = full.value;
-  weight = full.weight;
-  plain = λ k d lt. subst IsPlainKind (sym (full.tree.kinds k d lt)) (full_kind_plain p _);
-  accepted = full_plan_accepted p plan sound full;
+pub opening_exact : (p : Problem) (s : Standing) → IsOpening p s.path → s.value ≡ value_of p s.path → IsExact p s
+opening_exact p s opening value = record { path = opening.path; value = value }
+
+pub searched_certified : (p : Problem) (s : Standing) (plan : Plan) → IsOpening p s.path → s.value ≡ value_of p s.path → IsBest p plan.standing.path → Accepts p plan → BranchesWhereOpen p s plan.tree → IsCertified p plan
+searched_certified p s plan opening value best accepts branches = record {
+  best = best;
+  value = accepts.value;
+  weight = accepts.weight;
+  accepted = accepts;
+  opening = s.path;
+  is_opening = opening;
+  branches = subst (λ t. BranchesWhereOpen p t plan.tree) (opening_standing p s value) branches;
 }
+
+pub more_live : (p : Problem) (s : Standing) (limit : ℕ) → s.value ≡ value_of p s.path → HasMoreLive p s limit → HasMoreLive p (standing_of p s.path) limit
+more_live p s limit value more = subst (λ t. HasMoreLive p t limit) (opening_standing p s value) more

@@ -13,7 +13,7 @@ use Rattle.plan_command.specs.Words.{Spells, limit_of}
 use Rattle.plan_command.specs.Lines.{status_of}
 use Rattle.plan_command.specs.Commands.{Answers, Refuses}
 use Rattle.plan_command.specs.Run.{Shown, ReadWhole, Delivered, Refused, Stopped, Ends, ending_of, status_at, Says}
-use Rattle.plan_command.specs.Complete.{IsHeard, IsUndisturbed, IsStopDue, IsDue}
+use Rattle.plan_command.specs.Complete.{IsHeard, IsUndisturbed, IsStopDue, IsDue, IsByText}
 use Rattle.plan_command.proofs.Exclusive.{answers_or_refuses, refuses_once}
 
 -- words spell at most one request
@@ -70,7 +70,7 @@ module _ (words : List (List ℕ)) (before after : Shown) (request : Request) (i
       inl (mine.text, told_answer calm.heard mine.input status mine.text mine.read mine.answers)
   ends_as_due (Err stops.Usage) ends calm short = absurd (ends.0 request calm.heard.spelled)
   ends_as_due (Err (stops.BadScenario fault)) (r, spelled, refused) calm short = refused_due calm.heard (stops.BadScenario fault) (of_request (λ r. Refused r before after (stops.BadScenario fault)) calm.heard r spelled refused)
-  ends_as_due (Err stops.BadPlan) (r, spelled, refused) calm short = refused_due calm.heard stops.BadPlan (of_request (λ r. Refused r before after stops.BadPlan) calm.heard r spelled refused)
+  ends_as_due (Err (stops.BadPlan fault)) (r, spelled, refused) calm short = refused_due calm.heard (stops.BadPlan fault) (of_request (λ r. Refused r before after (stops.BadPlan fault)) calm.heard r spelled refused)
   ends_as_due (Err stops.ReadFault) (r, spelled, fault) calm short = absurd (calm.heard.read fault.0)
   ends_as_due (Err stops.WriteFault) (r, spelled, fault) calm short = absurd (calm.write fault.0)
   ends_as_due (Err stops.NoMemory) ends calm short = inr (inr refl)
@@ -80,25 +80,25 @@ module _ (words : List (List ℕ)) (before after : Shown) (request : Request) (i
       let long = too_long_of_told calm.heard mine.0 in absurd (omega (arith, short, long))
 
   -- a refusal of the input is told, whatever the sink does
-  other_refusal : IsHeard words before after request input → (stop other : Stop) → Refuses request input stop → Refused request before after other → IsStopDue stop (status_of other)
-  other_refusal heard stop other due refused = inl (ap status_of (refuses_once request input other stop (told_refusal heard other refused) due))
+  other_refusal : IsHeard words before after request input → (stop other : Stop) → IsByText stop → Refuses request input stop → Refused request before after other → IsStopDue stop (status_of other)
+  other_refusal heard stop other by due refused = inl (ap status_of (refuses_once request input other stop by (told_refusal heard other refused) due))
 
   pub ends_refused : (result : Result Status Stop) (stop : Stop) → Ends words before after (ending_of result) →
-      IsHeard words before after request input → length input ≤ limit_of request → Refuses request input stop → IsStopDue stop (status_at (ending_of result))
-  ends_refused (Ok status) stop (r, spelled, delivered) heard short due =
+      IsHeard words before after request input → length input ≤ limit_of request → Refuses request input stop → IsByText stop → IsStopDue stop (status_at (ending_of result))
+  ends_refused (Ok status) stop (r, spelled, delivered) heard short due by =
       let mine = of_request (λ r. Delivered r before after status) heard r spelled delivered in
-      absurd (answers_or_refuses request input status mine.text stop (told_answer heard mine.input status mine.text mine.read mine.answers) due)
-  ends_refused (Err stops.Usage) stop ends heard short due = absurd (ends.0 request heard.spelled)
-  ends_refused (Err (stops.BadScenario fault)) stop (r, spelled, refused) heard short due = other_refusal heard stop (stops.BadScenario fault) due (of_request (λ r. Refused r before after (stops.BadScenario fault)) heard r spelled refused)
-  ends_refused (Err stops.BadPlan) stop (r, spelled, refused) heard short due = other_refusal heard stop stops.BadPlan due (of_request (λ r. Refused r before after stops.BadPlan) heard r spelled refused)
-  ends_refused (Err stops.ReadFault) stop (r, spelled, fault) heard short due = absurd (heard.read fault.0)
-  ends_refused (Err stops.WriteFault) stop (r, spelled, fault) heard short due =
+      absurd (answers_or_refuses request input status mine.text stop by (told_answer heard mine.input status mine.text mine.read mine.answers) due)
+  ends_refused (Err stops.Usage) stop ends heard short due by = absurd (ends.0 request heard.spelled)
+  ends_refused (Err (stops.BadScenario fault)) stop (r, spelled, refused) heard short due by = other_refusal heard stop (stops.BadScenario fault) by due (of_request (λ r. Refused r before after (stops.BadScenario fault)) heard r spelled refused)
+  ends_refused (Err (stops.BadPlan fault)) stop (r, spelled, refused) heard short due by = other_refusal heard stop (stops.BadPlan fault) by due (of_request (λ r. Refused r before after (stops.BadPlan fault)) heard r spelled refused)
+  ends_refused (Err stops.ReadFault) stop (r, spelled, fault) heard short due by = absurd (heard.read fault.0)
+  ends_refused (Err stops.WriteFault) stop (r, spelled, fault) heard short due by =
       let mine = of_request (λ r. Stopped r before after stops.WriteFault) heard r spelled fault in
       let cut = mine.1 in
-      absurd (answers_or_refuses request input cut.status cut.text stop (told_answer heard cut.input cut.status cut.text cut.read cut.answers) due)
-  ends_refused (Err stops.NoMemory) stop ends heard short due = inr refl
-  ends_refused (Err (stops.TooManyNodes limit)) stop (r, spelled, refused) heard short due = other_refusal heard stop (stops.TooManyNodes limit) due (of_request (λ r. Refused r before after (stops.TooManyNodes limit)) heard r spelled refused)
-  ends_refused (Err stops.TooLong) stop (r, spelled, taken) heard short due =
+      absurd (answers_or_refuses request input cut.status cut.text stop by (told_answer heard cut.input cut.status cut.text cut.read cut.answers) due)
+  ends_refused (Err stops.NoMemory) stop ends heard short due by = inr refl
+  ends_refused (Err (stops.TooManyNodes limit)) stop (r, spelled, refused) heard short due by = other_refusal heard stop (stops.TooManyNodes limit) by due (of_request (λ r. Refused r before after (stops.TooManyNodes limit)) heard r spelled refused)
+  ends_refused (Err stops.TooLong) stop (r, spelled, taken) heard short due by =
       let mine = of_request (λ r. Stopped r before after stops.TooLong) heard r spelled taken in
       let long = too_long_of_told heard mine.0 in absurd (omega (arith, short, long))
 
@@ -110,8 +110,8 @@ module _ (words : List (List ℕ)) (before after : Shown) (request : Request) (i
   ends_longer (Err stops.Usage) ends heard long = absurd (ends.0 request heard.spelled)
   ends_longer (Err (stops.BadScenario fault)) (r, spelled, refused) heard long =
       let mine = of_request (λ r. Refused r before after (stops.BadScenario fault)) heard r spelled refused in absurd (not_longer heard mine.input mine.read long)
-  ends_longer (Err stops.BadPlan) (r, spelled, refused) heard long =
-      let mine = of_request (λ r. Refused r before after stops.BadPlan) heard r spelled refused in absurd (not_longer heard mine.input mine.read long)
+  ends_longer (Err (stops.BadPlan fault)) (r, spelled, refused) heard long =
+      let mine = of_request (λ r. Refused r before after (stops.BadPlan fault)) heard r spelled refused in absurd (not_longer heard mine.input mine.read long)
   ends_longer (Err stops.ReadFault) (r, spelled, fault) heard long = absurd (heard.read fault.0)
   ends_longer (Err stops.WriteFault) (r, spelled, fault) heard long =
       let mine = of_request (λ r. Stopped r before after stops.WriteFault) heard r spelled fault in

@@ -10,7 +10,6 @@ use Rattle.scenario_text.specs.Scenarios.{IsTextOf}
 use Rattle.bound_tree.specs.declared.plan.Plan.{Plan as APlan}
 use Rattle.bound_tree.specs.Accepts.{Accepts}
 use Rattle.bound_tree.proofs.Accepted.{accepted_plan_is_best}
-use Rattle.path_listing.specs.Plans.{HasMoreNodes}
 use Rattle.tree_format.specs.PlanText.{plan_text}
 use Rattle.tree_checker.specs.declared.verdict.RejectAt.{RejectAt}
 use Rattle.tree_checker.specs.Reasons.{first_reason}
@@ -47,18 +46,17 @@ accepting p plan text verdict = elim verdict [
 
 module _ (words : List (List ℕ)) (before after : Shown) where
   pub planned_input : (status : Status) → Ends words before after (delivered status) → Spells words Plan → status ≡ statuses.Done →
-      (p : Problem) × (input : List ℕ) × IsTextOf p input × (HasMoreNodes p 1048576 → ⊥)
+      (p : Problem) × (input : List ℕ) × IsTextOf p input
       × Consumes before.left after.left input × IsAtEnd after.left
       × ((plan : APlan) × IsCertified p plan × Appends before.wrote after.wrote (plan_text p plan))
   planned_input status (r, spelled, whole) asked done =
       let P : Request → Type 0 = λ r. Delivered r before after status in
       let d = subst P (spelled_once words r Plan spelled asked) whole in
       let found = d.answers.1 in
-      let certified = found.3 in (
+      let certified = found.2 in (
         found.0,
         d.input,
         found.1,
-        found.2,
         d.read.taken,
         d.read.ended,
         (certified.0, certified.1, subst (λ t. Appends before.wrote after.wrote t) certified.2 d.written),
@@ -78,7 +76,7 @@ module _ (words : List (List ℕ)) (before after : Shown) where
         d.input,
         d.read.taken,
         d.read.ended,
-        (p, read.0, plan, read.1, told.1, taken.0, accepted_plan_is_best p plan read.1.front.says.sound told.1.plain taken.0),
+        (p, read.0, plan, read.1, told.1, taken.0, accepted_plan_is_best p plan read.1.front.says.sound taken.0),
         subst (λ t. Appends before.wrote after.wrote t) taken.1 d.written,
       )
 
@@ -115,7 +113,7 @@ module _ (words : List (List ℕ)) (before after : Shown) where
   write_failed stops.WriteFault (r, spelled, fault) e = (fault.0, (r, spelled, fault.1))
   write_failed stops.Usage ends e = let bad : ⊥ = cc in absurd bad
   write_failed (stops.BadScenario fault) ends e = let bad : ⊥ = cc in absurd bad
-  write_failed stops.BadPlan ends e = let bad : ⊥ = cc in absurd bad
+  write_failed (stops.BadPlan fault) ends e = let bad : ⊥ = cc in absurd bad
   write_failed stops.ReadFault ends e = let bad : ⊥ = cc in absurd bad
   write_failed stops.NoMemory ends e = let bad : ⊥ = cc in absurd bad
   write_failed (stops.TooManyNodes limit) ends e = let bad : ⊥ = cc in absurd bad

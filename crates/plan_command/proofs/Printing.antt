@@ -1,45 +1,56 @@
--- A full plan can be written.
-use Rattle.std.proofs.Common.{ℕ, ◌≡◌, ◌<◌, ◌≤◌, ◌==◌, List, length, sym, subst, arith, get_or, Contains}
-use Rattle.std.proofs.lemmas.List.{length-map, get_or-map}
-use Rattle.std.proofs.lemmas.Bool.{cond_both}
+-- An accepted plan can be written.
+use Rattle.std.proofs.Common.{ℕ, ◌≤◌, List, [], ◌∷◌, ◌++◌, length, sym, subst, arith, All, Contains}
+use Rattle.std.proofs.lemmas.List.Elements.{All-nil, All-cons, All-head, All-tail, All-append, All-map, All-weaker, All-contains_itself}
+use Rattle.search_model.specs.declared.standing.Standing.{Standing}
 use Rattle.search_model.specs.Problem.{Problem, IsProblem}
-use Rattle.search_model.specs.Legal.{Follows, IsLegal}
-use Rattle.search_model.specs.Tracks.{value_of}
+use Rattle.search_model.specs.Legal.{Follows, IsLegal, moves_after}
 use Rattle.search_model.proofs.PlainSteps.{positions_follow}
 use Rattle.bound_tree.specs.declared.node.Kind.{Kind}
-use Rattle.bound_tree.specs.declared.node.Kind.TheVariants.{Branch, Whole}
+use Rattle.bound_tree.specs.declared.node.Kind.TheVariants.{Branch, Whole, Mean, Tangent}
 use Rattle.bound_tree.specs.declared.node.TreeNode.{TreeNode}
 use Rattle.bound_tree.specs.declared.plan.Plan.{Plan}
-use Rattle.bound_tree.specs.FullTree.{full_kind, prefixes_of}
-use Rattle.path_listing.specs.Plans.{IsFullPlan}
+use Rattle.bound_tree.specs.Accepts.{IsGoodKind, expected_by, AreEaten, Accepts}
+use Rattle.tree_search.proofs.Orderly.{legal_further}
 use Rattle.tree_format.specs.PlanText.{ArePositions, IsPrintableKind, IsPrintableRecord, IsPrintable}
 
--- a record's prefix is among the prefixes
-holds_prefix : (records : List TreeNode) (k : ℕ) (d : TreeNode) → k < length records → Contains (prefixes_of records) (get_or records k d).prefix
-holds_prefix records k d lt = (k, rw (length-map records (λ r. r.prefix)) lt, get_or-map (λ (r : TreeNode). r.prefix) records k d (get_or records k d).prefix lt)
-
-module _ (p : Problem) (sound : IsProblem p) where
+module _ (p : Problem) (sound : IsProblem p) (s : Standing) where
   follows_positions : (q : List ℕ) → Follows p.moves p.start q → ArePositions p q
   follows_positions q follows = positions_follow p sound p.start (omega (arith, sound.start, sound.grid_positions)) q follows
 
-  full_kind_printable : (q : List ℕ) → IsPrintableKind p (full_kind p q)
-  full_kind_printable q = cond_both (length q == p.horizon) (Whole (value_of p q)) Branch (IsPrintableKind p) (λ _. tt) (λ _. tt)
+  kind_printable : (q : List ℕ) (kind : Kind) → IsGoodKind p s q kind → IsPrintableKind p kind
+  kind_printable q Branch good = tt
+  kind_printable q (Whole n) good = tt
+  kind_printable q (Mean b) good = tt
+  kind_printable q (Tangent b whole) good = let path = good.1.2.path in (follows_positions whole path.follows, path.whole)
 
-  -- the record of a legal prefix can be written
-  record_printable : (r : TreeNode) → IsLegal p r.prefix → r.kind ≡ full_kind p r.prefix → IsPrintableRecord p r
-  record_printable r legal kind = record {
-    positions = follows_positions r.prefix legal.follows;
-    short = legal.short;
-    kind = (let P : Kind → Type 0 = IsPrintableKind p in subst P (sym kind) (full_kind_printable r.prefix));
-  }
+  -- what a record makes expected is legal
+  legal_expected : (q : List ℕ) (kind : Kind) → IsLegal p q → IsGoodKind p s q kind → All (IsLegal p) (expected_by p q kind)
+  legal_expected q Branch legal good =
+      All-map (IsLegal p) (λ d. q ++ d ∷ []) (moves_after p q)
+      (All-weaker (Contains (moves_after p q)) (λ d. IsLegal p (q ++ d ∷ [])) (λ d move. legal_further p q d legal good move) (moves_after p q) (All-contains_itself (moves_after p q)))
+  legal_expected q (Whole n) legal good = All-nil (IsLegal p)
+  legal_expected q (Mean b) legal good = All-nil (IsLegal p)
+  legal_expected q (Tangent b whole) legal good = All-nil (IsLegal p)
 
-  pub full_plan_printable : (plan : Plan) → IsFullPlan p plan → length plan.tree ≤ 1048576 → IsPrintable p plan
-  full_plan_printable plan full few = record {
-    some = omega (arith, full.best.path.whole, sound.horizon);
-    short = omega (arith, full.best.path.whole, sound.horizon);
-    positions = follows_positions plan.standing.path full.best.path.follows;
-    few = few;
-    records = λ k d lt.
-        let r = get_or plan.tree k d in
-        record_printable r ((full.tree.legal r.prefix).1 (holds_prefix plan.tree k d lt)) (full.tree.kinds k d lt);
-  }
+  -- records that are eaten can be written
+  eaten_printable : (qs : List (List ℕ)) (rs : List TreeNode) → All (IsLegal p) qs → AreEaten p s qs rs → All (IsPrintableRecord p) rs
+  eaten_printable [] [] legal eaten = All-nil (IsPrintableRecord p)
+  eaten_printable [] (r ∷ rs) legal eaten = absurd eaten
+  eaten_printable (q ∷ qs) [] legal eaten = absurd eaten
+  eaten_printable (q ∷ qs) (r ∷ rs) legal eaten =
+      let here : IsLegal p r.prefix = subst (IsLegal p) (sym eaten.0) (All-head (IsLegal p) q qs legal) in
+      let more = All-append (IsLegal p) (expected_by p r.prefix r.kind) qs (legal_expected r.prefix r.kind here eaten.1) (All-tail (IsLegal p) q qs legal) in
+      All-cons (IsPrintableRecord p) r rs
+      (record { positions = follows_positions r.prefix here.follows; short = here.short; kind = kind_printable r.prefix r.kind eaten.1 })
+      (eaten_printable (expected_by p r.prefix r.kind ++ qs) rs more eaten.2)
+
+pub accepted_printable : (p : Problem) (plan : Plan) → IsProblem p → Accepts p plan → length plan.tree ≤ 1048576 → IsPrintable p plan
+accepted_printable p plan sound accepts few =
+    let empty : IsLegal p [] = record { follows = tt; short = omega arith } in
+    record {
+      some = omega (arith, accepts.path.whole, sound.horizon);
+      short = omega (arith, accepts.path.whole, sound.horizon);
+      positions = follows_positions p sound plan.standing plan.standing.path accepts.path.follows;
+      few = few;
+      records = eaten_printable p sound plan.standing ([] ∷ []) plan.tree (All-cons (IsLegal p) [] [] empty (All-nil (IsLegal p))) accepts.tree;
+    }

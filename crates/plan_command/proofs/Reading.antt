@@ -1,14 +1,17 @@
 -- A scenario and a plan on one input.
-use Rattle.std.proofs.Common.{ℕ, ◌≡◌, ◌≢◌, false, List, ◌++◌, drop, Result, Ok, Err, IfOk, refl, sym, ap, subst, ◌∙◌}
-use Rattle.std.specs.Prelude.{IsErrOf}
-use Rattle.search_model.specs.Problem.{Problem}
+use Rattle.std.proofs.Common.{ℕ, ◌≡◌, false, List, drop, Result, Ok, Err, refl, sym, subst, ◌∙◌}
+use Rattle.search_model.specs.Problem.{Problem, IsProblem}
 use Rattle.scenario_text.specs.Scenarios.{IsFront}
 use Rattle.bound_tree.specs.declared.plan.Plan.{Plan}
-use Rattle.bound_tree.specs.Laws.{IsPlain}
+use Rattle.tree_format.specs.declared.kind.PlanFault.{PlanFault}
 use Rattle.tree_format.specs.declared.stop.PlanStop.{PlanStop}
-use Rattle.tree_format.specs.declared.stop.PlanStop.TheVariants.{NotPlan, NoMemory}
-use Rattle.tree_format.specs.PlanText.{plan_text, IsPrintable, IsNarrow}
-use Rattle.plan_command.specs.Plans.{BeginsWith, IsPlanRest}
+use Rattle.tree_format.specs.declared.stop.PlanStop.TheVariants.{Fault, NoMemory}
+use Rattle.tree_format.specs.PlanText.{plan_text, IsPlanText}
+use Rattle.tree_format.specs.Reading.{plan_at}
+use Rattle.tree_format.specs.Gives.{ReadsPlan}
+use Rattle.tree_format.proofs.ReadsBack.{plan_text_reads_back, one_plan_a_text}
+use Rattle.tree_format.proofs.Spelled.{one_text_a_plan}
+use Rattle.plan_command.specs.Plans.{BeginsWith, IsPlanRest, HasFault}
 use Rattle.plan_command.specs.Spaces.{starts_with_space, SkipsSpaces}
 use Rattle.plan_command.specs.Checks.{ReadsRest}
 use Rattle.plan_command.proofs.SpaceLemmas.{skipped_alike}
@@ -18,26 +21,45 @@ plan_text_starts : (p : Problem) (plan : Plan) → starts_with_space (plan_text 
 plan_text_starts p plan = refl
 
 -- the plan behind the blanks that are skipped is the plan of the rest
-pub rest_read : (p : Problem) (rest tail : List ℕ) (result : Result Plan PlanStop) → SkipsSpaces rest tail →
-    IfOk result (λ plan. tail ≡ plan_text p plan) → IfOk result (IsPrintable p) → IfOk result IsNarrow → IfOk result IsPlain →
-    (IsErrOf result NotPlan → (plan : Plan) → IsPrintable p plan → IsNarrow plan → IsPlain plan → tail ≢ plan_text p plan) → ReadsRest p rest result
-rest_read p rest tail (Ok plan) skips is printable narrow plain none = record {
+pub rest_read : (p : Problem) (rest tail : List ℕ) (result : Result Plan PlanStop) → IsProblem p → SkipsSpaces rest tail → ReadsPlan p tail result → ReadsRest p rest result
+rest_read p rest tail (Ok plan) sound skips reads = record {
   blanks = skips.blanks;
   only = skips.only;
-  printable = printable;
-  narrow = narrow;
-  plain = plain;
-  text = skips.whole ∙ ap (λ (t : List ℕ). skips.blanks ++ t) is;
+  text = tail;
+  spelled = one_text_a_plan p plan tail sound reads;
+  whole = skips.whole;
 }
-rest_read p rest tail (Err NotPlan) skips is printable narrow plain none =
-    λ plan reads. none refl plan reads.printable reads.narrow reads.plain
-    (skipped_alike skips.blanks reads.blanks tail (plan_text p plan) skips.only reads.only skips.stops (plan_text_starts p plan) (sym skips.whole ∙ reads.text))
-rest_read p rest tail (Err NoMemory) skips is printable narrow plain none = tt
+rest_read p rest tail (Err (Fault fault)) sound skips reads = record { text = tail; skips = skips; read = reads }
+rest_read p rest tail (Err NoMemory) sound skips reads = tt
 
 -- what follows the front is the rest
 pub front_read : (p : Problem) (input : List ℕ) (n : ℕ) → IsFront input p n → BeginsWith p input (drop n input)
 front_read p input n front = record { bytes = n; front = front; follows = refl }
 
--- where no plan was read there is none
-pub none_read : (p : Problem) (rest : List ℕ) (stop : PlanStop) → stop ≡ NotPlan → ReadsRest p rest (Err stop) → (plan : Plan) → IsPlanRest p rest plan → ⊥
-none_read p rest stop is read = subst (λ s. ReadsRest p rest (Err s)) is read
+-- a rest reads in one way
+read_or_not : (read : Result Plan PlanFault) (plan : Plan) (fault : PlanFault) → read ≡ Ok plan → read ≡ Err fault → ⊥
+read_or_not read plan fault h g = cc
+
+same_fault : (read : Result Plan PlanFault) (a b : PlanFault) → read ≡ Err a → read ≡ Err b → a ≡ b
+same_fault read a b h g = cc
+
+-- the rest is a plan's text or has a fault
+pub plan_or_fault : (p : Problem) (rest : List ℕ) (plan : Plan) (fault : PlanFault) → IsProblem p → IsPlanRest p rest plan → HasFault p rest fault → ⊥
+plan_or_fault p rest plan fault sound is has =
+    let starts = subst (λ t. starts_with_space t ≡ false) (sym is.spelled.spelled) (plan_text_starts p plan) in
+    let same = skipped_alike is.blanks has.skips.blanks is.text has.text is.only has.skips.only starts has.skips.stops (sym is.whole ∙ has.skips.whole) in
+    let reads : plan_at p is.text ≡ Ok plan = subst (λ t. plan_at p t ≡ Ok plan) (sym is.spelled.spelled) (plan_text_reads_back p plan sound is.spelled.printable is.spelled.narrow) in
+    read_or_not (plan_at p is.text) plan fault reads (subst (λ t. plan_at p t ≡ Err fault) (sym same) has.read)
+
+-- and one first fault
+pub one_plan_fault : (p : Problem) (rest : List ℕ) (a b : PlanFault) → HasFault p rest a → HasFault p rest b → a ≡ b
+one_plan_fault p rest a b h g =
+    let same = skipped_alike h.skips.blanks g.skips.blanks h.text g.text h.skips.only g.skips.only h.skips.stops g.skips.stops (sym h.skips.whole ∙ g.skips.whole) in
+    same_fault (plan_at p h.text) a b h.read (subst (λ t. plan_at p t ≡ Err b) (sym same) g.read)
+
+-- and of one plan
+pub same_plan : (p : Problem) (rest : List ℕ) (a b : Plan) → IsProblem p → IsPlanRest p rest a → IsPlanRest p rest b → a ≡ b
+same_plan p rest a b sound h g =
+    let starts : (plan : Plan) (text : List ℕ) → text ≡ plan_text p plan → starts_with_space text ≡ false = λ plan text is. subst (λ t. starts_with_space t ≡ false) (sym is) (plan_text_starts p plan) in
+    let same = skipped_alike h.blanks g.blanks h.text g.text h.only g.only (starts a h.text h.spelled.spelled) (starts b g.text g.spelled.spelled) (sym h.whole ∙ g.whole) in
+    one_plan_a_text p a b h.text sound h.spelled (subst (λ t. IsPlanText p b t) (sym same) g.spelled)

@@ -3,8 +3,7 @@ use Rattle.std.proofs.Common.{ℕ, suc, zero, ◌≡◌, ◌<◌, ◌≤◌, ◌
 use Rattle.std.specs.List.{list_all}
 use Rattle.std.specs.Prelude.{◌&&◌}
 use Rattle.std.proofs.lemmas.List.{append-nil, take-append-drop, take_all}
-use Rattle.plan_command.specs.Plans.{is_space}
-use Rattle.plan_command.specs.Spaces.{starts_with_space, SkipsSpaces}
+use Rattle.plan_command.specs.Spaces.{is_space, starts_with_space, SkipsSpaces}
 
 both : (a b : Bool) → (a && b) ≡ true → (a ≡ true) × (b ≡ true)
 both true true e = (refl, refl)

@@ -8,20 +8,20 @@ use Rattle.tree_format.specs.declared.stop.PlanStop.TheVariants as plan_stops
 use Rattle.plan_command.specs.declared.answer.Answer.{Answer}
 use Rattle.plan_command.specs.declared.status.Stop.{Stop}
 use Rattle.plan_command.specs.declared.status.Stop.TheVariants as stops
-use Rattle.plan_command.specs.Plans.{BeginsWith, IsPlanRest}
-use Rattle.plan_command.specs.Commands.{HasNoPlan, IsVerdict}
+use Rattle.plan_command.specs.Plans.{BeginsWith, IsPlanRest, HasFault}
+use Rattle.plan_command.specs.Commands.{HasBadPlan, IsVerdict}
 
--- the plan that follows blanks, or there is none, or no memory was found
+-- the plan that follows blanks, or its first fault, or no memory was found
 abbrev pub ReadsRest : Problem → List ℕ → Result Plan PlanStop → Type 0
 ReadsRest p rest (Ok plan) = IsPlanRest p rest plan
-ReadsRest p rest (Err plan_stops.NotPlan) = (plan : Plan) → IsPlanRest p rest plan → ⊥
+ReadsRest p rest (Err (plan_stops.Fault fault)) = HasFault p rest fault
 ReadsRest p rest (Err plan_stops.NoMemory) = Unit {0}
 
 -- the scenario and the plan of the input, or what it lacks
 abbrev pub ReadsBoth : List ℕ → Result (Problem × Plan) Stop → Type 0
 ReadsBoth input (Ok both) = (rest : List ℕ) × BeginsWith both.0 input rest × IsPlanRest both.0 rest both.1
 ReadsBoth input (Err (stops.BadScenario fault)) = front_of input ≡ Err fault
-ReadsBoth input (Err stops.BadPlan) = HasNoPlan input
+ReadsBoth input (Err (stops.BadPlan fault)) = HasBadPlan input fault
 ReadsBoth input (Err stops.NoMemory) = Unit {0}
 ReadsBoth input (Err _) = ⊥
 

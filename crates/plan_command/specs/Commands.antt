@@ -10,19 +10,22 @@ use Rattle.tree_format.specs.PlanText.{plan_text}
 use Rattle.tree_checker.specs.declared.verdict.RejectAt.{RejectAt}
 use Rattle.tree_checker.specs.Reasons.{first_reason}
 use Rattle.tree_checker.specs.Whys.{name_of}
-use Rattle.path_listing.specs.Plans.{HasMoreNodes}
+use Rattle.search_model.specs.Order.{standing_of}
+use Rattle.search_model.specs.Opening.{IsOpening}
+use Rattle.tree_format.specs.declared.kind.PlanFault.{PlanFault}
+use Rattle.tree_search.specs.Plans.{HasMoreLive}
 use Rattle.plan_command.specs.declared.request.Request.{Request}
 use Rattle.plan_command.specs.declared.request.Request.TheVariants.{Plan, Check}
 use Rattle.plan_command.specs.declared.status.Status.{Status}
 use Rattle.plan_command.specs.declared.status.Status.TheVariants as statuses
 use Rattle.plan_command.specs.declared.status.Stop.{Stop}
 use Rattle.plan_command.specs.declared.status.Stop.TheVariants as stops
-use Rattle.plan_command.specs.Plans.{IsCertified, BeginsWith, IsPlanRest}
+use Rattle.plan_command.specs.Plans.{IsCertified, BeginsWith, IsPlanRest, HasFault}
 
--- the text of a certified plan of the input's scenario, which has no more legal prefixes than the limit
+-- the text of a certified plan of the input's scenario
 abbrev pub IsPlanned : List ℕ → List ℕ → Type 0
 IsPlanned input text =
-    (p : Problem) × IsTextOf p input × (HasMoreNodes p 1048576 → ⊥) × ((plan : APlan) × IsCertified p plan × (text ≡ plan_text p plan))
+    (p : Problem) × IsTextOf p input × ((plan : APlan) × IsCertified p plan × (text ≡ plan_text p plan))
 
 -- a plan that is accepted, or the first reason against it with its line
 abbrev pub IsVerdict : Problem → APlan → Status → List ℕ → Type 0
@@ -41,19 +44,19 @@ abbrev pub Answers : Request → List ℕ → Status → List ℕ → Type 0
 Answers Plan input status text = (status ≡ statuses.Done) × IsPlanned input text
 Answers Check input status text = IsChecked input status text
 
--- the input is the text of a scenario with more legal prefixes than the limit
+-- the input is the text of a scenario with more live prefixes under its opening than the limit
 abbrev pub IsTooLarge : List ℕ → ℕ → Type 0
-IsTooLarge input limit = (p : Problem) × IsTextOf p input × HasMoreNodes p limit
+IsTooLarge input limit = (p : Problem) × IsTextOf p input × ((opening : List ℕ) × IsOpening p opening × HasMoreLive p (standing_of p opening) limit)
 
--- the input begins with a scenario, and what follows is no plan
-abbrev pub HasNoPlan : List ℕ → Type 0
-HasNoPlan input = (p : Problem) × ((rest : List ℕ) × BeginsWith p input rest × ((plan : APlan) → IsPlanRest p rest plan → ⊥))
+-- the input begins with a scenario, and what follows has this first fault
+abbrev pub HasBadPlan : List ℕ → PlanFault → Type 0
+HasBadPlan input fault = (p : Problem) × ((rest : List ℕ) × BeginsWith p input rest × HasFault p rest fault)
 
--- the request refuses the input
+-- the request refuses the input; too many nodes are told only where there are too many live prefixes
 abbrev pub Refuses : Request → List ℕ → Stop → Type 0
 Refuses Plan input (stops.BadScenario fault) = alone_of input ≡ Err fault
 Refuses Plan input (stops.TooManyNodes limit) = (limit ≡ 1048576) × IsTooLarge input limit
 Refuses Plan input _ = ⊥
 Refuses Check input (stops.BadScenario fault) = front_of input ≡ Err fault
-Refuses Check input stops.BadPlan = HasNoPlan input
+Refuses Check input (stops.BadPlan fault) = HasBadPlan input fault
 Refuses Check input _ = ⊥

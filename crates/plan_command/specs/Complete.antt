@@ -5,6 +5,7 @@ use Rattle.plan_command.specs.declared.request.Request.{Request}
 use Rattle.plan_command.specs.declared.status.Status.{Status}
 use Rattle.plan_command.specs.declared.status.Status.TheVariants.{NoMemory}
 use Rattle.plan_command.specs.declared.status.Stop.{Stop}
+use Rattle.plan_command.specs.declared.status.Stop.TheVariants as stops
 use Rattle.plan_command.specs.Words.{Spells}
 use Rattle.plan_command.specs.Lines.{status_of}
 use Rattle.plan_command.specs.Commands.{Answers, Refuses}
@@ -30,3 +31,9 @@ abbrev pub IsDue : Request → List ℕ → Status → Type 0
 IsDue request input status =
     ((text : List ℕ) × Answers request input status text)
     ⊎ (((stop : Stop) × Refuses request input stop × (status ≡ status_of stop)) ⊎ (status ≡ NoMemory))
+
+-- a refusal by the input's text alone, which comes wherever it is due
+abbrev pub IsByText : Stop → Type 0
+IsByText (stops.BadScenario fault) = Unit {0}
+IsByText (stops.BadPlan fault) = Unit {0}
+IsByText _ = ⊥

@@ -2,6 +2,7 @@
 use Rattle.std.specs.Prelude.{ℕ, List, [], ◌∷◌, ◌++◌, codes}
 use Rattle.std.specs.Fmt.{decimal}
 use Rattle.scenario_text.specs.Kinds.{name_of}
+use Rattle.tree_format.specs.Kinds.{name_of as plan_name_of}
 use Rattle.plan_command.specs.declared.status.Status.{Status}
 use Rattle.plan_command.specs.declared.status.Status.TheVariants as statuses
 use Rattle.plan_command.specs.declared.status.Stop.{Stop}
@@ -23,7 +24,7 @@ code_of statuses.TooLong = 9
 abbrev pub status_of : Stop → Status
 status_of Usage = statuses.Usage
 status_of (BadScenario fault) = statuses.BadScenario
-status_of BadPlan = statuses.BadPlan
+status_of (BadPlan fault) = statuses.BadPlan
 status_of ReadFault = statuses.ReadFault
 status_of WriteFault = statuses.WriteFault
 status_of NoMemory = statuses.NoMemory
@@ -33,7 +34,7 @@ status_of TooLong = statuses.TooLong
 unfoldable pub line_of : Stop → List ℕ
 line_of Usage = codes "usage: osp plan [--workers N] [--nodes N] / check / report [--json yes] / make NUMBER / drill NUMBER [--workers N]\n"
 line_of (BadScenario fault) = codes "bad scenario: line " ++ decimal fault.line ++ 32 ∷ (name_of fault.kind ++ 10 ∷ [])
-line_of BadPlan = codes "bad plan\n"
+line_of (BadPlan fault) = codes "bad plan: line " ++ decimal fault.line ++ 32 ∷ (plan_name_of fault.kind ++ 10 ∷ [])
 line_of ReadFault = codes "read fault\n"
 line_of WriteFault = codes "write fault\n"
 line_of NoMemory = codes "no memory\n"

@@ -5,10 +5,11 @@ use crate::checking::answer_check;
 use crate::request::Request;
 use crate::status::{Status, Stop};
 use exact_parts::NoMemory;
-use path_listing::{SearchStop, search_all};
+use opening_path::opening;
 use scenario_text::{TextStop, read_scenario_alone};
 use std::alloc::{AllocError, Global};
 use tree_format::print_plan;
+use tree_search::{MOST_NODES, SearchStop, search};
 
 /// A text for `out`, and the status once it is written.
 #[derive(Debug, Drop)]
@@ -46,9 +47,10 @@ fn answer_plan(alloc: Global, input: &[u8]) -> Result<Answer, Stop>
         Err(TextStop::Fault(fault)) => return Err(Stop::BadScenario(fault)),
         Err(TextStop::NoMemory) => return Err(Stop::NoMemory),
     };
-    let plan = match search_all(alloc, &sc) {
+    let first = opening(alloc, &sc)?;
+    let plan = match search(alloc, &sc, &first) {
         Ok(plan) => plan,
-        Err(SearchStop::Full) => return Err(Stop::TooManyNodes(1_048_576)),
+        Err(SearchStop::Full) => return Err(Stop::TooManyNodes(MOST_NODES as u64)),
         Err(SearchStop::NoMemory) => return Err(Stop::NoMemory),
     };
     let mut text = Vec::new(alloc);

@@ -2,7 +2,6 @@
 
 ghost use Rattle.std.specs.Prelude.{◌≡◌, ◌++◌, ◌∷◌, ◌≤◌, [], codes, drop, length, IfOk};
 ghost use Rattle.std.specs.Fmt.{decimal};
-ghost use Rattle.bound_tree.specs.Laws.{IsPlain};
 ghost use Rattle.tree_checker.specs.Whys.{name_of};
 ghost use Rattle.plan_command.specs.Checks.{ReadsRest, ReadsBoth, TellsVerdict};
 ghost use Rattle.plan_command.specs.Makes.{MakesOf};
@@ -17,13 +16,14 @@ use scenario_text::{TextStop, read_scenario};
 use search_model::Scenario;
 use std::alloc::Global;
 use tree_checker::{RejectAt, Verdict, check, why_name};
-use tree_format::{PlanStop, read_plain_plan};
+use tree_format::{PlanStop, read_plan};
 
 /// The plan behind the blanks and line feeds at the front.
 fn read_rest(alloc: Global, sc: &Scenario, rest: &[u8]) -> Result<Plan, PlanStop>
     ensures { ReadsRest sc.now rest.now result }
 {
-    read_plain_plan(alloc, sc, skip_spaces(rest))
+    let _sound = sc.cells();
+    read_plan(alloc, sc, skip_spaces(rest))
 }
 
 /// The scenario that the input begins with, and the plan that follows.
@@ -37,7 +37,7 @@ fn read_both(alloc: Global, input: &[u8]) -> Result<(Scenario, Plan), Stop>
     };
     match read_rest(alloc, &sc, rest_from(input, len)) {
         Ok(plan) => Ok((sc, plan)),
-        Err(PlanStop::NotPlan) => Err(Stop::BadPlan),
+        Err(PlanStop::Fault(fault)) => Err(Stop::BadPlan(fault)),
         Err(PlanStop::NoMemory) => Err(Stop::NoMemory),
     }
 }
@@ -56,7 +56,6 @@ fn rejection(alloc: Global, at: RejectAt) -> Result<Vec<u8>, NoMemory>
 
 /// Whether the plan is accepted, or the first reason against it.
 fn tell_verdict(alloc: Global, sc: &Scenario, plan: &Plan) -> Result<Answer, Stop>
-    requires plain { IsPlain plan.now }
     requires few { length plan.now.tree ≤ 1048576 }
     ensures { TellsVerdict sc.now plan.now result }
 {

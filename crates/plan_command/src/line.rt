@@ -1,13 +1,13 @@
-ghost use Rattle.std.specs.Prelude.{◌≡◌, ◌+◌, ◌++◌, ◌≤◌, take, length};
+ghost use Rattle.std.specs.Prelude.{◌≡◌, ◌+◌, ◌++◌, ◌∷◌, ◌≤◌, [], take, length};
 ghost use Rattle.std.specs.Fmt.{decimal};
-ghost use Rattle.plan_command.specs.declared.status.Stop.{Stop};
 ghost use Rattle.plan_command.specs.Lines.{line_of};
 ghost use Rattle.plan_command.specs.Run.{Says};
 
 use crate::status::Stop;
 use byte_ports::{Sink, write_all};
 use exact_parts::digits;
-use scenario_text::{TextFault, text_kind_name};
+use scenario_text::text_kind_name;
+use tree_format::plan_kind_name;
 
 /// Room for the longest line.
 const ROOM: usize = 160;
@@ -33,16 +33,17 @@ fn append_number(to: &mut [u8; ROOM], at: usize, number: u64) -> usize
     append(to, at, &places[..len])
 }
 
-/// The line of a scenario's first fault.
-#[tactic(auto, unfolding(crate::specs::Lines::line_of))]
-fn put_fault(fault: TextFault, to: &mut [u8; ROOM]) -> usize
-    ensures text { take result to.new ≡ line_of (Stop.BadScenario fault) }
+/// The line of a text's first fault: what is bad, the line's number, and the kind.
+fn put_fault(to: &mut [u8; ROOM], head: &[u8], line: u64, kind: &[u8]) -> usize
+    requires head { length head.now ≤ 40 }
+    requires kind { length kind.now ≤ 40 }
+    ensures text { take result to.new ≡ head.now ++ decimal line ++ 32 ∷ (kind.now ++ 10 ∷ []) }
     ensures len { result ≤ 160 }
 {
-    let at = append(to, 0, b"bad scenario: line ");
-    let at = append_number(to, at, fault.line);
+    let at = append(to, 0, head);
+    let at = append_number(to, at, line);
     let at = append(to, at, b" ");
-    let at = append(to, at, text_kind_name(fault.kind).as_bytes());
+    let at = append(to, at, kind);
     append(to, at, b"\n")
 }
 
@@ -58,8 +59,18 @@ fn put_line(stop: Stop, to: &mut [u8; ROOM]) -> usize
             0,
             b"usage: osp plan [--workers N] [--nodes N] / check / report [--json yes] / make NUMBER / drill NUMBER [--workers N]\n",
         ),
-        Stop::BadScenario(fault) => put_fault(fault, to),
-        Stop::BadPlan => append(to, 0, b"bad plan\n"),
+        Stop::BadScenario(fault) => put_fault(
+            to,
+            b"bad scenario: line ",
+            fault.line,
+            text_kind_name(fault.kind).as_bytes(),
+        ),
+        Stop::BadPlan(fault) => put_fault(
+            to,
+            b"bad plan: line ",
+            fault.line,
+            plan_kind_name(fault.kind).as_bytes(),
+        ),
         Stop::ReadFault => append(to, 0, b"read fault\n"),
         Stop::WriteFault => append(to, 0, b"write fault\n"),
         Stop::NoMemory => append(to, 0, b"no memory\n"),

@@ -1,6 +1,5 @@
 ghost use Rattle.std.specs.Prelude.{◌≡◌, ◌≤◌, drop, length};
-ghost use Rattle.plan_command.specs.Plans.{is_space as is_space_lem};
-ghost use Rattle.plan_command.specs.Spaces.{SkipsSpaces};
+ghost use Rattle.plan_command.specs.Spaces.{is_space as is_space_lem, SkipsSpaces};
 
 fn is_space(c: u8) -> bool
     ensures { result ≡ is_space_lem c }

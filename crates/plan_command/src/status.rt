@@ -2,6 +2,7 @@ ghost use Rattle.std.specs.Prelude.{◌≡◌};
 ghost use Rattle.plan_command.specs.Lines.{code_of};
 
 use scenario_text::TextFault;
+use tree_format::PlanFault;
 
 /// How a run ended.
 #[derive(Clone, Copy, Debug, PartialEq, Eq)]
@@ -52,7 +53,8 @@ pub enum Stop {
     Usage,
     /// The first fault of the scenario's text.
     BadScenario(TextFault),
-    BadPlan,
+    /// The first fault of the plan's text.
+    BadPlan(PlanFault),
     ReadFault,
     WriteFault,
     NoMemory,
@@ -72,7 +74,7 @@ impl Stop {
         match self {
             Stop::Usage => Status::Usage,
             Stop::BadScenario(_) => Status::BadScenario,
-            Stop::BadPlan => Status::BadPlan,
+            Stop::BadPlan(_) => Status::BadPlan,
             Stop::ReadFault => Status::ReadFault,
             Stop::WriteFault => Status::WriteFault,
             Stop::NoMemory => Status::NoMemory,

@@ -4,7 +4,9 @@ ghost use Rattle.std.specs.Io.KnownBytes.{Consumes, Appends, IsAtEnd};
 ghost use Rattle.byte_ports.specs.Causes.{Rose};
 ghost use Rattle.byte_ports.specs.Taken.{TakesCount};
 ghost use Rattle.search_model.specs.Problem.{Problem};
-ghost use Rattle.search_model.specs.Order.{IsBest};
+ghost use Rattle.search_model.specs.Order.{standing_of, IsBest};
+ghost use Rattle.search_model.specs.Opening.{IsOpening};
+ghost use Rattle.tree_search.specs.Plans.{HasMoreLive};
 ghost use Rattle.scenario_text.specs.declared.kind.TextFault.{TextFault};
 ghost use Rattle.scenario_text.specs.Scenarios.{IsTextOf};
 ghost use Rattle.bound_tree.specs.declared.plan.Plan.{Plan};
@@ -13,14 +15,14 @@ ghost use Rattle.tree_format.specs.PlanText.{plan_text};
 ghost use Rattle.tree_checker.specs.declared.verdict.RejectAt.{RejectAt};
 ghost use Rattle.tree_checker.specs.Reasons.{first_reason};
 ghost use Rattle.tree_checker.specs.Whys.{name_of};
-ghost use Rattle.path_listing.specs.Plans.{HasMoreNodes};
+ghost use Rattle.tree_format.specs.declared.kind.PlanFault.{PlanFault};
 ghost use Rattle.plan_command.specs.declared.request.Request.{Request};
 ghost use Rattle.plan_command.specs.declared.status.Stop.{Stop};
 ghost use Rattle.plan_command.specs.Words.{Spells, SpellNone, limit_of};
 ghost use Rattle.plan_command.specs.Plans.{IsCertified, BeginsWith, IsPlanRest};
 ghost use Rattle.plan_command.specs.Commands.{Refuses};
 ghost use Rattle.plan_command.specs.Run.{shown, Ends, Ending, ending_of, status_at, line_at, Says, CutOff, IsRefusal};
-ghost use Rattle.plan_command.specs.Complete.{IsHeard, IsUndisturbed, IsStopDue, IsDue};
+ghost use Rattle.plan_command.specs.Complete.{IsHeard, IsUndisturbed, IsStopDue, IsDue, IsByText};
 
 use crate::answer::answer_for;
 use crate::gate::Gate;
@@ -77,11 +79,11 @@ pub fn run<R: AllocGlobal, S: Source, K: Sink, E: Sink, G: Gate>(
         × Says (E.wrote err.old) (E.wrote err.new) (E.faults err.old) (E.faults err.new)
         (E.wants err.old) (E.wants err.new) (line_at end) }
 
-    // `plan` at Done: the source was read to its end, its bytes are the text of a scenario alone with no more legal
-    // prefixes than the limit, and `out` grew by the text of a plan with the best path, its exact value and the whole
-    // weight, whose records are accepted.
+    // `plan` at Done: the source was read to its end, its bytes are the text of a scenario alone, and `out` grew by the
+    // text of a plan with the best path, its exact value and the whole weight, whose records are accepted; no branch has
+    // a prefix that the opening closes by a bound.
     ensures planned { Spells (map string_bytes words.now) Request.Plan → result ≡ Status.Done →
-        (p : Problem) × (input : List ℕ) × IsTextOf p input × (HasMoreNodes p 1048576 → ⊥)
+        (p : Problem) × (input : List ℕ) × IsTextOf p input
         × Consumes (S.left source.old) (S.left source.new) input × IsAtEnd (S.left source.new)
         × ((plan : Plan) × IsCertified p plan × Appends (K.wrote out.old) (K.wrote out.new) (plan_text p plan)) }
 
@@ -103,14 +105,14 @@ pub fn run<R: AllocGlobal, S: Source, K: Sink, E: Sink, G: Gate>(
     ensures usage { (result ≡ Status.Usage) ↔ SpellNone (map string_bytes words.now) }
     ensures nothing_read { result ≡ Status.Usage → (source.new ≡ source.old) × (K.wrote out.new ≡ K.wrote out.old) }
 
-    // BadScenario, BadPlan and TooManyNodes come only where the whole input was read and is refused so; BadScenario with
-    // the first fault of the scenario's text.
+    // BadScenario, BadPlan and TooManyNodes come only where the whole input was read and is refused so: by the first
+    // fault of the scenario's or the plan's text, or for more live prefixes under the opening than the limit.
     ensures bad_scenario { result ≡ Status.BadScenario → (fault : TextFault) × IsRefusal (map string_bytes words.now)
         (shown S.left S.faults K.wrote K.faults source.old out.old)
         (shown S.left S.faults K.wrote K.faults source.new out.new) (Stop.BadScenario fault) }
-    ensures bad_plan { result ≡ Status.BadPlan → IsRefusal (map string_bytes words.now)
+    ensures bad_plan { result ≡ Status.BadPlan → (fault : PlanFault) × IsRefusal (map string_bytes words.now)
         (shown S.left S.faults K.wrote K.faults source.old out.old)
-        (shown S.left S.faults K.wrote K.faults source.new out.new) Stop.BadPlan }
+        (shown S.left S.faults K.wrote K.faults source.new out.new) (Stop.BadPlan fault) }
     ensures too_many_nodes { result ≡ Status.TooManyNodes → IsRefusal (map string_bytes words.now)
         (shown S.left S.faults K.wrote K.faults source.old out.old)
         (shown S.left S.faults K.wrote K.faults source.new out.new) (Stop.TooManyNodes 1048576) }
@@ -136,12 +138,26 @@ pub fn run<R: AllocGlobal, S: Source, K: Sink, E: Sink, G: Gate>(
         (shown S.left S.faults K.wrote K.faults source.old out.old)
         (shown S.left S.faults K.wrote K.faults source.new out.new) request input
         → length input ≤ limit_of request → IsDue request input result }
-    // A refusal that is due comes, whatever the sink does.
+    // So the plan of a scenario with no more live prefixes under its opening than the limit is written.
+    ensures finishes { (p : Problem) (input opening : List ℕ) →
+        IsUndisturbed (map string_bytes words.now)
+        (shown S.left S.faults K.wrote K.faults source.old out.old)
+        (shown S.left S.faults K.wrote K.faults source.new out.new) Request.Plan input
+        → length input ≤ 1048576 → IsTextOf p input → IsOpening p opening
+        → (HasMoreLive p (standing_of p opening) 1048576 → ⊥) → (result ≡ Status.Done) ⊎ (result ≡ Status.NoMemory) }
+    // And a plan that is accepted is told to be.
+    ensures accepts { (p : Problem) (input rest : List ℕ) (plan : Plan) →
+        IsUndisturbed (map string_bytes words.now)
+        (shown S.left S.faults K.wrote K.faults source.old out.old)
+        (shown S.left S.faults K.wrote K.faults source.new out.new) Request.Check input
+        → length input ≤ 336592896 → BeginsWith p input rest → IsPlanRest p rest plan
+        → Accepts p plan → (result ≡ Status.Done) ⊎ (result ≡ Status.NoMemory) }
+    // A refusal by the input's text comes wherever it is due, whatever the sink does.
     ensures refused { (request : Request) (input : List ℕ) (stop : Stop) →
         IsHeard (map string_bytes words.now)
         (shown S.left S.faults K.wrote K.faults source.old out.old)
         (shown S.left S.faults K.wrote K.faults source.new out.new) request input
-        → length input ≤ limit_of request → Refuses request input stop → IsStopDue stop result }
+        → length input ≤ limit_of request → Refuses request input stop → IsByText stop → IsStopDue stop result }
     ensures longer { (request : Request) (input : List ℕ) →
         IsHeard (map string_bytes words.now)
         (shown S.left S.faults K.wrote K.faults source.old out.old)

@@ -1,8 +1,9 @@
 -- The test of a path tells the paths.
-use Rattle.std.proofs.Common.{◌≡◌, ◌↔◌, ℕ, Bool, true, nat_eq, List, [], ◌∷◌, length, inl, inr, sym, refl, arith, Contains, Decides, eqb-true, eq-eqb}
-use Rattle.std.specs.List.{list_any}
+use Rattle.std.proofs.Common.{◌≡◌, ◌↔◌, ℕ, Bool, true, nat_eq, List, [], ◌∷◌, length, take, inl, inr, sym, refl, arith, Contains, Decides, eqb-true, eq-eqb}
+use Rattle.std.specs.List.{list_any, starts_with}
 use Rattle.std.proofs.lemmas.Bool.{and_parts, and_from, or_cases, or_left, or_right, true≢false}
-use Rattle.std.proofs.lemmas.Bool.Decides.{same_from_decides}
+use Rattle.std.proofs.lemmas.Bool.Decides.{same_from_decides, Decides-eqb}
+use Rattle.std.proofs.lemmas.Slice.Eq.{slice_eq-Decides}
 use Rattle.search_grid.specs.Moves.{moves_from}
 use Rattle.search_model.specs.Problem.{Problem}
 use Rattle.search_model.specs.Legal.{Follows, IsLegal, IsPath}
@@ -46,3 +47,7 @@ legal_is_path p q r whole h =
       (λ path. h.1 (record { follows = path.follows; short = omega (arith, whole) })),
     )
     (is_path-Decides p q)
+
+-- the test of a path's front tells whether it is the prefix
+pub starts-Decides : (q whole : List ℕ) → Decides (starts_with nat_eq whole q) (take (length q) whole ≡ q)
+starts-Decides q whole = let same = slice_eq-Decides Decides-eqb q (take (length q) whole) (starts_with nat_eq whole q) refl in (λ h. sym (same.0 h), λ e. same.1 (sym e))

@@ -1,11 +1,16 @@
 -- That the reasons against plans are all there are.
-use Rattle.std.specs.Prelude.{◌≡◌, None, ◌↔◌}
+use Rattle.std.specs.Prelude.{ℕ, ◌≡◌, Some, None, ◌↔◌}
 use Rattle.search_model.specs.Problem.{Problem}
+use Rattle.search_model.specs.Bounds.{IsRate}
 use Rattle.bound_tree.specs.declared.plan.Plan.{Plan}
 use Rattle.bound_tree.specs.Accepts.{Accepts}
-use Rattle.bound_tree.specs.Laws.{IsPlain}
+use Rattle.tree_checker.specs.Rate.{one_rate_of}
 use Rattle.tree_checker.specs.Reasons.{first_reason}
 
--- a plan without bounds is accepted exactly where there is no reason against it
+-- a plan is accepted exactly where there is no reason against it
 abbrev pub AcceptedWithNoReason : Type 0
-AcceptedWithNoReason = (p : Problem) (plan : Plan) → IsPlain plan → (first_reason p plan ≡ None) ↔ Accepts p plan
+AcceptedWithNoReason = (p : Problem) (plan : Plan) → (first_reason p plan ≡ None) ↔ Accepts p plan
+
+-- the rate that is found is the one rate, and where none is found there is none
+abbrev pub FindsOneRate : Type 0
+FindsOneRate = (p : Problem) (rate : ℕ) → (one_rate_of p ≡ Some rate) ↔ IsRate p rate

@@ -2,7 +2,6 @@
 
 ghost use Rattle.std.specs.Prelude.{◌≡◌, ◌≤◌, ◌↔◌, length, IfOk};
 ghost use Rattle.bound_tree.specs.Accepts.{Accepts};
-ghost use Rattle.bound_tree.specs.Laws.{IsPlain};
 ghost use Rattle.tree_checker.specs.Reasons.{first_reason, verdict_of};
 
 use crate::checker::Checker;
@@ -14,7 +13,6 @@ use std::alloc::Global;
 
 /// The verdict on a plan.
 fn verdict(alloc: Global, sc: &Scenario, plan: &Plan) -> Result<Verdict, NoMemory>
-    requires plain { IsPlain plan.now }
     requires few { length plan.now.tree ≤ 1048576 }
     ensures { IfOk result (λ v. v ≡ verdict_of (first_reason sc.now plan.now)) }
 {
@@ -26,12 +24,11 @@ fn verdict(alloc: Global, sc: &Scenario, plan: &Plan) -> Result<Verdict, NoMemor
     Ok(checker.finish())
 }
 
-/// Whether a plan of branches and whole paths alone, with at most 1,048,576 records, is accepted; else the first
-/// reason against it. Each value is computed by one belief that looks and drifts along the path, so the time grows with
-/// the number of records and not with that of the target's tracks.
+/// Whether a plan with at most 1,048,576 records is accepted; else the first reason against it. A record uses the beliefs
+/// of the part that its prefix has in common with the one before it, so the time grows with the number of records and not
+/// with that of the target's tracks.
 #[tactic(auto, using(crate::proofs::Reason::accepted_verdict))]
 pub fn check(alloc: Global, sc: &Scenario, plan: &Plan) -> Result<Verdict, NoMemory>
-    requires plain { IsPlain plan.now }
     requires few { length plan.now.tree ≤ 1048576 }
     ensures exact { IfOk result (λ v. v ≡ verdict_of (first_reason sc.now plan.now)) }
     ensures accepted { IfOk result (λ v. (v ≡ Verdict.Accepted) ↔ Accepts sc.now plan.now) }

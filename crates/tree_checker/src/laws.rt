@@ -1,9 +1,14 @@
 //! What the definitions say together.
 
-ghost use Rattle.tree_checker.specs.Laws.{AcceptedWithNoReason};
+ghost use Rattle.tree_checker.specs.Laws.{AcceptedWithNoReason, FindsOneRate};
 
-/// A plan of branches and whole paths alone is accepted exactly where there is no reason against it.
+/// A plan is accepted exactly where there is no reason against it.
 #[tactic(auto, using(crate::proofs::Reason::no_reason_is_accepted))]
 pub fn accepted_with_no_reason()
     ensures { AcceptedWithNoReason }
+{}
+
+/// The rate that is found among a problem's look factors is their one rate, and where none is found there is none.
+pub fn finds_one_rate()
+    ensures { FindsOneRate }
 {}

@@ -1,37 +1,28 @@
 //! The tests of a plan's parts.
 
-ghost use Rattle.std.specs.Prelude.{◌≡◌, IsTrue, length};
+ghost use Rattle.std.specs.Prelude.{◌≡◌, IfNone};
 ghost use Rattle.search_model.specs.Legal.{IsLegal};
-ghost use Rattle.bound_tree.specs.Laws.{IsPlainKind};
-ghost use Rattle.tree_checker.specs.Reasons.{first_failed, is_path as is_path_lem, value_tests, kind_tests, record_tests, head_reason as head_reason_lem};
+ghost use Rattle.bound_tree.specs.Close.{IsExact};
+ghost use Rattle.mean_bound.specs.Means.{IsMadeFor as IsMeanFor};
+ghost use Rattle.tree_checker.specs.Reasons.{first_failed, value_tests, kind_tests, record_tests, head_reason as head_reason_lem};
+ghost use Rattle.tree_checker.specs.Tables.{AreMadeFor};
 
+use crate::bounds::{mean_reason, tangent_reason};
+use crate::path_tests::is_path;
+use crate::tables::BoundTables;
 use crate::verdict::{RejectAt, Why};
-use belief_update::{Belief, prefix_value};
 use bound_tree::{Kind, TreeNode};
+use mean_bound::Mean;
 use search_model::{Path, Scenario, Standing, better};
 
-/// Whether a prefix is legal and as long as the horizon.
-#[tactic(auto, using(crate::proofs::Paths::legal_is_path))]
-fn is_path(sc: &Scenario, path: &Path) -> bool
-    ensures legal { IsTrue result → IsLegal sc.now path.now }
-    ensures value { result ≡ is_path_lem sc.now path.now }
-{
-    path.len() == sc.horizon() as usize && sc.is_legal(path)
-}
-
 /// The first reason against the value and the weight of a path.
-fn value_reason(
-    sc: &Scenario,
-    belief: &mut Belief,
-    standing: &Standing,
-    weight: u128,
-) -> Option<Why>
-    requires cells { length belief.old.masses ≡ sc.now.cells }
+fn value_reason(sc: &Scenario, mean: &mut Mean, standing: &Standing, weight: u128) -> Option<Why>
+    requires made { IsMeanFor sc.now mean.old }
     requires legal { IsLegal sc.now standing.now.path }
     ensures reason { result ≡ first_failed (value_tests sc.now standing.now weight) }
-    ensures cells { length belief.new.masses ≡ sc.now.cells }
+    ensures made { IsMeanFor sc.now mean.new }
 {
-    if standing.value != prefix_value(sc, belief, &standing.path) {
+    if standing.value != mean.value(sc, &standing.path) {
         Some(Why::ValueWrong)
     } else if weight != sc.weight() {
         Some(Why::WeightWrong)
@@ -43,13 +34,14 @@ fn value_reason(
 /// The first reason against a plan's path, value and weight.
 pub(crate) fn head_reason(
     sc: &Scenario,
-    belief: &mut Belief,
+    mean: &mut Mean,
     standing: &Standing,
     weight: u128,
 ) -> Option<RejectAt>
-    requires cells { length belief.old.masses ≡ sc.now.cells }
+    requires made { IsMeanFor sc.now mean.old }
     ensures reason { result ≡ head_reason_lem sc.now standing.now weight }
-    ensures cells { length belief.new.masses ≡ sc.now.cells }
+    ensures exact { IfNone result (IsExact sc.now standing.now) }
+    ensures made { IsMeanFor sc.now mean.new }
 {
     if !is_path(sc, &standing.path) {
         return Some(RejectAt {
@@ -57,25 +49,23 @@ pub(crate) fn head_reason(
             why: Why::PathIllegal,
         });
     }
-    let why = value_reason(sc, belief, standing, weight)?;
+    let why = value_reason(sc, mean, standing, weight)?;
     Some(RejectAt { line: 3, why })
 }
 
 /// The first reason against a path as a record.
 fn whole_reason(
     sc: &Scenario,
-    belief: &mut Belief,
+    mean: &mut Mean,
     standing: &Standing,
     whole: &Standing,
 ) -> Option<Why>
-    requires cells { length belief.old.masses ≡ sc.now.cells }
+    requires made { IsMeanFor sc.now mean.old }
     requires legal { IsLegal sc.now whole.now.path }
     ensures reason { result ≡ first_failed (kind_tests sc.now standing.now whole.now.path (Kind.Whole whole.now.value)) }
-    ensures cells { length belief.new.masses ≡ sc.now.cells }
+    ensures made { IsMeanFor sc.now mean.new }
 {
-    if whole.path.len() != sc.horizon() as usize
-        || whole.value != prefix_value(sc, belief, &whole.path)
-    {
+    if whole.path.len() != sc.horizon() as usize || whole.value != mean.value(sc, &whole.path) {
         Some(Why::WholeWrong)
     } else if better(whole, standing) {
         Some(Why::NotCut)
@@ -84,19 +74,19 @@ fn whole_reason(
     }
 }
 
-/// The first reason against a branch or a whole path at a legal prefix.
+/// The first reason against a kind at a legal prefix.
 fn kind_reason(
     sc: &Scenario,
-    belief: &mut Belief,
+    tables: &mut BoundTables,
     standing: &Standing,
     prefix: &Path,
     kind: &Kind,
 ) -> Option<Why>
-    requires cells { length belief.old.masses ≡ sc.now.cells }
+    requires made { AreMadeFor sc.now tables.old }
     requires legal { IsLegal sc.now prefix.now }
-    requires plain { IsPlainKind kind.now }
+    requires exact { IsExact sc.now standing.now }
     ensures reason { result ≡ first_failed (kind_tests sc.now standing.now prefix.now kind.now) }
-    ensures cells { length belief.new.masses ≡ sc.now.cells }
+    ensures made { AreMadeFor sc.now tables.new }
 {
     match kind {
         Kind::Branch => {
@@ -111,31 +101,39 @@ fn kind_reason(
                 path: *prefix,
                 value: *number,
             };
-            whole_reason(sc, belief, standing, &whole)
+            whole_reason(sc, &mut tables.mean, standing, &whole)
         }
-        Kind::Mean(_) | Kind::Tangent(..) => unreachable!(),
+        Kind::Mean(bound) => mean_reason(sc, &mut tables.mean, standing, prefix, *bound),
+        Kind::Tangent(bound, reference) => tangent_reason(
+            sc,
+            &mut tables.tangent,
+            standing,
+            prefix,
+            *bound,
+            reference,
+        ),
     }
 }
 
 /// The first reason against a record where a legal prefix is expected.
 pub(crate) fn record_reason(
     sc: &Scenario,
-    belief: &mut Belief,
+    tables: &mut BoundTables,
     standing: &Standing,
     expected: &Path,
     node: &TreeNode,
 ) -> Option<Why>
-    requires cells { length belief.old.masses ≡ sc.now.cells }
+    requires made { AreMadeFor sc.now tables.old }
     requires legal { IsLegal sc.now expected.now }
-    requires plain { IsPlainKind node.now.kind }
+    requires exact { IsExact sc.now standing.now }
     ensures reason { result ≡ first_failed (record_tests sc.now standing.now expected.now node.now) }
-    ensures cells { length belief.new.masses ≡ sc.now.cells }
+    ensures made { AreMadeFor sc.now tables.new }
 {
     if expected.cells().cmp(node.prefix.cells()).is_lt() {
         Some(Why::MissingChild)
     } else if node.prefix.cells().cmp(expected.cells()).is_lt() {
         Some(Why::NotChild)
     } else {
-        kind_reason(sc, belief, standing, expected, &node.kind)
+        kind_reason(sc, tables, standing, expected, &node.kind)
     }
 }

@@ -1,6 +1,3 @@
-ghost use Rattle.std.specs.Prelude.{◌≡◌, length, All, IfOk};
-ghost use Rattle.bound_tree.specs.Laws.{IsPlainKind};
-
 use super::*;
 use bound_tree::{BoundTree, Kind, Plan, TreeNode};
 use drift_chain::{Drift, DriftPart};
@@ -51,6 +48,33 @@ fn two_cells(alloc: Global) -> Result<Scenario, Fail> {
         grid: Grid::new(moves)?,
         drift: Drift::new(2, drifts)?,
         sweep: Sweep::new(2, vec![in alloc; 0, 0]?)?,
+    })?)
+}
+
+// Three cells in a row, and a target that stays in the last one: the searcher starts in the middle.
+fn three_cells(alloc: Global, horizon: u32, overlook: Vec<u32>) -> Result<Scenario, Fail> {
+    let a = Name::new(b"a").ok_or("no name")?;
+    let b = Name::new(b"b").ok_or("no name")?;
+    let c = Name::new(b"c").ok_or("no name")?;
+    let moves = vec![in alloc;
+        vec![in alloc; 0, 1]?,
+        vec![in alloc; 0, 1, 2]?,
+        vec![in alloc; 1, 2]?,
+    ]?;
+    let drifts = vec![in alloc;
+        vec![in alloc; DriftPart { cell: 0, part: 1 }]?,
+        vec![in alloc; DriftPart { cell: 1, part: 1 }]?,
+        vec![in alloc; DriftPart { cell: 2, part: 1 }]?,
+    ]?;
+    Ok(Scenario::new(Parts {
+        names: vec![in alloc; a, b, c]?,
+        horizon,
+        start: 1,
+        total: 1,
+        first: vec![in alloc; 0, 0, 1]?,
+        grid: Grid::new(moves)?,
+        drift: Drift::new(1, drifts)?,
+        sweep: Sweep::new(2, overlook)?,
     })?)
 }
 
@@ -111,43 +135,40 @@ fn path_of(cells: &[u8]) -> Path {
     Path::of(cells).unwrap_or(Path::empty())
 }
 
-fn kind_of(value: Option<u128>) -> Kind
-    ensures { IsPlainKind result }
-{
+fn kind_of(value: Option<u128>) -> Kind {
     match value {
         None => Kind::Branch,
         Some(n) => Kind::Whole(n),
     }
 }
 
-fn nodes_of(alloc: Global, records: &[(&[u8], Option<u128>)]) -> Result<Vec<TreeNode>, NoMemory>
-    ensures plain { IfOk result (λ nodes. All (λ r. IsPlainKind r.kind) nodes.items) }
-    ensures few { IfOk result (λ nodes. length nodes.items ≡ length records.now) }
-{
+fn node_of(prefix: &[u8], kind: Kind) -> TreeNode {
+    TreeNode {
+        prefix: path_of(prefix),
+        kind,
+    }
+}
+
+fn nodes_of(alloc: Global, records: &[(&[u8], Option<u128>)]) -> Result<Vec<TreeNode>, NoMemory> {
     let mut nodes = Vec::new(alloc);
     for (prefix, value) in records {
-        let node = TreeNode {
-            prefix: path_of(prefix),
-            kind: kind_of(*value),
-        };
-        nodes.push(node)?;
+        nodes.push(node_of(prefix, kind_of(*value)))?;
     }
     Ok(nodes)
 }
 
-// What is said of the plan of this path, value, weight and records: of each its prefix, and its value where it is whole.
-fn said(
+// What is said of the plan of this path, value, weight and records.
+fn said_of(
     alloc: Global,
     sc: &Scenario,
     path: &[u8],
     value: u128,
     weight: u128,
-    records: &[(&[u8], Option<u128>)],
+    nodes: Vec<TreeNode>,
 ) -> Result<Verdict, Fail> {
-    if records.len() > 1_000 {
+    if nodes.len() > 1_000 {
         return Err(Fail::from("too many records"));
     }
-    let nodes = nodes_of(alloc, records)?;
     let standing = Standing {
         path: path_of(path),
         value,
@@ -158,6 +179,19 @@ fn said(
         tree: BoundTree::of(nodes),
     };
     Ok(check(alloc, sc, &plan)?)
+}
+
+// What is said of a plan of branches and whole paths: of each record its prefix, and its value where it is whole.
+fn said(
+    alloc: Global,
+    sc: &Scenario,
+    path: &[u8],
+    value: u128,
+    weight: u128,
+    records: &[(&[u8], Option<u128>)],
+) -> Result<Verdict, Fail> {
+    let nodes = nodes_of(alloc, records)?;
+    said_of(alloc, sc, path, value, weight, nodes)
 }
 
 fn rejected(line: u64, why: Why) -> Verdict {
@@ -319,6 +353,103 @@ fn plans_of_two_cells(rt: HostRuntime) -> Result<(), Fail> {
     for (path, value, records, verdict) in rows {
         assert_eq!(rt; said(rt.alloc(), &sc, path, value, 16, records)?, verdict);
     }
+    Ok(())
+}
+
+// What is said of a plan of two cells, with a mean bound that is equal to the value of all paths, and of prefix 1.
+fn said_of_equals(alloc: Global, path: &[u8]) -> Result<Verdict, Fail> {
+    let sc = two_cells(alloc)?;
+    let nodes = vec![in alloc;
+        node_of(&[], Kind::Branch),
+        node_of(&[0], Kind::Branch),
+        node_of(&[0, 0], Kind::Whole(12)),
+        node_of(&[0, 1], Kind::Whole(12)),
+        node_of(&[1], Kind::Mean(12)),
+    ]?;
+    said_of(alloc, &sc, path, 12, 16, nodes)
+}
+
+// What is said of a plan of three cells and two periods whose third record, of prefix 1, has this mean bound.
+fn said_of_mean(alloc: Global, bound: u128) -> Result<Verdict, Fail> {
+    let sc = three_cells(alloc, 2, vec![in alloc; 1, 1, 1]?)?;
+    let nodes = vec![in alloc;
+        node_of(&[], Kind::Branch),
+        node_of(&[0], Kind::Mean(0)),
+        node_of(&[1], Kind::Mean(bound)),
+        node_of(&[2], Kind::Branch),
+        node_of(&[2, 1], Kind::Whole(2)),
+        node_of(&[2, 2], Kind::Whole(3)),
+    ]?;
+    said_of(alloc, &sc, &[2, 2], 3, 4, nodes)
+}
+
+// What is said of a plan of three cells and three periods, whose third record, of prefix 1, is this, and whose record in
+// line 11 has this value.
+fn said_of_third(alloc: Global, sc: &Scenario, third: Kind, value: u128) -> Result<Verdict, Fail> {
+    let nodes = vec![in alloc;
+        node_of(&[], Kind::Branch),
+        node_of(&[0], Kind::Mean(4)),
+        node_of(&[1], third),
+        node_of(&[2], Kind::Branch),
+        node_of(&[2, 1], Kind::Mean(6)),
+        node_of(&[2, 2], Kind::Branch),
+        node_of(&[2, 2, 1], Kind::Whole(value)),
+        node_of(&[2, 2, 2], Kind::Whole(7)),
+    ]?;
+    said_of(alloc, sc, &[2, 2, 2], 7, 8, nodes)
+}
+
+fn tangent_at(bound: u128, reference: &[u8]) -> Kind {
+    Kind::Tangent(bound, path_of(reference))
+}
+
+#[test]
+fn plans_with_mean_bounds(rt: HostRuntime) -> Result<(), Fail> {
+    assert_eq!(rt; said_of_equals(rt.alloc(), &[0, 0])?, Verdict::Accepted);
+    assert_eq!(rt;
+        said_of_equals(rt.alloc(), &[0, 1])?,
+        rejected(7, Why::NotCut)
+    );
+    assert_eq!(rt; said_of_mean(rt.alloc(), 2)?, Verdict::Accepted);
+    assert_eq!(rt; said_of_mean(rt.alloc(), 1)?, rejected(7, Why::BoundWrong));
+    Ok(())
+}
+
+#[test]
+fn plans_with_tangent_bounds(rt: HostRuntime) -> Result<(), Fail> {
+    let alloc = rt.alloc();
+    let sc = three_cells(alloc, 3, vec![in alloc; 1, 1, 1]?)?;
+    let right = tangent_at(12, &[1, 2, 2]);
+    let rows = [
+        (right, 6, Verdict::Accepted),
+        // The path of the tangent doesn't begin with the prefix.
+        (
+            tangent_at(12, &[2, 2, 2]),
+            6,
+            rejected(7, Why::ReferenceWrong),
+        ),
+        // It isn't as long as the horizon.
+        (tangent_at(12, &[1, 2]), 6, rejected(7, Why::ReferenceWrong)),
+        // The bound is wrong, and isn't cut either.
+        (tangent_at(14, &[1, 2, 2]), 6, rejected(7, Why::BoundWrong)),
+        // The mean bound is right, and isn't cut.
+        (Kind::Mean(8), 6, rejected(7, Why::NotCut)),
+        (right, 5, rejected(11, Why::WholeWrong)),
+    ];
+    for (third, value, verdict) in rows {
+        assert_eq!(rt; said_of_third(alloc, &sc, third, value)?, verdict);
+    }
+    Ok(())
+}
+
+#[test]
+fn tangents_need_one_rate(rt: HostRuntime) -> Result<(), Fail> {
+    let alloc = rt.alloc();
+    let sc = three_cells(alloc, 3, vec![in alloc; 1, 0, 1]?)?;
+    assert_eq!(rt;
+        said_of_third(alloc, &sc, tangent_at(12, &[1, 2, 2]), 6)?,
+        rejected(7, Why::NoOneRate)
+    );
     Ok(())
 }
 

@@ -8,7 +8,7 @@ use Rattle.std.proofs.lemmas.Bool.{ne_eqb}
 use Rattle.tree_format.specs.Pieces.{split_at}
 
 -- a byte that stops no piece goes in front of the first
-split_more : (at c : ℕ) (cs : List ℕ) → (c ≡ at → ⊥) → split_at at (c ∷ cs) ≡ onto_first c (split_at at cs)
+pub split_more : (at c : ℕ) (cs : List ℕ) → (c ≡ at → ⊥) → split_at at (c ∷ cs) ≡ onto_first c (split_at at cs)
 unfolding split_at
 split_more at c cs ne = rw (ne_eqb c at ne) refl
 

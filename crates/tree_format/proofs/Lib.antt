@@ -1,7 +1,15 @@
 pub mod LineTexts
 pub mod Cuts
 pub mod FieldSteps
+pub mod FirstFields
 pub mod Loop
 pub mod RowTexts
 pub mod Said
 pub mod ReadsBack
+pub mod Told
+pub mod SpelledLines
+pub mod Spelled
+pub mod Answered
+pub mod FirstFaults
+pub mod Tables
+pub mod Summaries

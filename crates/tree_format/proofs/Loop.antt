@@ -1,68 +1,87 @@
 -- One line after the other, as a loop takes them.
-use Rattle.std.proofs.Common.{◌≡◌, ℕ, Bool, false, List, [], ◌∷◌, length, Result, Ok, Err, refl, sym, ◌∙◌, arith, ap, inl, inr}
+use Rattle.std.proofs.Common.{◌≡◌, ℕ, ◌+◌, Bool, false, List, [], ◌∷◌, length, Result, Ok, Err, refl, sym, ◌∙◌, arith, ap, inl, inr}
 use Rattle.std.specs.Prelude.{IsTrue}
 use Rattle.std.proofs.lemmas.Grind.{common_steps}
 use Rattle.std.specs.List.{onto_first}
 use Rattle.std.proofs.lemmas.Bool.{ne_eqb}
 use Rattle.search_model.specs.Problem.{Problem}
-use Rattle.tree_format.specs.declared.draft.Stage.{Stage}
-use Rattle.tree_format.specs.declared.draft.Stage.TheVariants.{Version, Path, Chance, Count, Records, Ended}
+use Rattle.bound_tree.specs.declared.plan.Plan.{Plan}
+use Rattle.tree_format.specs.declared.plan_line.Stage.{Stage}
+use Rattle.tree_format.specs.declared.plan_line.Stage.TheVariants as due
+use Rattle.tree_format.specs.declared.plan_line.PlanLine.{PlanLine}
 use Rattle.tree_format.specs.declared.draft.Draft.{Draft}
 use Rattle.tree_format.specs.declared.kind.PlanKind.{PlanKind}
 use Rattle.tree_format.specs.declared.kind.PlanKind.TheVariants.{EarlyEnd, Rest}
-use Rattle.tree_format.specs.declared.stop.LineStop.{LineStop}
-use Rattle.tree_format.specs.declared.stop.LineStop.TheVariants.{Fault, NoMemory}
+use Rattle.tree_format.specs.declared.kind.PlanFault.{PlanFault}
+use Rattle.tree_format.specs.declared.stop.PlanStop.{PlanStop}
+use Rattle.tree_format.specs.declared.stop.PlanStop.TheVariants.{Fault, NoMemory}
 use Rattle.tree_format.specs.Pieces.{pieces_of, fields_of}
-use Rattle.tree_format.specs.State.{State}
-use Rattle.tree_format.specs.Gives.{TakesLine, Gives}
-use Rattle.tree_format.specs.Reading.{line_at, pieces_at, is_ended}
+use Rattle.tree_format.specs.Gives.{Adds, TakesLine, Gives, plan_of}
+use Rattle.tree_format.specs.Reading.{line_at, pieces_at, is_ended, next, taken, at_line_number}
 use Rattle.tree_format.proofs.Cuts.{some_piece, split_nothing, some_left}
 
-unended : (stage : Stage) → (stage ≡ Ended → ⊥) → is_ended stage ≡ false
-unended Version h = refl
-unended Path h = refl
-unended Chance h = refl
-unended Count h = refl
-unended Records h = refl
-unended Ended h = absurd (h refl)
+unended : (stage : Stage) → (stage ≡ due.Ended → ⊥) → is_ended stage ≡ false
+unended due.Version h = refl
+unended due.Path h = refl
+unended due.Chance h = refl
+unended due.Count h = refl
+unended (due.Records left) h = refl
+unended due.Ended h = absurd (h refl)
 
-pub at_line : (p : Problem) (s t : State) (rest line after : List ℕ) (all : Result State PlanKind) → (s.stage ≡ Ended → ⊥) → pieces_of rest ≡ line ∷ pieces_of after → line_at p s (fields_of line) ≡ Ok t → pieces_at p s (pieces_of rest) ≡ all → pieces_at p t (pieces_of after) ≡ all
-unfolding pieces_at
-at_line p s t rest line after all goes e f so_far = sym (rw (e, unended s.stage goes, some_piece 10 after, f) refl) ∙ so_far
+module _ (p : Problem) (number : ℕ) (stage : Stage) (plan : Plan) where
+  -- a line that is taken
+  pub at_line : (said : PlanLine) (rest line after : List ℕ) (all : Result Plan PlanFault) → (stage ≡ due.Ended → ⊥) → pieces_of rest ≡ line ∷ pieces_of after → line_at p stage (fields_of line) ≡ Ok said → pieces_at p number stage plan (pieces_of rest) ≡ all → pieces_at p (number + 1) (next stage said) (taken plan said) (pieces_of after) ≡ all
+  unfolding pieces_at
+  at_line said rest line after all goes e f so_far = sym (rw (e, unended stage goes, some_piece 10 after, f) refl) ∙ so_far
 
-pub at_stop : (p : Problem) (s : State) (new : Draft) (stop : LineStop) (rest line after : List ℕ) (all : Result State PlanKind) → (s.stage ≡ Ended → ⊥) → pieces_of rest ≡ line ∷ pieces_of after → TakesLine new (Err stop) (line_at p s (fields_of line)) → pieces_at p s (pieces_of rest) ≡ all → Gives (Err stop) all
-unfolding pieces_at
-at_stop p s new (Fault kind) rest line after all goes e f so_far = sym so_far ∙ rw (e, unended s.stage goes, some_piece 10 after, f) refl
-at_stop p s new NoMemory rest line after all goes e f so_far = tt
+  -- a line with a fault
+  pub at_fault : (kind : PlanKind) (rest line after : List ℕ) (all : Result Plan PlanFault) → (stage ≡ due.Ended → ⊥) → pieces_of rest ≡ line ∷ pieces_of after → line_at p stage (fields_of line) ≡ Err kind → pieces_at p number stage plan (pieces_of rest) ≡ all → all ≡ Err (at_line_number number kind)
+  unfolding pieces_at
+  at_fault kind rest line after all goes e f so_far = sym so_far ∙ rw (e, unended stage goes, some_piece 10 after, f) refl
 
-pub at_early : (p : Problem) (s : State) (rest : List ℕ) (all : Result State PlanKind) → (s.stage ≡ Ended → ⊥) → pieces_of rest ≡ rest ∷ [] → pieces_at p s (pieces_of rest) ≡ all → all ≡ Err EarlyEnd
-unfolding pieces_at
-at_early p s rest all goes e so_far = sym so_far ∙ rw (e, unended s.stage goes) refl
+  -- a line without its line feed
+  pub at_early : (rest : List ℕ) (all : Result Plan PlanFault) → (stage ≡ due.Ended → ⊥) → pieces_of rest ≡ rest ∷ [] → pieces_at p number stage plan (pieces_of rest) ≡ all → all ≡ Err (at_line_number number EarlyEnd)
+  unfolding pieces_at
+  at_early rest all goes e so_far = sym so_far ∙ rw (e, unended stage goes) refl
 
-pub at_end : (p : Problem) (s : State) (rest : List ℕ) (all : Result State PlanKind) → s.stage ≡ Ended → length rest ≡ 0 → pieces_at p s (pieces_of rest) ≡ all → all ≡ Ok s
-unfolding pieces_at
-at_end p s [] all ended none so_far = sym so_far ∙ rw (split_nothing 10, ended) refl
-at_end p s (c ∷ cs) all ended none so_far = absurd (omega arith)
+  -- nothing behind the end
+  pub at_end : (rest : List ℕ) (all : Result Plan PlanFault) → stage ≡ due.Ended → length rest ≡ 0 → pieces_at p number stage plan (pieces_of rest) ≡ all → all ≡ Ok plan
+  unfolding pieces_at
+  at_end [] all ended none so_far = sym so_far ∙ rw (split_nothing 10, ended) refl
+  at_end (c ∷ cs) all ended none so_far = absurd (omega arith)
 
-onto_left : (pieces : List (List ℕ)) (p : Problem) (s : State) (c : ℕ) → s.stage ≡ Ended → pieces_at p s (onto_first c pieces) ≡ Err Rest
-unfolding pieces_at
-onto_left [] p s c ended = rw ended refl
-onto_left (piece ∷ pieces) p s c ended = rw (ended, ne_eqb (length (c ∷ piece)) 0 (λ e. omega arith)) refl
+  onto_left : (pieces : List (List ℕ)) (c : ℕ) → stage ≡ due.Ended → pieces_at p number stage plan (onto_first c pieces) ≡ Err (at_line_number number Rest)
+  unfolding pieces_at
+  onto_left [] c ended = rw ended refl
+  onto_left (piece ∷ pieces) c ended = rw (ended, ne_eqb (length (c ∷ piece)) 0 (λ e. omega arith)) refl
 
-feed_left : (p : Problem) (s : State) (cs : List ℕ) → s.stage ≡ Ended → pieces_at p s ([] ∷ pieces_of cs) ≡ Err Rest
-unfolding pieces_at
-feed_left p s cs ended = rw (ended, some_piece 10 cs) refl
+  feed_left : (cs : List ℕ) → stage ≡ due.Ended → pieces_at p number stage plan ([] ∷ pieces_of cs) ≡ Err (at_line_number number Rest)
+  unfolding pieces_at
+  feed_left cs ended = rw (ended, some_piece 10 cs) refl
 
-pub at_rest : (p : Problem) (s : State) (rest : List ℕ) (all : Result State PlanKind) → s.stage ≡ Ended → (length rest ≡ 0 → ⊥) → pieces_at p s (pieces_of rest) ≡ all → all ≡ Err Rest
-at_rest p s [] all ended some so_far = absurd (some refl)
-at_rest p s (c ∷ cs) all ended some so_far =
-    elim (some_left 10 c cs) [
-      | inl e ↦ sym so_far ∙ ap (pieces_at p s) e ∙ feed_left p s cs ended
-      | inr e ↦ sym so_far ∙ ap (pieces_at p s) e ∙ onto_left (pieces_of cs) p s c ended
-    ]
+  -- a byte behind the end
+  pub at_rest : (rest : List ℕ) (all : Result Plan PlanFault) → stage ≡ due.Ended → (length rest ≡ 0 → ⊥) → pieces_at p number stage plan (pieces_of rest) ≡ all → all ≡ Err (at_line_number number Rest)
+  at_rest [] all ended some so_far = absurd (some refl)
+  at_rest (c ∷ cs) all ended some so_far =
+      elim (some_left 10 c cs) [
+        | inl e ↦ sym so_far ∙ ap (pieces_at p number stage plan) e ∙ feed_left cs ended
+        | inr e ↦ sym so_far ∙ ap (pieces_at p number stage plan) e ∙ onto_left (pieces_of cs) c ended
+      ]
+
+  -- reading stopped at a line
+  pub at_stop : (old new : Draft) (stop : PlanStop) (rest line after : List ℕ) (all : Result Plan PlanFault) → (stage ≡ due.Ended → ⊥) → pieces_of rest ≡ line ∷ pieces_of after → TakesLine number old new (Err stop) (line_at p stage (fields_of line)) → pieces_at p number stage plan (pieces_of rest) ≡ all → Gives (Err stop) all
+  at_stop old new (Fault fault) rest line after all goes e f so_far = at_fault f.0 rest line after all goes e f.1 so_far ∙ ap Err (sym f.2)
+  at_stop old new NoMemory rest line after all goes e f so_far = tt
+
+-- a line was added to a draft
+pub at_added : (p : Problem) (number : ℕ) (old new : Draft) (rest line after : List ℕ) (all : Result Plan PlanFault) → (old.stage ≡ due.Ended → ⊥) → pieces_of rest ≡ line ∷ pieces_of after → (said : PlanLine) × (line_at p old.stage (fields_of line) ≡ Ok said) × Adds old new said → pieces_at p number old.stage (plan_of old) (pieces_of rest) ≡ all → pieces_at p (number + 1) new.stage (plan_of new) (pieces_of after) ≡ all
+at_added p number old new rest line after all goes e f so_far =
+    ap (λ (stage : Stage). pieces_at p (number + 1) stage (plan_of new) (pieces_of after)) f.2.stage
+    ∙ ap (λ (plan : Plan). pieces_at p (number + 1) (next old.stage f.0) plan (pieces_of after)) f.2.plan
+    ∙ at_line p number old.stage (plan_of old) f.0 rest line after all goes e f.1 so_far
 
 -- a test that the end was read failed
-pub goes_on : (ended : Bool) (stage : Stage) → (stage ≡ Ended → IsTrue ended) → ended ≡ false → stage ≡ Ended → ⊥
+pub goes_on : (ended : Bool) (stage : Stage) → (stage ≡ due.Ended → IsTrue ended) → ended ≡ false → stage ≡ due.Ended → ⊥
 goes_on ended stage test failed e = let yes_ended = test e in grind (arith, common_steps)
 
-pub ruleset loop_steps = (at_stop, at_line, at_early, at_end, at_rest)
+pub ruleset loop_steps = (at_stop, at_added, at_early, at_end, at_rest)

@@ -1,33 +1,56 @@
 -- What a function of the reader returns, seen by what reading gives.
-use Rattle.std.specs.Prelude.{◌≡◌, Result, Ok, Err}
+use Rattle.std.specs.Prelude.{◌≡◌, ℕ, List, Result, Ok, Err}
+use Rattle.search_model.specs.Problem.{Problem}
 use Rattle.bound_tree.specs.declared.plan.Plan.{Plan}
 use Rattle.tree_format.specs.declared.draft.Draft.{Draft}
 use Rattle.tree_format.specs.declared.kind.PlanKind.{PlanKind}
-use Rattle.tree_format.specs.declared.stop.LineStop.{LineStop}
-use Rattle.tree_format.specs.declared.stop.LineStop.TheVariants.{Fault, NoMemory}
+use Rattle.tree_format.specs.declared.kind.PlanFault.{PlanFault}
+use Rattle.tree_format.specs.declared.plan_line.PlanLine.{PlanLine}
 use Rattle.tree_format.specs.declared.stop.PlanStop.{PlanStop}
-use Rattle.tree_format.specs.declared.stop.PlanStop.TheVariants as plan_stops
-use Rattle.tree_format.specs.State.{State, state_of}
+use Rattle.tree_format.specs.declared.stop.PlanStop.TheVariants.{Fault, NoMemory}
+use Rattle.tree_format.specs.Reading.{plan_at, next, taken, at_line_number}
 
--- the line was taken as reading takes it, or has that fault, unless memory ran out
-abbrev pub TakesLine : Draft → Result (Unit {0}) LineStop → Result State PlanKind → Type 0
-TakesLine new (Ok _) read = read ≡ Ok (state_of new)
-TakesLine new (Err (Fault kind)) read = read ≡ Err kind
-TakesLine new (Err NoMemory) read = Unit {0}
+-- the plan of what a draft has read
+abbrev pub plan_of : Draft → Plan
+plan_of d = record { standing = record { path = d.path; value = d.value }; weight = d.weight; tree = d.nodes.items }
+
+-- a line was added, unless memory ran out
+pub record Adds (old new : Draft) (line : PlanLine) : Type 0 where
+  pub stage : new.stage ≡ next old.stage line
+  pub plan : plan_of new ≡ taken (plan_of old) line
+
+-- the line of this number was added, or has that fault, unless memory ran out
+abbrev pub TakesLine : ℕ → Draft → Draft → Result (Unit {0}) PlanStop → Result PlanLine PlanKind → Type 0
+TakesLine number old new (Ok _) said = (line : PlanLine) × (said ≡ Ok line) × Adds old new line
+TakesLine number old new (Err (Fault fault)) said = (kind : PlanKind) × (said ≡ Err kind) × (fault ≡ at_line_number number kind)
+TakesLine number old new (Err NoMemory) said = Unit {0}
 
 -- the text was read as its lines are, or has that fault, unless memory ran out
-abbrev pub Gives : Result Draft LineStop → Result State PlanKind → Type 0
-Gives (Ok draft) read = read ≡ Ok (state_of draft)
-Gives (Err (Fault kind)) read = read ≡ Err kind
+abbrev pub Gives : Result Draft PlanStop → Result Plan PlanFault → Type 0
+Gives (Ok draft) read = read ≡ Ok (plan_of draft)
+Gives (Err (Fault fault)) read = read ≡ Err fault
 Gives (Err NoMemory) read = Unit {0}
 
--- the answer to a caller
-abbrev pub plan_stop_of : LineStop → PlanStop
-plan_stop_of (Fault kind) = plan_stops.NotPlan
-plan_stop_of NoMemory = plan_stops.NoMemory
+-- the plan that the text spells, or its first fault, unless memory ran out
+abbrev pub ReadsPlan : Problem → List ℕ → Result Plan PlanStop → Type 0
+ReadsPlan p text (Ok plan) = plan_at p text ≡ Ok plan
+ReadsPlan p text (Err (Fault fault)) = plan_at p text ≡ Err fault
+ReadsPlan p text (Err NoMemory) = Unit {0}
 
 -- this plan was read, unless memory ran out
 abbrev pub Says : Result Plan PlanStop → Plan → Type 0
 Says (Ok read) plan = read ≡ plan
-Says (Err plan_stops.NotPlan) plan = ⊥
-Says (Err plan_stops.NoMemory) plan = Unit {0}
+Says (Err (Fault fault)) plan = ⊥
+Says (Err NoMemory) plan = Unit {0}
+
+-- this fault was told, unless memory ran out
+abbrev pub Tells : Result Plan PlanStop → PlanFault → Type 0
+Tells (Ok read) fault = ⊥
+Tells (Err (Fault told)) fault = told ≡ fault
+Tells (Err NoMemory) fault = Unit {0}
+
+-- this holds of a fault that was told
+abbrev pub IfFault : Result Plan PlanStop → (PlanFault → Type 0) → Type 0
+IfFault (Ok read) P = Unit {0}
+IfFault (Err (Fault told)) P = P told
+IfFault (Err NoMemory) P = Unit {0}

@@ -1,7 +1,9 @@
 pub mod PlanText
 pub mod RecordParts
 pub mod Pieces
-pub mod State
+pub mod Kinds
 pub mod Reading
 pub mod Gives
+pub mod Faults
+pub mod KindTable
 pub mod ReadingLaws

@@ -79,3 +79,9 @@ pub record IsNarrow (plan : Plan) : Type 0 where
   pub value : plan.standing.value < 2 ^ 128
   pub weight : plan.weight < 2 ^ 128
   pub records : All (λ r. IsNarrowKind r.kind) plan.tree
+
+-- the bytes are the one text of this plan, which has one
+pub record IsPlanText (p : Problem) (plan : Plan) (text : List ℕ) : Type 0 where
+  pub printable : IsPrintable p plan
+  pub narrow : IsNarrow plan
+  pub spelled : text ≡ plan_text p plan

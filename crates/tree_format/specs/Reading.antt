@@ -1,5 +1,5 @@
--- Reading line by line: what a line adds to what has been read, or its first fault.
-use Rattle.std.specs.Prelude.{ℕ, ◌-◌, ◌*◌, Bool, true, false, ◌&&◌, ◌==◌, nat_lt, nat_le, if◌then◌else◌, List, [], ◌∷◌, ◌++◌, length, take, drop, Option, Some, None, position, Result, Ok, Err, codes}
+-- Reading line by line: what each line says, or its first fault.
+use Rattle.std.specs.Prelude.{ℕ, ◌+◌, ◌-◌, ◌*◌, Bool, true, false, ◌&&◌, ◌==◌, nat_le, if◌then◌else◌, List, [], ◌∷◌, ◌++◌, map, length, take, drop, Option, Some, None, position, Result, Ok, Err, codes}
 use Rattle.std.specs.List.{list_any}
 use Rattle.std.specs.Str.{bytes_eq}
 use Rattle.exact_parts.specs.declared.number.Number.{Number}
@@ -9,19 +9,24 @@ use Rattle.search_model.specs.Problem.{Problem}
 use Rattle.bound_tree.specs.declared.node.Kind.{Kind}
 use Rattle.bound_tree.specs.declared.node.Kind.TheVariants.{Branch, Whole, Mean, Tangent}
 use Rattle.bound_tree.specs.declared.node.TreeNode.{TreeNode}
-use Rattle.tree_format.specs.declared.draft.Stage.{Stage}
-use Rattle.tree_format.specs.declared.draft.Stage.TheVariants.{Version, Path, Chance, Count, Records, Ended}
+use Rattle.bound_tree.specs.declared.plan.Plan.{Plan}
+use Rattle.tree_format.specs.declared.plan_line.Stage.{Stage}
+use Rattle.tree_format.specs.declared.plan_line.Stage.TheVariants as due
+use Rattle.tree_format.specs.declared.plan_line.PlanLine.{PlanLine}
+use Rattle.tree_format.specs.declared.plan_line.PlanLine.TheVariants.{Version, Path, Chance, Count, Node, End}
 use Rattle.tree_format.specs.declared.kind.PlanKind.{PlanKind}
 use Rattle.tree_format.specs.declared.kind.PlanKind.TheVariants.{BadLine, BadNumber, UnknownName, TooManyNodes, WrongCount, EarlyEnd, Rest}
+use Rattle.tree_format.specs.declared.kind.PlanFault.{PlanFault}
 use Rattle.tree_format.specs.declared.record_lines.Bounded.{Bounded}
-use Rattle.tree_format.specs.Pieces.{fields_of}
-use Rattle.tree_format.specs.State.{State}
+use Rattle.tree_format.specs.Pieces.{pieces_of, fields_of}
 
+-- a field is a word
 abbrev pub is_word : List ℕ → List ℕ → Bool
 is_word field word = bytes_eq field word
 
 -- Numbers and names.
 
+-- a number within its limit
 abbrev pub said : Number → Option ℕ
 said NotPlain = None
 said Above = None
@@ -39,6 +44,7 @@ place_in p field = said (number_at (p.positions - 1) field)
 abbrev pub position_named : Problem → List ℕ → Option ℕ
 position_named p name = position (λ n. bytes_eq n name) p.names
 
+-- what a field says, in front of what others say
 abbrev pub in_front : Option ℕ → Option (List ℕ) → Option (List ℕ)
 in_front None qs = None
 in_front (Some q) None = None
@@ -52,40 +58,41 @@ all_of says (field ∷ fields) = in_front (says field) (all_of says fields)
 -- The lines above the records.
 
 -- `plan 1`
-abbrev pub version_line : State → List (List ℕ) → Result State PlanKind
-version_line s (word ∷ version ∷ []) =
-    if is_word word (codes "plan") && is_word version (codes "1") then Ok (record s { stage = Path }) else Err BadLine
-version_line s _ = Err BadLine
+abbrev pub version_line : List (List ℕ) → Result PlanLine PlanKind
+version_line (word ∷ version ∷ []) = if is_word word (codes "plan") && is_word version (codes "1") then Ok Version else Err BadLine
+version_line _ = Err BadLine
 
 -- `path NAME ..`
-abbrev pub with_path : State → Option (List ℕ) → Result State PlanKind
-with_path s None = Err UnknownName
-with_path s (Some q) = Ok (record s { stage = Chance; path = q })
+abbrev pub path_said : Option (List ℕ) → Result PlanLine PlanKind
+path_said None = Err UnknownName
+path_said (Some q) = Ok (Path q)
 
-abbrev pub path_line : Problem → State → List (List ℕ) → Result State PlanKind
-path_line p s (word ∷ names) =
-    if is_word word (codes "path") && (nat_le 1 (length names) && nat_le (length names) 32) then with_path s (all_of (position_named p) names) else Err BadLine
-path_line p s [] = Err BadLine
+-- the keyword and the number of names go before the names
+abbrev pub path_line : Problem → List (List ℕ) → Result PlanLine PlanKind
+path_line p (word ∷ names) =
+    if is_word word (codes "path") && (nat_le 1 (length names) && nat_le (length names) 32) then path_said (all_of (position_named p) names) else Err BadLine
+path_line p [] = Err BadLine
 
 -- `chance V W`
-abbrev pub with_chance : State → Option ℕ → Option ℕ → Result State PlanKind
-with_chance s None weight = Err BadNumber
-with_chance s (Some v) None = Err BadNumber
-with_chance s (Some v) (Some w) = Ok (record s { stage = Count; value = v; weight = w })
+abbrev pub chance_said : Option ℕ → Option ℕ → Result PlanLine PlanKind
+chance_said None weight = Err BadNumber
+chance_said (Some v) None = Err BadNumber
+chance_said (Some v) (Some w) = Ok (Chance v w)
 
-abbrev pub chance_line : State → List (List ℕ) → Result State PlanKind
-chance_line s (word ∷ value ∷ weight ∷ []) =
-    if is_word word (codes "chance") then with_chance s (amount_in value) (amount_in weight) else Err BadLine
-chance_line s _ = Err BadLine
+-- the keyword and the number of fields go before the numbers
+abbrev pub chance_line : List (List ℕ) → Result PlanLine PlanKind
+chance_line (word ∷ value ∷ weight ∷ []) = if is_word word (codes "chance") then chance_said (amount_in value) (amount_in weight) else Err BadLine
+chance_line _ = Err BadLine
 
 -- `nodes N`
-abbrev pub with_count : State → Option ℕ → Result State PlanKind
-with_count s None = Err BadNumber
-with_count s (Some n) = if nat_le n 1048576 then Ok (record s { stage = Records; count = n }) else Err TooManyNodes
+abbrev pub count_said : Option ℕ → Result PlanLine PlanKind
+count_said None = Err BadNumber
+count_said (Some n) = if nat_le n 1048576 then Ok (Count n) else Err TooManyNodes
 
-abbrev pub count_line : State → List (List ℕ) → Result State PlanKind
-count_line s (word ∷ n ∷ []) = if is_word word (codes "nodes") then with_count s (amount_in n) else Err BadLine
-count_line s _ = Err BadLine
+-- and so here
+abbrev pub count_line : List (List ℕ) → Result PlanLine PlanKind
+count_line (word ∷ n ∷ []) = if is_word word (codes "nodes") then count_said (amount_in n) else Err BadLine
+count_line _ = Err BadLine
 
 -- The records.
 
@@ -94,6 +101,7 @@ abbrev pub branch_of : Option (List ℕ) → Result TreeNode PlanKind
 branch_of None = Err BadNumber
 branch_of (Some q) = Ok (record { prefix = q; kind = Branch })
 
+-- the number of cells goes before the cells
 abbrev pub branch_line : Problem → List (List ℕ) → Result TreeNode PlanKind
 branch_line p cells = if nat_le (length cells) p.horizon then branch_of (all_of (place_in p) cells) else Err BadLine
 
@@ -103,10 +111,12 @@ bounded_of None q = Err BadNumber
 bounded_of (Some n) None = Err BadNumber
 bounded_of (Some n) (Some q) = Ok (record { bound = n; prefix = q })
 
+-- at least the number, and at most as many cells as periods
 abbrev pub bounded_line : Problem → List (List ℕ) → Result Bounded PlanKind
 bounded_line p [] = Err BadLine
 bounded_line p (bound ∷ cells) = if nat_le (length cells) p.horizon then bounded_of (amount_in bound) (all_of (place_in p) cells) else Err BadLine
 
+-- a record of that kind
 abbrev pub node_of : (ℕ → Kind) → Result Bounded PlanKind → Result TreeNode PlanKind
 node_of kind (Err fault) = Err fault
 node_of kind (Ok b) = Ok (record { prefix = b.prefix; kind = kind b.bound })
@@ -118,12 +128,14 @@ tangent_of (Some n) None reference = Err BadNumber
 tangent_of (Some n) (Some q) None = Err BadNumber
 tangent_of (Some n) (Some q) (Some reference) = Ok (record { prefix = q; kind = Tangent n reference })
 
+-- as many cells as periods, up to twice as many
 abbrev pub tangent_at : Problem → List ℕ → List (List ℕ) → Result TreeNode PlanKind
 tangent_at p bound cells =
     if nat_le p.horizon (length cells) && nat_le (length cells) (2 * p.horizon)
     then tangent_of (amount_in bound) (all_of (place_in p) (take (length cells - p.horizon) cells)) (all_of (place_in p) (drop (length cells - p.horizon) cells))
     else Err BadLine
 
+-- at least the number
 abbrev pub tangent_line : Problem → List (List ℕ) → Result TreeNode PlanKind
 tangent_line p [] = Err BadLine
 tangent_line p (bound ∷ cells) = tangent_at p bound cells
@@ -137,47 +149,93 @@ node_line p (letter ∷ fields) =
     (if is_word letter (codes "M") then node_of (λ n. Mean n) (bounded_line p fields) else
     (if is_word letter (codes "T") then tangent_line p fields else Err BadLine)))
 
-abbrev pub with_node : State → Result TreeNode PlanKind → Result State PlanKind
-with_node s (Err fault) = Err fault
-with_node s (Ok r) = if nat_lt (length s.tree) s.count then Ok (record s { tree = s.tree ++ r ∷ [] }) else Err WrongCount
+-- a record that is right in its form stands only where one is left
+abbrev pub node_said : ℕ → Result TreeNode PlanKind → Result PlanLine PlanKind
+node_said left (Err fault) = Err fault
+node_said left (Ok r) = if left == 0 then Err WrongCount else Ok (Node r)
 
 -- `end`
 abbrev pub is_end : List (List ℕ) → Bool
 is_end (word ∷ []) = is_word word (codes "end")
 is_end _ = false
 
-abbrev pub end_line : State → Result State PlanKind
-end_line s = if length s.tree == s.count then Ok (record s { stage = Ended }) else Err WrongCount
+-- it stands only where no record is left
+abbrev pub end_said : ℕ → Result PlanLine PlanKind
+end_said left = if left == 0 then Ok End else Err WrongCount
 
-abbrev pub record_line : Problem → State → List (List ℕ) → Result State PlanKind
-record_line p s fields = if is_end fields then end_line s else with_node s (node_line p fields)
+-- a record or `end`
+abbrev pub record_line : Problem → ℕ → List (List ℕ) → Result PlanLine PlanKind
+record_line p left fields = if is_end fields then end_said left else node_said left (node_line p fields)
 
 -- All lines.
 
-abbrev pub stage_line : Stage → Problem → State → List (List ℕ) → Result State PlanKind
-stage_line Version p s fields = version_line s fields
-stage_line Path p s fields = path_line p s fields
-stage_line Chance p s fields = chance_line s fields
-stage_line Count p s fields = count_line s fields
-stage_line Records p s fields = record_line p s fields
-stage_line Ended p s fields = Err BadLine
+-- what a line says where it is due
+abbrev pub stage_line : Problem → Stage → List (List ℕ) → Result PlanLine PlanKind
+stage_line p due.Version fields = version_line fields
+stage_line p due.Path fields = path_line p fields
+stage_line p due.Chance fields = chance_line fields
+stage_line p due.Count fields = count_line fields
+stage_line p (due.Records left) fields = record_line p left fields
+stage_line p due.Ended fields = Err BadLine
 
--- what a line adds, by its fields
-unfoldable pub line_at : Problem → State → List (List ℕ) → Result State PlanKind
-line_at p s fields = if list_any (λ f. length f == 0) fields then Err BadLine else stage_line s.stage p s fields
+-- what a line says, by its fields
+unfoldable pub line_at : Problem → Stage → List (List ℕ) → Result PlanLine PlanKind
+line_at p stage fields = if list_any (λ f. length f == 0) fields then Err BadLine else stage_line p stage fields
 
+-- one record less is left
+abbrev pub one_less : Stage → Stage
+one_less (due.Records left) = due.Records (left - 1)
+one_less stage = stage
+
+-- what is due behind a line
+abbrev pub next : Stage → PlanLine → Stage
+next stage Version = due.Path
+next stage (Path q) = due.Chance
+next stage (Chance v w) = due.Count
+next stage (Count n) = due.Records n
+next stage (Node r) = one_less stage
+next stage End = due.Ended
+
+-- nothing was read
+abbrev pub blank_plan : Plan
+blank_plan = record { standing = record { path = []; value = 0 }; weight = 0; tree = [] }
+
+-- what was read, and a line more
+abbrev pub taken : Plan → PlanLine → Plan
+taken plan Version = plan
+taken plan (Path q) = record { standing = record { path = q; value = plan.standing.value }; weight = plan.weight; tree = plan.tree }
+taken plan (Chance v w) = record { standing = record { path = plan.standing.path; value = v }; weight = w; tree = plan.tree }
+taken plan (Count n) = plan
+taken plan (Node r) = record { standing = plan.standing; weight = plan.weight; tree = plan.tree ++ r ∷ [] }
+taken plan End = plan
+
+-- the last line was read
 abbrev pub is_ended : Stage → Bool
-is_ended Ended = true
+is_ended due.Ended = true
 is_ended _ = false
 
--- the line feed of the line that is due is missing
-abbrev pub go_on : Result State PlanKind → (State → Result State PlanKind) → Result State PlanKind
-go_on (Err fault) more = Err fault
-go_on (Ok s) more = more s
+-- a kind of fault, with the number of its line
+abbrev pub at_line_number : ℕ → PlanKind → PlanFault
+at_line_number number kind = record { line = number; kind = kind }
 
--- what the pieces of a text say: the lines up to `end`, and then nothing
-unfoldable pub pieces_at : Problem → State → List (List ℕ) → Result State PlanKind
-pieces_at p s [] = Err EarlyEnd
-pieces_at p s (line ∷ rest) =
-    if is_ended s.stage then (if length line == 0 && length rest == 0 then Ok s else Err Rest) else
-    (if length rest == 0 then Err EarlyEnd else go_on (line_at p s (fields_of line)) (λ t. pieces_at p t rest))
+-- a fault of a line, or what follows the line
+abbrev pub go_on : ℕ → Result PlanLine PlanKind → (PlanLine → Result Plan PlanFault) → Result Plan PlanFault
+go_on number (Err kind) more = Err (at_line_number number kind)
+go_on number (Ok line) more = more line
+
+-- what the pieces of a text say, the first of them having this number: the lines up to `end`, and then nothing; the first
+-- line with a fault decides, and a line that is due and has no line feed has that fault before all others
+unfoldable pub pieces_at : Problem → ℕ → Stage → Plan → List (List ℕ) → Result Plan PlanFault
+pieces_at p number stage plan [] = Err (at_line_number number EarlyEnd)
+pieces_at p number stage plan (line ∷ rest) =
+    if is_ended stage then (if length line == 0 && length rest == 0 then Ok plan else Err (at_line_number number Rest)) else
+    (if length rest == 0 then Err (at_line_number number EarlyEnd) else
+    go_on number (line_at p stage (fields_of line)) (λ said. pieces_at p (number + 1) (next stage said) (taken plan said) rest))
+
+-- the plan that a text spells, or its first fault
+abbrev pub plan_at : Problem → List ℕ → Result Plan PlanFault
+plan_at p text = pieces_at p 1 due.Version blank_plan (pieces_of text)
+
+-- the first 40 bytes of each of the first 70 fields: the judge of a line needs no more of it
+abbrev pub summary_of : List (List ℕ) → List (List ℕ)
+summary_of fields = map (λ f. take 40 f) (take 70 fields)

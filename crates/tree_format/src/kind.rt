@@ -1,4 +1,7 @@
-/// What is wrong with a line of a plan text; the first of these that holds is named.
+ghost use Rattle.std.specs.Prelude.{◌≡◌};
+ghost use Rattle.tree_format.specs.Kinds.{name_of};
+
+/// What is wrong with a line of a plan text; in one line the first of these that holds is named, `EarlyEnd` before all.
 #[derive(Clone, Copy, Debug, PartialEq, Eq)]
 pub enum PlanKind {
     /// The keyword or letter is wrong for this line, or the number of its fields is, or a field is empty.
@@ -15,4 +18,26 @@ pub enum PlanKind {
     EarlyEnd,
     /// A byte follows the last line.
     Rest,
+}
+
+/// The first line with a fault, counted from 1.
+#[derive(Clone, Copy, Debug, PartialEq, Eq)]
+pub struct PlanFault {
+    pub line: u64,
+    pub kind: PlanKind,
+}
+
+/// The kind's name, as it is told beside the line.
+pub fn plan_kind_name(kind: PlanKind) -> &'static str
+    ensures { result.now ≡ name_of kind }
+{
+    match kind {
+        PlanKind::BadLine => "BadLine",
+        PlanKind::BadNumber => "BadNumber",
+        PlanKind::UnknownName => "UnknownName",
+        PlanKind::TooManyNodes => "TooManyNodes",
+        PlanKind::WrongCount => "WrongCount",
+        PlanKind::EarlyEnd => "EarlyEnd",
+        PlanKind::Rest => "Rest",
+    }
 }

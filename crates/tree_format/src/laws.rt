@@ -1,6 +1,7 @@
 //! Laws over the definitions.
 
-ghost use Rattle.tree_format.specs.ReadingLaws.{PlanTextReadsBack, OnePlanAText};
+ghost use Rattle.tree_format.specs.KindTable.{KindsByTable};
+ghost use Rattle.tree_format.specs.ReadingLaws.{PlanTextReadsBack, OneTextAPlan, OnePlanAText, FirstFaultDecides, SummaryDecides};
 
 /// The text of a plan reads back as that plan.
 #[tactic(auto, using(crate::proofs::ReadsBack::plan_text_reads_back))]
@@ -8,8 +9,32 @@ pub fn plan_text_reads_back()
     ensures { PlanTextReadsBack }
 {}
 
+/// What is read as a plan is the text of that plan: a plan has one.
+#[tactic(auto, using(crate::proofs::Spelled::one_text_a_plan))]
+pub fn one_text_a_plan()
+    ensures { OneTextAPlan }
+{}
+
 /// Two plans of one text are one plan.
 #[tactic(auto, using(crate::proofs::ReadsBack::one_plan_a_text))]
 pub fn one_plan_a_text()
     ensures { OnePlanAText }
+{}
+
+/// The fault that reading gives is the first: the lines before it are right.
+#[tactic(auto, using(crate::proofs::FirstFaults::first_fault_decides))]
+pub fn first_fault_decides()
+    ensures { FirstFaultDecides }
+{}
+
+/// The judge of a line needs no more of it than the first 40 bytes of each of its first 70 fields.
+#[tactic(auto, using(crate::proofs::Summaries::summary_decides))]
+pub fn summary_decides()
+    ensures { SummaryDecides }
+{}
+
+/// A line has the fault that the table of kinds gives: the first kind whose test holds.
+#[tactic(auto, using(crate::proofs::Tables::kinds_by_table))]
+pub fn kinds_by_table()
+    ensures { KindsByTable }
 {}

@@ -1,6 +1,7 @@
 //! The text of plans.
 #![tactic(auto)]
 
+mod adding;
 mod draft;
 mod fields;
 mod head;
@@ -9,8 +10,7 @@ mod kind;
 mod laws;
 mod lines;
 mod pieces;
-mod plain;
-mod printable;
+mod plan_line;
 mod printing;
 mod reading;
 mod record_lines;
@@ -20,8 +20,11 @@ mod stop;
 mod tests;
 mod writing;
 
-pub use laws::{one_plan_a_text, plan_text_reads_back};
-pub use plain::read_plain_plan;
+pub use kind::{PlanFault, PlanKind, plan_kind_name};
+pub use laws::{
+    first_fault_decides, kinds_by_table, one_plan_a_text, one_text_a_plan, plan_text_reads_back,
+    summary_decides,
+};
 pub use printing::print_plan;
 pub use reading::read_plan;
 pub use stop::PlanStop;

@@ -1,21 +1,15 @@
-//! One line, by the stage of what was read.
+//! The judge of a line: what it says, or its first fault.
 
 ghost use Rattle.std.specs.Prelude.{◌≡◌, ◌==◌, map, length};
 ghost use Rattle.std.specs.List.{list_any};
-ghost use Rattle.tree_format.specs.State.{state_of};
-ghost use Rattle.tree_format.specs.Gives.{TakesLine};
-ghost use Rattle.tree_format.specs.Pieces.{fields_of as fields_lem};
-ghost use Rattle.tree_format.specs.Reading.{is_end as is_end_lem, end_line, record_line, stage_line, line_at};
+ghost use Rattle.tree_format.specs.Reading.{is_end as is_end_lem, end_said, node_said, record_line, stage_line, line_at};
 
-use crate::draft::{Draft, Stage};
-use crate::head_lines::{take_chance, take_count, take_path, take_version};
+use crate::head_lines::{read_chance, read_count, read_path, read_version};
 use crate::kind::PlanKind;
-use crate::pieces::fields_of;
-use crate::record_lines::{push_node, read_node};
-use crate::stop::LineStop;
+use crate::plan_line::{PlanLine, Stage};
+use crate::record_lines::read_node;
 use bound_tree::TreeNode;
 use search_model::Scenario;
-use std::alloc::Global;
 
 fn is_end(fields: &[&[u8]]) -> bool
     ensures { result ≡ is_end_lem (map (λ f. f.now) fields.now) }
@@ -26,38 +20,47 @@ fn is_end(fields: &[&[u8]]) -> bool
     }
 }
 
-fn take_end(draft: &mut Draft) -> Result<(), LineStop>
-    ensures { TakesLine draft.new result (end_line (state_of draft.old)) }
+fn ending(left: u64) -> Result<PlanLine, PlanKind>
+    ensures { result ≡ end_said left }
 {
-    if draft.nodes.len() as u128 != draft.count {
-        return Err(LineStop::Fault(PlanKind::WrongCount));
+    if left == 0 {
+        Ok(PlanLine::End)
+    } else {
+        Err(PlanKind::WrongCount)
     }
-    draft.stage = Stage::Ended;
-    Ok(())
+}
+
+fn record_among(left: u64, node: Result<TreeNode, PlanKind>) -> Result<PlanLine, PlanKind>
+    ensures { result ≡ node_said left node }
+{
+    match node {
+        Err(kind) => Err(kind),
+        Ok(_) if left == 0 => Err(PlanKind::WrongCount),
+        Ok(node) => Ok(PlanLine::Node(node)),
+    }
 }
 
 /// A record, or `end`
-fn take_record(draft: &mut Draft, sc: &Scenario, fields: &[&[u8]]) -> Result<(), LineStop>
-    ensures { TakesLine draft.new result (record_line sc.now (state_of draft.old) (map (λ f. f.now) fields.now)) }
+fn read_record(sc: &Scenario, left: u64, fields: &[&[u8]]) -> Result<PlanLine, PlanKind>
+    ensures { result ≡ record_line sc.now left (map (λ f. f.now) fields.now) }
 {
     if is_end(fields) {
-        take_end(draft)
+        ending(left)
     } else {
-        let TreeNode { prefix, kind } = read_node(sc, fields)?;
-        push_node(draft, prefix, kind)
+        record_among(left, read_node(sc, fields))
     }
 }
 
-fn take_stage(draft: &mut Draft, sc: &Scenario, fields: &[&[u8]]) -> Result<(), LineStop>
-    ensures { TakesLine draft.new result (stage_line draft.old.stage sc.now (state_of draft.old) (map (λ f. f.now) fields.now)) }
+fn read_stage(sc: &Scenario, stage: Stage, fields: &[&[u8]]) -> Result<PlanLine, PlanKind>
+    ensures { result ≡ stage_line sc.now stage (map (λ f. f.now) fields.now) }
 {
-    match draft.stage {
-        Stage::Version => take_version(draft, fields),
-        Stage::Path => take_path(draft, sc, fields),
-        Stage::Chance => take_chance(draft, fields),
-        Stage::Count => take_count(draft, fields),
-        Stage::Records => take_record(draft, sc, fields),
-        Stage::Ended => Err(LineStop::Fault(PlanKind::BadLine)),
+    match stage {
+        Stage::Version => read_version(fields),
+        Stage::Path => read_path(sc, fields),
+        Stage::Chance => read_chance(fields),
+        Stage::Count => read_count(fields),
+        Stage::Records(left) => read_record(sc, left, fields),
+        Stage::Ended => Err(PlanKind::BadLine),
     }
 }
 
@@ -73,19 +76,14 @@ fn has_empty(fields: &[&[u8]]) -> bool
     false
 }
 
-/// Takes a line, or says what is wrong with it.
+/// What a line says by its fields where this stage is due, or its first fault. It takes no memory.
 #[tactic(auto, unfolding(crate::specs::Reading::line_at))]
-pub fn take_line(
-    alloc: Global,
-    draft: &mut Draft,
-    sc: &Scenario,
-    line: &[u8],
-) -> Result<(), LineStop>
-    ensures { TakesLine draft.new result (line_at sc.now (state_of draft.old) (fields_lem line.now)) }
+pub fn read_line(sc: &Scenario, stage: Stage, fields: &[&[u8]]) -> Result<PlanLine, PlanKind>
+    ensures { result ≡ line_at sc.now stage (map (λ f. f.now) fields.now) }
 {
-    let fields = fields_of(alloc, line)?;
-    if has_empty(&fields) {
-        return Err(LineStop::Fault(PlanKind::BadLine));
+    if has_empty(fields) {
+        Err(PlanKind::BadLine)
+    } else {
+        read_stage(sc, stage, fields)
     }
-    take_stage(draft, sc, &fields)
 }

@@ -1,9 +1,14 @@
-//! Text as lines, and a line as fields.
+//! Text as lines, and a line as its first fields.
 
-ghost use Rattle.std.specs.Prelude.{◌≡◌, ◌<◌, ◌≤◌, drop, [], ◌∷◌, map, length, IfOk, IfSome, IfNone};
-ghost use Rattle.tree_format.specs.Pieces.{split_at, fields_of as fields_lem};
+ghost use Rattle.std.specs.Prelude.{◌≡◌, ◌<◌, ◌≤◌, drop, take, [], ◌∷◌, map, length, IfSome, IfNone};
+ghost use Rattle.tree_format.specs.Pieces.{split_at, fields_of};
+ghost use Rattle.tree_format.specs.Reading.{summary_of};
 
-use std::alloc::{AllocError, Global};
+/// The most fields of a line that are looked at: more than any line has that is right.
+const MOST_FIELDS: usize = 70;
+
+/// The most bytes of a field that are looked at: more than any field has that is right.
+const MOST_BYTES: usize = 40;
 
 /// What follows the first `at` bytes.
 fn rest_from(text: &[u8], at: usize) -> &[u8]
@@ -28,16 +33,44 @@ pub fn cut(text: &[u8], at: u8) -> Option<(&[u8], &[u8])>
     None
 }
 
-/// The fields of a line.
-pub fn fields_of(alloc: Global, line: &[u8]) -> Result<Vec<&[u8]>, AllocError>
-    ensures { IfOk result (λ v. map (λ f. f.now) v.items ≡ fields_lem line.now) }
+/// The first bytes of a field.
+fn front(field: &[u8]) -> &[u8]
+    ensures { result.now ≡ take 40 field.now }
 {
-    let mut fields = Vec::new(alloc);
+    if field.len() > MOST_BYTES {
+        &field[..MOST_BYTES]
+    } else {
+        field
+    }
+}
+
+/// The first fields of a line, in place.
+#[derive(Clone, Copy)]
+pub struct Fields<'a> {
+    pub items: [&'a [u8]; MOST_FIELDS],
+    pub len: usize,
+}
+
+/// The first bytes of each of the first fields of a line.
+#[tactic(auto, using(crate::proofs::FirstFields::first_steps))]
+pub fn first_fields(line: &[u8]) -> Fields<'_>
+    ensures few { result.len ≤ 70 }
+    ensures value { map (λ f. f.now) (take result.len result.items) ≡ summary_of (fields_of line.now) }
+{
+    let mut fields = Fields {
+        items: [&[]; MOST_FIELDS],
+        len: 0,
+    };
     let mut rest = line;
-    while let Some((field, after)) = cut(rest, b' ') {
-        fields.push(field)?;
+    while fields.len < MOST_FIELDS {
+        let Some((field, after)) = cut(rest, b' ') else {
+            fields.items[fields.len] = front(rest);
+            fields.len += 1;
+            return fields;
+        };
+        fields.items[fields.len] = front(field);
+        fields.len += 1;
         rest = after;
     }
-    fields.push(rest)?;
-    Ok(fields)
+    fields
 }

@@ -1,20 +1,22 @@
 //! Plans from their text.
 
-ghost use Rattle.std.specs.Prelude.{◌≡◌, ◌≢◌, ◌↔◌, IsTrue, IsErrOf, IfOk, Ok};
+ghost use Rattle.std.specs.Prelude.{◌≡◌, ◌↔◌, IsTrue, IfOk};
 ghost use Rattle.bound_tree.specs.declared.plan.Plan.{Plan as PlanLem};
-ghost use Rattle.tree_format.specs.Pieces.{pieces_of};
-ghost use Rattle.tree_format.specs.State.{blank_state};
-ghost use Rattle.tree_format.specs.Gives.{Gives, Says};
-ghost use Rattle.tree_format.specs.Reading.{pieces_at};
-ghost use Rattle.tree_format.specs.PlanText.{IsPrintable, IsNarrow, plan_text};
+ghost use Rattle.tree_format.specs.declared.plan_line.Stage.TheVariants as due;
+ghost use Rattle.tree_format.specs.declared.kind.PlanFault.{PlanFault as FaultLem};
+ghost use Rattle.tree_format.specs.Pieces.{fields_of};
+ghost use Rattle.tree_format.specs.Faults.{IsFirstFault};
+ghost use Rattle.tree_format.specs.Gives.{TakesLine, Gives, ReadsPlan, Says, Tells, IfFault, plan_of};
+ghost use Rattle.tree_format.specs.Reading.{blank_plan, line_at, plan_at};
+ghost use Rattle.tree_format.specs.PlanText.{IsPlanText};
 
-use crate::draft::{Draft, Stage};
-use crate::kind::PlanKind;
-use crate::lines::take_line;
-use crate::pieces::cut;
-use crate::printable::is_printable;
-use crate::printing::print_plan;
-use crate::stop::{LineStop, PlanStop};
+use crate::adding::add_line;
+use crate::draft::Draft;
+use crate::kind::{PlanFault, PlanKind};
+use crate::lines::read_line;
+use crate::pieces::{cut, first_fields};
+use crate::plan_line::Stage;
+use crate::stop::PlanStop;
 use bound_tree::{BoundTree, Plan};
 use search_model::{Path, Scenario, Standing};
 use std::alloc::Global;
@@ -25,81 +27,87 @@ fn is_ended(stage: Stage) -> bool
     matches!(stage, Stage::Ended)
 }
 
-/// What the lines of a text say, up to `end`, behind which nothing stands.
-#[tactic(auto, using(crate::proofs::Loop::loop_steps))]
-fn read_lines(alloc: Global, sc: &Scenario, text: &[u8]) -> Result<Draft, LineStop>
-    ensures { Gives result (pieces_at sc.now blank_state (pieces_of text.now)) }
+fn blank_draft(alloc: Global) -> Draft
+    ensures stage { result.stage ≡ due.Version }
+    ensures plan { plan_of result ≡ blank_plan }
 {
-    let mut draft = Draft {
+    Draft {
         stage: Stage::Version,
         path: Path::empty(),
         value: 0,
         weight: 0,
-        count: 0,
         nodes: Vec::new(alloc),
-    };
+    }
+}
+
+/// Reads the line of this number.
+fn take_line(draft: &mut Draft, sc: &Scenario, number: u64, line: &[u8]) -> Result<(), PlanStop>
+    ensures { TakesLine number draft.old draft.new result (line_at sc.now draft.old.stage (fields_of line.now)) }
+{
+    let _cells = sc.cells();
+    let fields = first_fields(line);
+    match read_line(sc, draft.stage, &fields.items[..fields.len]) {
+        Ok(said) => Ok(add_line(draft, said)?),
+        Err(kind) => Err(PlanStop::Fault(PlanFault { line: number, kind })),
+    }
+}
+
+/// What the lines of a text say, up to `end`, behind which nothing stands.
+#[tactic(auto, using(crate::proofs::Loop::loop_steps))]
+fn read_lines(alloc: Global, sc: &Scenario, text: &[u8]) -> Result<Draft, PlanStop>
+    ensures { Gives result (plan_at sc.now text.now) }
+{
+    let mut draft = blank_draft(alloc);
     let mut rest = text;
+    let mut number = 1u64;
     'lines: while !is_ended(draft.stage) {
-        match cut(rest, b'\n') {
-            None => return Err(LineStop::Fault(PlanKind::EarlyEnd)),
-            Some((line, after)) => {
-                take_line(alloc, &mut draft, sc, line)?;
-                rest = after;
-            }
-        }
+        let Some((line, after)) = cut(rest, b'\n') else {
+            return Err(PlanStop::Fault(PlanFault {
+                line: number,
+                kind: PlanKind::EarlyEnd,
+            }));
+        };
+        take_line(&mut draft, sc, number, line)?;
+        rest = after;
+        number += 1;
     }
     if rest.is_empty() {
         Ok(draft)
     } else {
-        Err(LineStop::Fault(PlanKind::Rest))
+        Err(PlanStop::Fault(PlanFault {
+            line: number,
+            kind: PlanKind::Rest,
+        }))
     }
 }
 
-/// The plan that the lines of a text say. A text that is no plan's gives any answer.
-fn plan_said(alloc: Global, sc: &Scenario, text: &[u8]) -> Result<Plan, PlanStop>
-    ensures { (plan : PlanLem) → IsPrintable sc.now plan → IsNarrow plan → text.now ≡ plan_text sc.now plan → Says result plan }
+fn plan_from(draft: Draft) -> Plan
+    ensures { result ≡ plan_of draft }
 {
-    let _cells = sc.cells();
-    let draft = read_lines(alloc, sc, text)?;
-    Ok(Plan {
+    Plan {
         standing: Standing {
             path: draft.path,
             value: draft.value,
         },
         weight: draft.weight,
         tree: BoundTree::of(draft.nodes),
-    })
+    }
 }
 
-fn is_text_of(
-    alloc: Global,
-    sc: &Scenario,
-    plan: &Plan,
-    text: &[u8],
-) -> Result<bool, exact_parts::NoMemory>
-    requires { IsPrintable sc.now plan.now }
-    ensures { IfOk result (λ same. IsTrue same ↔ (text.now ≡ plan_text sc.now plan.now)) }
-{
-    let mut printed = Vec::new(alloc);
-    print_plan(&mut printed, sc, plan)?;
-    Ok(printed.as_slice() == text)
-}
-
-/// The plan of which this is the text.
+/// The plan whose text this is, to its last byte.
 ///
 /// # Errors
 ///
-/// `NotPlan` where it is the text of none for this scenario, and `NoMemory`.
+/// The first fault by line and kind, the lines before which are right; or `NoMemory`. A line takes no memory, however
+/// long it is, but for the record that it adds.
 pub fn read_plan(alloc: Global, sc: &Scenario, text: &[u8]) -> Result<Plan, PlanStop>
-    ensures ok { IfOk result (λ plan. text.now ≡ plan_text sc.now plan) }
-    ensures printable { IfOk result (IsPrintable sc.now) }
-    ensures exact { (plan : PlanLem) → IsPrintable sc.now plan → IsNarrow plan → text.now ≡ plan_text sc.now plan → IfOk result (λ read. read ≡ plan) }
-    ensures not_plan { IsErrOf result PlanStop.NotPlan → (plan : PlanLem) → IsPrintable sc.now plan → IsNarrow plan → text.now ≢ plan_text sc.now plan }
+    ensures reads { ReadsPlan sc.now text.now result }
+    ensures spelled { IfOk result (λ plan. IsPlanText sc.now plan text.now) }
+    ensures exact { (plan : PlanLem) → IsPlanText sc.now plan text.now → Says result plan }
+    ensures first { IfFault result (IsFirstFault sc.now text.now) }
+    ensures faulty { (fault : FaultLem) → IsFirstFault sc.now text.now fault → Tells result fault }
 {
-    let plan = plan_said(alloc, sc, text)?;
-    if is_printable(sc, &plan) && is_text_of(alloc, sc, &plan, text)? {
-        Ok(plan)
-    } else {
-        Err(PlanStop::NotPlan)
-    }
+    let _cells = sc.cells();
+    let draft = read_lines(alloc, sc, text)?;
+    Ok(plan_from(draft))
 }

@@ -1,14 +1,10 @@
 //! The fields of a record's line.
 
-ghost use Rattle.std.specs.Prelude.{◌≡◌, ◌≤◌, ◌↔◌, map, length, IsTrue, Ok};
-ghost use Rattle.tree_format.specs.State.{state_of};
-ghost use Rattle.tree_format.specs.Gives.{TakesLine};
-ghost use Rattle.tree_format.specs.Reading.{branch_line, bounded_line, tangent_of as tangent_of_lem, tangent_at as tangent_at_lem, tangent_line, node_line, with_node};
+ghost use Rattle.std.specs.Prelude.{◌≡◌, ◌≤◌, ◌↔◌, map, length, IsTrue};
+ghost use Rattle.tree_format.specs.Reading.{branch_line, bounded_line, tangent_of as tangent_of_lem, tangent_at as tangent_at_lem, tangent_line, node_line};
 
-use crate::draft::Draft;
 use crate::fields::{amount_in, places_in};
 use crate::kind::PlanKind;
-use crate::stop::LineStop;
 use bound_tree::{Kind, TreeNode};
 use search_model::{Path, Scenario};
 
@@ -122,15 +118,4 @@ pub fn read_node(sc: &Scenario, fields: &[&[u8]]) -> Result<TreeNode, PlanKind>
         [letter, fields @ ..] if *letter == b"T".as_slice() => read_tangent(sc, fields),
         _ => Err(PlanKind::BadLine),
     }
-}
-
-/// Takes a record of this prefix and kind, where one is due.
-pub fn push_node(draft: &mut Draft, prefix: Path, kind: Kind) -> Result<(), LineStop>
-    ensures { TakesLine draft.new result (with_node (state_of draft.old) (Ok (record { prefix = prefix; kind = kind }))) }
-{
-    if draft.nodes.len() as u128 >= draft.count {
-        return Err(LineStop::Fault(PlanKind::WrongCount));
-    }
-    draft.nodes.push(TreeNode { prefix, kind })?;
-    Ok(())
 }

@@ -1,9 +1,9 @@
 //! The lines of records.
 
-ghost use Rattle.std.specs.Prelude.{◌≡◌, ◌++◌, ◌∷◌, [], map, OnOk, OnErr};
+ghost use Rattle.std.specs.Prelude.{◌≡◌, ◌++◌, ◌∷◌, [], map, OnOk, OnErr, All};
 ghost use Rattle.exact_parts.specs.Appending.{AppendsFront};
 ghost use Rattle.exact_parts.specs.Rows.{text_of, spaced};
-ghost use Rattle.tree_format.specs.PlanText.{numbers, record_row};
+ghost use Rattle.tree_format.specs.PlanText.{numbers, record_row, IsNarrowKind};
 ghost use Rattle.tree_format.specs.RecordParts.{letter_of, bound_fields, reference_of};
 
 use crate::writing::{push_number, push_positions};
@@ -26,6 +26,7 @@ fn letter(kind: &Kind) -> u8
 fn push_bound(out: &mut Vec<u8>, kind: &Kind) -> Result<(), NoMemory>
     ensures ok { OnOk result (out.new.items ≡ out.old.items ++ spaced (bound_fields kind.now)) }
     ensures err { OnErr result (AppendsFront out.old.items out.new.items (spaced (bound_fields kind.now))) }
+    ensures narrow { IsNarrowKind kind.now }
 {
     match kind {
         Kind::Branch => Ok(()),
@@ -48,6 +49,7 @@ fn push_reference(out: &mut Vec<u8>, kind: &Kind) -> Result<(), NoMemory>
 fn push_record(out: &mut Vec<u8>, node: &TreeNode) -> Result<(), NoMemory>
     ensures ok { OnOk result (out.new.items ≡ out.old.items ++ text_of (record_row node.now ∷ [])) }
     ensures err { OnErr result (AppendsFront out.old.items out.new.items (text_of (record_row node.now ∷ []))) }
+    ensures narrow { OnOk result (IsNarrowKind node.now.kind) }
 {
     out.push(letter(&node.kind))?;
     push_bound(out, &node.kind)?;
@@ -61,6 +63,7 @@ fn push_record(out: &mut Vec<u8>, node: &TreeNode) -> Result<(), NoMemory>
 pub fn push_records(out: &mut Vec<u8>, records: &[TreeNode]) -> Result<(), NoMemory>
     ensures ok { OnOk result (out.new.items ≡ out.old.items ++ text_of (map record_row records.now)) }
     ensures err { OnErr result (AppendsFront out.old.items out.new.items (text_of (map record_row records.now))) }
+    ensures narrow { OnOk result (All (λ r. IsNarrowKind r.kind) records.now) }
 {
     for r in records {
         push_record(out, r)?;

@@ -1,9 +1,10 @@
+//! Texts that are read and print back, and texts that have a fault, by line and kind.
+
 use super::*;
-use crate::printable::is_printable;
-use bound_tree::{BoundTree, Kind, Plan, TreeNode};
+use bound_tree::{Kind, TreeNode};
 use drift_chain::{Drift, DriftPart};
 use search_grid::Grid;
-use search_model::{Name, Parts, Path, Scenario, Standing};
+use search_model::{Name, Parts, Scenario};
 use std::alloc::Global;
 use std::test::Fail;
 use sweep_table::Sweep;
@@ -58,143 +59,273 @@ fn even_scenario(alloc: Global, names: &[&[u8]], horizon: u32) -> Result<Scenari
     }
 }
 
-fn path_of(cells: &[u8]) -> Path {
-    Path::of(cells).unwrap_or(Path::empty())
-}
+const TWO_CELLS: &[u8] =
+    b"plan 1\npath a a\nchance 12 16\nnodes 5\nB\nB 0\nW 12 0 0\nW 12 0 1\nM 12 1\nend\n";
 
-fn record_of(prefix: &[u8], kind: Kind) -> TreeNode {
-    TreeNode {
-        prefix: path_of(prefix),
-        kind,
-    }
-}
-
-fn text_of(alloc: Global, sc: &Scenario, plan: &Plan) -> Result<Vec<u8>, Fail> {
-    if !is_printable(sc, plan) {
-        return Err(Fail::from("not printable"));
-    }
-    let mut out = Vec::new(alloc);
-    match print_plan(&mut out, sc, plan) {
-        Ok(()) => Ok(out),
-        Err(_) => Err(Fail::from("no memory")),
-    }
-}
-
-#[test]
-fn two_periods_over_two_cells(rt: HostRuntime) -> Result<(), Fail> {
-    let alloc = rt.alloc();
-    let sc = even_scenario(alloc, &[b"a", b"b"], 2)?;
-    let records = [
-        record_of(&[], Kind::Branch),
-        record_of(&[0], Kind::Branch),
-        record_of(&[0, 0], Kind::Whole(12)),
-        record_of(&[0, 1], Kind::Whole(12)),
-        record_of(&[1], Kind::Branch),
-        record_of(&[1, 0], Kind::Whole(12)),
-        record_of(&[1, 1], Kind::Whole(12)),
-    ];
-    let plan = Plan {
-        standing: Standing {
-            path: path_of(&[0, 0]),
-            value: 12,
-        },
-        weight: 16,
-        tree: BoundTree::of(records.to_vec(alloc)?),
-    };
-    let expected =
-        b"plan 1\npath a a\nchance 12 16\nnodes 7\nB\nB 0\nW 12 0 0\nW 12 0 1\nB 1\nW 12 1 0\nW 12 1 1\nend\n";
-    assert_eq!(rt; text_of(alloc, &sc, &plan)?.as_slice(), expected.as_slice());
-    Ok(())
-}
-
-#[test]
-fn a_mean_and_a_tangent(rt: HostRuntime) -> Result<(), Fail> {
-    let alloc = rt.alloc();
-    let sc = even_scenario(alloc, &[b"a", b"b", b"c"], 3)?;
-    let records = [
-        record_of(&[], Kind::Branch),
-        record_of(&[0], Kind::Mean(4)),
-        record_of(&[1], Kind::Tangent(12, path_of(&[1, 2, 2]))),
-        record_of(&[2], Kind::Branch),
-        record_of(&[2, 1], Kind::Mean(6)),
-        record_of(&[2, 2], Kind::Branch),
-        record_of(&[2, 2, 1], Kind::Whole(6)),
-        record_of(&[2, 2, 2], Kind::Whole(7)),
-    ];
-    let plan = Plan {
-        standing: Standing {
-            path: path_of(&[2, 2, 2]),
-            value: 7,
-        },
-        weight: 8,
-        tree: BoundTree::of(records.to_vec(alloc)?),
-    };
-    let expected =
-        b"plan 1\npath c c c\nchance 7 8\nnodes 8\nB\nM 4 0\nT 12 1 1 2 2\nB 2\nM 6 2 1\nB 2 2\nW 6 2 2 1\nW 7 2 2 2\nend\n";
-    assert_eq!(rt; text_of(alloc, &sc, &plan)?.as_slice(), expected.as_slice());
-    Ok(())
-}
-
-const ONE_CELL_PLAN: &[u8] = b"plan 1\npath a\nchance 1 2\nnodes 2\nB\nW 1 0\nend\n";
-
-const TWO_CELLS_PLAN: &[u8] =
-    b"plan 1\npath a a\nchance 12 16\nnodes 7\nB\nB 0\nW 12 0 0\nW 12 0 1\nB 1\nW 12 1 0\nW 12 1 1\nend\n";
-
-const BOUNDED_PLAN: &[u8] =
+const THREE_PERIODS: &[u8] =
     b"plan 1\npath c c c\nchance 7 8\nnodes 8\nB\nM 4 0\nT 12 1 1 2 2\nB 2\nM 6 2 1\nB 2 2\nW 6 2 2 1\nW 7 2 2 2\nend\n";
 
-fn reads_back(alloc: Global, names: &[&[u8]], horizon: u32, text: &[u8]) -> Result<bool, Fail> {
+// Whether a text is a plan's, and the plan prints back to the same bytes behind what stood there.
+fn prints_back(alloc: Global, names: &[&[u8]], horizon: u32, text: &[u8]) -> Result<bool, Fail> {
     let sc = even_scenario(alloc, names, horizon)?;
+    let mut out = Vec::from_slice(alloc, b"!")?;
     match read_plan(alloc, &sc, text) {
-        Ok(plan) => Ok(text_of(alloc, &sc, &plan)?.as_slice() == text),
-        Err(_) => Ok(false),
+        Ok(plan) => print_plan(&mut out, &sc, &plan)?,
+        Err(_) => return Ok(false),
+    }
+    Ok(out.starts_with(b"!") && out.ends_with(text) && out.len() == text.len() + 1)
+}
+
+#[test]
+fn texts_of_plans_print_back(rt: HostRuntime) -> Result<(), Fail> {
+    let alloc = rt.alloc();
+    let one: [&[u8]; 1] = [b"a"];
+    let two: [&[u8]; 2] = [b"a", b"b"];
+    let three: [&[u8]; 3] = [b"a", b"b", b"c"];
+    let last: [&[u8]; 3] = [b"a", b"b", b"z"];
+    let four: [&[u8]; 4] = [b"a", b"b", b"c", b"d"];
+    let rows: [(&[&[u8]], u32, &[u8]); 9] = [
+        (
+            &one,
+            1,
+            b"plan 1\npath a\nchance 1 2\nnodes 2\nB\nW 1 0\nend\n",
+        ),
+        (&two, 2, TWO_CELLS),
+        (
+            &three,
+            2,
+            b"plan 1\npath c c\nchance 3 4\nnodes 6\nB\nM 0 0\nM 2 1\nB 2\nW 2 2 1\nW 3 2 2\nend\n",
+        ),
+        (&three, 3, THREE_PERIODS),
+        (
+            &four,
+            2,
+            b"plan 1\npath c d\nchance 6 9\nnodes 7\nB\nB 0\nW 3 0 0\nW 3 0 1\nB 2\nW 2 2 2\nW 6 2 3\nend\n",
+        ),
+        (
+            &four,
+            2,
+            b"plan 1\npath c d\nchance 6 9\nnodes 5\nB\nM 3 0\nB 2\nW 2 2 2\nW 6 2 3\nend\n",
+        ),
+        (
+            &last,
+            2,
+            b"plan 1\npath a a\nchance 0 4\nnodes 5\nB\nB 0\nW 0 0 0\nW 0 0 1\nM 0 1\nend\n",
+        ),
+        (&two, 2, b"plan 1\npath a\nchance 0 0\nnodes 0\nend\n"),
+        (
+            &two,
+            2,
+            b"plan 1\npath a a a\nchance 0 340282366920938463463374607431768211455\nnodes 2\nT 12 0 0\nT 340282366920938463463374607431768211455 1 0 1 1\nend\n",
+        ),
+    ];
+    for (names, horizon, text) in rows {
+        assert!(rt; prints_back(alloc, names, horizon, text)?);
+    }
+    Ok(())
+}
+
+fn is_tangent(node: &TreeNode, prefix: &[u8], number: u128, reference: &[u8]) -> bool {
+    match node.kind {
+        Kind::Tangent(bound, path) => {
+            node.prefix.cells() == prefix && bound == number && path.cells() == reference
+        }
+        Kind::Branch | Kind::Whole(_) | Kind::Mean(_) => false,
+    }
+}
+
+fn is_mean(node: &TreeNode, prefix: &[u8], number: u128) -> bool {
+    match node.kind {
+        Kind::Mean(bound) => node.prefix.cells() == prefix && bound == number,
+        Kind::Branch | Kind::Whole(_) | Kind::Tangent(_, _) => false,
     }
 }
 
 #[test]
-fn texts_of_plans_are_read_and_print_back(rt: HostRuntime) -> Result<(), Fail> {
+fn a_text_says_its_plan(rt: HostRuntime) -> Result<(), Fail> {
     let alloc = rt.alloc();
-    assert!(rt; reads_back(alloc, &[b"a"], 1, ONE_CELL_PLAN)?);
-    assert!(rt; reads_back(alloc, &[b"a", b"b"], 2, TWO_CELLS_PLAN)?);
-    assert!(rt; reads_back(alloc, &[b"a", b"b", b"c"], 3, BOUNDED_PLAN)?);
+    let sc = even_scenario(alloc, &[b"a", b"b", b"c"], 3)?;
+    let Ok(plan) = read_plan(alloc, &sc, THREE_PERIODS) else {
+        return Err(Fail::from("the text was not read"));
+    };
+    assert_eq!(rt; plan.standing.path.cells(), [2, 2, 2].as_slice());
+    assert_eq!(rt; plan.standing.value, 7);
+    assert_eq!(rt; plan.weight, 8);
+    match plan.tree.nodes() {
+        [_, mean, tangent, _, _, _, _, _] => {
+            assert!(rt; is_mean(mean, &[0], 4));
+            assert!(rt; is_tangent(tangent, &[1], 12, &[1, 2, 2]));
+        }
+        _ => return Err(Fail::from("other records")),
+    }
     Ok(())
 }
 
 #[test]
-fn other_texts_are_no_plans(rt: HostRuntime) -> Result<(), Fail> {
+fn a_text_that_is_cut_off_ends_early(rt: HostRuntime) -> Result<(), Fail> {
     let alloc = rt.alloc();
     let sc = even_scenario(alloc, &[b"a", b"b"], 2)?;
-    // a line feed is missing at the end, a carriage return stands at the end of line 1, a name is unknown, there are 33
-    // names, one record more is announced than stands there, and one less, a cell number is too great, a number has a 0
-    // in front, one isn't below 2 to the power 128, there are two blanks, and a byte stands behind `end`
-    let texts: [&[u8]; 11] = [
-        b"plan 1\npath a a\nchance 12 16\nnodes 1\nB\nend",
-        b"plan 1\r\npath a a\nchance 12 16\nnodes 1\nB\nend\n",
-        b"plan 1\npath a x\nchance 12 16\nnodes 1\nB\nend\n",
-        b"plan 1\npath a a a a a a a a a a a a a a a a a a a a a a a a a a a a a a a a a\nchance 12 16\nnodes 1\nB\nend\n",
-        b"plan 1\npath a a\nchance 12 16\nnodes 2\nB\nend\n",
-        b"plan 1\npath a a\nchance 12 16\nnodes 0\nB\nend\n",
-        b"plan 1\npath a a\nchance 12 16\nnodes 1\nW 12 0 2\nend\n",
-        b"plan 1\npath a a\nchance 12 16\nnodes 1\nW 012 0 0\nend\n",
-        b"plan 1\npath a a\nchance 340282366920938463463374607431768211456 16\nnodes 1\nB\nend\n",
-        b"plan 1\npath a  a\nchance 12 16\nnodes 1\nB\nend\n",
-        b"plan 1\npath a a\nchance 12 16\nnodes 1\nB\nend\n ",
+    for n in 0..TWO_CELLS.len() {
+        let mut line = 1u64;
+        for c in &TWO_CELLS[..n] {
+            if *c == b'\n' {
+                line = line.saturating_add(1);
+            }
+        }
+        let early = PlanFault {
+            line,
+            kind: PlanKind::EarlyEnd,
+        };
+        assert_eq!(rt;
+            read_plan(alloc, &sc, &TWO_CELLS[..n]).err(),
+            Some(PlanStop::Fault(early))
+        );
+    }
+    Ok(())
+}
+
+/// A line of the text over two cells, what stands in its place, and the line and the kind of the first fault.
+type Row<'a> = (u64, &'a [u8], u64, PlanKind);
+
+// The text over two cells with other bytes in the place of a line.
+fn with_line(alloc: Global, number: u64, bytes: &[u8]) -> Result<Vec<u8>, Fail> {
+    let mut text = Vec::new(alloc);
+    let mut line = 1u64;
+    for c in TWO_CELLS {
+        if line != number {
+            text.push(*c)?;
+        }
+        if *c == b'\n' {
+            if line == number {
+                text.extend_from_slice(bytes)?;
+            }
+            line = line.saturating_add(1);
+        }
+    }
+    Ok(text)
+}
+
+fn has_fault(rt: &impl AllocGlobal, row: Row) -> Result<bool, Fail> {
+    let (number, bytes, line, kind) = row;
+    let sc = even_scenario(rt.alloc(), &[b"a", b"b"], 2)?;
+    let text = with_line(rt.alloc(), number, bytes)?;
+    let fault = PlanStop::Fault(PlanFault { line, kind });
+    Ok(read_plan(rt.alloc(), &sc, &text).err() == Some(fault))
+}
+
+#[test]
+fn faults_of_the_lines_above_the_records(rt: HostRuntime) -> Result<(), Fail> {
+    let rows: [Row; 23] = [
+        (1, b"plan 1\r\n", 1, PlanKind::BadLine),
+        (1, b"plan  1\n", 1, PlanKind::BadLine),
+        (1, b"plan 1 \n", 1, PlanKind::BadLine),
+        (1, b" plan 1\n", 1, PlanKind::BadLine),
+        (1, b"plan 2\n", 1, PlanKind::BadLine),
+        (1, b"\n", 1, PlanKind::BadLine),
+        (2, b"path a x\n", 2, PlanKind::UnknownName),
+        (2, b"path a a\r\n", 2, PlanKind::UnknownName),
+        (2, b"path a  a\n", 2, PlanKind::BadLine),
+        (2, b"path\n", 2, PlanKind::BadLine),
+        (
+            2,
+            b"path a a a a a a a a a a a a a a a a a a a a a a a a a a a a a a a a a\n",
+            2,
+            PlanKind::BadLine,
+        ),
+        (
+            2,
+            b"path a aaaaaaaaaaaaaaaaaaaaaaaaaaaaaaaaaaaaaaaaaaaaaaaaaaa\n",
+            2,
+            PlanKind::UnknownName,
+        ),
+        (3, b"chance 12\n", 3, PlanKind::BadLine),
+        (3, b"chance 12 16 1\n", 3, PlanKind::BadLine),
+        (3, b"chance x 16\n", 3, PlanKind::BadNumber),
+        (3, b"chance 12 016\n", 3, PlanKind::BadNumber),
+        (
+            3,
+            b"chance 340282366920938463463374607431768211456 16\n",
+            3,
+            PlanKind::BadNumber,
+        ),
+        (
+            3,
+            b"chance 12 9999999999999999999999999999999999999999999999999999999999999999999999999999999999999999999999999999\n",
+            3,
+            PlanKind::BadNumber,
+        ),
+        (4, b"nodes 1048577\n", 4, PlanKind::TooManyNodes),
+        (4, b"nodes -1\n", 4, PlanKind::BadNumber),
+        (4, b"nodes 4\n", 9, PlanKind::WrongCount),
+        (4, b"nodes 6\n", 10, PlanKind::WrongCount),
+        (4, b"end\n", 4, PlanKind::BadLine),
     ];
-    for text in texts {
-        assert_eq!(rt; read_plan(alloc, &sc, text).err(), Some(PlanStop::NotPlan));
+    for row in rows {
+        assert!(rt; has_fault(&rt, row)?);
     }
     Ok(())
 }
 
 #[test]
-fn plans_without_bounds(rt: HostRuntime) -> Result<(), Fail> {
+fn faults_of_the_records_and_the_end(rt: HostRuntime) -> Result<(), Fail> {
+    let rows: [Row; 28] = [
+        (5, b"B \n", 5, PlanKind::BadLine),
+        (5, b"\n", 5, PlanKind::BadLine),
+        (5, b"b\n", 5, PlanKind::BadLine),
+        (5, b"B\r\n", 5, PlanKind::BadLine),
+        (6, b"B 0\r\n", 6, PlanKind::BadNumber),
+        (6, b"B  0\n", 6, PlanKind::BadLine),
+        (6, b"B 0 0 0\n", 6, PlanKind::BadLine),
+        (6, b"M\n", 6, PlanKind::BadLine),
+        (6, b"M 8 0 0 0\n", 6, PlanKind::BadLine),
+        (6, b"B 200\n", 6, PlanKind::BadNumber),
+        (6, b"B 00\n", 6, PlanKind::BadNumber),
+        (
+            7,
+            b"W 340282366920938463463374607431768211456 0 0\n",
+            7,
+            PlanKind::BadNumber,
+        ),
+        (7, b"W 012 0 0\n", 7, PlanKind::BadNumber),
+        (7, b"W 12 0 2\n", 7, PlanKind::BadNumber),
+        (7, b"W 12 0 0 0\n", 7, PlanKind::BadLine),
+        (7, b"W x 0 0 0\n", 7, PlanKind::BadLine),
+        (9, b"T 12 0\n", 9, PlanKind::BadLine),
+        (9, b"T 12 1 1 0 0 0\n", 9, PlanKind::BadLine),
+        (9, b"T 12 1 1 2\n", 9, PlanKind::BadNumber),
+        (9, b"", 9, PlanKind::WrongCount),
+        (9, b"end\n", 9, PlanKind::WrongCount),
+        (10, b"M 12 1\nend\n", 10, PlanKind::WrongCount),
+        (10, b"M 12 2\nend\n", 10, PlanKind::BadNumber),
+        (10, b"end\r\n", 10, PlanKind::BadLine),
+        (10, b"end 1\n", 10, PlanKind::BadLine),
+        (10, b"end\n\n", 11, PlanKind::Rest),
+        (10, b"end\nx", 11, PlanKind::Rest),
+        (10, b"end \nx", 10, PlanKind::BadLine),
+    ];
+    for row in rows {
+        assert!(rt; has_fault(&rt, row)?);
+    }
+    Ok(())
+}
+
+// Lines are judged by their fronts, however long they are.
+#[test]
+fn long_lines(rt: HostRuntime) -> Result<(), Fail> {
     let alloc = rt.alloc();
-    let two = even_scenario(alloc, &[b"a", b"b"], 2)?;
-    let three = even_scenario(alloc, &[b"a", b"b", b"c"], 3)?;
-    assert!(rt; read_plain_plan(alloc, &two, TWO_CELLS_PLAN).is_ok());
-    assert_eq!(rt;
-        read_plain_plan(alloc, &three, BOUNDED_PLAN).err(),
-        Some(PlanStop::NotPlan)
-    );
+    let mut digits = Vec::from_slice(alloc, b"W ")?;
+    digits.extend_from_slice(&vec![in alloc; b'9'; 100_000]?)?;
+    digits.extend_from_slice(b" 0 0\n")?;
+    assert!(rt; has_fault(&rt, (7, &digits, 7, PlanKind::BadNumber))?);
+    let mut blanks = Vec::from_slice(alloc, b"W 12 0 0")?;
+    blanks.extend_from_slice(&vec![in alloc; b' '; 100_000]?)?;
+    blanks.push(b'\n')?;
+    assert!(rt; has_fault(&rt, (7, &blanks, 7, PlanKind::BadLine))?);
+    Ok(())
+}
+
+#[test]
+fn kinds_have_names(rt: HostRuntime) -> Result<(), Fail> {
+    assert_eq!(rt; plan_kind_name(PlanKind::WrongCount), "WrongCount");
     Ok(())
 }

@@ -1,6 +1,8 @@
 use Rattle.std.proofs.Common.{Ok, Err, refl, sym, ◌∙◌}
+use Rattle.plan_command.specs.declared.request.Request.TheVariants.{Plan, Check}
 use Rattle.plan_command.specs.Run.{delivered}
 use Rattle.plan_command.proofs.Endings.{ends_as_due, ends_refused, ends_longer, says_nothing}
+use Rattle.plan_command.proofs.Finishing.{plan_due, check_due}
 use Rattle.plan_command.proofs.Outcomes.{planned_input, accepted_input, rejected_input, write_failed}
 use Rattle.plan_command.proofs.top.run.Goals as goal
 
@@ -11,7 +13,7 @@ pub returns-in-Ok-clause-complete : goal.returns-in-Ok-clause-complete
 returns-in-Ok-clause-complete g c = λ request input calm short. ends_as_due _ _ _ request input (Ok c.in-Ok.status) c.in-Ok.ensures.ends calm short
 
 pub returns-in-Ok-clause-refused : goal.returns-in-Ok-clause-refused
-returns-in-Ok-clause-refused g c = λ request input stop heard short due. ends_refused _ _ _ request input (Ok c.in-Ok.status) stop c.in-Ok.ensures.ends heard short due
+returns-in-Ok-clause-refused g c = λ request input stop heard short due by. ends_refused _ _ _ request input (Ok c.in-Ok.status) stop c.in-Ok.ensures.ends heard short due by
 
 pub returns-in-Ok-clause-longer : goal.returns-in-Ok-clause-longer
 returns-in-Ok-clause-longer g c = λ request input heard long. ends_longer _ _ _ request input (Ok c.in-Ok.status) c.in-Ok.ensures.ends heard long
@@ -20,7 +22,7 @@ pub returns-in-Err-clause-complete : goal.returns-in-Err-clause-complete
 returns-in-Err-clause-complete g c = λ request input calm short. rw c.status.ensures (ends_as_due _ _ _ request input (Err c.in-Err.stop) c.in-Err.ensures.ends calm short)
 
 pub returns-in-Err-clause-refused : goal.returns-in-Err-clause-refused
-returns-in-Err-clause-refused g c = λ request input stop heard short due. rw c.status.ensures (ends_refused _ _ _ request input (Err c.in-Err.stop) stop c.in-Err.ensures.ends heard short due)
+returns-in-Err-clause-refused g c = λ request input stop heard short due by. rw c.status.ensures (ends_refused _ _ _ request input (Err c.in-Err.stop) stop c.in-Err.ensures.ends heard short due by)
 
 pub returns-in-Err-clause-longer : goal.returns-in-Err-clause-longer
 returns-in-Err-clause-longer g c = λ request input heard long. rw c.status.ensures (ends_longer _ _ _ request input (Err c.in-Err.stop) c.in-Err.ensures.ends heard long)
@@ -36,3 +38,15 @@ returns-in-Ok-clause-rejected g c = λ rejected. rejected_input _ _ _ c.in-Ok.st
 
 pub returns-in-Err-clause-write_fault : goal.returns-in-Err-clause-write_fault
 returns-in-Err-clause-write_fault g c = λ e. write_failed _ _ _ c.in-Err.stop c.in-Err.ensures.ends (sym c.status.ensures ∙ e)
+
+pub returns-in-Ok-clause-finishes : goal.returns-in-Ok-clause-finishes
+returns-in-Ok-clause-finishes g c = λ p input opening calm short text opens few. plan_due p input opening _ text opens few (ends_as_due _ _ _ Plan input (Ok c.in-Ok.status) c.in-Ok.ensures.ends calm short)
+
+pub returns-in-Ok-clause-accepts : goal.returns-in-Ok-clause-accepts
+returns-in-Ok-clause-accepts g c = λ p input rest plan calm short begins is accepts. check_due p input rest plan _ begins is accepts (ends_as_due _ _ _ Check input (Ok c.in-Ok.status) c.in-Ok.ensures.ends calm short)
+
+pub returns-in-Err-clause-finishes : goal.returns-in-Err-clause-finishes
+returns-in-Err-clause-finishes g c = λ p input opening calm short text opens few. plan_due p input opening _ text opens few (rw c.status.ensures (ends_as_due _ _ _ Plan input (Err c.in-Err.stop) c.in-Err.ensures.ends calm short))
+
+pub returns-in-Err-clause-accepts : goal.returns-in-Err-clause-accepts
+returns-in-Err-clause-accepts g c = λ p input rest plan calm short begins is accepts. check_due p input rest plan _ begins is accepts (rw c.status.ensures (ends_as_due _ _ _ Check input (Err c.in-Err.stop) c.in-Err.ensures.ends calm short))

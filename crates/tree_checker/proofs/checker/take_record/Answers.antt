@@ -10,6 +10,9 @@ use Rattle.tree_checker.proofs.checker.take_record.Goals as goal
 pub record_reason-requires-clause-legal : goal.record_reason-requires-clause-legal
 record_reason-requires-clause-legal c = (split_legal c.args.sc.now _ _ _ c.in-Some.ensures.some c.requires.legal).0
 
+pub push_expected-requires-clause-legal : goal.push_expected-requires-clause-legal
+push_expected-requires-clause-legal c = (split_legal c.args.sc.now _ _ _ c.in-Some.ensures.some c.requires.legal).0
+
 pub push_expected-requires-clause-room : goal.push_expected-requires-clause-room
 push_expected-requires-clause-room c = λ branch.
     let rest = c.pop_prefix.new.stack in

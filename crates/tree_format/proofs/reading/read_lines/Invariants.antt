@@ -1,11 +1,14 @@
-use Rattle.std.proofs.Common.{◌≡◌, length}
+use Rattle.std.proofs.Common.{◌≡◌, ◌+◌, ◌≤◌, length}
 use Rattle.tree_format.specs.Pieces.{pieces_of}
-use Rattle.tree_format.specs.State.{state_of, blank_state}
-use Rattle.tree_format.specs.Reading.{pieces_at}
+use Rattle.tree_format.specs.Gives.{plan_of}
+use Rattle.tree_format.specs.Reading.{pieces_at, plan_at}
 use Rattle.tree_format.proofs.reading.read_lines.Given as goal
 
 abbrev pub invariant-lines : goal.invariant-lines
-invariant-lines l = pieces_at l.sc (state_of l.draft) (pieces_of l.rest) ≡ pieces_at l.sc blank_state (pieces_of l.text)
+invariant-lines l = record {
+  so_far : pieces_at l.sc l.number l.draft.stage (plan_of l.draft) (pieces_of l.rest) ≡ plan_at l.sc l.text;
+  short : l.number + length l.rest ≤ 1 + length l.text;
+}
 
 abbrev pub decreases-lines : goal.decreases-lines
 decreases-lines l = length l.rest

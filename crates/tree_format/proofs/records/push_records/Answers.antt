@@ -1,19 +1,24 @@
 use Rattle.std.proofs.Common.{◌≡◌, ◌++◌, ◌∷◌, [], ◌∙◌, ap, sym, subst, List, ℕ}
+use Rattle.std.proofs.lemmas.List.Elements.{All-more}
 use Rattle.exact_parts.specs.Appending.{AppendsFront}
 use Rattle.exact_parts.specs.Rows.{text_of}
 use Rattle.exact_parts.proofs.AppendLemmas.{stands_stopped, then_more, at_refusal}
 use Rattle.exact_parts.proofs.RowLemmas.{stands_at_row, text_of-more}
 use Rattle.bound_tree.specs.declared.node.TreeNode.{TreeNode}
-use Rattle.tree_format.specs.PlanText.{record_row}
+use Rattle.tree_format.specs.PlanText.{record_row, IsNarrowKind}
 use Rattle.tree_format.proofs.records.push_records.Goals as goal
 
 pub returns-in_err-push_record-clause-err : goal.returns-in_err-push_record-clause-err
 returns-in_err-push_record-clause-err c =
-    let before = stands_at_row record_row c.args.records.now c.loop-r.r-index c.r-item.result c.loop-r-test.true c.loop-r.invariant in
+    let before = stands_at_row record_row c.args.records.now c.loop-r.r-index c.r-item.result c.loop-r-test.true c.loop-r.invariant.text in
     at_refusal _ _ (stands_stopped _ _ before
     (subst (λ (r : TreeNode). AppendsFront c.loop-r.out.items c.push_record.new.out.items (text_of (record_row r ∷ []))) c.r-item.is c.in_err-push_record.ensures.err))
 
 pub loop-r-preserved : goal.loop-r-preserved
 loop-r-preserved c =
     let line = subst (λ (r : TreeNode). c.push_record.new.out.items ≡ c.loop-r.out.items ++ text_of (record_row r ∷ [])) c.r-item.is c.in_ok-push_record.ensures.ok in
-    then_more _ _ _ _ _ c.loop-r.invariant line ∙ ap (λ (t : List ℕ). c.args.out.now.items ++ t) (sym (text_of-more record_row c.args.records.now c.loop-r.r-index c.r-item.result c.loop-r-test.true))
+    let N : TreeNode → Type 0 = λ r. IsNarrowKind r.kind in
+    record {
+      text = then_more _ _ _ _ _ c.loop-r.invariant.text line ∙ ap (λ (t : List ℕ). c.args.out.now.items ++ t) (sym (text_of-more record_row c.args.records.now c.loop-r.r-index c.r-item.result c.loop-r-test.true));
+      narrow = All-more N c.args.records.now c.loop-r.r-index c.r-item.result c.loop-r-test.true c.loop-r.invariant.narrow (subst N c.r-item.is c.in_ok-push_record.ensures.narrow);
+    }

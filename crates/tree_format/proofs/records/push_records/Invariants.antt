@@ -1,7 +1,11 @@
 use Rattle.std.proofs.Common.{◌≡◌, ◌++◌, take, map}
+use Rattle.std.specs.Prelude.{All}
 use Rattle.exact_parts.specs.Rows.{text_of}
-use Rattle.tree_format.specs.PlanText.{record_row}
+use Rattle.tree_format.specs.PlanText.{record_row, IsNarrowKind}
 use Rattle.tree_format.proofs.records.push_records.Given as goal
 
 abbrev pub invariant-loop-r : goal.invariant-loop-r
-invariant-loop-r l = l.out.items ≡ l.fn.out.items ++ text_of (map record_row (take l.r-index l.records))
+invariant-loop-r l = record {
+  text : l.out.items ≡ l.fn.out.items ++ text_of (map record_row (take l.r-index l.records));
+  narrow : All (λ r. IsNarrowKind r.kind) (take l.r-index l.records);
+}

@@ -1,0 +1,213 @@
+-- What a standing cuts or closes, each better standing does too; and how a prefix is closed.
+use Rattle.std.proofs.Common.{◌≡◌, ℕ, zero, suc, ◌*◌, ◌<◌, ◌≤◌, true, false, List, [], ◌∷◌, length, take, inl, inr, sym, refl, ap, ◌∙◌, arith, Ordering, Less, Equal, Greater, nat_cmp, is_lt, ltb-true, lt-ltb, eqb-true, eq-eqb}
+use Rattle.std.specs.Ordering.{ordering_then}
+use Rattle.std.proofs.Math.Nat.{mul-le-mul_left, le_of_mul-le-mul_left}
+use Rattle.std.proofs.lemmas.Bool.{or_cases, or_left, or_right, and_from, true≢false, false_from_ne_true, cases_order, cases_lt, cases_Bool, true_from_ne_false, and_parts}
+use Rattle.search_model.specs.declared.standing.Standing.{Standing}
+use Rattle.search_model.specs.Problem.{Problem, IsProblem}
+use Rattle.search_model.specs.Legal.{IsLegal}
+use Rattle.search_model.specs.Tracks.{value_of}
+use Rattle.search_model.specs.Bounds.{mean_of}
+use Rattle.search_model.specs.Order.{smaller, better}
+use Rattle.search_model.proofs.Orders.{smaller_order, not_better_parts, not_better_from, same_from_neither, better_order, better_irreflexive, better_one_way}
+use Rattle.bound_tree.specs.declared.node.Kind.{Kind}
+use Rattle.bound_tree.specs.declared.node.Kind.TheVariants.{Branch, Whole, Mean, Tangent}
+use Rattle.bound_tree.specs.Cut.{is_cut, times}
+use Rattle.bound_tree.specs.Close.{IsClosed, IsAtLeast}
+use Rattle.bound_tree.specs.Accepts.{IsGoodKind}
+use Rattle.bound_tree.specs.CutLaws.{CutStays, FinerCutStays, IsBoundKind, ClosedStays, MeanStays, BranchedBefore, ClosesOnce}
+use Rattle.bound_tree.proofs.Tangents.{reference_extends, one_tangent, tangent_or_none}
+
+-- a standing is at least another exactly where the other isn't better
+pub not_worse : (t s : Standing) → IsAtLeast t s → better s t ≡ false
+not_worse t s (inl same) = ap (better s) same ∙ better_irreflexive s
+not_worse t s (inr more) = better_one_way t s more
+
+pub at_least_from : (t s : Standing) → better s t ≡ false → IsAtLeast t s
+at_least_from t s h = elim (cases_Bool (better t s)) [
+  | inl more ↦ inr more
+  | inr none ↦
+      let up = not_better_parts s t h in
+      let down = not_better_parts t s none in
+      let value : t.value ≡ s.value = omega (arith, up.0, down.0) in
+      let path : t.path ≡ s.path = same_from_neither t.path s.path (down.1 value) (up.1 (sym value)) in
+      let of : List ℕ → ℕ → Standing = λ q v. record { path = q; value = v } in
+      inl (ap (λ (q : List ℕ). of q t.value) path ∙ ap (of s.path) value)
+]
+
+-- a standing is at least itself
+pub at_least_itself : (s : Standing) → IsAtLeast s s
+at_least_itself s = inl refl
+
+-- being at least another leads on
+pub at_least_trans : (s t u : Standing) → IsAtLeast s t → IsAtLeast t u → IsAtLeast s u
+at_least_trans s t u h g = at_least_from s u (better_order.chain u t s (not_worse t u g) (not_worse s t h))
+
+front_step : (o a b : Ordering) → (is_lt a ≡ true → is_lt b ≡ true) → is_lt (ordering_then o a) ≡ true → is_lt (ordering_then o b) ≡ true
+front_step Less a b f h = refl
+front_step Equal a b f h = f h
+front_step Greater a b f h = h
+
+-- a list with a smaller front is smaller
+pub smaller_by_fronts : (k : ℕ) (q r : List ℕ) → smaller (take k q) (take k r) ≡ true → smaller q r ≡ true
+smaller_by_fronts zero q r h = cc
+smaller_by_fronts (suc k) [] [] h = h
+smaller_by_fronts (suc k) [] (y ∷ r) h = refl
+smaller_by_fronts (suc k) (x ∷ q) [] h = h
+smaller_by_fronts (suc k) (x ∷ q) (y ∷ r) h = front_step (nat_cmp x y) _ _ (smaller_by_fronts k q r) h
+
+-- a list that isn't greater than one smaller than r is smaller than r
+smaller_after : (p q r : List ℕ) → smaller q p ≡ false → smaller q r ≡ true → smaller p r ≡ true
+smaller_after p q r h g = true_from_ne_false (smaller p r) (λ e. true≢false (sym g ∙ smaller_order.chain q p r h e))
+
+-- what a standing cuts, each standing cuts that is the same or better
+pub cut_at_least : (b : ℕ) (q : List ℕ) (s t : Standing) → IsAtLeast t s → is_cut b q s ≡ true → is_cut b q t ≡ true
+cut_at_least b q s t h cut =
+    let facts = not_better_parts s t (not_worse t s h) in
+    elim (or_cases _ _ cut) [
+      | inl less ↦ or_left _ _ (lt-ltb b t.value (let low = ltb-true b s.value less in omega (arith, low, facts.0)))
+      | inr level ↦
+          let parts = and_parts _ _ level in
+          let same = eqb-true b s.value parts.0 in
+          elim (cases_order s.value t.value) [
+            | inl e ↦
+                let fronts : smaller (take (length q) s.path) (take (length q) t.path) ≡ false =
+                false_from_ne_true _ (λ less. true≢false (sym (smaller_by_fronts (length q) s.path t.path less) ∙ facts.1 e)) in
+                or_right _ _ (and_from _ _ (eq-eqb b t.value (same ∙ e)) (smaller_after (take (length q) t.path) (take (length q) s.path) q fronts parts.1))
+            | inr apart ↦ or_left _ _ (lt-ltb b t.value (omega (arith, same, apart, facts.0)))
+          ]
+    ]
+
+pub cut_stays : CutStays
+cut_stays b q s t h cut = cut_at_least b q s t (inr h) cut
+
+-- a standing that is at least another is so in finer parts, too
+pub times_at_least : (g : ℕ) (s t : Standing) → 1 ≤ g → IsAtLeast t s → IsAtLeast (times g t) (times g s)
+times_at_least g s t some h =
+    let parts = not_better_parts s t (not_worse t s h) in
+    let same : g * s.value ≡ g * t.value → s.value ≡ t.value = λ e. (
+    let down : g * t.value ≤ g * s.value = omega (arith, e) in
+    omega (arith, parts.0, le_of_mul-le-mul_left down some)
+    ) in
+    at_least_from (times g t) (times g s) (not_better_from (times g s) (times g t) (mul-le-mul_left g parts.0) (λ e. parts.1 (same e)))
+
+-- what a standing in finer parts cuts, each standing cuts that is the same or better
+pub finer_cut_stays : FinerCutStays
+finer_cut_stays g b q s t some h cut = cut_at_least b q (times g s) (times g t) (times_at_least g s t some h) cut
+
+-- what a standing doesn't cut, each standing doesn't cut that is the same or worse
+free_at_least : (b : ℕ) (q : List ℕ) (s t : Standing) → IsAtLeast t s → is_cut b q t ≡ false → is_cut b q s ≡ false
+free_at_least b q s t h free = false_from_ne_true _ (λ cut. true≢false (sym (cut_at_least b q s t h cut) ∙ free))
+
+-- what branches under a standing branches under each that is the same or worse
+pub branch_at_least : (p : Problem) (s t : Standing) (q : List ℕ) → IsProblem p → IsAtLeast t s → IsClosed p t q Branch → IsClosed p s q Branch
+branch_at_least p s t q sound h closed = (
+  closed.0,
+  free_at_least (mean_of p q) q s t h closed.1,
+  λ b whole tangent.
+      free_at_least b q (times p.sweep.denominator s) (times p.sweep.denominator t)
+      (times_at_least p.sweep.denominator s t sound.sweep.denominator.0 h) (closed.2 b whole tangent),
+)
+
+pub branched_before : BranchedBefore
+branched_before p s t q sound h closed = branch_at_least p s t q sound (inr h) closed
+
+-- a prefix that is closed by its mean stays closed by it
+pub mean_at_least : (p : Problem) (s t : Standing) (q : List ℕ) (b : ℕ) → IsAtLeast t s → IsClosed p s q (Mean b) → IsClosed p t q (Mean b)
+mean_at_least p s t q b h closed = (closed.0, closed.1, cut_at_least b q s t h closed.2)
+
+pub mean_stays : MeanStays
+mean_stays p s t q b h closed = mean_at_least p s t q b (inr h) closed
+
+pub closed_is_good : (p : Problem) (s t : Standing) (q : List ℕ) (kind : Kind) → IsProblem p → IsLegal p q → IsAtLeast t s →
+    ((n : ℕ) → kind ≡ Whole n → better (record { path = q; value = n }) t ≡ false) → IsClosed p s q kind → IsGoodKind p t q kind
+closed_is_good p s t q Branch sound legal h whole closed = closed.0
+closed_is_good p s t q (Whole n) sound legal h whole closed = (closed.0, closed.1, whole n refl)
+closed_is_good p s t q (Mean b) sound legal h whole closed = mean_at_least p s t q b h closed
+closed_is_good p s t q (Tangent b path) sound legal h whole closed =
+    let tangent = closed.2 in (
+      closed.0,
+      (tangent.rate, tangent.is_rate, reference_extends p q sound legal path tangent.reference, tangent.bound),
+      finer_cut_stays p.sweep.denominator b q s t sound.sweep.denominator.0 h closed.3,
+    )
+
+-- what is closed by a bound under a standing neither branches nor is a whole path under one that is at least as good
+bound_goes_on : (p : Problem) (s t : Standing) (q : List ℕ) → IsProblem p → IsAtLeast t s → (kind other : Kind) → IsBoundKind kind → IsClosed p s q kind →
+    IsClosed p t q other → IsBoundKind other
+bound_goes_on p s t q sound h Branch other bound closed then = absurd bound
+bound_goes_on p s t q sound h (Whole n) other bound closed then = absurd bound
+bound_goes_on p s t q sound h (Mean b) Branch bound closed then =
+    let before = branch_at_least p s t q sound h then in
+    absurd (true≢false (sym closed.2 ∙ ap (λ (n : ℕ). is_cut n q s) closed.1 ∙ before.1))
+bound_goes_on p s t q sound h (Mean b) (Whole n) bound closed then = absurd (omega (arith, closed.0, then.0))
+bound_goes_on p s t q sound h (Mean b) (Mean c) bound closed then = tt
+bound_goes_on p s t q sound h (Mean b) (Tangent c whole) bound closed then = tt
+bound_goes_on p s t q sound h (Tangent b whole) Branch bound closed then =
+    let before = branch_at_least p s t q sound h then in
+    absurd (true≢false (sym closed.3 ∙ before.2 b whole closed.2))
+bound_goes_on p s t q sound h (Tangent b whole) (Whole n) bound closed then = absurd (omega (arith, closed.0, then.0))
+bound_goes_on p s t q sound h (Tangent b whole) (Mean c) bound closed then = tt
+bound_goes_on p s t q sound h (Tangent b whole) (Tangent c path) bound closed then = tt
+
+-- what is closed by a bound is closed by a bound under a standing that is at least as good
+next_bound : (p : Problem) (s t : Standing) (q : List ℕ) → IsProblem p → IsAtLeast t s → (kind : Kind) → IsBoundKind kind → IsClosed p s q kind →
+    (next : Kind) × IsBoundKind next × IsClosed p t q next
+next_bound p s t q sound h Branch bound closed = absurd bound
+next_bound p s t q sound h (Whole n) bound closed = absurd bound
+next_bound p s t q sound h (Mean b) bound closed = (Mean b, tt, mean_at_least p s t q b h closed)
+next_bound p s t q sound h (Tangent b whole) bound closed =
+    elim (cases_Bool (is_cut (mean_of p q) q t)) [
+      | inl cut ↦ (Mean (mean_of p q), tt, (closed.0, refl, cut))
+      | inr free ↦ (Tangent b whole, tt, (closed.0, free, closed.2, finer_cut_stays p.sweep.denominator b q s t sound.sweep.denominator.0 h closed.3))
+    ]
+
+pub closed_stays : ClosedStays
+closed_stays p s t q kind sound legal h bound closed =
+    (next_bound p s t q sound (inr h) kind bound closed, λ other then. bound_goes_on p s t q sound (inr h) kind other bound closed then)
+
+module _ (p : Problem) (s : Standing) (q : List ℕ) (sound : IsProblem p) (legal : IsLegal p q) where
+  -- what closes a prefix is one kind
+  same_kind : (kind other : Kind) → IsClosed p s q kind → IsClosed p s q other → other ≡ kind
+  same_kind Branch Branch h g = refl
+  same_kind Branch (Whole n) h g = absurd (omega (arith, h.0, g.0))
+  same_kind Branch (Mean b) h g = absurd (true≢false (sym g.2 ∙ ap (λ (n : ℕ). is_cut n q s) g.1 ∙ h.1))
+  same_kind Branch (Tangent b whole) h g = absurd (true≢false (sym g.3 ∙ h.2 b whole g.2))
+  same_kind (Whole n) Branch h g = absurd (omega (arith, h.0, g.0))
+  same_kind (Whole n) (Whole m) h g = ap Whole (g.1 ∙ sym h.1)
+  same_kind (Whole n) (Mean b) h g = absurd (omega (arith, h.0, g.0))
+  same_kind (Whole n) (Tangent b whole) h g = absurd (omega (arith, h.0, g.0))
+  same_kind (Mean b) Branch h g = absurd (true≢false (sym h.2 ∙ ap (λ (n : ℕ). is_cut n q s) h.1 ∙ g.1))
+  same_kind (Mean b) (Whole n) h g = absurd (omega (arith, h.0, g.0))
+  same_kind (Mean b) (Mean c) h g = ap Mean (g.1 ∙ sym h.1)
+  same_kind (Mean b) (Tangent c whole) h g = absurd (true≢false (sym h.2 ∙ ap (λ (n : ℕ). is_cut n q s) h.1 ∙ g.1))
+  same_kind (Tangent b whole) Branch h g = absurd (true≢false (sym h.3 ∙ g.2 b whole h.2))
+  same_kind (Tangent b whole) (Whole n) h g = absurd (omega (arith, h.0, g.0))
+  same_kind (Tangent b whole) (Mean c) h g = absurd (true≢false (sym g.2 ∙ ap (λ (n : ℕ). is_cut n q s) g.1 ∙ h.1))
+  same_kind (Tangent b whole) (Tangent c path) h g =
+      let same = one_tangent p q sound legal c b path whole g.2 h.2 in
+      ap (λ (n : ℕ). Tangent n path) same.0 ∙ ap (λ (w : List ℕ). Tangent b w) same.1
+
+  -- what the mean bound leaves open is closed by the tangent or branches
+  past_mean : length q < p.horizon → is_cut (mean_of p q) q s ≡ false → (kind : Kind) × IsClosed p s q kind
+  past_mean short free = elim (tangent_or_none p q sound legal) [
+    | inl (b, whole, tangent) ↦ elim (cases_Bool (is_cut b q (times p.sweep.denominator s))) [
+      | inl cut ↦ (Tangent b whole, (short, free, tangent, cut))
+      | inr open_at ↦ (Branch, (short, free, λ c path other. ap (λ (n : ℕ). is_cut n q (times p.sweep.denominator s)) (one_tangent p q sound legal c b path whole other tangent).0 ∙ open_at))
+    ]
+    | inr none ↦ (Branch, (short, free, λ b whole tangent. absurd (none b whole tangent)))
+  ]
+
+  -- something closes each legal prefix
+  some_kind : (kind : Kind) × IsClosed p s q kind
+  some_kind = elim (cases_lt (length q) p.horizon) [
+    | inl short ↦ elim (cases_Bool (is_cut (mean_of p q) q s)) [
+      | inl cut ↦ (Mean (mean_of p q), (short, refl, cut))
+      | inr free ↦ past_mean short free
+    ]
+    | inr long ↦ let full : length q ≡ p.horizon = omega (arith, long, legal.short) in (Whole (value_of p q), (full, refl))
+  ]
+
+pub closes_once : ClosesOnce
+closes_once p s q sound legal =
+    let (kind, closed) = some_kind p s q sound legal in
+    (kind, closed, λ other h. same_kind p s q sound legal kind other closed h)

@@ -1,0 +1,59 @@
+-- Paths that extend a prefix: what is left of them is a continuation.
+use Rattle.std.proofs.Common.{ℕ, ◌-◌, ◌<◌, ◌≤◌, ◌≡◌, List, [], ◌∷◌, ◌++◌, map, length, drop, inl, inr, sym, ap, ◌∙◌, subst, arith, Contains, All, length-append}
+use Rattle.std.proofs.Math.Nat.{le-max_left, le-max_right}
+use Rattle.std.proofs.lemmas.List.{take-append-drop, length-drop}
+use Rattle.search_model.specs.Problem.{Problem, IsProblem}
+use Rattle.search_model.specs.Legal.{Follows, IsLegal, last_of, continuations}
+use Rattle.search_model.specs.Bounds.{sum_along, greatest}
+use Rattle.search_model.proofs.LegalLemmas.{last_within}
+use Rattle.search_model.proofs.Members.{Contains-nil, Contains-cons_cases, Contains-map}
+use Rattle.search_model.proofs.PlainSteps.{positions_follow}
+use Rattle.search_model.proofs.WalkLemmas.{walk_listed, follows-append}
+use Rattle.bound_tree.specs.Accepts.{Extends}
+
+-- no number is above the greatest
+pub greatest_above : (ns : List ℕ) (n : ℕ) → Contains ns n → n ≤ greatest ns
+unfolding greatest
+greatest_above [] n h = absurd (Contains-nil n h)
+greatest_above (a ∷ ns) n h = elim (Contains-cons_cases a n ns h) [
+  | inl e ↦ omega (arith, e, le-max_left a (greatest ns))
+  | inr k ↦ omega (arith, greatest_above ns n k, le-max_right a (greatest ns))
+]
+
+-- what is left of a path after the prefix
+abbrev pub rest_of : List ℕ → List ℕ → List ℕ
+rest_of q y = drop (length q) y
+
+module _ (p : Problem) (q y : List ℕ) (x : Extends p q y) where
+  -- the path is the prefix and the rest
+  pub whole_is : y ≡ q ++ rest_of q y
+  whole_is = sym (take-append-drop (length q) y) ∙ ap (λ (u : List ℕ). u ++ rest_of q y) x.front
+
+  -- the prefix isn't longer than the horizon
+  pub front_short : length q ≤ p.horizon
+  front_short = omega (arith, ap length whole_is, length-append q (rest_of q y), x.path.whole)
+
+  follows_both : Follows p.moves p.start q × Follows p.moves (last_of p.start q) (rest_of q y)
+  follows_both = (follows-append p.moves p.start q (rest_of q y)).0 (subst (Follows p.moves p.start) whole_is x.path.follows)
+
+  -- the prefix is legal
+  pub front_legal : IsLegal p q
+  front_legal = record { follows = follows_both.0; short = front_short }
+
+  -- the rest is as long as what the prefix leaves
+  pub rest_size : length (rest_of q y) ≡ p.horizon - length q
+  rest_size = omega (arith, length-drop (length q) y, x.path.whole)
+
+  -- the rest holds positions
+  pub rest_within : IsProblem p → All (λ a. a < p.positions) (rest_of q y)
+  rest_within sound =
+      let start : p.start < length p.moves = omega (arith, sound.start, sound.grid_positions) in
+      positions_follow p sound (last_of p.start q) (last_within p.moves sound.grid p.start start q follows_both.0) (rest_of q y) follows_both.1
+
+  -- the rest is a continuation of the prefix
+  pub rest_listed : Contains (continuations p q) (rest_of q y)
+  rest_listed = walk_listed p.moves (p.horizon - length q) (last_of p.start q) (rest_of q y) follows_both.1 rest_size
+
+  -- no sum along a rest is above the greatest over all continuations
+  pub rest_below : (r : ℕ → ℕ → ℕ) (t : ℕ) → sum_along r t (rest_of q y) ≤ greatest (map (sum_along r t) (continuations p q))
+  rest_below r t = greatest_above _ _ (Contains-map (sum_along r t) (continuations p q) (rest_of q y) rest_listed)

@@ -1,0 +1,99 @@
+-- A prefix's tangent bound: there is at most one, and whether there is one is decided by the look factors.
+use Rattle.std.proofs.Common.{◌≡◌, ◌⊎◌, ℕ, ◌+◌, ◌-◌, ◌<◌, ◌≤◌, List, [], ◌∷◌, ◌++◌, length, inl, inr, sym, refl, ap, ◌∙◌, subst, arith, ltb, ltb-false, All, Contains, length-append}
+use Rattle.std.proofs.lemmas.Bool.{cases_eq}
+use Rattle.std.proofs.lemmas.List.{take_at, get_or_default}
+use Rattle.std.proofs.lemmas.List.Elements.{All-nil, All-cons, All-head, All-tail, All-contains}
+use Rattle.std.proofs.lemmas.List.MinMax.{IsStrictWeakOrder-by_number}
+use Rattle.sweep_table.specs.LookParts.{IsOneRate}
+use Rattle.search_model.specs.Problem.{Problem, IsProblem}
+use Rattle.search_model.specs.Legal.{IsLegal, last_of}
+use Rattle.search_model.specs.Bounds.{reward_of, IsRate, tangent_of}
+use Rattle.search_model.proofs.LegalLemmas.{last_within}
+use Rattle.search_model.proofs.WalkLemmas.{listed_walk, follows-append}
+use Rattle.search_model.proofs.Best.{unbeaten}
+use Rattle.search_model.proofs.Rates.{one_rate_is_rate}
+use Rattle.longest_walk.proofs.LeastWalks.{one_least_best}
+use Rattle.bound_tree.specs.Accepts.{Extends}
+use Rattle.bound_tree.specs.Close.{IsReference, IsTangent}
+
+-- a problem's look factors have one rate at most
+pub one_rate : (p : Problem) (r s : ℕ) → IsRate p r → IsRate p s → r ≡ s
+one_rate p r s first second =
+    let (t, a, c, from, to, position, cell, here) = first.reached in
+    let (u, b, d, begin, end, place, spot, there) = second.reached in
+    omega (arith, here, there, second.least t a c from to position cell, first.least u b d begin end place spot)
+
+-- without one rate a prefix has no tangent
+pub tangent_needs_rate : (p : Problem) (q : List ℕ) (b : ℕ) (whole : List ℕ) → ((rate : ℕ) → IsRate p rate → ⊥) → IsTangent p q b whole → ⊥
+tangent_needs_rate p q b whole none tangent = none tangent.rate tangent.is_rate
+
+-- whether each of some numbers is one of two
+each_or_not : (m g : ℕ) (xs : List ℕ) → All (λ x. (x ≡ m) ⊎ (x ≡ g)) xs ⊎ (All (λ x. (x ≡ m) ⊎ (x ≡ g)) xs → ⊥)
+each_or_not m g [] = inl (All-nil (λ x. (x ≡ m) ⊎ (x ≡ g)))
+each_or_not m g (y ∷ ys) =
+    let P : ℕ → Type 0 = λ x. (x ≡ m) ⊎ (x ≡ g) in
+    elim (each_or_not m g ys) [
+      | inr fails ↦ inr (λ all. fails (All-tail P y ys all))
+      | inl rest ↦ elim (cases_eq y m) [
+        | inl least ↦ inl (All-cons P y ys (inl least) rest)
+        | inr above ↦ elim (cases_eq y g) [
+          | inl most ↦ inl (All-cons P y ys (inr most) rest)
+          | inr apart ↦ inr (λ all. elim (All-head P y ys all) [ inl e ↦ above e | inr e ↦ apart e ])
+        ]
+      ]
+    ]
+
+-- whether a problem's look factors have one rate: the least overlook part is it, or none is
+pub rate_or_none : (p : Problem) → IsProblem p → ((rate : ℕ) × IsRate p rate) ⊎ ((rate : ℕ) → IsRate p rate → ⊥)
+rate_or_none p sound =
+    let parts = p.sweep.overlook in
+    let some : 0 < length parts = omega (arith, sound.sweep.positions) in
+    let (m, reached, unbeaten_by) = unbeaten (λ x y. ltb x y) (IsStrictWeakOrder-by_number (λ (x : ℕ). x)) parts some in
+    let below : (x : ℕ) → Contains parts x → m ≤ x = λ x h. ltb-false x m (unbeaten_by x h) in
+    elim (each_or_not m p.sweep.denominator parts) [
+      | inl each ↦
+          let least : All (λ x. m ≤ x) parts = λ k d inside. below _ (k, inside, get_or_default parts k _ d inside) in
+          inl (m, (one_rate_is_rate p m sound).0 (record { either = each; least = least; reached = reached }))
+      | inr fails ↦ inr (λ rate is.
+          let one : IsOneRate p.sweep rate = (one_rate_is_rate p rate sound).1 is in
+          let same : rate ≡ m = omega (arith, below rate one.reached, All-contains (λ x. rate ≤ x) parts m one.least reached) in
+          fails (subst (λ v. All (λ x. (x ≡ v) ⊎ (x ≡ p.sweep.denominator)) parts) same one.either))
+    ]
+
+module _ (p : Problem) (q : List ℕ) (sound : IsProblem p) (legal : IsLegal p q) where
+  -- a prefix has one reference
+  only_reference : (y : List ℕ) × IsReference p q (q ++ y) × ((whole : List ℕ) → IsReference p q whole → whole ≡ q ++ y)
+  only_reference =
+      let start : p.start < length p.moves = omega (arith, sound.start, sound.grid_positions) in
+      let here = last_within p.moves sound.grid p.start start q legal.follows in
+      let (y, least, only) = one_least_best p.moves (reward_of p q) (p.horizon - length q) (length q + 1) (last_of p.start q) sound.grid here in
+      (y, (y, refl, least), λ whole (z, is, other). is ∙ ap (λ (u : List ℕ). q ++ u) (only z other))
+
+  -- the reference is a path that extends the prefix
+  pub reference_extends : (whole : List ℕ) → IsReference p q whole → Extends p q whole
+  reference_extends whole (y, is, least) =
+      let walk = listed_walk p.moves (p.horizon - length q) (last_of p.start q) y least.walk in
+      subst (Extends p q) (sym is) (record {
+        path = record {
+          follows = (follows-append p.moves p.start q y).1 (legal.follows, walk.0);
+          whole = omega (arith, length-append q y, walk.1, legal.short);
+        };
+        front = take_at q y (length q) refl;
+      })
+
+  -- a prefix has one tangent at most
+  pub one_tangent : (b c : ℕ) (x y : List ℕ) → IsTangent p q b x → IsTangent p q c y → (b ≡ c) × (x ≡ y)
+  one_tangent b c x y first second =
+      let (_, _, only) = only_reference in
+      let rate : first.rate ≡ second.rate = one_rate p first.rate second.rate first.is_rate second.is_rate in
+      let path : x ≡ y = only x first.reference ∙ sym (only y second.reference) in
+      (first.bound ∙ ap (λ (r : ℕ). tangent_of p r q x) rate ∙ ap (λ (w : List ℕ). tangent_of p second.rate q w) path ∙ sym second.bound, path)
+
+  -- a prefix has a tangent, or none
+  pub tangent_or_none : ((b : ℕ) × (whole : List ℕ) × IsTangent p q b whole) ⊎ ((b : ℕ) (whole : List ℕ) → IsTangent p q b whole → ⊥)
+  tangent_or_none = elim (rate_or_none p sound) [
+    | inl (rate, is) ↦
+        let (y, reference, _) = only_reference in
+        inl (tangent_of p rate q (q ++ y), q ++ y, record { rate = rate; is_rate = is; reference = reference; bound = refl })
+    | inr none ↦ inr (λ b whole. tangent_needs_rate p q b whole none)
+  ]

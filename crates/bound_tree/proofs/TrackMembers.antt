@@ -1,0 +1,46 @@
+-- Which lists are tracks, and sums over tracks of larger terms.
+use Rattle.std.proofs.Common.{ℕ, zero, suc, ◌<◌, ◌≤◌, ◌≡◌, List, [], ◌∷◌, ◌++◌, map, length, inl, inr, refl, subst, arith, sum_by, All, Contains, length-append}
+use Rattle.std.specs.List.{range_with_len}
+use Rattle.std.proofs.lemmas.List.Sums.{sum_by-cons}
+use Rattle.std.proofs.lemmas.List.FromFn.{length-range_with_len, get_or-range_with_len}
+use Rattle.std.proofs.lemmas.List.Elements.{All-nil, All-cons, All-append}
+use Rattle.search_model.specs.Tracks.{tracks}
+use Rattle.search_model.proofs.Members.{Contains-nil, Contains-head, Contains-tail, Contains-cons_cases, Contains-map_cases, Contains-flat_map_cases}
+
+-- a list of n cells
+pub record IsTrack (cells n : ℕ) (x : List ℕ) : Type 0 where
+  pub size : length x ≡ n
+  pub within : All (λ c. c < cells) x
+
+-- a number of a range from 0 is below its end
+within_range : (n c : ℕ) → Contains (range_with_len 0 n) c → c < n
+within_range n c (k, inside, is) =
+    let few : k < n = omega (arith, inside, length-range_with_len 0 n) in
+    omega (arith, get_or-range_with_len 0 n k c few, is, few)
+
+-- each listed track is one
+pub track_is : (cells n : ℕ) (x : List ℕ) → Contains (tracks cells n) x → IsTrack cells n x
+unfolding tracks
+track_is cells zero x h = elim (Contains-cons_cases [] x [] h) [
+  | inl e ↦ subst (IsTrack cells 0) e (record { size = refl; within = All-nil (λ c. c < cells) })
+  | inr k ↦ absurd (Contains-nil x k)
+]
+track_is cells (suc n) x h =
+    let step = Contains-flat_map_cases (λ x. map (λ c. x ++ c ∷ []) (range_with_len 0 cells)) (tracks cells n) x h in
+    let last = Contains-map_cases (λ c. step.0 ++ c ∷ []) (range_with_len 0 cells) x step.2 in
+    let known = track_is cells n step.0 step.1 in
+    subst (IsTrack cells (suc n)) last.2 (record {
+      size = omega (arith, length-append step.0 (last.0 ∷ []), known.size);
+      within = All-append (λ c. c < cells) step.0 (last.0 ∷ []) known.within (All-cons (λ c. c < cells) last.0 [] (within_range cells last.0 last.1) (All-nil (λ c. c < cells)));
+    })
+
+-- a sum of larger terms is larger, where the terms of the list's elements are compared
+pub sum_by-within : {X : Type 0} (f g : X → ℕ) (xs : List X) → ((x : X) → Contains xs x → f x ≤ g x) → sum_by f xs ≤ sum_by g xs
+sum_by-within f g [] h = omega arith
+sum_by-within f g (x ∷ xs) h =
+    rw (sum_by-cons f x xs, sum_by-cons g x xs)
+    (omega (arith, h x (Contains-head x xs), sum_by-within f g xs (λ y k. h y (Contains-tail x y xs k))))
+
+-- a sum over tracks of larger terms is larger
+pub sum_tracks-le : (cells n : ℕ) (f g : List ℕ → ℕ) → ((x : List ℕ) → IsTrack cells n x → f x ≤ g x) → sum_by f (tracks cells n) ≤ sum_by g (tracks cells n)
+sum_tracks-le cells n f g h = sum_by-within f g (tracks cells n) (λ x k. h x (track_is cells n x k))

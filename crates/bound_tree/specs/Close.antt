@@ -1,0 +1,50 @@
+-- How a prefix is closed under a standing, and which prefixes stay open.
+use Rattle.std.specs.Prelude.{ℕ, ◌+◌, ◌-◌, ◌≡◌, ◌<◌, ◌⊎◌, List, ◌++◌, take, length, IsTrue, IsFalse}
+use Rattle.search_model.specs.declared.standing.Standing.{Standing}
+use Rattle.search_model.specs.Problem.{Problem}
+use Rattle.search_model.specs.Legal.{IsLegal, IsPath, last_of}
+use Rattle.search_model.specs.Tracks.{value_of}
+use Rattle.search_model.specs.Order.{better}
+use Rattle.search_model.specs.Bounds.{mean_of, reward_of, IsRate, tangent_of}
+use Rattle.longest_walk.specs.Sums.{IsLeastBest}
+use Rattle.bound_tree.specs.declared.node.Kind.{Kind}
+use Rattle.bound_tree.specs.declared.node.Kind.TheVariants.{Branch, Whole, Mean, Tangent}
+use Rattle.bound_tree.specs.Cut.{is_cut, times}
+
+-- the path at which a prefix's tangent is taken: the prefix, and then the least of the continuations with the greatest sum
+-- of rewards; no standing has a part in it
+abbrev pub IsReference : Problem → List ℕ → List ℕ → Type 0
+IsReference p q whole =
+    (y : List ℕ) × (whole ≡ q ++ y) × IsLeastBest p.moves (reward_of p q) (p.horizon - length q) (length q + 1) (last_of p.start q) y
+
+-- a prefix's tangent bound, at its reference; there is none without one rate
+pub record IsTangent (p : Problem) (q : List ℕ) (b : ℕ) (whole : List ℕ) : Type 0 where
+  pub rate : ℕ
+  pub is_rate : IsRate p rate
+  pub reference : IsReference p q whole
+  pub bound : b ≡ tangent_of p rate q whole
+
+-- how a legal prefix is closed: a path by its value; a shorter prefix by its mean bound where the standing cuts that, else
+-- by its tangent bound where it has one and the standing cuts it, and else it branches
+abbrev pub IsClosed : Problem → Standing → List ℕ → Kind → Type 0
+IsClosed p s q Branch =
+    (length q < p.horizon) × IsFalse (is_cut (mean_of p q) q s)
+    × ((b : ℕ) (whole : List ℕ) → IsTangent p q b whole → IsFalse (is_cut b q (times p.sweep.denominator s)))
+IsClosed p s q (Whole n) = (length q ≡ p.horizon) × (n ≡ value_of p q)
+IsClosed p s q (Mean b) = (length q < p.horizon) × (b ≡ mean_of p q) × IsTrue (is_cut b q s)
+IsClosed p s q (Tangent b whole) =
+    (length q < p.horizon) × IsFalse (is_cut (mean_of p q) q s) × IsTangent p q b whole × IsTrue (is_cut b q (times p.sweep.denominator s))
+
+-- a legal prefix that no bound above it rules out: under the standing each shorter prefix of it branches
+pub record IsLive (p : Problem) (s : Standing) (q : List ℕ) : Type 0 where
+  pub legal : IsLegal p q
+  pub branches : (k : ℕ) → k < length q → IsClosed p s (take k q) Branch
+
+-- a path with its exact value
+pub record IsExact (p : Problem) (s : Standing) : Type 0 where
+  pub path : IsPath p s.path
+  pub value : s.value ≡ value_of p s.path
+
+-- the second standing, or a better one
+abbrev pub IsAtLeast : Standing → Standing → Type 0
+IsAtLeast t s = (t ≡ s) ⊎ IsTrue (better t s)

@@ -1,0 +1,23 @@
+-- What contracts see of the tables with which prefixes are closed.
+use Rattle.std.specs.Prelude.{ℕ, Bool, true, false}
+use Rattle.search_model.specs.Problem.{Problem}
+use Rattle.search_model.specs.Bounds.{IsRate}
+use Rattle.mean_bound.specs.Means.{MeanState, IsMadeFor as IsMeanFor}
+use Rattle.tangent_bound.specs.Room.{TangentRoom, IsMadeFor as IsTangentFor}
+
+-- the tables of both bounds, and whether the looks have one rate
+pub record NodeTables : Type 0 where
+  pub mean : MeanState
+  pub tangent : TangentRoom
+  pub has_rate : Bool
+
+-- whether the problem has one rate
+abbrev pub TellsRate : Problem → Bool → Type 0
+TellsRate p true = (rate : ℕ) × IsRate p rate
+TellsRate p false = (rate : ℕ) → ¬ IsRate p rate
+
+-- the tables were made for this scenario
+pub record IsMadeFor (p : Problem) (s : NodeTables) : Type 0 where
+  pub mean : IsMeanFor p s.mean
+  pub tangent : IsTangentFor p s.tangent
+  pub rate : TellsRate p s.has_rate

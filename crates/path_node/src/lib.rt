@@ -1,0 +1,8 @@
+//! Closing a node of a search tree.
+#![tactic(auto)]
+
+mod node;
+#[cfg(test)]
+mod tests;
+
+pub use node::{Scratch, children, close};

@@ -1,0 +1,135 @@
+//! Closing a prefix.
+
+ghost use Rattle.std.specs.Prelude.{◌≡◌, ◌<◌, ℕ, length, IfOk, IsFalse};
+ghost use Rattle.search_model.specs.Legal.{IsLegal, moves_after};
+ghost use Rattle.search_model.specs.Bounds.{IsRate, mean_of};
+ghost use Rattle.bound_tree.specs.Close.{IsClosed, IsExact};
+ghost use Rattle.bound_tree.specs.Cut.{is_cut};
+ghost use Rattle.mean_bound.specs.Means.{IsMadeFor as IsMeanFor, IsFilledFor};
+ghost use Rattle.path_node.specs.Room.{IsMadeFor, TellsRate};
+
+use bound_tree::{Kind, TreeNode, cuts, in_parts};
+use exact_parts::NoMemory;
+use mean_bound::Mean;
+use search_model::{Path, Scenario, Standing};
+use std::alloc::Global;
+use std::marker::Model;
+use tangent_bound::Tangent;
+
+/// Tables with which prefixes of one scenario are closed.
+#[derive(Drop)]
+pub struct Scratch {
+    mean: Mean,
+    tangent: Tangent,
+    has_rate: bool,
+}
+
+impl Model for Scratch {
+    ghost use Rattle.path_node.specs.Room.{NodeTables};
+
+    ghost Value = { NodeTables };
+
+    ghost view = { λ s. record { mean = s.mean; tangent = s.tangent; has_rate = s.has_rate } };
+}
+
+/// Whether the looks of a scenario have one rate.
+fn has_rate(sc: &Scenario) -> bool
+    ensures { TellsRate sc.now result }
+{
+    let _sound = sc.cells();
+    sc.sweep().one_rate().is_some()
+}
+
+impl Scratch {
+    /// Tables for a scenario. Only this call takes memory.
+    pub fn tables(alloc: Global, sc: &Scenario) -> Result<Scratch, NoMemory>
+        ensures { IfOk result (IsMadeFor sc.now) }
+    {
+        Ok(Scratch {
+            mean: Mean::tables(alloc, sc)?,
+            tangent: Tangent::tables(alloc, sc)?,
+            has_rate: has_rate(sc),
+        })
+    }
+}
+
+/// Closes a prefix whose mean bound isn't cut by its tangent bound at the least path of the greatest sum of rewards, if
+/// the standing cuts that.
+fn close_by_tangent(
+    scratch: &mut Scratch,
+    sc: &Scenario,
+    prefix: &Path,
+    standing: &Standing,
+) -> Kind
+    requires made { IsMadeFor sc.now scratch.old }
+    requires filled { IsFilledFor sc.now prefix.now scratch.old.mean }
+    requires rate { (rate : ℕ) × IsRate sc.now rate }
+    requires legal { IsLegal sc.now prefix.now }
+    requires shorter { length prefix.now < sc.now.horizon }
+    requires free { IsFalse (is_cut (mean_of sc.now prefix.now) prefix.now standing.now) }
+    requires exact { IsExact sc.now standing.now }
+    ensures closed { IsClosed sc.now standing.now prefix.now result }
+    ensures made { IsMadeFor sc.now scratch.new }
+{
+    let _sound = sc.cells();
+    let mut reference = *prefix;
+    scratch.mean.reference(sc, &mut reference);
+    let bound = scratch.tangent.bound(sc, prefix, &reference);
+    let finer = in_parts(standing, sc.sweep().denominator());
+    if cuts(&finer, bound, prefix) {
+        Kind::Tangent(bound, reference)
+    } else {
+        Kind::Branch
+    }
+}
+
+/// Closes a prefix that is shorter than the horizon.
+fn close_shorter(scratch: &mut Scratch, sc: &Scenario, prefix: &Path, standing: &Standing) -> Kind
+    requires made { IsMadeFor sc.now scratch.old }
+    requires legal { IsLegal sc.now prefix.now }
+    requires shorter { length prefix.now < sc.now.horizon }
+    requires exact { IsExact sc.now standing.now }
+    ensures closed { IsClosed sc.now standing.now prefix.now result }
+    ensures made { IsMadeFor sc.now scratch.new }
+{
+    let bound = scratch.mean.bound(sc, prefix);
+    if cuts(standing, bound, prefix) {
+        return Kind::Mean(bound);
+    }
+    if scratch.has_rate {
+        close_by_tangent(scratch, sc, prefix, standing)
+    } else {
+        Kind::Branch
+    }
+}
+
+/// The record of a legal prefix, closed under a standing: a path by its value; a shorter prefix by its mean bound
+/// (Martins 1993) where the standing cuts that, else by its tangent bound where the looks have one rate and the standing
+/// cuts it, and else it branches. Takes no memory.
+pub fn close(scratch: &mut Scratch, sc: &Scenario, prefix: &Path, standing: &Standing) -> TreeNode
+    requires made { IsMadeFor sc.now scratch.old }
+    requires legal { IsLegal sc.now prefix.now }
+    requires exact { IsExact sc.now standing.now }
+    ensures prefix { result.prefix ≡ prefix.now }
+    ensures closed { IsClosed sc.now standing.now prefix.now result.kind }
+    ensures made { IsMadeFor sc.now scratch.new }
+{
+    let kind = if prefix.len() == sc.horizon() as usize {
+        Kind::Whole(scratch.mean.value(sc, prefix))
+    } else {
+        close_shorter(scratch, sc, prefix, standing)
+    };
+    TreeNode {
+        prefix: *prefix,
+        kind,
+    }
+}
+
+/// The last positions of the legal children of a legal prefix that is shorter than the horizon, ascending.
+pub fn children<'a>(sc: &'a Scenario, prefix: &Path) -> &'a [u8]
+    requires legal { IsLegal sc.now prefix.now }
+    requires shorter { length prefix.now < sc.now.horizon }
+    ensures { result.now ≡ moves_after sc.now prefix.now }
+{
+    sc.moves_after(prefix)
+}

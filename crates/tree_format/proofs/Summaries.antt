@@ -1,0 +1,216 @@
+-- A line is judged by the first 40 bytes of each of its first 70 fields.
+use Rattle.std.proofs.Common.{◌≡◌, ℕ, ◌<◌, ◌≤◌, ◌-◌, ◌*◌, ◌^◌, Bool, true, false, cond, List, [], ◌∷◌, map, length, get_or, take, drop, Option, None, Result, Err, refl, sym, ap, subst, ◌∙◌, arith, inl, inr}
+use Rattle.std.specs.Prelude.{codes, nat_le, ◌==◌}
+use Rattle.std.specs.List.{list_any}
+use Rattle.std.specs.Str.{bytes_eq}
+use Rattle.std.proofs.lemmas.Bool.{cases_lt, cond_both, lt-leb, ne_eqb, false_from_ne_true}
+use Rattle.std.proofs.Math.Bool.{and-false}
+use Rattle.std.proofs.lemmas.List.{take_all, length-map, length-take-le, take-map, drop-map}
+use Rattle.std.proofs.lemmas.List.Elements.{All-get_or}
+use Rattle.std.proofs.lemmas.Slice.Eq.{bytes_eq-Decides}
+use Rattle.exact_parts.specs.declared.number.Number.{Number}
+use Rattle.exact_parts.specs.declared.number.Number.TheVariants.{NotPlain, Above, Of}
+use Rattle.exact_parts.specs.Decimal.{Spells, number_at}
+use Rattle.exact_parts.proofs.Decimals.{spells-number_at, spelled_text, short-decimal}
+use Rattle.search_model.specs.Names.{IsName}
+use Rattle.search_model.specs.Problem.{Problem, IsProblem}
+use Rattle.bound_tree.specs.declared.node.TreeNode.{TreeNode}
+use Rattle.tree_format.specs.declared.kind.PlanKind.{PlanKind}
+use Rattle.tree_format.specs.declared.kind.PlanKind.TheVariants.{BadLine}
+use Rattle.tree_format.specs.declared.plan_line.Stage.{Stage}
+use Rattle.tree_format.specs.declared.plan_line.Stage.TheVariants as due
+use Rattle.tree_format.specs.declared.plan_line.PlanLine.{PlanLine}
+use Rattle.tree_format.specs.Reading.{is_word, said, amount_in, place_in, position_named, all_of, version_line, path_line, chance_line, count_line, branch_line, bounded_line, tangent_line, node_line, is_end, record_line, stage_line, line_at}
+use Rattle.tree_format.specs.ReadingLaws.{SummaryDecides}
+use Rattle.tree_format.proofs.FieldSteps.{position-none}
+
+abbrev front : List ℕ → List ℕ
+front f = take 40 f
+
+-- what a field says by its front, where long fields say nothing
+by_front : {X : Type 0} (says : List ℕ → X) (f : List ℕ) (x : X) → ((g : List ℕ) → 40 ≤ length g → says g ≡ x) → says (front f) ≡ says f
+by_front says f x long = elim (cases_lt 40 (length f)) [
+  | inl lt ↦ long (front f) (omega (arith, length-take-le 40 f (omega arith))) ∙ sym (long f (omega arith))
+  | inr le ↦ ap says (take_all 40 f le)
+]
+
+front_word : (f word : List ℕ) → length word < 40 → is_word (front f) word ≡ is_word f word
+front_word f word short = by_front (λ g. bytes_eq g word) f false (λ g long. false_from_ne_true _ (λ e. let same = ap length ((bytes_eq-Decides g word).0 e) in omega (arith, same, long)))
+
+none_said : (r : Number) → ((n : ℕ) → r ≡ Of n → ⊥) → said r ≡ None
+none_said NotPlain h = refl
+none_said Above h = refl
+none_said (Of n) h = absurd (h n refl)
+
+long_number : (most : ℕ) (f : List ℕ) → most < 2 ^ 128 → 40 ≤ length f → said (number_at most f) ≡ None
+long_number most f wide long = none_said (number_at most f) (λ n e.
+    let spells : Spells most f (Of n) = subst (Spells most f) e (spells-number_at most f) in
+    let same = ap length (spelled_text most n f wide spells) in
+    omega (arith, same, long, short-decimal n (omega (arith, spells.2))))
+
+front_number : (most : ℕ) (f : List ℕ) → most < 2 ^ 128 → said (number_at most (front f)) ≡ said (number_at most f)
+front_number most f wide = by_front (λ g. said (number_at most g)) f None (λ g long. long_number most g wide long)
+
+front_amount : (f : List ℕ) → amount_in (front f) ≡ amount_in f
+front_amount f = front_number 340282366920938463463374607431768211455 f (omega arith)
+
+-- fields that say something by their fronts
+front_all : (says : List ℕ → Option ℕ) → ((f : List ℕ) → says (front f) ≡ says f) → (fs : List (List ℕ)) → all_of says (map front fs) ≡ all_of says fs
+unfolding all_of
+front_all says each [] = refl
+front_all says each (f ∷ fs) = rw (each f, front_all says each fs) refl
+
+front_empty : (f : List ℕ) → (length (front f) == 0) ≡ (length f == 0)
+front_empty f = by_front (λ g. length g == 0) f false (λ g long. ne_eqb (length g) 0 (λ e. omega (arith, e, long)))
+
+front_any : (fs : List (List ℕ)) → list_any (λ f. length f == 0) (map front fs) ≡ list_any (λ f. length f == 0) fs
+front_any [] = refl
+front_any (f ∷ fs) = rw (front_empty f, front_any fs) refl
+
+module _ (p : Problem) (h : IsProblem p) where
+  front_place : (f : List ℕ) → place_in p (front f) ≡ place_in p f
+  front_place f = front_number (p.positions - 1) f (omega (arith, h.cells.1, h.positions))
+
+  front_name : (f : List ℕ) → position_named p (front f) ≡ position_named p f
+  front_name f = by_front (λ g. position_named p g) f None (λ g long. position-none (λ n. bytes_eq n g) p.names [] (λ k lt. false_from_ne_true _ (λ e.
+      let same = ap length ((bytes_eq-Decides (get_or p.names k []) g).0 e) in
+      let name : IsName (get_or p.names k []) = All-get_or IsName p.names k [] lt h.names in
+      omega (arith, same, long, name.short))))
+
+  front_places : (fs : List (List ℕ)) → all_of (place_in p) (map front fs) ≡ all_of (place_in p) fs
+  front_places fs = front_all (place_in p) front_place fs
+
+  front_version : (fs : List (List ℕ)) → version_line (map front fs) ≡ version_line fs
+  front_version [] = refl
+  front_version (f ∷ []) = refl
+  front_version (f ∷ g ∷ []) = rw (front_word f (codes "plan") (omega arith), front_word g (codes "1") (omega arith)) refl
+  front_version (f ∷ g ∷ more ∷ rest) = refl
+
+  front_path : (fs : List (List ℕ)) → path_line p (map front fs) ≡ path_line p fs
+  front_path [] = refl
+  front_path (f ∷ names) = rw (front_word f (codes "path") (omega arith), length-map names front, front_all (position_named p) front_name names) refl
+
+  front_chance : (fs : List (List ℕ)) → chance_line (map front fs) ≡ chance_line fs
+  front_chance [] = refl
+  front_chance (f ∷ []) = refl
+  front_chance (f ∷ v ∷ []) = refl
+  front_chance (f ∷ v ∷ w ∷ []) = rw (front_word f (codes "chance") (omega arith), front_amount v, front_amount w) refl
+  front_chance (f ∷ v ∷ w ∷ more ∷ rest) = refl
+
+  front_count : (fs : List (List ℕ)) → count_line (map front fs) ≡ count_line fs
+  front_count [] = refl
+  front_count (f ∷ []) = refl
+  front_count (f ∷ n ∷ []) = rw (front_word f (codes "nodes") (omega arith), front_amount n) refl
+  front_count (f ∷ n ∷ more ∷ rest) = refl
+
+  front_branch : (fs : List (List ℕ)) → branch_line p (map front fs) ≡ branch_line p fs
+  front_branch fs = rw (length-map fs front, front_places fs) refl
+
+  front_bounded : (fs : List (List ℕ)) → bounded_line p (map front fs) ≡ bounded_line p fs
+  front_bounded [] = refl
+  front_bounded (n ∷ fs) = rw (length-map fs front, front_amount n, front_places fs) refl
+
+  front_tangent : (fs : List (List ℕ)) → tangent_line p (map front fs) ≡ tangent_line p fs
+  front_tangent [] = refl
+  front_tangent (n ∷ fs) =
+      let k = length fs - p.horizon in
+      rw (length-map fs front, front_amount n, take-map front k fs, drop-map front k fs, front_places (take k fs), front_places (drop k fs)) refl
+
+  front_node : (fs : List (List ℕ)) → node_line p (map front fs) ≡ node_line p fs
+  front_node [] = refl
+  front_node (f ∷ fs) =
+      rw (front_word f (codes "B") (omega arith), front_word f (codes "W") (omega arith), front_word f (codes "M") (omega arith), front_word f (codes "T") (omega arith), front_branch fs, front_bounded fs, front_tangent fs) refl
+
+  front_end : (fs : List (List ℕ)) → is_end (map front fs) ≡ is_end fs
+  front_end [] = refl
+  front_end (f ∷ []) = front_word f (codes "end") (omega arith)
+  front_end (f ∷ more ∷ rest) = refl
+
+  front_stage : (stage : Stage) (fs : List (List ℕ)) → stage_line p stage (map front fs) ≡ stage_line p stage fs
+  front_stage due.Version fs = front_version fs
+  front_stage due.Path fs = front_path fs
+  front_stage due.Chance fs = front_chance fs
+  front_stage due.Count fs = front_count fs
+  front_stage (due.Records left) fs = rw (front_end fs, front_node fs) refl
+  front_stage due.Ended fs = refl
+
+  front_line : (stage : Stage) (fs : List (List ℕ)) → line_at p stage (map front fs) ≡ line_at p stage fs
+  unfolding line_at
+  front_line stage fs = rw (front_any fs, front_stage stage fs) refl
+
+  -- No line has so many fields.
+  no_path : (fs : List (List ℕ)) → 67 ≤ length fs → path_line p fs ≡ Err BadLine
+  no_path [] long = absurd (omega arith)
+  no_path (f ∷ fs) long =
+      rw (lt-leb (length fs) 32 (omega (arith, long)), and-false (nat_le 1 (length fs)), and-false (is_word f (codes "path"))) refl
+
+  no_branch : (fs : List (List ℕ)) → 66 ≤ length fs → branch_line p fs ≡ Err BadLine
+  no_branch fs long = rw (lt-leb (length fs) p.horizon (omega (arith, long, h.horizon.1))) refl
+
+  no_bounded : (fs : List (List ℕ)) → 66 ≤ length fs → bounded_line p fs ≡ Err BadLine
+  no_bounded [] long = absurd (omega arith)
+  no_bounded (n ∷ fs) long = rw (lt-leb (length fs) p.horizon (omega (arith, long, h.horizon.1))) refl
+
+  no_tangent : (fs : List (List ℕ)) → 66 ≤ length fs → tangent_line p fs ≡ Err BadLine
+  no_tangent [] long = absurd (omega arith)
+  no_tangent (n ∷ fs) long =
+      rw (lt-leb (length fs) (2 * p.horizon) (omega (arith, long, h.horizon.1)), and-false (nat_le p.horizon (length fs))) refl
+
+  no_letter : (b w m t : Bool) → ◌≡◌ {A = Result TreeNode PlanKind} (cond b (Err BadLine) (cond w (Err BadLine) (cond m (Err BadLine) (cond t (Err BadLine) (Err BadLine))))) (Err BadLine)
+  no_letter true w m t = refl
+  no_letter false true m t = refl
+  no_letter false false true t = refl
+  no_letter false false false true = refl
+  no_letter false false false false = refl
+
+  no_node : (fs : List (List ℕ)) → 67 ≤ length fs → node_line p fs ≡ Err BadLine
+  no_node [] long = absurd (omega arith)
+  no_node (f ∷ fs) long =
+      let more : 66 ≤ length fs = omega (arith, long) in
+      rw (no_branch fs more, no_bounded fs more, no_tangent fs more) (no_letter (is_word f (codes "B")) (is_word f (codes "W")) (is_word f (codes "M")) (is_word f (codes "T")))
+
+  no_record : (left : ℕ) (fs : List (List ℕ)) → 67 ≤ length fs → record_line p left fs ≡ Err BadLine
+  no_record left [] long = absurd (omega arith)
+  no_record left (f ∷ []) long = absurd (omega arith)
+  no_record left (f ∷ g ∷ fs) long = rw (no_node (f ∷ g ∷ fs) long) refl
+
+  no_version : (fs : List (List ℕ)) → 67 ≤ length fs → version_line fs ≡ Err BadLine
+  no_version [] long = refl
+  no_version (f ∷ []) long = refl
+  no_version (f ∷ g ∷ []) long = absurd (omega arith)
+  no_version (f ∷ g ∷ more ∷ rest) long = refl
+
+  no_chance : (fs : List (List ℕ)) → 67 ≤ length fs → chance_line fs ≡ Err BadLine
+  no_chance [] long = refl
+  no_chance (f ∷ []) long = refl
+  no_chance (f ∷ v ∷ []) long = refl
+  no_chance (f ∷ v ∷ w ∷ []) long = absurd (omega arith)
+  no_chance (f ∷ v ∷ w ∷ more ∷ rest) long = refl
+
+  no_count : (fs : List (List ℕ)) → 67 ≤ length fs → count_line fs ≡ Err BadLine
+  no_count [] long = refl
+  no_count (f ∷ []) long = refl
+  no_count (f ∷ n ∷ []) long = absurd (omega arith)
+  no_count (f ∷ n ∷ more ∷ rest) long = refl
+
+  no_stage : (stage : Stage) (fs : List (List ℕ)) → 67 ≤ length fs → stage_line p stage fs ≡ Err BadLine
+  no_stage due.Version fs long = no_version fs long
+  no_stage due.Path fs long = no_path fs long
+  no_stage due.Chance fs long = no_chance fs long
+  no_stage due.Count fs long = no_count fs long
+  no_stage (due.Records left) fs long = no_record left fs long
+  no_stage due.Ended fs long = refl
+
+  no_line : (stage : Stage) (fs : List (List ℕ)) → 67 ≤ length fs → line_at p stage fs ≡ Err BadLine
+  unfolding line_at
+  no_line stage fs long =
+      cond_both (list_any (λ f. length f == 0) fs) (Err BadLine) (stage_line p stage fs) (λ (x : Result PlanLine PlanKind). x ≡ Err BadLine) (λ _. refl) (λ _. no_stage stage fs long)
+
+  first_decide : (stage : Stage) (fs : List (List ℕ)) → line_at p stage (take 70 fs) ≡ line_at p stage fs
+  first_decide stage fs = elim (cases_lt 70 (length fs)) [
+    | inl lt ↦ no_line stage (take 70 fs) (omega (arith, length-take-le 70 fs (omega arith))) ∙ sym (no_line stage fs (omega arith))
+    | inr le ↦ ap (line_at p stage) (take_all 70 fs le)
+  ]
+
+pub summary_decides : SummaryDecides
+summary_decides p stage fields h = front_line p h stage (take 70 fields) ∙ first_decide p h stage fields

@@ -1,0 +1,210 @@
+-- A line has the fault that the table of kinds gives.
+use Rattle.std.proofs.Common.{◌≡◌, ℕ, ◌-◌, ◌*◌, Bool, true, false, cond, List, [], ◌∷◌, length, take, drop, Option, Some, None, Result, Ok, Err, refl, sym, ap, subst, ◌∙◌}
+use Rattle.std.specs.Prelude.{not, ◌&&◌, ◌||◌, ◌==◌, nat_le, is_none, unwrap_or, codes}
+use Rattle.std.specs.List.{list_any}
+use Rattle.std.proofs.lemmas.List.{take-append-drop}
+use Rattle.std.proofs.lemmas.List.Folds.{list_any-append}
+use Rattle.search_model.specs.Problem.{Problem}
+use Rattle.bound_tree.specs.declared.node.Kind.{Kind}
+use Rattle.bound_tree.specs.declared.node.Kind.TheVariants.{Branch, Whole, Mean, Tangent}
+use Rattle.bound_tree.specs.declared.node.TreeNode.{TreeNode}
+use Rattle.tree_format.specs.declared.kind.PlanKind.{PlanKind}
+use Rattle.tree_format.specs.declared.kind.PlanKind.TheVariants.{BadLine, BadNumber, UnknownName, TooManyNodes, WrongCount}
+use Rattle.tree_format.specs.declared.plan_line.Stage.{Stage}
+use Rattle.tree_format.specs.declared.plan_line.Stage.TheVariants as due
+use Rattle.tree_format.specs.declared.plan_line.PlanLine.{PlanLine}
+use Rattle.tree_format.specs.declared.plan_line.PlanLine.TheVariants.{Version, Count, Node, End}
+use Rattle.tree_format.specs.declared.record_lines.Bounded.{Bounded}
+use Rattle.tree_format.specs.Reading.{is_word, amount_in, place_in, position_named, in_front, all_of, path_said, chance_said, count_said, branch_of, branch_line, bounded_of, bounded_line, node_of, tangent_of, tangent_line, node_line, node_said, is_end, end_said, stage_line, line_at}
+use Rattle.tree_format.specs.KindTable.{bounded_form, tangent_form, node_form, has_form, first_alone, behind_first, node_amounts, node_cells, is_bad_number, has_unknown, has_too_many, is_miscounted, first_kind, fault_of, KindsByTable}
+
+-- fields say something together where each does
+front_none : (o : Option ℕ) (os : Option (List ℕ)) → is_none (in_front o os) ≡ (is_none o || is_none os)
+front_none None os = refl
+front_none (Some a) None = refl
+front_none (Some a) (Some more) = refl
+
+all_none : (says : List ℕ → Option ℕ) (fs : List (List ℕ)) → is_none (all_of says fs) ≡ list_any (λ f. is_none (says f)) fs
+unfolding all_of
+all_none says [] = refl
+all_none says (f ∷ fs) = front_none (says f) (all_of says fs) ∙ ap (λ (b : Bool). is_none (says f) || b) (all_none says fs)
+
+-- Each kind of line, with the tests as they come out.
+
+-- the table of a line that has its form and a number of records that fits
+abbrev tail_of : Bool → Bool → Bool → Option PlanKind
+tail_of number unknown miscounted = first_kind ((number, BadNumber) ∷ (unknown, UnknownName) ∷ (false, TooManyNodes) ∷ (miscounted, WrongCount) ∷ [])
+
+abbrev table_of : Bool → Bool → Bool → Bool → Option PlanKind
+table_of form number unknown miscounted = first_kind ((not form, BadLine) ∷ (number, BadNumber) ∷ (unknown, UnknownName) ∷ (false, TooManyNodes) ∷ (miscounted, WrongCount) ∷ [])
+
+by_form : (form : Bool) (r : Result PlanLine PlanKind) (number unknown miscounted : Bool) → fault_of r ≡ tail_of number unknown miscounted → fault_of (cond form r (Err BadLine)) ≡ table_of form number unknown miscounted
+by_form true r number unknown miscounted e = e
+by_form false r number unknown miscounted e = refl
+
+path_table : (o : Option (List ℕ)) (unknown : Bool) → is_none o ≡ unknown → fault_of (path_said o) ≡ tail_of false unknown false
+path_table None unknown e = ap (λ (b : Bool). tail_of false b false) e
+path_table (Some q) unknown e = ap (λ (b : Bool). tail_of false b false) e
+
+chance_table : (v w : Option ℕ) → fault_of (chance_said v w) ≡ tail_of ((is_none v || (is_none w || false)) || false) false false
+chance_table None w = refl
+chance_table (Some v) None = refl
+chance_table (Some v) (Some w) = refl
+
+-- a record or the end, by how many are left
+left_table : (none : Bool) (r : TreeNode) → fault_of (cond none (Err WrongCount) (Ok (Node r))) ≡ tail_of false false none
+left_table true r = refl
+left_table false r = refl
+
+end_table : (none : Bool) → fault_of (cond none (Ok End) (Err WrongCount)) ≡ tail_of false false (not none)
+end_table true = refl
+end_table false = refl
+
+-- what the fields of a record say, by whether one says nothing
+record IsSaid (r : Result TreeNode PlanKind) (number : Bool) : Type 0 where
+  worse : number ≡ true → r ≡ Err BadNumber
+  right : number ≡ false → (x : TreeNode) × (r ≡ Ok x)
+
+-- and by whether its form is right
+record IsJudged (r : Result TreeNode PlanKind) (form number : Bool) : Type 0 where
+  bad : form ≡ false → r ≡ Err BadLine
+  good : form ≡ true → IsSaid r number
+
+no_number : IsSaid (Err BadNumber) true
+no_number = record { worse = λ _. refl; right = λ e. absurd (let bad : ⊥ = cc in bad) }
+
+all_numbers : (x : TreeNode) → IsSaid (Ok x) false
+all_numbers x = record { worse = λ e. absurd (let bad : ⊥ = cc in bad); right = λ _. (x, refl) }
+
+branch_said : (o : Option (List ℕ)) → IsSaid (branch_of o) (is_none o)
+branch_said None = no_number
+branch_said (Some q) = all_numbers (record { prefix = q; kind = Branch })
+
+bounded_said : (kind : ℕ → Kind) (a : Option ℕ) (o : Option (List ℕ)) → IsSaid (node_of kind (bounded_of a o)) ((is_none a || false) || is_none o)
+bounded_said kind None o = no_number
+bounded_said kind (Some n) None = no_number
+bounded_said kind (Some n) (Some q) = all_numbers (record { prefix = q; kind = kind n })
+
+tangent_said : (a : Option ℕ) (o u : Option (List ℕ)) → IsSaid (tangent_of a o u) ((is_none a || false) || (is_none o || is_none u))
+tangent_said None o u = no_number
+tangent_said (Some n) None u = no_number
+tangent_said (Some n) (Some q) None = no_number
+tangent_said (Some n) (Some q) (Some x) = all_numbers (record { prefix = q; kind = Tangent n x })
+
+judged : (form : Bool) (r : Result TreeNode PlanKind) (number : Bool) → IsSaid r number → IsJudged (cond form r (Err BadLine)) form number
+judged true r number said = record { bad = λ e. absurd (let bad : ⊥ = cc in bad); good = λ _. said }
+judged false r number said = record { bad = λ _. refl; good = λ e. absurd (let bad : ⊥ = cc in bad) }
+
+misformed : (number : Bool) → IsJudged (Err BadLine) false number
+misformed number = record { bad = λ _. refl; good = λ e. absurd (let bad : ⊥ = cc in bad) }
+
+inside : (kind : ℕ → Kind) (form : Bool) (r : Result Bounded PlanKind) → node_of kind (cond form r (Err BadLine)) ≡ cond form (node_of kind r) (Err BadLine)
+inside kind true r = refl
+inside kind false r = refl
+
+-- one letter or the others
+by_letter : (b : Bool) (x y : Result TreeNode PlanKind) (form other : Bool) (number : Bool → Bool) → IsJudged x form (number true) → IsJudged y other (number false) → IsJudged (cond b x y) (cond b form other) (number b)
+by_letter true x y form other number h k = h
+by_letter false x y form other number h k = k
+
+module _ (p : Problem) where
+  abbrev no_amount : List ℕ → Bool
+  no_amount f = is_none (amount_in f)
+
+  abbrev no_place : List ℕ → Bool
+  no_place f = is_none (place_in p f)
+
+  branch_judged : (fields : List (List ℕ)) → IsJudged (branch_line p fields) (nat_le (length fields) p.horizon) (list_any no_place fields)
+  branch_judged fields =
+      subst (IsJudged (branch_line p fields) (nat_le (length fields) p.horizon)) (all_none (place_in p) fields)
+      (judged (nat_le (length fields) p.horizon) (branch_of (all_of (place_in p) fields)) _ (branch_said (all_of (place_in p) fields)))
+
+  bounded_judged : (kind : ℕ → Kind) (fields : List (List ℕ)) → IsJudged (node_of kind (bounded_line p fields)) (bounded_form p fields) (list_any no_amount (first_alone fields) || list_any no_place (behind_first fields))
+  bounded_judged kind [] = misformed false
+  bounded_judged kind (n ∷ cells) =
+      let form = nat_le (length cells) p.horizon in
+      let o = all_of (place_in p) cells in
+      let here = judged form (node_of kind (bounded_of (amount_in n) o)) _ (bounded_said kind (amount_in n) o) in
+      subst (λ (r : Result TreeNode PlanKind). IsJudged r form ((no_amount n || false) || list_any no_place cells)) (sym (inside kind form (bounded_of (amount_in n) o)))
+      (subst (λ (none : Bool). IsJudged (cond form (node_of kind (bounded_of (amount_in n) o)) (Err BadLine)) form ((no_amount n || false) || none)) (all_none (place_in p) cells) here)
+
+  tangent_judged : (fields : List (List ℕ)) → IsJudged (tangent_line p fields) (tangent_form p fields) (list_any no_amount (first_alone fields) || list_any no_place (behind_first fields))
+  tangent_judged [] = misformed false
+  tangent_judged (n ∷ cells) =
+      let form = nat_le p.horizon (length cells) && nat_le (length cells) (2 * p.horizon) in
+      let k = length cells - p.horizon in
+      let o = all_of (place_in p) (take k cells) in
+      let u = all_of (place_in p) (drop k cells) in
+      let both : (is_none o || is_none u) ≡ list_any no_place cells =
+      ap (λ (b : Bool). b || is_none u) (all_none (place_in p) (take k cells)) ∙ ap (λ (b : Bool). list_any no_place (take k cells) || b) (all_none (place_in p) (drop k cells))
+      ∙ sym (list_any-append no_place (take k cells) (drop k cells)) ∙ ap (list_any no_place) (take-append-drop k cells) in
+      subst (λ (none : Bool). IsJudged (tangent_line p (n ∷ cells)) form ((no_amount n || false) || none)) both
+      (judged form (tangent_of (amount_in n) o u) _ (tangent_said (amount_in n) o u))
+
+  node_judged : (fields : List (List ℕ)) → IsJudged (node_line p fields) (node_form p fields) (list_any no_amount (node_amounts fields) || list_any no_place (node_cells fields))
+  node_judged [] = misformed false
+  node_judged (letter ∷ fields) =
+      by_letter (is_word letter (codes "B")) _ _ _ _ (λ (b : Bool). list_any no_amount (cond b [] (first_alone fields)) || list_any no_place (cond b fields (behind_first fields))) (branch_judged fields)
+      (by_letter (is_word letter (codes "W")) _ _ _ _ (λ (b : Bool). list_any no_amount (first_alone fields) || list_any no_place (behind_first fields)) (bounded_judged (λ n. Whole n) fields)
+      (by_letter (is_word letter (codes "M")) _ _ _ _ (λ (b : Bool). list_any no_amount (first_alone fields) || list_any no_place (behind_first fields)) (bounded_judged (λ n. Mean n) fields)
+      (by_letter (is_word letter (codes "T")) _ _ _ _ (λ (b : Bool). list_any no_amount (first_alone fields) || list_any no_place (behind_first fields)) (tangent_judged fields) (misformed _))))
+
+  end_numbers : (fields : List (List ℕ)) → is_end fields ≡ true → (list_any no_amount (node_amounts fields) || list_any no_place (node_cells fields)) ≡ false
+  end_numbers [] e = absurd (let bad : ⊥ = cc in bad)
+  end_numbers (word ∷ []) e = none_there (is_word word (codes "B"))
+    where
+      none_there : (b : Bool) → (list_any no_amount (cond b [] []) || list_any no_place (cond b [] [])) ≡ false
+      none_there true = refl
+      none_there false = refl
+  end_numbers (word ∷ more ∷ rest) e = absurd (let bad : ⊥ = cc in bad)
+
+said_table : (left : ℕ) (r : Result TreeNode PlanKind) (form number : Bool) → IsJudged r form number → fault_of (node_said left r) ≡ table_of form number false (left == 0)
+said_table left r false number h = ap (λ (x : Result TreeNode PlanKind). fault_of (node_said left x)) (h.bad refl)
+said_table left r true true h = ap (λ (x : Result TreeNode PlanKind). fault_of (node_said left x)) ((h.good refl).worse refl)
+said_table left r true false h = let x = (h.good refl).right refl in ap (λ (y : Result TreeNode PlanKind). fault_of (node_said left y)) x.1 ∙ left_table (left == 0) x.0
+
+record_table : (e : Bool) (left : ℕ) (r : Result TreeNode PlanKind) (form number : Bool) → (e ≡ true → number ≡ false) → IsJudged r form number → fault_of (cond e (end_said left) (node_said left r)) ≡ table_of (e || form) number false (cond e (not (left == 0)) (left == 0))
+record_table true left r form number none h = end_table (left == 0) ∙ ap (λ (b : Bool). tail_of b false (not (left == 0))) (sym (none refl))
+record_table false left r form number none h = said_table left r form number h
+
+-- `nodes N`
+many_table : (few : Bool) (n : ℕ) → fault_of (cond few (Ok (Count n)) (Err TooManyNodes)) ≡ cond (not few) (Some TooManyNodes) None
+many_table true n = refl
+many_table false n = refl
+
+count_table : (form : Bool) (n : Option ℕ) → fault_of (cond form (count_said n) (Err BadLine)) ≡ first_kind ((not form, BadLine) ∷ ((is_none n || false) || false, BadNumber) ∷ (false, UnknownName) ∷ (not (nat_le (unwrap_or n 0) 1048576), TooManyNodes) ∷ (false, WrongCount) ∷ [])
+count_table false n = refl
+count_table true None = refl
+count_table true (Some n) = many_table (nat_le n 1048576) n
+
+stage_table : (p : Problem) (stage : Stage) (fields : List (List ℕ)) → fault_of (stage_line p stage fields)
+    ≡ first_kind ((not (has_form p stage fields), BadLine) ∷ (is_bad_number p stage fields, BadNumber) ∷ (has_unknown p stage fields, UnknownName) ∷ (has_too_many stage fields, TooManyNodes) ∷ (is_miscounted stage fields, WrongCount) ∷ [])
+stage_table p due.Version [] = refl
+stage_table p due.Version (word ∷ []) = refl
+stage_table p due.Version (word ∷ version ∷ []) = by_form (is_word word (codes "plan") && is_word version (codes "1")) (Ok Version) false false false refl
+stage_table p due.Version (word ∷ version ∷ more ∷ rest) = refl
+stage_table p due.Path [] = refl
+stage_table p due.Path (word ∷ names) =
+    let o = all_of (position_named p) names in
+    by_form (is_word word (codes "path") && (nat_le 1 (length names) && nat_le (length names) 32)) (path_said o) false _ false (path_table o _ (all_none (position_named p) names))
+stage_table p due.Chance [] = refl
+stage_table p due.Chance (word ∷ []) = refl
+stage_table p due.Chance (word ∷ value ∷ []) = refl
+stage_table p due.Chance (word ∷ value ∷ weight ∷ []) =
+    by_form (is_word word (codes "chance")) (chance_said (amount_in value) (amount_in weight)) _ false false (chance_table (amount_in value) (amount_in weight))
+stage_table p due.Chance (word ∷ value ∷ weight ∷ more ∷ rest) = refl
+stage_table p due.Count [] = refl
+stage_table p due.Count (word ∷ []) = refl
+stage_table p due.Count (word ∷ n ∷ []) = count_table (is_word word (codes "nodes")) (amount_in n)
+stage_table p due.Count (word ∷ n ∷ more ∷ rest) = refl
+stage_table p (due.Records left) fields = record_table (is_end fields) left (node_line p fields) (node_form p fields) _ (end_numbers p fields) (node_judged p fields)
+stage_table p due.Ended fields = refl
+
+by_empty : (empty form number unknown many miscounted : Bool) (r : Result PlanLine PlanKind) → fault_of r ≡ first_kind ((not form, BadLine) ∷ (number, BadNumber) ∷ (unknown, UnknownName) ∷ (many, TooManyNodes) ∷ (miscounted, WrongCount) ∷ []) →
+    fault_of (cond empty (Err BadLine) r) ≡ first_kind ((empty || not form, BadLine) ∷ (number, BadNumber) ∷ (unknown, UnknownName) ∷ (many, TooManyNodes) ∷ (miscounted, WrongCount) ∷ [])
+by_empty true form number unknown many miscounted r e = refl
+by_empty false form number unknown many miscounted r e = e
+
+pub kinds_by_table : KindsByTable
+unfolding line_at
+kinds_by_table p stage fields = by_empty (list_any (λ f. length f == 0) fields) _ _ _ _ _ (stage_line p stage fields) (stage_table p stage fields)

@@ -1,9 +1,0 @@
-use Rattle.std.proofs.Common.{◌≡◌, map, ◌++◌, length}
-use Rattle.tree_format.specs.Pieces.{fields_of}
-use Rattle.tree_format.proofs.pieces.fields_of.Given as goal
-
-abbrev pub invariant-loop-field : goal.invariant-loop-field
-invariant-loop-field l = map (λ f. f.now) l.fields.items ++ fields_of l.rest ≡ fields_of l.line
-
-abbrev pub decreases-loop-field : goal.decreases-loop-field
-decreases-loop-field l = length l.rest

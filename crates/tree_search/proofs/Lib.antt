@@ -1,0 +1,6 @@
+mod Closed
+mod Trees
+pub mod Orderly
+mod Growth
+mod Coming
+mod Finished
