@@ -1,0 +1,9 @@
+pub mod Counts
+pub mod FromBounds
+pub mod Children
+pub mod Reached
+pub mod Preorder
+pub mod Kept
+pub mod Good
+pub mod Live
+pub mod Answered

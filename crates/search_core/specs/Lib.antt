@@ -1,0 +1,5 @@
+pub mod Counts
+pub mod Balance
+pub mod Steps
+pub mod Champion
+pub mod Laws

@@ -1,0 +1,3 @@
+pub mod Hauls
+pub mod Gathered
+pub mod Laws
