@@ -11,7 +11,7 @@ use Rattle.search_model.specs.Problem.{Problem, IsProblem}
 use Rattle.search_model.specs.Legal.{IsPath}
 use Rattle.search_model.proofs.PlainSteps.{entry_term, positions_follow, next_fits, entry_fits, entries_done, row_within, after_of-end}
 use Rattle.backward_mass.specs.Masses.{backward_of}
-use Rattle.backward_mass.specs.Table.{IsRow, AreRowsFrom}
+use Rattle.backward_mass.specs.Table.{IsRow, IsMissedRow, AreRowsFrom}
 
 -- terms that are equal at each element have equal sums
 sum_by-same_all : {X : Type 0} (f g : X → ℕ) (xs : List X) → All (λ x. f x ≡ g x) xs → sum_by f xs ≡ sum_by g xs
@@ -19,9 +19,9 @@ sum_by-same_all f g [] each = refl
 sum_by-same_all f g (x ∷ xs) each =
     rw (sum_by-cons f x xs, sum_by-cons g x xs, All-head (λ x. f x ≡ g x) x xs each, sum_by-same_all f g xs (All-tail (λ x. f x ≡ g x) x xs each)) refl
 
--- what an entry of a row adds, by the masses of the next period
-abbrev pub mass_term : Problem → List ℕ → ℕ → ℕ → ℕ → DriftPart → ℕ
-mass_term p masses next t look entry = entry.part * (factor_of p.sweep (t + 1) look entry.cell * slice_index masses (next + entry.cell))
+-- what an entry of a row adds, by what is missed of the masses of the next period
+abbrev pub mass_term : List ℕ → DriftPart → ℕ
+mass_term missed entry = entry.part * slice_index missed entry.cell
 
 -- the positions of a path are positions of the looks
 pub look_within : (p : Problem) → IsProblem p → (q : List ℕ) → IsPath p q → (t : ℕ) → t < p.horizon → slice_index q t < positions_of p.sweep
@@ -31,34 +31,33 @@ look_within p sound q path t more =
     omega (arith, within, sound.sweep_positions)
 
 -- a step back from the masses of the next period
-module _ (p : Problem) (sound : IsProblem p) (q : List ℕ) (path : IsPath p q) (t : ℕ) (some : 1 ≤ t) (more : t < p.horizon) (masses : List ℕ) (next : ℕ) (row : IsRow p q (t + 1) masses next) where
+module _ (p : Problem) (sound : IsProblem p) (q : List ℕ) (path : IsPath p q) (t : ℕ) (more : t < p.horizon) where
   left_is : drop t q ≡ slice_index q t ∷ drop (t + 1) q
   left_is = drop_more q t 0 (omega (arith, path.whole, more))
 
-  term_is : (entry : DriftPart) → entry.cell < p.cells → mass_term p masses next t (slice_index q t) entry ≡ entry_term p t (drop t q) (p.horizon - (t + 1)) entry
-  term_is entry within = rw (row entry.cell within, left_is) refl
-
-  terms_are : (entries : List DriftPart) → All (λ entry. entry.cell < p.cells) entries → sum_by (mass_term p masses next t (slice_index q t)) entries ≡ sum_by (entry_term p t (drop t q) (p.horizon - (t + 1))) entries
-  terms_are entries within = sum_by-same_all _ _ entries (All-weaker (λ entry. entry.cell < p.cells) _ term_is entries within)
-
   -- what a look misses of the mass of a next cell fits
-  pub missed_fits : (d : ℕ) → d < p.cells → factor_of p.sweep (t + 1) (slice_index q t) d * slice_index masses (next + d) < 2 ^ 127
-  missed_fits d within =
-      let fits = next_fits p sound t d more some within (drop t q) (drop (t + 1) q) in
-      rw (row d within) (rw left_is at fits)
+  pub missed_fits : 1 ≤ t → (d : ℕ) → d < p.cells → factor_of p.sweep (t + 1) (slice_index q t) d * backward_of p q (t + 1) d < 2 ^ 127
+  missed_fits some d within = let fits = next_fits p sound t d more some within (drop t q) (drop (t + 1) q) in rw left_is at fits
 
-  -- the sum over the entries so far and the next one fits
-  pub sum_fits : (c : ℕ) → c < p.cells → (i : ℕ) (e : DriftPart) → i < length (row_of p.drift t c) →
-      sum_by (mass_term p masses next t (slice_index q t)) (take i (row_of p.drift t c)) + mass_term p masses next t (slice_index q t) (get_or (row_of p.drift t c) i e) < 2 ^ 127
-  sum_fits c here i e lt =
-      let entries = row_of p.drift t c in
-      let within = row_within p sound t c here in
-      rw (terms_are (take i entries) (All-take (λ entry. entry.cell < p.cells) i entries within), term_is (get_or entries i e) (All-get_or (λ entry. entry.cell < p.cells) entries i e lt within))
-      (entry_fits p sound t c more some here (drop t q) i e lt)
+  module _ (missed : List ℕ) (row : IsMissedRow p q t missed) where
+    term_is : (entry : DriftPart) → entry.cell < p.cells → mass_term missed entry ≡ entry_term p t (drop t q) (p.horizon - (t + 1)) entry
+    term_is entry within = rw (row entry.cell within, left_is) refl
 
-  -- the sum over all entries is the mass
-  pub sum_is : (c : ℕ) → c < p.cells → sum_by (mass_term p masses next t (slice_index q t)) (row_of p.drift t c) ≡ backward_of p q t c
-  sum_is c here = terms_are (row_of p.drift t c) (row_within p sound t c here) ∙ entries_done p sound t c more here (drop t q)
+    terms_are : (entries : List DriftPart) → All (λ entry. entry.cell < p.cells) entries → sum_by (mass_term missed) entries ≡ sum_by (entry_term p t (drop t q) (p.horizon - (t + 1))) entries
+    terms_are entries within = sum_by-same_all _ _ entries (All-weaker (λ entry. entry.cell < p.cells) _ term_is entries within)
+
+    -- the sum over the entries so far and the next one fits
+    pub sum_fits : 1 ≤ t → (c : ℕ) → c < p.cells → (i : ℕ) (e : DriftPart) → i < length (row_of p.drift t c) →
+        sum_by (mass_term missed) (take i (row_of p.drift t c)) + mass_term missed (get_or (row_of p.drift t c) i e) < 2 ^ 127
+    sum_fits some c here i e lt =
+        let entries = row_of p.drift t c in
+        let within = row_within p sound t c here in
+        rw (terms_are (take i entries) (All-take (λ entry. entry.cell < p.cells) i entries within), term_is (get_or entries i e) (All-get_or (λ entry. entry.cell < p.cells) entries i e lt within))
+        (entry_fits p sound t c more some here (drop t q) i e lt)
+
+    -- the sum over all entries is the mass
+    pub sum_is : (c : ℕ) → c < p.cells → sum_by (mass_term missed) (row_of p.drift t c) ≡ backward_of p q t c
+    sum_is c here = terms_are (row_of p.drift t c) (row_within p sound t c here) ∙ entries_done p sound t c more here (drop t q)
 
 -- ones are the masses of the last period
 pub last_row : (p : Problem) → IsProblem p → (q masses : List ℕ) → ((c : ℕ) → c < p.cells → slice_index masses ((p.horizon - 1) * p.cells + c) ≡ 1) → AreRowsFrom p q p.horizon masses

@@ -16,8 +16,8 @@ use Rattle.tangent_bound.proofs.Sizes.{most_of}
 pub all_within : (p : Problem) → IsProblem p → (q : List ℕ) → Follows p.moves p.start q → All (λ a. a < p.positions) q
 all_within p sound q follows = positions_follow p sound p.start (omega (arith, sound.start, sound.grid_positions)) q follows
 
-pub position_within : (p : Problem) → IsProblem p → (x : List ℕ) → IsPath p x → (n d : ℕ) → n < p.horizon → get_or x n d < p.positions
-position_within p sound x path n d more = All-get_or (λ a. a < p.positions) x n d (omega (arith, path.whole, more)) (all_within p sound x path.follows)
+pub position_within : (p : Problem) → IsProblem p → (q : List ℕ) → Follows p.moves p.start q → (n d : ℕ) → n < length q → get_or q n d < p.positions
+position_within p sound q follows n d more = All-get_or (λ a. a < p.positions) q n d more (all_within p sound q follows)
 
 -- after all looks of a path the masses sum to what it misses
 pub missed_after : (p : Problem) → IsProblem p → (x : List ℕ) (b : BeliefState) → IsPath p x → IsAfter p x b → sum b.masses ≡ missed_weight p x

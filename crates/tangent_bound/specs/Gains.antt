@@ -5,18 +5,18 @@ use Rattle.search_model.specs.Legal.{IsPath}
 use Rattle.search_model.specs.Bounds.{gain_of}
 use Rattle.belief_update.specs.Masses.{looks_to}
 use Rattle.belief_update.specs.Belief.{BeliefState, IsBelief}
-use Rattle.backward_mass.specs.Table.{BackwardTable, IsFilled}
+use Rattle.backward_mass.specs.Table.{BackwardTable, IsFilledFrom}
 use Rattle.longest_walk.specs.Sums.{entry_at}
 
 -- the belief after some looks, one a period from period 1 on; where there are none, in period 1 before a look
 abbrev pub IsAfter : Problem → List ℕ → BeliefState → Type 0
 IsAfter p looks b = IsBelief p (looks_to (max 1 (length looks)) looks) b
 
--- the belief after the looks of a path up to period t, and the backward masses of the same path
+-- the belief after the looks of a path up to period t, and the backward masses of the same path from then on
 pub record IsMet (p : Problem) (x : List ℕ) (t : ℕ) (b : BeliefState) (w : BackwardTable) : Type 0 where
   pub path : IsPath p x
   pub belief : IsAfter p (take t x) b
-  pub backward : IsFilled p x w
+  pub backward : IsFilledFrom p x t w
 
 -- the numbers of a period are the gains of its looks, position by position
 abbrev pub IsGainRow : Problem → ℕ → List ℕ → ℕ → List ℕ → Type 0

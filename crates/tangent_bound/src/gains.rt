@@ -4,13 +4,13 @@ ghost use Rattle.std.specs.Prelude.{◌≡◌, ◌<◌, ◌≤◌, ◌+◌, ◌-
 ghost use Rattle.search_model.specs.Legal.{IsLegal, IsPath};
 ghost use Rattle.search_model.specs.Bounds.{gain_of, sum_along};
 ghost use Rattle.belief_update.specs.Belief.{BeliefState};
-ghost use Rattle.backward_mass.specs.Table.{IsMadeFor, IsFilled};
+ghost use Rattle.backward_mass.specs.Table.{IsMadeFor, IsFilledFrom};
 ghost use Rattle.longest_walk.specs.Sums.{entry_at};
 ghost use Rattle.tangent_bound.specs.Gains.{IsAfter, IsMet, IsGainRow, AreGains};
 
 use crate::steps::look_on;
 use backward_mass::Backward;
-use belief_update::{Belief, prefix_value};
+use belief_update::Belief;
 use search_model::{Path, Scenario};
 
 /// What one more look from position `a` in period `t` finds of what the reference misses, where the belief is after the
@@ -72,7 +72,7 @@ fn fill_rows(
     requires size { length gains.old ≡ sc.now.horizon * sc.now.cells }
     requires rate { rate ≤ sc.now.sweep.denominator }
     requires path { IsPath sc.now reference.now }
-    requires backward { IsFilled sc.now reference.now backward.now }
+    requires backward { IsFilledFrom sc.now reference.now (k + 1) backward.now }
     requires belief { IsAfter sc.now (take k reference.now) belief.old }
     requires period { k ≤ sc.now.horizon }
     ensures gains { AreGains sc.now rate reference.now k sc.now.horizon gains.new }
@@ -85,11 +85,12 @@ fn fill_rows(
 }
 
 /// Writes the gains of the periods after a prefix of the reference, and leaves the belief after the reference's looks.
-/// What the prefix finds by itself isn't asked for: only the belief after it is.
+/// It begins with the belief after the prefix.
 pub(crate) fn fill_after(
     gains: &mut [u128],
     sc: &Scenario,
     rate: u32,
+    front: &Belief,
     belief: &mut Belief,
     backward: &mut Backward,
     prefix: &Path,
@@ -97,26 +98,21 @@ pub(crate) fn fill_after(
 )
     requires size { length gains.old ≡ sc.now.horizon * sc.now.cells }
     requires rate { rate ≤ sc.now.sweep.denominator }
+    requires front { IsAfter sc.now prefix.now front.now }
     requires cells { length belief.old.masses ≡ sc.now.cells }
     requires made { IsMadeFor sc.now backward.old }
     requires prefix { IsLegal sc.now prefix.now }
+    requires shorter { length prefix.now < sc.now.horizon }
     requires path { IsPath sc.now reference.now }
     requires begins { take (length prefix.now) reference.now ≡ prefix.now }
     ensures gains { AreGains sc.now rate reference.now (length prefix.now) sc.now.horizon gains.new }
     ensures belief { IsAfter sc.now reference.now belief.new }
     ensures made { IsMadeFor sc.now backward.new }
 {
-    backward.fill(sc, reference);
-    let _found = prefix_value(sc, belief, prefix);
-    fill_rows(
-        gains,
-        sc,
-        rate,
-        belief,
-        backward,
-        reference,
-        prefix.len() as u32,
-    );
+    let k = prefix.len() as u32;
+    backward.fill_from(sc, reference, k + 1);
+    belief.copy_from(front);
+    fill_rows(gains, sc, rate, belief, backward, reference, k);
 }
 
 /// The sum of the gains along a path after its first `k` positions.

@@ -1,7 +1,7 @@
 //! The rate of a scenario, the last position of a prefix, and a belief along the reference path.
 
 ghost use Rattle.std.specs.Prelude.{◌≡◌, ◌<◌, ◌≤◌, ◌+◌, ◌++◌, ◌∷◌, [], ℕ, List, Some, None, map, take, length};
-ghost use Rattle.search_model.specs.Legal.{IsPath, last_of};
+ghost use Rattle.search_model.specs.Legal.{IsLegal, IsPath, last_of};
 ghost use Rattle.search_model.specs.Tracks.{value_of};
 ghost use Rattle.search_model.specs.Bounds.{IsRate};
 ghost use Rattle.belief_update.specs.Belief.{IsBelief};
@@ -40,9 +40,9 @@ fn enter_period(sc: &Scenario, belief: &mut Belief, looks: u32)
 
 /// Looks from the next position of a path, a period after its first `looks` looks.
 pub(crate) fn look_on(sc: &Scenario, belief: &mut Belief, path: &Path, looks: u32)
-    requires path { IsPath sc.now path.now }
+    requires path { IsLegal sc.now path.now }
     requires belief { IsAfter sc.now (take looks path.now) belief.old }
-    requires more { looks < sc.now.horizon }
+    requires more { looks < length path.now }
     ensures { IsAfter sc.now (take (looks + 1) path.now) belief.new }
 {
     let _sound = sc.cells();

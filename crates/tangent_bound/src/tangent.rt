@@ -5,6 +5,7 @@ ghost use Rattle.search_model.specs.Legal.{IsLegal, IsPath};
 ghost use Rattle.search_model.specs.Bounds.{IsRate, tangent_of};
 ghost use Rattle.tangent_bound.specs.Room.{IsMadeFor};
 
+use crate::front::Front;
 use crate::gains::{fill_after, sum_after};
 use crate::steps::{last_position, rate_of, whole_value};
 use backward_mass::Backward;
@@ -23,6 +24,8 @@ use std::marker::Model;
 /// what the reference misses, and the gains add up.
 #[derive(Drop)]
 pub struct Tangent {
+    // The belief after the last prefix that was asked, and the one that goes along its reference.
+    front: Front,
     belief: Belief,
     backward: Backward,
     // Per period and position, what one more look finds of what the reference misses. Only the periods after the last
@@ -37,7 +40,7 @@ impl Model for Tangent {
 
     ghost Value = { TangentRoom };
 
-    ghost view = { λ w. record { cells = w.walk.cells; horizon = w.walk.horizon } };
+    ghost view = { λ w. record { cells = w.walk.cells; horizon = w.walk.horizon; front = w.front } };
 
     ghost invariant = { λ w. record {
       belief : length w.belief.masses ≡ w.walk.cells;
@@ -54,6 +57,7 @@ impl Tangent {
     {
         let size = sc.horizon() as usize * usize::from(sc.cells());
         Ok(Tangent {
+            front: Front::start(alloc, sc)?,
             belief: Belief::start(alloc, sc)?,
             backward: Backward::tables(alloc, sc)?,
             gains: vec![in alloc; 0; size]?,
@@ -73,10 +77,12 @@ impl Tangent {
         ensures made { IsMadeFor sc.now self.new }
     {
         let cells = sc.cells();
+        self.front.go_to(sc, prefix);
         fill_after(
             &mut self.gains,
             sc,
             rate,
+            &self.front.belief,
             &mut self.belief,
             &mut self.backward,
             prefix,

@@ -1,3 +1,5 @@
+use Rattle.std.proofs.Common.{◌+◌, arith}
+use Rattle.backward_mass.proofs.Tables.{filled_later}
 use Rattle.tangent_bound.proofs.RowSteps.{gains_more}
 use Rattle.tangent_bound.proofs.gains.fill_rows.Goals as goal
 
@@ -5,7 +7,7 @@ pub loop-n-preserved : goal.loop-n-preserved
 loop-n-preserved c =
     let p = c.args.sc.now in
     let x = c.args.reference.now in
-    let row = c.fill_row.ensures.row x (record { path = c.requires.path; belief = c.look_on.ensures; backward = c.requires.backward }) in
+    let row = c.fill_row.ensures.row x (record { path = c.requires.path; belief = c.look_on.ensures; backward = filled_later p x (c.args.k + 1) (c.loop-n.n + 1) c.args.backward.now (omega arith) c.requires.backward }) in
     record {
       gains = gains_more p c.args.rate x c.args.k c.loop-n.n c.loop-n.gains c.fill_row.new.gains c.loop-n.invariant.gains row c.fill_row.ensures.earlier;
       belief = c.look_on.ensures;

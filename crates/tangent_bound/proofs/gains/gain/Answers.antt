@@ -12,7 +12,7 @@ missed : (c : goal.After-from) (path : List ℕ) → IsMet c.args.sc.now path c.
     c.at-before.result * c.at-after.result ≡ missed_in c.args.sc.now path c.args.t c.args.a
 missed c path met =
     let forward = forward_is c.args.sc.now path c.args.t c.args.belief.now met.path met.belief c.requires.first c.requires.last c.args.a c.requires.position in
-    rw (c.at-before.ensures, c.at-after.ensures.mass c.args.sc.now path met.backward, forward) refl
+    rw (c.at-before.ensures, c.at-after.ensures.mass c.args.sc.now path c.args.t met.backward (omega arith), forward) refl
 
 -- and with the share that is found they make the gain
 found : (c : goal.After-from) (path : List ℕ) → IsMet c.args.sc.now path c.args.t c.args.belief.now c.args.backward.now →
