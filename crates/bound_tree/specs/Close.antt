@@ -1,14 +1,15 @@
 -- How a prefix is closed under a standing, and which prefixes stay open.
-use Rattle.std.specs.Prelude.{ℕ, ◌+◌, ◌-◌, ◌≡◌, ◌<◌, ◌⊎◌, List, ◌++◌, take, length, IsTrue, IsFalse}
+use Rattle.std.specs.Prelude.{ℕ, ◌+◌, ◌-◌, ◌≡◌, ◌<◌, ◌⊎◌, List, ◌++◌, take, length, All, AllPairs, IsTrue, IsFalse}
 use Rattle.search_model.specs.declared.standing.Standing.{Standing}
 use Rattle.search_model.specs.Problem.{Problem}
 use Rattle.search_model.specs.Legal.{IsLegal, IsPath, last_of}
 use Rattle.search_model.specs.Tracks.{value_of}
-use Rattle.search_model.specs.Order.{better}
+use Rattle.search_model.specs.Order.{smaller, better}
 use Rattle.search_model.specs.Bounds.{mean_of, reward_of, IsRate, tangent_of}
 use Rattle.longest_walk.specs.Sums.{IsLeastBest}
 use Rattle.bound_tree.specs.declared.node.Kind.{Kind}
 use Rattle.bound_tree.specs.declared.node.Kind.TheVariants.{Branch, Whole, Mean, Tangent}
+use Rattle.bound_tree.specs.declared.node.TreeNode.{TreeNode}
 use Rattle.bound_tree.specs.Cut.{is_cut, times}
 
 -- the path at which a prefix's tangent is taken: the prefix, and then the least of the continuations with the greatest sum
@@ -48,3 +49,11 @@ pub record IsExact (p : Problem) (s : Standing) : Type 0 where
 -- the second standing, or a better one
 abbrev pub IsAtLeast : Standing → Standing → Type 0
 IsAtLeast t s = (t ≡ s) ⊎ IsTrue (better t s)
+
+-- no branch has a prefix that the standing closes by a bound
+abbrev pub LetsBranch : Problem → Standing → List TreeNode → Type 0
+LetsBranch p s records = All (λ r. r.kind ≡ Branch → IsClosed p s r.prefix Branch) records
+
+-- there are more live prefixes than that
+abbrev pub HasMoreLive : Problem → Standing → ℕ → Type 0
+HasMoreLive p s limit = (qs : List (List ℕ)) × AllPairs (λ q r. IsTrue (smaller q r)) qs × All (IsLive p s) qs × (limit < length qs)

@@ -8,7 +8,7 @@ use Rattle.search_model.specs.Opening.{IsOpening}
 use Rattle.bound_tree.specs.declared.plan.Plan.{Plan}
 use Rattle.bound_tree.specs.Accepts.{Accepts}
 use Rattle.bound_tree.specs.Close.{IsExact}
-use Rattle.tree_search.specs.Plans.{BranchesWhereOpen, HasMoreLive}
+use Rattle.bound_tree.specs.Close.{LetsBranch, HasMoreLive}
 use Rattle.plan_command.specs.Plans.{IsCertified}
 
 -- an opening's standing is the path with its value
@@ -18,7 +18,7 @@ opening_standing p s value = ap (λ (n : ℕ). let t : Standing = record { path 
 pub opening_exact : (p : Problem) (s : Standing) → IsOpening p s.path → s.value ≡ value_of p s.path → IsExact p s
 opening_exact p s opening value = record { path = opening.path; value = value }
 
-pub searched_certified : (p : Problem) (s : Standing) (plan : Plan) → IsOpening p s.path → s.value ≡ value_of p s.path → IsBest p plan.standing.path → Accepts p plan → BranchesWhereOpen p s plan.tree → IsCertified p plan
+pub searched_certified : (p : Problem) (s : Standing) (plan : Plan) → IsOpening p s.path → s.value ≡ value_of p s.path → IsBest p plan.standing.path → Accepts p plan → LetsBranch p s plan.tree → IsCertified p plan
 searched_certified p s plan opening value best accepts branches = record {
   best = best;
   value = accepts.value;
@@ -26,7 +26,7 @@ searched_certified p s plan opening value best accepts branches = record {
   accepted = accepts;
   opening = s.path;
   is_opening = opening;
-  branches = subst (λ t. BranchesWhereOpen p t plan.tree) (opening_standing p s value) branches;
+  branches = subst (λ t. LetsBranch p t plan.tree) (opening_standing p s value) branches;
 }
 
 pub more_live : (p : Problem) (s : Standing) (limit : ℕ) → s.value ≡ value_of p s.path → HasMoreLive p s limit → HasMoreLive p (standing_of p s.path) limit

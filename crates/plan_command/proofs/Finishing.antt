@@ -7,7 +7,7 @@ use Rattle.scenario_text.specs.Scenarios.{IsTextOf}
 use Rattle.bound_tree.specs.declared.plan.Plan.{Plan as APlan}
 use Rattle.bound_tree.specs.Accepts.{Accepts}
 use Rattle.opening_path.proofs.OneOpening.{one_opening}
-use Rattle.tree_search.specs.Plans.{HasMoreLive}
+use Rattle.bound_tree.specs.Close.{HasMoreLive}
 use Rattle.plan_command.specs.declared.request.Request.TheVariants.{Plan, Check}
 use Rattle.plan_command.specs.declared.status.Status.{Status}
 use Rattle.plan_command.specs.declared.status.Status.TheVariants as statuses

@@ -13,7 +13,7 @@ use Rattle.tree_checker.specs.Whys.{name_of}
 use Rattle.search_model.specs.Order.{standing_of}
 use Rattle.search_model.specs.Opening.{IsOpening}
 use Rattle.tree_format.specs.declared.kind.PlanFault.{PlanFault}
-use Rattle.tree_search.specs.Plans.{HasMoreLive}
+use Rattle.bound_tree.specs.Close.{HasMoreLive}
 use Rattle.plan_command.specs.declared.request.Request.{Request}
 use Rattle.plan_command.specs.declared.request.Request.TheVariants.{Plan, Check}
 use Rattle.plan_command.specs.declared.status.Status.{Status}

@@ -12,7 +12,7 @@ use Rattle.tree_format.specs.PlanText.{IsPlanText}
 use Rattle.tree_format.specs.declared.kind.PlanFault.{PlanFault}
 use Rattle.tree_format.specs.Reading.{plan_at}
 use Rattle.plan_command.specs.Spaces.{is_space, SkipsSpaces}
-use Rattle.tree_search.specs.Plans.{BranchesWhereOpen}
+use Rattle.bound_tree.specs.Close.{LetsBranch}
 
 -- the best path with its value and the whole weight, and records that are accepted; no branch has a prefix that the opening
 -- closes by a bound
@@ -23,7 +23,7 @@ pub record IsCertified (p : Problem) (plan : Plan) : Type 0 where
   pub accepted : Accepts p plan
   pub opening : List ℕ
   pub is_opening : IsOpening p opening
-  pub branches : BranchesWhereOpen p (standing_of p opening) plan.tree
+  pub branches : LetsBranch p (standing_of p opening) plan.tree
 
 -- the input begins with the text of this scenario, up to its line `end`, and then comes the rest
 pub record BeginsWith (p : Problem) (input rest : List ℕ) : Type 0 where

@@ -6,7 +6,7 @@ ghost use Rattle.byte_ports.specs.Taken.{TakesCount};
 ghost use Rattle.search_model.specs.Problem.{Problem};
 ghost use Rattle.search_model.specs.Order.{standing_of, IsBest};
 ghost use Rattle.search_model.specs.Opening.{IsOpening};
-ghost use Rattle.tree_search.specs.Plans.{HasMoreLive};
+ghost use Rattle.bound_tree.specs.Close.{HasMoreLive};
 ghost use Rattle.scenario_text.specs.declared.kind.TextFault.{TextFault};
 ghost use Rattle.scenario_text.specs.Scenarios.{IsTextOf};
 ghost use Rattle.bound_tree.specs.declared.plan.Plan.{Plan};

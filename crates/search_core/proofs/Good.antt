@@ -13,12 +13,12 @@ use Rattle.bound_tree.specs.declared.node.Kind.TheVariants.{Branch, Whole, Mean,
 use Rattle.bound_tree.specs.declared.node.TreeNode.{TreeNode}
 use Rattle.bound_tree.specs.Accepts.{prefixes_of}
 use Rattle.bound_tree.specs.Accepts.{IsGood, IsGoodKind}
-use Rattle.bound_tree.specs.Close.{IsClosed, IsExact, IsAtLeast}
+use Rattle.bound_tree.specs.Close.{IsClosed, IsExact, IsAtLeast, LetsBranch}
 use Rattle.bound_tree.proofs.Closing.{at_least_itself, at_least_trans, at_least_from}
 use Rattle.search_core.specs.Balance.{Core, standing_in, IsClosedUnder, IsBalanced}
 use Rattle.search_core.specs.Steps.{started}
 use Rattle.search_core.specs.Champion.{whole_of, known_in, IsChampion}
-use Rattle.search_core.specs.Laws.{LetsBranch, RunsAreGood, RunsAreLive}
+use Rattle.search_core.specs.Laws.{RunsAreGood, RunsAreLive}
 use Rattle.search_core.proofs.FromBounds.{good_from_closed, branch_from_better}
 use Rattle.search_core.proofs.Kept.{runs_are_balanced, standings_stay}
 use Rattle.search_core.proofs.Live.{balanced_is_live}

@@ -4,11 +4,10 @@ use Rattle.search_model.specs.declared.standing.Standing.{Standing}
 use Rattle.search_model.specs.Problem.{Problem, IsProblem}
 use Rattle.search_model.specs.Tracks.{whole_weight}
 use Rattle.search_model.specs.Order.{smaller}
-use Rattle.bound_tree.specs.declared.node.Kind.TheVariants.{Branch}
 use Rattle.bound_tree.specs.declared.node.TreeNode.{TreeNode}
 use Rattle.bound_tree.specs.Accepts.{prefixes_of}
 use Rattle.bound_tree.specs.Accepts.{IsGood, Accepts}
-use Rattle.bound_tree.specs.Close.{IsClosed, IsLive, IsExact, IsAtLeast}
+use Rattle.bound_tree.specs.Close.{IsLive, IsExact, IsAtLeast, LetsBranch}
 use Rattle.search_core.specs.declared.event.CoreEvent.{CoreEvent}
 use Rattle.search_core.specs.Balance.{Core, standing_in, MeetsEquation, AreDistinct, IsBalanced}
 use Rattle.search_core.specs.Steps.{started, IsAllowed, Steps, Runs}
@@ -43,10 +42,6 @@ abbrev pub BalancedIsAccepted : Type 0
 BalancedIsAccepted = (p : Problem) (s : Standing) (records : List TreeNode) →
     IsProblem p → IsExact p s → MeetsEquation p [] [] records → All (IsGood p s) records → IsPreorder records →
     Accepts p (record { standing = s; weight = whole_weight p; tree = records })
-
--- a standing lets the prefix of each Branch record branch
-abbrev pub LetsBranch : Problem → Standing → List TreeNode → Type 0
-LetsBranch p s records = All (λ r. r.kind ≡ Branch → IsClosed p s r.prefix Branch) records
 
 -- where a standing lets the Branch records branch, Balance's equation makes all that stands somewhere distinct and live
 abbrev pub BalancedIsLive : Type 0

@@ -15,7 +15,7 @@ use Rattle.bound_tree.specs.declared.node.Kind.TheVariants.{Branch}
 use Rattle.bound_tree.specs.declared.node.TreeNode.{TreeNode}
 use Rattle.bound_tree.specs.Close.{IsLive, IsAtLeast}
 use Rattle.tree_search.specs.Growing.{Adds, Grows, ComesTo}
-use Rattle.tree_search.specs.Plans.{HasMoreLive}
+use Rattle.bound_tree.specs.Close.{HasMoreLive}
 use Rattle.bound_tree.proofs.Closing.{at_least_trans, branch_at_least}
 use Rattle.tree_search.proofs.Growth.{after_is_up}
 use Rattle.tree_search.proofs.Orderly.{live_further, trees_live, IsBelow, trees_below, GoesBefore, IsBefore, trees_ascend}

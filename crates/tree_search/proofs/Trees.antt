@@ -9,7 +9,7 @@ use Rattle.bound_tree.specs.declared.node.TreeNode.{TreeNode}
 use Rattle.bound_tree.specs.Accepts.{expected_by, AreEaten}
 use Rattle.bound_tree.specs.Close.{IsClosed, IsAtLeast}
 use Rattle.tree_search.specs.Growing.{IsMade, AreTrees, none, tree}
-use Rattle.tree_search.specs.Plans.{BranchesWhereOpen}
+use Rattle.bound_tree.specs.Close.{LetsBranch}
 use Rattle.bound_tree.proofs.Closing.{closed_is_good, branch_at_least, at_least_trans}
 use Rattle.tree_search.proofs.Closed.{unbeaten_up}
 
@@ -47,7 +47,7 @@ trees_eaten p first best sound (tree {r} {qs} {below} {after} made inner rest) q
 pub made_open : (p : Problem) (first best : Standing) (r : TreeNode) → IsProblem p → IsMade p first best r → r.kind ≡ Branch → IsClosed p first r.prefix Branch
 made_open p first best r sound made branch = branch_at_least p first made.under r.prefix sound made.from (subst (λ k. IsClosed p made.under r.prefix k) branch made.closed)
 
-pub trees_open : (p : Problem) (first best : Standing) → IsProblem p → {qs : List (List ℕ)} {rs : List TreeNode} → AreTrees p first best qs rs → BranchesWhereOpen p first rs
+pub trees_open : (p : Problem) (first best : Standing) → IsProblem p → {qs : List (List ℕ)} {rs : List TreeNode} → AreTrees p first best qs rs → LetsBranch p first rs
 trees_open p first best sound none = All-nil (λ (r : TreeNode). r.kind ≡ Branch → IsClosed p first r.prefix Branch)
 trees_open p first best sound (tree {r} {qs} {below} {after} made inner rest) =
     let P : TreeNode → Type 0 = λ r. r.kind ≡ Branch → IsClosed p first r.prefix Branch in

@@ -8,7 +8,7 @@ ghost use Rattle.bound_tree.specs.Accepts.{Accepts};
 ghost use Rattle.bound_tree.specs.Close.{IsExact, IsAtLeast};
 ghost use Rattle.path_node.specs.Room.{IsMadeFor};
 ghost use Rattle.tree_search.specs.Growing.{Adds, best_after, ComesTo, Grows};
-ghost use Rattle.tree_search.specs.Plans.{BranchesWhereOpen, HasMoreLive};
+ghost use Rattle.bound_tree.specs.Close.{LetsBranch, HasMoreLive};
 
 use bound_tree::{BoundTree, Kind, Plan, TreeNode};
 use exact_parts::NoMemory;
@@ -137,7 +137,7 @@ pub fn search(alloc: Global, sc: &Scenario, first: &Standing) -> Result<Plan, Se
     requires exact { IsExact sc.now first.now }
     ensures best { IfOk result (λ plan. IsBest sc.now plan.standing.path) }
     ensures accepted { IfOk result (Accepts sc.now) }
-    ensures branches { IfOk result (λ plan. BranchesWhereOpen sc.now first.now plan.tree) }
+    ensures branches { IfOk result (λ plan. LetsBranch sc.now first.now plan.tree) }
     ensures few { IfOk result (λ plan. length plan.tree ≤ 1048576) }
     ensures full { IsErrOf result SearchStop.Full → HasMoreLive sc.now first.now 1048576 }
 {
