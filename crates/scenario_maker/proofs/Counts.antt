@@ -15,12 +15,12 @@ pub length-counts_of : (n : ℕ) (xs : List ℕ) → length (counts_of n xs) ≡
 unfolding counts_of
 length-counts_of n xs = length-map-range_with_len (λ c. count_by (λ x. x == c) xs) 0 n
 
-pub count_at : (n : ℕ) (xs : List ℕ) (c d : ℕ) → c < n → get_or (counts_of n xs) c d ≡ count_by (λ x. x == c) xs
+count_at : (n : ℕ) (xs : List ℕ) (c d : ℕ) → c < n → get_or (counts_of n xs) c d ≡ count_by (λ x. x == c) xs
 unfolding counts_of
 count_at n xs c d lt = get_or-map-range_with_len (λ c. count_by (λ x. x == c) xs) 0 n c c d lt (omega arith)
 
 -- a count is no more than there are
-pub count_at-le : (n : ℕ) (xs : List ℕ) (c d : ℕ) → c < n → get_or (counts_of n xs) c d ≤ length xs
+count_at-le : (n : ℕ) (xs : List ℕ) (c d : ℕ) → c < n → get_or (counts_of n xs) c d ≤ length xs
 count_at-le n xs c d lt = omega (arith, count_at n xs c d lt, count_by-le-length (λ x. x == c) xs)
 
 -- where there are none, none is counted
@@ -28,12 +28,13 @@ pub counts_of-none : (n : ℕ) → replicate n 0 ≡ counts_of n []
 unfolding counts_of
 counts_of-none n = fill_by_all (λ c. count_by (λ x. x == c) []) (replicate n 0) n 0 (length-replicate n 0) (λ k lt. get_or-replicate n k 0 0 lt)
 
+-- a list with the counts of all cells
 counts_are : (n : ℕ) (ys zs : List ℕ) → length zs ≡ n → ((k : ℕ) → k < n → get_or zs k 0 ≡ count_by (λ y. y == k) ys) → zs ≡ counts_of n ys
 unfolding counts_of
 counts_are n ys zs long each = fill_by_all (λ c. count_by (λ y. y == c) ys) zs n 0 long each
 
 -- one more raises its cell's count
-pub counts_of-push : (n : ℕ) (xs : List ℕ) (x d : ℕ) → x < n → set (counts_of n xs) x (get_or (counts_of n xs) x d + 1) ≡ counts_of n (xs ++ x ∷ [])
+counts_of-push : (n : ℕ) (xs : List ℕ) (x d : ℕ) → x < n → set (counts_of n xs) x (get_or (counts_of n xs) x d + 1) ≡ counts_of n (xs ++ x ∷ [])
 counts_of-push n xs x d lt =
     let old = counts_of n xs in
     let one = get_or old x d + 1 in
