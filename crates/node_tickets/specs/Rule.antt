@@ -1,12 +1,10 @@
 -- The rule of the ticket word: the numbers that all seats drew are those below it, each once, and few of them are high.
-use Rattle.std.specs.Prelude.{◌≡◌, ℕ, ◌≤◌, List, [], ◌∷◌, slice_index, nat_le, if◌then◌else◌, IsPermutation}
-use Rattle.std.specs.List.{flat_map, range_with_len, sum_by}
-use mathlib.Core.Option.{some}
-use lib.ListN.{get_elem?}
+use Rattle.std.specs.Prelude.{◌≡◌, ℕ, ◌≤◌, List, [], ◌∷◌, slice_index, nat_le, All, IsPermutation}
+use Rattle.std.specs.List.{flat_map, range_with_len, sum_by, count_by}
+use Rattle.std.specs.declared.alloc.Global.{Global}
 use Rattle.atomic_table.specs.Table.{State}
 use Rattle.atomic_table.specs.declared.owned.Table.{Table}
 use Rattle.atomic_table.specs.declared.shared.Seat.{Seat}
-use Rattle.std.specs.declared.alloc.Global.{Global}
 use Rattle.node_tickets.specs.declared.hand.Hand.{Hand}
 use Rattle.node_tickets.specs.declared.word.EachOnce.{EachOnce}
 
@@ -20,7 +18,7 @@ hand stands_for limit drawn = record { stands_for = stands_for; limit = limit; d
 
 -- how many of some numbers are high: at the limit or above it
 abbrev pub high_of : ℕ → List ℕ → ℕ
-high_of limit xs = sum_by (λ x. if nat_le limit x then 1 else 0) xs
+high_of limit numbers = count_by (λ n. nat_le limit n) numbers
 
 -- the rule, of the word and of what each seat knows
 pub record IsCounted (limit : ℕ) (s : State (Unit {0}) Hand) : Type 0 where
@@ -30,10 +28,13 @@ pub record IsCounted (limit : ℕ) (s : State (Unit {0}) Hand) : Type 0 where
   -- the numbers that they drew are those below the word, each once
   pub once : IsPermutation (flat_map (λ v. v.drawn) s.views) (range_with_len 0 (slice_index s.words 0))
   -- a seat drew at most as many high numbers as the seats for which it stands
-  pub high : (id : ℕ) (v : Hand) → get_elem? s.views id ≡ some v → high_of limit v.drawn ≤ v.stands_for
+  pub high : All (λ v. high_of limit v.drawn ≤ v.stands_for) s.views
   -- a seat that stands for none has drawn nothing
-  pub spent : (id : ℕ) (v : Hand) → get_elem? s.views id ≡ some v → v.stands_for ≡ 0 → v.drawn ≡ []
+  pub spent : All (λ v. v.stands_for ≡ 0 → v.drawn ≡ []) s.views
 
--- it is the word of this seat, and a ticket word; the seat holds nothing else of it
-abbrev pub IsWordOf : Table (Unit {0}) Hand ℕ EachOnce Global → Seat (Unit {0}) Hand → Type 0
-IsWordOf word place = (place.table_id ≡ word.shared.table_id) × (word.shared.table_id.words ≡ 1) × (place.me.1 ≡ [])
+-- it is the word of this seat, and a ticket word; the seat has its limit, and holds nothing else of it
+pub record IsWordOf (word : Table (Unit {0}) Hand ℕ EachOnce Global) (place : Seat (Unit {0}) Hand) : Type 0 where
+  pub same : place.table_id ≡ word.shared.table_id
+  pub one : word.shared.table_id.words ≡ 1
+  pub limit : place.me.0.limit ≡ word.shared.key
+  pub no_slots : place.me.1 ≡ []

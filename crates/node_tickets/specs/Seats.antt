@@ -1,6 +1,6 @@
 -- What contracts see of tickets and of their seats.
-use Rattle.std.specs.Prelude.{◌≡◌, ℕ, ◌<◌, List, [], All, nat_le, if◌then◌else◌}
-use Rattle.std.specs.List.{sum_by}
+use Rattle.std.specs.Prelude.{◌≡◌, ℕ, ◌<◌, List, [], All, nat_lt}
+use Rattle.std.specs.List.{sum_by, count_by}
 use Rattle.atomic_table.specs.Seated.{TableId}
 
 -- which tickets they are
@@ -49,4 +49,4 @@ drawn_by seat = seat.drawn
 
 -- how many numbers below the limit it drew
 abbrev pub numbers_of : SeatView → ℕ
-numbers_of seat = sum_by (λ n. if nat_le seat.limit n then 0 else 1) seat.drawn
+numbers_of seat = count_by (λ n. nat_lt n seat.limit) seat.drawn

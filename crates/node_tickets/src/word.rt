@@ -73,10 +73,9 @@ pub type Place = Seat<(), Hand>;
 
 /// A word from which nothing was drawn, and the seat that stands for all.
 pub fn open_word(alloc: Global, limit: u64) -> Result<(Word, Place), NoMemory>
-    requires { limit ≤ 1048576 }
-    ensures word { IfOk result (λ r. (r.0.shared.table_id.words ≡ 1) × (r.0.shared.key ≡ limit)) }
-    ensures place { IfOk result (λ r. r.1.table_id ≡ r.0.shared.table_id) }
-    ensures hand { IfOk result (λ r. r.1.me ≡ (hand ALL limit [], [])) }
+    ensures word { IfOk result (λ r. IsWordOf r.0 r.1) }
+    ensures limit { IfOk result (λ r. r.0.shared.key ≡ limit) }
+    ensures hand { IfOk result (λ r. r.1.me.0 ≡ hand ALL limit []) }
 {
     Ok(Table::of_words(alloc, &[0], &limit)?)
 }
@@ -84,10 +83,10 @@ pub fn open_word(alloc: Global, limit: u64) -> Result<(Word, Place), NoMemory>
 /// Draws the next number.
 pub fn draw_next(word: &Word, place: &mut Place) -> u64
     requires word { IsWordOf word.now place.old }
-    requires limit { word.now.shared.key ≤ 1048576 }
+    requires most { word.now.shared.key ≤ 1048576 }
     requires room { let v = place.old.me.0 in high_of v.limit v.drawn < v.stands_for }
-    ensures same { place.new.table_id ≡ place.old.table_id }
-    ensures drawn { let v = place.old.me.0 in place.new.me ≡ (hand v.stands_for v.limit (v.drawn ++ result ∷ []), []) }
+    ensures word { IsWordOf word.now place.new }
+    ensures hand { let v = place.old.me.0 in place.new.me.0 ≡ hand v.stands_for v.limit (v.drawn ++ result ∷ []) }
     ensures greater { All (λ x. x < result) place.old.me.0.drawn }
 {
     word.shared.fetch_add::<Draws>(place, 0, 1)
@@ -98,21 +97,20 @@ pub fn deal_place(word: &Word, place: &mut Place) -> Place
     requires word { IsWordOf word.now place.old }
     requires some { 1 < place.old.me.0.stands_for }
     requires none { place.old.me.0.drawn ≡ [] }
-    ensures same { (place.new.table_id ≡ place.old.table_id) × (result.table_id ≡ place.old.table_id) }
-    ensures left { let v = place.old.me.0 in place.new.me ≡ (hand (v.stands_for - 1) v.limit [], []) }
-    ensures right { result.me ≡ (hand 1 place.old.me.0.limit [], []) }
+    ensures word { IsWordOf word.now place.new × IsWordOf word.now result }
+    ensures left { let v = place.old.me.0 in place.new.me.0 ≡ hand (v.stands_for - 1) v.limit [] }
+    ensures right { result.me.0 ≡ hand 1 place.old.me.0.limit [] }
 {
     word.shared.split_seat::<Deals>(place)
 }
 
 /// Takes a seat, and what it drew, into another.
 pub fn join_place(word: &Word, place: &mut Place, other: Place)
-    requires word { IsWordOf word.now place.old }
-    requires other { IsWordOf word.now other }
+    requires word { IsWordOf word.now place.old × IsWordOf word.now other }
     requires some { 0 < place.old.me.0.stands_for }
-    ensures same { place.new.table_id ≡ place.old.table_id }
+    ensures word { IsWordOf word.now place.new }
     ensures both { let v = place.old.me.0 in let w = other.me.0 in
-        place.new.me ≡ (hand (v.stands_for + w.stands_for) v.limit (v.drawn ++ w.drawn), []) }
+        place.new.me.0 ≡ hand (v.stands_for + w.stands_for) v.limit (v.drawn ++ w.drawn) }
 {
     word.shared.join_seat::<Deals>(place, other);
 }
