@@ -1,0 +1,18 @@
+use Rattle.std.proofs.Common.{◌≡◌, ◌+◌, ◌<◌, ◌++◌, All, IsPermutation, vec_len}
+use Rattle.std.specs.List.{flat_map, sum_by}
+use Rattle.node_tickets.specs.Rule.{IsWordOf}
+use Rattle.node_tickets.specs.Seats.{IsSeatOf, drawn_by, tickets_view}
+use Rattle.node_tickets.proofs.tickets.join_all.Given as goal
+
+-- the seat has what it had and what those that are gone had
+abbrev pub invariant-loop-seat : goal.invariant-loop-seat
+invariant-loop-seat l = record {
+  word : IsWordOf l.word l.whole;
+  some : 0 < l.whole.me.0.stands_for;
+  seats : All (IsSeatOf (tickets_view l.word.shared.table_id l.word.shared.key)) l.seats.items;
+  stands : l.whole.me.0.stands_for + sum_by (λ s. s.stands_for) l.seats.items ≡ l.initial.whole.me.0.stands_for + sum_by (λ s. s.stands_for) l.initial.seats.items;
+  drawn : IsPermutation (l.whole.me.0.drawn ++ flat_map drawn_by l.seats.items) (l.initial.whole.me.0.drawn ++ flat_map drawn_by l.initial.seats.items);
+}
+
+abbrev pub decreases-loop-seat : goal.decreases-loop-seat
+decreases-loop-seat l = vec_len l.seats
