@@ -156,9 +156,10 @@ impl Tickets {
         ensures full { All MayDraw seats.items ↔ (result ≤ self.limit) }
         ensures most { result ≤ self.limit + ALL_SEATS }
     {
-        let Some(TicketSeat { place: mut whole }) = seats.pop() else {
+        let Some(last) = seats.pop() else {
             unreachable!()
         };
+        let TicketSeat { place: mut whole } = last;
         join_all(&self.word, &mut whole, seats);
         count_drawn(&self.word, &mut whole)
     }
