@@ -27,11 +27,10 @@ joined_more mine more all seats rest seat split takes h =
     (IsPermutation-trans _ _ _ (IsPermutation-same _ _ (append_assoc mine (flat_map drawn_by rest) seat.drawn ∙ whole)) h))
 
 -- the last seat took all the others
-pub joined_all : (mine all : List ℕ) (seats rest : List SeatView) (seat : SeatView) → seats ≡ rest ++ seat ∷ [] → mine ≡ seat.drawn →
-    IsPermutation all (mine ++ flat_map drawn_by rest) → IsPermutation (flat_map drawn_by seats) all
-joined_all mine all seats rest seat split its h =
-    IsPermutation-trans _ _ _ (IsPermutation-same _ _ (ap (flat_map drawn_by) split ∙ drawn_last rest seat ∙ ap (λ (l : List ℕ). flat_map drawn_by rest ++ l) (sym its)))
-    (IsPermutation-trans _ _ _ (IsPermutation-append_comm (flat_map drawn_by rest) mine) (IsPermutation-sym _ _ h))
+pub joined_all : (all : List ℕ) (seats rest : List SeatView) (seat : SeatView) → seats ≡ rest ++ seat ∷ [] → IsPermutation all (seat.drawn ++ flat_map drawn_by rest) → IsPermutation (flat_map drawn_by seats) all
+joined_all all seats rest seat split h =
+    IsPermutation-trans _ _ _ (IsPermutation-same _ _ (ap (flat_map drawn_by) split ∙ drawn_last rest seat))
+    (IsPermutation-trans _ _ _ (IsPermutation-append_comm (flat_map drawn_by rest) seat.drawn) (IsPermutation-sym _ _ h))
 
 -- the numbers below the limit that some seats drew
 numbers_all : (t : TicketsView) (seats : List SeatView) → All (IsSeatOf t) seats → sum_by numbers_of seats ≡ low_of t.limit (flat_map drawn_by seats)

@@ -1,9 +1,13 @@
 -- Seats that are carried by the members of a crew.
-use Rattle.std.proofs.Common.{◌≡◌, ℕ, zero, suc, ◌+◌, List, [], ◌∷◌, map, length, refl, ap, ◌∙◌, arith, All, Some, slice_get}
+use Rattle.std.proofs.Common.{◌≡◌, ℕ, zero, suc, ◌+◌, List, [], ◌∷◌, map, length, sym, subst, refl, ap, ◌∙◌, arith, All, Some, slice_get}
 use Rattle.std.specs.List.{sum_by}
 use Rattle.std.proofs.lemmas.List.Elements.{All-head, All-tail, All-nil, All-cons}
 use Rattle.std.proofs.lemmas.List.Sums.{sum_by-cons}
 use Rattle.node_tickets.specs.Seats.{TicketsView, SeatView, IsSeatOf, AreAllSeats}
+
+-- a seat of some tickets, both told otherwise
+pub IsSeatOf-same : (t t' : TicketsView) (s s' : SeatView) → t ≡ t' → s ≡ s' → IsSeatOf t' s' → IsSeatOf t s
+IsSeatOf-same t t' s s' same its h = subst (λ (u : TicketsView). IsSeatOf u s) (sym same) (subst (IsSeatOf t') (sym its) h)
 
 -- what a member does to its seat: it stays one of these tickets, and stands for as many
 abbrev pub KeepsSeat : TicketsView → SeatView → SeatView → Type 0

@@ -12,9 +12,10 @@ use lib.ListN.{get_elem?}
 use Rattle.atomic_table.specs.Table.{State, Me, Allows, Splits, Joins, keeps, opening}
 use Rattle.atomic_table.proofs.Lists.{set_else, set_again}
 use Rattle.node_tickets.specs.declared.hand.Hand.{Hand}
-use Rattle.node_tickets.specs.Rule.{ALL, hand, high_of, IsCounted}
+use Rattle.node_tickets.specs.Rule.{hand, high_of, IsCounted}
+use Rattle.node_tickets.specs.Seats.{ALL_SEATS}
 use Rattle.node_tickets.proofs.Views.{IsPermutation-same, All-at, All-flat_map_at, sum_by-set_at, flat_map-grown, flat_map-stays, flat_map-moved, flat_map-whole}
-use Rattle.node_tickets.proofs.Numbers.{high_append, high_push, range_push, range_below, range_length}
+use Rattle.node_tickets.proofs.Numbers.{high_append, high_push, high_none, range_push, range_below, range_length}
 
 -- what the rule reads of a view
 abbrev weight : Hand → ℕ
@@ -36,27 +37,27 @@ few_high limit (v ∷ vs) each =
     omega (arith, high_append limit v.drawn (flat_map numbers vs), sum_by-cons weight v vs, All-head (IsFewHigh limit) v vs each, few_high limit vs (All-tail (IsFewHigh limit) v vs each))
 
 -- so the word stays near the limit
-pub word_most : (limit : ℕ) (s : State (Unit {0}) Hand) → IsCounted limit s → slice_index s.words 0 ≤ limit + ALL
+pub word_most : (limit : ℕ) (s : State (Unit {0}) Hand) → IsCounted limit s → slice_index s.words 0 ≤ limit + ALL_SEATS
 word_most limit s h =
     let n = slice_index s.words 0 in
     let same : high_of limit (range_with_len 0 n) ≡ high_of limit (flat_map numbers s.views) = sum_by-IsPermutation (λ x. cond (leb limit x) 1 0) _ _ h.once in
     omega (arith, range_length limit n, few_high limit s.views h.high, h.all)
 
 -- a new word
-pub begins : (limit : ℕ) → IsCounted limit (opening (0 ∷ []) [] (hand ALL limit []))
+pub begins : (limit : ℕ) → IsCounted limit (opening (0 ∷ []) [] (hand ALL_SEATS limit []))
 begins limit = record {
   one = (0, refl);
   all = refl;
   once = IsPermutation-refl [];
-  high = All-cons (IsFewHigh limit) (hand ALL limit []) [] (omega arith) (All-nil (IsFewHigh limit));
-  spent = All-cons IsSpent (hand ALL limit []) [] (λ _. refl) (All-nil IsSpent);
+  high = All-cons (IsFewHigh limit) (hand ALL_SEATS limit []) [] (omega arith) (All-nil (IsFewHigh limit));
+  spent = All-cons IsSpent (hand ALL_SEATS limit []) [] (λ _. refl) (All-nil IsSpent);
 }
 
 -- a draw
-pub draws : (limit slots id : ℕ) (me : Me (Unit {0}) Hand) → high_of limit me.0.drawn < me.0.stands_for → limit ≤ 1048576 →
+pub draws : (limit slots id : ℕ) (me : Me (Unit {0}) Hand) → All (λ n. n < limit) me.0.drawn → 0 < me.0.stands_for → limit ≤ 1048576 →
     Allows (IsCounted limit) slots id me 0 (λ n. (n + 1) % 2 ^ 64)
     (λ n after. (after ≡ (hand me.0.stands_for me.0.limit (me.0.drawn ++ n ∷ []), me.1)) × All (λ x. x < n) me.0.drawn)
-draws limit slots id me room most s h homes at small =
+draws limit slots id me low some_seat most s h homes at small =
     let n = slice_index s.words 0 in
     let v = me.0 in
     let w : Hand = hand v.stands_for v.limit (v.drawn ++ n ∷ []) in
@@ -73,7 +74,7 @@ draws limit slots id me room most s h homes at small =
         once = subst (λ (l : List ℕ). IsPermutation (flat_map numbers (set s.views id w)) (range_with_len 0 (slice_index l 0))) (sym words)
             (IsPermutation-trans _ _ _ (IsPermutation-sym _ _ (flat_map-grown numbers s.views id v w (n ∷ []) at refl))
             (IsPermutation-trans _ _ _ (IsPermutation-append_left (n ∷ []) _ _ h.once) (IsPermutation-same _ _ (sym (range_push n)))));
-        high = All-set (IsFewHigh limit) s.views id w (omega (arith, high_push limit v.drawn n)) h.high;
+        high = All-set (IsFewHigh limit) s.views id w (omega (arith, high_push limit v.drawn n, high_none limit v.drawn low)) h.high;
         spent = All-set IsSpent s.views id w (λ none. absurd (omega arith)) h.spent;
       },
       (refl, All-flat_map_at (λ x. x < n) numbers s.views id v at all_below),
@@ -114,7 +115,7 @@ merges limit id v other u some_seat s h at differ at' =
 
 -- the closing load
 pub closes : (limit slots id : ℕ) (me : Me (Unit {0}) Hand) → limit ≡ me.0.limit → Allows (IsCounted limit) slots id me 0 (λ n. n)
-    (λ n after. (after ≡ me) × (n ≤ me.0.limit + ALL) × (me.0.stands_for ≡ ALL → IsPermutation me.0.drawn (range_with_len 0 n)))
+    (λ n after. (after ≡ me) × (n ≤ me.0.limit + ALL_SEATS) × (me.0.stands_for ≡ ALL_SEATS → IsPermutation me.0.drawn (range_with_len 0 n)))
 closes limit slots id me its s h homes at small =
     let n = slice_index s.words 0 in
     let v = me.0 in

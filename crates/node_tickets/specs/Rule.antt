@@ -1,17 +1,9 @@
 -- The rule of the ticket word: the numbers that all seats drew are those below it, each once, and few of them are high.
 use Rattle.std.specs.Prelude.{◌≡◌, ℕ, ◌≤◌, List, [], ◌∷◌, slice_index, nat_le, All, IsPermutation}
 use Rattle.std.specs.List.{flat_map, range_with_len, sum_by, count_by}
-use Rattle.std.specs.declared.alloc.Global.{Global}
 use Rattle.atomic_table.specs.Table.{State}
-use Rattle.atomic_table.specs.declared.owned.Table.{Table}
-use Rattle.atomic_table.specs.declared.shared.Seat.{Seat}
 use Rattle.node_tickets.specs.declared.hand.Hand.{Hand}
-use Rattle.node_tickets.specs.declared.word.EachOnce.{EachOnce}
-
--- for how many seats those of a word stand together: one for each of 16 workers, of whom those that a search doesn't have
--- leave theirs with one of the others
-abbrev pub ALL : ℕ
-ALL = 16
+use Rattle.node_tickets.specs.Seats.{ALL_SEATS}
 
 abbrev pub hand : ℕ → ℕ → List ℕ → Hand
 hand stands_for limit drawn = record { stands_for = stands_for; limit = limit; drawn = drawn }
@@ -24,17 +16,10 @@ high_of limit numbers = count_by (λ n. nat_le limit n) numbers
 pub record IsCounted (limit : ℕ) (s : State (Unit {0}) Hand) : Type 0 where
   pub one : (n : ℕ) × (s.words ≡ n ∷ [])
   -- the seats stand for all
-  pub all : sum_by (λ v. v.stands_for) s.views ≡ ALL
+  pub all : sum_by (λ v. v.stands_for) s.views ≡ ALL_SEATS
   -- the numbers that they drew are those below the word, each once
   pub once : IsPermutation (flat_map (λ v. v.drawn) s.views) (range_with_len 0 (slice_index s.words 0))
   -- a seat drew at most as many high numbers as the seats for which it stands
   pub high : All (λ v. high_of limit v.drawn ≤ v.stands_for) s.views
   -- a seat that stands for none has drawn nothing
   pub spent : All (λ v. v.stands_for ≡ 0 → v.drawn ≡ []) s.views
-
--- it is the word of this seat, and a ticket word; the seat has its limit, and holds nothing else of it
-pub record IsWordOf (word : Table (Unit {0}) Hand ℕ EachOnce Global) (place : Seat (Unit {0}) Hand) : Type 0 where
-  pub same : place.table_id ≡ word.shared.table_id
-  pub one : word.shared.table_id.words ≡ 1
-  pub limit : place.me.0.limit ≡ word.shared.key
-  pub no_slots : place.me.1 ≡ []

@@ -12,9 +12,6 @@ pub record TicketsView : Type 0 where
   pub id : TicketsId
   pub limit : ℕ
 
-abbrev pub tickets_view : TicketsId → ℕ → TicketsView
-tickets_view id limit = record { id = id; limit = limit }
-
 -- of which tickets it is, their limit, for how many seats it stands, and the numbers that it drew, in their order
 pub record SeatView : Type 0 where
   pub tickets : TicketsId
@@ -22,7 +19,8 @@ pub record SeatView : Type 0 where
   pub stands_for : ℕ
   pub drawn : List ℕ
 
--- for how many seats all seats of some tickets stand together, however many there are
+-- for how many seats all seats of some tickets stand together: one for each of 16 workers, of whom those that a search
+-- doesn't have leave theirs with one of the others
 abbrev pub ALL_SEATS : ℕ
 ALL_SEATS = 16
 
