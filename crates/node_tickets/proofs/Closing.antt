@@ -59,7 +59,7 @@ each_low t (s ∷ ss) each low =
 -- a range is low where it ends at the limit or below it
 range_low : (limit n : ℕ) → All (λ x. x < limit) (range_with_len 0 n) → n ≤ limit
 range_low limit n low = dite (dec_le n limit) (λ is. is) (λ no.
-        absurd (omega (arith, low limit 0 (omega (arith, length-range_with_len 0 n)), get_or-range_with_len 0 n limit 0 (omega arith))))
+    absurd (omega (arith, low limit 0 (omega (arith, length-range_with_len 0 n)), get_or-range_with_len 0 n limit 0 (omega arith))))
 
 -- what all seats drew, once it is known to be a range
 pub all_numbers : (t : TicketsView) (seats : List SeatView) (n : ℕ) → All (IsSeatOf t) seats → IsPermutation (flat_map drawn_by seats) (range_with_len 0 n) → sum_by numbers_of seats ≡ min t.limit n

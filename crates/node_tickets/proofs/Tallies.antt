@@ -1,5 +1,5 @@
 -- What a draw adds to the numbers of a seat.
-use Rattle.std.proofs.Common.{◌≡◌, ℕ, ◌+◌, ◌<◌, ◌≤◌, List, [], ◌∷◌, ◌++◌, sym, subst, ap, ◌∙◌}
+use Rattle.std.proofs.Common.{◌≡◌, ℕ, ◌+◌, ◌<◌, ◌≤◌, [], ◌∷◌, ◌++◌, sym, subst, ap, ◌∙◌}
 use Rattle.node_tickets.specs.declared.draw.Draw.{Draw}
 use Rattle.node_tickets.specs.declared.draw.Draw.TheVariants.{Number, Full}
 use Rattle.node_tickets.specs.declared.hand.Hand.{Hand}

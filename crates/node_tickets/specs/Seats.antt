@@ -28,6 +28,10 @@ ALL_SEATS = 16
 abbrev pub IsSeatOf : TicketsView → SeatView → Type 0
 IsSeatOf t seat = (seat.tickets ≡ t.id) × (seat.limit ≡ t.limit)
 
+-- it is a seat of these tickets that stands for as many seats as before, whatever it drew meanwhile
+abbrev pub KeepsSeat : TicketsView → SeatView → SeatView → Type 0
+KeepsSeat t old new = IsSeatOf t new × (new.stands_for ≡ old.stands_for)
+
 -- these are all seats of some tickets, in any order
 pub record AreAllSeats (t : TicketsView) (seats : List SeatView) : Type 0 where
   pub each : All (IsSeatOf t) seats

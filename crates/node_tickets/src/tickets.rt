@@ -108,7 +108,7 @@ impl Tickets {
     }
 
     /// How many numbers were drawn, told once all seats are back: the numbers that they drew are those below the answer,
-    /// each once. Takes no memory, and doesn't wait.
+    /// each once. It is above the limit exactly where a seat drew `Full`. Takes no memory, and doesn't wait.
     pub fn close(self, mut seats: Vec<TicketSeat>) -> u64
         requires { AreAllSeats self seats.items }
         ensures drawn { IsPermutation (flat_map drawn_by seats.items) (range_with_len 0 result) }
@@ -164,7 +164,9 @@ impl Tickets {
         requires other { IsSeatOf self.now other }
         ensures { seat.new ≡ record seat.old { stands_for = seat.old.stands_for + other.stands_for; drawn = seat.old.drawn ++ other.drawn } }
     {
-        self.word.shared.join_seat::<Deals>(&mut seat.place, other.place);
+        self.word
+            .shared
+            .join_seat::<Deals>(&mut seat.place, other.place);
     }
 
     // Takes some seats, and what they drew, into one.

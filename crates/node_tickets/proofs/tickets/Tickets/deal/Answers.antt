@@ -1,4 +1,4 @@
-use Rattle.std.proofs.Common.{◌≡◌, ◌<◌, [], ap, ◌∙◌, arith}
+use Rattle.std.proofs.Common.{ap, ◌∙◌, arith}
 use Rattle.node_tickets.specs.Seats.{SeatView}
 use Rattle.node_tickets.proofs.Crews.{IsSeatOf-same}
 use Rattle.node_tickets.proofs.Steps.{forks}

@@ -1,4 +1,4 @@
-use Rattle.std.proofs.Common.{◌≡◌, ◌+◌, ◌∷◌, [], arith, ap, sym, ◌∙◌, subst, All}
+use Rattle.std.proofs.Common.{◌∷◌, [], arith, ap, ◌∙◌, subst, All}
 use Rattle.std.specs.List.{sum_by}
 use Rattle.std.proofs.lemmas.List.Sums.{sum_by_push}
 use Rattle.node_tickets.specs.Seats.{SeatView, IsSeatOf}
