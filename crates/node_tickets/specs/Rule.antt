@@ -5,6 +5,7 @@ use Rattle.atomic_table.specs.Table.{State}
 use Rattle.node_tickets.specs.declared.hand.Hand.{Hand}
 use Rattle.node_tickets.specs.Seats.{ALL_SEATS}
 
+-- what a seat knows
 abbrev pub hand : ℕ → ℕ → List ℕ → Hand
 hand stands_for limit drawn = record { stands_for = stands_for; limit = limit; drawn = drawn }
 
@@ -14,6 +15,7 @@ high_of limit numbers = count_by (λ n. nat_le limit n) numbers
 
 -- the rule, of the word and of what each seat knows
 pub record IsCounted (limit : ℕ) (s : State (Unit {0}) Hand) : Type 0 where
+  -- there is one word
   pub one : (n : ℕ) × (s.words ≡ n ∷ [])
   -- the seats stand for all
   pub all : sum_by (λ v. v.stands_for) s.views ≡ ALL_SEATS

@@ -1,7 +1,9 @@
-ghost use Rattle.std.specs.Prelude.{◌≡◌, ◌<◌, ℕ, All, length, slice_index_or};
+ghost use Rattle.std.specs.Prelude.{◌≡◌, ◌<◌, ◌≤◌, ℕ, All, length, slice_index_or};
 ghost use Rattle.node_tickets.specs.Seats.{IsSeatOf, KeepsSeat, AreAllSeats, MayDraw};
 
 use super::*;
+use exact_parts::NoMemory;
+use std::alloc::Global;
 use std::test::Fail;
 use std::thread;
 use std::thread::Threads;
@@ -40,7 +42,7 @@ fn draw_by_each<R: Threads + Sync>(rt: &R, tickets: &Tickets, seats: &mut [Ticke
     ensures many { length seats.new ≡ length seats.old }
     ensures each { (i : ℕ) (d : _) → i < length seats.old → KeepsSeat tickets.now (slice_index_or seats.old i d) (slice_index_or seats.new i d) }
 {
-    thread::for_each_mut(rt, seats, 2, &|_, seat| draw_all(tickets, seat));
+    thread::for_each_mut(rt, seats, 4, &|_, seat| draw_all(tickets, seat));
 }
 
 // And all seats are there as before.
@@ -52,10 +54,24 @@ fn draw_in_threads<R: Threads + Sync>(rt: &R, tickets: &Tickets, seats: &mut [Ti
     draw_by_each(rt, tickets, seats);
 }
 
+// How many numbers are drawn until each seat has got `Full`.
+fn drawn_in_threads<R: Threads + Sync>(
+    rt: &R,
+    alloc: Global,
+    limit: u64,
+    seats: u32,
+) -> Result<u64, NoMemory>
+    requires limit { (1 ≤ limit) × (limit ≤ 1048576) }
+    requires seats { (1 ≤ seats) × (seats ≤ 16) }
+{
+    let (tickets, mut seats) = Tickets::start(alloc, limit, seats)?;
+    draw_in_threads(rt, &tickets, seats.as_mut_slice());
+    Ok(tickets.close(seats))
+}
+
 #[test]
 fn threads_draw_each_number_once(rt: HostRuntime) -> Result<(), Fail> {
-    let (tickets, mut seats) = Tickets::start(rt.alloc(), 50, 2)?;
-    draw_in_threads(&rt, &tickets, seats.as_mut_slice());
-    assert_eq!(rt; tickets.close(seats), 52);
+    assert_eq!(rt; drawn_in_threads(&rt, rt.alloc(), 50, 2)?, 52);
+    assert_eq!(rt; drawn_in_threads(&rt, rt.alloc(), 3, 16)?, 19);
     Ok(())
 }
