@@ -6,6 +6,10 @@ import tempfile
 from house import EXAMPLES, TOP, Ran, Wrong, read, run, want
 
 
+# The command whose plans stand beside the scenarios of examples/.
+PLAN = ["plan"]
+
+
 class Text:
     """An input for the program, and what it has to answer."""
 
@@ -106,7 +110,7 @@ def texts_of_examples():
             wrong.append(f"examples/{name} has no plan beside it")
         elif kind == ".scenario":
             plan = read(f"{EXAMPLES}/{stem}.plan")
-            texts.append(Text(f"the plan of examples/{name}", ["plan"], given, 0, plan.decode()))
+            texts.append(Text(f"the plan of examples/{name}", PLAN, given, 0, plan.decode()))
             texts.append(Text(f"the check of examples/{stem}.plan", ["check"], given + plan, 0, "accepted\n"))
     return texts, wrong
 
