@@ -1,0 +1,5 @@
+pub mod Account
+pub mod Report
+pub mod Json
+pub mod Laws
+pub mod Worked
