@@ -1,2 +1,9 @@
 pub mod Examples
 pub mod Left
+pub mod Values
+pub mod CourseSteps
+pub mod LineTexts
+pub mod Shares
+pub mod RowSteps
+pub mod Masses
+pub mod ReportParts

@@ -1,4 +1,4 @@
--- The report of a path as JSON. Numbers are texts of their decimals, since they may be wider than a JSON reader's numbers.
+-- The report of a path as JSON. Each number is the text of its decimal, since it may be wider than a reader's numbers are.
 use Rattle.std.specs.Prelude.{ℕ, List, [], ◌∷◌, ◌++◌, map, codes}
 use Rattle.std.specs.Fmt.{decimal}
 use Rattle.serde_json.specs.Data.{Data, string, array, object, member, no_members}
@@ -8,26 +8,30 @@ use Rattle.search_model.specs.Problem.{Problem, cell_name, position_name}
 use Rattle.search_model.specs.Tracks.{whole_weight, value_of}
 use Rattle.mission_report.specs.Account.{all_cells, mass_left, values_along}
 
--- a number as a text
-abbrev pub number_text : ℕ → Data
-number_text n = string (decimal n)
+-- a number, as the text of its decimal
+abbrev pub number_of : ℕ → Data
+number_of n = string (decimal n)
 
--- an array of a value for each of these
+-- an array of a value for each of some numbers
 abbrev pub array_of : (ℕ → Data) → List ℕ → Data
 array_of f xs = array (items_of (map f xs))
 
--- what is left in a cell
-abbrev pub left_entry : Problem → List ℕ → ℕ → Data
-left_entry p q c = object (member (codes "cell") (string (cell_name p c)) (member (codes "mass") (number_text (mass_left p q c)) no_members))
+-- the name of a position
+abbrev pub place_of : Problem → ℕ → Data
+place_of p a = string (position_name p a)
+
+-- a cell and the mass that is left there
+abbrev pub left_entry : Problem → ℕ → ℕ → Data
+left_entry p c mass = object (member (codes "cell") (string (cell_name p c)) (member (codes "mass") (number_of mass) no_members))
 
 -- the object, with its keys in the order of their bytes
 abbrev pub report_value : Problem → List ℕ → Data
 report_value p q =
-    object (member (codes "chance") (number_text (value_of p q))
-    (member (codes "left") (array_of (left_entry p q) (all_cells p))
-    (member (codes "path") (array_of (λ a. string (position_name p a)) q)
-    (member (codes "periods") (array_of number_text (values_along p q))
-    (member (codes "weight") (number_text (whole_weight p)) no_members)))))
+    object (member (codes "chance") (number_of (value_of p q))
+    (member (codes "left") (array_of (λ c. left_entry p c (mass_left p q c)) (all_cells p))
+    (member (codes "path") (array_of (place_of p) q)
+    (member (codes "periods") (array_of number_of (values_along p q))
+    (member (codes "weight") (number_of (whole_weight p)) no_members)))))
 
 -- its compact text, and a line feed
 unfoldable pub report_json : Problem → List ℕ → List ℕ

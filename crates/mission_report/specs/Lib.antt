@@ -3,3 +3,5 @@ pub mod Report
 pub mod Json
 pub mod Laws
 pub mod Worked
+pub mod Course
+pub mod Lines

@@ -7,34 +7,36 @@ use Rattle.search_model.specs.Problem.{Problem, cell_name, position_name}
 use Rattle.search_model.specs.Tracks.{whole_weight, value_of}
 use Rattle.mission_report.specs.Account.{all_periods, all_cells, value_up_to, mass_left}
 
--- a weight, and its share of the whole weight in percent, cut off after three digits
-abbrev pub share_fields : Problem → ℕ → List (List ℕ)
-share_fields p n = decimal n ∷ percent_text n (whole_weight p) ∷ []
-
--- `report 1`
-abbrev pub version_row : List (List ℕ)
-version_row = codes "report" ∷ codes "1" ∷ []
+-- the share of the whole weight that a weight is: in percent, cut off after three digits
+abbrev pub share_of : Problem → ℕ → List ℕ
+share_of p n = percent_text n (whole_weight p)
 
 -- `chance V W P(V)`
-abbrev pub chance_row : Problem → List ℕ → List (List ℕ)
-chance_row p q = codes "chance" ∷ decimal (value_of p q) ∷ decimal (whole_weight p) ∷ percent_text (value_of p q) (whole_weight p) ∷ []
+abbrev pub chance_row : Problem → ℕ → List (List ℕ)
+chance_row p value = codes "chance" ∷ decimal value ∷ decimal (whole_weight p) ∷ share_of p value ∷ []
 
--- `period t NAME V P(V)`: where the searcher looks in period t, and the value up to that period
-abbrev pub period_row : Problem → List ℕ → ℕ → List (List ℕ)
-period_row p q t = codes "period" ∷ decimal t ∷ position_name p (slice_index q (t - 1)) ∷ share_fields p (value_up_to p q t)
+-- `period t NAME V P(V)`: the searcher looks from a position in period t, and so much is found up to then
+abbrev pub period_row : Problem → ℕ → ℕ → ℕ → List (List ℕ)
+period_row p t a value = codes "period" ∷ decimal t ∷ position_name p a ∷ decimal value ∷ share_of p value ∷ []
 
 -- `left NAME MASS P(MASS)`
-abbrev pub left_row : Problem → List ℕ → ℕ → List (List ℕ)
-left_row p q c = codes "left" ∷ cell_name p c ∷ share_fields p (mass_left p q c)
+abbrev pub left_row : Problem → ℕ → ℕ → List (List ℕ)
+left_row p c mass = codes "left" ∷ cell_name p c ∷ decimal mass ∷ share_of p mass ∷ []
+
+-- a line for each period: the path's position in it, and the path's value up to it
+abbrev pub period_rows : Problem → List ℕ → List (List (List ℕ))
+period_rows p q = map (λ t. period_row p t (slice_index q (t - 1)) (value_up_to p q t)) (all_periods p)
+
+-- a line for each cell: the mass that the path leaves there
+abbrev pub left_rows : Problem → List ℕ → List (List (List ℕ))
+left_rows p q = map (λ c. left_row p c (mass_left p q c)) (all_cells p)
 
 -- the version, the chance, the periods, the cells, and `end`
 abbrev pub report_rows : Problem → List ℕ → List (List (List ℕ))
 report_rows p q =
-    version_row
-    ∷ chance_row p q
-    ∷ (map (period_row p q) (all_periods p)
-    ++ (map (left_row p q) (all_cells p)
-    ++ (codes "end" ∷ []) ∷ []))
+    (codes "report" ∷ codes "1" ∷ [])
+    ∷ chance_row p (value_of p q)
+    ∷ (period_rows p q ++ (left_rows p q ++ (codes "end" ∷ []) ∷ []))
 
 -- each line its fields with one blank between, and a line feed
 unfoldable pub report_text : Problem → List ℕ → List ℕ
