@@ -7,3 +7,6 @@ pub mod Shares
 pub mod RowSteps
 pub mod Masses
 pub mod ReportParts
+pub mod Names
+pub mod Entries
+pub mod JsonText

@@ -1,7 +1,6 @@
 -- The belief after a path has the masses that the path leaves.
-use Rattle.std.proofs.Common.{ℕ, ◌+◌, ◌<◌, ◌≤◌, ◌≡◌, List, [], Some, map, length, slice_index, refl, sym, ◌∙◌, arith, sum}
+use Rattle.std.proofs.Common.{ℕ, ◌+◌, ◌<◌, ◌≤◌, ◌≡◌, List, Some, map, length, slice_index, refl, sym, ◌∙◌, arith}
 use Rattle.std.specs.Prelude.{All}
-use Rattle.std.specs.List.{range_with_len}
 use Rattle.std.proofs.lemmas.List.{length-map}
 use Rattle.std.proofs.lemmas.List.Elements.{All-map}
 use Rattle.std.proofs.lemmas.List.FromFn.{length-range_with_len, get_or-range_with_len, get_or-map-range_with_len, fill_by_all}
@@ -14,9 +13,7 @@ use Rattle.search_model.proofs.Totals.{nothing_is_cut_off}
 use Rattle.belief_update.specs.Belief.{BeliefState, IsBelief}
 use Rattle.belief_update.proofs.BeliefSteps.{mass_at}
 use Rattle.mission_report.specs.Account.{all_cells, mass_left, masses_left}
-use Rattle.mission_report.specs.Report.{left_row, left_rows}
 use Rattle.mission_report.proofs.Left.{left_is_missed, left_is_mass}
-use Rattle.mission_report.proofs.RowSteps.{left_by}
 
 module _ (p : Problem) (sound : IsProblem p) (q : List ℕ) where
   -- what is left in a cell is a part of the whole weight
@@ -38,10 +35,11 @@ module _ (p : Problem) (sound : IsProblem p) (q : List ℕ) where
         let within : k < p.cells = omega (arith, size, lt) in
         rw (get_or-range_with_len 0 p.cells k d within) (mass_part (0 + k) (omega (arith, within)))))
 
-    -- the lines of the cells, by the belief's masses
-    pub left_rows_by : map (left_by p b.masses) (all_cells p) ≡ left_rows p q
-    left_rows_by =
-        let xs = map (left_by p b.masses) (all_cells p) in
-        let size : length xs ≡ p.cells = length-map (all_cells p) (left_by p b.masses) ∙ length-range_with_len 0 p.cells in
-        fill_by_all (λ c. left_row p c (mass_left p q c)) xs p.cells [] size (λ c lt.
-        get_or-map-range_with_len (left_by p b.masses) 0 p.cells c c [] lt (omega arith) ∙ rw (left_at c lt) refl)
+    -- what is made of each cell and the mass left there, by the belief's masses
+    pub by_masses : {X : Type 0} (f : ℕ → ℕ → X) → map (λ c. f c (slice_index b.masses c)) (all_cells p) ≡ map (λ c. f c (mass_left p q c)) (all_cells p)
+    by_masses f =
+        let read : ℕ → _ = λ c. f c (slice_index b.masses c) in
+        let xs = map read (all_cells p) in
+        let size : length xs ≡ p.cells = length-map (all_cells p) read ∙ length-range_with_len 0 p.cells in
+        fill_by_all (λ c. f c (mass_left p q c)) xs p.cells (f 0 0) size (λ c lt.
+        get_or-map-range_with_len read 0 p.cells c c (f 0 0) lt (omega arith) ∙ rw (left_at c lt) refl)

@@ -8,8 +8,8 @@ use Rattle.search_model.specs.Legal.{IsPath}
 use Rattle.search_model.specs.Tracks.{value_of}
 use Rattle.belief_update.specs.Belief.{BeliefState, IsBelief}
 use Rattle.mission_report.specs.Account.{all_cells}
-use Rattle.mission_report.specs.Report.{chance_row, period_rows, left_rows, report_text}
-use Rattle.mission_report.proofs.Masses.{left_rows_by}
+use Rattle.mission_report.specs.Report.{chance_row, period_rows, left_row, left_rows, report_text}
+use Rattle.mission_report.proofs.Masses.{by_masses}
 use Rattle.mission_report.proofs.RowSteps.{left_by}
 
 -- the version, the chance, the periods, the cells, and the end, by the belief after the path
@@ -25,7 +25,7 @@ report_parts p sound q path b belief value is =
     let end : List (List (List ℕ)) = (codes "end" ∷ []) ∷ [] in
     let chance = chance_row p (value_of p q) in
     let version : List (List ℕ) = codes "report" ∷ codes "1" ∷ [] in
-    rw (is, left_rows_by p sound q b path belief)
+    rw (is, by_masses p sound q b path belief (left_row p))
     (text_of-append (version ∷ []) (chance ∷ (period_rows p q ++ (left_rows p q ++ end)))
     ∙ ap (λ (t : List ℕ). text_of (version ∷ []) ++ t) (text_of-append (chance ∷ []) (period_rows p q ++ (left_rows p q ++ end))
     ∙ ap (λ (t : List ℕ). text_of (chance ∷ []) ++ t) (text_of-append (period_rows p q) (left_rows p q ++ end)

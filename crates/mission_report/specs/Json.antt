@@ -12,10 +12,6 @@ use Rattle.mission_report.specs.Account.{all_cells, mass_left, values_along}
 abbrev pub number_of : ℕ → Data
 number_of n = string (decimal n)
 
--- an array of a value for each of some numbers
-abbrev pub array_of : (ℕ → Data) → List ℕ → Data
-array_of f xs = array (items_of (map f xs))
-
 -- the name of a position
 abbrev pub place_of : Problem → ℕ → Data
 place_of p a = string (position_name p a)
@@ -24,14 +20,27 @@ place_of p a = string (position_name p a)
 abbrev pub left_entry : Problem → ℕ → ℕ → Data
 left_entry p c mass = object (member (codes "cell") (string (cell_name p c)) (member (codes "mass") (number_of mass) no_members))
 
--- the object, with its keys in the order of their bytes
+-- an array of some values
+abbrev pub array_of : List Data → Data
+array_of values = array (items_of values)
+
+-- the object of a report, with its keys in the order of their bytes
+abbrev pub object_of : Data → List Data → List Data → List Data → Data → Data
+object_of chance left path periods weight =
+    object (member (codes "chance") chance
+    (member (codes "left") (array_of left)
+    (member (codes "path") (array_of path)
+    (member (codes "periods") (array_of periods)
+    (member (codes "weight") weight no_members)))))
+
+-- a path's value, what it leaves in each cell, its positions, its value up to each period, and the whole weight
 abbrev pub report_value : Problem → List ℕ → Data
 report_value p q =
-    object (member (codes "chance") (number_of (value_of p q))
-    (member (codes "left") (array_of (λ c. left_entry p c (mass_left p q c)) (all_cells p))
-    (member (codes "path") (array_of (place_of p) q)
-    (member (codes "periods") (array_of number_of (values_along p q))
-    (member (codes "weight") (number_of (whole_weight p)) no_members)))))
+    object_of (number_of (value_of p q))
+    (map (λ c. left_entry p c (mass_left p q c)) (all_cells p))
+    (map (place_of p) q)
+    (map number_of (values_along p q))
+    (number_of (whole_weight p))
 
 -- its compact text, and a line feed
 unfoldable pub report_json : Problem → List ℕ → List ℕ

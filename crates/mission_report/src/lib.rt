@@ -2,9 +2,11 @@
 #![tactic(auto)]
 
 mod course;
+mod json;
 mod laws;
 mod lines;
 mod report;
 
+pub use json::push_report_json;
 pub use laws::{masses_left_sum, worked_reports};
 pub use report::push_report;
