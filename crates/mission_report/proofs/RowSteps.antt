@@ -9,11 +9,7 @@ use Rattle.exact_parts.proofs.RowLemmas.{stands_at_row, text_of-more}
 use Rattle.search_model.specs.Problem.{Problem}
 use Rattle.search_model.specs.Tracks.{whole_weight}
 use Rattle.mission_report.specs.Account.{value_up_to, values_along}
-use Rattle.mission_report.specs.Report.{period_row, left_row}
-
--- the line of a period
-abbrev pub period_of : Problem → List ℕ → ℕ → List (List ℕ)
-period_of p q t = period_row p t (slice_index q (t - 1)) (value_up_to p q t)
+use Rattle.mission_report.specs.Report.{period_row, period_of, left_row}
 
 -- the line of a cell, by masses
 abbrev pub left_by : Problem → List ℕ → ℕ → List (List ℕ)

@@ -9,16 +9,16 @@ use Rattle.search_model.specs.Tracks.{whole_weight, value_of}
 use Rattle.mission_report.specs.Account.{all_cells, mass_left, values_along}
 
 -- a number, as the text of its decimal
-abbrev pub number_of : ℕ → Data
-number_of n = string (decimal n)
+abbrev pub decimal_value : ℕ → Data
+decimal_value n = string (decimal n)
 
 -- the name of a position
-abbrev pub place_of : Problem → ℕ → Data
-place_of p a = string (position_name p a)
+abbrev pub place_value : Problem → ℕ → Data
+place_value p a = string (position_name p a)
 
 -- a cell and the mass that is left there
 abbrev pub left_entry : Problem → ℕ → ℕ → Data
-left_entry p c mass = object (member (codes "cell") (string (cell_name p c)) (member (codes "mass") (number_of mass) no_members))
+left_entry p c mass = object (member (codes "cell") (string (cell_name p c)) (member (codes "mass") (decimal_value mass) no_members))
 
 -- an array of some values
 abbrev pub array_of : List Data → Data
@@ -36,11 +36,11 @@ object_of chance left path periods weight =
 -- a path's value, what it leaves in each cell, its positions, its value up to each period, and the whole weight
 abbrev pub report_value : Problem → List ℕ → Data
 report_value p q =
-    object_of (number_of (value_of p q))
+    object_of (decimal_value (value_of p q))
     (map (λ c. left_entry p c (mass_left p q c)) (all_cells p))
-    (map (place_of p) q)
-    (map number_of (values_along p q))
-    (number_of (whole_weight p))
+    (map (place_value p) q)
+    (map decimal_value (values_along p q))
+    (decimal_value (whole_weight p))
 
 -- its compact text, and a line feed
 unfoldable pub report_json : Problem → List ℕ → List ℕ

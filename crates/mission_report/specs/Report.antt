@@ -23,9 +23,13 @@ period_row p t a value = codes "period" ∷ decimal t ∷ position_name p a ∷ 
 abbrev pub left_row : Problem → ℕ → ℕ → List (List ℕ)
 left_row p c mass = codes "left" ∷ cell_name p c ∷ decimal mass ∷ share_of p mass ∷ []
 
--- a line for each period: the path's position in it, and the path's value up to it
+-- of a path: its position in period t, and its value up to then
+abbrev pub period_of : Problem → List ℕ → ℕ → List (List ℕ)
+period_of p q t = period_row p t (slice_index q (t - 1)) (value_up_to p q t)
+
+-- a line for each period of a path
 abbrev pub period_rows : Problem → List ℕ → List (List (List ℕ))
-period_rows p q = map (λ t. period_row p t (slice_index q (t - 1)) (value_up_to p q t)) (all_periods p)
+period_rows p q = map (period_of p q) (all_periods p)
 
 -- a line for each cell: the mass that the path leaves there
 abbrev pub left_rows : Problem → List ℕ → List (List (List ℕ))

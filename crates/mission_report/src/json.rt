@@ -6,7 +6,7 @@ ghost use Rattle.serde_json.specs.View.{view};
 ghost use Rattle.exact_parts.specs.Appending.{AppendsFront};
 ghost use Rattle.search_model.specs.Legal.{IsPath};
 ghost use Rattle.mission_report.specs.Account.{all_cells};
-ghost use Rattle.mission_report.specs.Json.{number_of, place_of, left_entry, object_of, report_value as report_value_lem, report_json};
+ghost use Rattle.mission_report.specs.Json.{decimal_value, place_value, left_entry, object_of, report_value as report_value_lem, report_json};
 
 use crate::course::{follow, value_after};
 use belief_update::Belief;
@@ -19,20 +19,21 @@ use std::alloc::Global;
 fn name_value(alloc: Global, name: &Name) -> Result<Value, NoMemory>
     ensures { IfOk result (λ v. view v ≡ string name.now) }
 {
+    // A name's bytes are ASCII.
     let text = str::from_utf8(name.bytes()).unwrap();
     Ok(Value::try_from_str(alloc, text)?)
 }
 
 /// A number as the text of its decimal.
 fn number_value(alloc: Global, n: u128) -> Result<Value, NoMemory>
-    ensures { IfOk result (λ v. view v ≡ number_of n) }
+    ensures { IfOk result (λ v. view v ≡ decimal_value n) }
 {
     Ok(Value::from(n.to_string(alloc)?))
 }
 
-/// Numbers as texts.
+/// Numbers, as the texts of their decimals.
 fn number_values(alloc: Global, numbers: &[u128]) -> Result<Vec<Value>, NoMemory>
-    ensures { IfOk result (λ values. map view values.items ≡ map number_of numbers.now) }
+    ensures { IfOk result (λ values. map view values.items ≡ map decimal_value numbers.now) }
 {
     let mut values = Vec::new(alloc);
     for n in numbers {
@@ -44,7 +45,7 @@ fn number_values(alloc: Global, numbers: &[u128]) -> Result<Vec<Value>, NoMemory
 /// The names of a path's positions.
 fn place_values(alloc: Global, sc: &Scenario, path: &Path) -> Result<Vec<Value>, NoMemory>
     requires { IsPath sc.now path.now }
-    ensures { IfOk result (λ values. map view values.items ≡ map (place_of sc.now) path.now) }
+    ensures { IfOk result (λ values. map view values.items ≡ map (place_value sc.now) path.now) }
 {
     let _sound = sc.cells();
     let mut values = Vec::new(alloc);

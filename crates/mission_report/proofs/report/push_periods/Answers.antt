@@ -1,8 +1,8 @@
 use Rattle.std.proofs.Common.{◌+◌, ◌<◌, slice_index, length, ap, arith}
 use Rattle.exact_parts.proofs.AppendLemmas.{stands_stopped, at_refusal}
-use Rattle.mission_report.specs.Report.{period_row}
+use Rattle.mission_report.specs.Report.{period_row, period_of}
 use Rattle.mission_report.proofs.CourseSteps.{position_at}
-use Rattle.mission_report.proofs.RowSteps.{period_of, period_line, values_long, value_part, line_next, line_more, lines_all}
+use Rattle.mission_report.proofs.RowSteps.{period_line, values_long, value_part, line_next, line_more, lines_all}
 use Rattle.mission_report.proofs.report.push_periods.Goals as goal
 
 pub bounds-values-i : goal.bounds-values-i
