@@ -1,4 +1,4 @@
--- The report of a small problem.
+-- The reports of small problems.
 use Rattle.std.specs.Prelude.{◌≡◌, [], ◌∷◌, ◌++◌, codes}
 use Rattle.search_model.specs.Worked.{two_cells, waiting_longer}
 use Rattle.mission_report.specs.Account.{values_along, masses_left}

@@ -25,9 +25,10 @@ pub fn value_after(sc: &Scenario, belief: &Belief) -> u128
     requires { (q : List ℕ) × IsBelief sc.now (map Some q) belief.now }
     ensures { (q : List ℕ) → IsBelief sc.now (map Some q) belief.now → result ≡ value_of sc.now q }
 {
+    // Each period to come counts all parts of its step and of its look.
+    let parts = u128::from(sc.drift().denominator()) * u128::from(sc.sweep().denominator());
     let later = sc.horizon() - belief.period();
-    let period = u128::from(sc.drift().denominator()) * u128::from(sc.sweep().denominator());
-    sc.weight() - belief.undetected() * period.pow(later)
+    sc.weight() - belief.undetected() * parts.pow(later)
 }
 
 /// Looks from a position, in a period that isn't looked at yet, and notes the value of the prefix that ends there.
