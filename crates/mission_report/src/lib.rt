@@ -11,4 +11,4 @@ mod tests;
 
 pub use json::push_report_json;
 pub use laws::{masses_left_sum, worked_reports};
-pub use report::push_report;
+pub use report::{push_chance, push_report};

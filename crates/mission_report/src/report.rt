@@ -14,8 +14,8 @@ use belief_update::Belief;
 use exact_parts::NoMemory;
 use search_model::{Path, Scenario};
 
-/// Appends the line of the path's value.
-fn push_chance(out: &mut Vec<u8>, sc: &Scenario, value: u128) -> Result<(), NoMemory>
+/// Appends the line `chance VALUE WEIGHT SHARE` of a value: a part of the whole weight.
+pub fn push_chance(out: &mut Vec<u8>, sc: &Scenario, value: u128) -> Result<(), NoMemory>
     requires { value ≤ whole_weight sc.now }
     ensures ok { OnOk result (out.new.items ≡ out.old.items ++ text_of (chance_row sc.now value ∷ [])) }
     ensures err { OnErr result (AppendsFront out.old.items out.new.items (text_of (chance_row sc.now value ∷ []))) }
