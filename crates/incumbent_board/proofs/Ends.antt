@@ -16,8 +16,8 @@ use Rattle.incumbent_board.specs.declared.sight.Sight.{Sight}
 use Rattle.incumbent_board.specs.History.{first_of, last_from, last_of, Rises, NoneBetter}
 use Rattle.incumbent_board.specs.Words.{told_by}
 use Rattle.incumbent_board.specs.Boards.{BoardView, SeatView, offers_of, AreAllSeats, EndsWith}
-use Rattle.incumbent_board.specs.Rule.{ALL, sight, cell_of, Holds, Sees, Closes, longer, joined}
-use Rattle.incumbent_board.specs.Joins.{IsOfSeat, Begin, Joins}
+use Rattle.incumbent_board.specs.Rule.{ALL, sight, cell_of, FitsWords, Sees, Closes, longer, joined}
+use Rattle.incumbent_board.specs.Joins.{IsOfSeat, AreBeginnings, Joins}
 use Rattle.incumbent_board.proofs.Views.{same_items}
 use Rattle.incumbent_board.proofs.Histories.{all_left, all_right, first_seen, some_seen}
 use Rattle.incumbent_board.proofs.Shown.{told_last}
@@ -113,7 +113,7 @@ ended b rest one v w u words all is k (s, placed) =
     let cut : u.seen ≡ b.first ∷ later = cut_first u.seen begun ∙ ap (λ (y : Standing). y ∷ later) first in
     let rises : Rises b.first later = subst (λ (y : Standing). Rises y later) first s.0.rises in
     let answer : last_of u.seen ≡ told_by b.first words =
-    sym (ap (told_by b.first) s.0.cell ∙ ap (λ (y : Standing). told_by y (cell_of u.seen)) (sym first) ∙ told_last u.seen begun s.0.holds) in
+    sym (ap (told_by b.first) s.0.cell ∙ ap (λ (y : Standing). told_by y (cell_of u.seen)) (sym first) ∙ told_last u.seen begun s.0.fits) in
     let last : last_from b.first later ≡ told_by b.first words = ap last_of (sym cut) ∙ answer in
     let P : Standing → Type 0 = λ t. better t (told_by b.first words) ≡ false in
     let Q : SeatView → Type 0 = λ y. IsPrefix y.seen (b.first ∷ later) in

@@ -9,7 +9,7 @@ use Rattle.incumbent_board.specs.declared.offer.Offer.TheVariants.{Placed, Behin
 use Rattle.incumbent_board.specs.History.{first_of, last_of, IsHistory, MayStand}
 use Rattle.incumbent_board.specs.Words.{told_by}
 use Rattle.incumbent_board.specs.Offers.{Tells, ComesNext}
-use Rattle.incumbent_board.specs.Rule.{sight, cell_of, Holds, behind_with, Sees, Weighs, Places}
+use Rattle.incumbent_board.specs.Rule.{sight, cell_of, FitsWords, behind_with, Sees, Weighs, Places}
 use Rattle.incumbent_board.proofs.Histories.{prefix_more, prefix_trans, first_seen, some_seen}
 use Rattle.incumbent_board.proofs.Shown.{Shown, shown, is_history}
 

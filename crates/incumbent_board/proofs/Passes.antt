@@ -16,7 +16,7 @@ use Rattle.search_model.specs.Order.{better}
 use Rattle.incumbent_board.specs.declared.sight.Sight.{Sight}
 use Rattle.incumbent_board.specs.History.{last_of, NoneBetter}
 use Rattle.incumbent_board.specs.Words.{blank}
-use Rattle.incumbent_board.specs.Rule.{ALL, sight, spent, cell_of, Holds, Knows, IsKept, Closes, longer, joined}
+use Rattle.incumbent_board.specs.Rule.{ALL, sight, spent, cell_of, FitsWords, Knows, IsKept, Closes, longer, joined}
 use Rattle.incumbent_board.proofs.Views.{set_there, sum_set, sum_else, Each, each_set, each_push, lists_same, lists_push, lists_moved, lists_handed, lists_one, same_items}
 use Rattle.incumbent_board.proofs.Histories.{all_left, all_right, prefix_self, prefix_none, longer_prefix, longer_whole}
 use Rattle.incumbent_board.proofs.Steps.{sees}
@@ -104,7 +104,7 @@ starts s port v new x views h at =
     record {
       history = s ∷ [];
       rises = tt;
-      holds = All-nil (Holds s);
+      fits = All-nil (FitsWords s);
       cell = h.cell ∙ cell_alone h.history none;
       all = omega (arith, whole, h.all, sum_set (λ (y : Sight). y.seats) views port v spent at, sum_by-append (λ (y : Sight). y.seats) vs (w ∷ []));
       whole = (length vs, w, last_there vs w, refl);
@@ -122,7 +122,7 @@ deals port v two x views h at =
     record {
       history = h.history;
       rises = h.rises;
-      holds = h.holds;
+      fits = h.fits;
       cell = h.cell;
       all = omega (arith, two, h.all, sum_set (λ (y : Sight). y.seats) views port v l at, sum_by-append (λ (y : Sight). y.seats) vs (r ∷ []));
       whole = seen_push vs r h.history (seen_set views port v l h.history at refl h.whole);
@@ -142,7 +142,7 @@ cuts port v x views h at =
     record {
       history = h.history;
       rises = h.rises;
-      holds = h.holds;
+      fits = h.fits;
       cell = h.cell;
       all = omega (arith, h.all, sum_set (λ (y : Sight). y.seats) views port v spent at, sum_by-append (λ (y : Sight). y.seats) vs (v ∷ []), sum_by-cons (λ (y : Sight). y.seats) v []);
       whole = seen_handed views port v h.history at h.whole;
@@ -181,7 +181,7 @@ merges port v other w some_seat x views h at differ there =
     record {
       history = h.history;
       rises = h.rises;
-      holds = h.holds;
+      fits = h.fits;
       cell = h.cell;
       all = omega (arith, h.all, sum_set (λ (y : Sight). y.seats) views port v both at, sum_set (λ (y : Sight). y.seats) vs other w spent there);
       whole = kept h.whole;

@@ -17,7 +17,7 @@ use Rattle.search_model.proofs.Orders.{better_irreflexive}
 use Rattle.incumbent_board.specs.declared.sight.Sight.{Sight}
 use Rattle.incumbent_board.specs.History.{first_of, last_of, Rises, NoneBetter}
 use Rattle.incumbent_board.specs.Words.{words_of, blank}
-use Rattle.incumbent_board.specs.Rule.{ALL, sight, spent, cell_of, Holds, Knows, IsKept, Sees, Looks, behind_with, Weighs, Places, Tries, Closes, longer, joined}
+use Rattle.incumbent_board.specs.Rule.{ALL, sight, spent, cell_of, FitsWords, Knows, IsKept, Sees, Looks, behind_with, Weighs, Places, Tries, Closes, longer, joined}
 use Rattle.incumbent_board.proofs.Views.{set_there, sum_set, sum_one, sum_else, Each, each_set, each_push, lists_set, lists_same, lists_push, lists_moved, lists_handed, lists_none, lists_one, same_items}
 use Rattle.incumbent_board.proofs.Histories.{all_left, all_right, prefix_self, prefix_none, prefix_more, longer_prefix, longer_whole, last_push, first_push, later_push, cell_push, rises_push, first_seen, some_seen, none_better_on, last_seen}
 
@@ -26,7 +26,7 @@ pub begins : IsKept blank (sight ALL [] [] [] [] ∷ [])
 begins = let v = sight ALL [] [] [] [] in record {
   history = [];
   rises = tt;
-  holds = All-nil (Holds (first_of []));
+  fits = All-nil (FitsWords (first_of []));
   cell = refl;
   all = refl;
   whole = (0, v, refl, refl);
@@ -50,7 +50,7 @@ sees port v x views behind some_seat h at best = let w = sight v.seats h.history
   record {
     history = h.history;
     rises = h.rises;
-    holds = h.holds;
+    fits = h.fits;
     cell = h.cell;
     all = omega (arith, sum_set (λ (y : Sight). y.seats) views port v w at, h.all);
     whole = (port, w, set_there views port v w at, refl);
@@ -66,7 +66,7 @@ sees port v x views behind some_seat h at best = let w = sight v.seats h.history
     seen = (h.each port v at).seen;
     told = (h.each port v at).told;
     rises = h.rises;
-    holds = h.holds;
+    fits = h.fits;
     cell = h.cell;
     best = best;
   },
@@ -96,7 +96,7 @@ weighs s port v some_seat x views h at =
     (w, k.0, (k.1, refl))
 
 -- a replace of what stands there by what is better
-replaces : (s : Standing) (port : ℕ) (v : Sight) (x : List ℕ) (views : List Sight) → 0 < v.seats → (h : IsKept x views) → get_elem? views port ≡ some v → 0 < length h.history → Holds (first_of h.history) s →
+replaces : (s : Standing) (port : ℕ) (v : Sight) (x : List ℕ) (views : List Sight) → 0 < v.seats → (h : IsKept x views) → get_elem? views port ≡ some v → 0 < length h.history → FitsWords (first_of h.history) s →
     IsTrue (better s (last_of h.history)) → let w = sight v.seats (h.history ++ s ∷ []) v.told (v.placed ++ s ∷ []) v.behind in IsKept (words_of s) (set views port w) × Places s v w
 replaces s port v x views some_seat h at begun fits up =
     let all = h.history ++ s ∷ [] in
@@ -114,7 +114,7 @@ replaces s port v x views some_seat h at begun fits up =
       record {
         history = all;
         rises = rises;
-        holds = rw (first, later) (All-append (Holds (first_of h.history)) (drop 1 h.history) (s ∷ []) h.holds (All-cons (Holds (first_of h.history)) s [] fits (All-nil (Holds (first_of h.history)))));
+        fits = rw (first, later) (All-append (FitsWords (first_of h.history)) (drop 1 h.history) (s ∷ []) h.fits (All-cons (FitsWords (first_of h.history)) s [] fits (All-nil (FitsWords (first_of h.history)))));
         cell = sym (cell_push h.history s begun);
         all = omega (arith, sum_set (λ (y : Sight). y.seats) views port v w at, h.all);
         whole = (port, w, set_there views port v w at, refl);
@@ -142,7 +142,7 @@ replaces s port v x views some_seat h at begun fits up =
       },
     )
 
-pub tries : (expected : List ℕ) (s : Standing) (port : ℕ) (v : Sight) → 0 < v.seats → 0 < length v.seen → Holds (first_of v.seen) s → expected ≡ cell_of v.seen → IsTrue (better s (last_of v.seen)) →
+pub tries : (expected : List ℕ) (s : Standing) (port : ℕ) (v : Sight) → 0 < v.seats → 0 < length v.seen → FitsWords (first_of v.seen) s → expected ≡ cell_of v.seen → IsTrue (better s (last_of v.seen)) →
     Turns IsKept port v (λ x. if pointwise nat_eq x expected then words_of s else x) (Tries expected s)
 tries expected s port v some_seat begun fits shown up x views h at = go (pointwise nat_eq x expected) refl
   where
@@ -150,7 +150,7 @@ tries expected s port v some_seat begun fits shown up x views h at = go (pointwi
     go true is =
         let seen = (h.each port v at).seen in
         let same : cell_of h.history ≡ cell_of v.seen = sym h.cell ∙ (bytes_decides x expected).0 is ∙ shown in
-        let last : last_of h.history ≡ last_of v.seen = last_seen v.seen h.history seen begun h.holds same in
+        let last : last_of h.history ≡ last_of v.seen = last_seen v.seen h.history seen begun h.fits same in
         let first : first_of h.history ≡ first_of v.seen = first_seen v.seen h.history seen begun in
         let k = replaces s port v x views some_seat h at (some_seen v.seen h.history seen begun) (rw first fits) (rw last up) in
         (sight v.seats (h.history ++ s ∷ []) v.told (v.placed ++ s ∷ []) v.behind, k.0, k.1)

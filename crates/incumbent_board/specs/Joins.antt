@@ -18,7 +18,7 @@ pub record IsOfSeat (s : SeatView) (v : Sight) : Type 0 where
   pub some : 0 < s.stands
 
 -- what a pass has seen and was told of are beginnings of a history
-pub record Begin (v : Sight) (history : List Standing) : Type 0 where
+pub record AreBeginnings (v : Sight) (history : List Standing) : Type 0 where
   pub seen : IsPrefix v.seen history
   pub told : All (λ seen. IsPrefix seen history) v.told
 
@@ -27,4 +27,4 @@ pub record Joins (v : Sight) (joined : List SeatView) (w : Sight) : Type 0 where
   pub seats : w.seats ≡ v.seats + sum_by (λ s. s.stands) joined
   pub placed : w.placed ≡ v.placed ++ flat_map (λ s. s.placed) joined
   pub behind : w.behind ≡ v.behind ++ flat_map (λ s. s.behind) joined
-  pub seen : (history : List Standing) → Begin w history → Begin v history × All (λ s. IsPrefix s.seen history) joined
+  pub seen : (history : List Standing) → AreBeginnings w history → AreBeginnings v history × All (λ s. IsPrefix s.seen history) joined

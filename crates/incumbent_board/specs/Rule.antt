@@ -29,7 +29,7 @@ cell_of (first ∷ []) = blank
 cell_of (first ∷ s ∷ later) = words_of (last_from s later)
 
 -- a standing that was placed: it may stand on the board, and its path fits 32 bytes
-pub record Holds (first s : Standing) : Type 0 where
+pub record FitsWords (first s : Standing) : Type 0 where
   pub stands : MayStand first s
   pub short : length s.path ≤ 32
   pub bytes : All (λ c. c < 256) s.path
@@ -46,7 +46,7 @@ pub record Knows (history : List Standing) (v : Sight) : Type 0 where
 pub record IsKept (words : List ℕ) (views : List Sight) : Type 0 where
   pub history : List Standing
   pub rises : Rises (first_of history) (drop 1 history)
-  pub holds : All (Holds (first_of history)) (drop 1 history)
+  pub fits : All (FitsWords (first_of history)) (drop 1 history)
   pub cell : words ≡ cell_of history
   -- the passes stand for all seats
   pub all : sum_by (λ v. v.seats) views ≡ ALL
@@ -61,7 +61,7 @@ pub record Sees (v : Sight) (words : List ℕ) (w : Sight) : Type 0 where
   pub seen : IsPrefix v.seen w.seen
   pub told : All (λ seen. IsPrefix seen w.seen) v.told
   pub rises : Rises (first_of w.seen) (drop 1 w.seen)
-  pub holds : All (Holds (first_of w.seen)) (drop 1 w.seen)
+  pub fits : All (FitsWords (first_of w.seen)) (drop 1 w.seen)
   pub cell : words ≡ cell_of w.seen
   pub best : NoneBetter (w.placed ++ w.behind) (last_of w.seen)
 

@@ -5,7 +5,7 @@ ghost use Rattle.crossbeam_utils.specs.Seq.{cell_view, IsSamePass};
 ghost use Rattle.search_model.specs.Order.{better};
 ghost use Rattle.incumbent_board.specs.History.{first_of, last_of};
 ghost use Rattle.incumbent_board.specs.Words.{words_of};
-ghost use Rattle.incumbent_board.specs.Rule.{ALL, sight, cell_of, joined as joined_lem, Holds, Looks, Weighs, Places, Closes};
+ghost use Rattle.incumbent_board.specs.Rule.{ALL, sight, cell_of, joined as joined_lem, FitsWords, Looks, Weighs, Places, Closes};
 
 use crate::sight::Sight;
 use crate::six_words::BLANK;
@@ -214,7 +214,7 @@ fn try_place_as<S: Offered, R: Wait>(
     requires picked { (expected ≡ S.expected) × (offer.now ≡ S.offer) }
     requires words { words ≡ words_of offer.now }
     requires seen { (0 < (cell_view place.old).seats) × (0 < length (cell_view place.old).seen) }
-    requires offer { Holds (first_of (cell_view place.old).seen) offer.now }
+    requires offer { FitsWords (first_of (cell_view place.old).seen) offer.now }
     requires shown { expected ≡ cell_of (cell_view place.old).seen }
     requires better { IsTrue (better offer.now (last_of (cell_view place.old).seen)) }
     ensures same { IsSamePass place.old place.new }
@@ -238,7 +238,7 @@ pub fn try_place<R: Wait>(
     requires cell { place.old.table_id ≡ cell.now.table.shared.table_id }
     requires words { words ≡ words_of offer.now }
     requires seen { (0 < (cell_view place.old).seats) × (0 < length (cell_view place.old).seen) }
-    requires offer { Holds (first_of (cell_view place.old).seen) offer.now }
+    requires offer { FitsWords (first_of (cell_view place.old).seen) offer.now }
     requires shown { expected ≡ cell_of (cell_view place.old).seen }
     requires better { IsTrue (better offer.now (last_of (cell_view place.old).seen)) }
     ensures same { IsSamePass place.old place.new }

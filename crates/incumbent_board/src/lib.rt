@@ -6,6 +6,7 @@
 mod board;
 mod cell;
 mod closing;
+mod laws;
 mod offer;
 mod seat;
 mod sending;
@@ -14,7 +15,7 @@ mod six_words;
 mod starting;
 
 pub use board::Board;
+pub use laws::{seats_stay, words_spell_standings};
 pub use offer::Offer;
 pub use seat::BoardSeat;
-pub use six_words::words_spell_standings;
 pub use sending::{sent_seat, shared_board};
