@@ -41,14 +41,14 @@ joins_more v w u done s k is = record {
   placed = longer_list (λ (y : SeatView). y.placed) v.placed w.placed u.placed k.placed is.placed;
   behind = longer_list (λ (y : SeatView). y.behind) v.behind w.behind u.behind k.behind is.behind;
   seen = λ history b. (
-    let P : List Standing → Type 0 = λ seen. IsPrefix seen history in
-    let told : All P ((w.seen ∷ w.told) ++ u.seen ∷ u.told) = b.told in
-    let first : All P (w.seen ∷ w.told) = all_left P (w.seen ∷ w.told) (u.seen ∷ u.told) told in
-    let second : All P (u.seen ∷ u.told) = all_right P (w.seen ∷ w.told) (u.seen ∷ u.told) told in
-    let old = k.seen history (record { seen = All-head P w.seen w.told first; told = All-tail P w.seen w.told first }) in
-    let Q : SeatView → Type 0 = λ y. IsPrefix y.seen history in
-    (old.0, All-append Q done (s ∷ []) old.1 (All-cons Q s [] (subst P is.seen (All-head P u.seen u.told second)) (All-nil Q)))
-  );
+      let P : List Standing → Type 0 = λ seen. IsPrefix seen history in
+      let told : All P ((w.seen ∷ w.told) ++ u.seen ∷ u.told) = b.told in
+      let first : All P (w.seen ∷ w.told) = all_left P (w.seen ∷ w.told) (u.seen ∷ u.told) told in
+      let second : All P (u.seen ∷ u.told) = all_right P (w.seen ∷ w.told) (u.seen ∷ u.told) told in
+      let old = k.seen history (record { seen = All-head P w.seen w.told first; told = All-tail P w.seen w.told first }) in
+      let Q : SeatView → Type 0 = λ y. IsPrefix y.seen history in
+      (old.0, All-append Q done (s ∷ []) old.1 (All-cons Q s [] (subst P is.seen (All-head P u.seen u.told second)) (All-nil Q)))
+      );
 }
   where
     longer_list : (f : SeatView → List Standing) (a b c : List Standing) → b ≡ a ++ flat_map f done → c ≡ f s → b ++ c ≡ a ++ flat_map f (done ++ s ∷ [])
@@ -131,7 +131,7 @@ ended b rest one v w u words all is k (s, placed) =
       };
       best = All-cons P b.first (flat_map (λ y. offers_of y) (rest ++ one ∷ [])) (subst (λ (y : Standing). better b.first y ≡ false) last (first_not_better b.first later rises)) (all_offers P (rest ++ one ∷ []) all_placed all_behind);
       known = subst (Contains (b.first ∷ flat_map (λ y. y.placed) (rest ++ one ∷ []))) last
-      (Contains-permutation (b.first ∷ later) (b.first ∷ flat_map (λ y. y.placed) (rest ++ one ∷ [])) (last_from b.first later) (IsPermutation-append_right (b.first ∷ []) later _ own) (last_there b.first later));
+          (Contains-permutation (b.first ∷ later) (b.first ∷ flat_map (λ y. y.placed) (rest ++ one ∷ [])) (last_from b.first later) (IsPermutation-append_right (b.first ∷ []) later _ own) (last_there b.first later));
     }
 
 -- the other seats are of the same cell

@@ -128,11 +128,11 @@ deals port v two x views h at =
       whole = seen_push vs r h.history (seen_set views port v l h.history at refl h.whole);
       placed = subst (IsPermutation (drop 1 h.history)) (sym (lists_push (λ (y : Sight). y.placed) vs r refl ∙ lists_same (λ (y : Sight). y.placed) views port v l at refl)) h.placed;
       each = each_push (Knows h.history) vs r (knows_seen h.history v.seen 1 mine.seen (omega arith)) (each_set (Knows h.history) views port l (record {
-          seen = mine.seen;
-          told = mine.told;
-          best = mine.best;
-          none = λ no. absurd (omega (arith, no, two));
-        }) h.each);
+        seen = mine.seen;
+        told = mine.told;
+        best = mine.best;
+        none = λ no. absurd (omega (arith, no, two));
+      }) h.each);
     }
 
 -- all that a pass knows is handed on
@@ -159,8 +159,8 @@ knows_joined history v w some_seat a b =
       seen = longer_prefix v.seen w.seen history a.seen b.seen;
       told = All-append Q (v.seen ∷ v.told) (w.seen ∷ w.told) (All-cons Q v.seen v.told a.seen a.told) (All-cons Q w.seen w.told b.seen b.told);
       best = All-append P (v.placed ++ w.placed) (v.behind ++ w.behind)
-      (All-append P v.placed w.placed (all_left P v.placed v.behind a.best) (all_left P w.placed w.behind b.best))
-      (All-append P v.behind w.behind (all_right P v.placed v.behind a.best) (all_right P w.placed w.behind b.best));
+          (All-append P v.placed w.placed (all_left P v.placed v.behind a.best) (all_left P w.placed w.behind b.best))
+          (All-append P v.behind w.behind (all_right P v.placed v.behind a.best) (all_right P w.placed w.behind b.best));
       none = λ no. absurd (omega (arith, no, some_seat));
     }
 

@@ -36,11 +36,11 @@ begins = let v = sight ALL [] [] [] [] in record {
   where
     only : (port : ℕ) (u : Sight) → get_elem? (sight ALL [] [] [] [] ∷ []) port ≡ some u → Knows [] u
     only zero u at = subst (λ (y : Sight). Knows [] y) (some-injective (sight ALL [] [] [] []) u at) (record {
-        seen = prefix_none [];
-        told = All-nil (λ (seen : List Standing). IsPrefix seen []);
-        best = All-nil (λ t. better t (last_of []) ≡ false);
-        none = λ no. absurd (omega (arith, no));
-      })
+      seen = prefix_none [];
+      told = All-nil (λ (seen : List Standing). IsPrefix seen []);
+      best = All-nil (λ t. better t (last_of []) ≡ false);
+      none = λ no. absurd (omega (arith, no));
+    })
     only (suc port) u at = absurd (some-ne-none u (sym at))
 
 -- a step that leaves the words: the whole history is seen, and the offers that are behind may be more
@@ -119,19 +119,19 @@ replaces s port v x views some_seat h at begun fits up =
         all = omega (arith, sum_set (λ (y : Sight). y.seats) views port v w at, h.all);
         whole = (port, w, set_there views port v w at, refl);
         placed = subst (λ (l : List Standing). IsPermutation l (flat_map (λ (y : Sight). y.placed) (set views port w))) (sym later)
-        (IsPermutation-trans _ _ _ (IsPermutation-append_left (s ∷ []) _ _ h.placed) (lists_set (λ (y : Sight). y.placed) views port v w (s ∷ []) at refl));
+            (IsPermutation-trans _ _ _ (IsPermutation-append_left (s ∷ []) _ _ h.placed) (lists_set (λ (y : Sight). y.placed) views port v w (s ∷ []) at refl));
         each = each_set (Knows all) views port w (record {
           seen = prefix_self all;
           told = λ k d below. prefix_more _ h.history (s ∷ []) (mine.told k d below);
           best = All-append P (v.placed ++ s ∷ []) v.behind (All-append P v.placed (s ∷ []) (all_left P v.placed v.behind parts) (All-cons P s [] own (All-nil P))) (all_right P v.placed v.behind parts);
           none = λ no. absurd (omega (arith, no));
         })
-        (λ j u e. let k = h.each j u e in record {
-          seen = prefix_more u.seen h.history (s ∷ []) k.seen;
-          told = λ i d below. prefix_more _ h.history (s ∷ []) (k.told i d below);
-          best = older (u.placed ++ u.behind) k.best;
-          none = k.none;
-        });
+            (λ j u e. let k = h.each j u e in record {
+              seen = prefix_more u.seen h.history (s ∷ []) k.seen;
+              told = λ i d below. prefix_more _ h.history (s ∷ []) (k.told i d below);
+              best = older (u.placed ++ u.behind) k.best;
+              none = k.none;
+            });
       },
       record {
         before = h.history;
