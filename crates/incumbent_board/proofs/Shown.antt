@@ -8,7 +8,8 @@ use Rattle.search_model.specs.declared.standing.Standing.{Standing}
 use Rattle.incumbent_board.specs.declared.sight.Sight.{Sight}
 use Rattle.incumbent_board.specs.History.{first_of, last_from, last_of, Rises, IsHistory, NoneBetter, MayStand}
 use Rattle.incumbent_board.specs.Words.{words_of, spelled_by, blank, told_by}
-use Rattle.incumbent_board.specs.Rule.{cell_of, FitsWords, Sees, Places}
+use Rattle.incumbent_board.specs.Offers.{Shows}
+use Rattle.incumbent_board.specs.Rule.{cell_of, FitsWords, Sees, Looks}
 use Rattle.incumbent_board.proofs.Packing.{standing_back}
 use Rattle.incumbent_board.proofs.Histories.{prefix_trans, first_seen, some_seen, last_fits, words_not_blank}
 
@@ -55,6 +56,16 @@ shown first v w words same some_seen_before k =
       stands = λ small. subst (λ (s : Standing). MayStand s (last_of w.seen)) is (last_stands w.seen begun (subst (λ (s : Standing). s.value < 2 ^ 127) (sym is) small) k.fits);
     }
 
--- the same standings, none of which is better than the same standing
-pub none_better_as : (ts us : List Standing) (s t : Standing) → ts ≡ us → s ≡ t → NoneBetter ts s → NoneBetter us t
-none_better_as ts us s t e f none = subst (λ (l : List Standing). NoneBetter l t) e (subst (NoneBetter ts) f none)
+-- a look
+pub shows : (first answer : Standing) (v w : Sight) (words : List ℕ) → first_of v.seen ≡ first → 0 < length v.seen → first.value < 2 ^ 127 → Looks v words words w → answer ≡ told_by first words → Shows first v answer w
+shows first answer v w words same some_seen_before small (k, after) is =
+    let facts = shown first v w words same some_seen_before k in
+    let last : answer ≡ last_of w.seen = is ∙ facts.last in
+    let offers : w.placed ++ w.behind ≡ v.placed ++ v.behind = ap (λ (y : Sight). y.placed ++ y.behind) after in record {
+      offers = (ap (λ (y : Sight). y.seats) after, ap (λ (y : Sight). y.told) after, ap (λ (y : Sight). y.placed) after, ap (λ (y : Sight). y.behind) after);
+      seen = k.seen;
+      history = facts.history;
+      last = last;
+      stands = subst (MayStand first) (sym last) (facts.stands small);
+      best = subst (λ (l : List Standing). NoneBetter l answer) offers (subst (NoneBetter (w.placed ++ w.behind)) (sym last) k.best);
+    }
