@@ -1,5 +1,5 @@
 -- The passes of all seats, joined, know the whole history.
-use Rattle.std.proofs.Common.{◌≡◌, ◌⊎◌, ℕ, ◌+◌, ◌<◌, Bool, true, false, IsTrue, List, [], ◌∷◌, ◌++◌, length, drop, sym, refl, ap, ◌∙◌, subst, append_assoc, arith, All, Contains, IsPermutation, sum_by}
+use Rattle.std.proofs.Common.{◌≡◌, ℕ, ◌<◌, false, List, [], ◌∷◌, ◌++◌, length, drop, sym, refl, ap, ◌∙◌, subst, append_assoc, arith, All, Contains, IsPermutation}
 use Rattle.std.specs.List.{flat_map}
 use Rattle.std.proofs.lemmas.List.{append-nil}
 use Rattle.std.proofs.lemmas.List.Sums.{sum_by-append, sum_by-cons}
@@ -16,8 +16,8 @@ use Rattle.incumbent_board.specs.declared.sight.Sight.{Sight}
 use Rattle.incumbent_board.specs.History.{first_of, last_from, last_of, Rises, NoneBetter}
 use Rattle.incumbent_board.specs.Words.{told_by}
 use Rattle.incumbent_board.specs.Boards.{BoardView, SeatView, offers_of, AreAllSeats, EndsWith}
-use Rattle.incumbent_board.specs.Rule.{ALL, sight, cell_of, FitsWords, Sees, Closes, longer, joined}
-use Rattle.incumbent_board.specs.Joins.{IsOfSeat, AreBeginnings, Joins}
+use Rattle.incumbent_board.specs.Rule.{ALL, cell_of, Closes, joined}
+use Rattle.incumbent_board.specs.Joins.{IsOfSeat, Joins}
 use Rattle.incumbent_board.proofs.Views.{same_items}
 use Rattle.incumbent_board.proofs.Histories.{all_left, all_right, first_seen, some_seen}
 use Rattle.incumbent_board.proofs.Shown.{told_last}

@@ -1,5 +1,5 @@
 -- Histories and their beginnings.
-use Rattle.std.proofs.Common.{◌≡◌, ⊎_elim, ◌⊎◌, inl, inr, ℕ, ◌+◌, ◌/◌, ◌%◌, ◌^◌, ◌-◌, ◌<◌, ◌≤◌, Bool, true, false, IsTrue, if◌then◌else◌, nat_lt, List, [], ◌∷◌, ◌++◌, length, take, drop, get_or, slice_index_or, sym, refl, ap, ◌∙◌, subst, append_assoc, arith, All, length-append, ltb-true, ltb-false}
+use Rattle.std.proofs.Common.{◌≡◌, ⊎_elim, ◌⊎◌, ℕ, ◌/◌, ◌^◌, ◌-◌, ◌<◌, ◌≤◌, Bool, true, false, IsTrue, if◌then◌else◌, nat_lt, List, [], ◌∷◌, ◌++◌, length, drop, get_or, slice_index_or, sym, refl, ap, ◌∙◌, subst, append_assoc, arith, All, length-append, ltb-true, ltb-false}
 use Rattle.std.proofs.Math.Seq.{take-append_seam, drop-append_seam}
 use Rattle.std.proofs.lemmas.List.{append-nil, nil_from_length}
 use Rattle.std.proofs.lemmas.List.Elements.{All-head, All-tail, All-take, All-drop}
@@ -7,7 +7,7 @@ use mathlib.Core.List.{IsPrefix}
 use Rattle.search_model.specs.declared.standing.Standing.{Standing}
 use Rattle.search_model.specs.Order.{better}
 use Rattle.search_model.proofs.Orders.{better_one_way, better_order}
-use Rattle.incumbent_board.specs.History.{first_of, last_from, last_of, Rises, NoneBetter, MayStand}
+use Rattle.incumbent_board.specs.History.{first_of, last_from, last_of, Rises, NoneBetter}
 use Rattle.incumbent_board.specs.Words.{words_of, spelled_by, blank}
 use Rattle.incumbent_board.specs.Rule.{cell_of, FitsWords, longer}
 use Rattle.incumbent_board.proofs.Packing.{standing_back}

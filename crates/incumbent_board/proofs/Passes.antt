@@ -1,5 +1,5 @@
 -- What passes hand on to each other keeps the rule of the cell, and a pass that stands for all seats knows all offers.
-use Rattle.std.proofs.Common.{◌≡◌, ◌≢◌, ◌⊎◌, inl, inr, ⊎_elim, ℕ, ◌+◌, ◌-◌, ◌<◌, List, [], ◌∷◌, ◌++◌, length, drop, set, sym, refl, ap, ◌∙◌, subst, arith, All, false, IsPermutation, sum_by}
+use Rattle.std.proofs.Common.{◌≡◌, ◌≢◌, ◌⊎◌, inl, inr, ⊎_elim, ℕ, ◌-◌, ◌<◌, List, [], ◌∷◌, ◌++◌, length, drop, set, sym, refl, ap, ◌∙◌, subst, arith, false, IsPermutation}
 use Rattle.std.specs.List.{flat_map}
 use Rattle.std.proofs.lemmas.Bool.{cases_order}
 use Rattle.std.proofs.lemmas.List.{nil_from_length}
@@ -14,9 +14,9 @@ use Rattle.crossbeam_utils.specs.Register.{Turns, Forks, Merges}
 use Rattle.search_model.specs.declared.standing.Standing.{Standing}
 use Rattle.search_model.specs.Order.{better}
 use Rattle.incumbent_board.specs.declared.sight.Sight.{Sight}
-use Rattle.incumbent_board.specs.History.{last_of, NoneBetter}
+use Rattle.incumbent_board.specs.History.{last_of}
 use Rattle.incumbent_board.specs.Words.{blank}
-use Rattle.incumbent_board.specs.Rule.{ALL, sight, spent, cell_of, FitsWords, Knows, IsKept, Closes, longer, joined}
+use Rattle.incumbent_board.specs.Rule.{ALL, sight, spent, cell_of, FitsWords, Knows, IsKept, Closes, joined}
 use Rattle.incumbent_board.proofs.Views.{set_there, sum_set, sum_else, Each, each_set, each_push, lists_same, lists_push, lists_moved, lists_handed, lists_one, same_items}
 use Rattle.incumbent_board.proofs.Histories.{all_left, all_right, prefix_self, prefix_none, longer_prefix, longer_whole}
 use Rattle.incumbent_board.proofs.Steps.{sees}

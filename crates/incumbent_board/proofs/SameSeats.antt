@@ -1,7 +1,7 @@
 -- All seats of a board, at a later time.
-use Rattle.std.proofs.Common.{◌≡◌, ℕ, suc, ◌+◌, ◌<◌, List, [], ◌∷◌, length, slice_index_or, refl, ◌∙◌, arith, sum_by}
+use Rattle.std.proofs.Common.{◌≡◌, ℕ, suc, ◌<◌, List, [], ◌∷◌, length, slice_index_or, refl, ◌∙◌, arith, sum_by}
 use Rattle.std.proofs.lemmas.List.Sums.{sum_by-cons}
-use Rattle.incumbent_board.specs.Boards.{BoardView, SeatView, IsSameSeat, AreAllSeats, SeatsStay}
+use Rattle.incumbent_board.specs.Boards.{SeatView, IsSameSeat, SeatsStay}
 
 abbrev AreSame : List SeatView → List SeatView → Type 0
 AreSame old new = (k : ℕ) (s : SeatView) → k < length new → IsSameSeat (slice_index_or old k s) (slice_index_or new k s)

@@ -1,7 +1,5 @@
 -- What a board shows by the words of its cell.
-use Rattle.std.proofs.Common.{◌≡◌, ℕ, ◌^◌, ◌<◌, Bool, true, false, inl, inr, if◌then◌else◌, nat_eq, List, [], ◌∷◌, ◌++◌, length, drop, sym, refl, ap, ◌∙◌, subst, arith, All}
-use Rattle.std.proofs.lemmas.Bool.{cases_Bool}
-use mathlib.Core.List.{IsPrefix}
+use Rattle.std.proofs.Common.{◌≡◌, ℕ, ◌^◌, ◌<◌, Bool, true, false, if◌then◌else◌, nat_eq, List, [], ◌∷◌, ◌++◌, length, drop, sym, refl, ap, ◌∙◌, subst, arith, All}
 use lib.Pointwise.{pointwise, bytes_decides}
 use Rattle.std.proofs.lemmas.List.Elements.{All-head, All-tail}
 use Rattle.search_model.specs.declared.standing.Standing.{Standing}
@@ -11,7 +9,7 @@ use Rattle.incumbent_board.specs.Words.{words_of, spelled_by, blank, told_by}
 use Rattle.incumbent_board.specs.Offers.{Shows}
 use Rattle.incumbent_board.specs.Rule.{cell_of, FitsWords, Sees, Looks}
 use Rattle.incumbent_board.proofs.Packing.{standing_back}
-use Rattle.incumbent_board.proofs.Histories.{prefix_trans, first_seen, some_seen, last_fits, words_not_blank}
+use Rattle.incumbent_board.proofs.Histories.{first_seen, some_seen, last_fits, words_not_blank}
 
 -- the cell tells the last standing
 pub told_last : (history : List Standing) → 0 < length history → All (FitsWords (first_of history)) (drop 1 history) → told_by (first_of history) (cell_of history) ≡ last_of history

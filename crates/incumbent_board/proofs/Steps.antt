@@ -1,25 +1,22 @@
 -- Each step at the cell keeps its rule.
-use Rattle.std.proofs.Common.{◌≡◌, ◌≢◌, ◌⊎◌, inl, inr, ⊎_elim, ℕ, zero, suc, ◌+◌, ◌-◌, ◌<◌, List, [], ◌∷◌, ◌++◌, length, drop, set, sym, refl, ap, ◌∙◌, subst, append_assoc, arith, All, Bool, true, false, IsTrue, if◌then◌else◌, nat_eq, MatchBool, IsPermutation, sum_by}
+use Rattle.std.proofs.Common.{◌≡◌, ℕ, zero, suc, ◌<◌, List, [], ◌∷◌, ◌++◌, length, drop, set, sym, refl, ap, ◌∙◌, subst, append_assoc, arith, All, Bool, true, false, IsTrue, if◌then◌else◌, nat_eq, MatchBool, IsPermutation}
 use Rattle.std.specs.List.{flat_map}
-use Rattle.std.proofs.lemmas.List.{append-nil, nil_from_length}
-use Rattle.std.proofs.lemmas.List.Sums.{sum_by-append, sum_by-cons}
 use Rattle.std.proofs.lemmas.List.Elements.{All-nil, All-cons, All-append}
-use Rattle.std.proofs.lemmas.List.Sorted.{IsPermutation-refl, IsPermutation-trans, IsPermutation-append_left, length_permutation}
+use Rattle.std.proofs.lemmas.List.Sorted.{IsPermutation-refl, IsPermutation-trans, IsPermutation-append_left}
 use mathlib.Core.Option.{some, some-injective, some-ne-none}
 use mathlib.Core.List.{IsPrefix}
 use lib.ListN.{get_elem?}
 use lib.Pointwise.{pointwise, bytes_decides}
-use Rattle.atomic_table.proofs.Lists.{at_set, set_else, at_last, at_longer}
-use Rattle.crossbeam_utils.specs.Register.{Turns, Forks, Merges}
+use Rattle.crossbeam_utils.specs.Register.{Turns}
 use Rattle.search_model.specs.declared.standing.Standing.{Standing}
 use Rattle.search_model.specs.Order.{better}
 use Rattle.search_model.proofs.Orders.{better_irreflexive}
 use Rattle.incumbent_board.specs.declared.sight.Sight.{Sight}
 use Rattle.incumbent_board.specs.History.{first_of, last_of, Rises, NoneBetter}
 use Rattle.incumbent_board.specs.Words.{words_of, blank}
-use Rattle.incumbent_board.specs.Rule.{ALL, sight, spent, cell_of, FitsWords, Knows, IsKept, Sees, Looks, behind_with, Weighs, Places, Tries, Closes, longer, joined}
-use Rattle.incumbent_board.proofs.Views.{set_there, sum_set, sum_one, sum_else, Each, each_set, each_push, lists_set, lists_same, lists_push, lists_moved, lists_handed, lists_none, lists_one, same_items}
-use Rattle.incumbent_board.proofs.Histories.{all_left, all_right, prefix_self, prefix_none, prefix_more, longer_prefix, longer_whole, last_push, first_push, later_push, cell_push, rises_push, first_seen, some_seen, none_better_on, last_seen}
+use Rattle.incumbent_board.specs.Rule.{ALL, sight, cell_of, FitsWords, Knows, IsKept, Sees, Looks, behind_with, Weighs, Places, Tries}
+use Rattle.incumbent_board.proofs.Views.{set_there, sum_set, each_set, lists_set, lists_same}
+use Rattle.incumbent_board.proofs.Histories.{all_left, all_right, prefix_self, prefix_none, prefix_more, last_push, first_push, later_push, cell_push, rises_push, first_seen, some_seen, none_better_on, last_seen}
 
 -- the first view, which stands for all seats
 pub begins : IsKept blank (sight ALL [] [] [] [] ∷ [])

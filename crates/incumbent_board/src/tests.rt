@@ -85,7 +85,11 @@ fn offer_and_look<R: Wait>(rt: &R, board: &Board, seat: &mut BoardSeat, place: u
     ensures { IsSameSeat seat.old seat.new }
 {
     for turn in 0..25 {
-        board.offer(rt, seat, standing(4 * turn + place, [place as u8, turn as u8]));
+        board.offer(
+            rt,
+            seat,
+            standing(4 * turn + place, [place as u8, turn as u8]),
+        );
         board.look(rt, seat);
     }
 }
@@ -97,9 +101,12 @@ fn offer_by_each<R: Threads + Wait + Sync>(rt: &R, board: &Board, seats: &mut [B
     ensures each { (k : ℕ) (s : SeatView) → k < length seats.new → IsSameSeat (slice_index_or seats.old k s) (slice_index_or seats.new k s) }
     ensures all { AreAllSeats board.now seats.new }
 {
-    thread::for_each_mut(rt, seats, 4, &|place, seat| {
-        offer_and_look(rt, board, seat, place as u64 % 4)
-    });
+    thread::for_each_mut(
+        rt,
+        seats,
+        4,
+        &|place, seat| { offer_and_look(rt, board, seat, place as u64 % 4) },
+    );
 }
 
 #[test]

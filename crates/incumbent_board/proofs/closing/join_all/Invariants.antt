@@ -1,7 +1,6 @@
 use Rattle.std.proofs.Common.{◌≡◌, ◌++◌}
 use Rattle.crossbeam_utils.specs.Seq.{cell_view, IsSamePass}
 use Rattle.incumbent_board.specs.Joins.{Joins}
-use Rattle.incumbent_board.proofs.Ends.{joins_more}
 use Rattle.incumbent_board.proofs.closing.join_all.Given as goal
 
 -- the seats so far are joined
