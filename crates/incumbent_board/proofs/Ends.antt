@@ -17,7 +17,7 @@ use Rattle.incumbent_board.specs.History.{first_of, last_from, last_of, Rises, N
 use Rattle.incumbent_board.specs.Words.{told_by}
 use Rattle.incumbent_board.specs.Boards.{BoardView, SeatView, offers_of, AreAllSeats, EndsWith}
 use Rattle.incumbent_board.specs.Rule.{ALL, cell_of, Closes, joined}
-use Rattle.incumbent_board.specs.Joins.{IsOfSeat, Joins}
+use Rattle.incumbent_board.specs.Joins.{IsOfSeat, Gathers}
 use Rattle.incumbent_board.proofs.Views.{same_items}
 use Rattle.incumbent_board.proofs.Histories.{all_left, all_right, first_seen, some_seen}
 use Rattle.incumbent_board.proofs.Shown.{told_last}
@@ -26,7 +26,7 @@ module _ {X A : Type 0} where
   flat_map_last : (f : X → List A) (xs : List X) (x : X) → flat_map f (xs ++ x ∷ []) ≡ flat_map f xs ++ f x
   flat_map_last f xs x = flat_map-append f xs (x ∷ []) ∙ ap (λ (l : List A). flat_map f xs ++ l) (append-nil (f x))
 
-pub joins_none : (v : Sight) → Joins v [] v
+pub joins_none : (v : Sight) → Gathers v [] v
 joins_none v = record {
   seats = omega arith;
   placed = sym (append-nil v.placed);
@@ -35,7 +35,7 @@ joins_none v = record {
 }
 
 -- and one more
-pub joins_more : (v w u : Sight) (done : List SeatView) (s : SeatView) → Joins v done w → IsOfSeat s u → Joins v (done ++ s ∷ []) (joined w u)
+pub joins_more : (v w u : Sight) (done : List SeatView) (s : SeatView) → Gathers v done w → IsOfSeat s u → Gathers v (done ++ s ∷ []) (joined w u)
 joins_more v w u done s k is = record {
   seats = omega (arith, k.seats, is.seats, sum_by-append (λ (y : SeatView). y.stands) done (s ∷ []), sum_by-cons (λ (y : SeatView). y.stands) s []);
   placed = longer_list (λ (y : SeatView). y.placed) v.placed w.placed u.placed k.placed is.placed;
@@ -91,18 +91,18 @@ all_of_both P f rest one a c all same e g each =
     subst (All P) (sym (flat_map_last f rest one)) (All-append P (flat_map f rest) (f one) (all_right P a (flat_map f rest) both) (subst (All P) g (all_left P a (flat_map f rest) both)))
 
 -- the joined pass stands for all seats
-sum_is : (b : BoardView) (rest : List SeatView) (one : SeatView) (v w : Sight) → AreAllSeats b (rest ++ one ∷ []) → IsOfSeat one v → Joins v rest w → w.seats ≡ ALL
+sum_is : (b : BoardView) (rest : List SeatView) (one : SeatView) (v w : Sight) → AreAllSeats b (rest ++ one ∷ []) → IsOfSeat one v → Gathers v rest w → w.seats ≡ ALL
 sum_is b rest one v w all is k = omega (arith, k.seats, is.seats, all.all, sum_by-append (λ (y : SeatView). y.stands) rest (one ∷ []), sum_by-cons (λ (y : SeatView). y.stands) one [])
 
 -- and placed what all placed
-own_placed : (rest : List SeatView) (one : SeatView) (v w : Sight) (later : List Standing) → IsOfSeat one v → Joins v rest w → IsPermutation later w.placed → IsPermutation later (flat_map (λ s. s.placed) (rest ++ one ∷ []))
+own_placed : (rest : List SeatView) (one : SeatView) (v w : Sight) (later : List Standing) → IsOfSeat one v → Gathers v rest w → IsPermutation later w.placed → IsPermutation later (flat_map (λ s. s.placed) (rest ++ one ∷ []))
 own_placed rest one v w later is k own =
     let f : SeatView → List Standing = λ y. y.placed in
     IsPermutation-trans _ _ _ (subst (IsPermutation later) k.placed own)
     (IsPermutation-trans _ _ _ (IsPermutation-append_comm v.placed (flat_map f rest))
     (same_items _ _ (ap (λ (l : List Standing). flat_map f rest ++ l) is.placed ∙ sym (flat_map_last f rest one))))
 
-pub ended : (b : BoardView) (rest : List SeatView) (one : SeatView) (v w u : Sight) (words : List ℕ) → AreAllSeats b (rest ++ one ∷ []) → IsOfSeat one v → Joins v rest w → Closes w words words u → Ended b (rest ++ one ∷ []) (told_by b.first words)
+pub ended : (b : BoardView) (rest : List SeatView) (one : SeatView) (v w u : Sight) (words : List ℕ) → AreAllSeats b (rest ++ one ∷ []) → IsOfSeat one v → Gathers v rest w → Closes w words words u → Ended b (rest ++ one ∷ []) (told_by b.first words)
 ended b rest one v w u words all is k (s, placed) =
     let begin = k.seen u.seen (record { seen = s.0.seen; told = s.0.told }) in
     let one_seen : IsPrefix one.seen u.seen = subst (λ (l : List Standing). IsPrefix l u.seen) is.seen begin.0.seen in

@@ -23,7 +23,7 @@ pub record AreBeginnings (v : Sight) (history : List Standing) : Type 0 where
   pub told : All (λ seen. IsPrefix seen history) v.told
 
 -- a pass that knew v knows, beside it, what some seats know
-pub record Joins (v : Sight) (joined : List SeatView) (w : Sight) : Type 0 where
+pub record Gathers (v : Sight) (joined : List SeatView) (w : Sight) : Type 0 where
   pub seats : w.seats ≡ v.seats + sum_by (λ s. s.stands) joined
   pub placed : w.placed ≡ v.placed ++ flat_map (λ s. s.placed) joined
   pub behind : w.behind ≡ v.behind ++ flat_map (λ s. s.behind) joined

@@ -15,6 +15,7 @@ use Rattle.incumbent_board.specs.Words.{words_of, blank}
 abbrev pub ALL : ℕ
 ALL = 16
 
+-- what a pass knows, part by part
 abbrev pub sight : ℕ → List Standing → List (List Standing) → List Standing → List Standing → Sight
 sight seats seen told placed behind = record { seats = seats; seen = seen; told = told; placed = placed; behind = behind }
 

@@ -177,6 +177,7 @@ pub fn look_at<R: Wait>(rt: &R, cell: &Cell, place: &mut Place) -> [u64; 6]
     cell.load_as::<LookStep, R>(rt, place)
 }
 
+// Loads the words for the offer that the call picks.
 fn weigh_as<S: Offered, R: Wait>(
     rt: &R,
     cell: &Cell,
@@ -202,6 +203,7 @@ pub fn weigh<R: Wait>(rt: &R, cell: &Cell, place: &mut Place, offer: &Standing) 
     weigh_as::<Brand, R>(rt, cell, place, offer)
 }
 
+// Tries to replace the words that the call picks by those of the offer that it picks.
 fn try_place_as<S: Offered, R: Wait>(
     rt: &R,
     cell: &Cell,

@@ -8,7 +8,8 @@ ghost use Rattle.incumbent_board.specs.Words.{words_of, spelled_by, eight_from};
 
 use search_model::{Path, Standing};
 
-/// The words of a board on which no offer was placed: no standing has them.
+/// The words of a board on which no offer was placed: no standing has them. A board isn't started with the words of its
+/// first standing, since only a step that may wait could tell the cell's rule that they are there.
 pub const BLANK: [u64; 6] = [u64::MAX; 6];
 
 // The positions, with zeros after the last.
