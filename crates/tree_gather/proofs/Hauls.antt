@@ -8,7 +8,7 @@ use Rattle.search_core.specs.Balance.{expected_of}
 use Rattle.search_core.proofs.Counts.{count_of-append}
 use Rattle.search_core.proofs.Children.{expected-append, prefixes-append}
 use Rattle.search_core.proofs.Reached.{standing_is}
-use Rattle.tree_gather.specs.Hauls.{Haul, IsHaulBalanced}
+use Rattle.tree_gather.specs.Hauls.{Haul, IsHaulBalanced, records_of, waiting_of}
 use Rattle.tree_gather.specs.Laws.{HaulsMeetEquation}
 
 three_lists : (q : List ℕ) (xs ys zs : List (List ℕ)) → count_of q (xs ++ ys ++ zs) ≡ count_of q xs + count_of q ys + count_of q zs
@@ -34,13 +34,13 @@ all_hauls p (h ∷ hs) q all =
     )
 
 pub hauls_meet_equation : HaulsMeetEquation
-hauls_meet_equation p hauls left all began put q =
-    let waiting : List (List ℕ) = flat_map (λ (h : Haul). h.waiting) hauls in
+hauls_meet_equation p left hauls all q =
+    let waiting : List (List ℕ) = waiting_of hauls in
     omega (
       arith,
-      all_hauls p hauls q all,
-      began q,
-      put q,
+      all_hauls p hauls q all.balanced,
+      all.began q,
+      all.put q,
       count_of-append q (flat_map (λ h. h.taken) hauls) left,
-      standing_is [] waiting (flat_map (λ h. h.records) hauls) q,
+      standing_is [] waiting (records_of hauls) q,
     )

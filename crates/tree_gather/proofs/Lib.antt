@@ -1,2 +1,3 @@
 pub mod Hauls
+pub mod Joined
 pub mod Sorted

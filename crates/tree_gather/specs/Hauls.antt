@@ -1,9 +1,11 @@
 -- What workers bring back, and its balance.
-use Rattle.std.specs.Prelude.{ℕ, List, ◌++◌}
+use Rattle.std.specs.Prelude.{ℕ, List, [], ◌∷◌, ◌++◌, map, All, Contains}
+use Rattle.std.specs.List.{flat_map}
 use Rattle.search_model.specs.declared.standing.Standing.{Standing}
 use Rattle.search_model.specs.Problem.{Problem}
 use Rattle.bound_tree.specs.declared.node.TreeNode.{TreeNode}
-use Rattle.bound_tree.specs.Accepts.{prefixes_of}
+use Rattle.bound_tree.specs.Accepts.{prefixes_of, IsGood}
+use Rattle.bound_tree.specs.Close.{IsExact, IsAtLeast, LetsBranch}
 use Rattle.search_core.specs.Counts.{SameItems}
 use Rattle.search_core.specs.Balance.{expected_of}
 
@@ -21,3 +23,35 @@ pub record Haul : Type 0 where
 -- what waits and what it put
 pub record IsHaulBalanced (p : Problem) (h : Haul) : Type 0 where
   pub same : SameItems (h.began ++ h.taken ++ expected_of p h.records) (prefixes_of h.records ++ h.waiting ++ h.put)
+
+-- a haul is sound for a search from a first standing: its last standing is exact and no worse than the first, its records
+-- are good in themselves under the last one, and none branches where the first one closes its prefix by a bound
+pub record IsHaulSound (p : Problem) (first : Standing) (h : Haul) : Type 0 where
+  pub exact : IsExact p h.last
+  pub up : IsAtLeast h.last first
+  pub good : All (IsGood p h.last) h.records
+  pub branches : LetsBranch p first h.records
+
+-- the records of some hauls, and what they leave waiting
+abbrev pub records_of : List Haul → List TreeNode
+records_of hauls = flat_map (λ h. h.records) hauls
+
+abbrev pub waiting_of : List Haul → List (List ℕ)
+waiting_of hauls = flat_map (λ h. h.waiting) hauls
+
+-- all prefixes that some hauls closed or leave waiting
+abbrev pub reached_by : List Haul → List (List ℕ)
+reached_by hauls = waiting_of hauls ++ prefixes_of (records_of hauls)
+
+-- these are all hauls of one search, among whom the tasks left were shared out again: each is balanced, the empty prefix
+-- and each of the tasks left are begun with once and nothing else is, and what all put is, up to order, what all took and
+-- what is left
+pub record AreAllHauls (p : Problem) (left : List (List ℕ)) (hauls : List Haul) : Type 0 where
+  pub balanced : All (IsHaulBalanced p) hauls
+  pub began : SameItems (flat_map (λ h. h.began) hauls) ([] ∷ left)
+  pub put : SameItems (flat_map (λ h. h.put) hauls) (flat_map (λ h. h.taken) hauls ++ left)
+
+-- the best of the standings that the hauls used last
+pub record IsBestLast (hauls : List Haul) (s : Standing) : Type 0 where
+  pub known : Contains (map (λ h. h.last) hauls) s
+  pub best : All (λ h. IsAtLeast s h.last) hauls

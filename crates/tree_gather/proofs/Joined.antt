@@ -1,0 +1,75 @@
+-- What all hauls of a search show together.
+use Rattle.std.proofs.Common.{◌≡◌, ℕ, List, [], ◌∷◌, length, subst, arith, All, length-append}
+use Rattle.std.proofs.lemmas.List.{length-map}
+use Rattle.std.proofs.lemmas.List.Elements.{All-nil, All-cons, All-append, All-head, All-tail, All-weaker, All-contains}
+use Rattle.std.proofs.lemmas.List.Sorted.{All-permutation}
+use Rattle.search_model.specs.declared.standing.Standing.{Standing}
+use Rattle.search_model.specs.Problem.{Problem, IsProblem}
+use Rattle.search_model.specs.Tracks.{whole_weight}
+use Rattle.search_model.proofs.Members.{Contains-map_cases}
+use Rattle.bound_tree.specs.declared.node.Kind.TheVariants.{Branch}
+use Rattle.bound_tree.specs.declared.node.TreeNode.{TreeNode}
+use Rattle.bound_tree.specs.declared.plan.Plan.{Plan}
+use Rattle.bound_tree.specs.Accepts.{prefixes_of, IsGood, Accepts}
+use Rattle.bound_tree.specs.Close.{IsClosed, IsExact, IsAtLeast, LetsBranch}
+use Rattle.bound_tree.proofs.Accepted.{accepted_plan_is_best}
+use Rattle.search_core.specs.Balance.{MeetsEquation}
+use Rattle.search_core.proofs.FromBounds.{good_at_least}
+use Rattle.search_core.proofs.Live.{balanced_is_live}
+use Rattle.search_core.proofs.Many.{distinct_live_are_many}
+use Rattle.tree_gather.specs.Hauls.{Haul, IsHaulSound, records_of, waiting_of, reached_by, IsBestLast}
+use Rattle.tree_gather.specs.Laws.{HaulsAreLive, WaitingHaulsHaveMore, DoneHaulsAreAccepted}
+use Rattle.tree_gather.proofs.Hauls.{hauls_meet_equation}
+use Rattle.tree_gather.proofs.Sorted.{gathered_is_accepted}
+
+-- what holds of each haul's records holds of all records
+all_records : (P : TreeNode → Type 0) (hauls : List Haul) → All (λ h. All P h.records) hauls → All P (records_of hauls)
+all_records P [] each = All-nil P
+all_records P (h ∷ hs) each =
+    let Q : Haul → Type 0 = λ h. All P h.records in
+    All-append P h.records (records_of hs) (All-head Q h hs each) (all_records P hs (All-tail Q h hs each))
+
+lets_branch : (p : Problem) (first : Standing) (hauls : List Haul) → All (IsHaulSound p first) hauls → LetsBranch p first (records_of hauls)
+lets_branch p first hauls sound =
+    let P : TreeNode → Type 0 = λ r. r.kind ≡ Branch → IsClosed p first r.prefix Branch in
+    let Q : Haul → Type 0 = λ h. All P h.records in
+    all_records P hauls (All-weaker (IsHaulSound p first) Q (λ h s. s.branches) hauls sound)
+
+pub hauls_are_live : HaulsAreLive
+hauls_are_live p first left hauls sound all each =
+    balanced_is_live p first [] (waiting_of hauls) (records_of hauls) sound (hauls_meet_equation p left hauls all) (lets_branch p first hauls each)
+
+pub waiting_hauls_have_more : WaitingHaulsHaveMore
+waiting_hauls_have_more p first left hauls sound all each some =
+    let live = hauls_are_live p first left hauls sound all each in
+    let prefix : TreeNode → List ℕ = λ r. r.prefix in
+    distinct_live_are_many p first (length (records_of hauls)) (reached_by hauls) live.0 live.1
+    (omega (arith, some, length-append (waiting_of hauls) (prefixes_of (records_of hauls)), length-map (records_of hauls) prefix))
+
+-- the best of the last standings is exact, and no worse than the first one
+pub best_is_sound : (p : Problem) (first best : Standing) (hauls : List Haul) → All (IsHaulSound p first) hauls → IsBestLast hauls best → IsExact p best × IsAtLeast best first
+best_is_sound p first best hauls sound b =
+    let found = Contains-map_cases (λ (h : Haul). h.last) hauls best b.known in
+    let last = All-contains (IsHaulSound p first) hauls found.0 sound found.1 in
+    (subst (IsExact p) found.2 last.exact, subst (λ s. IsAtLeast s first) found.2 last.up)
+
+-- each record is good in itself under it
+good_under_best : (p : Problem) (first best : Standing) (hauls : List Haul) → IsProblem p → All (IsHaulSound p first) hauls → All (λ h. IsAtLeast best h.last) hauls →
+    All (λ h. All (IsGood p best) h.records) hauls
+good_under_best p first best [] sound each least = All-nil (λ h. All (IsGood p best) h.records)
+good_under_best p first best (h ∷ hs) sound each least =
+    let P : Haul → Type 0 = λ h. All (IsGood p best) h.records in
+    let up : IsAtLeast best h.last = All-head (λ h. IsAtLeast best h.last) h hs least in
+    All-cons P h hs
+    (All-weaker (IsGood p h.last) (IsGood p best) (λ r good. good_at_least p h.last best r.prefix r.kind sound up good) h.records (All-head (IsHaulSound p first) h hs each).good)
+    (good_under_best p first best hs sound (All-tail (IsHaulSound p first) h hs each) (All-tail (λ h. IsAtLeast best h.last) h hs least))
+
+pub done_hauls_are_accepted : DoneHaulsAreAccepted
+done_hauls_are_accepted p first best left hauls tree sound all each none b gathered =
+    let equation : MeetsEquation p [] [] (records_of hauls) = subst (λ qs. MeetsEquation p [] qs (records_of hauls)) none (hauls_meet_equation p left hauls all) in
+    let plan : Plan = record { standing = best; weight = whole_weight p; tree = tree } in
+    let accepted : Accepts p plan =
+    gathered_is_accepted p (records_of hauls) tree sound equation gathered best (best_is_sound p first best hauls each b).0
+    (all_records (IsGood p best) hauls (good_under_best p first best hauls sound each b.best)) in
+    let P : TreeNode → Type 0 = λ r. r.kind ≡ Branch → IsClosed p first r.prefix Branch in
+    (accepted, accepted_plan_is_best p plan sound accepted, All-permutation P (records_of hauls) tree gathered.same (lets_branch p first hauls each))
