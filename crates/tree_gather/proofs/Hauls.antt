@@ -11,7 +11,7 @@ use Rattle.search_core.proofs.Reached.{standing_is}
 use Rattle.tree_gather.specs.Hauls.{Haul, IsHaulBalanced, records_of, waiting_of}
 use Rattle.tree_gather.specs.Laws.{HaulsMeetEquation}
 
-three_lists : (q : List ℕ) (xs ys zs : List (List ℕ)) → count_of q (xs ++ ys ++ zs) ≡ count_of q xs + count_of q ys + count_of q zs
+pub three_lists : (q : List ℕ) (xs ys zs : List (List ℕ)) → count_of q (xs ++ ys ++ zs) ≡ count_of q xs + count_of q ys + count_of q zs
 three_lists q xs ys zs = omega (arith, count_of-append q (xs ++ ys) zs, count_of-append q xs ys)
 
 all_hauls : (p : Problem) (hauls : List Haul) (q : List ℕ) → All (IsHaulBalanced p) hauls →
