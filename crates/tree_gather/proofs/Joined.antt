@@ -18,8 +18,7 @@ use Rattle.search_core.proofs.FromBounds.{good_at_least}
 use Rattle.search_core.proofs.Live.{balanced_is_live}
 use Rattle.search_core.proofs.Many.{distinct_live_are_many}
 use Rattle.tree_gather.specs.Hauls.{Haul, IsHaulSound, records_of, waiting_of, reached_by, IsBestLast}
-use Rattle.tree_gather.specs.Laws.{HaulsAreLive, WaitingHaulsHaveMore, DoneHaulsAreAccepted}
-use Rattle.tree_gather.proofs.Hauls.{hauls_meet_equation}
+use Rattle.tree_gather.specs.Laws.{EvenHaulsAreLive, WaitingHaulsHaveMore, DoneHaulsAreAccepted}
 use Rattle.tree_gather.proofs.Sorted.{gathered_is_accepted}
 
 -- what holds of each haul's records holds of all records
@@ -35,13 +34,13 @@ lets_branch p first hauls sound =
     let Q : Haul → Type 0 = λ h. All P h.records in
     all_records P hauls (All-weaker (IsHaulSound p first) Q (λ h s. s.branches) hauls sound)
 
-pub hauls_are_live : HaulsAreLive
-hauls_are_live p first left hauls sound all each =
-    balanced_is_live p first [] (waiting_of hauls) (records_of hauls) sound (hauls_meet_equation p left hauls all) (lets_branch p first hauls each)
+pub even_hauls_are_live : EvenHaulsAreLive
+even_hauls_are_live p first hauls sound even each =
+    balanced_is_live p first [] (waiting_of hauls) (records_of hauls) sound even (lets_branch p first hauls each)
 
 pub waiting_hauls_have_more : WaitingHaulsHaveMore
-waiting_hauls_have_more p first left hauls sound all each some =
-    let live = hauls_are_live p first left hauls sound all each in
+waiting_hauls_have_more p first hauls sound even each some =
+    let live = even_hauls_are_live p first hauls sound even each in
     let prefix : TreeNode → List ℕ = λ r. r.prefix in
     distinct_live_are_many p first (length (records_of hauls)) (reached_by hauls) live.0 live.1
     (omega (arith, some, length-append (waiting_of hauls) (prefixes_of (records_of hauls)), length-map (records_of hauls) prefix))
@@ -65,8 +64,8 @@ good_under_best p first best (h ∷ hs) sound each least =
     (good_under_best p first best hs sound (All-tail (IsHaulSound p first) h hs each) (All-tail (λ h. IsAtLeast best h.last) h hs least))
 
 pub done_hauls_are_accepted : DoneHaulsAreAccepted
-done_hauls_are_accepted p first best left hauls tree sound all each none b gathered =
-    let equation : MeetsEquation p [] [] (records_of hauls) = subst (λ qs. MeetsEquation p [] qs (records_of hauls)) none (hauls_meet_equation p left hauls all) in
+done_hauls_are_accepted p first best hauls tree sound even each none b gathered =
+    let equation : MeetsEquation p [] [] (records_of hauls) = subst (λ qs. MeetsEquation p [] qs (records_of hauls)) none even in
     let plan : Plan = record { standing = best; weight = whole_weight p; tree = tree } in
     let accepted : Accepts p plan =
     gathered_is_accepted p (records_of hauls) tree sound equation gathered best (best_is_sound p first best hauls each b).0

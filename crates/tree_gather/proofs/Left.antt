@@ -1,5 +1,5 @@
 -- The tasks that were left when all had stopped, given to one of the hauls.
-use Rattle.std.proofs.Common.{◌≡◌, ℕ, ◌+◌, List, [], ◌∷◌, ◌++◌, subst, sym, refl, arith, All, flat_map}
+use Rattle.std.proofs.Common.{◌≡◌, ℕ, ◌+◌, List, [], ◌∷◌, ◌++◌, refl, arith, All, flat_map}
 use Rattle.std.proofs.lemmas.List.Elements.{All-nil, All-cons, All-append, All-head, All-tail}
 use Rattle.search_model.specs.Problem.{Problem}
 use Rattle.search_model.specs.Legal.{IsLegal}
@@ -46,16 +46,6 @@ tasks_given p tasks h hs balanced began put =
         count_of-append q h.began others,
       );
       put = put;
-    }
-
--- the first of all hauls may go on with what it has
-pub gone_on : (p : Problem) (tasks : List (List ℕ)) (g h : Haul) (hs : List Haul) → AreAllHauls p tasks (g ∷ hs) → IsHaulBalanced p h →
-    h.began ≡ g.began → h.put ≡ g.put → h.taken ≡ g.taken → AreAllHauls p tasks (h ∷ hs)
-gone_on p tasks g h hs all balanced began put taken =
-    record {
-      balanced = All-cons (IsHaulBalanced p) h hs balanced (All-tail (IsHaulBalanced p) g hs all.balanced);
-      began = subst (λ qs. SameItems (qs ++ flat_map (λ (h : Haul). h.began) hs) ([] ∷ tasks)) (sym began) all.began;
-      put = rw (put, taken) all.put;
     }
 
 -- where what waits is legal, and nothing that is legal waits, nothing waits

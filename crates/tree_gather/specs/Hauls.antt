@@ -7,7 +7,7 @@ use Rattle.bound_tree.specs.declared.node.TreeNode.{TreeNode}
 use Rattle.bound_tree.specs.Accepts.{prefixes_of, IsGood}
 use Rattle.bound_tree.specs.Close.{IsExact, IsAtLeast, LetsBranch}
 use Rattle.search_core.specs.Counts.{SameItems}
-use Rattle.search_core.specs.Balance.{expected_of}
+use Rattle.search_core.specs.Balance.{expected_of, MeetsEquation}
 
 -- what a worker began with, the records that it made, the prefixes that it leaves waiting, the tasks that it put and those
 -- that it took, and the standing that it used last
@@ -43,13 +43,16 @@ waiting_of hauls = flat_map (λ h. h.waiting) hauls
 abbrev pub reached_by : List Haul → List (List ℕ)
 reached_by hauls = waiting_of hauls ++ prefixes_of (records_of hauls)
 
--- these are all hauls of one search, among whom the tasks left were shared out again: each is balanced, the empty prefix
--- and each of the tasks left are begun with once and nothing else is, and what all put is, up to order, what all took and
--- what is left
+-- these are all hauls of one search: each is balanced, the empty prefix and each of the tasks left are begun with once and
+-- nothing else is, and what all put is, up to order, what all took and what is left
 pub record AreAllHauls (p : Problem) (left : List (List ℕ)) (hauls : List Haul) : Type 0 where
   pub balanced : All (IsHaulBalanced p) hauls
   pub began : SameItems (flat_map (λ h. h.began) hauls) ([] ∷ left)
   pub put : SameItems (flat_map (λ h. h.put) hauls) (flat_map (λ h. h.taken) hauls ++ left)
+
+-- hauls meet Balance's equation together: nothing is pooled, and what waits is held
+abbrev pub AreEven : Problem → List Haul → Type 0
+AreEven p hauls = MeetsEquation p [] (waiting_of hauls) (records_of hauls)
 
 -- the best of the standings that the hauls used last
 pub record IsBestLast (hauls : List Haul) (s : Standing) : Type 0 where

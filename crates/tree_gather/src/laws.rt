@@ -1,20 +1,20 @@
 //! What the definitions say together.
 
-ghost use Rattle.tree_gather.specs.Laws.{HaulsMeetEquation, HaulsAreLive, WaitingHaulsHaveMore, DoneHaulsAreAccepted};
+ghost use Rattle.tree_gather.specs.Laws.{AllHaulsAreEven, EvenHaulsAreLive, WaitingHaulsHaveMore, DoneHaulsAreAccepted};
 
-/// What balanced hauls bring back together meets Balance's equation with nothing pooled.
-pub fn hauls_meet_equation()
-    ensures { HaulsMeetEquation }
+/// What all hauls of a search bring back meets Balance's equation, with nothing pooled.
+pub fn all_hauls_are_even()
+    ensures { AllHaulsAreEven }
 {}
 
-/// All that the hauls of a search closed or leave waiting is distinct, and live under its first standing; so where
+/// All that such hauls closed or leave waiting is distinct, and live under the first standing of the search; so where
 /// something waits there are more live prefixes than records.
-pub fn hauls_are_live()
-    ensures live { HaulsAreLive }
+pub fn even_hauls_are_live()
+    ensures live { EvenHaulsAreLive }
     ensures more { WaitingHaulsHaveMore }
 {}
 
-/// Where nothing waits, the records of all hauls are the tree of an accepted plan of the best standing that they used last.
+/// Where nothing waits, the records of such hauls are the tree of an accepted plan of the best standing that they used last.
 pub fn done_hauls_are_accepted()
     ensures { DoneHaulsAreAccepted }
 {}

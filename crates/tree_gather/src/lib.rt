@@ -7,4 +7,4 @@ mod laws;
 mod tests;
 
 pub use gathering::gather;
-pub use laws::{done_hauls_are_accepted, hauls_are_live, hauls_meet_equation};
+pub use laws::{all_hauls_are_even, done_hauls_are_accepted, even_hauls_are_live};
