@@ -1,0 +1,6 @@
+pub mod Desks
+pub mod Incumbents
+pub mod Rounds
+pub mod Seen
+pub mod Steps
+pub mod Workers

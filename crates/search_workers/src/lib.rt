@@ -1,0 +1,16 @@
+//! The workers of a search.
+#![tactic(auto)]
+
+mod closing;
+mod desk;
+mod gate;
+mod incumbent;
+mod left;
+mod rounds;
+mod stack;
+mod worker;
+
+pub use gate::{Gate, OpenGate};
+pub use left::Left;
+pub use rounds::ROUNDS;
+pub use worker::Worker;
