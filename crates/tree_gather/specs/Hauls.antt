@@ -39,16 +39,16 @@ records_of hauls = flat_map (λ h. h.records) hauls
 abbrev pub waiting_of : List Haul → List (List ℕ)
 waiting_of hauls = flat_map (λ h. h.waiting) hauls
 
--- all prefixes that some hauls closed or leave waiting
-abbrev pub reached_by : List Haul → List (List ℕ)
-reached_by hauls = waiting_of hauls ++ prefixes_of (records_of hauls)
-
 -- these are all hauls of one search: each is balanced, the empty prefix and each of the tasks left are begun with once and
 -- nothing else is, and what all put is, up to order, what all took and what is left
 pub record AreAllHauls (p : Problem) (left : List (List ℕ)) (hauls : List Haul) : Type 0 where
   pub balanced : All (IsHaulBalanced p) hauls
   pub began : SameItems (flat_map (λ h. h.began) hauls) ([] ∷ left)
   pub put : SameItems (flat_map (λ h. h.put) hauls) (flat_map (λ h. h.taken) hauls ++ left)
+
+-- what somebody brings back who has these tasks and does nothing with them
+abbrev pub idle_haul : Standing → List (List ℕ) → Haul
+idle_haul last tasks = record { began = tasks; records = []; waiting = tasks; put = []; taken = []; last = last }
 
 -- hauls meet Balance's equation together: nothing is pooled, and what waits is held
 abbrev pub AreEven : Problem → List Haul → Type 0
@@ -58,3 +58,13 @@ AreEven p hauls = MeetsEquation p [] (waiting_of hauls) (records_of hauls)
 pub record IsBestLast (hauls : List Haul) (s : Standing) : Type 0 where
   pub known : Contains (map (λ h. h.last) hauls) s
   pub best : All (λ h. IsAtLeast s h.last) hauls
+
+-- what the hauls of a search come to together: Balance's equation holds with nothing pooled and what waits held, the best
+-- standing is exact and no worse than the first, the records are good in themselves under it, and none branches where the
+-- first one closes its prefix by a bound
+pub record AreJoined (p : Problem) (first best : Standing) (waiting : List (List ℕ)) (closed : List TreeNode) : Type 0 where
+  pub even : MeetsEquation p [] waiting closed
+  pub exact : IsExact p best
+  pub up : IsAtLeast best first
+  pub good : All (IsGood p best) closed
+  pub branches : LetsBranch p first closed

@@ -1,20 +1,21 @@
 //! What the definitions say together.
 
-ghost use Rattle.tree_gather.specs.Laws.{AllHaulsAreEven, EvenHaulsAreLive, WaitingHaulsHaveMore, DoneHaulsAreAccepted};
+ghost use Rattle.tree_gather.specs.Laws.{AllHaulsAreEven, EvenHaulsAreJoined, JoinedAreLive, WaitingHaveMore, DoneAreAccepted};
 
-/// What all hauls of a search bring back meets Balance's equation, with nothing pooled.
-pub fn all_hauls_are_even()
-    ensures { AllHaulsAreEven }
+/// What all hauls of a search bring back meets Balance's equation, with nothing pooled, and is joined.
+pub fn all_hauls_are_joined()
+    ensures even { AllHaulsAreEven }
+    ensures joined { EvenHaulsAreJoined }
 {}
 
-/// All that such hauls closed or leave waiting is distinct, and live under the first standing of the search; so where
-/// something waits there are more live prefixes than records.
-pub fn even_hauls_are_live()
-    ensures live { EvenHaulsAreLive }
-    ensures more { WaitingHaulsHaveMore }
+/// All that was closed or waits is distinct, and live under the first standing of the search; so where something waits there
+/// are more live prefixes than records.
+pub fn joined_are_live()
+    ensures live { JoinedAreLive }
+    ensures more { WaitingHaveMore }
 {}
 
-/// Where nothing waits, the records of such hauls are the tree of an accepted plan of the best standing that they used last.
-pub fn done_hauls_are_accepted()
-    ensures { DoneHaulsAreAccepted }
+/// Where nothing waits, the records are the tree of an accepted plan of the best standing.
+pub fn done_are_accepted()
+    ensures { DoneAreAccepted }
 {}

@@ -7,4 +7,4 @@ mod laws;
 mod tests;
 
 pub use gathering::gather;
-pub use laws::{all_hauls_are_even, done_hauls_are_accepted, even_hauls_are_live};
+pub use laws::{all_hauls_are_joined, done_are_accepted, joined_are_live};

@@ -1,5 +1,0 @@
-use Rattle.tree_gather.proofs.Joined.{done_hauls_are_accepted}
-use Rattle.tree_gather.proofs.laws.done_hauls_are_accepted.Goals as goal
-
-pub returns : goal.returns
-returns c = done_hauls_are_accepted
