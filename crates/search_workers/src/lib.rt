@@ -2,10 +2,12 @@
 #![tactic(auto)]
 
 mod closing;
+mod crew;
 mod desk;
 mod gate;
 mod incumbent;
 mod left;
+mod muster;
 mod rounds;
 mod stack;
 mod worker;
