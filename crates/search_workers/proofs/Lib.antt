@@ -1,0 +1,5 @@
+mod Recorded
+pub mod Rooms
+mod Shared
+mod Standings
+mod Told

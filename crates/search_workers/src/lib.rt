@@ -1,12 +1,14 @@
 //! The workers of a search.
 #![tactic(auto)]
 
+mod children;
 mod closing;
 mod desk;
 mod gate;
 mod incumbent;
 mod left;
 mod rounds;
+mod run;
 mod stack;
 mod worker;
 
