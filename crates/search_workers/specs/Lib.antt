@@ -1,3 +1,4 @@
+pub mod Children
 pub mod Crew
 pub mod Desks
 pub mod Incumbents
@@ -5,4 +6,5 @@ pub mod Rounds
 pub mod Runs
 pub mod Seen
 pub mod Steps
+pub mod Turns
 pub mod Workers

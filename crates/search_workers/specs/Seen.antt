@@ -1,6 +1,9 @@
 -- How contracts see a desk.
+use Rattle.std.specs.Prelude.{ℕ, List}
+use Rattle.steal_pool.specs.Kits.{KitView}
 use Rattle.search_workers.specs.declared.desk.Desk.{Desk}
 use Rattle.search_workers.specs.Desks.{DeskView}
+use Rattle.search_workers.specs.Workers.{WorkerView}
 
 abbrev pub desk_view : Desk → DeskView
 desk_view d = record {
@@ -12,3 +15,7 @@ desk_view d = record {
   tables = d.scratch;
   belief = d.incumbent.belief;
 }
+
+-- a kit and a desk, as contracts see a worker
+abbrev pub worker_view : KitView (List ℕ) → Desk → WorkerView
+worker_view kit desk = record { kit = kit; desk = desk_view desk }

@@ -1,9 +1,11 @@
 //! Closing a prefix at a desk.
 
-ghost use Rattle.std.specs.Prelude.{◌≡◌, ◌<◌, length, All};
+ghost use Rattle.std.specs.Prelude.{◌≡◌, ◌<◌, length, vec_len, vec_capacity, All, Contains};
 ghost use Rattle.search_model.specs.Legal.{IsLegal};
 ghost use Rattle.node_tickets.specs.Seats.{IsSeatOf as IsTicketOf, MayDraw};
-ghost use Rattle.incumbent_board.specs.Boards.{IsSeatOf};
+ghost use Rattle.incumbent_board.specs.Boards.{IsSeatOf, IsSameSeat};
+ghost use Rattle.bound_tree.specs.Close.{IsExact};
+ghost use Rattle.path_node.specs.Room.{IsMadeFor};
 ghost use Rattle.search_workers.specs.Desks.{IsInOrder, IsSameDesk};
 ghost use Rattle.search_workers.specs.Seen.{desk_view};
 
@@ -28,7 +30,8 @@ pub enum Closing {
 }
 
 impl Desk {
-    ghost use Rattle.search_workers.specs.Steps.{Closes};
+    ghost use Rattle.search_workers.specs.Steps.{Closes, MakesRecord};
+    ghost use Rattle.search_workers.specs.Incumbents.{told_to};
 
     /// Closes the last prefix of the private stack: makes room for the record, looks at the board, draws a number, and
     /// closes the prefix under the standing in use; a path that is better takes that standing's place, and is offered.
@@ -43,6 +46,7 @@ impl Desk {
         requires ticket { IsTicketOf tickets.now self.old.ticket }
         requires may { MayDraw self.old.ticket }
         requires seat { IsSeatOf board.now self.old.incumbent.seat }
+        requires first { IsExact sc.now board.now.first }
         requires order { IsInOrder sc.now board.now.first (desk_view self.old) }
         requires some { 0 < length self.old.stack }
         requires legal { All (IsLegal sc.now) self.old.stack }
@@ -63,7 +67,22 @@ impl Desk {
 
     // Makes the record of the last prefix of the private stack, for which there is room.
     fn record_last<R: Wait>(&mut self, rt: &R, sc: &Scenario, board: &Board) -> Closing
+        requires seat { IsSeatOf board.now self.old.incumbent.seat }
+        requires first { IsExact sc.now board.now.first }
+        requires exact { IsExact sc.now self.old.incumbent.standing }
+        requires tables { IsMadeFor sc.now self.old.scratch }
+        requires some { 0 < length self.old.stack }
+        requires legal { All (IsLegal sc.now) self.old.stack }
+        requires room { vec_len self.old.records < vec_capacity self.old.records }
+        ensures records { MakesRecord sc.now (desk_view self.old) result (desk_view self.new) }
+        ensures ticket { self.new.ticket ≡ self.old.ticket }
+        ensures seat { IsSameSeat self.old.incumbent.seat self.new.incumbent.seat }
+        ensures looks { (self.new.incumbent.seat.looks ≡ self.old.incumbent.seat.looks) × (self.new.incumbent.seat.shown ≡ self.old.incumbent.seat.shown) }
+        ensures told { Contains (told_to self.old.incumbent.seat) self.old.incumbent.standing → Contains (told_to self.new.incumbent.seat) self.new.incumbent.standing }
+        ensures tables { IsMadeFor sc.now self.new.scratch }
+        ensures belief { self.new.incumbent.belief ≡ self.old.incumbent.belief }
     {
+        let _sound = sc.cells();
         let Some(prefix) = self.stack.pop() else {
             unreachable!()
         };

@@ -1,6 +1,7 @@
 //! The workers of a search.
 #![tactic(auto)]
 
+mod children;
 mod closing;
 mod crew;
 mod desk;
@@ -9,6 +10,7 @@ mod incumbent;
 mod left;
 mod muster;
 mod rounds;
+mod run;
 mod stack;
 mod worker;
 

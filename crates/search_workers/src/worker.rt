@@ -10,6 +10,7 @@ ghost use Rattle.incumbent_board.specs.Boards.{IsNewSeat, IsSeatOf};
 use crate::desk::Desk;
 use crate::gate::Gate;
 use crate::left::Left;
+use crate::run::run;
 use exact_parts::NoMemory;
 use incumbent_board::{Board, BoardSeat};
 use node_tickets::{TicketSeat, Tickets};
@@ -81,6 +82,7 @@ impl Worker {
         requires ticket { IsTicketOf tickets.now self.old.desk.ticket }
         requires may { MayDraw self.old.desk.ticket }
         requires seat { IsSeatOf board.now self.old.desk.seat }
+        requires first { IsExact sc.now board.now.first }
         requires ready { IsReady sc.now board.now.first self.old }
         ensures { Went sc.now board.now.first self.old result self.new }
     {
