@@ -1,5 +1,5 @@
 -- The workers of a search together: before they go, and when all have left.
-use Rattle.std.specs.Prelude.{◌≡◌, ℕ, List, map, All, Contains}
+use Rattle.std.specs.Prelude.{◌≡◌, List, map, All, Any}
 use Rattle.search_model.specs.declared.standing.Standing.{Standing}
 use Rattle.search_model.specs.Problem.{Problem}
 use Rattle.steal_pool.specs.Pools.{IsWhole}
@@ -34,7 +34,7 @@ pub record HasGone (p : Problem) (first : Standing) (m : Member) : Type 0 where
 
 -- some worker left so
 abbrev pub SomeLeft : List Member → Left → Type 0
-SomeLeft crew left = (m : Member) × Contains crew m × (m.left ≡ left)
+SomeLeft crew left = Any (λ m. m.left ≡ left) crew
 
 -- how the workers left together: without memory where one found none, else full where one drew a number that isn't below
 -- the limit, else idle

@@ -7,6 +7,7 @@ mod crew;
 mod desk;
 mod gate;
 mod incumbent;
+mod joins;
 mod left;
 mod muster;
 mod rounds;
