@@ -1,3 +1,6 @@
+mod Balanced
+mod Disposed
+mod Ready
 mod Recorded
 pub mod Rooms
 mod Shared
