@@ -1,5 +1,8 @@
+mod Balanced
+mod Disposed
 pub mod Gone
 pub mod Mustered
+mod Ready
 mod Recorded
 pub mod Rooms
 mod Shared

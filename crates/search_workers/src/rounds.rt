@@ -1,6 +1,6 @@
 //! Taking a task from the pool.
 
-ghost use Rattle.std.specs.Prelude.{◌≡◌, ◌-◌, ◌*◌, length, IfSome, IfNone};
+ghost use Rattle.std.specs.Prelude.{◌≡◌, ◌-◌, ◌*◌, ◌≤◌, length, IfSome, IfNone};
 ghost use Rattle.steal_pool.specs.Kits.{TookOne};
 ghost use Rattle.search_workers.specs.Rounds.{MissedAll, others};
 
@@ -47,6 +47,7 @@ fn take_in_round(kit: &mut Kit<Path>) -> Option<Path>
 pub fn take_task<G: Gate>(kit: &mut Kit<Path>, gate: &G) -> Option<Path>
     ensures got { IfSome result (λ task. TookOne kit.old task kit.new) }
     ensures none { IfNone result (MissedAll kit.old (1024 * others kit.old) kit.new) }
+    ensures misses { IfNone result (1024 * others kit.new ≤ kit.new.misses) }
 {
     let place = kit.place();
     for round in 0..ROUNDS {

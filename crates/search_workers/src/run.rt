@@ -41,7 +41,36 @@ fn has_work<G: Gate>(kit: &mut Kit<Path>, stack: &mut Stack, sc: &Scenario, gate
     sc.is_legal(&task)
 }
 
-// Closes a prefix and disposes of its children, and tells the gate; or says why the worker leaves.
+// Closes the last prefix of the private stack and disposes of its children, or says why the worker leaves.
+fn step<R: Wait>(
+    kit: &mut Kit<Path>,
+    desk: &mut Desk,
+    rt: &R,
+    sc: &Scenario,
+    tickets: &Tickets,
+    board: &Board,
+) -> Option<Left>
+    requires ticket { IsTicketOf tickets.now desk.old.ticket }
+    requires may { MayDraw desk.old.ticket }
+    requires seat { IsSeatOf board.now desk.old.incumbent.seat }
+    requires first { IsExact sc.now board.now.first }
+    requires ready { IsReady sc.now board.now.first (worker_view kit.old desk.old) }
+    requires some { 0 < length desk.old.stack }
+    ensures { Turns sc.now board.now.first (worker_view kit.old desk.old) result (worker_view kit.new desk.new) }
+{
+    let _sound = sc.cells();
+    match desk.close_last(rt, sc, tickets, board) {
+        Closing::Branches(prefix) => {
+            dispose(kit, &mut desk.stack, sc, &prefix);
+            None
+        }
+        Closing::Ends => None,
+        Closing::Full => Some(Left::Full),
+        Closing::NoMemory => Some(Left::NoMemory),
+    }
+}
+
+// A step, where there is work, after which the gate is told; or why the worker leaves.
 fn turn<R: Wait, G: Gate>(
     kit: &mut Kit<Path>,
     desk: &mut Desk,
@@ -61,14 +90,11 @@ fn turn<R: Wait, G: Gate>(
     if !has_work(kit, &mut desk.stack, sc, gate) {
         return Some(Left::Idle);
     }
-    match desk.close_last(rt, sc, tickets, board) {
-        Closing::Branches(prefix) => dispose(kit, &mut desk.stack, sc, &prefix),
-        Closing::Ends => {}
-        Closing::Full => return Some(Left::Full),
-        Closing::NoMemory => return Some(Left::NoMemory),
+    let left = step(kit, desk, rt, sc, tickets, board);
+    if left.is_none() {
+        gate.turn(kit.place(), desk.records.len() as u64);
     }
-    gate.turn(kit.place(), desk.records.len() as u64);
-    None
+    left
 }
 
 /// Takes turns until the worker leaves.
