@@ -25,6 +25,13 @@ zip_from R [] (y ∷ ys) many each = absurd (omega arith)
 zip_from R (x ∷ xs) [] many each = absurd (omega arith)
 zip_from R (x ∷ xs) (y ∷ ys) many each = (each 0 x (omega arith), zip_from R xs ys (omega (arith, many)) (λ i m l. each (suc i) m (omega (arith, l))))
 
+-- a seat of the same tickets is one of theirs, and so it is with a seat of the board
+pub ticket_same : (t : TicketsView) (old new : TicketView) → (new.tickets ≡ old.tickets) × (new.limit ≡ old.limit) → IsTicketOf t old → IsTicketOf t new
+ticket_same t old new same is = rw (same.0, same.1) is
+
+pub seat_same : (b : BoardView) (old new : SeatView) → new.board ≡ old.board → IsSeatOf b old → IsSeatOf b new
+seat_same b old new same is = rw same is
+
 module _ (p : Problem) (first : Standing) where
   abbrev AllRun : List Member → List Member → Type 0
   AllRun old new = AllZip (Runs p first) old new
@@ -40,13 +47,6 @@ module _ (p : Problem) (first : Standing) where
         ap (λ (k : KitView (List ℕ)). k.place) (sym two) ∙ same.place ∙ ap (λ (k : KitView (List ℕ)). k.place) one,
       )
   places_kept (m ∷ old) (n ∷ new) run (suc i) k k' was is = places_kept old new run.1 i k k' was is
-
-  -- a seat of the same tickets is one of theirs, and so it is with a seat of the board
-  ticket_same : (t : TicketsView) (old new : TicketView) → (new.tickets ≡ old.tickets) × (new.limit ≡ old.limit) → IsTicketOf t old → IsTicketOf t new
-  ticket_same t old new same is = rw (same.0, same.1) is
-
-  seat_same : (b : BoardView) (old new : SeatView) → new.board ≡ old.board → IsSeatOf b old → IsSeatOf b new
-  seat_same b old new same is = rw same is
 
   tickets_kept : (t : TicketsView) (old new : List Member) → AllRun old new → All (IsTicketOf t) (map (λ m. m.worker.desk.ticket) old) → All (IsTicketOf t) (map (λ m. m.worker.desk.ticket) new)
   tickets_kept t [] [] run each = each

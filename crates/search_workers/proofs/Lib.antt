@@ -8,3 +8,4 @@ pub mod Rooms
 mod Shared
 mod Standings
 mod Told
+pub mod Worked

@@ -1,6 +1,7 @@
 pub mod Children
 pub mod Crew
 pub mod Desks
+pub mod Finish
 pub mod Incumbents
 pub mod Rounds
 pub mod Runs

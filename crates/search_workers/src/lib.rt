@@ -5,6 +5,7 @@ mod children;
 mod closing;
 mod crew;
 mod desk;
+mod finish;
 mod gate;
 mod incumbent;
 mod joins;
