@@ -1,5 +1,6 @@
 mod Balanced
 mod Disposed
+mod Limits
 mod Ready
 mod Recorded
 pub mod Rooms
