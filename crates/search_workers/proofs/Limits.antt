@@ -1,11 +1,9 @@
 -- A worker makes no more records than the limit.
-use Rattle.std.proofs.Common.{◌≡◌, ℕ, zero, suc, ◌+◌, ◌*◌, ◌<◌, ◌≤◌, List, [], ◌∷◌, if◌then◌else◌, nat_le, length, get_or, arith, All, AllPairs}
-use Rattle.std.specs.List.{sum_by}
-use Rattle.std.proofs.lemmas.Bool.{cond_both}
-use Rattle.std.proofs.lemmas.List.Sums.{sum_by-le}
+use Rattle.std.proofs.Common.{◌≡◌, ℕ, zero, suc, ◌<◌, ◌≤◌, List, [], ◌∷◌, nat_lt, length, get_or, arith, All, AllPairs}
+use Rattle.std.proofs.lemmas.List.Sums.{count_by-le-length}
 use Rattle.search_model.specs.declared.standing.Standing.{Standing}
 use Rattle.search_model.specs.Problem.{Problem}
-use Rattle.node_tickets.specs.Seats.{SeatView, MayDraw, numbers_of}
+use Rattle.node_tickets.specs.Seats.{MayDraw}
 use Rattle.search_workers.specs.Desks.{DeskView, IsInOrder}
 
 -- a number of an ascending list is no smaller than its place
@@ -24,10 +22,5 @@ few_ascending (m ∷ ms) limit up below =
     let under = below (length ms) 0 (omega arith) in
     omega (arith, last, under)
 
-numbers-le : (seat : SeatView) → numbers_of seat ≤ length seat.drawn
-numbers-le seat =
-    let one : numbers_of seat ≤ length seat.drawn * 1 = sum_by-le (λ n. if nat_le seat.limit n then 0 else 1) 1 seat.drawn (λ k d l. cond_both (nat_le seat.limit (get_or seat.drawn k d)) 0 1 (λ n. n ≤ 1) (λ _. omega arith) (λ _. omega arith)) in
-    omega (arith, one)
-
 pub few_records : (p : Problem) (first : Standing) (d : DeskView) → IsInOrder p first d → MayDraw d.ticket → length d.records ≤ d.ticket.limit
-few_records p first d order may = omega (arith, order.counted, numbers-le d.ticket, few_ascending d.ticket.drawn d.ticket.limit order.ascending may)
+few_records p first d order may = omega (arith, order.counted, count_by-le-length (λ n. nat_lt n d.ticket.limit) d.ticket.drawn, few_ascending d.ticket.drawn d.ticket.limit order.ascending may)
