@@ -119,3 +119,17 @@ stays_balanced p kit d d' balanced stays =
       ap (λ rs. count_of q (expected_of p rs)) stays.records,
       ap (λ rs. count_of q (prefixes_of rs)) stays.records,
     ))
+
+-- at the start, where what was begun with waits
+pub new_balanced : (p : Problem) (kit : KitView (List ℕ)) (d : DeskView) → put_of kit ≡ [] → taken_of kit ≡ [] → d.records ≡ [] → d.waiting ≡ begun_by kit.place →
+    IsHaulBalanced p (haul_of (record { kit = kit; desk = d }))
+new_balanced p kit d put taken records waiting =
+    balanced_from p (haul_of (record { kit = kit; desk = d })) (λ q.
+    omega (
+      arith,
+      ap (count_of q) put,
+      ap (count_of q) taken,
+      ap (λ rs. count_of q (expected_of p rs)) records,
+      ap (λ rs. count_of q (prefixes_of rs)) records,
+      ap (count_of q) waiting,
+    ))

@@ -1,6 +1,7 @@
 mod Balanced
 mod Disposed
 pub mod Gone
+mod Limits
 pub mod Mustered
 mod Ready
 mod Recorded

@@ -1,6 +1,6 @@
 //! Workers.
 
-ghost use Rattle.std.specs.Prelude.{◌≡◌, ◌<◌, ◌≤◌, length, All, IfOk};
+ghost use Rattle.std.specs.Prelude.{◌≡◌, ◌<◌, ◌≤◌, [], length, All, IfOk};
 ghost use Rattle.search_model.specs.Legal.{IsLegal};
 ghost use Rattle.bound_tree.specs.Close.{IsExact};
 ghost use Rattle.steal_pool.specs.News.{IsFresh as IsFreshKit};
@@ -11,6 +11,7 @@ use crate::desk::Desk;
 use crate::gate::Gate;
 use crate::left::Left;
 use crate::run::run;
+use crate::stack::Stack;
 use exact_parts::NoMemory;
 use incumbent_board::{Board, BoardSeat};
 use node_tickets::{TicketSeat, Tickets};
@@ -39,9 +40,21 @@ impl Model for Worker {
     ghost view = { λ w. record { kit = w.kit; desk = desk_view w.desk } };
 }
 
+ghost use Rattle.search_workers.specs.Workers.{begun_by};
+
+// Puts what a worker begins with on its private stack.
+fn begin(stack: &mut Stack, place: u32)
+    requires { stack.old ≡ [] }
+    ensures { stack.new ≡ begun_by place }
+{
+    if place == 0 {
+        stack.push(Path::empty());
+    }
+}
+
 impl Worker {
     ghost use Rattle.search_workers.specs.Seen.{desk_view};
-    ghost use Rattle.search_workers.specs.Workers.{begun_by, IsReady, Went};
+    ghost use Rattle.search_workers.specs.Workers.{IsReady, Went};
 
     /// A worker that has done nothing yet, in a search from the standing `first`. The one whose kit has place 0 begins with
     /// the empty prefix, each other one with nothing. Takes all the memory that it needs, but for its records.
@@ -64,9 +77,7 @@ impl Worker {
         ensures waiting { IfOk result (λ w. w.desk.waiting ≡ begun_by kit.place) }
     {
         let mut desk = Desk::new(alloc, sc, first, seat, ticket)?;
-        if kit.place() == 0 {
-            desk.stack.push(Path::empty());
-        }
+        begin(&mut desk.stack, kit.place());
         Ok(Worker { kit, desk })
     }
 
