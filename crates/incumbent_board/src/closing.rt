@@ -1,0 +1,39 @@
+//! The end of a board.
+
+ghost use Rattle.std.specs.Prelude.{◌≡◌, ◌++◌, ◌∷◌, Contains};
+ghost use Rattle.std.specs.List.{flat_map};
+ghost use Rattle.incumbent_board.specs.History.{NoneBetter};
+ghost use Rattle.incumbent_board.specs.Boards.{AreAllSeats, EndsWith, offers_of};
+
+use crate::board::Board;
+use crate::cell::{Cell, Place, join, last_look};
+use crate::seat::BoardSeat;
+use search_model::Standing;
+use std::sync::Wait;
+
+// Takes all that some seats know into one pass.
+fn join_all(cell: &Cell, place: &mut Place, seats: Vec<BoardSeat>) {
+    for seat in seats {
+        join(cell, place, seat.pass);
+    }
+}
+
+impl Board {
+    /// The last standing of the history, which is the best of the first one and of all that the seats offered. May wait.
+    /// Takes no memory.
+    pub fn close<R: Wait>(self, rt: &R, seats: Vec<BoardSeat>) -> Standing
+        requires { AreAllSeats self seats.items }
+        ensures history { EndsWith self seats.items result }
+        ensures best { NoneBetter (self.first ∷ flat_map (λ s. offers_of s) seats.items) result }
+        ensures known { Contains (self.first ∷ flat_map (λ s. s.placed) seats.items) result }
+    {
+        let mut seats = seats;
+        let Some(one) = seats.pop() else {
+            unreachable!()
+        };
+        let mut place = one.pass;
+        join_all(&self.cell, &mut place, seats);
+        let words = last_look(rt, &self.cell, &mut place);
+        self.standing(&words)
+    }
+}
