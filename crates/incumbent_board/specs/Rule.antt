@@ -28,9 +28,10 @@ cell_of [] = blank
 cell_of (first ∷ []) = blank
 cell_of (first ∷ s ∷ later) = words_of (last_from s later)
 
--- a standing that may stand there, with position numbers of a byte
+-- a standing that was placed: it may stand on the board, and its path fits 32 bytes
 pub record Holds (first s : Standing) : Type 0 where
   pub stands : MayStand first s
+  pub short : length s.path ≤ 32
   pub bytes : All (λ c. c < 256) s.path
 
 -- what a pass knows, beside the history: it and those that were joined to it have seen beginnings, none of its offers is
@@ -45,7 +46,7 @@ pub record Knows (history : List Standing) (v : Sight) : Type 0 where
 pub record IsKept (words : List ℕ) (views : List Sight) : Type 0 where
   pub history : List Standing
   pub rises : Rises (first_of history) (drop 1 history)
-  pub may : All (Holds (first_of history)) history
+  pub holds : All (Holds (first_of history)) (drop 1 history)
   pub cell : words ≡ cell_of history
   -- the passes stand for all seats
   pub all : sum_by (λ v. v.seats) views ≡ ALL
@@ -60,7 +61,7 @@ pub record Sees (v : Sight) (words : List ℕ) (w : Sight) : Type 0 where
   pub seen : IsPrefix v.seen w.seen
   pub told : All (λ seen. IsPrefix seen w.seen) v.told
   pub rises : Rises (first_of w.seen) (drop 1 w.seen)
-  pub may : All (Holds (first_of w.seen)) w.seen
+  pub holds : All (Holds (first_of w.seen)) (drop 1 w.seen)
   pub cell : words ≡ cell_of w.seen
   pub best : NoneBetter (w.placed ++ w.behind) (last_of w.seen)
 
@@ -77,18 +78,16 @@ abbrev pub Weighs : Standing → Sight → List ℕ → List ℕ → Sight → T
 Weighs s v x y w = Sees v x w × (w ≡ sight v.seats w.seen v.told v.placed (behind_with s w.seen v.behind))
 
 -- a replace: the offer comes next in the history
-pub record Places (s : Standing) (v : Sight) (words : List ℕ) (w : Sight) : Type 0 where
+pub record Places (s : Standing) (v w : Sight) : Type 0 where
   pub before : List Standing
   pub seen : IsPrefix v.seen before
-  pub cell : words ≡ cell_of before
-  pub rises : Rises (first_of before) (drop 1 w.seen)
-  pub may : All (Holds (first_of before)) w.seen
+  pub rises : Rises (first_of w.seen) (drop 1 w.seen)
   pub better : IsTrue (better s (last_of before))
   pub after : w ≡ sight v.seats (before ++ s ∷ []) v.told (v.placed ++ s ∷ []) v.behind
 
 -- a try to replace what the cell is expected to hold
 abbrev pub Tries : List ℕ → Standing → Sight → List ℕ → List ℕ → Sight → Type 0
-Tries expected s v x y w = MatchBool (pointwise nat_eq x expected) (Places s v x w) (Weighs s v x y w)
+Tries expected s v x y w = MatchBool (pointwise nat_eq x expected) (Places s v w) (Weighs s v x y w)
 
 -- a load with a pass that stands for all seats: the history's entries but the first are the offers that it placed
 abbrev pub Closes : Sight → List ℕ → List ℕ → Sight → Type 0

@@ -6,7 +6,7 @@ ghost use mathlib.Core.List.{IsPrefix};
 use crate::cell::{Cell, look_at, try_place, weigh};
 use crate::offer::Offer;
 use crate::seat::BoardSeat;
-use crate::six_words::{BLANK, unpack};
+use crate::six_words::{BLANK, pack, unpack};
 use search_model::{Standing, better};
 use std::marker::Model;
 use std::sync::Wait;
@@ -94,15 +94,16 @@ impl Board {
         ensures behind { IfBehind result (λ _. (seat.new.placed ≡ seat.old.placed) × (seat.new.behind ≡ seat.old.behind ++ s ∷ [])) }
         ensures looks { (seat.new.looks ≡ seat.old.looks) × (seat.new.shown ≡ seat.old.shown) }
     {
-        let mut words = weigh(rt, &self.cell, &mut seat.pass, &s);
+        let words = pack(&s);
+        let mut held = weigh(rt, &self.cell, &mut seat.pass, &s);
         for _ in rt.forever() {
-            let held = self.standing(&words);
-            if !better(&s, &held) {
-                return Offer::Behind(held);
+            let best = self.standing(&held);
+            if !better(&s, &best) {
+                return Offer::Behind(best);
             }
-            match try_place(rt, &self.cell, &mut seat.pass, words, &s) {
+            match try_place(rt, &self.cell, &mut seat.pass, held, words, &s) {
                 Ok(_) => return Offer::Placed,
-                Err(met) => words = met,
+                Err(met) => held = met,
             }
         }
         unreachable!()

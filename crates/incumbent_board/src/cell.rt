@@ -1,13 +1,14 @@
 //! The cell of a board under its rule, and the kinds of step there.
 
-ghost use Rattle.std.specs.Prelude.{◌≡◌, ◌-◌, ◌<◌, ◌^◌, [], ◌∷◌, All, IfOk, MatchResult, IsTrue};
+ghost use Rattle.std.specs.Prelude.{◌≡◌, ◌-◌, ◌<◌, [], ◌∷◌, length, IfOk, MatchResult, IsTrue};
 ghost use Rattle.crossbeam_utils.specs.Seq.{cell_view, IsSamePass};
 ghost use Rattle.search_model.specs.Order.{better};
 ghost use Rattle.incumbent_board.specs.History.{first_of, last_of};
+ghost use Rattle.incumbent_board.specs.Words.{words_of};
 ghost use Rattle.incumbent_board.specs.Rule.{ALL, sight, cell_of, joined as joined_lem, Holds, Looks, Weighs, Places, Closes};
 
 use crate::sight::Sight;
-use crate::six_words::{BLANK, pack};
+use crate::six_words::BLANK;
 use atomic_table::{Join, Split};
 use crossbeam_utils::atomic::seq_cell::{Pass, RuledSeqCell};
 use crossbeam_utils::rule::{Outcome, Protocol};
@@ -138,8 +139,6 @@ pub type Place = Pass<[u64; 6], Sight>;
 
 // A blank cell whose history begins with the standing that the call picks.
 fn open_as<S: Offered>(alloc: Global) -> Result<(Cell, Place), NoMemory>
-    requires value { S.offer.value < 2 ^ 127 }
-    requires bytes { All (λ c. c < 256) S.offer.path }
     ensures cell { IfOk result (λ c. c.1.table_id ≡ c.0.table.shared.table_id) }
     ensures view { IfOk result (λ c. cell_view c.1 ≡ sight ALL (S.offer ∷ []) [] [] []) }
 {
@@ -150,8 +149,6 @@ fn open_as<S: Offered>(alloc: Global) -> Result<(Cell, Place), NoMemory>
 
 /// A blank cell whose history begins with a standing, and a pass that stands for all seats.
 pub fn open(alloc: Global, first: &Standing) -> Result<(Cell, Place), NoMemory>
-    requires value { first.now.value < 2 ^ 127 }
-    requires bytes { All (λ c. c < 256) first.now.path }
     ensures cell { IfOk result (λ c. c.1.table_id ≡ c.0.table.shared.table_id) }
     ensures view { IfOk result (λ c. cell_view c.1 ≡ sight ALL (first.now ∷ []) [] [] []) }
 {
@@ -203,40 +200,44 @@ fn try_place_as<S: Offered, R: Wait>(
     cell: &Cell,
     place: &mut Place,
     expected: [u64; 6],
-    offer: &Standing,
+    words: [u64; 6],
 ) -> Result<[u64; 6], [u64; 6]>
     requires cell { place.old.table_id ≡ cell.now.table.shared.table_id }
-    requires picked { (offer.now ≡ S.offer) × (expected ≡ S.expected) }
-    requires some { 0 < (cell_view place.old).seats }
-    requires offer { Holds (first_of (cell_view place.old).seen) offer.now }
-    requires shown { (expected ≡ cell_of (cell_view place.old).seen) × IsTrue (better offer.now (last_of (cell_view place.old).seen)) }
+    requires picked { (expected ≡ S.expected) × (words ≡ words_of S.offer) }
+    requires seen { (0 < (cell_view place.old).seats) × (0 < length (cell_view place.old).seen) }
+    requires offer { Holds (first_of (cell_view place.old).seen) S.offer }
+    requires shown { expected ≡ cell_of (cell_view place.old).seen }
+    requires better { IsTrue (better S.offer (last_of (cell_view place.old).seen)) }
     ensures same { IsSamePass place.old place.new }
     ensures tried { MatchResult result
-        (λ x. Places offer.now (cell_view place.old) x (cell_view place.new))
-        (λ x. Weighs offer.now (cell_view place.old) x x (cell_view place.new)) }
+        (λ _. Places S.offer (cell_view place.old) (cell_view place.new))
+        (λ x. Weighs S.offer (cell_view place.old) x x (cell_view place.new)) }
 {
-    cell.compare_exchange_as::<TryStep<S>, R>(rt, place, expected, pack(offer))
+    cell.compare_exchange_as::<TryStep<S>, R>(rt, place, expected, words)
 }
 
 /// Tries to replace the words that a pass has seen by those of a better offer: `Ok` where it did, and else the words that
-/// it met.
+/// it met, which may show the offer to be behind.
 pub fn try_place<R: Wait>(
     rt: &R,
     cell: &Cell,
     place: &mut Place,
     expected: [u64; 6],
+    words: [u64; 6],
     offer: &Standing,
 ) -> Result<[u64; 6], [u64; 6]>
     requires cell { place.old.table_id ≡ cell.now.table.shared.table_id }
-    requires some { 0 < (cell_view place.old).seats }
+    requires words { words ≡ words_of offer.now }
+    requires seen { (0 < (cell_view place.old).seats) × (0 < length (cell_view place.old).seen) }
     requires offer { Holds (first_of (cell_view place.old).seen) offer.now }
-    requires shown { (expected ≡ cell_of (cell_view place.old).seen) × IsTrue (better offer.now (last_of (cell_view place.old).seen)) }
+    requires shown { expected ≡ cell_of (cell_view place.old).seen }
+    requires better { IsTrue (better offer.now (last_of (cell_view place.old).seen)) }
     ensures same { IsSamePass place.old place.new }
     ensures tried { MatchResult result
-        (λ x. Places offer.now (cell_view place.old) x (cell_view place.new))
+        (λ _. Places offer.now (cell_view place.old) (cell_view place.new))
         (λ x. Weighs offer.now (cell_view place.old) x x (cell_view place.new)) }
 {
-    try_place_as::<Brand, R>(rt, cell, place, expected, offer)
+    try_place_as::<Brand, R>(rt, cell, place, expected, words)
 }
 
 /// Takes all that a pass knows into another.

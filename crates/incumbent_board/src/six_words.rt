@@ -1,10 +1,10 @@
 //! A standing in six words.
 
-ghost use Rattle.std.specs.Prelude.{◌≡◌, ◌≤◌, ◌<◌, ◌^◌, length, take, drop};
+ghost use Rattle.std.specs.Prelude.{◌≡◌, ◌≤◌, ◌<◌, length, drop, All};
 ghost use Rattle.std.specs.Int.{to_be_bytes, w64};
 ghost use Rattle.std.specs.List.{flat_map};
 ghost use Rattle.search_model.specs.PathPlaces.{padded};
-ghost use Rattle.incumbent_board.specs.Words.{words_of, spelled_by, eight_from, blank as blank_words};
+ghost use Rattle.incumbent_board.specs.Words.{words_of, spelled_by, eight_from};
 
 use search_model::{Path, Standing};
 
@@ -13,7 +13,9 @@ pub const BLANK: [u64; 6] = [u64::MAX; 6];
 
 // The positions, with zeros after the last.
 fn places_of(path: &Path) -> [u8; 32]
-    ensures { result ≡ padded 32 path.now }
+    ensures value { result ≡ padded 32 path.now }
+    ensures short { length path.now ≤ 32 }
+    ensures bytes { All (λ c. c < 256) path.now }
 {
     let mut places = [0; 32];
     let cells = path.cells();
@@ -40,7 +42,9 @@ fn eight_at(places: &[u8; 32], from: usize) -> u64
 
 /// The six words of a standing.
 pub fn pack(standing: &Standing) -> [u64; 6]
-    ensures { result ≡ words_of standing.now }
+    ensures value { result ≡ words_of standing.now }
+    ensures short { length standing.now.path ≤ 32 }
+    ensures bytes { All (λ c. c < 256) standing.now.path }
 {
     let places = places_of(&standing.path);
     [
