@@ -1,1 +1,4 @@
 mod Packing
+mod Views
+mod Histories
+mod Steps

@@ -1,5 +1,5 @@
 -- The rule of a board's cell: one history, of which each pass has seen a beginning, and what each step of a pass tells it.
-use Rattle.std.specs.Prelude.{◌≡◌, ◌≢◌, ℕ, ◌+◌, ◌-◌, ◌<◌, List, [], ◌∷◌, ◌++◌, drop, length, All, Bool, true, if◌then◌else◌, nat_eq, nat_lt, sum_by, IsPermutation, IsTrue, MatchBool}
+use Rattle.std.specs.Prelude.{◌≡◌, ◌≢◌, ℕ, ◌+◌, ◌-◌, ◌<◌, ◌≤◌, List, [], ◌∷◌, ◌++◌, drop, length, All, Bool, true, if◌then◌else◌, nat_eq, nat_lt, sum_by, IsPermutation, IsTrue, MatchBool}
 use Rattle.std.specs.List.{flat_map}
 use mathlib.Core.Option.{some}
 use mathlib.Core.List.{IsPrefix}
