@@ -138,9 +138,10 @@ pub type Cell = RuledSeqCell<[u64; 6], Sight, OneHistory, 6>;
 pub type Place = Pass<[u64; 6], Sight>;
 
 // A blank cell whose history begins with the standing that the call picks.
-fn open_as<S: Offered>(alloc: Global) -> Result<(Cell, Place), NoMemory>
+fn open_as<S: Offered>(alloc: Global, first: &Standing) -> Result<(Cell, Place), NoMemory>
+    requires { first.now ≡ S.offer }
     ensures cell { IfOk result (λ c. c.1.table_id ≡ c.0.table.shared.table_id) }
-    ensures view { IfOk result (λ c. cell_view c.1 ≡ sight ALL (S.offer ∷ []) [] [] []) }
+    ensures view { IfOk result (λ c. cell_view c.1 ≡ sight ALL (first.now ∷ []) [] [] []) }
 {
     let (cell, mut pass) = Cell::ruled(alloc, BLANK)?;
     let place = cell.split_pass::<Begins<S>>(&mut pass);
@@ -152,7 +153,7 @@ pub fn open(alloc: Global, first: &Standing) -> Result<(Cell, Place), NoMemory>
     ensures cell { IfOk result (λ c. c.1.table_id ≡ c.0.table.shared.table_id) }
     ensures view { IfOk result (λ c. cell_view c.1 ≡ sight ALL (first.now ∷ []) [] [] []) }
 {
-    open_as::<Brand>(alloc)
+    open_as::<Brand>(alloc, first)
 }
 
 /// Gives one of a pass's seats away.
@@ -176,11 +177,17 @@ pub fn look_at<R: Wait>(rt: &R, cell: &Cell, place: &mut Place) -> [u64; 6]
     cell.load_as::<LookStep, R>(rt, place)
 }
 
-fn weigh_as<S: Offered, R: Wait>(rt: &R, cell: &Cell, place: &mut Place) -> [u64; 6]
+fn weigh_as<S: Offered, R: Wait>(
+    rt: &R,
+    cell: &Cell,
+    place: &mut Place,
+    offer: &Standing,
+) -> [u64; 6]
     requires cell { place.old.table_id ≡ cell.now.table.shared.table_id }
+    requires picked { offer.now ≡ S.offer }
     requires some { 0 < (cell_view place.old).seats }
     ensures same { IsSamePass place.old place.new }
-    ensures weighs { Weighs S.offer (cell_view place.old) result result (cell_view place.new) }
+    ensures weighs { Weighs offer.now (cell_view place.old) result result (cell_view place.new) }
 {
     cell.load_as::<WeighStep<S>, R>(rt, place)
 }
@@ -192,7 +199,7 @@ pub fn weigh<R: Wait>(rt: &R, cell: &Cell, place: &mut Place, offer: &Standing) 
     ensures same { IsSamePass place.old place.new }
     ensures weighs { Weighs offer.now (cell_view place.old) result result (cell_view place.new) }
 {
-    weigh_as::<Brand, R>(rt, cell, place)
+    weigh_as::<Brand, R>(rt, cell, place, offer)
 }
 
 fn try_place_as<S: Offered, R: Wait>(
@@ -201,17 +208,19 @@ fn try_place_as<S: Offered, R: Wait>(
     place: &mut Place,
     expected: [u64; 6],
     words: [u64; 6],
+    offer: &Standing,
 ) -> Result<[u64; 6], [u64; 6]>
     requires cell { place.old.table_id ≡ cell.now.table.shared.table_id }
-    requires picked { (expected ≡ S.expected) × (words ≡ words_of S.offer) }
+    requires picked { (expected ≡ S.expected) × (offer.now ≡ S.offer) }
+    requires words { words ≡ words_of offer.now }
     requires seen { (0 < (cell_view place.old).seats) × (0 < length (cell_view place.old).seen) }
-    requires offer { Holds (first_of (cell_view place.old).seen) S.offer }
+    requires offer { Holds (first_of (cell_view place.old).seen) offer.now }
     requires shown { expected ≡ cell_of (cell_view place.old).seen }
-    requires better { IsTrue (better S.offer (last_of (cell_view place.old).seen)) }
+    requires better { IsTrue (better offer.now (last_of (cell_view place.old).seen)) }
     ensures same { IsSamePass place.old place.new }
     ensures tried { MatchResult result
-        (λ _. Places S.offer (cell_view place.old) (cell_view place.new))
-        (λ x. Weighs S.offer (cell_view place.old) x x (cell_view place.new)) }
+        (λ _. Places offer.now (cell_view place.old) (cell_view place.new))
+        (λ x. Weighs offer.now (cell_view place.old) x x (cell_view place.new)) }
 {
     cell.compare_exchange_as::<TryStep<S>, R>(rt, place, expected, words)
 }
@@ -237,7 +246,7 @@ pub fn try_place<R: Wait>(
         (λ _. Places offer.now (cell_view place.old) (cell_view place.new))
         (λ x. Weighs offer.now (cell_view place.old) x x (cell_view place.new)) }
 {
-    try_place_as::<Brand, R>(rt, cell, place, expected, words)
+    try_place_as::<Brand, R>(rt, cell, place, expected, words, offer)
 }
 
 /// Takes all that a pass knows into another.
