@@ -2,3 +2,4 @@ mod Packing
 mod Views
 mod Histories
 mod Steps
+mod Passes

@@ -45,7 +45,7 @@ begins = let v = sight ALL [] [] [] [] in record {
     only (suc port) u at = absurd (some-ne-none u (sym at))
 
 -- a step that leaves the words: the whole history is seen, and the offers that are behind may be more
-sees : (port : ℕ) (v : Sight) (x : List ℕ) (views : List Sight) (behind : List Standing) → 0 < v.seats → (h : IsKept x views) → get_elem? views port ≡ some v → NoneBetter (v.placed ++ behind) (last_of h.history) →
+pub sees : (port : ℕ) (v : Sight) (x : List ℕ) (views : List Sight) (behind : List Standing) → 0 < v.seats → (h : IsKept x views) → get_elem? views port ≡ some v → NoneBetter (v.placed ++ behind) (last_of h.history) →
     IsKept x (set views port (sight v.seats h.history v.told v.placed behind)) × Sees v x (sight v.seats h.history v.told v.placed behind)
 sees port v x views behind some_seat h at best = let w = sight v.seats h.history v.told v.placed behind in (
   record {
@@ -96,10 +96,10 @@ weighs s port v some_seat x views h at =
     let k = sees port v x views behind some_seat h at (weighed s v h.history (h.each port v at).best) in
     (w, k.0, (k.1, refl))
 
-all_left : (P : Standing → Type 0) (xs ys : List Standing) → All P (xs ++ ys) → All P xs
+pub all_left : (P : Standing → Type 0) (xs ys : List Standing) → All P (xs ++ ys) → All P xs
 all_left P xs ys all = subst (All P) (take-append_seam xs ys) (All-take P (length xs) (xs ++ ys) all)
 
-all_right : (P : Standing → Type 0) (xs ys : List Standing) → All P (xs ++ ys) → All P ys
+pub all_right : (P : Standing → Type 0) (xs ys : List Standing) → All P (xs ++ ys) → All P ys
 all_right P xs ys all = subst (All P) (drop-append_seam xs ys) (All-drop P (length xs) (xs ++ ys) all)
 
 -- a replace of what stands there by what is better

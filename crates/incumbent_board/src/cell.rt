@@ -254,7 +254,7 @@ pub fn join(cell: &Cell, place: &mut Place, mut other: Place)
     requires cell { (place.old.table_id ≡ cell.now.table.shared.table_id) × (other.table_id ≡ place.old.table_id) }
     requires some { 0 < (cell_view place.old).seats }
     ensures same { IsSamePass place.old place.new }
-    ensures joined { cell_view place.new ≡ joined_lem (cell_view place.old) (cell_view other.entry) }
+    ensures joined { cell_view place.new ≡ joined_lem (cell_view place.old) (cell_view other) }
 {
     let whole = cell.split_pass::<CutsOff>(&mut other);
     cell.join_pass::<Joins>(place, whole);
