@@ -3,3 +3,5 @@ mod Views
 mod Histories
 mod Steps
 mod Passes
+mod Shown
+mod Offering

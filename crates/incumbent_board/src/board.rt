@@ -1,9 +1,9 @@
 //! The board, and what its seats do there.
 
-ghost use Rattle.std.specs.Prelude.{◌≡◌, ◌+◌, ◌-◌, ◌^◌, ◌++◌, [], ◌∷◌, min, false};
+ghost use Rattle.std.specs.Prelude.{◌≡◌, ◌+◌, ◌-◌, ◌<◌, ◌^◌, ◌++◌, [], ◌∷◌, min, false, length};
 ghost use mathlib.Core.List.{IsPrefix};
 
-use crate::cell::{Cell, look_at, try_place, weigh};
+use crate::cell::{Cell, Place, look_at, try_place, weigh};
 use crate::offer::Offer;
 use crate::seat::BoardSeat;
 use crate::six_words::{BLANK, pack, unpack};
@@ -43,13 +43,17 @@ impl Model for Board {
 }
 
 impl Board {
+    ghost use Rattle.crossbeam_utils.specs.Seq.{cell_view, IsSamePass};
     ghost use Rattle.search_model.specs.Order.{better as better_lem};
-    ghost use Rattle.incumbent_board.specs.History.{last_of, IsHistory, NoneBetter, MayStand};
+    ghost use Rattle.incumbent_board.specs.History.{first_of, last_of, IsHistory, NoneBetter, MayStand};
+    ghost use Rattle.incumbent_board.specs.Words.{told_by};
     ghost use Rattle.incumbent_board.specs.Boards.{IsSeatOf, IsSameSeat, offers_of};
-    ghost use Rattle.incumbent_board.specs.Offers.{OnPlaced, IfBehind, ComesNext};
+    ghost use Rattle.incumbent_board.specs.Offers.{OnPlaced, IfBehind, ComesNext, Tells};
 
     // The standing that the cell's words tell, which is the first one as long as they are blank.
-    pub(crate) fn standing(&self, words: &[u64; 6]) -> Standing {
+    pub(crate) fn standing(&self, words: &[u64; 6]) -> Standing
+        ensures { result ≡ told_by self.now.first words.now }
+    {
         if *words == BLANK {
             copy_of(&self.first)
         } else {
@@ -78,6 +82,30 @@ impl Board {
         standing
     }
 
+    // Loads, compares and tries to replace; a try that lost goes on with the words that it met.
+    fn offer_at<R: Wait>(&self, rt: &R, place: &mut Place, s: &Standing) -> Offer
+        requires cell { place.old.table_id ≡ self.now.cell }
+        requires some { 0 < (cell_view place.old).seats }
+        requires seen { (0 < length (cell_view place.old).seen) × (first_of (cell_view place.old).seen ≡ self.now.first) }
+        requires stands { MayStand self.now.first s.now }
+        ensures same { IsSamePass place.old place.new }
+        ensures tells { Tells self.now.first s.now (cell_view place.old) result (cell_view place.new) }
+    {
+        let words = pack(s);
+        let mut held = weigh(rt, &self.cell, place, s);
+        'tries: for _ in rt.forever() {
+            let best = self.standing(&held);
+            if !better(s, &best) {
+                return Offer::Behind(best);
+            }
+            match try_place(rt, &self.cell, place, held, words, s) {
+                Ok(_) => return Offer::Placed,
+                Err(met) => held = met,
+            }
+        }
+        unreachable!()
+    }
+
     /// Offers a standing. `Placed`: it is better than the standing before it, and comes next in the history. `Behind(b)`:
     /// `b` stood on the board at a step of the call, and the offer isn't better. Where another seat was faster, it tries
     /// again. It is no look. May wait. Takes no memory.
@@ -94,18 +122,6 @@ impl Board {
         ensures behind { IfBehind result (λ _. (seat.new.placed ≡ seat.old.placed) × (seat.new.behind ≡ seat.old.behind ++ s ∷ [])) }
         ensures looks { (seat.new.looks ≡ seat.old.looks) × (seat.new.shown ≡ seat.old.shown) }
     {
-        let words = pack(&s);
-        let mut held = weigh(rt, &self.cell, &mut seat.pass, &s);
-        for _ in rt.forever() {
-            let best = self.standing(&held);
-            if !better(&s, &best) {
-                return Offer::Behind(best);
-            }
-            match try_place(rt, &self.cell, &mut seat.pass, held, words, &s) {
-                Ok(_) => return Offer::Placed,
-                Err(met) => held = met,
-            }
-        }
-        unreachable!()
+        self.offer_at(rt, &mut seat.pass, &s)
     }
 }

@@ -16,4 +16,5 @@ mod starting;
 pub use board::Board;
 pub use offer::Offer;
 pub use seat::BoardSeat;
+pub use six_words::words_spell_standings;
 pub use sending::{sent_seat, shared_board};

@@ -4,7 +4,7 @@ ghost use Rattle.std.specs.Prelude.{◌≡◌, ◌≤◌, ◌<◌, length, drop,
 ghost use Rattle.std.specs.Int.{to_be_bytes, w64};
 ghost use Rattle.std.specs.List.{flat_map};
 ghost use Rattle.search_model.specs.PathPlaces.{padded};
-ghost use Rattle.incumbent_board.specs.Words.{words_of, spelled_by, eight_from};
+ghost use Rattle.incumbent_board.specs.Words.{words_of, spelled_by, eight_from, WordsSpellStandings};
 
 use search_model::{Path, Standing};
 
@@ -83,3 +83,9 @@ pub fn unpack(words: &[u64; 6], size: usize) -> Standing
         value: (u128::from(words[0]) << 64) + u128::from(words[1]),
     }
 }
+
+/// Packing loses nothing: two standings with paths of one length and the same words are the same.
+#[tactic(auto, using(crate::proofs::Packing::standing_back))]
+pub fn words_spell_standings()
+    ensures { WordsSpellStandings }
+{}
