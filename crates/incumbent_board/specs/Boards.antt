@@ -48,6 +48,18 @@ pub record IsNewSeat (first : Standing) (s : SeatView) : Type 0 where
   pub looks : s.looks ≡ 0
   pub shown : s.shown ≡ first
 
+-- a new seat of a board, which stands for so many
+abbrev pub new_seat_of : BoardView → ℕ → SeatView
+new_seat_of b stands = record {
+  board = b;
+  stands = stands;
+  seen = b.first ∷ [];
+  placed = [];
+  behind = [];
+  looks = 0;
+  shown = b.first;
+}
+
 -- the one history of a board, which ends with a standing: all that its seats have seen is a beginning of it, and all
 -- entries but the first are the offers that they placed
 pub record EndsWith (b : BoardView) (seats : List SeatView) (answer : Standing) : Type 0 where

@@ -1,22 +1,51 @@
 //! A new board.
 
-ghost use Rattle.std.specs.Prelude.{◌≡◌, ◌+◌, ◌<◌, ◌≤◌, ◌^◌, length, IfOk, All};
-ghost use Rattle.incumbent_board.specs.Boards.{AreAllSeats, IsNewSeat};
+ghost use Rattle.std.specs.Prelude.{◌≡◌, ◌-◌, ◌<◌, ◌≤◌, ◌^◌, [], ◌∷◌, length, replicate, IfOk, All};
+ghost use Rattle.crossbeam_utils.specs.Seq.{cell_view};
+ghost use Rattle.incumbent_board.specs.Rule.{ALL, sight};
+ghost use Rattle.incumbent_board.specs.Boards.{AreAllSeats, IsNewSeat, new_seat_of};
 
 use crate::board::{Board, copy_of};
-use crate::cell::{Place, deal, open};
+use crate::cell::{Cell, Place, deal, open};
 use crate::seat::BoardSeat;
 use exact_parts::NoMemory;
 use search_model::Standing;
 use std::alloc::Global;
 
 // A seat that has seen the first standing.
-fn new_seat(pass: Place, first: &Standing) -> BoardSeat {
+fn new_seat(pass: Place, first: &Standing) -> BoardSeat
+    requires some { 0 < (cell_view pass).seats }
+    requires view { cell_view pass ≡ sight (cell_view pass).seats (first.now ∷ []) [] [] [] }
+    ensures { result ≡ new_seat_of (record { cell = pass.table_id; first = first.now }) (cell_view pass).seats }
+{
     BoardSeat {
         pass,
         looks: 0,
         shown: copy_of(first),
     }
+}
+
+// Gives away so many of the seats that a pass stands for.
+fn deal_seats(
+    alloc: Global,
+    cell: &Cell,
+    pass: &mut Place,
+    first: &Standing,
+    many: u32,
+) -> Result<Vec<BoardSeat>, NoMemory>
+    requires cell { pass.old.table_id ≡ cell.now.table.shared.table_id }
+    requires view { cell_view pass.old ≡ sight ALL (first.now ∷ []) [] [] [] }
+    requires few { many ≤ 15 }
+    ensures cell { IfOk result (λ _. pass.new.table_id ≡ pass.old.table_id) }
+    ensures view { IfOk result (λ _. cell_view pass.new ≡ sight (ALL - many) (first.now ∷ []) [] [] []) }
+    ensures dealt { IfOk result (λ r. r.items ≡ replicate many (new_seat_of (record { cell = pass.old.table_id; first = first.now }) 1)) }
+{
+    let mut dealt = Vec::new(alloc);
+    for _given in 0..many {
+        let seat = deal(cell, pass);
+        dealt.push(new_seat(seat, first))?;
+    }
+    Ok(dealt)
 }
 
 impl Board {
@@ -36,11 +65,7 @@ impl Board {
         ensures new { IfOk result (λ r. All (λ s. IsNewSeat first s) r.1.items) }
     {
         let (cell, mut pass) = open(alloc, &first)?;
-        let mut all = Vec::new(alloc);
-        for _dealt in 1..seats {
-            let dealt = deal(&cell, &mut pass);
-            all.push(new_seat(dealt, &first))?;
-        }
+        let mut all = deal_seats(alloc, &cell, &mut pass, &first, seats - 1)?;
         all.push(new_seat(pass, &first))?;
         Ok((Board { cell, first }, all))
     }
