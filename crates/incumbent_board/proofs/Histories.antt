@@ -1,8 +1,8 @@
 -- Histories and their beginnings.
 use Rattle.std.proofs.Common.{◌≡◌, ⊎_elim, ◌⊎◌, inl, inr, ℕ, ◌+◌, ◌/◌, ◌%◌, ◌^◌, ◌-◌, ◌<◌, ◌≤◌, Bool, true, false, IsTrue, if◌then◌else◌, nat_lt, List, [], ◌∷◌, ◌++◌, length, take, drop, get_or, slice_index_or, sym, refl, ap, ◌∙◌, subst, append_assoc, arith, All, length-append, ltb-true, ltb-false}
-use Rattle.std.proofs.Math.Seq.{take-append_seam}
+use Rattle.std.proofs.Math.Seq.{take-append_seam, drop-append_seam}
 use Rattle.std.proofs.lemmas.List.{append-nil, nil_from_length}
-use Rattle.std.proofs.lemmas.List.Elements.{All-head, All-tail, All-take}
+use Rattle.std.proofs.lemmas.List.Elements.{All-head, All-tail, All-take, All-drop}
 use mathlib.Core.List.{IsPrefix}
 use Rattle.search_model.specs.declared.standing.Standing.{Standing}
 use Rattle.search_model.specs.Order.{better}
@@ -34,6 +34,13 @@ module _ {X : Type 0} where
       let n : length (xs ++ p.0) ≡ length ys = ap length p.1 in
       let none : p.0 ≡ [] = nil_from_length p.0 (omega (arith, length-append xs p.0)) in
       sym (append-nil xs) ∙ ap (λ (l : List X). xs ++ l) (sym none) ∙ p.1
+
+  -- what holds of all elements of a joined list holds of both parts
+  pub all_left : (P : X → Type 0) (xs ys : List X) → All P (xs ++ ys) → All P xs
+  all_left P xs ys all = subst (All P) (take-append_seam xs ys) (All-take P (length xs) (xs ++ ys) all)
+
+  pub all_right : (P : X → Type 0) (xs ys : List X) → All P (xs ++ ys) → All P ys
+  all_right P xs ys all = subst (All P) (drop-append_seam xs ys) (All-drop P (length xs) (xs ++ ys) all)
 
 -- the longer of two beginnings
 pub longer_prefix : (a b h : List Standing) → IsPrefix a h → IsPrefix b h → IsPrefix (longer a b) h
@@ -114,16 +121,13 @@ pub last_holds : (f a : Standing) (later : List Standing) → Holds f a → All 
 last_holds f a [] h all = h
 last_holds f a (b ∷ later) h all = last_holds f b later (All-head (Holds f) b later all) (All-tail (Holds f) b later all)
 
-holds_front : (f : Standing) (xs ys : List Standing) → All (Holds f) (xs ++ ys) → All (Holds f) xs
-holds_front f xs ys all = subst (λ (l : List Standing). All (Holds f) l) (take-append_seam xs ys) (All-take (Holds f) (length xs) (xs ++ ys) all)
-
 last_from_seen : (a : Standing) (seen rest : List Standing) → All (Holds a) (seen ++ rest) → cell_of (a ∷ (seen ++ rest)) ≡ cell_of (a ∷ seen) → last_from a (seen ++ rest) ≡ last_from a seen
 last_from_seen a [] [] holds same = refl
 last_from_seen a [] (r ∷ rest) holds same = absurd (words_not_blank a (last_from r rest) (last_holds a r rest (All-head (Holds a) r rest holds) (All-tail (Holds a) r rest holds)) same)
 last_from_seen a (b ∷ seen) rest holds same =
     let here : Holds a b = All-head (Holds a) b (seen ++ rest) holds in
     let later : All (Holds a) (seen ++ rest) = All-tail (Holds a) b (seen ++ rest) holds in
-    words_same a (last_from b (seen ++ rest)) (last_from b seen) (last_holds a b (seen ++ rest) here later) (last_holds a b seen here (holds_front a seen rest later)) same
+    words_same a (last_from b (seen ++ rest)) (last_from b seen) (last_holds a b (seen ++ rest) here later) (last_holds a b seen here (all_left (Holds a) seen rest later)) same
 
 -- a beginning by which the cell holds what it holds ends with the same standing
 pub last_seen : (seen history : List Standing) → IsPrefix seen history → 0 < length seen → All (Holds (first_of history)) (drop 1 history) → cell_of history ≡ cell_of seen → last_of history ≡ last_of seen

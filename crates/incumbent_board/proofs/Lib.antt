@@ -5,3 +5,4 @@ mod Steps
 mod Passes
 mod Shown
 mod Offering
+mod Ends

@@ -18,8 +18,8 @@ use Rattle.incumbent_board.specs.History.{last_of, NoneBetter}
 use Rattle.incumbent_board.specs.Words.{blank}
 use Rattle.incumbent_board.specs.Rule.{ALL, sight, spent, cell_of, Holds, Knows, IsKept, Closes, longer, joined}
 use Rattle.incumbent_board.proofs.Views.{set_there, sum_set, sum_else, Each, each_set, each_push, lists_same, lists_push, lists_moved, lists_handed, lists_one, same_items}
-use Rattle.incumbent_board.proofs.Histories.{prefix_self, prefix_none, longer_prefix, longer_whole}
-use Rattle.incumbent_board.proofs.Steps.{sees, all_left, all_right}
+use Rattle.incumbent_board.proofs.Histories.{all_left, all_right, prefix_self, prefix_none, longer_prefix, longer_whole}
+use Rattle.incumbent_board.proofs.Steps.{sees}
 
 -- one number is another, or it differs
 same_or_not : (m n : ℕ) → (m ≡ n) ⊎ (m ≢ n)

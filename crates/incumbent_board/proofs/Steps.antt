@@ -3,8 +3,7 @@ use Rattle.std.proofs.Common.{◌≡◌, ◌≢◌, ◌⊎◌, inl, inr, ⊎_eli
 use Rattle.std.specs.List.{flat_map}
 use Rattle.std.proofs.lemmas.List.{append-nil, nil_from_length}
 use Rattle.std.proofs.lemmas.List.Sums.{sum_by-append, sum_by-cons}
-use Rattle.std.proofs.lemmas.List.Elements.{All-nil, All-cons, All-append, All-take, All-drop}
-use Rattle.std.proofs.Math.Seq.{take-append_seam, drop-append_seam}
+use Rattle.std.proofs.lemmas.List.Elements.{All-nil, All-cons, All-append}
 use Rattle.std.proofs.lemmas.List.Sorted.{IsPermutation-refl, IsPermutation-trans, IsPermutation-append_left, length_permutation}
 use mathlib.Core.Option.{some, some-injective, some-ne-none}
 use mathlib.Core.List.{IsPrefix}
@@ -20,7 +19,7 @@ use Rattle.incumbent_board.specs.History.{first_of, last_of, Rises, NoneBetter}
 use Rattle.incumbent_board.specs.Words.{words_of, blank}
 use Rattle.incumbent_board.specs.Rule.{ALL, sight, spent, cell_of, Holds, Knows, IsKept, Sees, Looks, behind_with, Weighs, Places, Tries, Closes, longer, joined}
 use Rattle.incumbent_board.proofs.Views.{set_there, sum_set, sum_one, sum_else, Each, each_set, each_push, lists_set, lists_same, lists_push, lists_moved, lists_handed, lists_none, lists_one, same_items}
-use Rattle.incumbent_board.proofs.Histories.{prefix_self, prefix_none, prefix_more, longer_prefix, longer_whole, last_push, first_push, later_push, cell_push, rises_push, first_seen, some_seen, none_better_on, last_seen}
+use Rattle.incumbent_board.proofs.Histories.{all_left, all_right, prefix_self, prefix_none, prefix_more, longer_prefix, longer_whole, last_push, first_push, later_push, cell_push, rises_push, first_seen, some_seen, none_better_on, last_seen}
 
 -- the first view, which stands for all seats
 pub begins : IsKept blank (sight ALL [] [] [] [] ∷ [])
@@ -95,12 +94,6 @@ weighs s port v some_seat x views h at =
     let w = sight v.seats h.history v.told v.placed behind in
     let k = sees port v x views behind some_seat h at (weighed s v h.history (h.each port v at).best) in
     (w, k.0, (k.1, refl))
-
-pub all_left : (P : Standing → Type 0) (xs ys : List Standing) → All P (xs ++ ys) → All P xs
-all_left P xs ys all = subst (All P) (take-append_seam xs ys) (All-take P (length xs) (xs ++ ys) all)
-
-pub all_right : (P : Standing → Type 0) (xs ys : List Standing) → All P (xs ++ ys) → All P ys
-all_right P xs ys all = subst (All P) (drop-append_seam xs ys) (All-drop P (length xs) (xs ++ ys) all)
 
 -- a replace of what stands there by what is better
 replaces : (s : Standing) (port : ℕ) (v : Sight) (x : List ℕ) (views : List Sight) → 0 < v.seats → (h : IsKept x views) → get_elem? views port ≡ some v → 0 < length h.history → Holds (first_of h.history) s →

@@ -3,3 +3,4 @@ pub mod Words
 pub mod Boards
 pub mod Offers
 pub mod Rule
+pub mod Joins

@@ -36,3 +36,20 @@ impl Model for BoardSeat {
 
     ghost invariant = { λ s. let v = cell_view s.pass in (0 < v.seats) × (0 < length v.seen) × (v.told ≡ []) };
 }
+
+ghost use Rattle.std.specs.Prelude.{◌≡◌};
+ghost use Rattle.crossbeam_utils.specs.Seq.{cell_view};
+ghost use Rattle.incumbent_board.specs.Joins.{IsOfSeat};
+
+// A seat's pass.
+pub fn pass_of(seat: BoardSeat) -> Place
+    ensures cell { result.table_id ≡ seat.board.cell }
+    ensures knows { IsOfSeat seat (cell_view result) }
+{
+    let BoardSeat {
+        pass,
+        looks: _,
+        shown: _,
+    } = seat;
+    pass
+}
