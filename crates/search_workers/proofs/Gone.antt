@@ -1,5 +1,5 @@
 -- What is known of the workers once all have gone.
-use Rattle.std.proofs.Common.{◌≡◌, ℕ, zero, suc, ◌+◌, ◌<◌, List, [], ◌∷◌, map, length, get_or, refl, sym, ap, ◌∙◌, subst, arith, All, slice_get, Some, sum_by}
+use Rattle.std.proofs.Common.{◌≡◌, ℕ, zero, suc, ◌<◌, List, [], ◌∷◌, map, length, get_or, refl, sym, ap, ◌∙◌, subst, arith, All, sum_by}
 use Rattle.std.specs.List.{AllZip}
 use Rattle.std.proofs.lemmas.List.{length-map}
 use Rattle.std.proofs.lemmas.List.Elements.{All-nil, All-cons, All-head, All-tail, length_all_zip}
@@ -9,8 +9,8 @@ use Rattle.search_model.specs.Problem.{Problem}
 use Rattle.search_model.proofs.Sums.{sum_by-map}
 use Rattle.steal_pool.specs.Kits.{KitView}
 use Rattle.steal_pool.proofs.Wholes.{KeepPlaces, whole_kept}
-use Rattle.node_tickets.specs.Seats.{TicketsView, SeatView as TicketView, IsSeatOf as IsTicketOf, AreAllSeats as AreAllTickets}
-use Rattle.incumbent_board.specs.Boards.{BoardView, SeatView, IsSeatOf, AreAllSeats}
+use Rattle.node_tickets.specs.Seats.{TicketsView, SeatView as TicketView, IsSeatOf as IsTicketOf}
+use Rattle.incumbent_board.specs.Boards.{BoardView, SeatView, IsSeatOf}
 use Rattle.search_workers.specs.declared.crew.Member.{Member}
 use Rattle.search_workers.specs.Crew.{IsComplete, HasGone}
 use Rattle.search_workers.specs.Runs.{Runs}

@@ -1,6 +1,6 @@
 -- The workers of a new search, one for each kit.
-use Rattle.std.proofs.Common.{◌≡◌, ℕ, ◌<◌, ◌^◌, List, [], ◌∷◌, ◌++◌, map, reverse, length, refl, sym, ap, ◌∙◌, subst, arith, All, append_assoc}
-use Rattle.std.proofs.lemmas.List.{reverse-append, map-append, reverse-reverse}
+use Rattle.std.proofs.Common.{◌≡◌, ◌<◌, ◌^◌, List, [], ◌∷◌, ◌++◌, map, reverse, length, refl, sym, ap, ◌∙◌, subst, arith, All, append_assoc}
+use Rattle.std.proofs.lemmas.List.{reverse-append, map-append}
 use Rattle.std.proofs.lemmas.List.Elements.{All-nil, All-cons, All-append, All-head, All-tail}
 use Rattle.search_model.specs.declared.standing.Standing.{Standing}
 use Rattle.search_model.specs.Problem.{Problem, IsProblem}
@@ -52,8 +52,8 @@ fresh_may_draw seat fresh = subst (All (λ n. n < seat.limit)) (sym fresh) (All-
 
 -- complete workers of fresh seats may go
 pub all_may_go : (p : Problem) (t : TicketsView) (b : BoardView) (crew : List Member) → IsComplete t b crew → All IsFresh (map (λ m. m.worker.desk.ticket) crew) →
-    All (λ m. IsReady p b.first m.worker) crew → All (λ m. MayGo p t b m.worker) crew
-all_may_go p t b crew complete fresh ready = each crew complete.tickets.each complete.seats.each fresh ready
+    IsExact p b.first → All (λ m. IsReady p b.first m.worker) crew → All (λ m. MayGo p t b m.worker) crew
+all_may_go p t b crew complete fresh exact ready = each crew complete.tickets.each complete.seats.each fresh ready
   where
     ticket : Member → TicketView
     ticket = λ m. m.worker.desk.ticket
@@ -69,6 +69,7 @@ all_may_go p t b crew complete fresh ready = each crew complete.tickets.each com
         (record {
           ticket = All-head (IsTicketOf t) m.worker.desk.ticket (map (λ (m : Member). m.worker.desk.ticket) ms) tickets;
           may = fresh_may_draw m.worker.desk.ticket (All-head IsFresh m.worker.desk.ticket (map (λ (m : Member). m.worker.desk.ticket) ms) fresh);
+          first = exact;
           seat = All-head (IsSeatOf b) m.worker.desk.seat (map (λ (m : Member). m.worker.desk.seat) ms) seats;
           ready = All-head (λ m. IsReady p b.first m.worker) m ms ready;
         })

@@ -2,6 +2,7 @@
 use Rattle.std.specs.Prelude.{◌≡◌, List, map, All, Any}
 use Rattle.search_model.specs.declared.standing.Standing.{Standing}
 use Rattle.search_model.specs.Problem.{Problem}
+use Rattle.bound_tree.specs.Close.{IsExact}
 use Rattle.steal_pool.specs.Pools.{IsWhole}
 use Rattle.node_tickets.specs.Seats.{TicketsView, IsSeatOf as IsTicketOf, AreAllSeats as AreAllTickets, MayDraw}
 use Rattle.incumbent_board.specs.Boards.{BoardView, IsSeatOf, AreAllSeats}
@@ -24,6 +25,7 @@ pub record MayGo (p : Problem) (tickets : TicketsView) (board : BoardView) (w : 
   pub ticket : IsTicketOf tickets w.desk.ticket
   pub may : MayDraw w.desk.ticket
   pub seat : IsSeatOf board w.desk.seat
+  pub first : IsExact p board.first
   pub ready : IsReady p board.first w
 
 -- a worker has gone: what it brings back is balanced, its desk is in order, and it left as it says

@@ -3,7 +3,6 @@ use Rattle.std.specs.Prelude.{◌≡◌, ◌<◌, ℕ, List, [], ◌++◌, lengt
 use Rattle.search_model.specs.Problem.{Problem}
 use Rattle.search_model.specs.Legal.{IsLegal}
 use Rattle.bound_tree.specs.declared.node.TreeNode.{TreeNode}
-use Rattle.bound_tree.specs.Close.{IsExact}
 use Rattle.node_tickets.specs.Seats.{TicketsView, MayDraw, IsSeatOf as IsTicketOf}
 use Rattle.incumbent_board.specs.Boards.{BoardView, IsSeatOf}
 use Rattle.tree_gather.specs.Hauls.{IsHaulBalanced}

@@ -22,8 +22,7 @@ returns-in-Branches-clause-left g c =
     let mid : DeskView = desk_view c.close_last.new.self in
     let new : DeskView = record mid { waiting = c.stack_children.new.stack } in
     let closes = c.in-Branches.ensures.closes in
-    let s = c.in-Branches.ensures.same in
-    (
+    let s = c.in-Branches.ensures.same in (
       still_may p c.args.tickets.now c.args.board.now old new c.requires.may
           (record { tickets = s.tickets; stands_for = s.stands_for; seat = s.seat })
           closes.1
@@ -42,8 +41,7 @@ pub returns-in-Ends-clause-left : goal.returns-in-Ends-clause-left
 returns-in-Ends-clause-left g c =
     let old : DeskView = desk_view c.args.desk.now in
     let new : DeskView = desk_view c.close_last.new.self in
-    let e = c.in-Ends.ensures.closes.0 in
-    (
+    let e = c.in-Ends.ensures.closes.0 in (
       still_may c.args.sc.now c.args.tickets.now c.args.board.now old new c.requires.may c.in-Ends.ensures.same c.in-Ends.ensures.closes.1 c.in-Ends.ensures.order
           (end_legal c.args.sc.now old new e.0 e.1 e.3 c.requires.may.legal),
       recorded_one old new new e.0 e.1 e.3 refl,

@@ -1,4 +1,4 @@
-use Rattle.std.proofs.Common.{◌≡◌, map, take}
+use Rattle.std.proofs.Common.{◌≡◌, map}
 use Rattle.search_workers.specs.Seen.{desk_view}
 use Rattle.search_workers.proofs.joins.part_all.Given as goal
 

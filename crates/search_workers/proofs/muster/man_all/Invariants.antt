@@ -1,4 +1,4 @@
-use Rattle.std.proofs.Common.{◌≡◌, ◌++◌, List, ℕ, map, reverse, length, All}
+use Rattle.std.proofs.Common.{◌≡◌, ◌++◌, map, reverse, length, All}
 use Rattle.steal_pool.specs.News.{IsFresh as IsFreshKit}
 use Rattle.node_tickets.specs.Seats.{IsFresh}
 use Rattle.incumbent_board.specs.Boards.{IsNewSeat}
