@@ -1,5 +1,5 @@
 -- A desk stays in order.
-use Rattle.std.proofs.Common.{◌≡◌, ℕ, ◌+◌, ◌*◌, ◌-◌, ◌<◌, ◌≤◌, ◌^◌, ◌∙◌, min, false, List, [], ◌∷◌, ◌++◌, length, slice_index_or, refl, sym, ap, subst, arith, All, AllPairs, Contains, length-append}
+use Rattle.std.proofs.Common.{◌≡◌, ℕ, ◌+◌, ◌-◌, ◌<◌, ◌^◌, ◌∙◌, min, false, List, [], ◌∷◌, ◌++◌, length, sym, ap, subst, arith, All, AllPairs, Contains, length-append}
 use Rattle.std.proofs.lemmas.List.Elements.{All-push, All-weaker, All-contains}
 use Rattle.std.proofs.lemmas.List.Quantifiers.{all_pairs_push}
 use Rattle.std.proofs.lemmas.List.{get_or_append_left}
@@ -16,9 +16,8 @@ use Rattle.bound_tree.proofs.Closing.{at_least_trans, branch_at_least, closed_is
 use Rattle.path_node.specs.Room.{IsMadeFor}
 use Rattle.search_core.proofs.FromBounds.{good_at_least}
 use Rattle.node_tickets.specs.Seats.{MayDraw, numbers_of}
-use Rattle.tree_gather.specs.Hauls.{IsHaulSound}
 use Rattle.search_workers.specs.Incumbents.{best_after, told_to}
-use Rattle.search_workers.specs.Desks.{DeskView, haul_at, IsMade, HasRoom, IsInOrder}
+use Rattle.search_workers.specs.Desks.{DeskView, IsMade, HasRoom, IsInOrder}
 use Rattle.search_workers.specs.declared.closing.Closing.{Closing}
 use Rattle.search_workers.specs.declared.closing.Closing.TheVariants.{Branches, Ends, Full, NoMemory}
 use Rattle.search_workers.specs.Steps.{Records, ClosesUnder, MakesRecord, Closes}

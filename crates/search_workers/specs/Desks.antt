@@ -1,15 +1,12 @@
 -- What contracts see of a desk, and when it is in order.
-use Rattle.std.specs.Prelude.{◌≡◌, ℕ, ◌*◌, ◌<◌, ◌≤◌, List, [], ◌∷◌, ◌++◌, length, slice_index_or, All, AllPairs, Contains}
+use Rattle.std.specs.Prelude.{◌≡◌, ℕ, ◌*◌, ◌<◌, ◌≤◌, List, length, slice_index_or, All, AllPairs, Contains}
 use Rattle.search_model.specs.declared.standing.Standing.{Standing}
 use Rattle.search_model.specs.Problem.{Problem}
-use Rattle.bound_tree.specs.declared.node.Kind.{Kind}
-use Rattle.bound_tree.specs.declared.node.Kind.TheVariants.{Branch}
 use Rattle.bound_tree.specs.declared.node.TreeNode.{TreeNode}
-use Rattle.bound_tree.specs.Accepts.{expected_by}
 use Rattle.bound_tree.specs.Close.{IsClosed, IsExact, IsAtLeast}
 use Rattle.belief_update.specs.Belief.{BeliefState}
 use Rattle.path_node.specs.Room.{NodeTables, IsMadeFor}
-use Rattle.node_tickets.specs.Seats.{SeatView as TicketView, MayDraw, numbers_of}
+use Rattle.node_tickets.specs.Seats.{SeatView as TicketView, numbers_of}
 use Rattle.incumbent_board.specs.Boards.{SeatView as SightView, IsSameSeat}
 use Rattle.tree_gather.specs.Hauls.{Haul, IsHaulSound}
 use Rattle.search_workers.specs.Incumbents.{told_to}

@@ -10,7 +10,7 @@ ghost use Rattle.search_workers.specs.Incumbents.{best_after, told_to};
 use belief_update::{Belief, prefix_value};
 use bound_tree::{Kind, TreeNode};
 use incumbent_board::{Board, BoardSeat};
-use search_model::{Scenario, Standing, better, Path};
+use search_model::{Path, Scenario, Standing, better};
 use std::sync::Wait;
 
 /// The standing that a worker uses, with its seat at the board, and a belief by which it computes the value of a path that
@@ -79,10 +79,7 @@ impl Incumbent {
         ensures told { Contains (told_to self.old.seat) self.old.standing → Contains (told_to self.new.seat) self.new.standing }
         ensures belief { self.new.belief ≡ self.old.belief }
     {
-        let whole = Standing {
-            path: *path,
-            value,
-        };
+        let whole = Standing { path: *path, value };
         if better(&whole, &self.standing) {
             self.standing = whole;
             let _answer = board.offer(rt, &mut self.seat, whole);

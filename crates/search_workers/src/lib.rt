@@ -9,10 +9,12 @@ mod incumbent;
 mod left;
 mod rounds;
 mod run;
+mod sending;
 mod stack;
 mod worker;
 
 pub use gate::{Gate, OpenGate};
 pub use left::Left;
 pub use rounds::ROUNDS;
+pub use sending::sent_worker;
 pub use worker::Worker;

@@ -1,7 +1,6 @@
-use Rattle.std.proofs.Common.{◌∙◌, sym, subst, ap}
+use Rattle.std.proofs.Common.{◌∙◌, sym, subst}
 use Rattle.std.proofs.Common.{Contains}
 use Rattle.std.proofs.lemmas.Bool.{true≢false}
-use Rattle.bound_tree.specs.Close.{IsAtLeast}
 use Rattle.bound_tree.proofs.Closing.{at_least_from}
 use Rattle.search_workers.specs.Incumbents.{told_to}
 use Rattle.search_workers.proofs.Told.{last_seen, still_told}
