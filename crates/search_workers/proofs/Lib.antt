@@ -6,4 +6,4 @@ mod Recorded
 pub mod Rooms
 mod Shared
 mod Standings
-mod Told
+pub mod Told
