@@ -14,7 +14,7 @@ use Rattle.tree_gather.specs.Hauls.{Haul, IsHaulBalanced}
 use Rattle.search_workers.specs.Desks.{DeskView}
 use Rattle.search_workers.specs.Steps.{Records, Stays}
 use Rattle.search_workers.specs.Turns.{OnlyTook}
-use Rattle.search_workers.specs.Workers.{WorkerView, begun_by, haul_of}
+use Rattle.search_workers.specs.Workers.{begun_by, haul_of}
 
 -- a task that was taken waits now
 pub took_waits : (taken taken' waiting waiting' : List (List ℕ)) (task : List ℕ) → IsPermutation taken' (taken ++ task ∷ []) → waiting' ≡ waiting ++ task ∷ [] →

@@ -1,14 +1,14 @@
 -- Where the children of a prefix are, once they were disposed of.
-use Rattle.std.proofs.Common.{◌≡◌, ℕ, ◌+◌, ◌*◌, ◌-◌, ◌<◌, ◌≤◌, Bool, true, false, List, [], ◌∷◌, ◌++◌, map, reverse, length, get_or, inl, inr, refl, sym, ap, ◌∙◌, subst, arith, All, Contains, length-append, append_assoc}
+use Rattle.std.proofs.Common.{◌≡◌, ℕ, ◌+◌, ◌*◌, ◌-◌, ◌<◌, ◌≤◌, Bool, true, false, List, [], ◌∷◌, ◌++◌, reverse, length, inl, inr, refl, sym, ap, ◌∙◌, subst, arith, All, Contains, length-append, append_assoc}
 use Rattle.std.proofs.lemmas.Bool.{cases_lt}
-use Rattle.std.proofs.lemmas.List.{length-map, length-reverse, get_or_append_left, get_or-append_right}
-use Rattle.std.proofs.lemmas.List.Elements.{All-push, All-append, All-weaker, All-contains, All-contains_itself, All-map, Contains-append_right}
+use Rattle.std.proofs.lemmas.List.{length-reverse, get_or_append_left, get_or-append_right}
+use Rattle.std.proofs.lemmas.List.Elements.{All-push, All-append, All-weaker, All-contains, All-contains_itself, Contains-append_right}
 use Rattle.std.proofs.lemmas.List.Sorted.{IsPermutation-reverse, All-permutation}
 use Rattle.search_model.proofs.Members.{Contains-head, Contains-tail}
 use Rattle.search_core.specs.Counts.{count_of, SameItems}
 use Rattle.search_core.proofs.Counts.{count_of-append, SameItems-permutation}
 use Rattle.steal_pool.specs.Kits.{KitView, put_of, taken_of}
-use Rattle.search_workers.specs.Children.{Puts, Shares, OnlyPut, Disposes}
+use Rattle.search_workers.specs.Children.{Shares, OnlyPut, Disposes}
 use Rattle.search_workers.specs.Desks.{HasRoom}
 
 -- some of the children wait now, above what waited before

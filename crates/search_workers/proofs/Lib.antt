@@ -8,5 +8,5 @@ mod Recorded
 pub mod Rooms
 mod Shared
 mod Standings
-mod Told
+pub mod Told
 pub mod Worked

@@ -1,5 +1,5 @@
 -- A worker makes no more records than the limit.
-use Rattle.std.proofs.Common.{◌≡◌, ℕ, zero, suc, ◌<◌, ◌≤◌, List, [], ◌∷◌, nat_lt, length, get_or, arith, All, AllPairs}
+use Rattle.std.proofs.Common.{ℕ, zero, suc, ◌<◌, ◌≤◌, List, [], ◌∷◌, nat_lt, length, get_or, arith, All, AllPairs}
 use Rattle.std.proofs.lemmas.List.Sums.{count_by-le-length}
 use Rattle.search_model.specs.declared.standing.Standing.{Standing}
 use Rattle.search_model.specs.Problem.{Problem}

@@ -1,5 +1,5 @@
 -- A worker stays ready.
-use Rattle.std.proofs.Common.{◌≡◌, ◌≢◌, ℕ, zero, suc, ◌+◌, ◌*◌, ◌<◌, ◌≤◌, Bool, false, Option, None, Some, List, [], ◌∷◌, ◌++◌, map, length, get_or, refl, sym, ap, ◌∙◌, subst, arith, All, Contains, length-append, append-nil}
+use Rattle.std.proofs.Common.{◌≡◌, ◌≢◌, ℕ, zero, suc, ◌+◌, ◌*◌, ◌<◌, ◌≤◌, Bool, false, Option, None, Some, List, [], ◌∷◌, ◌++◌, length, get_or, refl, sym, ap, ◌∙◌, subst, arith, All, Contains, length-append, append-nil}
 use Rattle.std.proofs.lemmas.List.{length-map}
 use Rattle.std.proofs.Math.Seq.{get_or-append_seam}
 use Rattle.std.proofs.lemmas.List.Elements.{All-nil, All-cons, All-contains, All-contains_itself, All-map, Contains-append_left}
@@ -10,7 +10,7 @@ use Rattle.search_model.proofs.WalkLemmas.{follows-append}
 use Rattle.bound_tree.specs.declared.node.Kind.{Kind}
 use Rattle.bound_tree.specs.declared.node.Kind.TheVariants.{Branch}
 use Rattle.bound_tree.specs.declared.node.TreeNode.{TreeNode}
-use Rattle.bound_tree.specs.Accepts.{IsGood, children_of, expected_by}
+use Rattle.bound_tree.specs.Accepts.{IsGood, children_of}
 use Rattle.search_core.specs.Counts.{count_of}
 use Rattle.steal_pool.specs.Kits.{KitView, put_of, taken_of}
 use Rattle.node_tickets.specs.Seats.{MayDraw}
@@ -104,8 +104,7 @@ module _ (p : Problem) (first : Standing) (kit : KitView (List ℕ)) (d d' : Des
       let short = branch_short p first d d' q order recorded in
       let w = waits children shares kit d'.waiting kit' ws disposed in
       let only = disposed_kit children shares kit d'.waiting kit' ws disposed in
-      let few : length children ≤ 64 = rw (length-map (moves_after p q) (λ d. q ++ d ∷ [])) (few_moves p q sound legal) in
-      (
+      let few : length children ≤ 64 = rw (length-map (moves_after p q) (λ d. q ++ d ∷ [])) (few_moves p q sound legal) in (
         record {
           order = order_with p first d' ws order
               (room_wait children d'.waiting ws (length q) w order.room (last_room d.waiting d'.waiting q recorded.waited ready.order.room) few (longer_children p q));

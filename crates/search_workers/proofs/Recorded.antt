@@ -1,5 +1,5 @@
 -- A desk stays in order.
-use Rattle.std.proofs.Common.{◌≡◌, ℕ, ◌+◌, ◌*◌, ◌-◌, ◌<◌, ◌≤◌, ◌^◌, ◌∙◌, min, false, List, [], ◌∷◌, ◌++◌, length, slice_index_or, refl, sym, ap, subst, arith, All, AllPairs, Contains, length-append}
+use Rattle.std.proofs.Common.{◌≡◌, ℕ, ◌+◌, ◌-◌, ◌<◌, ◌^◌, ◌∙◌, min, false, List, [], ◌∷◌, ◌++◌, length, sym, ap, subst, arith, All, AllPairs, Contains, length-append}
 use Rattle.std.proofs.lemmas.List.Elements.{All-push, All-weaker, All-contains}
 use Rattle.std.proofs.lemmas.List.Quantifiers.{all_pairs_push}
 use Rattle.std.proofs.lemmas.List.{get_or_append_left}
@@ -16,9 +16,8 @@ use Rattle.bound_tree.proofs.Closing.{at_least_trans, branch_at_least, closed_is
 use Rattle.path_node.specs.Room.{IsMadeFor}
 use Rattle.search_core.proofs.FromBounds.{good_at_least}
 use Rattle.node_tickets.specs.Seats.{MayDraw, numbers_of}
-use Rattle.tree_gather.specs.Hauls.{IsHaulSound}
-use Rattle.search_workers.specs.Incumbents.{best_after, told_to}
-use Rattle.search_workers.specs.Desks.{DeskView, haul_at, IsMade, HasRoom, IsInOrder}
+use Rattle.search_workers.specs.Incumbents.{best_after, WasTold}
+use Rattle.search_workers.specs.Desks.{DeskView, IsMade, HasRoom, IsInOrder}
 use Rattle.search_workers.specs.declared.closing.Closing.{Closing}
 use Rattle.search_workers.specs.declared.closing.Closing.TheVariants.{Branches, Ends, Full, NoMemory}
 use Rattle.search_workers.specs.Steps.{Records, ClosesUnder, MakesRecord, Closes}
@@ -45,7 +44,7 @@ pub record Heeded (p : Problem) (old new : DeskView) (s : Standing) (n : ℕ) : 
   pub greater : All (λ m. m < n) old.ticket.drawn
   pub looks : new.seat.looks ≡ min (old.seat.looks + 1) (2 ^ 64 - 1)
   pub heeded : IsExact p new.seat.shown → IsAtLeast s new.seat.shown
-  pub told : Contains (told_to old.seat) old.last → Contains (told_to new.seat) new.last
+  pub told : WasTold old.seat old.last → WasTold new.seat new.last
   pub tables : IsMadeFor p new.tables
   pub belief : length new.belief.masses ≡ p.cells
 

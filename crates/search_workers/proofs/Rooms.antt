@@ -1,5 +1,5 @@
 -- How many prefixes wait on a private stack, and which.
-use Rattle.std.proofs.Common.{◌≡◌, ℕ, ◌+◌, ◌*◌, ◌≤◌, ◌<◌, List, [], ◌∷◌, ◌++◌, length, arith}
+use Rattle.std.proofs.Common.{ℕ, ◌≤◌, List, length, arith}
 use Rattle.search_model.specs.Problem.{Problem, IsProblem}
 use Rattle.search_model.specs.Legal.{IsLegal, last_of, moves_after}
 use Rattle.search_model.proofs.LegalLemmas.{last_within}

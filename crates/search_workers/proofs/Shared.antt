@@ -1,6 +1,5 @@
 -- Tasks that are put into the own deque, one after the other.
-use Rattle.std.proofs.Common.{◌≡◌, ◌≢◌, ℕ, ◌+◌, ◌<◌, ◌≤◌, length-append, List, [], ◌∷◌, ◌++◌, length, inl, inr, refl, ◌∙◌, ap, sym, arith, append_assoc, append-nil}
-use Rattle.std.proofs.lemmas.Bool.{cases_lt}
+use Rattle.std.proofs.Common.{◌≡◌, ◌≢◌, ℕ, ◌+◌, ◌<◌, ◌≤◌, length-append, List, [], ◌∷◌, ◌++◌, length, refl, ◌∙◌, ap, sym, arith, append_assoc, append-nil}
 use Rattle.search_workers.specs.Children.{Puts}
 
 empty_from : (xs : List (List ℕ)) → ¬ (0 < length xs) → xs ≡ []

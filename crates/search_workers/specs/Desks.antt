@@ -1,18 +1,15 @@
 -- What contracts see of a desk, and when it is in order.
-use Rattle.std.specs.Prelude.{◌≡◌, ℕ, ◌*◌, ◌<◌, ◌≤◌, List, [], ◌∷◌, ◌++◌, length, slice_index_or, All, AllPairs, Contains}
+use Rattle.std.specs.Prelude.{◌≡◌, ℕ, ◌*◌, ◌<◌, ◌≤◌, List, length, slice_index_or, All, AllPairs, Contains}
 use Rattle.search_model.specs.declared.standing.Standing.{Standing}
 use Rattle.search_model.specs.Problem.{Problem}
-use Rattle.bound_tree.specs.declared.node.Kind.{Kind}
-use Rattle.bound_tree.specs.declared.node.Kind.TheVariants.{Branch}
 use Rattle.bound_tree.specs.declared.node.TreeNode.{TreeNode}
-use Rattle.bound_tree.specs.Accepts.{expected_by}
 use Rattle.bound_tree.specs.Close.{IsClosed, IsExact, IsAtLeast}
 use Rattle.belief_update.specs.Belief.{BeliefState}
 use Rattle.path_node.specs.Room.{NodeTables, IsMadeFor}
-use Rattle.node_tickets.specs.Seats.{SeatView as TicketView, MayDraw, numbers_of}
+use Rattle.node_tickets.specs.Seats.{SeatView as TicketView, numbers_of}
 use Rattle.incumbent_board.specs.Boards.{SeatView as SightView, IsSameSeat}
 use Rattle.tree_gather.specs.Hauls.{Haul, IsHaulSound}
-use Rattle.search_workers.specs.Incumbents.{told_to}
+use Rattle.search_workers.specs.Incumbents.{WasTold}
 
 -- a worker's desk: its seats at the tickets and at the board, the records that it made, the prefixes that wait on its
 -- private stack, the standing that it used last, and the tables and the belief that it computes with
@@ -55,7 +52,7 @@ pub record IsInOrder (p : Problem) (first : Standing) (d : DeskView) : Type 0 wh
   -- the last standing is no worse than what the board showed last, if that is exact
   pub heeded : IsExact p d.seat.shown → IsAtLeast d.last d.seat.shown
   -- the last standing stood on the board, or was offered to it
-  pub told : Contains (told_to d.seat) d.last
+  pub told : WasTold d.seat d.last
   -- what waits has room
   pub room : HasRoom d.waiting
   -- its tables and its belief are made for the scenario

@@ -8,7 +8,6 @@ use Rattle.node_tickets.specs.Seats.{MayDraw}
 use Rattle.search_core.specs.Counts.{SameItems}
 use Rattle.search_workers.specs.declared.left.Left.{Left}
 use Rattle.search_workers.specs.Rounds.{others}
-use Rattle.search_workers.specs.Desks.{HasRoom}
 use Rattle.search_workers.specs.Workers.{WorkerView, IsReady, IsSameWorker, Went}
 
 -- a kit that took tasks at most, all of which wait now

@@ -31,7 +31,7 @@ pub enum Closing {
 
 impl Desk {
     ghost use Rattle.search_workers.specs.Steps.{Closes, MakesRecord};
-    ghost use Rattle.search_workers.specs.Incumbents.{told_to};
+    ghost use Rattle.search_workers.specs.Incumbents.{WasTold};
 
     /// Closes the last prefix of the private stack: makes room for the record, looks at the board, draws a number, and
     /// closes the prefix under the standing in use; a path that is better takes that standing's place, and is offered.
@@ -78,7 +78,7 @@ impl Desk {
         ensures ticket { self.new.ticket ≡ self.old.ticket }
         ensures seat { IsSameSeat self.old.incumbent.seat self.new.incumbent.seat }
         ensures looks { (self.new.incumbent.seat.looks ≡ self.old.incumbent.seat.looks) × (self.new.incumbent.seat.shown ≡ self.old.incumbent.seat.shown) }
-        ensures told { Contains (told_to self.old.incumbent.seat) self.old.incumbent.standing → Contains (told_to self.new.incumbent.seat) self.new.incumbent.standing }
+        ensures told { WasTold self.old.incumbent.seat self.old.incumbent.standing → WasTold self.new.incumbent.seat self.new.incumbent.standing }
         ensures tables { IsMadeFor sc.now self.new.scratch }
         ensures belief { self.new.incumbent.belief ≡ self.old.incumbent.belief }
     {

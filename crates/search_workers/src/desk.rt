@@ -8,13 +8,13 @@ ghost use Rattle.search_workers.specs.Desks.{IsInOrder};
 ghost use Rattle.search_workers.specs.Seen.{desk_view};
 
 use crate::incumbent::Incumbent;
+use crate::stack::Stack;
 use belief_update::Belief;
 use bound_tree::TreeNode;
 use exact_parts::NoMemory;
 use incumbent_board::BoardSeat;
 use node_tickets::TicketSeat;
 use path_node::Scratch;
-use crate::stack::Stack;
 use search_model::{Scenario, Standing};
 use std::alloc::Global;
 

@@ -5,12 +5,12 @@ ghost use Rattle.bound_tree.specs.declared.node.Kind.TheVariants.{Whole};
 ghost use Rattle.bound_tree.specs.Close.{IsExact, IsAtLeast};
 ghost use Rattle.incumbent_board.specs.History.{MayStand};
 ghost use Rattle.incumbent_board.specs.Boards.{IsSeatOf, IsSameSeat};
-ghost use Rattle.search_workers.specs.Incumbents.{best_after, told_to};
+ghost use Rattle.search_workers.specs.Incumbents.{best_after, WasTold, Looked};
 
 use belief_update::{Belief, prefix_value};
 use bound_tree::{Kind, TreeNode};
 use incumbent_board::{Board, BoardSeat};
-use search_model::{Scenario, Standing, better, Path};
+use search_model::{Path, Scenario, Standing, better};
 use std::sync::Wait;
 
 /// The standing that a worker uses, with its seat at the board, and a belief by which it computes the value of a path that
@@ -35,6 +35,15 @@ fn is_exact(sc: &Scenario, belief: &mut Belief, standing: &Standing) -> bool
 }
 
 impl Incumbent {
+    // Looks at the board.
+    fn look<R: Wait>(&mut self, rt: &R, board: &Board) -> Standing
+        requires { IsSeatOf board.now self.old.seat }
+        ensures looked { Looked board.now.first self.old.seat result self.new.seat }
+        ensures same { (self.new.standing ≡ self.old.standing) × (self.new.belief ≡ self.old.belief) }
+    {
+        board.look(rt, &mut self.seat)
+    }
+
     /// Looks at the board. A better standing there is used from now on, if it's exact. May wait. Takes no memory.
     pub fn heed<R: Wait>(&mut self, rt: &R, sc: &Scenario, board: &Board)
         requires seat { IsSeatOf board.now self.old.seat }
@@ -45,10 +54,10 @@ impl Incumbent {
         ensures exact { IsExact sc.now self.new.standing }
         ensures up { IsAtLeast self.new.standing self.old.standing }
         ensures heeded { IsExact sc.now self.new.seat.shown → IsAtLeast self.new.standing self.new.seat.shown }
-        ensures told { Contains (told_to self.old.seat) self.old.standing → Contains (told_to self.new.seat) self.new.standing }
+        ensures told { WasTold self.old.seat self.old.standing → WasTold self.new.seat self.new.standing }
         ensures belief { length self.new.belief.masses ≡ sc.now.cells }
     {
-        let shown = board.look(rt, &mut self.seat);
+        let shown = self.look(rt, board);
         if better(&shown, &self.standing) && is_exact(sc, &mut self.belief, &shown) {
             self.standing = shown;
         }
@@ -61,7 +70,7 @@ impl Incumbent {
         ensures seat { IsSameSeat self.old.seat self.new.seat }
         ensures looks { (self.new.seat.looks ≡ self.old.seat.looks) × (self.new.seat.shown ≡ self.old.seat.shown) }
         ensures standing { self.new.standing ≡ best_after self.old.standing node.now.prefix node.now.kind }
-        ensures told { Contains (told_to self.old.seat) self.old.standing → Contains (told_to self.new.seat) self.new.standing }
+        ensures told { WasTold self.old.seat self.old.standing → WasTold self.new.seat self.new.standing }
         ensures belief { self.new.belief ≡ self.old.belief }
     {
         if let Kind::Whole(value) = node.kind {
@@ -76,13 +85,10 @@ impl Incumbent {
         ensures seat { IsSameSeat self.old.seat self.new.seat }
         ensures looks { (self.new.seat.looks ≡ self.old.seat.looks) × (self.new.seat.shown ≡ self.old.seat.shown) }
         ensures standing { self.new.standing ≡ best_after self.old.standing path.now (Whole value) }
-        ensures told { Contains (told_to self.old.seat) self.old.standing → Contains (told_to self.new.seat) self.new.standing }
+        ensures told { WasTold self.old.seat self.old.standing → WasTold self.new.seat self.new.standing }
         ensures belief { self.new.belief ≡ self.old.belief }
     {
-        let whole = Standing {
-            path: *path,
-            value,
-        };
+        let whole = Standing { path: *path, value };
         if better(&whole, &self.standing) {
             self.standing = whole;
             let _answer = board.offer(rt, &mut self.seat, whole);

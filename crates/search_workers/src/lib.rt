@@ -13,10 +13,12 @@ mod left;
 mod muster;
 mod rounds;
 mod run;
+mod sending;
 mod stack;
 mod worker;
 
 pub use gate::{Gate, OpenGate};
 pub use left::Left;
 pub use rounds::ROUNDS;
+pub use sending::sent_worker;
 pub use worker::Worker;

@@ -1,4 +1,4 @@
-use Rattle.std.proofs.Common.{◌≡◌, ℕ, ◌+◌, ◌-◌, ◌<◌, ◌∷◌, [], ◌++◌, List, map, reverse, drop, get_or, length, length-append, append_assoc, ap, sym, arith, refl}
+use Rattle.std.proofs.Common.{◌≡◌, ℕ, ◌+◌, ◌-◌, ◌<◌, ◌∷◌, [], ◌++◌, List, map, reverse, drop, get_or, length, length-append, append_assoc, ap, arith}
 use Rattle.std.proofs.lemmas.List.{reverse-append, drop_more}
 use Rattle.search_workers.proofs.children.push_children.Goals as goal
 

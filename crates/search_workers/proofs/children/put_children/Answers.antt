@@ -1,7 +1,6 @@
-use Rattle.std.proofs.Common.{◌≡◌, ◌∙◌, ◌<◌, ℕ, ◌+◌, ◌∷◌, [], ◌++◌, List, map, take, get_or, length, length-append, ap, sym, subst, arith, refl}
+use Rattle.std.proofs.Common.{◌≡◌, ◌∙◌, ◌<◌, ℕ, ◌+◌, ◌∷◌, [], ◌++◌, List, map, take, get_or, length, length-append, ap, arith, refl}
 use Rattle.std.proofs.lemmas.List.{map-append, take_more}
 use Rattle.steal_pool.specs.Kits.{put_of, taken_of}
-use Rattle.search_workers.specs.Children.{Puts}
 use Rattle.search_workers.proofs.Shared.{put_one, back_one}
 use Rattle.search_workers.proofs.children.put_children.Goals as goal
 use Rattle.search_workers.proofs.children.put_children.Goals.{in-Err, in_default}

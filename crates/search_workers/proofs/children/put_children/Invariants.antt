@@ -1,4 +1,4 @@
-use Rattle.std.proofs.Common.{◌≡◌, ◌+◌, ◌≤◌, ◌++◌, ◌∷◌, [], length, map, take}
+use Rattle.std.proofs.Common.{◌+◌, ◌≤◌, ◌++◌, ◌∷◌, [], length, map, take}
 use Rattle.steal_pool.specs.Kits.{put_of}
 use Rattle.search_workers.specs.Children.{Puts, OnlyPut}
 use Rattle.search_workers.proofs.children.put_children.Given as goal

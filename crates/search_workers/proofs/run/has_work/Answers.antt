@@ -1,5 +1,4 @@
-use Rattle.std.proofs.Common.{◌≡◌, List, [], inr, subst, sym, arith, length, All, refl}
-use Rattle.search_model.specs.Legal.{IsLegal}
+use Rattle.std.proofs.Common.{◌≡◌, [], inr, arith}
 use Rattle.steal_pool.specs.Kits.{taken_of}
 use Rattle.search_workers.proofs.Balanced.{took_waits}
 use Rattle.search_workers.proofs.run.has_work.Goals as goal

@@ -1,6 +1,5 @@
-use Rattle.std.proofs.Common.{nat_lt, length, ◌*◌, [], get_or, refl, sym, subst, Contains, All, IsTrue}
+use Rattle.std.proofs.Common.{nat_lt, length, ◌*◌, [], get_or, refl, sym, subst, Contains}
 use Rattle.std.proofs.lemmas.List.Elements.{All-contains_itself}
-use Rattle.search_model.specs.Legal.{IsLegal}
 use Rattle.search_workers.specs.Seen.{desk_view}
 use Rattle.search_workers.proofs.Balanced.{stays_balanced}
 use Rattle.search_workers.proofs.Ready.{turned_end, turned_branch}

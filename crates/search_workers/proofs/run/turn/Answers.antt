@@ -1,7 +1,7 @@
-use Rattle.std.proofs.Common.{◌∙◌, sym, subst, true, false}
+use Rattle.std.proofs.Common.{subst}
 use Rattle.search_workers.specs.Seen.{desk_view}
 use Rattle.search_workers.specs.Turns.{HasWork}
-use Rattle.search_workers.proofs.Ready.{took_ready, took_idle, took_turned}
+use Rattle.search_workers.proofs.Ready.{took_ready, took_idle}
 use Rattle.search_workers.proofs.run.turn.Goals as goal
 
 pub returns-then-not-has_work : goal.returns-then-not-has_work

@@ -1,8 +1,8 @@
-use Rattle.std.proofs.Common.{◌<◌, ◌^◌, [], refl, sym, ap, subst, ◌∙◌, arith, length, Contains}
+use Rattle.std.proofs.Common.{[], refl, sym, ap, subst, ◌∙◌, arith, Contains}
 use Rattle.search_workers.specs.Desks.{DeskView}
 use Rattle.search_workers.specs.Seen.{desk_view}
 use Rattle.search_workers.proofs.Told.{Contains-last}
-use Rattle.search_workers.proofs.Recorded.{Heeded, still_in_order, closed_in_order, closes_from}
+use Rattle.search_workers.proofs.Recorded.{still_in_order, closed_in_order, closes_from}
 use Rattle.search_workers.proofs.desk.Desk.close_last.Goals as goal
 
 pub heed-requires-clause-exact : goal.heed-requires-clause-exact

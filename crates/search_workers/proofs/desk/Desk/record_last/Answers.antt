@@ -1,6 +1,5 @@
 use Rattle.std.proofs.Common.{subst}
 use Rattle.bound_tree.specs.Close.{IsClosed}
-use Rattle.incumbent_board.specs.History.{MayStand}
 use Rattle.search_workers.proofs.Standings.{whole_may_stand}
 use Rattle.search_workers.proofs.desk.Desk.record_last.Goals as goal
 
