@@ -6,6 +6,7 @@ pub mod Mustered
 mod Ready
 mod Recorded
 pub mod Rooms
+pub mod Settling
 mod Shared
 mod Standings
 pub mod Told

@@ -34,7 +34,7 @@ IsEvenWork p tasks waiting added left waiting' q =
     count_of q tasks + count_of q waiting + count_of q (expected_of p added) ≡ count_of q (prefixes_of added) + count_of q left + count_of q waiting'
 
 module _ (p : Problem) (tasks : List (List ℕ)) (old : DeskView) (left : List (List ℕ)) (new : DeskView) where
-  even_from : (w : WorksOff p tasks old left new) (q : List ℕ) → IsEvenWork p tasks old.waiting w.added left new.waiting q
+  pub even_from : (w : WorksOff p tasks old left new) (q : List ℕ) → IsEvenWork p tasks old.waiting w.added left new.waiting q
   even_from w q =
       omega (
         arith,

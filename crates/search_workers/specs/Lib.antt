@@ -6,6 +6,7 @@ pub mod Incumbents
 pub mod Rounds
 pub mod Runs
 pub mod Seen
+pub mod Settled
 pub mod Steps
 pub mod Turns
 pub mod Workers

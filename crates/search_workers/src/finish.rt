@@ -97,3 +97,52 @@ pub fn take_up<R: Wait>(
     }
     Left::Idle
 }
+
+ghost use Rattle.std.specs.Prelude.{map};
+ghost use Rattle.search_workers.specs.Settled.{IsSettled, LeaveDesks, EndsSearch};
+
+// Takes the tasks left up at the desk of worker 0.
+fn take_up_first<R: Wait>(
+    desks: &mut Vec<Desk>,
+    tasks: &mut Vec<Path>,
+    rt: &R,
+    sc: &Scenario,
+    tickets: &Tickets,
+    board: &Board,
+) -> Left
+    requires some { 0 < length desks.old.items }
+    requires first { IsExact sc.now board.now.first }
+    requires settled { IsSettled sc.now tickets.now board.now tasks.old.items (map desk_view desks.old.items) }
+    requires idle { LeaveDesks Left.Idle (map desk_view desks.old.items) }
+    ensures settled { IsSettled sc.now tickets.now board.now tasks.new.items (map desk_view desks.new.items) }
+    ensures ends { EndsSearch result tasks.new.items (map desk_view desks.new.items) }
+{
+    let _sound = sc.cells();
+    let desk = &mut desks[0];
+    take_up(desk, tasks, rt, sc, tickets, board)
+}
+
+/// Goes on over the tasks left where all workers left idle, at the desk of worker 0; where one of them didn't, the tasks
+/// left wait. May wait.
+pub fn finish<R: Wait>(
+    left: Left,
+    desks: &mut Vec<Desk>,
+    tasks: &mut Vec<Path>,
+    rt: &R,
+    sc: &Scenario,
+    tickets: &Tickets,
+    board: &Board,
+) -> Left
+    requires some { 0 < length desks.old.items }
+    requires first { IsExact sc.now board.now.first }
+    requires settled { IsSettled sc.now tickets.now board.now tasks.old.items (map desk_view desks.old.items) }
+    requires left { LeaveDesks left (map desk_view desks.old.items) }
+    ensures settled { IsSettled sc.now tickets.now board.now tasks.new.items (map desk_view desks.new.items) }
+    ensures ends { EndsSearch result tasks.new.items (map desk_view desks.new.items) }
+{
+    match left {
+        Left::Idle => take_up_first(desks, tasks, rt, sc, tickets, board),
+        Left::Full => Left::Full,
+        Left::NoMemory => Left::NoMemory,
+    }
+}
