@@ -16,7 +16,7 @@ use Rattle.bound_tree.proofs.Accepted.{accepted_plan_is_best}
 use Rattle.search_core.proofs.FromBounds.{good_at_least}
 use Rattle.search_core.proofs.Live.{balanced_is_live}
 use Rattle.search_core.proofs.Many.{distinct_live_are_many}
-use Rattle.tree_gather.specs.Hauls.{Haul, IsHaulSound, records_of, waiting_of, AreEven, IsBestLast}
+use Rattle.tree_gather.specs.Hauls.{Haul, IsHaulSound, records_of, waiting_of, lasts_of, AreEven, IsBestOf}
 use Rattle.tree_gather.specs.Laws.{EvenHaulsAreJoined, JoinedAreLive, WaitingHaveMore, DoneAreAccepted}
 use Rattle.tree_gather.proofs.Sorted.{gathered_is_accepted}
 
@@ -34,22 +34,22 @@ lets_branch p first hauls sound =
     all_records P hauls (All-weaker (IsHaulSound p first) Q (λ h s. s.branches) hauls sound)
 
 -- the best of the last standings is exact, and no worse than the first one
-pub best_is_sound : (p : Problem) (first best : Standing) (hauls : List Haul) → All (IsHaulSound p first) hauls → IsBestLast hauls best → IsExact p best × IsAtLeast best first
+pub best_is_sound : (p : Problem) (first best : Standing) (hauls : List Haul) → All (IsHaulSound p first) hauls → IsBestOf (lasts_of hauls) best → IsExact p best × IsAtLeast best first
 best_is_sound p first best hauls sound b =
     let found = Contains-map_cases (λ (h : Haul). h.last) hauls best b.known in
     let last = All-contains (IsHaulSound p first) hauls found.0 sound found.1 in
     (subst (IsExact p) found.2 last.exact, subst (λ s. IsAtLeast s first) found.2 last.up)
 
 -- each record is good in itself under it
-good_under_best : (p : Problem) (first best : Standing) (hauls : List Haul) → IsProblem p → All (IsHaulSound p first) hauls → All (λ h. IsAtLeast best h.last) hauls →
+good_under_best : (p : Problem) (first best : Standing) (hauls : List Haul) → IsProblem p → All (IsHaulSound p first) hauls → All (IsAtLeast best) (lasts_of hauls) →
     All (λ h. All (IsGood p best) h.records) hauls
 good_under_best p first best [] sound each least = All-nil (λ h. All (IsGood p best) h.records)
 good_under_best p first best (h ∷ hs) sound each least =
     let P : Haul → Type 0 = λ h. All (IsGood p best) h.records in
-    let up : IsAtLeast best h.last = All-head (λ h. IsAtLeast best h.last) h hs least in
+    let up : IsAtLeast best h.last = All-head (IsAtLeast best) h.last (lasts_of hs) least in
     All-cons P h hs
     (All-weaker (IsGood p h.last) (IsGood p best) (λ r good. good_at_least p h.last best r.prefix r.kind sound up good) h.records (All-head (IsHaulSound p first) h hs each).good)
-    (good_under_best p first best hs sound (All-tail (IsHaulSound p first) h hs each) (All-tail (λ h. IsAtLeast best h.last) h hs least))
+    (good_under_best p first best hs sound (All-tail (IsHaulSound p first) h hs each) (All-tail (IsAtLeast best) h.last (lasts_of hs) least))
 
 pub even_hauls_are_joined : EvenHaulsAreJoined
 even_hauls_are_joined p first best hauls sound even each b =

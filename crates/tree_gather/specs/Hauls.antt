@@ -39,6 +39,10 @@ records_of hauls = flat_map (λ h. h.records) hauls
 abbrev pub waiting_of : List Haul → List (List ℕ)
 waiting_of hauls = flat_map (λ h. h.waiting) hauls
 
+-- the standings that they used last
+abbrev pub lasts_of : List Haul → List Standing
+lasts_of hauls = map (λ h. h.last) hauls
+
 -- these are all hauls of one search: each is balanced, the empty prefix and each of the tasks left are begun with once and
 -- nothing else is, and what all put is, up to order, what all took and what is left
 pub record AreAllHauls (p : Problem) (left : List (List ℕ)) (hauls : List Haul) : Type 0 where
@@ -54,10 +58,10 @@ idle_haul last tasks = record { began = tasks; records = []; waiting = tasks; pu
 abbrev pub AreEven : Problem → List Haul → Type 0
 AreEven p hauls = MeetsEquation p [] (waiting_of hauls) (records_of hauls)
 
--- the best of the standings that the hauls used last
-pub record IsBestLast (hauls : List Haul) (s : Standing) : Type 0 where
-  pub known : Contains (map (λ h. h.last) hauls) s
-  pub best : All (λ h. IsAtLeast s h.last) hauls
+-- the best of some standings
+pub record IsBestOf (standings : List Standing) (s : Standing) : Type 0 where
+  pub known : Contains standings s
+  pub best : All (IsAtLeast s) standings
 
 -- what the hauls of a search come to together: Balance's equation holds with nothing pooled and what waits held, the best
 -- standing is exact and no worse than the first, the records are good in themselves under it, and none branches where the

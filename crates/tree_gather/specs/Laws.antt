@@ -9,7 +9,7 @@ use Rattle.bound_tree.specs.Accepts.{prefixes_of, Accepts}
 use Rattle.bound_tree.specs.Close.{IsLive, LetsBranch, HasMoreLive}
 use Rattle.search_core.specs.Balance.{AreDistinct}
 use Rattle.tree_gather.specs.Gathered.{IsGathered}
-use Rattle.tree_gather.specs.Hauls.{Haul, IsHaulSound, records_of, waiting_of, AreAllHauls, AreEven, IsBestLast, AreJoined}
+use Rattle.tree_gather.specs.Hauls.{Haul, IsHaulSound, records_of, waiting_of, lasts_of, AreAllHauls, AreEven, IsBestOf, AreJoined}
 
 -- all hauls of a search meet Balance's equation together
 abbrev pub AllHaulsAreEven : Type 0
@@ -18,7 +18,7 @@ AllHaulsAreEven = (p : Problem) (left : List (List ℕ)) (hauls : List Haul) →
 -- hauls that do so and are sound are joined, under the best of the standings that they used last
 abbrev pub EvenHaulsAreJoined : Type 0
 EvenHaulsAreJoined = (p : Problem) (first best : Standing) (hauls : List Haul) →
-    IsProblem p → AreEven p hauls → All (IsHaulSound p first) hauls → IsBestLast hauls best →
+    IsProblem p → AreEven p hauls → All (IsHaulSound p first) hauls → IsBestOf (lasts_of hauls) best →
     AreJoined p first best (waiting_of hauls) (records_of hauls)
 
 -- all that was closed or waits is distinct, and live under the first standing
