@@ -1,4 +1,5 @@
 mod Balanced
+mod BroughtIn
 mod Disposed
 pub mod Gone
 mod Limits

@@ -1,10 +1,9 @@
 -- The desks of a search once its kits are settled, and the tasks left.
-use Rattle.std.specs.Prelude.{◌≡◌, ◌<◌, ℕ, List, [], ◌∷◌, ◌++◌, map, length, All, Any, Contains}
+use Rattle.std.specs.Prelude.{◌≡◌, ◌<◌, ℕ, List, [], ◌∷◌, ◌++◌, map, length, All, Any}
 use Rattle.std.specs.List.{flat_map}
 use Rattle.search_model.specs.declared.standing.Standing.{Standing}
 use Rattle.search_model.specs.Problem.{Problem}
 use Rattle.bound_tree.specs.declared.node.TreeNode.{TreeNode}
-use Rattle.bound_tree.specs.Close.{IsAtLeast}
 use Rattle.search_core.specs.Balance.{MeetsEquation}
 use Rattle.node_tickets.specs.Seats.{TicketsView, AreAllSeats as AreAllTickets, MayDraw}
 use Rattle.incumbent_board.specs.Boards.{BoardView, AreAllSeats}
@@ -43,11 +42,6 @@ EndsSearch Idle tasks desks = waiting_at tasks desks ≡ []
 EndsSearch Full tasks desks = SomeFull desks
 EndsSearch NoMemory tasks desks = Unit {0}
 
--- the best of some standings
-pub record IsBestOf (standings : List Standing) (s : Standing) : Type 0 where
-  pub known : Contains standings s
-  pub best : All (IsAtLeast s) standings
-
--- the first standing of a search, and those that its desks used last
-abbrev pub lasts_of : Standing → List DeskView → List Standing
-lasts_of first desks = first ∷ map (λ d. d.last) desks
+-- the first standing of a search, and those that were used last at its desks
+abbrev pub lasts_at : Standing → List DeskView → List Standing
+lasts_at first desks = first ∷ map (λ d. d.last) desks
