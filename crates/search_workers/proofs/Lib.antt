@@ -5,5 +5,5 @@ mod Ready
 mod Recorded
 pub mod Rooms
 mod Shared
-mod Standings
+pub mod Standings
 pub mod Told

@@ -11,6 +11,8 @@ mod rounds;
 mod run;
 mod sending;
 mod stack;
+#[cfg(test)]
+mod tests;
 mod worker;
 
 pub use gate::{Gate, OpenGate};
