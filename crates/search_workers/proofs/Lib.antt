@@ -9,6 +9,6 @@ mod Recorded
 pub mod Rooms
 pub mod Settling
 mod Shared
-mod Standings
+pub mod Standings
 pub mod Told
 pub mod Worked

@@ -1,9 +1,10 @@
 -- The standing in use, before and after a record.
-use Rattle.std.proofs.Common.{◌≡◌, ℕ, ◌∙◌, false, List, inl, inr, refl, sym, subst, arith}
+use Rattle.std.proofs.Common.{◌≡◌, ℕ, ◌<◌, ◌^◌, ◌∙◌, false, List, inl, inr, refl, sym, subst, arith}
 use Rattle.std.proofs.lemmas.Bool.{cases_Bool}
 use Rattle.search_model.specs.declared.standing.Standing.{Standing}
 use Rattle.search_model.specs.Problem.{Problem, IsProblem}
 use Rattle.search_model.specs.Legal.{IsLegal}
+use Rattle.search_model.specs.Tracks.{value_of}
 use Rattle.search_model.specs.Order.{better}
 use Rattle.search_model.proofs.Orders.{better_irreflexive}
 use Rattle.search_model.proofs.Totals.{whole_weight-fits}
@@ -13,13 +14,14 @@ use Rattle.bound_tree.specs.Close.{IsClosed, IsExact, IsAtLeast}
 use Rattle.incumbent_board.specs.History.{MayStand}
 use Rattle.search_workers.specs.Incumbents.{best_after}
 
+-- a value is below 2^127
+pub value_fits : (p : Problem) (q : List ℕ) (n : ℕ) → IsProblem p → n ≡ value_of p q → n < 2 ^ 127
+value_fits p q n sound value = let fits = whole_weight-fits p sound in omega (arith, fits, value)
+
 -- a path that was closed by its value may stand on a board that began with an exact standing
 pub whole_may_stand : (p : Problem) (first s : Standing) (q : List ℕ) (n : ℕ) → IsProblem p → IsExact p first → IsClosed p s q (Whole n) →
     MayStand first (record { path = q; value = n })
-whole_may_stand p first s q n sound exact closed = record {
-  size = closed.0 ∙ sym exact.path.whole;
-  value = (let fits = whole_weight-fits p sound in let value = closed.1 in omega (arith, fits, value));
-}
+whole_may_stand p first s q n sound exact closed = record { size = closed.0 ∙ sym exact.path.whole; value = value_fits p q n sound closed.1 }
 
 -- the standing in use after a record is no worse than before
 pub after_is_up : (s : Standing) (q : List ℕ) (kind : Kind) → IsAtLeast (best_after s q kind) s

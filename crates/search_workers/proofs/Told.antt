@@ -7,7 +7,7 @@ use Rattle.incumbent_board.specs.declared.offer.Offer.{Offer}
 use Rattle.incumbent_board.specs.declared.offer.Offer.TheVariants.{Placed, Behind}
 use Rattle.incumbent_board.specs.History.{last_of, last_from}
 use Rattle.incumbent_board.specs.Boards.{SeatView, offers_of}
-use Rattle.incumbent_board.specs.Offers.{MatchOffer}
+use Rattle.incumbent_board.specs.Offers.{OnPlaced, IfBehind}
 use Rattle.search_workers.specs.Incumbents.{WasTold, Looked}
 
 -- what was added last stands in a list
@@ -16,15 +16,15 @@ Contains-last xs x = Contains-append_right xs (x ∷ []) x (Contains-head x [])
 
 -- a seat was told of what it offers
 pub told_by_offer : (s : Standing) (old new : SeatView) (answer : Offer) →
-    MatchOffer answer (new.placed ≡ old.placed ++ s ∷ []) (λ _. new.placed ≡ old.placed) →
-    MatchOffer answer (new.behind ≡ old.behind) (λ _. new.behind ≡ old.behind ++ s ∷ []) → WasTold new s
+    OnPlaced answer ((new.placed ≡ old.placed ++ s ∷ []) × (new.behind ≡ old.behind)) →
+    IfBehind answer (λ _. (new.placed ≡ old.placed) × (new.behind ≡ old.behind ++ s ∷ [])) → WasTold new s
 told_by_offer s old new Placed placed behind = record {
   among = Contains-append_right new.seen (offers_of new) s
-      (Contains-append_left new.placed new.behind s (subst (λ xs. Contains xs s) (sym placed) (Contains-last old.placed s)));
+      (Contains-append_left new.placed new.behind s (subst (λ xs. Contains xs s) (sym placed.0) (Contains-last old.placed s)));
 }
 told_by_offer s old new (Behind b) placed behind = record {
   among = Contains-append_right new.seen (offers_of new) s
-      (Contains-append_right new.placed new.behind s (subst (λ xs. Contains xs s) (sym behind) (Contains-last old.behind s)));
+      (Contains-append_right new.placed new.behind s (subst (λ xs. Contains xs s) (sym behind.1) (Contains-last old.behind s)));
 }
 
 -- a history has its last standing
