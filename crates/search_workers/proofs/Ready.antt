@@ -53,7 +53,7 @@ legal_children p q legal short =
     All-map (IsLegal p) (λ d. q ++ d ∷ []) (moves_after p q)
     (λ k d l. child_is_legal p q (get_or (moves_after p q) k d) legal short (All-contains_itself (moves_after p q) k d l))
 
-longer_children : (p : Problem) (q : List ℕ) → All (λ r. length r ≡ length q + 1) (children_of p q)
+pub longer_children : (p : Problem) (q : List ℕ) → All (λ r. length r ≡ length q + 1) (children_of p q)
 longer_children p q =
     All-map (λ r. length r ≡ length q + 1) (λ d. q ++ d ∷ []) (moves_after p q) (λ k d l. length-append q (get_or (moves_after p q) k d ∷ []))
 
@@ -61,7 +61,7 @@ longer_children p q =
 pub last_legal : (p : Problem) (ws ws' : List (List ℕ)) (q : List ℕ) → ws ≡ ws' ++ q ∷ [] → All (IsLegal p) ws → IsLegal p q
 last_legal p ws ws' q e all = All-contains (IsLegal p) (ws' ++ q ∷ []) q (subst (All (IsLegal p)) e all) (Contains-last ws' q)
 
-rest_legal : (p : Problem) (ws ws' : List (List ℕ)) (q : List ℕ) → ws ≡ ws' ++ q ∷ [] → All (IsLegal p) ws → All (IsLegal p) ws'
+pub rest_legal : (p : Problem) (ws ws' : List (List ℕ)) (q : List ℕ) → ws ≡ ws' ++ q ∷ [] → All (IsLegal p) ws → All (IsLegal p) ws'
 rest_legal p ws ws' q e all = λ k d l. All-contains (IsLegal p) (ws' ++ q ∷ []) (get_or ws' k d) (subst (All (IsLegal p)) e all) (Contains-append_left ws' (q ∷ []) (get_or ws' k d) (All-contains_itself ws' k d l))
 
 pub last_room : (ws ws' : List (List ℕ)) (q : List ℕ) → ws ≡ ws' ++ q ∷ [] → HasRoom ws → length ws' ≤ 63 * length q
