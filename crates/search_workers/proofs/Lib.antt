@@ -1,5 +1,7 @@
 mod Balanced
 mod BroughtIn
+mod Concluded
+pub mod Crews
 mod Disposed
 pub mod Gone
 mod Limits
