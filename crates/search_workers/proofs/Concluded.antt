@@ -1,5 +1,5 @@
 -- What settled desks come to together.
-use Rattle.std.proofs.Common.{◌≡◌, ℕ, zero, suc, ◌+◌, ◌<◌, List, [], ◌∷◌, ◌++◌, map, length, get_or, refl, sym, ap, ◌∙◌, subst, inl, arith, All, Any, Contains, flat_map, sum_by, length-append, Result, Ok, Err}
+use Rattle.std.proofs.Common.{◌≡◌, ℕ, zero, suc, ◌<◌, List, [], ◌∷◌, ◌++◌, map, length, get_or, refl, sym, ap, ◌∙◌, subst, inl, arith, All, flat_map, sum_by, length-append, Result, Ok, Err}
 use Rattle.std.proofs.lemmas.List.{length-map, get_or-map}
 use Rattle.std.proofs.lemmas.List.Elements.{All-nil, All-cons, All-head, All-tail, All-map, All-weaker}
 use Rattle.std.proofs.lemmas.List.Sums.{sum_by-cons}
@@ -19,8 +19,8 @@ use Rattle.search_workers.specs.declared.answer.SearchStop.TheVariants.{NoMemory
 use Rattle.search_workers.specs.declared.harvest.Harvest.{Harvest}
 use Rattle.search_workers.specs.declared.left.Left.{Left}
 use Rattle.search_workers.specs.declared.left.Left.TheVariants as left
-use Rattle.search_workers.specs.Desks.{DeskView, haul_at, IsInOrder, DrewFull}
-use Rattle.search_workers.specs.Settled.{closed_at, waiting_at, lasts_at, IsSettled, SomeFull, EndsSearch}
+use Rattle.search_workers.specs.Desks.{DeskView, haul_at, IsInOrder}
+use Rattle.search_workers.specs.Settled.{closed_at, waiting_at, lasts_at, IsSettled, EndsSearch}
 use Rattle.search_workers.specs.Search.{reached_by, IfFull}
 use Rattle.search_workers.specs.Harvests.{EndsHarvest}
 use Rattle.search_workers.proofs.Crews.{flat_map-map, map-map}

@@ -1,23 +1,22 @@
 -- What the workers bring back together.
-use Rattle.std.proofs.Common.{◌≡◌, ℕ, zero, suc, ◌+◌, ◌<◌, ◌≤◌, List, [], ◌∷◌, ◌++◌, map, length, get_or, refl, sym, ap, ◌∙◌, subst, arith, All, Any, Contains, flat_map, sum_by, slice_get, Some, IsPermutation}
+use Rattle.std.proofs.Common.{◌≡◌, ℕ, suc, ◌+◌, ◌<◌, List, [], ◌∷◌, ◌++◌, map, length, get_or, refl, sym, ap, ◌∙◌, subst, arith, All, flat_map, IsPermutation}
 use Rattle.std.proofs.lemmas.List.{length-map, get_or-map}
-use Rattle.std.proofs.lemmas.List.Elements.{All-nil, All-cons, All-head, All-tail, All-map, All-weaker, All-contains, All-contains_itself}
+use Rattle.std.proofs.lemmas.List.Elements.{All-nil, All-cons, All-head, All-tail, All-map, All-weaker}
 use Rattle.search_model.specs.declared.standing.Standing.{Standing}
 use Rattle.search_model.specs.Problem.{Problem, IsProblem}
 use Rattle.search_model.specs.Legal.{IsLegal}
 use Rattle.search_model.proofs.Members.{Contains-some}
-use Rattle.search_model.proofs.Sums.{sum_by-map}
 use Rattle.bound_tree.specs.declared.node.TreeNode.{TreeNode}
 use Rattle.steal_pool.specs.Kits.{KitView, put_of, taken_of}
-use Rattle.steal_pool.specs.Pools.{EachAt, IsWhole, pool_of}
+use Rattle.steal_pool.specs.Pools.{EachAt, IsWhole}
 use Rattle.search_core.specs.Counts.{count_of, SameItems}
 use Rattle.search_core.specs.Balance.{MeetsEquation}
 use Rattle.search_core.proofs.Counts.{SameItems-permutation}
 use Rattle.tree_gather.specs.Hauls.{Haul, IsHaulBalanced, records_of, waiting_of, idle_haul}
 use Rattle.tree_gather.proofs.Hauls.{all_hauls_are_even}
 use Rattle.tree_gather.proofs.Left.{tasks_wait, nothing_waits}
-use Rattle.node_tickets.specs.Seats.{TicketsView, SeatView as TicketView, AreAllSeats as AreAllTickets, MayDraw}
-use Rattle.incumbent_board.specs.Boards.{BoardView, SeatView, AreAllSeats}
+use Rattle.node_tickets.specs.Seats.{TicketsView, AreAllSeats as AreAllTickets, MayDraw}
+use Rattle.incumbent_board.specs.Boards.{BoardView, AreAllSeats}
 use Rattle.search_workers.specs.declared.crew.Member.{Member}
 use Rattle.search_workers.specs.declared.left.Left.{Left}
 use Rattle.search_workers.specs.declared.left.Left.TheVariants.{Idle, Full, NoMemory}

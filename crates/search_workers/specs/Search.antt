@@ -1,6 +1,5 @@
 -- What a search answers.
-use Rattle.std.specs.Prelude.{◌≡◌, ◌<◌, ◌≤◌, ℕ, List, ◌++◌, length, All, Result, Ok, Err}
-use Rattle.search_model.specs.declared.standing.Standing.{Standing}
+use Rattle.std.specs.Prelude.{ℕ, List, ◌++◌, Result, Ok, Err}
 use Rattle.search_model.specs.Problem.{Problem}
 use Rattle.search_model.specs.Tracks.{whole_weight}
 use Rattle.bound_tree.specs.declared.plan.Plan.{Plan}

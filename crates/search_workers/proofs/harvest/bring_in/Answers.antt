@@ -1,4 +1,4 @@
-use Rattle.std.proofs.Common.{[], ◌∷◌, map, flat_map}
+use Rattle.std.proofs.Common.{[], ◌∷◌, map}
 use Rattle.search_workers.specs.Desks.{DeskView}
 use Rattle.search_workers.specs.Seen.{desk_view}
 use Rattle.search_workers.specs.Settled.{closed_at, waiting_at}

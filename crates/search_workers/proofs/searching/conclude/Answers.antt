@@ -1,4 +1,4 @@
-use Rattle.std.proofs.Common.{List, ℕ, [], arith, subst}
+use Rattle.std.proofs.Common.{List, ℕ, arith, subst}
 use Rattle.std.proofs.lemmas.List.Sorted.{length_permutation}
 use Rattle.tree_gather.specs.Hauls.{AreJoined}
 use Rattle.tree_gather.proofs.Joined.{done_are_accepted}

@@ -5,7 +5,7 @@ use Rattle.bound_tree.specs.Close.{LetsBranch}
 use Rattle.node_tickets.specs.Seats.{SeatView as TicketView, numbers_of}
 use Rattle.tree_gather.specs.Hauls.{AreJoined}
 use Rattle.search_workers.specs.Seen.{desk_view}
-use Rattle.search_workers.specs.Settled.{closed_at, waiting_at}
+use Rattle.search_workers.specs.Settled.{closed_at}
 use Rattle.search_workers.proofs.Concluded.{joined_at, counted_at, ends_at, more_live, distinct_reached, live_reached}
 use Rattle.search_workers.proofs.searching.search.Goals as goal
 
