@@ -7,19 +7,29 @@ use Rattle.search_model.specs.Legal.{IsLegal, IsPath}
 use Rattle.search_model.specs.Tracks.{value_of}
 use Rattle.search_model.specs.Bounds.{mean_of}
 use Rattle.bound_tree.specs.declared.node.Kind.{Kind}
-use Rattle.bound_tree.specs.declared.node.Kind.TheVariants.{Branch, Whole}
+use Rattle.bound_tree.specs.declared.node.Kind.TheVariants.{Branch, Whole, Mean, Tangent}
 use Rattle.bound_tree.specs.Accepts.{IsGoodKind, Extends}
 use Rattle.bound_tree.specs.Close.{IsClosed, IsExact, IsAtLeast}
 use Rattle.bound_tree.proofs.MeanBound.{mean_is_above}
 use Rattle.bound_tree.proofs.TangentBound.{tangent_is_above}
 use Rattle.bound_tree.proofs.Tangents.{reference_extends}
-use Rattle.bound_tree.proofs.Closing.{not_worse, at_least_itself, branch_at_least, closed_is_good}
+use Rattle.bound_tree.proofs.Closing.{not_worse, at_least_itself, at_least_from, at_least_trans, cut_at_least, finer_cut_stays, branch_at_least, closed_is_good}
 
 -- what is closed under a standing is good under each that is at least it, and at least the path itself where it is whole
 pub good_from_closed : (p : Problem) (s t : Standing) (q : List ℕ) (kind : Kind) → IsProblem p → IsLegal p q → IsAtLeast t s →
     ((n : ℕ) → kind ≡ Whole n → IsAtLeast t (record { path = q; value = n })) → IsClosed p s q kind → IsGoodKind p t q kind
 good_from_closed p s t q kind sound legal least whole closed =
     closed_is_good p s t q kind sound legal least (λ n e. not_worse t (record { path = q; value = n }) (whole n e)) closed
+
+-- what is good in itself under a standing is good under each that is at least it
+pub good_at_least : (p : Problem) (s t : Standing) (q : List ℕ) (kind : Kind) → IsProblem p → IsAtLeast t s → IsGoodKind p s q kind → IsGoodKind p t q kind
+good_at_least p s t q Branch sound least good = good
+good_at_least p s t q (Whole n) sound least good =
+    let whole : Standing = record { path = q; value = n } in
+    (good.0, good.1, not_worse t whole (at_least_trans t s whole least (at_least_from s whole good.2)))
+good_at_least p s t q (Mean b) sound least good = (good.0, good.1, cut_at_least b q s t least good.2)
+good_at_least p s t q (Tangent b whole) sound least good =
+    (good.0, good.1, finer_cut_stays p.sweep.denominator b q s t sound.sweep.denominator.0 least good.2)
 
 -- what branches is shorter than the horizon
 pub short_from_branch : (p : Problem) (s : Standing) (q : List ℕ) → IsProblem p → IsLegal p q → IsClosed p s q Branch → length q < p.horizon

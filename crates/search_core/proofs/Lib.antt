@@ -6,4 +6,5 @@ pub mod Preorder
 pub mod Kept
 pub mod Good
 pub mod Live
+pub mod Many
 pub mod Answered

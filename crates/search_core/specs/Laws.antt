@@ -1,5 +1,5 @@
 -- What the definitions say together.
-use Rattle.std.specs.Prelude.{ℕ, ◌≡◌, List, [], All, AllPairs, IsTrue}
+use Rattle.std.specs.Prelude.{ℕ, ◌<◌, List, [], length, All, AllPairs, IsTrue}
 use Rattle.search_model.specs.declared.standing.Standing.{Standing}
 use Rattle.search_model.specs.Problem.{Problem, IsProblem}
 use Rattle.search_model.specs.Tracks.{whole_weight}
@@ -7,7 +7,7 @@ use Rattle.search_model.specs.Order.{smaller}
 use Rattle.bound_tree.specs.declared.node.TreeNode.{TreeNode}
 use Rattle.bound_tree.specs.Accepts.{prefixes_of}
 use Rattle.bound_tree.specs.Accepts.{IsGood, Accepts}
-use Rattle.bound_tree.specs.Close.{IsLive, IsExact, IsAtLeast, LetsBranch}
+use Rattle.bound_tree.specs.Close.{IsLive, IsExact, IsAtLeast, LetsBranch, HasMoreLive}
 use Rattle.search_core.specs.declared.event.CoreEvent.{CoreEvent}
 use Rattle.search_core.specs.Balance.{Core, standing_in, MeetsEquation, AreDistinct, IsBalanced}
 use Rattle.search_core.specs.Steps.{started, IsAllowed, Steps, Runs}
@@ -54,3 +54,8 @@ abbrev pub RunsAreLive : Type 0
 RunsAreLive = (p : Problem) (s : Standing) (events : List CoreEvent) (c : Core) →
     IsProblem p → IsExact p s → Runs p (started s) events c → All (λ t. IsAtLeast t s) c.standings →
     LetsBranch p s c.records × All (IsLive p s) (standing_in c.pool c.hands c.records)
+
+-- distinct live prefixes, in whatever order, show that there are more live prefixes than any number below theirs
+abbrev pub DistinctLiveAreMany : Type 0
+DistinctLiveAreMany = (p : Problem) (s : Standing) (limit : ℕ) (qs : List (List ℕ)) →
+    AreDistinct qs → All (IsLive p s) qs → limit < length qs → HasMoreLive p s limit

@@ -1,6 +1,6 @@
 //! What the definitions say together.
 
-ghost use Rattle.search_core.specs.Laws.{StartIsBalanced, EventsKeepBalance, RunsAreBalanced, RunsAreGood, BalancedIsAccepted, BalancedIsLive, RunsAreLive};
+ghost use Rattle.search_core.specs.Laws.{StartIsBalanced, EventsKeepBalance, RunsAreBalanced, RunsAreGood, BalancedIsAccepted, BalancedIsLive, RunsAreLive, DistinctLiveAreMany};
 
 /// The balance holds at the start, each event keeps it, and so it holds after any list of events.
 #[tactic(auto, using(crate::proofs::Kept::start_is_balanced, crate::proofs::Kept::kept, crate::proofs::Kept::runs_are_balanced))]
@@ -29,4 +29,9 @@ pub fn balanced_is_live()
 /// What a search that learns nothing worse than its first standing pools, holds and records is live under it.
 pub fn runs_are_live()
     ensures { RunsAreLive }
+{}
+
+/// Distinct live prefixes, in whatever order, show that there are more live prefixes than any number below theirs.
+pub fn distinct_live_are_many()
+    ensures { DistinctLiveAreMany }
 {}

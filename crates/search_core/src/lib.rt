@@ -10,6 +10,7 @@ mod tests;
 
 pub use event::{CoreEvent, CoreFault};
 pub use laws::{
-    balanced_is_accepted, balanced_is_live, runs_are_balanced, runs_are_good, runs_are_live,
+    balanced_is_accepted, balanced_is_live, distinct_live_are_many, runs_are_balanced,
+    runs_are_good, runs_are_live,
 };
 pub use machine::CoreState;

@@ -8,21 +8,21 @@ use Rattle.search_core.specs.Balance.{expected_of}
 use Rattle.search_core.proofs.Counts.{count_of-append}
 use Rattle.search_core.proofs.Children.{expected-append, prefixes-append}
 use Rattle.search_core.proofs.Reached.{standing_is}
-use Rattle.tree_gather.specs.Hauls.{Haul, IsHaulBalanced}
-use Rattle.tree_gather.specs.Laws.{HaulsMeetEquation}
+use Rattle.tree_gather.specs.Hauls.{Haul, IsHaulBalanced, records_of, waiting_of}
+use Rattle.tree_gather.specs.Laws.{AllHaulsAreEven}
 
-three_lists : (q : List ℕ) (xs ys zs : List (List ℕ)) → count_of q (xs ++ ys ++ zs) ≡ count_of q xs + count_of q ys + count_of q zs
+pub three_lists : (q : List ℕ) (xs ys zs : List (List ℕ)) → count_of q (xs ++ ys ++ zs) ≡ count_of q xs + count_of q ys + count_of q zs
 three_lists q xs ys zs = omega (arith, count_of-append q (xs ++ ys) zs, count_of-append q xs ys)
 
-all_hauls : (p : Problem) (hauls : List Haul) (q : List ℕ) → All (IsHaulBalanced p) hauls →
+haul_counts : (p : Problem) (hauls : List Haul) (q : List ℕ) → All (IsHaulBalanced p) hauls →
     count_of q (flat_map (λ h. h.began) hauls) + count_of q (flat_map (λ h. h.taken) hauls) + count_of q (expected_of p (flat_map (λ h. h.records) hauls))
     ≡ count_of q (prefixes_of (flat_map (λ h. h.records) hauls)) + count_of q (flat_map (λ h. h.waiting) hauls) + count_of q (flat_map (λ h. h.put) hauls)
-all_hauls p [] q all = omega arith
-all_hauls p (h ∷ hs) q all =
+haul_counts p [] q all = omega arith
+haul_counts p (h ∷ hs) q all =
     omega (
       arith,
       (All-head (IsHaulBalanced p) h hs all).same q,
-      all_hauls p hs q (All-tail (IsHaulBalanced p) h hs all),
+      haul_counts p hs q (All-tail (IsHaulBalanced p) h hs all),
       three_lists q h.began h.taken (expected_of p h.records),
       three_lists q (prefixes_of h.records) h.waiting h.put,
       count_of-append q h.began (flat_map (λ h. h.began) hs),
@@ -33,14 +33,14 @@ all_hauls p (h ∷ hs) q all =
       expected-append p q h.records (flat_map (λ h. h.records) hs),
     )
 
-pub hauls_meet_equation : HaulsMeetEquation
-hauls_meet_equation p hauls left all began put q =
-    let waiting : List (List ℕ) = flat_map (λ (h : Haul). h.waiting) hauls in
+pub all_hauls_are_even : AllHaulsAreEven
+all_hauls_are_even p left hauls all q =
+    let waiting : List (List ℕ) = waiting_of hauls in
     omega (
       arith,
-      all_hauls p hauls q all,
-      began q,
-      put q,
+      haul_counts p hauls q all.balanced,
+      all.began q,
+      all.put q,
       count_of-append q (flat_map (λ h. h.taken) hauls) left,
-      standing_is [] waiting (flat_map (λ h. h.records) hauls) q,
+      standing_is [] waiting (records_of hauls) q,
     )

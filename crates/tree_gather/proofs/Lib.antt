@@ -1,2 +1,4 @@
 pub mod Hauls
+pub mod Joined
+pub mod Left
 pub mod Sorted

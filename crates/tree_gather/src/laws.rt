@@ -1,8 +1,21 @@
 //! What the definitions say together.
 
-ghost use Rattle.tree_gather.specs.Laws.{HaulsMeetEquation};
+ghost use Rattle.tree_gather.specs.Laws.{AllHaulsAreEven, EvenHaulsAreJoined, JoinedAreLive, WaitingHaveMore, DoneAreAccepted};
 
-/// What balanced hauls bring back together meets Balance's equation with nothing pooled.
-pub fn hauls_meet_equation()
-    ensures { HaulsMeetEquation }
+/// What all hauls of a search bring back meets Balance's equation, with nothing pooled, and is joined.
+pub fn all_hauls_are_joined()
+    ensures even { AllHaulsAreEven }
+    ensures joined { EvenHaulsAreJoined }
+{}
+
+/// All that was closed or waits is distinct, and live under the first standing of the search; so where something waits there
+/// are more live prefixes than records.
+pub fn joined_are_live()
+    ensures live { JoinedAreLive }
+    ensures more { WaitingHaveMore }
+{}
+
+/// Where nothing waits, the records are the tree of an accepted plan of the best standing.
+pub fn done_are_accepted()
+    ensures { DoneAreAccepted }
 {}

@@ -7,4 +7,4 @@ mod laws;
 mod tests;
 
 pub use gathering::gather;
-pub use laws::hauls_meet_equation;
+pub use laws::{all_hauls_are_joined, done_are_accepted, joined_are_live};

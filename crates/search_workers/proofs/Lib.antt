@@ -1,0 +1,16 @@
+mod Balanced
+mod BroughtIn
+mod Concluded
+pub mod Crews
+mod Disposed
+pub mod Gone
+mod Limits
+pub mod Mustered
+mod Ready
+mod Recorded
+pub mod Rooms
+pub mod Settling
+mod Shared
+pub mod Standings
+pub mod Told
+pub mod Worked

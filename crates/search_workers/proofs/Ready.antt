@@ -1,0 +1,181 @@
+-- A worker stays ready.
+use Rattle.std.proofs.Common.{◌≡◌, ◌≢◌, ℕ, zero, suc, ◌+◌, ◌*◌, ◌<◌, ◌≤◌, Bool, false, Option, None, Some, List, [], ◌∷◌, ◌++◌, length, get_or, refl, sym, ap, ◌∙◌, subst, arith, All, Contains, length-append, append-nil}
+use Rattle.std.proofs.lemmas.List.{length-map}
+use Rattle.std.proofs.Math.Seq.{get_or-append_seam}
+use Rattle.std.proofs.lemmas.List.Elements.{All-nil, All-cons, All-contains, All-contains_itself, All-map, Contains-append_left}
+use Rattle.search_model.specs.declared.standing.Standing.{Standing}
+use Rattle.search_model.specs.Problem.{Problem, IsProblem}
+use Rattle.search_model.specs.Legal.{IsLegal, moves_after}
+use Rattle.search_model.proofs.WalkLemmas.{follows-append}
+use Rattle.bound_tree.specs.declared.node.Kind.{Kind}
+use Rattle.bound_tree.specs.declared.node.Kind.TheVariants.{Branch}
+use Rattle.bound_tree.specs.declared.node.TreeNode.{TreeNode}
+use Rattle.bound_tree.specs.Accepts.{IsGood, children_of}
+use Rattle.search_core.specs.Counts.{count_of}
+use Rattle.steal_pool.specs.Kits.{KitView, put_of, taken_of}
+use Rattle.node_tickets.specs.Seats.{MayDraw}
+use Rattle.search_workers.specs.Children.{Disposes}
+use Rattle.search_workers.specs.Desks.{DeskView, HasRoom, IsInOrder, IsSameDesk}
+use Rattle.search_workers.specs.Steps.{Records}
+use Rattle.search_workers.specs.declared.left.Left.{Left}
+use Rattle.search_workers.specs.declared.left.Left.TheVariants.{Idle}
+use Rattle.search_workers.specs.Turns.{OnlyTook, HasWork, Turns}
+use Rattle.search_workers.specs.Workers.{WorkerView, begun_by, IsReady, IsSameWorker, Went}
+use Rattle.search_workers.proofs.Rooms.{few_moves}
+use Rattle.search_workers.proofs.Told.{Contains-last}
+use Rattle.search_workers.proofs.Balanced.{new_balanced, took_balanced, closed_balanced, expects_nothing}
+use Rattle.search_workers.proofs.Disposed.{waits, disposed_same, disposed_kit, all_wait, room_wait}
+
+-- other prefixes wait at a desk in order
+pub order_with : (p : Problem) (first : Standing) (d : DeskView) (ws : List (List ℕ)) → IsInOrder p first d → HasRoom ws → IsInOrder p first (record d { waiting = ws })
+order_with p first d ws order room = record {
+  sound = λ began put taken. (let s = order.sound began put taken in record { exact = s.exact; up = s.up; good = s.good; branches = s.branches });
+  made = order.made;
+  counted = order.counted;
+  ascending = order.ascending;
+  looked = order.looked;
+  heeded = order.heeded;
+  told = order.told;
+  room = room;
+  tables = order.tables;
+  belief = order.belief;
+}
+
+-- the children of a legal prefix are legal, and longer by one
+child_is_legal : (p : Problem) (q : List ℕ) (d : ℕ) → IsLegal p q → length q < p.horizon → Contains (moves_after p q) d → IsLegal p (q ++ d ∷ [])
+child_is_legal p q d legal short move = record {
+  follows = (follows-append p.moves p.start q (d ∷ [])).1 (legal.follows, (move, tt));
+  short = omega (arith, short, length-append q (d ∷ []));
+}
+
+pub legal_children : (p : Problem) (q : List ℕ) → IsLegal p q → length q < p.horizon → All (IsLegal p) (children_of p q)
+legal_children p q legal short =
+    All-map (IsLegal p) (λ d. q ++ d ∷ []) (moves_after p q)
+    (λ k d l. child_is_legal p q (get_or (moves_after p q) k d) legal short (All-contains_itself (moves_after p q) k d l))
+
+pub longer_children : (p : Problem) (q : List ℕ) → All (λ r. length r ≡ length q + 1) (children_of p q)
+longer_children p q =
+    All-map (λ r. length r ≡ length q + 1) (λ d. q ++ d ∷ []) (moves_after p q) (λ k d l. length-append q (get_or (moves_after p q) k d ∷ []))
+
+-- the last of what waits: it is legal, what is below it leaves it room, and it is shorter than the horizon where it branches
+pub last_legal : (p : Problem) (ws ws' : List (List ℕ)) (q : List ℕ) → ws ≡ ws' ++ q ∷ [] → All (IsLegal p) ws → IsLegal p q
+last_legal p ws ws' q e all = All-contains (IsLegal p) (ws' ++ q ∷ []) q (subst (All (IsLegal p)) e all) (Contains-last ws' q)
+
+pub rest_legal : (p : Problem) (ws ws' : List (List ℕ)) (q : List ℕ) → ws ≡ ws' ++ q ∷ [] → All (IsLegal p) ws → All (IsLegal p) ws'
+rest_legal p ws ws' q e all = λ k d l. All-contains (IsLegal p) (ws' ++ q ∷ []) (get_or ws' k d) (subst (All (IsLegal p)) e all) (Contains-append_left ws' (q ∷ []) (get_or ws' k d) (All-contains_itself ws' k d l))
+
+pub last_room : (ws ws' : List (List ℕ)) (q : List ℕ) → ws ≡ ws' ++ q ∷ [] → HasRoom ws → length ws' ≤ 63 * length q
+last_room ws ws' q e room =
+    let within : length ws' < length (ws' ++ q ∷ []) = omega (arith, length-append ws' (q ∷ [])) in
+    let here = subst HasRoom e room (length ws') [] within in
+    rw (get_or-append_seam ws' q [] []) at here
+
+pub branch_short : (p : Problem) (first : Standing) (d d' : DeskView) (q : List ℕ) → IsInOrder p first d' → Records d q Branch d' → length q < p.horizon
+branch_short p first d d' q order recorded =
+    let node : TreeNode = record { prefix = q; kind = Branch } in
+    let s = (order.sound [] [] []) in
+    All-contains (IsGood p d'.last) (d.records ++ node ∷ []) node (subst (All (IsGood p d'.last)) recorded.records s.good) (Contains-last d.records node)
+
+module _ (p : Problem) (first : Standing) (kit : KitView (List ℕ)) (d d' : DeskView) (q : List ℕ)
+    (sound : IsProblem p) (ready : IsReady p first (record { kit = kit; desk = d })) (order : IsInOrder p first d') (same : IsSameDesk d d') (may : MayDraw d'.ticket) where
+  more : (kind : Kind) → Records d q kind d' → length d'.records ≡ length d.records + 1
+  more kind recorded = ap length recorded.records ∙ length-append d.records (record { prefix = q; kind = kind } ∷ [])
+
+  -- where the prefix ends
+  pub turned_end : (kind : Kind) → kind ≢ Branch → Records d q kind d' → Turns p first (record { kit = kit; desk = d }) None (record { kit = kit; desk = d' })
+  turned_end kind other recorded = (
+    record {
+      order = order;
+      legal = rest_legal p d.waiting d'.waiting q recorded.waited ready.legal;
+      balanced = closed_balanced p kit kit d d' q kind d'.waiting ready.balanced recorded refl refl
+          (λ r. ap (λ ws. count_of r (put_of kit ++ ws)) (sym (append-nil d'.waiting)) ∙ ap (λ es. count_of r (put_of kit ++ (d'.waiting ++ es))) (sym (expects_nothing p q kind other)));
+    },
+    record { pool = refl; place = refl; desk = same },
+    may,
+    more kind recorded,
+  )
+
+  -- where it branches
+  pub turned_branch : (shares : Bool) (kit' : KitView (List ℕ)) (ws : List (List ℕ)) → Records d q Branch d' → Disposes (children_of p q) shares kit d'.waiting kit' ws →
+      Turns p first (record { kit = kit; desk = d }) None (record { kit = kit'; desk = record d' { waiting = ws } })
+  turned_branch shares kit' ws recorded disposed =
+      let children = children_of p q in
+      let legal = last_legal p d.waiting d'.waiting q recorded.waited ready.legal in
+      let short = branch_short p first d d' q order recorded in
+      let w = waits children shares kit d'.waiting kit' ws disposed in
+      let only = disposed_kit children shares kit d'.waiting kit' ws disposed in
+      let few : length children ≤ 64 = rw (length-map (moves_after p q) (λ d. q ++ d ∷ [])) (few_moves p q sound legal) in (
+        record {
+          order = order_with p first d' ws order
+              (room_wait children d'.waiting ws (length q) w order.room (last_room d.waiting d'.waiting q recorded.waited ready.order.room) few (longer_children p q));
+          legal = all_wait (IsLegal p) children d'.waiting ws w (rest_legal p d.waiting d'.waiting q recorded.waited ready.legal) (legal_children p q legal short);
+          balanced = closed_balanced p kit kit' d d' q Branch ws ready.balanced recorded only.place only.taken (disposed_same children shares kit d'.waiting kit' ws disposed);
+        },
+        record { pool = only.pool; place = only.place; desk = record { tickets = same.tickets; stands_for = same.stands_for; seat = same.seat } },
+        may,
+        more Branch recorded,
+      )
+
+same_trans : (a b c : WorkerView) → IsSameWorker a b → IsSameWorker b c → IsSameWorker a c
+same_trans a b c one two = record {
+  pool = two.pool ∙ one.pool;
+  place = two.place ∙ one.place;
+  desk = record {
+    tickets = (two.desk.tickets.0 ∙ one.desk.tickets.0, two.desk.tickets.1 ∙ one.desk.tickets.1);
+    stands_for = two.desk.stands_for ∙ one.desk.stands_for;
+    seat = (two.desk.seat.0 ∙ one.desk.seat.0, two.desk.seat.1 ∙ one.desk.seat.1);
+  };
+}
+
+-- a turn that began with taking a task
+pub turned_after : (p : Problem) (first : Standing) (old mid new : WorkerView) (left : Option Left) → IsSameWorker old mid → mid.desk.records ≡ old.desk.records →
+    Turns p first mid left new → Turns p first old left new
+turned_after p first old mid new None same records t = (t.0, same_trans old mid new same t.1, t.2, t.3 ∙ ap (λ rs. length rs + 1) records)
+turned_after p first old mid new (Some left) same records t = record { same = same_trans old mid new same t.same; balanced = t.balanced; order = t.order; leaves = t.leaves }
+
+-- a worker whose kit took tasks, which wait now
+took_same : (kit kit' : KitView (List ℕ)) (d : DeskView) (ws : List (List ℕ)) → OnlyTook kit d.waiting kit' ws →
+    IsSameWorker (record { kit = kit; desk = d }) (record { kit = kit'; desk = record d { waiting = ws } })
+took_same kit kit' d ws took = record {
+  pool = took.pool;
+  place = took.place;
+  desk = record { tickets = (refl, refl); stands_for = refl; seat = (refl, refl) };
+}
+
+module _ (p : Problem) (first : Standing) (kit kit' : KitView (List ℕ)) (d : DeskView) (ws : List (List ℕ))
+    (ready : IsReady p first (record { kit = kit; desk = d })) (took : OnlyTook kit d.waiting kit' ws) (room : HasRoom ws) where
+  pub took_ready : All (IsLegal p) ws → IsReady p first (record { kit = kit'; desk = record d { waiting = ws } })
+  took_ready legal = record {
+    order = order_with p first d ws ready.order room;
+    legal = legal;
+    balanced = took_balanced p kit kit' d ws ready.balanced took;
+  }
+
+  -- it has nothing to do
+  pub took_idle : MayDraw d.ticket → HasWork p kit' ws false → Went p first (record { kit = kit; desk = d }) Idle (record { kit = kit'; desk = record d { waiting = ws } })
+  took_idle may none = record {
+    same = took_same kit kit' d ws took;
+    balanced = took_balanced p kit kit' d ws ready.balanced took;
+    order = order_with p first d ws ready.order room;
+    leaves = (may, none.0, none.1);
+  }
+
+  pub took_turned : (left : Option Left) (new : WorkerView) → Turns p first (record { kit = kit'; desk = record d { waiting = ws } }) left new → Turns p first (record { kit = kit; desk = d }) left new
+  took_turned left new t = turned_after p first (record { kit = kit; desk = d }) (record { kit = kit'; desk = record d { waiting = ws } }) new left (took_same kit kit' d ws took) refl t
+
+begun_alone : (place : ℕ) → HasRoom (begun_by place)
+begun_alone zero k d l = omega (arith, l)
+begun_alone (suc place) k d l = absurd (omega (arith, l))
+
+begun_legal : (p : Problem) (place : ℕ) → All (IsLegal p) (begun_by place)
+begun_legal p zero = All-cons (IsLegal p) [] [] (record { follows = tt; short = omega arith }) (All-nil (IsLegal p))
+begun_legal p (suc place) = All-nil (IsLegal p)
+
+-- a worker that has done nothing yet
+pub new_ready : (p : Problem) (first : Standing) (kit : KitView (List ℕ)) (d : DeskView) (ws : List (List ℕ)) → IsInOrder p first d → put_of kit ≡ [] → taken_of kit ≡ [] →
+    d.records ≡ [] → ws ≡ begun_by kit.place → IsReady p first (record { kit = kit; desk = record d { waiting = ws } })
+new_ready p first kit d ws order put taken records begun = record {
+  order = order_with p first d ws order (subst HasRoom (sym begun) (begun_alone kit.place));
+  legal = subst (All (IsLegal p)) (sym begun) (begun_legal p kit.place);
+  balanced = new_balanced p kit (record d { waiting = ws }) put taken records begun;
+}

@@ -1,0 +1,9 @@
+use Rattle.std.proofs.Common.{◌≡◌, map}
+use Rattle.search_workers.specs.Seen.{desk_view}
+use Rattle.search_workers.proofs.joins.part_all.Given as goal
+
+abbrev pub invariant-loop-member : goal.invariant-loop-member
+invariant-loop-member l = record {
+  kits : l.kits.items ≡ map (λ m. m.worker.kit) l.yielded;
+  desks : map desk_view l.desks.items ≡ map (λ m. m.worker.desk) l.yielded;
+}

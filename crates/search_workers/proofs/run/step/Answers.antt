@@ -1,0 +1,34 @@
+use Rattle.std.proofs.Common.{nat_lt, length, ◌*◌, [], get_or, refl, sym, subst, Contains}
+use Rattle.std.proofs.lemmas.List.Elements.{All-contains_itself}
+use Rattle.search_workers.specs.Seen.{desk_view}
+use Rattle.search_workers.proofs.Balanced.{stays_balanced}
+use Rattle.search_workers.proofs.Ready.{turned_end, turned_branch}
+use Rattle.search_workers.proofs.run.step.Goals as goal
+
+pub returns-in-Ends : goal.returns-in-Ends
+returns-in-Ends g c =
+    let closes = c.in-Ends.ensures.closes in
+    turned_end c.args.sc.now c.args.board.now.first c.args.kit.now (desk_view c.args.desk.now) (desk_view c.close_last.new.self) closes.0.0
+    c.cells-sound.ensures.sound c.requires.ready c.in-Ends.ensures.order c.in-Ends.ensures.same closes.1 closes.0.1 closes.0.2 closes.0.3
+
+pub returns-in-Branches : goal.returns-in-Branches
+returns-in-Branches g c =
+    let closes = c.in-Branches.ensures.closes in
+    let p = c.args.sc.now in
+    let q = c.in-Branches.prefix in
+    turned_branch p c.args.board.now.first c.args.kit.now (desk_view c.args.desk.now) (desk_view c.close_last.new.self) q
+    c.cells-sound.ensures.sound c.requires.ready c.in-Branches.ensures.order c.in-Branches.ensures.same closes.1
+    (nat_lt (length q * 2) p.horizon) c.dispose.new.kit c.dispose.new.stack closes.0 c.dispose.ensures
+
+pub returns-in-Full : goal.returns-in-Full
+returns-in-Full g c =
+    let closes = c.in-Full.ensures.closes in
+    let p = c.args.sc.now in
+    let waiting = c.args.desk.now.stack in
+    let q = get_or waiting 0 [] in
+    record {
+      same = record { pool = refl; place = refl; desk = c.in-Full.ensures.same };
+      balanced = stays_balanced p c.args.kit.now (desk_view c.args.desk.now) (desk_view c.close_last.new.self) c.requires.ready.balanced closes.0;
+      order = c.in-Full.ensures.order;
+      leaves = (closes.1, (q, subst (λ ws. Contains ws q) (sym closes.0.waiting) (All-contains_itself waiting 0 [] c.requires.some), c.requires.ready.legal 0 [] c.requires.some));
+    }

@@ -1,0 +1,51 @@
+use Rattle.std.proofs.Common.{◌≡◌, ℕ, List, map, length, sym, subst, ap, ◌∙◌, rules, sum_by, IfOk}
+use Rattle.search_model.specs.declared.standing.Standing.{Standing}
+use Rattle.bound_tree.specs.declared.node.TreeNode.{TreeNode}
+use Rattle.bound_tree.specs.Close.{LetsBranch}
+use Rattle.node_tickets.specs.Seats.{SeatView as TicketView, numbers_of}
+use Rattle.tree_gather.specs.Hauls.{AreJoined}
+use Rattle.search_workers.specs.Seen.{desk_view}
+use Rattle.search_workers.specs.Settled.{closed_at}
+use Rattle.search_workers.proofs.Concluded.{joined_at, counted_at, ends_at, more_live, distinct_reached, live_reached}
+use Rattle.search_workers.proofs.searching.search.Goals as goal
+
+pub conclude-requires-clause-joined : goal.conclude-requires-clause-joined
+conclude-requires-clause-joined g c =
+    let p = c.args.sc.now in
+    let first = c.args.first.now in
+    let desks = map desk_view c.in_ok-end.desks.items in
+    let tasks = c.in_ok-end.tasks.items in
+    let harvest = c.in_ok-harvest.harvest in
+    let brought = c.in_ok-harvest.ensures in
+    let same : c.in_ok-tickets.field-0.board.first ≡ first = search rules in
+    let joined = joined_at p _ _ first harvest.best tasks desks c.cells-sound.ensures.sound c.requires.exact same c.in_ok-end.ensures.settled brought.best in
+    subst (λ (s : Standing). AreJoined p s harvest.best harvest.waiting.items harvest.closed.items) (sym same)
+    (subst (λ (rs : List TreeNode). AreJoined p first harvest.best harvest.waiting.items rs) (sym brought.closed)
+    (subst (λ (qs : List (List ℕ)). AreJoined p first harvest.best qs (closed_at desks)) (sym brought.waiting) joined))
+
+pub conclude-requires-clause-counted : goal.conclude-requires-clause-counted
+conclude-requires-clause-counted g c =
+    let desks = map desk_view c.in_ok-end.desks.items in
+    let brought = c.in_ok-harvest.ensures in
+    ap length brought.closed
+    ∙ counted_at c.args.sc.now _ desks c.in_ok-end.ensures.settled.order
+    ∙ ap (λ (ts : List TicketView). sum_by numbers_of ts) (sym brought.tickets)
+
+pub conclude-requires-clause-ends : goal.conclude-requires-clause-ends
+conclude-requires-clause-ends g c =
+    ends_at c.in_ok-end.end c.in_ok-end.tasks.items (map desk_view c.in_ok-end.desks.items) c.in_ok-harvest.harvest c.in_ok-end.ensures.ends c.in_ok-harvest.ensures.waiting c.in_ok-harvest.ensures.tickets
+
+pub returns-clause-branches : goal.returns-clause-branches
+returns-clause-branches g c =
+    let same : c.in_ok-tickets.field-0.board.first ≡ c.args.first.now = search rules in
+    subst (λ (s : Standing). IfOk c.conclude.result (λ found. LetsBranch c.args.sc.now s found.tree)) same c.conclude.ensures.branches
+
+pub returns-clause-full : goal.returns-clause-full
+returns-clause-full g c =
+    more_live c.args.sc.now c.args.first.now c.args.nodes c.cells-sound.ensures.sound c.conclude.result (search rules) (search rules) (search rules)
+
+pub returns-clause-full_distinct : goal.returns-clause-full_distinct
+returns-clause-full_distinct g c = distinct_reached c.args.sc.now c.args.first.now c.args.nodes c.cells-sound.ensures.sound c.conclude.result (search rules)
+
+pub returns-clause-full_live : goal.returns-clause-full_live
+returns-clause-full_live g c = live_reached c.args.sc.now c.args.first.now c.args.nodes c.cells-sound.ensures.sound c.conclude.result (search rules)

@@ -1,0 +1,14 @@
+pub mod Children
+pub mod Crew
+pub mod Desks
+pub mod Finish
+pub mod Harvests
+pub mod Incumbents
+pub mod Rounds
+pub mod Runs
+pub mod Search
+pub mod Seen
+pub mod Settled
+pub mod Steps
+pub mod Turns
+pub mod Workers

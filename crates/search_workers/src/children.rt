@@ -1,0 +1,92 @@
+//! What a worker does with the children of a prefix.
+
+ghost use Rattle.std.specs.Prelude.{◌≡◌, ◌+◌, ◌*◌, ◌<◌, ◌≤◌, ◌++◌, ◌∷◌, [], length, map, nat_lt, reverse};
+ghost use Rattle.search_model.specs.Legal.{IsLegal};
+ghost use Rattle.bound_tree.specs.Accepts.{children_of};
+ghost use Rattle.steal_pool.specs.Kits.{put_of};
+ghost use Rattle.search_workers.specs.Children.{Puts, Shares, OnlyPut, Disposes};
+
+use crate::stack::Stack;
+use path_node::children;
+use search_model::{Path, Scenario};
+use steal_pool::Kit;
+
+// A prefix with one position more.
+fn extended(prefix: &Path, d: u8) -> Path
+    requires { length prefix.now < 32 }
+    ensures { result ≡ prefix.now ++ d ∷ [] }
+{
+    let mut child = *prefix;
+    child.push(d);
+    child
+}
+
+// Puts the children of a prefix by these moves on a private stack, so that the first is taken first.
+fn push_children(stack: &mut Stack, prefix: &Path, moves: &[u8])
+    requires short { length prefix.now < 32 }
+    requires room { length stack.old + length moves.now ≤ 2048 }
+    ensures { stack.new ≡ stack.old ++ reverse (map (λ d. prefix.now ++ d ∷ []) moves.now) }
+{
+    for i in (0..moves.len()).rev() {
+        stack.push(extended(prefix, moves[i]));
+    }
+}
+
+/// Puts all children of a prefix on a private stack, so that the least is taken first.
+#[tactic(auto, using(crate::proofs::Rooms::few_moves))]
+pub fn stack_children(stack: &mut Stack, sc: &Scenario, prefix: &Path)
+    requires legal { IsLegal sc.now prefix.now }
+    requires shorter { length prefix.now < sc.now.horizon }
+    requires room { length stack.old ≤ 63 * length prefix.now }
+    ensures { stack.new ≡ stack.old ++ reverse (children_of sc.now prefix.now) }
+{
+    let _sound = sc.horizon();
+    push_children(stack, prefix, children(sc, prefix));
+}
+
+// Puts the children of a prefix by these moves into the own deque, in their order. Those that it hands back go to the
+// private stack as they come.
+fn put_children(kit: &mut Kit<Path>, stack: &mut Stack, prefix: &Path, moves: &[u8])
+    requires short { length prefix.now < 32 }
+    requires room { length stack.old + length moves.now ≤ 2048 }
+    ensures puts { Puts (map (λ d. prefix.now ++ d ∷ []) moves.now) (put_of kit.old) stack.old (put_of kit.new) stack.new }
+    ensures kit { OnlyPut kit.old kit.new }
+{
+    for next in moves {
+        if let Err(back) = kit.put(extended(prefix, *next)) {
+            stack.push(back);
+        }
+    }
+}
+
+// Puts all children of a prefix but the least into the own deque, in ascending order, and then the least on the private
+// stack, where it is above those that the deque handed back.
+#[tactic(auto, using(crate::proofs::Rooms::few_moves, crate::proofs::Rooms::some_moves))]
+fn share_children(kit: &mut Kit<Path>, stack: &mut Stack, sc: &Scenario, prefix: &Path)
+    requires legal { IsLegal sc.now prefix.now }
+    requires shorter { length prefix.now < sc.now.horizon }
+    requires room { length stack.old ≤ 63 * length prefix.now }
+    ensures shares { Shares (children_of sc.now prefix.now) (put_of kit.old) stack.old (put_of kit.new) stack.new }
+    ensures kit { OnlyPut kit.old kit.new }
+{
+    let _sound = sc.horizon();
+    let [least, later @ ..] = children(sc, prefix) else {
+        unreachable!()
+    };
+    put_children(kit, stack, prefix, later);
+    stack.push(extended(prefix, *least));
+}
+
+/// Shares the children of a prefix of less than half the horizon, and puts those of a longer one on the private stack.
+pub fn dispose(kit: &mut Kit<Path>, stack: &mut Stack, sc: &Scenario, prefix: &Path)
+    requires legal { IsLegal sc.now prefix.now }
+    requires shorter { length prefix.now < sc.now.horizon }
+    requires room { length stack.old ≤ 63 * length prefix.now }
+    ensures { Disposes (children_of sc.now prefix.now) (nat_lt (length prefix.now * 2) sc.now.horizon) kit.old stack.old kit.new stack.new }
+{
+    if prefix.len() * 2 < sc.horizon() as usize {
+        share_children(kit, stack, sc, prefix);
+    } else {
+        stack_children(stack, sc, prefix);
+    }
+}

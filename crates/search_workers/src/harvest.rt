@@ -1,0 +1,79 @@
+//! What all desks have together.
+
+ghost use Rattle.std.specs.Prelude.{◌≡◌, map, IfOk, OnOk, ◌++◌, ◌∷◌, []};
+ghost use Rattle.tree_gather.specs.Hauls.{IsBestOf};
+ghost use Rattle.search_workers.specs.Seen.{desk_view};
+ghost use Rattle.search_workers.specs.Settled.{closed_at, waiting_at, lasts_at};
+
+use crate::desk::Desk;
+use crate::incumbent::Incumbent;
+use bound_tree::TreeNode;
+use exact_parts::NoMemory;
+use incumbent_board::BoardSeat;
+use node_tickets::TicketSeat;
+use search_model::{Path, Standing, better};
+use std::alloc::Global;
+
+/// All records, all that waits, the best standing, and all seats.
+#[derive(Drop)]
+pub struct Harvest {
+    pub closed: Vec<TreeNode>,
+    pub waiting: Vec<Path>,
+    pub best: Standing,
+    pub tickets: Vec<TicketSeat>,
+    pub seats: Vec<BoardSeat>,
+}
+
+ghost use Rattle.search_workers.specs.Harvests.{Adds};
+
+// Adds what a desk has.
+fn add_desk(harvest: &mut Harvest, desk: Desk) -> Result<(), NoMemory>
+    ensures { OnOk result (Adds harvest.old (desk_view desk) harvest.new) }
+{
+    let Desk {
+        ticket,
+        incumbent,
+        scratch: _,
+        stack,
+        mut records,
+    } = desk;
+    let Incumbent {
+        standing,
+        seat,
+        belief: _,
+    } = incumbent;
+    harvest.closed.append(&mut records)?;
+    harvest.waiting.append(&mut stack.into_prefixes())?;
+    harvest.tickets.push(ticket)?;
+    harvest.seats.push(seat)?;
+    if better(&standing, &harvest.best) {
+        harvest.best = standing;
+    }
+    Ok(())
+}
+
+/// What all desks have, and the tasks left, in a search from the standing `first`.
+pub fn bring_in(
+    alloc: Global,
+    first: &Standing,
+    tasks: Vec<Path>,
+    desks: Vec<Desk>,
+) -> Result<Harvest, NoMemory>
+    ensures closed { IfOk result (λ h. h.closed.items ≡ closed_at (map desk_view desks.items)) }
+    ensures waiting { IfOk result (λ h. h.waiting.items ≡ waiting_at tasks.items (map desk_view desks.items)) }
+    ensures best { IfOk result (λ h. IsBestOf (lasts_at first.now (map desk_view desks.items)) h.best) }
+    ensures tickets { IfOk result (λ h. h.tickets.items ≡ map (λ d. d.ticket) (map desk_view desks.items)) }
+    ensures seats { IfOk result (λ h. h.seats.items ≡ map (λ d. d.seat) (map desk_view desks.items)) }
+{
+    let mut all = Harvest {
+        closed: Vec::new(alloc),
+        waiting: tasks,
+        best: *first,
+        tickets: Vec::new(alloc),
+        seats: Vec::new(alloc),
+    };
+    for desk in desks {
+        add_desk(&mut all, desk)?;
+    }
+    Ok(all)
+}

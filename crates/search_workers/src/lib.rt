@@ -1,0 +1,31 @@
+//! The workers of a search.
+#![tactic(auto)]
+
+mod answer;
+mod children;
+mod closing;
+mod crew;
+mod desk;
+mod finish;
+mod gate;
+mod harvest;
+mod incumbent;
+mod joins;
+mod left;
+mod muster;
+mod rounds;
+mod run;
+mod searching;
+mod sending;
+mod stack;
+#[cfg(test)]
+mod tests;
+mod worker;
+
+pub use answer::{Found, Partial, SearchStop};
+pub use gate::{Gate, OpenGate};
+pub use left::Left;
+pub use rounds::ROUNDS;
+pub use searching::search;
+pub use sending::sent_worker;
+pub use worker::Worker;

@@ -1,0 +1,166 @@
+//! The search.
+
+ghost use Rattle.std.specs.Prelude.{◌≡◌, ◌<◌, ◌≤◌, [], length, map, All, Any, IfOk, sum_by};
+ghost use Rattle.search_model.specs.Order.{IsBest};
+ghost use Rattle.bound_tree.specs.Accepts.{Accepts};
+ghost use Rattle.bound_tree.specs.Close.{IsExact, IsAtLeast, IsLive, LetsBranch, HasMoreLive};
+ghost use Rattle.search_core.specs.Balance.{AreDistinct};
+ghost use Rattle.tree_gather.specs.Hauls.{AreJoined};
+ghost use Rattle.node_tickets.specs.Seats.{AreAllSeats as AreAllTickets, numbers_of};
+ghost use Rattle.incumbent_board.specs.Boards.{AreAllSeats};
+ghost use Rattle.search_workers.specs.Seen.{desk_view};
+ghost use Rattle.search_workers.specs.Crew.{IsComplete, MayGo, HasGone, LeaveTogether};
+ghost use Rattle.search_workers.specs.Settled.{IsSettled, EndsSearch};
+ghost use Rattle.search_workers.specs.Harvests.{EndsHarvest};
+ghost use Rattle.search_workers.specs.Search.{plan_of, reached_by, IfFull};
+
+use crate::answer::{Found, Partial, SearchStop};
+use crate::crew::{Member, go_all};
+use crate::desk::Desk;
+use crate::finish::finish;
+use crate::gate::Gate;
+use crate::harvest::{Harvest, bring_in};
+use crate::joins::{left_together, settle_all};
+use crate::left::Left;
+use crate::muster::{Crew, muster};
+use exact_parts::NoMemory;
+use incumbent_board::Board;
+use node_tickets::Tickets;
+use search_model::{Path, Scenario, Standing};
+use std::alloc::{AllocGlobal, Global};
+use std::sync::Wait;
+use std::thread::Threads;
+use tree_gather::gather;
+
+// All workers go, beside each other: how they left together.
+fn work_together<R: Threads + Wait + Sync, G: Gate>(
+    rt: &R,
+    sc: &Scenario,
+    tickets: &Tickets,
+    board: &Board,
+    gate: &G,
+    members: &mut Vec<Member>,
+) -> Left
+    requires complete { IsComplete tickets.now board.now members.old.items }
+    requires ready { All (λ m. MayGo sc.now tickets.now board.now m.worker) members.old.items }
+    ensures complete { IsComplete tickets.now board.now members.new.items }
+    ensures gone { All (HasGone sc.now board.now.first) members.new.items }
+    ensures left { LeaveTogether members.new.items result }
+    ensures many { length members.new.items ≡ length members.old.items }
+{
+    go_all(rt, sc, tickets, board, gate, members.as_mut_slice());
+    left_together(members)
+}
+
+// Settles the kits and goes on over the tasks left: how the search ended, the desks of all workers, and the tasks that
+// are left still.
+fn wind_up<R: Wait>(
+    rt: &R,
+    alloc: Global,
+    sc: &Scenario,
+    tickets: &Tickets,
+    board: &Board,
+    left: Left,
+    members: Vec<Member>,
+) -> Result<(Left, Vec<Desk>, Vec<Path>), NoMemory>
+    requires first { IsExact sc.now board.now.first }
+    requires some { 0 < length members.items }
+    requires complete { IsComplete tickets.now board.now members.items }
+    requires gone { All (HasGone sc.now board.now.first) members.items }
+    requires left { LeaveTogether members.items left }
+    ensures settled { IfOk result (λ r. IsSettled sc.now tickets.now board.now r.2.items (map desk_view r.1.items)) }
+    ensures ends { IfOk result (λ r. EndsSearch r.0 r.2.items (map desk_view r.1.items)) }
+{
+    let _sound = sc.cells();
+    let (mut desks, mut tasks) = settle_all(alloc, members)?;
+    let end = finish(left, &mut desks, &mut tasks, rt, sc, tickets, board);
+    Ok((end, desks, tasks))
+}
+
+// Takes all seats back, and answers what was brought in.
+fn conclude<R: Wait>(
+    rt: &R,
+    sc: &Scenario,
+    tickets: Tickets,
+    board: Board,
+    end: Left,
+    harvest: Harvest,
+) -> Result<Found, SearchStop>
+    requires tickets { AreAllTickets tickets harvest.tickets.items }
+    requires seats { AreAllSeats board harvest.seats.items }
+    requires joined { AreJoined sc.now board.first harvest.best harvest.waiting.items harvest.closed.items }
+    requires counted { length harvest.closed.items ≡ sum_by numbers_of harvest.tickets.items }
+    requires ends { EndsHarvest end harvest }
+    ensures best { IfOk result (λ found. IsBest sc.now found.best.path) }
+    ensures accepted { IfOk result (λ found. Accepts sc.now (plan_of sc.now found)) }
+    ensures branches { IfOk result (λ found. LetsBranch sc.now board.first found.tree) }
+    ensures few { IfOk result (λ found. length found.tree ≤ tickets.limit) }
+    ensures closed { IfFull result (λ part. length part.closed.items ≡ tickets.limit) }
+    ensures waiting { IfFull result (λ part. 0 < length part.waiting.items) }
+    ensures joined { IfFull result (λ part. AreJoined sc.now board.first part.best part.waiting.items part.closed.items) }
+{
+    let _sound = sc.cells();
+    let Harvest {
+        closed,
+        waiting,
+        best,
+        tickets: ticket_seats,
+        seats,
+    } = harvest;
+    let _drawn = tickets.close(ticket_seats);
+    let _last = board.close(rt, seats);
+    match end {
+        Left::Idle => Ok(Found {
+            best,
+            tree: gather(sc, closed),
+        }),
+        Left::Full => Err(SearchStop::Full(Partial {
+            closed,
+            waiting,
+            best,
+        })),
+        Left::NoMemory => Err(SearchStop::NoMemory),
+    }
+}
+
+/// The best path with its value, and a bound tree that is accepted, by 1 to 16 workers beside each other.
+///
+/// The search begins with `first`, a path with its exact value, such as the opening. A worker closes each prefix under the
+/// best standing that it knows by then, and shares what is far from a path with the others. `gate` is told of each step
+/// of a worker. The error is `Full` only where there are more than `nodes` prefixes that `first` doesn't rule out by a
+/// bound above them; it comes with `nodes` records and what waits. Where memory ran out for one worker, it is `NoMemory`.
+/// The search may wait.
+pub fn search<R: Threads + Wait + Sync + AllocGlobal, G: Gate>(
+    rt: &R,
+    sc: &Scenario,
+    first: &Standing,
+    workers: u32,
+    nodes: u64,
+    gate: &G,
+) -> Result<Found, SearchStop>
+    requires exact { IsExact sc.now first.now }
+    requires workers { (1 ≤ workers) × (workers ≤ 16) }
+    requires nodes { (1 ≤ nodes) × (nodes ≤ 1048576) }
+    ensures best { IfOk result (λ found. IsBest sc.now found.best.path) }
+    ensures accepted { IfOk result (λ found. Accepts sc.now (plan_of sc.now found)) }
+    ensures branches { IfOk result (λ found. LetsBranch sc.now first.now found.tree) }
+    ensures few { IfOk result (λ found. length found.tree ≤ nodes) }
+    ensures full { IfFull result (λ part. HasMoreLive sc.now first.now nodes) }
+    ensures full_closed { IfFull result (λ part. length part.closed.items ≡ nodes) }
+    ensures full_waiting { IfFull result (λ part. 0 < length part.waiting.items) }
+    ensures full_distinct { IfFull result (λ part. AreDistinct (reached_by part)) }
+    ensures full_live { IfFull result (λ part. All (IsLive sc.now first.now) (reached_by part)) }
+    ensures full_best { IfFull result (λ part. IsExact sc.now part.best × IsAtLeast part.best first.now) }
+    ensures full_joined { IfFull result (λ part. AreJoined sc.now first.now part.best part.waiting.items part.closed.items) }
+{
+    let _sound = sc.cells();
+    let Crew {
+        tickets,
+        board,
+        mut members,
+    } = muster(rt.alloc(), sc, first, workers, nodes)?;
+    let left = work_together(rt, sc, &tickets, &board, gate, &mut members);
+    let (end, desks, tasks) = wind_up(rt, rt.alloc(), sc, &tickets, &board, left, members)?;
+    let harvest = bring_in(rt.alloc(), first, tasks, desks)?;
+    conclude(rt, sc, tickets, board, end, harvest)
+}
