@@ -6,8 +6,11 @@ import tempfile
 from house import EXAMPLES, TOP, Ran, Wrong, read, run, want
 
 
-# The command whose plans stand beside the scenarios of examples/.
-PLAN = ["plan"]
+# The command whose plans stand beside the scenarios of examples/: by one worker the tree is always the same.
+PLAN = ["plan", "--workers", "1"]
+
+# The reports that stand beside the plans, by their endings.
+REPORTS = {".report": ["report"], ".report.json": ["report", "--json", "yes"]}
 
 
 class Text:
@@ -99,7 +102,8 @@ def texts_of_rows():
 
 
 def texts_of_examples():
-    """Each scenario of examples/ gives the plan beside it, and that plan is accepted; and what is lacking there."""
+    """Each scenario of examples/ gives the plan beside it, that plan is accepted, and its reports are those beside it; and
+    what is lacking there."""
     texts, wrong = [], []
     for name in sorted(os.listdir(EXAMPLES)):
         stem, kind = os.path.splitext(name)
@@ -112,6 +116,12 @@ def texts_of_examples():
             plan = read(f"{EXAMPLES}/{stem}.plan")
             texts.append(Text(f"the plan of examples/{name}", PLAN, given, 0, plan.decode()))
             texts.append(Text(f"the check of examples/{stem}.plan", ["check"], given + plan, 0, "accepted\n"))
+            for ending, words in REPORTS.items():
+                if os.path.exists(f"{EXAMPLES}/{stem}{ending}"):
+                    report = read(f"{EXAMPLES}/{stem}{ending}").decode()
+                    texts.append(Text(f"examples/{stem}{ending}", words, given + plan, 0, report))
+                else:
+                    wrong.append(f"examples/{name} has no {ending[1:]} beside it")
     return texts, wrong
 
 

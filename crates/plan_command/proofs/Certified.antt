@@ -1,5 +1,5 @@
 -- A plan that the search gives from the opening is certified.
-use Rattle.std.proofs.Common.{ℕ, ◌≡◌, ap, subst}
+use Rattle.std.proofs.Common.{ℕ, ◌≡◌, Err, ap, subst}
 use Rattle.search_model.specs.declared.standing.Standing.{Standing}
 use Rattle.search_model.specs.Problem.{Problem}
 use Rattle.search_model.specs.Tracks.{value_of}
@@ -7,8 +7,11 @@ use Rattle.search_model.specs.Order.{IsBest, standing_of}
 use Rattle.search_model.specs.Opening.{IsOpening}
 use Rattle.bound_tree.specs.declared.plan.Plan.{Plan}
 use Rattle.bound_tree.specs.Accepts.{Accepts}
-use Rattle.bound_tree.specs.Close.{IsExact}
-use Rattle.bound_tree.specs.Close.{LetsBranch, HasMoreLive}
+use Rattle.bound_tree.specs.Close.{IsExact, LetsBranch, HasMoreLive}
+use Rattle.search_workers.specs.declared.answer.Partial.{Partial}
+use Rattle.search_workers.specs.declared.answer.SearchStop.{SearchStop}
+use Rattle.search_workers.specs.declared.answer.SearchStop.TheVariants.{Full}
+use Rattle.search_workers.specs.Search.{IfFull}
 use Rattle.plan_command.specs.Plans.{IsCertified}
 
 -- an opening's standing is the path with its value
@@ -21,8 +24,6 @@ opening_exact p s opening value = record { path = opening.path; value = value }
 pub searched_certified : (p : Problem) (s : Standing) (plan : Plan) → IsOpening p s.path → s.value ≡ value_of p s.path → IsBest p plan.standing.path → Accepts p plan → LetsBranch p s plan.tree → IsCertified p plan
 searched_certified p s plan opening value best accepts branches = record {
   best = best;
-  value = accepts.value;
-  weight = accepts.weight;
   accepted = accepts;
   opening = s.path;
   is_opening = opening;
@@ -31,3 +32,7 @@ searched_certified p s plan opening value best accepts branches = record {
 
 pub more_live : (p : Problem) (s : Standing) (limit : ℕ) → s.value ≡ value_of p s.path → HasMoreLive p s limit → HasMoreLive p (standing_of p s.path) limit
 more_live p s limit value more = subst (λ t. HasMoreLive p t limit) (opening_standing p s value) more
+
+-- what is told of a search that was full
+pub told_full : (stop : SearchStop) (part : Partial) → stop ≡ Full part → (fact : Type 0) → IfFull (Err stop) (λ part. fact) → fact
+told_full stop part is fact told = subst (λ s. IfFull (Err s) (λ part. fact)) is told

@@ -5,23 +5,17 @@ use Rattle.std.proofs.KnownBytes.{Appends-nil}
 use Rattle.std.specs.Io.KnownBytes.{Consumes, IsAtEnd}
 use Rattle.byte_ports.specs.Taken.{TakesCount}
 use Rattle.plan_command.specs.declared.request.Request.{Request}
-use Rattle.plan_command.specs.declared.request.Request.TheVariants.{Plan, Check}
 use Rattle.plan_command.specs.declared.status.Status.{Status}
 use Rattle.plan_command.specs.declared.status.Stop.{Stop}
 use Rattle.plan_command.specs.declared.status.Stop.TheVariants as stops
 use Rattle.plan_command.specs.Words.{Spells, limit_of}
 use Rattle.plan_command.specs.Lines.{status_of}
 use Rattle.plan_command.specs.Commands.{Answers, Refuses}
-use Rattle.plan_command.specs.Run.{Shown, ReadWhole, Delivered, Refused, Stopped, Ends, ending_of, status_at, Says}
-use Rattle.plan_command.specs.Complete.{IsHeard, IsUndisturbed, IsStopDue, IsDue, IsByText}
+use Rattle.plan_command.specs.Inputs.{Source, ReadWhole, ReadNone, Reads, IsOverLong}
+use Rattle.plan_command.specs.Run.{Shown, Seen, Delivered, CutOff, Refused, Stopped, Ends, ending_of, status_at, Says}
+use Rattle.plan_command.specs.Complete.{IsHeard, IsUndisturbed, IsWithin, IsLonger, IsStopDue, IsDue, IsByText}
+use Rattle.plan_command.proofs.WordForms.{spelled_once}
 use Rattle.plan_command.proofs.Exclusive.{answers_or_refuses, refuses_once}
-
--- words spell at most one request
-pub spelled_once : (words : List (List ℕ)) (r s : Request) → Spells words r → Spells words s → r ≡ s
-spelled_once words Plan Plan h g = refl
-spelled_once words Plan Check h g = let bad : ⊥ = cc in absurd bad
-spelled_once words Check Plan h g = let bad : ⊥ = cc in absurd bad
-spelled_once words Check Check h g = refl
 
 -- what was read whole is the input that was told
 whole_of_known : (input : List ℕ) (after : Option (List ℕ)) (bytes : List ℕ) → Consumes (Some input) after bytes → IsAtEnd after → input ≡ bytes
@@ -33,92 +27,116 @@ count_of_known : (input : List ℕ) (after : Option (List ℕ)) (n : ℕ) → Ta
 count_of_known input None n taken = absurd taken.1
 count_of_known input (Some rest) n taken = omega (arith, taken.2, ap length taken.1, length-append taken.0 rest)
 
+-- a limit is one
+one_limit : (o : Option ℕ) (a b : ℕ) → o ≡ Some a → o ≡ Some b → a ≡ b
+one_limit o a b h g = cc
+
+-- what was read of an input that is told and within its limit is that input
+reads_told : (limits : Option ℕ) (limit : ℕ) (before after : Source) (input bytes : List ℕ) → limits ≡ Some limit → before.left ≡ Some input → Reads limits before after bytes → (input ≡ bytes) × (length bytes ≤ limit)
+reads_told limits limit before after input bytes is told reads =
+    let whole : ReadWhole limit before after bytes = subst (λ o. Reads o before after bytes) is reads in
+    let P : Option (List ℕ) → Type 0 = λ left. Consumes left after.left bytes in
+    (whole_of_known input after.left bytes (subst P told whole.taken) whole.ended, whole.short)
+
 module _ (words : List (List ℕ)) (before after : Shown) (request : Request) (input : List ℕ) where
+  abbrev here : Seen
+  here = record { before = before; after = after }
+
   -- a request that the words spell is this one
-  of_request : (P : Request → Type 0) → IsHeard words before after request input → (r : Request) → Spells words r → P r → P request
+  of_request : (P : Request → Type 0) → IsHeard words here request input → (r : Request) → Spells words r → P r → P request
   of_request P heard r spelled h = subst P (spelled_once words r request spelled heard.spelled) h
 
   -- the input that was read is the one that was told
-  read_as_told : IsHeard words before after request input → (bytes : List ℕ) → ReadWhole request before after bytes → input ≡ bytes
-  read_as_told heard bytes read =
-      let P : Option (List ℕ) → Type 0 = λ left. Consumes left after.left bytes in
-      whole_of_known input after.left bytes (subst P heard.told read.taken) read.ended
+  read_as_told : IsHeard words here request input → (limit : ℕ) → limit_of request ≡ Some limit → (bytes : List ℕ) → Reads (limit_of request) before.source after.source bytes → input ≡ bytes
+  read_as_told heard limit is bytes reads = (reads_told (limit_of request) limit before.source after.source input bytes is heard.told reads).0
 
-  too_long_of_told : IsHeard words before after request input → TakesCount before.left after.left (limit_of request + 1) → limit_of request < length input
-  too_long_of_told heard taken =
-      let P : Option (List ℕ) → Type 0 = λ left. TakesCount left after.left (limit_of request + 1) in
-      omega (arith, count_of_known input after.left (limit_of request + 1) (subst P heard.told taken))
+  too_long_of_told : IsHeard words here request input → IsOverLong (limit_of request) before.source after.source → IsLonger request input
+  too_long_of_told heard long =
+      let P : Option (List ℕ) → Type 0 = λ left. TakesCount left after.source.left (long.limit + 1) in
+      let taken = count_of_known input after.source.left (long.limit + 1) (subst P heard.told long.taken) in
+      (long.limit, long.is_limit, omega (arith, taken))
+
+  within_or_longer : IsWithin request input → IsLonger request input → ⊥
+  within_or_longer (m, is, short) (n, same, long) = omega (arith, one_limit (limit_of request) m n is same, short, long)
 
   -- what was read whole isn't longer than the limit
-  not_longer : IsHeard words before after request input → (bytes : List ℕ) → ReadWhole request before after bytes → limit_of request < length input → ⊥
-  not_longer heard bytes read long = omega (arith, long, read.short, ap length (read_as_told heard bytes read))
+  not_longer : IsHeard words here request input → (bytes : List ℕ) → Reads (limit_of request) before.source after.source bytes → IsLonger request input → ⊥
+  not_longer heard bytes reads (limit, is, long) =
+      let told = reads_told (limit_of request) limit before.source after.source input bytes is heard.told reads in
+      omega (arith, long, told.1, ap length told.0)
 
-  told_answer : IsHeard words before after request input → (bytes : List ℕ) (status : Status) (text : List ℕ) → ReadWhole request before after bytes → Answers request bytes status text → Answers request input status text
-  told_answer heard bytes status text read answers = let P : List ℕ → Type 0 = λ i. Answers request i status text in subst P (sym (read_as_told heard bytes read)) answers
+  told_answer : IsHeard words here request input → IsWithin request input → (bytes : List ℕ) (status : Status) (text : List ℕ) → Reads (limit_of request) before.source after.source bytes → Answers request bytes status text → Answers request input status text
+  told_answer heard (limit, is, short) bytes status text reads answers =
+      let P : List ℕ → Type 0 = λ i. Answers request i status text in subst P (sym (read_as_told heard limit is bytes reads)) answers
 
-  told_refusal : IsHeard words before after request input → (stop : Stop) → Refused request before after stop → Refuses request input stop
-  told_refusal heard stop refused = let P : List ℕ → Type 0 = λ i. Refuses request i stop in subst P (sym (read_as_told heard refused.input refused.read)) refused.refuses
+  told_refusal : IsHeard words here request input → IsWithin request input → (stop : Stop) → Refused request before after stop → Refuses request input stop
+  told_refusal heard (limit, is, short) stop refused =
+      let P : List ℕ → Type 0 = λ i. Refuses request i stop in subst P (sym (read_as_told heard limit is refused.input refused.read)) refused.refuses
 
-  refused_due : IsHeard words before after request input → (stop : Stop) → Refused request before after stop → IsDue request input (status_of stop)
-  refused_due heard stop refused = inr (inl (stop, told_refusal heard stop refused, refl))
+  refused_due : IsHeard words here request input → IsWithin request input → (stop : Stop) → Refused request before after stop → IsDue request input (status_of stop)
+  refused_due heard short stop refused = inr (inl (stop, told_refusal heard short stop refused, refl))
 
   -- an undisturbed run ends as its input is due
   pub ends_as_due : (result : Result Status Stop) → Ends words before after (ending_of result) →
-      IsUndisturbed words before after request input → length input ≤ limit_of request → IsDue request input (status_at (ending_of result))
+      IsUndisturbed words here request input → IsWithin request input → IsDue request input (status_at (ending_of result))
   ends_as_due (Ok status) (r, spelled, delivered) calm short =
       let mine = of_request (λ r. Delivered r before after status) calm.heard r spelled delivered in
-      inl (mine.text, told_answer calm.heard mine.input status mine.text mine.read mine.answers)
+      inl (mine.text, told_answer calm.heard short mine.input status mine.text mine.read mine.answers)
   ends_as_due (Err stops.Usage) ends calm short = absurd (ends.0 request calm.heard.spelled)
-  ends_as_due (Err (stops.BadScenario fault)) (r, spelled, refused) calm short = refused_due calm.heard (stops.BadScenario fault) (of_request (λ r. Refused r before after (stops.BadScenario fault)) calm.heard r spelled refused)
-  ends_as_due (Err (stops.BadPlan fault)) (r, spelled, refused) calm short = refused_due calm.heard (stops.BadPlan fault) (of_request (λ r. Refused r before after (stops.BadPlan fault)) calm.heard r spelled refused)
-  ends_as_due (Err stops.ReadFault) (r, spelled, fault) calm short = absurd (calm.heard.read fault.0)
+  ends_as_due (Err (stops.Rejected at)) (r, spelled, refused) calm short = refused_due calm.heard short (stops.Rejected at) (of_request (λ r. Refused r before after (stops.Rejected at)) calm.heard r spelled refused)
+  ends_as_due (Err (stops.BadScenario fault)) (r, spelled, refused) calm short = refused_due calm.heard short (stops.BadScenario fault) (of_request (λ r. Refused r before after (stops.BadScenario fault)) calm.heard r spelled refused)
+  ends_as_due (Err (stops.BadPlan fault)) (r, spelled, refused) calm short = refused_due calm.heard short (stops.BadPlan fault) (of_request (λ r. Refused r before after (stops.BadPlan fault)) calm.heard r spelled refused)
+  ends_as_due (Err (stops.TooManyNodes limit)) (r, spelled, refused) calm short = refused_due calm.heard short (stops.TooManyNodes limit) (of_request (λ r. Refused r before after (stops.TooManyNodes limit)) calm.heard r spelled refused)
+  ends_as_due (Err stops.ReadFault) (r, spelled, fault) calm short = absurd (calm.heard.read fault.0.rose)
   ends_as_due (Err stops.WriteFault) (r, spelled, fault) calm short = absurd (calm.write fault.0)
   ends_as_due (Err stops.NoMemory) ends calm short = inr (inr refl)
-  ends_as_due (Err (stops.TooManyNodes limit)) (r, spelled, refused) calm short = refused_due calm.heard (stops.TooManyNodes limit) (of_request (λ r. Refused r before after (stops.TooManyNodes limit)) calm.heard r spelled refused)
   ends_as_due (Err stops.TooLong) (r, spelled, taken) calm short =
       let mine = of_request (λ r. Stopped r before after stops.TooLong) calm.heard r spelled taken in
-      let long = too_long_of_told calm.heard mine.0 in absurd (omega (arith, short, long))
+      absurd (within_or_longer short (too_long_of_told calm.heard mine.0))
 
   -- a refusal of the input is told, whatever the sink does
-  other_refusal : IsHeard words before after request input → (stop other : Stop) → IsByText stop → Refuses request input stop → Refused request before after other → IsStopDue stop (status_of other)
-  other_refusal heard stop other by due refused = inl (ap status_of (refuses_once request input other stop by (told_refusal heard other refused) due))
+  other_refusal : IsHeard words here request input → IsWithin request input → (stop other : Stop) → IsByText stop → Refuses request input stop → Refused request before after other → IsStopDue stop (status_of other)
+  other_refusal heard short stop other by due refused = inl (ap status_of (refuses_once request input other stop by (told_refusal heard short other refused) due))
 
   pub ends_refused : (result : Result Status Stop) (stop : Stop) → Ends words before after (ending_of result) →
-      IsHeard words before after request input → length input ≤ limit_of request → Refuses request input stop → IsByText stop → IsStopDue stop (status_at (ending_of result))
+      IsHeard words here request input → IsWithin request input → Refuses request input stop → IsByText stop → IsStopDue stop (status_at (ending_of result))
   ends_refused (Ok status) stop (r, spelled, delivered) heard short due by =
       let mine = of_request (λ r. Delivered r before after status) heard r spelled delivered in
-      absurd (answers_or_refuses request input status mine.text stop by (told_answer heard mine.input status mine.text mine.read mine.answers) due)
+      absurd (answers_or_refuses request input status mine.text stop by (told_answer heard short mine.input status mine.text mine.read mine.answers) due)
   ends_refused (Err stops.Usage) stop ends heard short due by = absurd (ends.0 request heard.spelled)
-  ends_refused (Err (stops.BadScenario fault)) stop (r, spelled, refused) heard short due by = other_refusal heard stop (stops.BadScenario fault) by due (of_request (λ r. Refused r before after (stops.BadScenario fault)) heard r spelled refused)
-  ends_refused (Err (stops.BadPlan fault)) stop (r, spelled, refused) heard short due by = other_refusal heard stop (stops.BadPlan fault) by due (of_request (λ r. Refused r before after (stops.BadPlan fault)) heard r spelled refused)
-  ends_refused (Err stops.ReadFault) stop (r, spelled, fault) heard short due by = absurd (heard.read fault.0)
+  ends_refused (Err (stops.Rejected at)) stop (r, spelled, refused) heard short due by = other_refusal heard short stop (stops.Rejected at) by due (of_request (λ r. Refused r before after (stops.Rejected at)) heard r spelled refused)
+  ends_refused (Err (stops.BadScenario fault)) stop (r, spelled, refused) heard short due by = other_refusal heard short stop (stops.BadScenario fault) by due (of_request (λ r. Refused r before after (stops.BadScenario fault)) heard r spelled refused)
+  ends_refused (Err (stops.BadPlan fault)) stop (r, spelled, refused) heard short due by = other_refusal heard short stop (stops.BadPlan fault) by due (of_request (λ r. Refused r before after (stops.BadPlan fault)) heard r spelled refused)
+  ends_refused (Err (stops.TooManyNodes limit)) stop (r, spelled, refused) heard short due by = other_refusal heard short stop (stops.TooManyNodes limit) by due (of_request (λ r. Refused r before after (stops.TooManyNodes limit)) heard r spelled refused)
+  ends_refused (Err stops.ReadFault) stop (r, spelled, fault) heard short due by = absurd (heard.read fault.0.rose)
   ends_refused (Err stops.WriteFault) stop (r, spelled, fault) heard short due by =
       let mine = of_request (λ r. Stopped r before after stops.WriteFault) heard r spelled fault in
       let cut = mine.1 in
-      absurd (answers_or_refuses request input cut.status cut.text stop by (told_answer heard cut.input cut.status cut.text cut.read cut.answers) due)
+      absurd (answers_or_refuses request input cut.status cut.text stop by (told_answer heard short cut.input cut.status cut.text cut.read cut.answers) due)
   ends_refused (Err stops.NoMemory) stop ends heard short due by = inr refl
-  ends_refused (Err (stops.TooManyNodes limit)) stop (r, spelled, refused) heard short due by = other_refusal heard stop (stops.TooManyNodes limit) by due (of_request (λ r. Refused r before after (stops.TooManyNodes limit)) heard r spelled refused)
   ends_refused (Err stops.TooLong) stop (r, spelled, taken) heard short due by =
       let mine = of_request (λ r. Stopped r before after stops.TooLong) heard r spelled taken in
-      let long = too_long_of_told heard mine.0 in absurd (omega (arith, short, long))
+      absurd (within_or_longer short (too_long_of_told heard mine.0))
 
   -- a longer input is told as that
   pub ends_longer : (result : Result Status Stop) → Ends words before after (ending_of result) →
-      IsHeard words before after request input → limit_of request < length input → IsStopDue stops.TooLong (status_at (ending_of result))
+      IsHeard words here request input → IsLonger request input → IsStopDue stops.TooLong (status_at (ending_of result))
   ends_longer (Ok status) (r, spelled, delivered) heard long =
       let mine = of_request (λ r. Delivered r before after status) heard r spelled delivered in absurd (not_longer heard mine.input mine.read long)
   ends_longer (Err stops.Usage) ends heard long = absurd (ends.0 request heard.spelled)
+  ends_longer (Err (stops.Rejected at)) (r, spelled, refused) heard long =
+      let mine = of_request (λ r. Refused r before after (stops.Rejected at)) heard r spelled refused in absurd (not_longer heard mine.input mine.read long)
   ends_longer (Err (stops.BadScenario fault)) (r, spelled, refused) heard long =
       let mine = of_request (λ r. Refused r before after (stops.BadScenario fault)) heard r spelled refused in absurd (not_longer heard mine.input mine.read long)
   ends_longer (Err (stops.BadPlan fault)) (r, spelled, refused) heard long =
       let mine = of_request (λ r. Refused r before after (stops.BadPlan fault)) heard r spelled refused in absurd (not_longer heard mine.input mine.read long)
-  ends_longer (Err stops.ReadFault) (r, spelled, fault) heard long = absurd (heard.read fault.0)
+  ends_longer (Err (stops.TooManyNodes limit)) (r, spelled, refused) heard long =
+      let mine = of_request (λ r. Refused r before after (stops.TooManyNodes limit)) heard r spelled refused in absurd (not_longer heard mine.input mine.read long)
+  ends_longer (Err stops.ReadFault) (r, spelled, fault) heard long = absurd (heard.read fault.0.rose)
   ends_longer (Err stops.WriteFault) (r, spelled, fault) heard long =
       let mine = of_request (λ r. Stopped r before after stops.WriteFault) heard r spelled fault in
       let cut = mine.1 in absurd (not_longer heard cut.input cut.read long)
   ends_longer (Err stops.NoMemory) ends heard long = inr refl
-  ends_longer (Err (stops.TooManyNodes limit)) (r, spelled, refused) heard long =
-      let mine = of_request (λ r. Refused r before after (stops.TooManyNodes limit)) heard r spelled refused in absurd (not_longer heard mine.input mine.read long)
   ends_longer (Err stops.TooLong) ends heard long = inl refl
 
 -- nothing was said

@@ -1,120 +1,190 @@
--- What endings say of the answers to a check, and of a write that failed.
-use Rattle.std.proofs.Common.{ℕ, ◌≡◌, List, [], ◌∷◌, ◌++◌, Some, sym, ◌∙◌, inl, inr, subst}
+-- What endings say of each request's answers, and of a write that failed.
+use Rattle.std.proofs.Common.{ℕ, ◌≡◌, ◌⊎◌, Bool, List, Result, Ok, Err, Some, None, refl, sym, ap, ◌∙◌, inl, inr, subst}
 use Rattle.std.specs.Prelude.{codes}
-use Rattle.std.specs.Fmt.{decimal}
 use Rattle.std.specs.Io.KnownBytes.{Consumes, Appends, IsAtEnd}
+use Rattle.std.specs.declared.option.Option.{Option}
 use Rattle.byte_ports.specs.Causes.{Rose}
 use Rattle.search_model.specs.Problem.{Problem}
 use Rattle.search_model.specs.Order.{IsBest}
 use Rattle.scenario_text.specs.Scenarios.{IsTextOf}
+use Rattle.scenario_text.specs.Canonical.{canonical_text}
 use Rattle.bound_tree.specs.declared.plan.Plan.{Plan as APlan}
 use Rattle.bound_tree.specs.Accepts.{Accepts}
 use Rattle.bound_tree.proofs.Accepted.{accepted_plan_is_best}
-use Rattle.tree_format.specs.PlanText.{plan_text}
+use Rattle.tree_format.specs.PlanText.{IsPlanText}
 use Rattle.tree_checker.specs.declared.verdict.RejectAt.{RejectAt}
-use Rattle.tree_checker.specs.Reasons.{first_reason}
-use Rattle.tree_checker.specs.Whys.{name_of}
+use Rattle.scenario_maker.specs.Made.{made_problem}
 use Rattle.plan_command.specs.declared.request.Request.{Request}
-use Rattle.plan_command.specs.declared.request.Request.TheVariants.{Plan, Check}
+use Rattle.plan_command.specs.declared.request.Request.TheVariants.{Plan, Check, Report, Make, Drill}
 use Rattle.plan_command.specs.declared.status.Status.{Status}
 use Rattle.plan_command.specs.declared.status.Status.TheVariants as statuses
 use Rattle.plan_command.specs.declared.status.Stop.{Stop}
 use Rattle.plan_command.specs.declared.status.Stop.TheVariants as stops
-use Rattle.plan_command.specs.Words.{Spells}
-use Rattle.plan_command.specs.Lines.{status_of}
-use Rattle.plan_command.specs.Plans.{IsCertified, BeginsWith, IsPlanRest}
-use Rattle.plan_command.specs.Commands.{IsVerdict}
-use Rattle.plan_command.specs.Run.{Shown, Delivered, CutOff, Ends, delivered, stopped}
-use Rattle.plan_command.proofs.Endings.{spelled_once}
+use Rattle.plan_command.specs.Words.{Spells, limit_of}
+use Rattle.plan_command.specs.Lines.{status_of, rejection_of}
+use Rattle.plan_command.specs.Plans.{IsCertified}
+use Rattle.plan_command.specs.Inputs.{Source, Reads, ReadNone}
+use Rattle.plan_command.specs.Commands.{IsInput, IsRejected, IsVerdict, Refuses, report_of, IsDrilled}
+use Rattle.plan_command.specs.Run.{Shown, Seen, Delivered, Refused, CutOff, Stopped, Ends, Ending, IsCutOff, delivered, stopped, ending_of, status_at}
+use Rattle.plan_command.specs.Complete.{IsUnlessNoMemory}
+use Rattle.plan_command.proofs.WordForms.{spelled_once}
+use Rattle.plan_command.proofs.Exclusive.{made_refuses, drilled_refuses}
 
--- an accepted plan of this input
-abbrev pub AcceptsInput : List ℕ → Type 0
-AcceptsInput input = (p : Problem) × (rest : List ℕ) × (plan : APlan) × BeginsWith p input rest × IsPlanRest p rest plan × Accepts p plan × IsBest p plan.standing.path
-
-abbrev pub RejectionOf : RejectAt → List ℕ
-RejectionOf at = codes "rejected " ++ decimal at.line ++ 32 ∷ (name_of at.why ++ 10 ∷ [])
-
+-- a verdict with the status Done accepts
 done_or_rejected : statuses.Done ≡ statuses.Rejected → ⊥
 done_or_rejected e = cc
 
--- a verdict with the status Done accepts
 accepting : (p : Problem) (plan : APlan) (text : List ℕ) → IsVerdict p plan statuses.Done text → Accepts p plan × (text ≡ codes "accepted\n")
-accepting p plan text verdict = elim verdict [
-  | inl taken ↦ (taken.0, taken.2)
-  | inr turned ↦ absurd (done_or_rejected turned.1)
-]
+accepting p plan text (inl taken) = (taken.0, taken.2)
+accepting p plan text (inr turned) = absurd (done_or_rejected turned.1)
+
+-- and one with the status Rejected rejects
+rejecting : (input : List ℕ) (p : Problem) (plan : APlan) (text : List ℕ) → IsInput input p plan → IsVerdict p plan statuses.Rejected text → (at : RejectAt) × IsRejected input at × (text ≡ rejection_of at)
+rejecting input p plan text is (inl taken) = absurd (done_or_rejected (sym taken.1))
+rejecting input p plan text is (inr (turned, status, (at, reason, same))) = (at, (p, plan, is, turned, reason), same)
 
 module _ (words : List (List ℕ)) (before after : Shown) where
-  pub planned_input : (status : Status) → Ends words before after (delivered status) → Spells words Plan → status ≡ statuses.Done →
+  -- what was delivered to the request that the words spell
+  delivered_to : (request : Request) (status : Status) → Ends words before after (delivered status) → Spells words request → Delivered request before after status
+  delivered_to request status (r, spelled, whole) asked =
+      let P : Request → Type 0 = λ r. Delivered r before after status in subst P (spelled_once words r request spelled asked) whole
+
+  pub planned_input : (status : Status) (workers nodes : ℕ) → Ends words before after (delivered status) → Spells words (Plan workers nodes) → status ≡ statuses.Done →
       (p : Problem) × (input : List ℕ) × IsTextOf p input
-      × Consumes before.left after.left input × IsAtEnd after.left
-      × ((plan : APlan) × IsCertified p plan × Appends before.wrote after.wrote (plan_text p plan))
-  planned_input status (r, spelled, whole) asked done =
-      let P : Request → Type 0 = λ r. Delivered r before after status in
-      let d = subst P (spelled_once words r Plan spelled asked) whole in
+      × Consumes before.source.left after.source.left input × IsAtEnd after.source.left
+      × ((plan : APlan) × (text : List ℕ) × IsCertified p plan × IsPlanText p plan text × Appends before.wrote after.wrote text)
+  planned_input status workers nodes ends asked done =
+      let d = delivered_to (Plan workers nodes) status ends asked in
       let found = d.answers.1 in
-      let certified = found.2 in (
-        found.0,
-        d.input,
-        found.1,
-        d.read.taken,
-        d.read.ended,
-        (certified.0, certified.1, subst (λ t. Appends before.wrote after.wrote t) certified.2 d.written),
-      )
+      let certified = found.2 in
+      (found.0, d.input, found.1, d.read.taken, d.read.ended, (certified.0, d.text, certified.1, certified.2, d.written))
 
   pub accepted_input : (status : Status) → Ends words before after (delivered status) → Spells words Check → status ≡ statuses.Done →
-      (input : List ℕ) × Consumes before.left after.left input × IsAtEnd after.left × AcceptsInput input × Appends before.wrote after.wrote (codes "accepted\n")
-  accepted_input status (r, spelled, whole) check done =
-      let P : Request → Type 0 = λ r. Delivered r before after status in
-      let d = subst P (spelled_once words r Check spelled check) whole in
+      (input : List ℕ) × Consumes before.source.left after.source.left input × IsAtEnd after.source.left
+      × ((p : Problem) × (plan : APlan) × IsInput input p plan × Accepts p plan × IsBest p plan.standing.path)
+      × Appends before.wrote after.wrote (codes "accepted\n")
+  accepted_input status ends check done =
+      let d = delivered_to Check status ends check in
       let p = d.answers.0 in
-      let read = d.answers.1 in
-      let told = read.2 in
-      let plan = told.0 in
+      let plan = d.answers.1 in
+      let is = d.answers.2 in
       let V : Status → Type 0 = λ s. IsVerdict p plan s d.text in
-      let taken = accepting p plan d.text (subst V done told.2) in (
+      let taken = accepting p plan d.text (subst V done d.answers.3) in (
         d.input,
         d.read.taken,
         d.read.ended,
-        (p, read.0, plan, read.1, told.1, taken.0, accepted_plan_is_best p plan read.1.front.says.sound taken.0),
+        (p, plan, is, taken.0, accepted_plan_is_best p plan is.1.front.says.sound taken.0),
         subst (λ t. Appends before.wrote after.wrote t) taken.1 d.written,
       )
 
-  -- only a check rejects
-  rejected_by : (r : Request) (status : Status) → Delivered r before after status → status ≡ statuses.Rejected →
-      (input : List ℕ) × Consumes before.left after.left input × IsAtEnd after.left
-      × ((p : Problem) × (rest : List ℕ) × (plan : APlan) × (at : RejectAt) × BeginsWith p input rest × IsPlanRest p rest plan
-      × (Accepts p plan → ⊥) × (first_reason p plan ≡ Some at) × Appends before.wrote after.wrote (RejectionOf at))
-  rejected_by Plan status d rejected = absurd (done_or_rejected (sym d.answers.0 ∙ rejected))
-  rejected_by Check status d rejected =
-      let p = d.answers.0 in
-      let read = d.answers.1 in
-      let told = read.2 in
-      let plan = told.0 in
-      elim told.2 [
-        | inl taken ↦ absurd (done_or_rejected (sym taken.1 ∙ rejected))
-        | inr turned ↦
-            let at = turned.2.0 in (
-              d.input,
-              d.read.taken,
-              d.read.ended,
-              (p, read.0, plan, at, read.1, told.1, turned.0, turned.2.1, subst (λ t. Appends before.wrote after.wrote t) turned.2.2 d.written),
-            )
-      ]
+  pub reported_input : (status : Status) (json : Bool) → Ends words before after (delivered status) → Spells words (Report json) → status ≡ statuses.Done →
+      (input : List ℕ) × Consumes before.source.left after.source.left input × IsAtEnd after.source.left
+      × ((p : Problem) × (plan : APlan) × IsInput input p plan × Accepts p plan × IsBest p plan.standing.path
+      × Appends before.wrote after.wrote (report_of json p plan.standing.path))
+  reported_input status json ends asked done =
+      let d = delivered_to (Report json) status ends asked in
+      let told = d.answers.1 in
+      let p = told.0 in
+      let plan = told.1 in
+      let is = told.2 in (
+        d.input,
+        d.read.taken,
+        d.read.ended,
+        (p, plan, is, told.3, accepted_plan_is_best p plan is.1.front.says.sound told.3, subst (λ t. Appends before.wrote after.wrote t) told.4 d.written),
+      )
 
-  pub rejected_input : (status : Status) → Ends words before after (delivered status) → status ≡ statuses.Rejected →
-      (input : List ℕ) × Consumes before.left after.left input × IsAtEnd after.left
-      × ((p : Problem) × (rest : List ℕ) × (plan : APlan) × (at : RejectAt) × BeginsWith p input rest × IsPlanRest p rest plan
-      × (Accepts p plan → ⊥) × (first_reason p plan ≡ Some at) × Appends before.wrote after.wrote (RejectionOf at))
-  rejected_input status (r, spelled, whole) rejected = rejected_by r status whole rejected
+  -- what a rejection says
+  abbrev Rejects : Type 0
+  Rejects =
+      (input : List ℕ) × Consumes before.source.left after.source.left input × IsAtEnd after.source.left
+      × ((at : RejectAt) × IsRejected input at
+      × ((Spells words Check × Appends before.wrote after.wrote (rejection_of at)) ⊎ ((json : Bool) × Spells words (Report json) × (after.wrote ≡ before.wrote))))
+
+  -- of what is delivered only a check's answer is one
+  rejected_by : (r : Request) (status : Status) → Spells words r → Delivered r before after status → status ≡ statuses.Rejected → Rejects
+  rejected_by (Plan workers nodes) status spelled d rejected = absurd (done_or_rejected (sym d.answers.0 ∙ rejected))
+  rejected_by Check status spelled d rejected =
+      let V : Status → Type 0 = λ s. IsVerdict d.answers.0 d.answers.1 s d.text in
+      let turned = rejecting d.input d.answers.0 d.answers.1 d.text d.answers.2 (subst V rejected d.answers.3) in
+      (d.input, d.read.taken, d.read.ended, (turned.0, turned.1, inl (spelled, subst (λ t. Appends before.wrote after.wrote t) turned.2 d.written)))
+  rejected_by (Report json) status spelled d rejected = absurd (done_or_rejected (sym d.answers.0 ∙ rejected))
+  rejected_by (Make number) status spelled d rejected = absurd (done_or_rejected (sym d.answers.0 ∙ rejected))
+  rejected_by (Drill number workers) status spelled d rejected = absurd (done_or_rejected (sym d.answers.0 ∙ rejected))
+
+  pub rejected_input : (status : Status) → Ends words before after (delivered status) → status ≡ statuses.Rejected → Rejects
+  rejected_input status (r, spelled, whole) rejected = rejected_by r status spelled whole rejected
+
+  -- and of what stops a run, only the rejection of a report
+  stopped_by : (r : Request) (at : RejectAt) → Spells words r → Refused r before after (stops.Rejected at) → Rejects
+  stopped_by (Plan workers nodes) at spelled refused = absurd refused.refuses
+  stopped_by Check at spelled refused = absurd refused.refuses
+  stopped_by (Report json) at spelled refused = (refused.input, refused.read.taken, refused.read.ended, (at, refused.refuses, inr (json, spelled, refused.unwritten)))
+  stopped_by (Make number) at spelled refused = absurd refused.refuses
+  stopped_by (Drill number workers) at spelled refused = absurd refused.refuses
+
+  pub stopped_input : (stop : Stop) → Ends words before after (stopped stop) → status_of stop ≡ statuses.Rejected → Rejects
+  stopped_input (stops.Rejected at) (r, spelled, refused) e = stopped_by r at spelled refused
+  stopped_input stops.Usage ends e = let bad : ⊥ = cc in absurd bad
+  stopped_input (stops.BadScenario fault) ends e = let bad : ⊥ = cc in absurd bad
+  stopped_input (stops.BadPlan fault) ends e = let bad : ⊥ = cc in absurd bad
+  stopped_input stops.ReadFault ends e = let bad : ⊥ = cc in absurd bad
+  stopped_input stops.WriteFault ends e = let bad : ⊥ = cc in absurd bad
+  stopped_input stops.NoMemory ends e = let bad : ⊥ = cc in absurd bad
+  stopped_input (stops.TooManyNodes limit) ends e = let bad : ⊥ = cc in absurd bad
+  stopped_input stops.TooLong ends e = let bad : ⊥ = cc in absurd bad
+
+  pub made_text : (status : Status) (number : ℕ) → Ends words before after (delivered status) → Spells words (Make number) → status ≡ statuses.Done →
+      (after.source.left ≡ before.source.left) × Appends before.wrote after.wrote (canonical_text (made_problem number))
+  made_text status number ends asked done =
+      let d = delivered_to (Make number) status ends asked in
+      (ap (λ (s : Source). s.left) d.read.same, subst (λ t. Appends before.wrote after.wrote t) d.answers.1 d.written)
+
+  pub drilled_text : (status : Status) (number workers : ℕ) → Ends words before after (delivered status) → Spells words (Drill number workers) → status ≡ statuses.Done →
+      (after.source.left ≡ before.source.left) × ((text : List ℕ) × IsDrilled number text × Appends before.wrote after.wrote text)
+  drilled_text status number workers ends asked done =
+      let d = delivered_to (Drill number workers) status ends asked in
+      (ap (λ (s : Source). s.left) d.read.same, (d.text, d.answers.1, d.written))
 
   pub write_failed : (stop : Stop) → Ends words before after (stopped stop) → status_of stop ≡ statuses.WriteFault →
       Rose before.write_faults after.write_faults × ((request : Request) × Spells words request × CutOff request before after)
   write_failed stops.WriteFault (r, spelled, fault) e = (fault.0, (r, spelled, fault.1))
   write_failed stops.Usage ends e = let bad : ⊥ = cc in absurd bad
+  write_failed (stops.Rejected at) ends e = let bad : ⊥ = cc in absurd bad
   write_failed (stops.BadScenario fault) ends e = let bad : ⊥ = cc in absurd bad
   write_failed (stops.BadPlan fault) ends e = let bad : ⊥ = cc in absurd bad
   write_failed stops.ReadFault ends e = let bad : ⊥ = cc in absurd bad
   write_failed stops.NoMemory ends e = let bad : ⊥ = cc in absurd bad
   write_failed (stops.TooManyNodes limit) ends e = let bad : ⊥ = cc in absurd bad
   write_failed stops.TooLong ends e = let bad : ⊥ = cc in absurd bad
+
+  -- what is delivered to a request that reads nothing is its answer
+  delivered_unread : (r : Request) (status : Status) → limit_of r ≡ None → Delivered r before after status → status ≡ statuses.Done
+  delivered_unread (Plan workers nodes) status e d = let bad : ⊥ = cc in absurd bad
+  delivered_unread Check status e d = let bad : ⊥ = cc in absurd bad
+  delivered_unread (Report json) status e d = let bad : ⊥ = cc in absurd bad
+  delivered_unread (Make number) status e d = d.answers.0
+  delivered_unread (Drill number workers) status e d = d.answers.0
+
+  unread_refuses : (r : Request) (input : List ℕ) (stop : Stop) → limit_of r ≡ None → Refuses r input stop → ⊥
+  unread_refuses (Plan workers nodes) input stop e h = let bad : ⊥ = cc in absurd bad
+  unread_refuses Check input stop e h = let bad : ⊥ = cc in absurd bad
+  unread_refuses (Report json) input stop e h = let bad : ⊥ = cc in absurd bad
+  unread_refuses (Make number) input stop e h = made_refuses input number stop h
+  unread_refuses (Drill number workers) input stop e h = drilled_refuses input number workers stop h
+
+  unread_limit : (o : Option ℕ) (limit : ℕ) → o ≡ None → o ≡ Some limit → ⊥
+  unread_limit o limit e h = let bad : ⊥ = cc in bad
+
+  -- so is how a run of it ends, unless memory runs out or the sink fails
+  pub ends_unread : (result : Result Status Stop) (request : Request) → Ends words before after (ending_of result) → Spells words request → limit_of request ≡ None →
+      (Rose before.write_faults after.write_faults → ⊥) → IsUnlessNoMemory statuses.Done (status_at (ending_of result))
+  ends_unread (Ok status) request ends asked none calm = inl (delivered_unread request status none (delivered_to request status ends asked))
+  ends_unread (Err stops.Usage) request ends asked none calm = absurd (ends.0 request asked)
+  ends_unread (Err (stops.Rejected at)) request (r, spelled, d) asked none calm = absurd (unread_refuses r d.input (stops.Rejected at) (ap limit_of (spelled_once words r request spelled asked) ∙ none) d.refuses)
+  ends_unread (Err (stops.BadScenario fault)) request (r, spelled, d) asked none calm = absurd (unread_refuses r d.input (stops.BadScenario fault) (ap limit_of (spelled_once words r request spelled asked) ∙ none) d.refuses)
+  ends_unread (Err (stops.BadPlan fault)) request (r, spelled, d) asked none calm = absurd (unread_refuses r d.input (stops.BadPlan fault) (ap limit_of (spelled_once words r request spelled asked) ∙ none) d.refuses)
+  ends_unread (Err (stops.TooManyNodes limit)) request (r, spelled, d) asked none calm = absurd (unread_refuses r d.input (stops.TooManyNodes limit) (ap limit_of (spelled_once words r request spelled asked) ∙ none) d.refuses)
+  ends_unread (Err stops.ReadFault) request (r, spelled, d) asked none calm = absurd (unread_limit (limit_of r) d.0.limit (ap limit_of (spelled_once words r request spelled asked) ∙ none) d.0.is_limit)
+  ends_unread (Err stops.TooLong) request (r, spelled, d) asked none calm = absurd (unread_limit (limit_of r) d.0.limit (ap limit_of (spelled_once words r request spelled asked) ∙ none) d.0.is_limit)
+  ends_unread (Err stops.WriteFault) request (r, spelled, fault) asked none calm = absurd (calm fault.0)
+  ends_unread (Err stops.NoMemory) request ends asked none calm = inr refl

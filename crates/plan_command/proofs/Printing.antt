@@ -1,5 +1,5 @@
 -- An accepted plan can be written.
-use Rattle.std.proofs.Common.{ℕ, ◌≤◌, List, [], ◌∷◌, ◌++◌, length, sym, subst, arith, All, Contains}
+use Rattle.std.proofs.Common.{ℕ, ◌≡◌, ◌≤◌, ◌<◌, List, [], ◌∷◌, ◌++◌, length, sym, subst, arith, All, Contains}
 use Rattle.std.proofs.lemmas.List.Elements.{All-nil, All-cons, All-head, All-tail, All-append, All-map, All-weaker, All-contains_itself}
 use Rattle.search_model.specs.declared.standing.Standing.{Standing}
 use Rattle.search_model.specs.Problem.{Problem, IsProblem}
@@ -10,7 +10,7 @@ use Rattle.bound_tree.specs.declared.node.Kind.TheVariants.{Branch, Whole, Mean,
 use Rattle.bound_tree.specs.declared.node.TreeNode.{TreeNode}
 use Rattle.bound_tree.specs.declared.plan.Plan.{Plan}
 use Rattle.bound_tree.specs.Accepts.{IsGoodKind, expected_by, AreEaten, Accepts}
-use Rattle.tree_search.proofs.Orderly.{legal_further}
+use Rattle.tree_checker.proofs.Rooms.{legal_expected}
 use Rattle.tree_format.specs.PlanText.{ArePositions, IsPrintableKind, IsPrintableRecord, IsPrintable}
 
 module _ (p : Problem) (sound : IsProblem p) (s : Standing) where
@@ -23,14 +23,12 @@ module _ (p : Problem) (sound : IsProblem p) (s : Standing) where
   kind_printable q (Mean b) good = tt
   kind_printable q (Tangent b whole) good = let path = good.1.2.path in (follows_positions whole path.follows, path.whole)
 
-  -- what a record makes expected is legal
-  legal_expected : (q : List ℕ) (kind : Kind) → IsLegal p q → IsGoodKind p s q kind → All (IsLegal p) (expected_by p q kind)
-  legal_expected q Branch legal good =
-      All-map (IsLegal p) (λ d. q ++ d ∷ []) (moves_after p q)
-      (All-weaker (Contains (moves_after p q)) (λ d. IsLegal p (q ++ d ∷ [])) (λ d move. legal_further p q d legal good move) (moves_after p q) (All-contains_itself (moves_after p q)))
-  legal_expected q (Whole n) legal good = All-nil (IsLegal p)
-  legal_expected q (Mean b) legal good = All-nil (IsLegal p)
-  legal_expected q (Tangent b whole) legal good = All-nil (IsLegal p)
+  -- a branch that is good is shorter than the horizon
+  branch_is_short : (q : List ℕ) (kind : Kind) → IsGoodKind p s q kind → kind ≡ Branch → length q < p.horizon
+  branch_is_short q Branch good e = good
+  branch_is_short q (Whole n) good e = let bad : ⊥ = cc in absurd bad
+  branch_is_short q (Mean b) good e = let bad : ⊥ = cc in absurd bad
+  branch_is_short q (Tangent b whole) good e = let bad : ⊥ = cc in absurd bad
 
   -- records that are eaten can be written
   eaten_printable : (qs : List (List ℕ)) (rs : List TreeNode) → All (IsLegal p) qs → AreEaten p s qs rs → All (IsPrintableRecord p) rs
@@ -39,7 +37,7 @@ module _ (p : Problem) (sound : IsProblem p) (s : Standing) where
   eaten_printable (q ∷ qs) [] legal eaten = absurd eaten
   eaten_printable (q ∷ qs) (r ∷ rs) legal eaten =
       let here : IsLegal p r.prefix = subst (IsLegal p) (sym eaten.0) (All-head (IsLegal p) q qs legal) in
-      let more = All-append (IsLegal p) (expected_by p r.prefix r.kind) qs (legal_expected r.prefix r.kind here eaten.1) (All-tail (IsLegal p) q qs legal) in
+      let more = All-append (IsLegal p) (expected_by p r.prefix r.kind) qs (legal_expected p r.prefix r.kind here (branch_is_short r.prefix r.kind eaten.1)) (All-tail (IsLegal p) q qs legal) in
       All-cons (IsPrintableRecord p) r rs
       (record { positions = follows_positions r.prefix here.follows; short = here.short; kind = kind_printable r.prefix r.kind eaten.1 })
       (eaten_printable (expected_by p r.prefix r.kind ++ qs) rs more eaten.2)

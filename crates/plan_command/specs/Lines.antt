@@ -3,10 +3,12 @@ use Rattle.std.specs.Prelude.{ℕ, List, [], ◌∷◌, ◌++◌, codes}
 use Rattle.std.specs.Fmt.{decimal}
 use Rattle.scenario_text.specs.Kinds.{name_of}
 use Rattle.tree_format.specs.Kinds.{name_of as plan_name_of}
+use Rattle.tree_checker.specs.declared.verdict.RejectAt.{RejectAt}
+use Rattle.tree_checker.specs.Whys.{name_of as reason_name_of}
 use Rattle.plan_command.specs.declared.status.Status.{Status}
 use Rattle.plan_command.specs.declared.status.Status.TheVariants as statuses
 use Rattle.plan_command.specs.declared.status.Stop.{Stop}
-use Rattle.plan_command.specs.declared.status.Stop.TheVariants.{Usage, BadScenario, BadPlan, ReadFault, WriteFault, NoMemory, TooManyNodes, TooLong}
+use Rattle.plan_command.specs.declared.status.Stop.TheVariants.{Rejected, Usage, BadScenario, BadPlan, ReadFault, WriteFault, NoMemory, TooManyNodes, TooLong}
 
 -- the numbers of the statuses
 abbrev pub code_of : Status → ℕ
@@ -22,6 +24,7 @@ code_of statuses.TooManyNodes = 8
 code_of statuses.TooLong = 9
 
 abbrev pub status_of : Stop → Status
+status_of (Rejected at) = statuses.Rejected
 status_of Usage = statuses.Usage
 status_of (BadScenario fault) = statuses.BadScenario
 status_of (BadPlan fault) = statuses.BadPlan
@@ -31,7 +34,12 @@ status_of NoMemory = statuses.NoMemory
 status_of (TooManyNodes limit) = statuses.TooManyNodes
 status_of TooLong = statuses.TooLong
 
+-- `rejected LINE WHY`, of the first reason against a plan
+abbrev pub rejection_of : RejectAt → List ℕ
+rejection_of at = codes "rejected " ++ decimal at.line ++ 32 ∷ (reason_name_of at.why ++ 10 ∷ [])
+
 unfoldable pub line_of : Stop → List ℕ
+line_of (Rejected at) = rejection_of at
 line_of Usage = codes "usage: osp plan [--workers N] [--nodes N] / check / report [--json yes] / make NUMBER / drill NUMBER [--workers N]\n"
 line_of (BadScenario fault) = codes "bad scenario: line " ++ decimal fault.line ++ 32 ∷ (name_of fault.kind ++ 10 ∷ [])
 line_of (BadPlan fault) = codes "bad plan: line " ++ decimal fault.line ++ 32 ∷ (plan_name_of fault.kind ++ 10 ∷ [])

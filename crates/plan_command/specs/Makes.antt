@@ -1,13 +1,40 @@
--- What a request's own function returns.
-use Rattle.std.specs.Prelude.{ℕ, List, Result, Ok, Err}
+-- What the functions behind a request return.
+use Rattle.std.specs.Prelude.{ℕ, ◌≡◌, ◌≤◌, ◌<◌, ◌^◌, List, Result, Ok, Err, length}
+use Rattle.search_model.specs.Problem.{Problem}
+use Rattle.search_model.specs.Order.{standing_of}
+use Rattle.search_model.specs.Opening.{IsOpening}
+use Rattle.bound_tree.specs.declared.plan.Plan.{Plan as APlan}
+use Rattle.bound_tree.specs.Close.{HasMoreLive}
 use Rattle.plan_command.specs.declared.answer.Answer.{Answer}
 use Rattle.plan_command.specs.declared.request.Request.{Request}
+use Rattle.plan_command.specs.declared.request.Request.TheVariants.{Plan, Check, Report, Make, Drill}
 use Rattle.plan_command.specs.declared.status.Stop.{Stop}
 use Rattle.plan_command.specs.declared.status.Stop.TheVariants as stops
+use Rattle.plan_command.specs.Words.{IsCrew}
+use Rattle.plan_command.specs.Plans.{IsCertified}
 use Rattle.plan_command.specs.Commands.{Answers, Refuses}
 
--- an answer, or a refusal, or no memory was found
+-- a request whose numbers are within their limits
+abbrev pub IsAsked : Request → Type 0
+IsAsked (Plan workers nodes) = IsCrew workers × ((1 ≤ nodes) × (nodes ≤ 1048576))
+IsAsked Check = Unit {0}
+IsAsked (Report json) = Unit {0}
+IsAsked (Make number) = number < 2 ^ 64
+IsAsked (Drill number workers) = (number < 2 ^ 64) × IsCrew workers
+
+-- an answer, or a refusal, or memory ran out
 abbrev pub MakesOf : Request → List ℕ → Result Answer Stop → Type 0
 MakesOf request input (Ok answer) = Answers request input answer.status answer.text.items
 MakesOf request input (Err stops.NoMemory) = Unit {0}
 MakesOf request input (Err stop) = Refuses request input stop
+
+-- more live prefixes under the opening than the limit
+abbrev pub IsTooMany : Problem → ℕ → Type 0
+IsTooMany p limit = (opening : List ℕ) × IsOpening p opening × HasMoreLive p (standing_of p opening) limit
+
+-- a certified plan with at most so many records, or there are too many live prefixes, or memory ran out
+abbrev pub PlansFor : Problem → ℕ → Result APlan Stop → Type 0
+PlansFor p nodes (Ok plan) = IsCertified p plan × (length plan.tree ≤ nodes)
+PlansFor p nodes (Err (stops.TooManyNodes limit)) = (limit ≡ nodes) × IsTooMany p nodes
+PlansFor p nodes (Err stops.NoMemory) = Unit {0}
+PlansFor p nodes (Err _) = ⊥

@@ -2,7 +2,6 @@
 use Rattle.std.specs.Prelude.{ℕ, ◌≡◌, ◌++◌, List, drop, IsTrue, Err}
 use Rattle.std.specs.List.{list_all}
 use Rattle.search_model.specs.Problem.{Problem}
-use Rattle.search_model.specs.Tracks.{value_of, whole_weight}
 use Rattle.search_model.specs.Order.{standing_of, IsBest}
 use Rattle.search_model.specs.Opening.{IsOpening}
 use Rattle.scenario_text.specs.Scenarios.{IsFront}
@@ -14,12 +13,10 @@ use Rattle.tree_format.specs.Reading.{plan_at}
 use Rattle.plan_command.specs.Spaces.{is_space, SkipsSpaces}
 use Rattle.bound_tree.specs.Close.{LetsBranch}
 
--- the best path with its value and the whole weight, and records that are accepted; no branch has a prefix that the opening
--- closes by a bound
+-- the best path, with records that are accepted for its exact value and the whole weight; no branch has a prefix that the
+-- opening closes by a bound
 pub record IsCertified (p : Problem) (plan : Plan) : Type 0 where
   pub best : IsBest p plan.standing.path
-  pub value : plan.standing.value ≡ value_of p plan.standing.path
-  pub weight : plan.weight ≡ whole_weight p
   pub accepted : Accepts p plan
   pub opening : List ℕ
   pub is_opening : IsOpening p opening

@@ -1,40 +1,43 @@
 -- How a run may end: what source and sinks show before and after it, for each status.
-use Rattle.std.specs.Prelude.{◌≡◌, ◌⊎◌, ℕ, ◌+◌, ◌≤◌, List, [], length, Result, Ok, Err}
-use Rattle.std.specs.Io.KnownBytes.{Consumes, Appends, IsAtEnd}
+use Rattle.std.specs.Prelude.{◌≡◌, ◌⊎◌, ℕ, List, [], Result, Ok, Err}
+use Rattle.std.specs.Io.KnownBytes.{Appends}
 use Rattle.std.specs.declared.option.Option.{Option}
 use Rattle.byte_ports.specs.Causes.{Rose}
-use Rattle.byte_ports.specs.Taken.{TakesCount, AppendsPrefix}
+use Rattle.byte_ports.specs.Taken.{AppendsPrefix}
 use Rattle.plan_command.specs.declared.request.Request.{Request}
 use Rattle.plan_command.specs.declared.status.Status.{Status}
 use Rattle.plan_command.specs.declared.status.Stop.{Stop}
 use Rattle.plan_command.specs.declared.status.Stop.TheVariants as stops
 use Rattle.plan_command.specs.Words.{Spells, limit_of}
 use Rattle.plan_command.specs.Lines.{status_of, line_of}
+use Rattle.plan_command.specs.Inputs.{Source, Reads, IsOverLong, HasFailed}
 use Rattle.plan_command.specs.Commands.{Answers, Refuses}
 
 -- What the source and the sink `out` show at one moment.
 pub record Shown : Type 0 where
-  pub left : Option (List ℕ)
-  pub read_faults : ℕ
+  pub source : Source
   pub wrote : Option (List ℕ)
   pub write_faults : ℕ
+
+-- What they show before a run and after it.
+pub record Seen : Type 0 where
+  pub before : Shown
+  pub after : Shown
 
 -- the same, by the meanings of a source and a sink
 abbrev pub shown : {S K : Type 0} → (S → Option (List ℕ)) → (S → ℕ) → (K → Option (List ℕ)) → (K → ℕ) → S → K → Shown
 shown left read_faults wrote write_faults source out =
-    record { left = left source; read_faults = read_faults source; wrote = wrote out; write_faults = write_faults out }
+    record { source = record { left = left source; faults = read_faults source }; wrote = wrote out; write_faults = write_faults out }
 
--- The input was read whole, and it isn't longer than the request allows.
-pub record ReadWhole (request : Request) (before after : Shown) (input : List ℕ) : Type 0 where
-  pub taken : Consumes before.left after.left input
-  pub ended : IsAtEnd after.left
-  pub short : length input ≤ limit_of request
+abbrev pub seen : {S K : Type 0} → (S → Option (List ℕ)) → (S → ℕ) → (K → Option (List ℕ)) → (K → ℕ) → S → S → K → K → Seen
+seen left read_faults wrote write_faults source source' out out' =
+    record { before = shown left read_faults wrote write_faults source out; after = shown left read_faults wrote write_faults source' out' }
 
 -- The whole answer stands in `out`.
 pub record Delivered (request : Request) (before after : Shown) (status : Status) : Type 0 where
   pub input : List ℕ
   pub text : List ℕ
-  pub read : ReadWhole request before after input
+  pub read : Reads (limit_of request) before.source after.source input
   pub answers : Answers request input status text
   pub written : Appends before.wrote after.wrote text
 
@@ -43,25 +46,29 @@ pub record CutOff (request : Request) (before after : Shown) : Type 0 where
   pub input : List ℕ
   pub text : List ℕ
   pub status : Status
-  pub read : ReadWhole request before after input
+  pub read : Reads (limit_of request) before.source after.source input
   pub answers : Answers request input status text
   pub written : AppendsPrefix before.wrote after.wrote text
 
 -- The input was read whole and is refused.
 pub record Refused (request : Request) (before after : Shown) (stop : Stop) : Type 0 where
   pub input : List ℕ
-  pub read : ReadWhole request before after input
+  pub read : Reads (limit_of request) before.source after.source input
   pub refuses : Refuses request input stop
   pub unwritten : after.wrote ≡ before.wrote
 
 -- Words of a request that refuses its input so.
-abbrev pub IsRefusal : List (List ℕ) → Shown → Shown → Stop → Type 0
-IsRefusal words before after stop = (request : Request) × Spells words request × Refused request before after stop
+abbrev pub IsRefusal : List (List ℕ) → Seen → Stop → Type 0
+IsRefusal words s stop = (request : Request) × Spells words request × Refused request s.before s.after stop
+
+-- Words of a request whose answer was cut off.
+abbrev pub IsCutOff : List (List ℕ) → Seen → Type 0
+IsCutOff words s = (request : Request) × Spells words request × CutOff request s.before s.after
 
 -- What a stop says of a request that was read from the words.
 abbrev pub Stopped : Request → Shown → Shown → Stop → Type 0
-Stopped request before after stops.ReadFault = Rose before.read_faults after.read_faults × (after.wrote ≡ before.wrote)
-Stopped request before after stops.TooLong = TakesCount before.left after.left (limit_of request + 1) × (after.wrote ≡ before.wrote)
+Stopped request before after stops.ReadFault = HasFailed (limit_of request) before.source after.source × (after.wrote ≡ before.wrote)
+Stopped request before after stops.TooLong = IsOverLong (limit_of request) before.source after.source × (after.wrote ≡ before.wrote)
 Stopped request before after stops.WriteFault = Rose before.write_faults after.write_faults × CutOff request before after
 Stopped request before after stops.NoMemory = (after.wrote ≡ before.wrote) ⊎ CutOff request before after
 Stopped request before after stop = Refused request before after stop

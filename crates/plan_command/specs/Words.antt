@@ -1,18 +1,56 @@
 -- The words of the command line, and the requests that they spell.
-use Rattle.std.specs.Prelude.{◌≡◌, ℕ, List, [], ◌∷◌, codes}
+use Rattle.std.specs.Prelude.{◌≡◌, ◌≤◌, ◌<◌, ◌^◌, ◌⊎◌, ℕ, Bool, true, false, List, [], ◌∷◌, ◌++◌, codes, String}
+use Rattle.std.specs.declared.option.Option.{Option}
+use Rattle.std.specs.declared.option.Option.TheVariants.{Some, None}
+use Rattle.std.specs.Fmt.{decimal}
 use Rattle.plan_command.specs.declared.request.Request.{Request}
-use Rattle.plan_command.specs.declared.request.Request.TheVariants.{Plan, Check}
+use Rattle.plan_command.specs.declared.request.Request.TheVariants.{Plan, Check, Report, Make, Drill}
+
+-- an option: its name, and the decimal text of its number
+abbrev pub option : List ℕ → ℕ → List (List ℕ)
+option name n = name ∷ decimal n ∷ []
+
+abbrev pub workers_option : ℕ → List (List ℕ)
+workers_option n = option (codes "--workers") n
+
+abbrev pub nodes_option : ℕ → List (List ℕ)
+nodes_option n = option (codes "--nodes") n
+
+-- the options of `plan` stand in any order, each at most once: 4 workers and 1,048,576 records where none says so
+abbrev pub SpellsPlan : List (List ℕ) → ℕ → ℕ → Type 0
+SpellsPlan options workers nodes =
+    ((options ≡ []) × (workers ≡ 4) × (nodes ≡ 1048576))
+    ⊎ (((options ≡ workers_option workers) × (nodes ≡ 1048576))
+    ⊎ (((options ≡ nodes_option nodes) × (workers ≡ 4))
+    ⊎ ((options ≡ workers_option workers ++ nodes_option nodes)
+    ⊎ (options ≡ nodes_option nodes ++ workers_option workers))))
+
+-- 1 to 16 workers
+abbrev pub IsCrew : ℕ → Type 0
+IsCrew workers = (1 ≤ workers) × (workers ≤ 16)
 
 -- the words spell the request
 abbrev pub Spells : List (List ℕ) → Request → Type 0
-Spells words Plan = words ≡ codes "plan" ∷ []
+Spells words (Plan workers nodes) =
+    IsCrew workers × ((1 ≤ nodes) × (nodes ≤ 1048576))
+    × ((options : List (List ℕ)) × (words ≡ codes "plan" ∷ options) × SpellsPlan options workers nodes)
 Spells words Check = words ≡ codes "check" ∷ []
+Spells words (Report false) = words ≡ codes "report" ∷ []
+Spells words (Report true) = words ≡ codes "report" ∷ codes "--json" ∷ codes "yes" ∷ []
+Spells words (Make number) = (number < 2 ^ 64) × (words ≡ codes "make" ∷ decimal number ∷ [])
+Spells words (Drill number workers) =
+    (number < 2 ^ 64) × IsCrew workers
+    × (((words ≡ codes "drill" ∷ decimal number ∷ []) × (workers ≡ 4))
+    ⊎ (words ≡ codes "drill" ∷ decimal number ∷ workers_option workers))
 
 -- the words spell no request
 abbrev pub SpellNone : List (List ℕ) → Type 0
 SpellNone words = (request : Request) → Spells words request → ⊥
 
--- how many bytes of input a request may have
-abbrev pub limit_of : Request → ℕ
-limit_of Plan = 1048576
-limit_of Check = 336592896
+-- how many bytes of input a request may have, where it reads any
+abbrev pub limit_of : Request → Option ℕ
+limit_of (Plan workers nodes) = Some 1048576
+limit_of Check = Some 336592896
+limit_of (Report json) = Some 336592896
+limit_of (Make number) = None
+limit_of (Drill number workers) = None

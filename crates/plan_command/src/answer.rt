@@ -1,15 +1,23 @@
-ghost use Rattle.std.specs.Prelude.{◌≡◌};
-ghost use Rattle.plan_command.specs.Makes.{MakesOf};
+//! What each request makes of its input.
 
-use crate::checking::answer_check;
+ghost use Rattle.std.specs.Prelude.{◌≡◌, ◌≤◌};
+ghost use Rattle.plan_command.specs.Makes.{MakesOf, IsAsked};
+ghost use Rattle.plan_command.specs.Words.{IsCrew};
+
+use crate::checking::{answer_check, answer_report};
+use crate::drilling::{answer_drill, answer_make};
 use crate::request::Request;
 use crate::status::{Status, Stop};
+use bound_tree::Plan;
 use exact_parts::NoMemory;
 use opening_path::opening;
 use scenario_text::{TextStop, read_scenario_alone};
-use std::alloc::{AllocError, Global};
+use search_model::Scenario;
+use search_workers::{Found, Gate, SearchStop, search};
+use std::alloc::AllocError;
+use std::sync::Wait;
+use std::thread::Threads;
 use tree_format::print_plan;
-use tree_search::{MOST_NODES, SearchStop, search};
 
 /// A text for `out`, and the status once it is written.
 #[derive(Debug, Drop)]
@@ -38,22 +46,59 @@ impl From<AllocError> for Stop {
     }
 }
 
-/// The scenario's best path with its exact value, and the tree that shows why no path is better.
-fn answer_plan(alloc: Global, input: &[u8]) -> Result<Answer, Stop>
-    ensures { MakesOf Request.Plan input.now result }
+ghost use Rattle.search_workers.specs.Search.{plan_of};
+ghost use Rattle.plan_command.specs.Makes.{PlansFor};
+
+/// The plan of what a search found.
+fn plan_found(sc: &Scenario, found: Found) -> Plan
+    ensures { result ≡ plan_of sc.now found }
 {
-    let sc = match read_scenario_alone(alloc, input) {
+    Plan {
+        standing: found.best,
+        weight: sc.weight(),
+        tree: found.tree,
+    }
+}
+
+/// The plan of a scenario with so many workers and at most so many records, searched from its opening.
+pub fn plan_from_opening<R: AllocGlobal + Threads + Wait + Sync, G: Gate>(
+    rt: &R,
+    sc: &Scenario,
+    workers: u32,
+    nodes: u64,
+    gate: &G,
+) -> Result<Plan, Stop>
+    requires crew { IsCrew workers }
+    requires nodes { (1 ≤ nodes) × (nodes ≤ 1048576) }
+    ensures { PlansFor sc.now nodes result }
+{
+    let first = opening(rt.alloc(), sc)?;
+    match search(rt, sc, &first, workers, nodes, gate) {
+        Ok(found) => Ok(plan_found(sc, found)),
+        Err(SearchStop::Full(_)) => Err(Stop::TooManyNodes(nodes)),
+        Err(SearchStop::NoMemory) => Err(Stop::NoMemory),
+    }
+}
+
+/// The scenario's best path with its exact value, and the tree that shows why no path is better.
+fn answer_plan<R: AllocGlobal + Threads + Wait + Sync, G: Gate>(
+    rt: &R,
+    workers: u32,
+    nodes: u64,
+    input: &[u8],
+    gate: &G,
+) -> Result<Answer, Stop>
+    requires crew { IsCrew workers }
+    requires nodes { (1 ≤ nodes) × (nodes ≤ 1048576) }
+    ensures { MakesOf (Request.Plan workers nodes) input.now result }
+{
+    let sc = match read_scenario_alone(rt.alloc(), input) {
         Ok(sc) => sc,
         Err(TextStop::Fault(fault)) => return Err(Stop::BadScenario(fault)),
         Err(TextStop::NoMemory) => return Err(Stop::NoMemory),
     };
-    let first = opening(alloc, &sc)?;
-    let plan = match search(alloc, &sc, &first) {
-        Ok(plan) => plan,
-        Err(SearchStop::Full) => return Err(Stop::TooManyNodes(MOST_NODES as u64)),
-        Err(SearchStop::NoMemory) => return Err(Stop::NoMemory),
-    };
-    let mut text = Vec::new(alloc);
+    let plan = plan_from_opening(rt, &sc, workers, nodes, gate)?;
+    let mut text = Vec::new(rt.alloc());
     print_plan(&mut text, &sc, &plan)?;
     Ok(Answer {
         status: Status::Done,
@@ -62,11 +107,20 @@ fn answer_plan(alloc: Global, input: &[u8]) -> Result<Answer, Stop>
 }
 
 /// What the request makes of the input.
-pub fn answer_for(alloc: Global, request: Request, input: &[u8]) -> Result<Answer, Stop>
+pub fn answer_for<R: AllocGlobal + Threads + Wait + Sync, G: Gate>(
+    rt: &R,
+    request: Request,
+    input: &[u8],
+    gate: &G,
+) -> Result<Answer, Stop>
+    requires { IsAsked request }
     ensures { MakesOf request input.now result }
 {
     match request {
-        Request::Plan => answer_plan(alloc, input),
-        Request::Check => answer_check(alloc, input),
+        Request::Plan { workers, nodes } => answer_plan(rt, workers, nodes, input, gate),
+        Request::Check => answer_check(rt.alloc(), input),
+        Request::Report { json } => answer_report(rt.alloc(), json, input),
+        Request::Make { number } => answer_make(rt.alloc(), number),
+        Request::Drill { number, workers } => answer_drill(rt, number, workers, gate),
     }
 }

@@ -3,7 +3,8 @@
 
 mod answer;
 mod checking;
-mod gate;
+mod drilling;
+mod laws;
 mod line;
 mod request;
 mod spaces;
@@ -13,8 +14,9 @@ mod tests;
 mod top;
 mod words;
 
-pub use gate::{Gate, OpenGate};
-pub use request::Request;
+pub use laws::what_is_planned_is_accepted;
+pub use request::{MOST_NODES, MOST_WORKERS, Request, WORKERS};
+pub use search_workers::{Gate, OpenGate};
 pub use status::{Status, Stop, status_code};
 pub use top::run;
 pub use words::read_words;

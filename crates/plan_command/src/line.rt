@@ -7,6 +7,7 @@ use crate::status::Stop;
 use byte_ports::{Sink, write_all};
 use exact_parts::digits;
 use scenario_text::text_kind_name;
+use tree_checker::why_name;
 use tree_format::plan_kind_name;
 
 /// Room for the longest line.
@@ -54,6 +55,7 @@ fn put_line(stop: Stop, to: &mut [u8; ROOM]) -> usize
     ensures len { result ≤ 160 }
 {
     match stop {
+        Stop::Rejected(at) => put_fault(to, b"rejected ", at.line, why_name(at.why).as_bytes()),
         Stop::Usage => append(
             to,
             0,

@@ -2,6 +2,7 @@ ghost use Rattle.std.specs.Prelude.{◌≡◌};
 ghost use Rattle.plan_command.specs.Lines.{code_of};
 
 use scenario_text::TextFault;
+use tree_checker::RejectAt;
 use tree_format::PlanFault;
 
 /// How a run ended.
@@ -50,6 +51,8 @@ pub fn status_code(s: Status) -> u8
 /// What stops a run before its answer is written, with all that is said of it.
 #[derive(Clone, Copy, Debug, PartialEq, Eq)]
 pub enum Stop {
+    /// The first reason against the plan of a report.
+    Rejected(RejectAt),
     Usage,
     /// The first fault of the scenario's text.
     BadScenario(TextFault),
@@ -72,6 +75,7 @@ impl Stop {
         ensures { result ≡ status_of self }
     {
         match self {
+            Stop::Rejected(_) => Status::Rejected,
             Stop::Usage => Status::Usage,
             Stop::BadScenario(_) => Status::BadScenario,
             Stop::BadPlan(_) => Status::BadPlan,

@@ -1,8 +1,11 @@
-ghost use Rattle.std.specs.Prelude.{◌<◌};
+ghost use Rattle.std.specs.Prelude.{◌≤◌};
 
 use super::*;
 use byte_ports::{MemSink, MemSource};
+use std::alloc::Global;
+use std::sync::Wait;
 use std::test::Fail;
+use std::thread::Threads;
 
 const ONE_CELL: &str =
     "scenario 1\nhorizon 1\nparts 1 1 2\ncell a\nstart a\nfirst a 1\nmoves a a\ndrift a a 1\noverlook a 1\nend\n";
@@ -61,13 +64,30 @@ const WIDE: &str =
 const WIDE_PLAN_HEAD: &str =
     "plan 1\npath a a a a a a\nchance 5111167220120220946834707324076032 5192296858534827628530496329220096\nnodes 7\n";
 
+// A record for each legal prefix of the two cells.
+const TWO_CELLS_LISTED: &str =
+    "plan 1\npath a a\nchance 12 16\nnodes 7\nB\nB 0\nW 12 0 0\nW 12 0 1\nB 1\nW 12 1 0\nW 12 1 1\nend\n";
+
+const TWO_CELLS_REPORT: &str =
+    "report 1\nchance 12 16 75.000\nperiod 1 a 8 50.000\nperiod 2 a 12 75.000\nleft a 0 0.000\nleft b 4 25.000\nend\n";
+
+const TWO_CELLS_JSON: &str =
+    "{\"chance\":\"12\",\"left\":[{\"cell\":\"a\",\"mass\":\"0\"},{\"cell\":\"b\",\"mass\":\"4\"}],\"path\":[\"a\",\"a\"],\"periods\":[\"8\",\"12\"],\"weight\":\"16\"}\n";
+
+const FAR_CELLS_REPORT: &str =
+    "report 1\nchance 6 9 66.666\nperiod 1 c 2 22.222\nperiod 2 d 6 66.666\nleft a 3 33.333\nleft b 0 0.000\nleft c 0 0.000\nleft d 0 0.000\nend\n";
+
+// A grid of 7 by 7 cells and 8 periods.
+const SEVEN: &str =
+    "scenario 1\nhorizon 8\nparts 1 20 10\ngrid 7 7\nstart r0c0\nfirst r3c3 1\nspread 4\nrate 3\nend\n";
+
 const USAGE: &str =
     "usage: osp plan [--workers N] [--nodes N] / check / report [--json yes] / make NUMBER / drill NUMBER [--workers N]\n";
 
-/// A run: its word, the two parts of its input, and how it is to end.
+/// A run: its words, the two parts of its input, and how it is to end.
 #[derive(Drop)]
 struct Row<'a> {
-    word: &'a str,
+    words: &'a str,
     scenario: &'a str,
     plan: &'a str,
     status: Status,
@@ -75,36 +95,95 @@ struct Row<'a> {
     err: &'a str,
 }
 
+/// How a run ended, and what it wrote.
+#[derive(Drop)]
+struct Outcome {
+    status: Status,
+    out: Vec<u8>,
+    err: Vec<u8>,
+}
+
+/// The words of a command line.
+fn words_of(alloc: Global, line: &str) -> Result<Vec<String>, Fail> {
+    let mut words = Vec::new(alloc);
+    for word in line.split(' ') {
+        if !word.is_empty() {
+            words.push(String::from_str(alloc, word)?)?;
+        }
+    }
+    Ok(words)
+}
+
+/// Runs a command over memory, `most` bytes a read and a write.
+fn ended<R: AllocGlobal + Threads + Wait + Sync>(
+    rt: &R,
+    line: &str,
+    input: Vec<u8>,
+    most: usize,
+    read_fails: &[u64],
+    write_fails: &[u64],
+) -> Result<Outcome, Fail>
+    requires { 1 ≤ most }
+{
+    let alloc = rt.alloc();
+    let words = words_of(alloc, line)?;
+    let mut source = MemSource::new(input, most, read_fails.to_vec(alloc)?);
+    let mut out = MemSink::new(alloc, most, write_fails.to_vec(alloc)?);
+    let mut err = MemSink::new(alloc, most, Vec::new(alloc));
+    let status = run(rt, &words, &mut source, &mut out, &mut err, &OpenGate);
+    Ok(Outcome {
+        status,
+        out: out.wrote().to_vec(alloc)?,
+        err: err.wrote().to_vec(alloc)?,
+    })
+}
+
 /// Whether a run, 16 bytes a read and a write, ends so.
-fn ends(
-    rt: &impl AllocGlobal,
+fn ends<R: AllocGlobal + Threads + Wait + Sync>(
+    rt: &R,
     row: &Row,
     read_fails: &[u64],
     write_fails: &[u64],
 ) -> Result<bool, Fail> {
-    let alloc = rt.alloc();
-    let mut words = Vec::new(alloc);
-    words.push(String::from_str(alloc, row.word)?)?;
-    let mut input = row.scenario.as_bytes().to_vec(alloc)?;
+    let mut input = row.scenario.as_bytes().to_vec(rt.alloc())?;
     input.extend_from_slice(row.plan.as_bytes())?;
-    let mut source = MemSource::new(input, 16, read_fails.to_vec(alloc)?);
-    let mut out = MemSink::new(alloc, 16, write_fails.to_vec(alloc)?);
-    let mut err = MemSink::new(alloc, 16, Vec::new(alloc));
-    let status = run(rt, &words, &mut source, &mut out, &mut err, &OpenGate);
+    let end = ended(rt, row.words, input, 16, read_fails, write_fails)?;
     Ok(
-        status == row.status
-            && out.wrote() == row.out.as_bytes()
-            && err.wrote() == row.err.as_bytes(),
+        end.status == row.status
+            && end.out.as_slice() == row.out.as_bytes()
+            && end.err.as_slice() == row.err.as_bytes(),
     )
 }
 
+/// Whether all of these runs end so.
+fn all_end<R: AllocGlobal + Threads + Wait + Sync>(rt: &R, rows: &[Row]) -> Result<bool, Fail> {
+    for row in rows {
+        if !ends(rt, row, &[], &[])? {
+            return Ok(false);
+        }
+    }
+    Ok(true)
+}
+
 /// A row in which a scenario is planned.
-fn planned<'a>(scenario: &'a str, out: &'a str) -> Row<'a> {
+fn planned<'a>(words: &'a str, scenario: &'a str, out: &'a str) -> Row<'a> {
     Row {
-        word: "plan",
+        words,
         scenario,
         plan: "",
         status: Status::Done,
+        out,
+        err: "",
+    }
+}
+
+/// A row in which a plan is judged.
+fn judged<'a>(scenario: &'a str, plan: &'a str, status: Status, out: &'a str) -> Row<'a> {
+    Row {
+        words: "check",
+        scenario,
+        plan,
+        status,
         out,
         err: "",
     }
@@ -112,87 +191,90 @@ fn planned<'a>(scenario: &'a str, out: &'a str) -> Row<'a> {
 
 /// A row in which a plan is accepted.
 fn accepted<'a>(scenario: &'a str, plan: &'a str) -> Row<'a> {
-    Row {
-        word: "check",
-        scenario,
-        plan,
-        status: Status::Done,
-        out: "accepted\n",
-        err: "",
-    }
+    judged(scenario, plan, Status::Done, "accepted\n")
 }
 
 /// A row in which a plan is rejected.
 fn rejected<'a>(scenario: &'a str, plan: &'a str, out: &'a str) -> Row<'a> {
+    judged(scenario, plan, Status::Rejected, out)
+}
+
+/// A row that writes nothing, and says why.
+fn refused<'a>(
+    words: &'a str,
+    scenario: &'a str,
+    plan: &'a str,
+    status: Status,
+    err: &'a str,
+) -> Row<'a> {
     Row {
-        word: "check",
+        words,
         scenario,
         plan,
-        status: Status::Rejected,
-        out,
-        err: "",
+        status,
+        out: "",
+        err,
     }
 }
 
 /// A row in which the plan's text has a fault.
 fn bad_plan<'a>(scenario: &'a str, plan: &'a str, err: &'a str) -> Row<'a> {
-    Row {
-        word: "check",
-        scenario,
-        plan,
-        status: Status::BadPlan,
-        out: "",
-        err,
-    }
+    refused("check", scenario, plan, Status::BadPlan, err)
 }
 
-/// A bad scenario of a row: `plan` tells the first fault, and writes nothing.
+/// A row in which the scenario's text has a fault.
 fn bad<'a>(scenario: &'a str, err: &'a str) -> Row<'a> {
-    Row {
-        word: "plan",
-        scenario,
-        plan: "",
-        status: Status::BadScenario,
-        out: "",
-        err,
-    }
+    refused("plan", scenario, "", Status::BadScenario, err)
+}
+
+/// A row of words that spell no request.
+fn unspelled<'a>(words: &'a str) -> Row<'a> {
+    refused(words, TWO_CELLS, "", Status::Usage, USAGE)
 }
 
 #[test]
 fn plans(rt: HostRuntime) -> Result<(), Fail> {
     let rows = [
-        Row {
-            word: "plan",
-            scenario: ONE_CELL,
-            plan: "\n",
-            status: Status::Done,
-            out: ONE_CELL_PLAN,
-            err: "",
-        },
-        Row {
-            word: "plan",
-            scenario: TWO_CELLS,
-            plan: "",
-            status: Status::Done,
-            out: TWO_CELLS_PLAN,
-            err: "",
-        },
-        planned(WAITING, WAITING_PLAN),
-        planned(WAITING_LONGER, WAITING_LONGER_PLAN),
-        planned(FAR_CELLS, FAR_CELLS_PLAN),
-        planned(OUT_OF_REACH, OUT_OF_REACH_PLAN),
-        Row {
-            word: "fly",
-            scenario: ONE_CELL,
-            plan: "",
-            status: Status::Usage,
-            out: "",
-            err: USAGE,
-        },
+        planned("plan", ONE_CELL, ONE_CELL_PLAN),
+        planned("plan", TWO_CELLS, TWO_CELLS_PLAN),
+        planned("plan", WAITING, WAITING_PLAN),
+        planned("plan", WAITING_LONGER, WAITING_LONGER_PLAN),
+        planned("plan", OUT_OF_REACH, OUT_OF_REACH_PLAN),
+        planned("plan --workers 1", TWO_CELLS, TWO_CELLS_PLAN),
+        planned("plan --workers 2", TWO_CELLS, TWO_CELLS_PLAN),
+        planned("plan --workers 16", TWO_CELLS, TWO_CELLS_PLAN),
+        planned("plan --workers 1", FAR_CELLS, FAR_CELLS_PLAN),
+        planned("plan --nodes 5 --workers 3", TWO_CELLS, TWO_CELLS_PLAN),
+        refused(
+            "plan --nodes 4",
+            TWO_CELLS,
+            "",
+            Status::TooManyNodes,
+            "too many nodes: 4\n",
+        ),
     ];
-    for row in &rows {
-        assert!(rt; ends(&rt, row, &[], &[])?);
-    }
+    assert!(rt; all_end(&rt, &rows)?);
+    Ok(())
+}
+
+#[test]
+fn words_of_no_request(rt: HostRuntime) -> Result<(), Fail> {
+    let rows = [
+        unspelled(""),
+        unspelled("fly"),
+        unspelled("plan --workers 0"),
+        unspelled("plan --workers 17"),
+        unspelled("plan --workers 04"),
+        unspelled("plan --nodes 1048577"),
+        unspelled("plan --nodes 5 --nodes 5"),
+        unspelled("plan --workers"),
+        unspelled("report --json no"),
+        unspelled("make"),
+        unspelled("make 18446744073709551616"),
+        unspelled("drill --workers 2 5"),
+        unspelled("check --workers 2"),
+    ];
+    assert!(rt; all_end(&rt, &rows)?);
     Ok(())
 }
 
@@ -229,9 +311,7 @@ fn scenarios_with_faults(rt: HostRuntime) -> Result<(), Fail> {
             "bad scenario: line 8 NoMove\n",
         ),
     ];
-    for row in &rows {
-        assert!(rt; ends(&rt, row, &[], &[])?);
-    }
+    assert!(rt; all_end(&rt, &rows)?);
     Ok(())
 }
 
@@ -240,24 +320,26 @@ fn checks(rt: HostRuntime) -> Result<(), Fail> {
     let rows = [
         accepted(ONE_CELL, ONE_CELL_PLAN),
         accepted(TWO_CELLS, TWO_CELLS_PLAN),
+        accepted(TWO_CELLS, TWO_CELLS_LISTED),
+        accepted(
+            TWO_CELLS,
+            "\n \t\r\nplan 1\npath a a\nchance 12 16\nnodes 5\nB\nB 0\nW 12 0 0\nW 12 0 1\nM 12 1\nend\n",
+        ),
         accepted(WAITING, WAITING_PLAN),
         accepted(WAITING, WAITING_LISTED),
         accepted(WAITING_LONGER, WAITING_LONGER_PLAN),
         accepted(FAR_CELLS, FAR_CELLS_PLAN),
         accepted(FAR_CELLS, FAR_CELLS_SHORTER_PLAN),
         accepted(OUT_OF_REACH, OUT_OF_REACH_PLAN),
-        Row {
-            word: "check",
-            scenario: "scenario 1\nhorizon 33\n",
-            plan: ONE_CELL_PLAN,
-            status: Status::BadScenario,
-            out: "",
-            err: "bad scenario: line 2 OverLimit\n",
-        },
+        refused(
+            "check",
+            "scenario 1\nhorizon 33\n",
+            ONE_CELL_PLAN,
+            Status::BadScenario,
+            "bad scenario: line 2 OverLimit\n",
+        ),
     ];
-    for row in &rows {
-        assert!(rt; ends(&rt, row, &[], &[])?);
-    }
+    assert!(rt; all_end(&rt, &rows)?);
     Ok(())
 }
 
@@ -268,6 +350,11 @@ fn rejections(rt: HostRuntime) -> Result<(), Fail> {
             ONE_CELL,
             "plan 1\npath a\nchance 1 2\nnodes 1\nB\nend\n",
             "rejected 6 MissingChild\n",
+        ),
+        rejected(
+            ONE_CELL,
+            "plan 1\npath a\nchance 0 2\nnodes 2\nB\nW 1 0\nend\n",
+            "rejected 3 ValueWrong\n",
         ),
         rejected(
             ONE_CELL,
@@ -320,9 +407,7 @@ fn rejections(rt: HostRuntime) -> Result<(), Fail> {
             "rejected 3 WeightWrong\n",
         ),
     ];
-    for row in &rows {
-        assert!(rt; ends(&rt, row, &[], &[])?);
-    }
+    assert!(rt; all_end(&rt, &rows)?);
     Ok(())
 }
 
@@ -351,45 +436,124 @@ fn plans_with_faults(rt: HostRuntime) -> Result<(), Fail> {
             "bad plan: line 2 UnknownName\n",
         ),
     ];
-    for row in &rows {
-        assert!(rt; ends(&rt, row, &[], &[])?);
+    assert!(rt; all_end(&rt, &rows)?);
+    Ok(())
+}
+
+/// A row in which a plan is reported.
+fn reported<'a>(words: &'a str, scenario: &'a str, plan: &'a str, out: &'a str) -> Row<'a> {
+    Row {
+        words,
+        scenario,
+        plan,
+        status: Status::Done,
+        out,
+        err: "",
+    }
+}
+
+#[test]
+fn reports(rt: HostRuntime) -> Result<(), Fail> {
+    let rows = [
+        reported("report", TWO_CELLS, TWO_CELLS_PLAN, TWO_CELLS_REPORT),
+        reported("report", FAR_CELLS, FAR_CELLS_PLAN, FAR_CELLS_REPORT),
+        reported(
+            "report --json yes",
+            TWO_CELLS,
+            TWO_CELLS_PLAN,
+            TWO_CELLS_JSON,
+        ),
+        refused(
+            "report",
+            TWO_CELLS,
+            "plan 1\npath a b\nchance 12 16\nnodes 5\nB\nB 0\nW 12 0 0\nW 12 0 1\nM 12 1\nend\n",
+            Status::Rejected,
+            "rejected 7 NotCut\n",
+        ),
+    ];
+    assert!(rt; all_end(&rt, &rows)?);
+    Ok(())
+}
+
+#[test]
+fn made_scenarios_and_drills(rt: HostRuntime) -> Result<(), Fail> {
+    let alloc = rt.alloc();
+    let made = ended(&rt, "make 0", Vec::new(alloc), 16, &[], &[])?;
+    assert_eq!(rt; made.status, Status::Done);
+    let line = made.out.split(|c| *c == b'\n').nth(28).ok_or("no line")?;
+    assert_eq!(rt; line, b"start r1c2".as_slice());
+    let planned = ended(&rt, "plan", made.out, 4096, &[], &[])?;
+    assert_eq!(rt; planned.status, Status::Done);
+    let one = ended(&rt, "drill 0 --workers 1", Vec::new(alloc), 16, &[], &[])?;
+    let many = ended(&rt, "drill 0 --workers 16", Vec::new(alloc), 16, &[], &[])?;
+    assert_eq!(rt; one.status, Status::Done);
+    assert!(rt;
+        one.out.starts_with(b"drill 1\nnumber 0\npath ") && one.out.ends_with(b"\naccepted\n")
+    );
+    assert_eq!(rt; one.out.as_slice(), many.out.as_slice());
+    Ok(())
+}
+
+/// The path and the chance of a plan, as its text has them.
+fn path_and_chance(alloc: Global, plan: &[u8]) -> Result<Vec<u8>, Fail> {
+    let path = plan.split(|c| *c == b'\n').nth(1).ok_or("no path")?;
+    let chance = plan.split(|c| *c == b'\n').nth(2).ok_or("no chance")?;
+    let mut both = path.to_vec(alloc)?;
+    both.push(b'\n')?;
+    both.extend_from_slice(chance)?;
+    Ok(both)
+}
+
+/// Plans a scenario, and checks the plan: its path and chance.
+fn checked_plan<R: AllocGlobal + Threads + Wait + Sync>(
+    rt: &R,
+    words: &str,
+    scenario: &str,
+) -> Result<Vec<u8>, Fail> {
+    let alloc = rt.alloc();
+    let plan = ended(
+        rt,
+        words,
+        scenario.as_bytes().to_vec(alloc)?,
+        4096,
+        &[],
+        &[],
+    )?;
+    let mut input = scenario.as_bytes().to_vec(alloc)?;
+    input.extend_from_slice(&plan.out)?;
+    let check = ended(rt, "check", input, 4096, &[], &[])?;
+    if check.out.as_slice() != b"accepted\n".as_slice() {
+        return Err(Fail::from("not accepted"));
+    }
+    path_and_chance(alloc, &plan.out)
+}
+
+#[test]
+fn many_workers_find_the_same_path(rt: HostRuntime) -> Result<(), Fail> {
+    for (scenario, end) in [
+        (SEVEN, " 128000000000000000"),
+        (FAR_CELLS, "path c d\nchance 6 9"),
+    ] {
+        let one = checked_plan(&rt, "plan --workers 1", scenario)?;
+        let two = checked_plan(&rt, "plan --workers 2", scenario)?;
+        let many = checked_plan(&rt, "plan --workers 16", scenario)?;
+        assert!(rt; one.ends_with(end.as_bytes()));
+        assert_eq!(rt; one.as_slice(), two.as_slice());
+        assert_eq!(rt; one.as_slice(), many.as_slice());
     }
     Ok(())
 }
 
 #[test]
-fn blanks_between_the_scenario_and_the_plan(rt: HostRuntime) -> Result<(), Fail> {
-    let plan = "\n \t\r\nplan 1\npath a\nchance 1 2\nnodes 2\nB\nW 1 0\nend\n";
-    let row = Row {
-        word: "check",
-        scenario: ONE_CELL,
-        plan,
-        status: Status::Done,
-        out: "accepted\n",
-        err: "",
-    };
-    assert!(rt; ends(&rt, &row, &[], &[])?);
-    Ok(())
-}
-
-#[test]
 fn faults(rt: HostRuntime) -> Result<(), Fail> {
-    let read = Row {
-        word: "plan",
-        scenario: TWO_CELLS,
-        plan: "",
-        status: Status::ReadFault,
-        out: "",
-        err: "read fault\n",
-    };
+    let read = refused("plan", TWO_CELLS, "", Status::ReadFault, "read fault\n");
     assert!(rt; ends(&rt, &read, &[2], &[])?);
-    let out = "plan 1\npath a a\nchance 12 16\nnod";
     let write = Row {
-        word: "plan",
+        words: "plan",
         scenario: TWO_CELLS,
         plan: "",
         status: Status::WriteFault,
-        out,
+        out: "plan 1\npath a a\nchance 12 16\nnod",
         err: "write fault\n",
     };
     assert!(rt; ends(&rt, &write, &[], &[3])?);
@@ -398,47 +562,43 @@ fn faults(rt: HostRuntime) -> Result<(), Fail> {
 
 #[test]
 fn a_wide_plan(rt: HostRuntime) -> Result<(), Fail> {
-    let alloc = rt.alloc();
-    let mut words = Vec::new(alloc);
-    words.push(String::from_str(alloc, "plan")?)?;
-    let mut source = MemSource::new(WIDE.as_bytes().to_vec(alloc)?, 16, Vec::new(alloc));
-    let mut out = MemSink::new(alloc, 16, Vec::new(alloc));
-    let mut err = MemSink::new(alloc, 16, Vec::new(alloc));
-    let status = run(&rt, &words, &mut source, &mut out, &mut err, &OpenGate);
-    assert_eq!(rt; status, Status::Done);
-    assert!(rt; out.wrote().starts_with(WIDE_PLAN_HEAD.as_bytes()));
+    let input = WIDE.as_bytes().to_vec(rt.alloc())?;
+    let end = ended(&rt, "plan", input, 4096, &[], &[])?;
+    assert_eq!(rt; end.status, Status::Done);
+    assert!(rt; end.out.starts_with(WIDE_PLAN_HEAD.as_bytes()));
     Ok(())
 }
 
-#[test]
-fn an_input_at_the_limit(rt: HostRuntime) -> Result<(), Fail> {
-    let alloc = rt.alloc();
-    let mut words = Vec::new(alloc);
-    words.push(String::from_str(alloc, "plan")?)?;
+/// Two cells, then line feeds up to so many bytes.
+fn padded(alloc: Global, len: usize) -> Result<Vec<u8>, Fail> {
     let mut input = TWO_CELLS.as_bytes().to_vec(alloc)?;
-    for _ in input.len()..1_048_576 {
+    for _ in input.len()..len {
         input.push(b'\n')?;
     }
-    let mut source = MemSource::new(input, 65_536, Vec::new(alloc));
-    let mut out = MemSink::new(alloc, 16, Vec::new(alloc));
-    let mut err = MemSink::new(alloc, 16, Vec::new(alloc));
-    let status = run(&rt, &words, &mut source, &mut out, &mut err, &OpenGate);
-    assert_eq!(rt; status, Status::Done);
-    assert_eq!(rt; out.wrote(), TWO_CELLS_PLAN.as_bytes());
-    Ok(())
+    Ok(input)
 }
 
 #[test]
-fn an_input_past_the_limit(rt: HostRuntime) -> Result<(), Fail> {
-    let alloc = rt.alloc();
-    let mut words = Vec::new(alloc);
-    words.push(String::from_str(alloc, "plan")?)?;
-    let mut source = MemSource::new(vec![in alloc; b'\n'; 1_048_577]?, 65_536, Vec::new(alloc));
-    let mut out = MemSink::new(alloc, 16, Vec::new(alloc));
-    let mut err = MemSink::new(alloc, 16, Vec::new(alloc));
-    let status = run(&rt, &words, &mut source, &mut out, &mut err, &OpenGate);
-    assert_eq!(rt; status, Status::TooLong);
-    assert_eq!(rt; out.wrote(), b"".as_slice());
-    assert_eq!(rt; err.wrote(), b"input too long\n".as_slice());
+fn an_input_at_the_limit_and_past_it(rt: HostRuntime) -> Result<(), Fail> {
+    let longest = ended(
+        &rt,
+        "plan",
+        padded(rt.alloc(), 1_048_576)?,
+        65_536,
+        &[],
+        &[],
+    )?;
+    assert_eq!(rt; longest.out.as_slice(), TWO_CELLS_PLAN.as_bytes());
+    let longer = ended(
+        &rt,
+        "plan",
+        padded(rt.alloc(), 1_048_577)?,
+        65_536,
+        &[],
+        &[],
+    )?;
+    assert_eq!(rt; longer.status, Status::TooLong);
+    assert_eq!(rt; longer.out.as_slice(), b"".as_slice());
+    assert_eq!(rt; longer.err.as_slice(), b"input too long\n".as_slice());
     Ok(())
 }

@@ -1,43 +1,66 @@
-ghost use Rattle.std.specs.Prelude.{◌≡◌, ◌+◌, ◌<◌, ◌≤◌, ◌⊎◌, ◌↔◌, ◌++◌, ◌∷◌, [], ℕ, List, Some, codes, length, map, string_bytes, IsErrOf};
-ghost use Rattle.std.specs.Fmt.{decimal};
+//! The top call.
+
+ghost use Rattle.std.specs.Prelude.{◌≡◌, ◌+◌, ◌≤◌, ◌⊎◌, ◌↔◌, ℕ, Bool, List, [], Some, None, codes, length, map, string_bytes, IsErrOf};
 ghost use Rattle.std.specs.Io.KnownBytes.{Consumes, Appends, IsAtEnd};
 ghost use Rattle.byte_ports.specs.Causes.{Rose};
-ghost use Rattle.byte_ports.specs.Taken.{TakesCount};
+ghost use Rattle.byte_ports.specs.Taken.{TakesCount, TakesAtMost};
 ghost use Rattle.search_model.specs.Problem.{Problem};
 ghost use Rattle.search_model.specs.Order.{standing_of, IsBest};
 ghost use Rattle.search_model.specs.Opening.{IsOpening};
-ghost use Rattle.bound_tree.specs.Close.{HasMoreLive};
 ghost use Rattle.scenario_text.specs.declared.kind.TextFault.{TextFault};
 ghost use Rattle.scenario_text.specs.Scenarios.{IsTextOf};
+ghost use Rattle.scenario_text.specs.Canonical.{canonical_text};
 ghost use Rattle.bound_tree.specs.declared.plan.Plan.{Plan};
 ghost use Rattle.bound_tree.specs.Accepts.{Accepts};
-ghost use Rattle.tree_format.specs.PlanText.{plan_text};
-ghost use Rattle.tree_checker.specs.declared.verdict.RejectAt.{RejectAt};
-ghost use Rattle.tree_checker.specs.Reasons.{first_reason};
-ghost use Rattle.tree_checker.specs.Whys.{name_of};
+ghost use Rattle.bound_tree.specs.Close.{HasMoreLive};
+ghost use Rattle.tree_format.specs.PlanText.{IsPlanText};
 ghost use Rattle.tree_format.specs.declared.kind.PlanFault.{PlanFault};
+ghost use Rattle.tree_checker.specs.declared.verdict.RejectAt.{RejectAt};
+ghost use Rattle.scenario_maker.specs.Made.{made_problem};
 ghost use Rattle.plan_command.specs.declared.request.Request.{Request};
 ghost use Rattle.plan_command.specs.declared.status.Stop.{Stop};
 ghost use Rattle.plan_command.specs.Words.{Spells, SpellNone, limit_of};
-ghost use Rattle.plan_command.specs.Plans.{IsCertified, BeginsWith, IsPlanRest};
-ghost use Rattle.plan_command.specs.Commands.{Refuses};
-ghost use Rattle.plan_command.specs.Run.{shown, Ends, Ending, ending_of, status_at, line_at, Says, CutOff, IsRefusal};
-ghost use Rattle.plan_command.specs.Complete.{IsHeard, IsUndisturbed, IsStopDue, IsDue, IsByText};
+ghost use Rattle.plan_command.specs.Lines.{rejection_of};
+ghost use Rattle.plan_command.specs.Plans.{IsCertified};
+ghost use Rattle.plan_command.specs.Commands.{IsInput, IsRejected, report_of, IsDrilled, Refuses};
+ghost use Rattle.plan_command.specs.Inputs.{InputOf};
+ghost use Rattle.plan_command.specs.Run.{shown, seen, Ends, Ending, ending_of, status_at, line_at, Says, IsCutOff, IsRefusal};
+ghost use Rattle.plan_command.specs.Complete.{IsHeard, IsUndisturbed, IsWithin, IsLonger, IsJudge, IsUnlessNoMemory, IsStopDue, IsDue, IsByText};
 
 use crate::answer::answer_for;
-use crate::gate::Gate;
 use crate::line::say;
+use crate::request::Request;
 use crate::status::{Status, Stop};
 use crate::words::{limit_of_request, read_words};
 use byte_ports::{ReadStop, Sink, Source, WriteStop, read_all, write_all};
+use search_workers::Gate;
 use std::alloc::Global;
+use std::sync::Wait;
+use std::thread::Threads;
+
+/// The input of a request: read to its end, where the request reads any.
+fn read_input<S: Source>(alloc: Global, request: Request, source: &mut S) -> Result<Vec<u8>, Stop>
+    ensures { InputOf (λ v. v.items) (limit_of request) (record { left = S.left source.old; faults = S.faults source.old })
+        (record { left = S.left source.new; faults = S.faults source.new }) result }
+{
+    let Some(limit) = limit_of_request(request) else {
+        return Ok(Vec::new(alloc));
+    };
+    match read_all(alloc, source, limit) {
+        Ok(input) => Ok(input),
+        Err(ReadStop::Fault) => Err(Stop::ReadFault),
+        Err(ReadStop::TooLong) => Err(Stop::TooLong),
+        Err(ReadStop::NoMemory) => Err(Stop::NoMemory),
+    }
+}
 
 /// All but the line on `err`.
-fn work<S: Source, K: Sink>(
-    alloc: Global,
+fn work<R: AllocGlobal + Threads + Wait + Sync, S: Source, K: Sink, G: Gate>(
+    rt: &R,
     words: &[String],
     source: &mut S,
     out: &mut K,
+    gate: &G,
 ) -> Result<Status, Stop>
     ensures ends { Ends (map string_bytes words.now)
         (shown S.left S.faults K.wrote K.faults source.old out.old)
@@ -48,13 +71,8 @@ fn work<S: Source, K: Sink>(
         None => return Err(Stop::Usage),
         Some(request) => request,
     };
-    let input = match read_all(alloc, source, limit_of_request(request)) {
-        Ok(input) => input,
-        Err(ReadStop::Fault) => return Err(Stop::ReadFault),
-        Err(ReadStop::TooLong) => return Err(Stop::TooLong),
-        Err(ReadStop::NoMemory) => return Err(Stop::NoMemory),
-    };
-    let answer = answer_for(alloc, request, &input)?;
+    let input = read_input(rt.alloc(), request, source)?;
+    let answer = answer_for(rt, request, &input, gate)?;
     match write_all(out, &answer.text) {
         Ok(()) => Ok(answer.status),
         Err(WriteStop::Fault) => Err(Stop::WriteFault),
@@ -62,14 +80,14 @@ fn work<S: Source, K: Sink>(
     }
 }
 
-/// Reads the whole input, answers it as the words ask, and writes the answer to `out`, or says on `err` why not.
-pub fn run<R: AllocGlobal, S: Source, K: Sink, E: Sink, G: Gate>(
+/// Reads what the words ask for, answers it, and writes the answer to `out`, or says on `err` why not.
+pub fn run<R: AllocGlobal + Threads + Wait + Sync, S: Source, K: Sink, E: Sink, G: Gate>(
     rt: &R,
     words: &[String],
     source: &mut S,
     out: &mut K,
     err: &mut E,
-    _gate: &G,
+    gate: &G,
 ) -> Status
     // How it ended, and what it said of that on `err`.
     ensures ended { (end : Ending) × (result ≡ status_at end)
@@ -79,27 +97,43 @@ pub fn run<R: AllocGlobal, S: Source, K: Sink, E: Sink, G: Gate>(
         × Says (E.wrote err.old) (E.wrote err.new) (E.faults err.old) (E.faults err.new)
         (E.wants err.old) (E.wants err.new) (line_at end) }
 
-    // `plan` at Done: the source was read to its end, its bytes are the text of a scenario alone, and `out` grew by the
-    // text of a plan with the best path, its exact value and the whole weight, whose records are accepted; no branch has
-    // a prefix that the opening closes by a bound.
-    ensures planned { Spells (map string_bytes words.now) Request.Plan → result ≡ Status.Done →
+    // `plan` at Done, for every number of workers and every interleaving: the source was read to its end, its bytes are the
+    // text of a scenario alone, and `out` grew by plan text: the best path, with its exact value and the whole weight, and
+    // records that are accepted; no branch has a prefix that the opening closes by a bound.
+    ensures planned { (workers nodes : ℕ) → Spells (map string_bytes words.now) (Request.Plan workers nodes) → result ≡ Status.Done →
         (p : Problem) × (input : List ℕ) × IsTextOf p input
         × Consumes (S.left source.old) (S.left source.new) input × IsAtEnd (S.left source.new)
-        × ((plan : Plan) × IsCertified p plan × Appends (K.wrote out.old) (K.wrote out.new) (plan_text p plan)) }
+        × ((plan : Plan) × (text : List ℕ) × IsCertified p plan × IsPlanText p plan text × Appends (K.wrote out.old) (K.wrote out.new) text) }
 
     // `check` at Done: the source was read to its end, its bytes are a scenario and a plan that is accepted, and so the
     // plan's path is the best; `out` grew by `accepted`.
     ensures accepted { Spells (map string_bytes words.now) Request.Check → result ≡ Status.Done →
         (input : List ℕ) × Consumes (S.left source.old) (S.left source.new) input × IsAtEnd (S.left source.new)
-        × ((p : Problem) × (rest : List ℕ) × (plan : Plan) × BeginsWith p input rest × IsPlanRest p rest plan
-        × Accepts p plan × IsBest p plan.standing.path) × Appends (K.wrote out.old) (K.wrote out.new) (codes "accepted\n") }
+        × ((p : Problem) × (plan : Plan) × IsInput input p plan × Accepts p plan × IsBest p plan.standing.path)
+        × Appends (K.wrote out.old) (K.wrote out.new) (codes "accepted\n") }
 
-    // Rejected comes only where the input is a scenario and a plan that isn't accepted; `out` grew by the first reason.
+    // `report` at Done: the same, and `out` grew by the report of the plan's path, as lines or as JSON.
+    ensures reported { (json : Bool) → Spells (map string_bytes words.now) (Request.Report json) → result ≡ Status.Done →
+        (input : List ℕ) × Consumes (S.left source.old) (S.left source.new) input × IsAtEnd (S.left source.new)
+        × ((p : Problem) × (plan : Plan) × IsInput input p plan × Accepts p plan × IsBest p plan.standing.path
+        × Appends (K.wrote out.old) (K.wrote out.new) (report_of json p plan.standing.path)) }
+
+    // Rejected comes only where the input is a scenario and a plan that isn't accepted, for this first reason: `check` wrote
+    // it to `out`, and at `report` nothing was written there.
     ensures rejected { result ≡ Status.Rejected →
         (input : List ℕ) × Consumes (S.left source.old) (S.left source.new) input × IsAtEnd (S.left source.new)
-        × ((p : Problem) × (rest : List ℕ) × (plan : Plan) × (at : RejectAt) × BeginsWith p input rest × IsPlanRest p rest plan
-        × (Accepts p plan → ⊥) × (first_reason p plan ≡ Some at)
-        × Appends (K.wrote out.old) (K.wrote out.new) (codes "rejected " ++ decimal at.line ++ 32 ∷ (name_of at.why ++ 10 ∷ []))) }
+        × ((at : RejectAt) × IsRejected input at
+        × ((Spells (map string_bytes words.now) Request.Check × Appends (K.wrote out.old) (K.wrote out.new) (rejection_of at))
+        ⊎ ((json : Bool) × Spells (map string_bytes words.now) (Request.Report json) × (K.wrote out.new ≡ K.wrote out.old)))) }
+
+    // `make` at Done: nothing was read, and `out` grew by the canonical text of the scenario that the number makes.
+    ensures made { (number : ℕ) → Spells (map string_bytes words.now) (Request.Make number) → result ≡ Status.Done →
+        (S.left source.new ≡ S.left source.old) × Appends (K.wrote out.old) (K.wrote out.new) (canonical_text (made_problem number)) }
+
+    // `drill` at Done: nothing was read, and `out` grew by the summary of the best path of the scenario that the number makes.
+    ensures drilled { (number workers : ℕ) → Spells (map string_bytes words.now) (Request.Drill number workers) → result ≡ Status.Done →
+        (S.left source.new ≡ S.left source.old)
+        × ((text : List ℕ) × IsDrilled number text × Appends (K.wrote out.old) (K.wrote out.new) text) }
 
     // Usage comes exactly where the words spell no request, and nothing is read then.
     ensures usage { (result ≡ Status.Usage) ↔ SpellNone (map string_bytes words.now) }
@@ -108,63 +142,56 @@ pub fn run<R: AllocGlobal, S: Source, K: Sink, E: Sink, G: Gate>(
     // BadScenario, BadPlan and TooManyNodes come only where the whole input was read and is refused so: by the first
     // fault of the scenario's or the plan's text, or for more live prefixes under the opening than the limit.
     ensures bad_scenario { result ≡ Status.BadScenario → (fault : TextFault) × IsRefusal (map string_bytes words.now)
-        (shown S.left S.faults K.wrote K.faults source.old out.old)
-        (shown S.left S.faults K.wrote K.faults source.new out.new) (Stop.BadScenario fault) }
+        (seen S.left S.faults K.wrote K.faults source.old source.new out.old out.new) (Stop.BadScenario fault) }
     ensures bad_plan { result ≡ Status.BadPlan → (fault : PlanFault) × IsRefusal (map string_bytes words.now)
-        (shown S.left S.faults K.wrote K.faults source.old out.old)
-        (shown S.left S.faults K.wrote K.faults source.new out.new) (Stop.BadPlan fault) }
-    ensures too_many_nodes { result ≡ Status.TooManyNodes → IsRefusal (map string_bytes words.now)
-        (shown S.left S.faults K.wrote K.faults source.old out.old)
-        (shown S.left S.faults K.wrote K.faults source.new out.new) (Stop.TooManyNodes 1048576) }
+        (seen S.left S.faults K.wrote K.faults source.old source.new out.old out.new) (Stop.BadPlan fault) }
+    ensures too_many_nodes { result ≡ Status.TooManyNodes → (nodes : ℕ) × IsRefusal (map string_bytes words.now)
+        (seen S.left S.faults K.wrote K.faults source.old source.new out.old out.new) (Stop.TooManyNodes nodes) }
 
     // TooLong comes only where one byte more than the request's limit was taken.
-    ensures too_long { result ≡ Status.TooLong → (request : Request) × Spells (map string_bytes words.now) request
-        × TakesCount (S.left source.old) (S.left source.new) (limit_of request + 1) × (K.wrote out.new ≡ K.wrote out.old) }
+    ensures too_long { result ≡ Status.TooLong → (request : Request) × (limit : ℕ) × Spells (map string_bytes words.now) request
+        × (limit_of request ≡ Some limit) × TakesCount (S.left source.old) (S.left source.new) (limit + 1) × (K.wrote out.new ≡ K.wrote out.old) }
 
-    // A fault comes only where the count rose in this call; at a write fault `out` grew by a front of the answer.
-    ensures read_fault { result ≡ Status.ReadFault → Rose (S.faults source.old) (S.faults source.new) × (K.wrote out.new ≡ K.wrote out.old) }
-    ensures write_fault { result ≡ Status.WriteFault → Rose (K.faults out.old) (K.faults out.new)
-        × ((request : Request) × Spells (map string_bytes words.now) request × CutOff request
-        (shown S.left S.faults K.wrote K.faults source.old out.old) (shown S.left S.faults K.wrote K.faults source.new out.new)) }
+    // ReadFault comes only where the source's count rose in this call, and at most the limit was taken then.
+    ensures read_fault { result ≡ Status.ReadFault → (request : Request) × (limit : ℕ) × Spells (map string_bytes words.now) request
+        × (limit_of request ≡ Some limit) × TakesAtMost (S.left source.old) (S.left source.new) limit
+        × Rose (S.faults source.old) (S.faults source.new) × (K.wrote out.new ≡ K.wrote out.old) }
+    // WriteFault comes only where the count of `out` rose; `out` grew by a front of the answer.
+    ensures write_fault { result ≡ Status.WriteFault → Rose (K.faults out.old) (K.faults out.new) × IsCutOff (map string_bytes words.now)
+        (seen S.left S.faults K.wrote K.faults source.old source.new out.old out.new) }
 
     // At NoMemory `out` is unchanged, or grew by a front of the answer.
-    ensures no_memory { result ≡ Status.NoMemory → (K.wrote out.new ≡ K.wrote out.old)
-        ⊎ ((request : Request) × Spells (map string_bytes words.now) request × CutOff request
-        (shown S.left S.faults K.wrote K.faults source.old out.old) (shown S.left S.faults K.wrote K.faults source.new out.new)) }
+    ensures no_memory { result ≡ Status.NoMemory → (K.wrote out.new ≡ K.wrote out.old) ⊎ IsCutOff (map string_bytes words.now)
+        (seen S.left S.faults K.wrote K.faults source.old source.new out.old out.new) }
 
     // An input that the source tells is answered, or refused, as it is due.
     ensures complete { (request : Request) (input : List ℕ) →
-        IsUndisturbed (map string_bytes words.now)
-        (shown S.left S.faults K.wrote K.faults source.old out.old)
-        (shown S.left S.faults K.wrote K.faults source.new out.new) request input
-        → length input ≤ limit_of request → IsDue request input result }
+        IsUndisturbed (map string_bytes words.now) (seen S.left S.faults K.wrote K.faults source.old source.new out.old out.new) request input
+        → IsWithin request input → IsDue request input result }
     // So the plan of a scenario with no more live prefixes under its opening than the limit is written.
-    ensures finishes { (p : Problem) (input opening : List ℕ) →
-        IsUndisturbed (map string_bytes words.now)
-        (shown S.left S.faults K.wrote K.faults source.old out.old)
-        (shown S.left S.faults K.wrote K.faults source.new out.new) Request.Plan input
+    ensures finishes { (p : Problem) (input opening : List ℕ) (workers nodes : ℕ) →
+        IsUndisturbed (map string_bytes words.now) (seen S.left S.faults K.wrote K.faults source.old source.new out.old out.new) (Request.Plan workers nodes) input
         → length input ≤ 1048576 → IsTextOf p input → IsOpening p opening
-        → (HasMoreLive p (standing_of p opening) 1048576 → ⊥) → (result ≡ Status.Done) ⊎ (result ≡ Status.NoMemory) }
-    // And a plan that is accepted is told to be.
-    ensures accepts { (p : Problem) (input rest : List ℕ) (plan : Plan) →
-        IsUndisturbed (map string_bytes words.now)
-        (shown S.left S.faults K.wrote K.faults source.old out.old)
-        (shown S.left S.faults K.wrote K.faults source.new out.new) Request.Check input
-        → length input ≤ 336592896 → BeginsWith p input rest → IsPlanRest p rest plan
-        → Accepts p plan → (result ≡ Status.Done) ⊎ (result ≡ Status.NoMemory) }
+        → (HasMoreLive p (standing_of p opening) nodes → ⊥) → IsUnlessNoMemory Status.Done result }
+    // And a plan that is accepted is told to be, or reported, and one that isn't is rejected.
+    ensures accepts { (request : Request) (p : Problem) (input : List ℕ) (plan : Plan) → IsJudge request →
+        IsUndisturbed (map string_bytes words.now) (seen S.left S.faults K.wrote K.faults source.old source.new out.old out.new) request input
+        → length input ≤ 336592896 → IsInput input p plan → Accepts p plan → IsUnlessNoMemory Status.Done result }
+    ensures rejects { (request : Request) (input : List ℕ) (at : RejectAt) → IsJudge request →
+        IsUndisturbed (map string_bytes words.now) (seen S.left S.faults K.wrote K.faults source.old source.new out.old out.new) request input
+        → length input ≤ 336592896 → IsRejected input at → IsUnlessNoMemory Status.Rejected result }
+    // A request that reads nothing is answered.
+    ensures makes { (request : Request) → Spells (map string_bytes words.now) request → limit_of request ≡ None
+        → (Rose (K.faults out.old) (K.faults out.new) → ⊥) → IsUnlessNoMemory Status.Done result }
     // A refusal by the input's text comes wherever it is due, whatever the sink does.
     ensures refused { (request : Request) (input : List ℕ) (stop : Stop) →
-        IsHeard (map string_bytes words.now)
-        (shown S.left S.faults K.wrote K.faults source.old out.old)
-        (shown S.left S.faults K.wrote K.faults source.new out.new) request input
-        → length input ≤ limit_of request → Refuses request input stop → IsByText stop → IsStopDue stop result }
+        IsHeard (map string_bytes words.now) (seen S.left S.faults K.wrote K.faults source.old source.new out.old out.new) request input
+        → IsWithin request input → Refuses request input stop → IsByText stop → IsStopDue stop result }
     ensures longer { (request : Request) (input : List ℕ) →
-        IsHeard (map string_bytes words.now)
-        (shown S.left S.faults K.wrote K.faults source.old out.old)
-        (shown S.left S.faults K.wrote K.faults source.new out.new) request input
-        → limit_of request < length input → IsStopDue Stop.TooLong result }
+        IsHeard (map string_bytes words.now) (seen S.left S.faults K.wrote K.faults source.old source.new out.old out.new) request input
+        → IsLonger request input → IsStopDue Stop.TooLong result }
 {
-    match work(rt.alloc(), words, source, out) {
+    match work(rt, words, source, out, gate) {
         Ok(status) => status,
         Err(stop) => {
             say(err, stop);

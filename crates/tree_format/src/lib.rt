@@ -28,3 +28,4 @@ pub use laws::{
 pub use printing::print_plan;
 pub use reading::read_plan;
 pub use stop::PlanStop;
+pub use writing::{push_names, push_number};

@@ -1,0 +1,5 @@
+use Rattle.plan_command.proofs.Printing.{accepted_printable}
+use Rattle.plan_command.proofs.drilling.plan_of_few.Goals as goal
+
+pub returns-in-Ok-clause-printable : goal.returns-in-Ok-clause-printable
+returns-in-Ok-clause-printable g c = accepted_printable c.args.sc.now c.in-Ok.plan c.horizon-sound.ensures.sound c.in-Ok.ensures.0.accepted c.in-Ok.ensures.1

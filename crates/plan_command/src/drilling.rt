@@ -1,0 +1,137 @@
+//! The commands `make` and `drill`, which read nothing.
+
+ghost use Rattle.std.specs.Prelude.{◌≡◌, [], IfOk};
+ghost use Rattle.search_model.specs.Tracks.{value_of};
+ghost use Rattle.bound_tree.specs.Accepts.{Accepts};
+ghost use Rattle.tree_format.specs.PlanText.{IsPrintable, ArePositions};
+ghost use Rattle.plan_command.specs.declared.request.Request.{Request};
+ghost use Rattle.plan_command.specs.Drills.{drill_text};
+ghost use Rattle.plan_command.specs.Plans.{IsCertified};
+ghost use Rattle.plan_command.specs.Words.{IsCrew};
+ghost use Rattle.plan_command.specs.Makes.{MakesOf, IsTooMany};
+
+use crate::answer::{Answer, plan_from_opening};
+use crate::request::MOST_NODES;
+use crate::status::{Status, Stop};
+use bound_tree::Plan;
+use exact_parts::NoMemory;
+use mission_report::push_chance;
+use scenario_maker::make;
+use scenario_text::print_scenario;
+use search_model::{Scenario, Standing};
+use search_workers::Gate;
+use std::alloc::Global;
+use std::sync::Wait;
+use std::thread::Threads;
+use tree_checker::{Verdict, check};
+use tree_format::{PlanStop, print_plan, push_names, push_number, read_plan};
+
+/// The text of the scenario that is made from a number.
+pub fn answer_make(alloc: Global, number: u64) -> Result<Answer, Stop>
+    ensures { MakesOf (Request.Make number) [] result }
+{
+    let sc = make(alloc, number)?;
+    let mut text = Vec::new(alloc);
+    print_scenario(&mut text, &sc)?;
+    Ok(Answer {
+        status: Status::Done,
+        text,
+    })
+}
+
+/// The plan of a scenario whose live prefixes are few.
+fn plan_of_few<R: AllocGlobal + Threads + Wait + Sync, G: Gate>(
+    rt: &R,
+    sc: &Scenario,
+    workers: u32,
+    gate: &G,
+) -> Result<Plan, NoMemory>
+    requires crew { IsCrew workers }
+    requires few { IsTooMany sc.now 1048576 → ⊥ }
+    ensures certified { IfOk result (IsCertified sc.now) }
+    ensures printable { IfOk result (IsPrintable sc.now) }
+{
+    let _sound = sc.horizon();
+    match plan_from_opening(rt, sc, workers, MOST_NODES, gate) {
+        Ok(plan) => Ok(plan),
+        Err(Stop::NoMemory) => Err(NoMemory),
+        Err(_) => unreachable!(),
+    }
+}
+
+/// A plan as it is read from its own text.
+fn read_again(alloc: Global, sc: &Scenario, plan: &Plan) -> Result<Plan, NoMemory>
+    requires { IsPrintable sc.now plan.now }
+    ensures { IfOk result (λ again. again ≡ plan.now) }
+{
+    let mut text = Vec::new(alloc);
+    print_plan(&mut text, sc, plan)?;
+    match read_plan(alloc, sc, &text) {
+        Ok(again) => Ok(again),
+        Err(PlanStop::NoMemory) => Err(NoMemory),
+        Err(PlanStop::Fault(_)) => unreachable!(),
+    }
+}
+
+/// Checks a plan that is accepted.
+fn check_accepted(alloc: Global, sc: &Scenario, plan: &Plan) -> Result<(), NoMemory>
+    requires { Accepts sc.now plan.now }
+{
+    match check(alloc, sc, plan)? {
+        Verdict::Accepted => Ok(()),
+        Verdict::Rejected(_) => unreachable!(),
+    }
+}
+
+/// The summary of a drill: the number, and what the path of its scenario finds.
+fn summary(alloc: Global, number: u64, sc: &Scenario, best: &Standing) -> Result<Vec<u8>, NoMemory>
+    requires positions { ArePositions sc.now best.now.path }
+    requires value { best.now.value ≡ value_of sc.now best.now.path }
+    ensures { IfOk result (λ text. text.items ≡ drill_text number sc.now best.now.path) }
+{
+    let mut text = Vec::from_slice(alloc, b"drill 1\nnumber")?;
+    push_number(&mut text, u128::from(number))?;
+    text.extend_from_slice(b"\npath")?;
+    push_names(&mut text, sc, best.path.cells())?;
+    text.push(b'\n')?;
+    push_chance(&mut text, sc, best.value)?;
+    text.extend_from_slice(b"accepted\n")?;
+    Ok(text)
+}
+
+/// The plan of a scenario whose live prefixes are few, written, read again and checked.
+fn drilled<R: AllocGlobal + Threads + Wait + Sync, G: Gate>(
+    rt: &R,
+    sc: &Scenario,
+    workers: u32,
+    gate: &G,
+) -> Result<Plan, NoMemory>
+    requires crew { IsCrew workers }
+    requires few { IsTooMany sc.now 1048576 → ⊥ }
+    ensures certified { IfOk result (IsCertified sc.now) }
+    ensures printable { IfOk result (IsPrintable sc.now) }
+{
+    let plan = plan_of_few(rt, sc, workers, gate)?;
+    let again = read_again(rt.alloc(), sc, &plan)?;
+    check_accepted(rt.alloc(), sc, &again)?;
+    Ok(again)
+}
+
+/// Makes a scenario from a number, plans it, reads the plan again and checks it.
+pub fn answer_drill<R: AllocGlobal + Threads + Wait + Sync, G: Gate>(
+    rt: &R,
+    number: u64,
+    workers: u32,
+    gate: &G,
+) -> Result<Answer, Stop>
+    requires { IsCrew workers }
+    ensures { MakesOf (Request.Drill number workers) [] result }
+{
+    let sc = make(rt.alloc(), number)?;
+    let plan = drilled(rt, &sc, workers, gate)?;
+    let text = summary(rt.alloc(), number, &sc, &plan.standing)?;
+    Ok(Answer {
+        status: Status::Done,
+        text,
+    })
+}

@@ -1,6 +1,0 @@
-mod Closed
-mod Trees
-pub mod Orderly
-mod Growth
-mod Coming
-mod Finished
