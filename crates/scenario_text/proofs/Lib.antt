@@ -34,3 +34,5 @@ pub mod Places
 pub mod Faultless
 pub mod Assembled
 pub mod FrontLines
+pub mod FirstFaults
+pub mod Tables

@@ -5,6 +5,9 @@ pub mod Fields
 pub mod Grids
 pub mod Reading
 pub mod Sound
+pub mod Faults
+pub mod KindTable
+pub mod ReadingLaws
 pub mod Scenarios
 pub mod Gives
 pub mod Scanning

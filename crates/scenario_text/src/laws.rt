@@ -1,6 +1,8 @@
 //! What the definitions of the text say together.
 
 ghost use Rattle.scenario_text.specs.Laws.{OneProblem, CanonicalSays, CanonicalReadsBack, CanonicalFrontReadsBack};
+ghost use Rattle.scenario_text.specs.KindTable.{KindsByTable};
+ghost use Rattle.scenario_text.specs.ReadingLaws.{SilentLinesAddNothing, FirstFaultDecides, FirstFaultDecidesAlone};
 
 /// What was read is one problem: no text spells two.
 #[tactic(auto, using(crate::proofs::Determined::one_problem))]
@@ -24,4 +26,28 @@ pub fn canonical_text_reads_back()
 #[tactic(auto, using(crate::proofs::Back::canonical_front_reads_back))]
 pub fn canonical_front_reads_back()
     ensures { CanonicalFrontReadsBack }
+{}
+
+/// A line of blanks alone and a comment add nothing.
+#[tactic(auto, using(crate::proofs::FirstFaults::silent_lines_add_nothing))]
+pub fn silent_lines_add_nothing()
+    ensures { SilentLinesAddNothing }
+{}
+
+/// The fault that reading gives is the first: the lines before it are right.
+#[tactic(auto, using(crate::proofs::FirstFaults::first_fault_decides))]
+pub fn first_fault_decides()
+    ensures { FirstFaultDecides }
+{}
+
+/// So it is for a text that ends with its line `end`, behind which the first line that says anything is a fault.
+#[tactic(auto, using(crate::proofs::FirstFaults::first_fault_decides_alone))]
+pub fn first_fault_decides_alone()
+    ensures { FirstFaultDecidesAlone }
+{}
+
+/// A line has the fault that the table of kinds gives: the first kind whose test holds.
+#[tactic(auto, using(crate::proofs::Tables::kinds_by_table))]
+pub fn kinds_by_table()
+    ensures { KindsByTable }
 {}

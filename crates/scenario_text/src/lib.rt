@@ -26,7 +26,8 @@ mod tests;
 
 pub use kind::{TextFault, TextKind, text_kind_name};
 pub use laws::{
-    canonical_front_reads_back, canonical_text_reads_back, canonical_text_says, one_problem_a_text,
+    canonical_front_reads_back, canonical_text_reads_back, canonical_text_says, first_fault_decides,
+    first_fault_decides_alone, kinds_by_table, one_problem_a_text, silent_lines_add_nothing,
 };
 pub use printing::print_scenario;
 pub use scenarios::{read_scenario, read_scenario_alone};
