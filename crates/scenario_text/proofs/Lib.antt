@@ -36,3 +36,4 @@ pub mod Assembled
 pub mod FrontLines
 pub mod FirstFaults
 pub mod Tables
+pub mod Answered
