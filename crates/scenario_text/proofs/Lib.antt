@@ -37,3 +37,4 @@ pub mod FrontLines
 pub mod FirstFaults
 pub mod Tables
 pub mod Answered
+pub mod InRows

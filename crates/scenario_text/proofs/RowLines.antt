@@ -43,7 +43,7 @@ after_rows p i j k = record {
 }
 
 -- whether a cell is among the first k, but for the next one, doesn't change with k
-among_more : (c k : ℕ) → (c ≡ k → ⊥) → nat_lt c k ≡ nat_lt c (k + 1)
+pub among_more : (c k : ℕ) → (c ≡ k → ⊥) → nat_lt c k ≡ nat_lt c (k + 1)
 among_more c k other =
     elim (cases_order c k) [
       | inl same ↦ absurd (other same)
@@ -59,15 +59,15 @@ names_known p h (c ∷ cs) within =
     let head = cell_named-at p h c (All-head (λ c. c < p.cells) c cs within) in
     rw head (ap (λ (xs : List (Option ℕ)). Some c ∷ xs) (names_known p h cs (All-tail (λ c. c < p.cells) c cs within)))
 
-none_unknown : (cs : List ℕ) → list_any (λ m. is_none m) (map Some cs) ≡ false
+pub none_unknown : (cs : List ℕ) → list_any (λ m. is_none m) (map Some cs) ≡ false
 none_unknown [] = refl
 none_unknown (c ∷ cs) = none_unknown cs
 
-numbers_of : (cs : List ℕ) → map (λ m. unwrap_or m 0) (map Some cs) ≡ cs
+pub numbers_of : (cs : List ℕ) → map (λ m. unwrap_or m 0) (map Some cs) ≡ cs
 numbers_of [] = refl
 numbers_of (c ∷ cs) = ap (λ (xs : List ℕ). c ∷ xs) (numbers_of cs)
 
-with_moves-taken : (s : State) (c positions : ℕ) (row : List ℕ) → IsMoveRow positions row → slice_index_or s.moves c [] ≡ [] → with_moves s (Some c) (map Some row) ≡ Ok (record s { moves = set s.moves c row })
+pub with_moves-taken : (s : State) (c positions : ℕ) (row : List ℕ) → IsMoveRow positions row → slice_index_or s.moves c [] ≡ [] → with_moves s (Some c) (map Some row) ≡ Ok (record s { moves = set s.moves c row })
 unfolding moves_from
 with_moves-taken s c positions row h before =
     let unknown = none_unknown row in
@@ -103,7 +103,7 @@ Takes-moves p h i j k lt =
 
 -- Drift rows.
 
-with_parts-taken : (s : State) (c : ℕ) (pairs : List Pair) (es : List DriftPart) → IsSaid s.drift es pairs → slice_index_or s.parts c [] ≡ [] → with_parts_of s (Some c) pairs ≡ Ok (record s { parts = set s.parts c es })
+pub with_parts-taken : (s : State) (c : ℕ) (pairs : List Pair) (es : List DriftPart) → IsSaid s.drift es pairs → slice_index_or s.parts c [] ≡ [] → with_parts_of s (Some c) pairs ≡ Ok (record s { parts = set s.parts c es })
 with_parts-taken s c pairs es h before =
     let total = eq-eqb _ _ h.total in
     rw (h.faultless, before, total, h.entries) refl
@@ -134,7 +134,7 @@ Takes-drift p h i j k lt =
 
 -- Overlook parts.
 
-with_overlook-taken : (s : State) (c part : ℕ) → part ≤ s.look → slice_index_or s.overlook c None ≡ None → with_overlook s (Some c) part ≡ Ok (record s { overlook = set s.overlook c (Some part) })
+pub with_overlook-taken : (s : State) (c part : ℕ) → part ≤ s.look → slice_index_or s.overlook c None ≡ None → with_overlook s (Some c) part ≡ Ok (record s { overlook = set s.overlook c (Some part) })
 with_overlook-taken s c part le before =
     let fits = le-ltb s.look part le in
     rw (before, fits) refl

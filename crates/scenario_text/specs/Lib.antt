@@ -7,6 +7,7 @@ pub mod Reading
 pub mod Sound
 pub mod Faults
 pub mod KindTable
+pub mod InRows
 pub mod ReadingLaws
 pub mod Scenarios
 pub mod Gives

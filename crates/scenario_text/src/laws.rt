@@ -1,6 +1,7 @@
 //! What the definitions of the text say together.
 
 ghost use Rattle.scenario_text.specs.Laws.{OneProblem, CanonicalSays, CanonicalReadsBack, CanonicalFrontReadsBack};
+ghost use Rattle.scenario_text.specs.InRows.{RateInRows, SpreadInRows};
 ghost use Rattle.scenario_text.specs.KindTable.{KindsByTable};
 ghost use Rattle.scenario_text.specs.ReadingLaws.{SilentLinesAddNothing, FirstFaultDecides, FirstFaultDecidesAlone};
 
@@ -50,4 +51,16 @@ pub fn first_fault_decides_alone()
 #[tactic(auto, using(crate::proofs::Tables::kinds_by_table))]
 pub fn kinds_by_table()
     ensures { KindsByTable }
+{}
+
+/// The line `rate` says what an `overlook` line for each cell says.
+#[tactic(auto, using(crate::proofs::InRows::rate_in_rows))]
+pub fn rate_in_rows()
+    ensures { RateInRows }
+{}
+
+/// The line `spread` says what a `drift` line for each cell says.
+#[tactic(auto, using(crate::proofs::InRows::spread_in_rows))]
+pub fn spread_in_rows()
+    ensures { SpreadInRows }
 {}

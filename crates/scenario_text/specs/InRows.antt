@@ -1,0 +1,50 @@
+-- What the lines `grid`, `spread` and `rate` stand for: lines with the rows of each cell.
+use Rattle.std.specs.Prelude.{ℕ, ◌≡◌, ◌*◌, ◌≤◌, false, List, [], ◌∷◌, map, length, replicate, codes, Ok}
+use Rattle.std.specs.List.{flat_map, join_with_byte, range_with_len}
+use Rattle.std.specs.Fmt.{decimal}
+use Rattle.drift_chain.specs.declared.part.DriftPart.{DriftPart}
+use Rattle.search_grid.specs.Moves.{moves_from}
+use Rattle.search_grid.specs.Sides.{moves_beside, side_moves}
+use Rattle.search_model.specs.Names.{name_in}
+use Rattle.scenario_text.specs.declared.draft.Stage.TheVariants as due
+use Rattle.scenario_text.specs.Grids.{grid_names, spread_row}
+use Rattle.scenario_text.specs.State.{State}
+use Rattle.scenario_text.specs.Reading.{line_at}
+use Rattle.scenario_text.specs.Sound.{IsSound}
+use Rattle.scenario_text.specs.Faults.{AreTaken}
+
+-- fields with one blank between
+abbrev pub line_text : List (List ℕ) → List ℕ
+line_text fields = join_with_byte 32 fields
+
+-- a line for each of so many cells, in order of number
+abbrev pub for_each : ℕ → (ℕ → List (List ℕ)) → List (List ℕ)
+for_each cells row = map (λ c. line_text (row c)) (range_with_len 0 cells)
+
+-- `NAME PART NAME PART ..`
+abbrev pub entry_fields : List (List ℕ) → List DriftPart → List (List ℕ)
+entry_fields names entries = flat_map (λ e. name_in names e.cell ∷ decimal e.part ∷ []) entries
+
+-- `moves NAME NAME ..` of a cell
+abbrev pub moves_of : List (List ℕ) → ℕ → List ℕ → List (List ℕ)
+moves_of names c moves = codes "moves" ∷ name_in names c ∷ map (name_in names) moves
+
+-- `drift NAME NAME PART ..` of a cell
+abbrev pub drift_of : List (List ℕ) → ℕ → List DriftPart → List (List ℕ)
+drift_of names c entries = codes "drift" ∷ name_in names c ∷ entry_fields names entries
+
+-- `overlook NAME PART` of a cell
+abbrev pub overlook_of : List (List ℕ) → ℕ → ℕ → List (List ℕ)
+overlook_of names c part = codes "overlook" ∷ name_in names c ∷ decimal part ∷ []
+
+-- `rate PART` says what an `overlook` line for each cell says
+abbrev pub RateInRows : Type 0
+RateInRows = (s t : State) (part : ℕ) → IsSound s → s.stage ≡ due.Rows → part ≤ 1000000 →
+    line_at s (line_text (codes "rate" ∷ decimal part ∷ [])) ≡ Ok t →
+    AreTaken s (for_each (length s.names) (λ c. overlook_of s.names c part)) t
+
+-- `spread PART` says what a `drift` line for each cell says: the part to each of its moves but the stay, and the rest to itself
+abbrev pub SpreadInRows : Type 0
+SpreadInRows = (s t : State) (part : ℕ) → IsSound s → s.stage ≡ due.Rows → part ≤ 1000000 →
+    line_at s (line_text (codes "spread" ∷ decimal part ∷ [])) ≡ Ok t →
+    AreTaken s (for_each (length s.names) (λ c. drift_of s.names c (spread_row s.drift part c (moves_from s.moves c)))) t
