@@ -87,7 +87,7 @@ Takes-parts p h =
     }
 
 -- a new name behind those that were read
-cell_line-taken : (s : State) (name : List ℕ) → IsName name → length s.names < 200 → cell_named s.names name ≡ None → cell_line s name ≡ Ok (with_name s name)
+pub cell_line-taken : (s : State) (name : List ℕ) → IsName name → length s.names < 200 → cell_named s.names name ≡ None → cell_line s name ≡ Ok (with_name s name)
 cell_line-taken s name h few new =
     let short = le-ltb 24 (length name) h.short in
     let room = lt-leb 200 (length s.names) few in
@@ -95,7 +95,7 @@ cell_line-taken s name h few new =
     rw (bytes, short, room, new) refl
 
 -- the next of some, behind the others
-next_of : {X : Type 0} (f : ℕ → X) (k : ℕ) (x : X) → f k ≡ x → map f (range_with_len 0 k) ++ x ∷ [] ≡ map f (range_with_len 0 (k + 1))
+pub next_of : {X : Type 0} (f : ℕ → X) (k : ℕ) (x : X) → f k ≡ x → map f (range_with_len 0 k) ++ x ∷ [] ≡ map f (range_with_len 0 (k + 1))
 next_of {X} f k x e = ap (λ (y : X). map f (range_with_len 0 k) ++ y ∷ []) (sym e) ∙ sym (map-range_with_len_more f 0 k k (omega arith))
 
 next_named : (p : Problem) (k : ℕ) → with_name (after_cells p k) (cell_name p k) ≡ after_cells p (k + 1)

@@ -34,31 +34,31 @@ use Rattle.scenario_text.proofs.SoundRows.{AreEntries-spread, own_row}
 
 -- A list that is filled from the front.
 module _ {X : Type 0} (f : ℕ → X) (empty : X) (n : ℕ) where
-  abbrev filled : ℕ → List X
+  abbrev pub filled : ℕ → List X
   filled k = map (λ c. cond (nat_lt c k) (f c) empty) (range_with_len 0 n)
 
-  filled-none : (xs : List X) → length xs ≡ n → ((k : ℕ) → k < n → get_or xs k empty ≡ empty) → xs ≡ filled 0
+  pub filled-none : (xs : List X) → length xs ≡ n → ((k : ℕ) → k < n → get_or xs k empty ≡ empty) → xs ≡ filled 0
   filled-none xs long each = fill_by_all (λ c. cond (nat_lt c 0) (f c) empty) xs n empty long (λ k lt. each k lt ∙ rw (le-ltb k 0 (omega arith)) refl)
 
-  filled-open : (k : ℕ) → k < n → get_or (filled k) k empty ≡ empty
+  pub filled-open : (k : ℕ) → k < n → get_or (filled k) k empty ≡ empty
   filled-open k lt = get_or-map-range_with_len (λ c. cond (nat_lt c k) (f c) empty) 0 n k k empty lt (omega arith) ∙ rw (le-ltb k k (omega arith)) refl
 
-  filled-next : (k : ℕ) → k < n → set (filled k) k (f k) ≡ filled (k + 1)
+  pub filled-next : (k : ℕ) → k < n → set (filled k) k (f k) ≡ filled (k + 1)
   filled-next k lt =
       let own : f k ≡ cond (nat_lt k (k + 1)) (f k) empty = rw (lt-ltb k (k + 1) (omega arith)) refl in
       ap (set (filled k) k) own
       ∙ set-map-range n 0 k k (λ c. cond (nat_lt c k) (f c) empty) (λ c. cond (nat_lt c (k + 1)) (f c) empty) lt (omega arith) (λ c other. rw (among_more c k other) refl)
 
-  filled-all : filled n ≡ map f (range_with_len 0 n)
+  pub filled-all : filled n ≡ map f (range_with_len 0 n)
   filled-all = map-range-same n 0 (λ c. cond (nat_lt c n) (f c) empty) f (λ c low high. rw (lt-ltb c n (omega arith)) refl)
 
 -- One line for each number.
-taken_range : (n a b : ℕ) (row : ℕ → List (List ℕ)) (s : ℕ → State) → a + n ≡ b → ((k : ℕ) → k < b → Takes (s k) (row k) (s (k + 1))) → ((k : ℕ) → (s k).stage ≡ due.Ended → ⊥) → AreTaken (s a) (map (λ c. line_text (row c)) (range_with_len a n)) (s b)
+pub taken_range : (n a b : ℕ) (row : ℕ → List (List ℕ)) (s : ℕ → State) → a + n ≡ b → ((k : ℕ) → k < b → Takes (s k) (row k) (s (k + 1))) → ((k : ℕ) → (s k).stage ≡ due.Ended → ⊥) → AreTaken (s a) (map (λ c. line_text (row c)) (range_with_len a n)) (s b)
 taken_range zero a b row s e takes unended = let here : a ≡ b = omega arith in ap s here
 taken_range (suc n) a b row s e takes unended =
     (s (a + 1), line_at-row (s a) (s (a + 1)) (row a) (takes a (omega arith)), unended (a + 1), taken_range n (a + 1) b row s (omega arith) takes unended)
 
-unended_rows : (stage : Stage) → stage ≡ due.Rows → stage ≡ due.Ended → ⊥
+pub unended_rows : (stage : Stage) → stage ≡ due.Rows → stage ≡ due.Ended → ⊥
 unended_rows stage at e = let bad : due.Rows ≡ due.Ended = sym at ∙ e in let none : ⊥ = cc in none
 
 -- what holds of the cells of what was read

@@ -38,3 +38,4 @@ pub mod FirstFaults
 pub mod Tables
 pub mod Answered
 pub mod InRows
+pub mod GridRows

@@ -10,6 +10,7 @@ use Rattle.drift_chain.specs.declared.part.DriftPart.{DriftPart}
 use Rattle.drift_chain.specs.DriftRows.{row_of, IsDriftRow}
 use Rattle.search_grid.specs.Moves.{moves_from, IsMoveRow}
 use Rattle.sweep_table.specs.LookParts.{factor_of}
+use Rattle.search_model.specs.Names.{name_in}
 use Rattle.search_model.specs.Problem.{Problem, IsProblem, cell_name, position_name}
 use Rattle.scenario_text.specs.declared.draft.Stage.TheVariants.{Rows}
 use Rattle.scenario_text.specs.declared.pair.Pair.{Pair}
@@ -53,17 +54,20 @@ among_more c k other =
 
 -- Moves.
 
-names_known : (p : Problem) → IsProblem p → (cs : List ℕ) → All (λ c. c < p.cells) cs → map (cell_named p.names) (map (cell_name p) cs) ≡ map Some cs
-names_known p h [] within = refl
-names_known p h (c ∷ cs) within =
-    let head = cell_named-at p h c (All-head (λ c. c < p.cells) c cs within) in
-    rw head (ap (λ (xs : List (Option ℕ)). Some c ∷ xs) (names_known p h cs (All-tail (λ c. c < p.cells) c cs within)))
+pub names_found : (names : List (List ℕ)) (cells : ℕ) → ((c : ℕ) → c < cells → cell_named names (name_in names c) ≡ Some c) → (cs : List ℕ) → All (λ c. c < cells) cs → map (cell_named names) (map (name_in names) cs) ≡ map Some cs
+names_found names cells found [] within = refl
+names_found names cells found (c ∷ cs) within =
+    let head = found c (All-head (λ c. c < cells) c cs within) in
+    rw head (ap (λ (xs : List (Option ℕ)). Some c ∷ xs) (names_found names cells found cs (All-tail (λ c. c < cells) c cs within)))
 
-pub none_unknown : (cs : List ℕ) → list_any (λ m. is_none m) (map Some cs) ≡ false
+names_known : (p : Problem) → IsProblem p → (cs : List ℕ) → All (λ c. c < p.cells) cs → map (cell_named p.names) (map (cell_name p) cs) ≡ map Some cs
+names_known p h = names_found p.names p.cells (cell_named-at p h)
+
+none_unknown : (cs : List ℕ) → list_any (λ m. is_none m) (map Some cs) ≡ false
 none_unknown [] = refl
 none_unknown (c ∷ cs) = none_unknown cs
 
-pub numbers_of : (cs : List ℕ) → map (λ m. unwrap_or m 0) (map Some cs) ≡ cs
+numbers_of : (cs : List ℕ) → map (λ m. unwrap_or m 0) (map Some cs) ≡ cs
 numbers_of [] = refl
 numbers_of (c ∷ cs) = ap (λ (xs : List ℕ). c ∷ xs) (numbers_of cs)
 

@@ -238,7 +238,7 @@ start_table s word (name ∷ []) = by_word s (name ∷ []) (is_word word (codes 
 start_table s word (name ∷ more ∷ rest) = bad_count s (name ∷ more ∷ rest) (is_word word (codes "start")) Start None refl refl
 
 -- two words aren't one
-apart : (word a b : List ℕ) → is_word a b ≡ false → is_word word a ≡ true → is_word word b ≡ false
+pub apart : (word a b : List ℕ) → is_word a b ≡ false → is_word word a ≡ true → is_word word b ≡ false
 apart word a b differ is = subst (λ (w : List ℕ). is_word w b ≡ false) (sym ((bytes_eq-Decides word a).0 is)) differ
 
 -- no cell was named, or some were

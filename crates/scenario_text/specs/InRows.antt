@@ -1,13 +1,13 @@
 -- What the lines `grid`, `spread` and `rate` stand for: lines with the rows of each cell.
-use Rattle.std.specs.Prelude.{ℕ, ◌≡◌, ◌*◌, ◌≤◌, false, List, [], ◌∷◌, map, length, replicate, codes, Ok}
+use Rattle.std.specs.Prelude.{ℕ, ◌≡◌, ◌*◌, ◌≤◌, false, List, [], ◌∷◌, ◌++◌, map, length, codes, Ok}
 use Rattle.std.specs.List.{flat_map, join_with_byte, range_with_len}
 use Rattle.std.specs.Fmt.{decimal}
 use Rattle.drift_chain.specs.declared.part.DriftPart.{DriftPart}
 use Rattle.search_grid.specs.Moves.{moves_from}
-use Rattle.search_grid.specs.Sides.{moves_beside, side_moves}
+use Rattle.search_grid.specs.Sides.{moves_beside}
 use Rattle.search_model.specs.Names.{name_in}
 use Rattle.scenario_text.specs.declared.draft.Stage.TheVariants as due
-use Rattle.scenario_text.specs.Grids.{grid_names, spread_row}
+use Rattle.scenario_text.specs.Grids.{grid_name, grid_names, spread_row}
 use Rattle.scenario_text.specs.State.{State}
 use Rattle.scenario_text.specs.Reading.{line_at}
 use Rattle.scenario_text.specs.Sound.{IsSound}
@@ -25,6 +25,10 @@ for_each cells row = map (λ c. line_text (row c)) (range_with_len 0 cells)
 abbrev pub entry_fields : List (List ℕ) → List DriftPart → List (List ℕ)
 entry_fields names entries = flat_map (λ e. name_in names e.cell ∷ decimal e.part ∷ []) entries
 
+-- `cell NAME` of a cell of a grid
+abbrev pub cell_of : ℕ → ℕ → List (List ℕ)
+cell_of cols c = codes "cell" ∷ grid_name cols c ∷ []
+
 -- `moves NAME NAME ..` of a cell
 abbrev pub moves_of : List (List ℕ) → ℕ → List ℕ → List (List ℕ)
 moves_of names c moves = codes "moves" ∷ name_in names c ∷ map (name_in names) moves
@@ -36,6 +40,14 @@ drift_of names c entries = codes "drift" ∷ name_in names c ∷ entry_fields na
 -- `overlook NAME PART` of a cell
 abbrev pub overlook_of : List (List ℕ) → ℕ → ℕ → List (List ℕ)
 overlook_of names c part = codes "overlook" ∷ name_in names c ∷ decimal part ∷ []
+
+-- `grid R C` says what a `cell` line for each of its cells says and, behind the lines of the start and of the first parts, a
+-- `moves` line for each, with the cell itself and those at its sides; but `spread` is for grids alone
+abbrev pub GridInRows : Type 0
+GridInRows = (s t : State) (rows cols : ℕ) (start first : List ℕ) → IsSound s → s.stage ≡ due.Cells → s.names ≡ [] → rows ≤ 200 → cols ≤ 200 →
+    AreTaken s (line_text (codes "grid" ∷ decimal rows ∷ decimal cols ∷ []) ∷ start ∷ first ∷ []) t → t.stage ≡ due.Rows →
+    AreTaken s (for_each (rows * cols) (cell_of cols) ++ start ∷ first ∷ for_each (rows * cols) (λ c. moves_of (grid_names rows cols) c (moves_beside rows cols c)))
+        (record t { gridded = false })
 
 -- `rate PART` says what an `overlook` line for each cell says
 abbrev pub RateInRows : Type 0

@@ -1,7 +1,7 @@
 //! What the definitions of the text say together.
 
 ghost use Rattle.scenario_text.specs.Laws.{OneProblem, CanonicalSays, CanonicalReadsBack, CanonicalFrontReadsBack};
-ghost use Rattle.scenario_text.specs.InRows.{RateInRows, SpreadInRows};
+ghost use Rattle.scenario_text.specs.InRows.{GridInRows, RateInRows, SpreadInRows};
 ghost use Rattle.scenario_text.specs.KindTable.{KindsByTable};
 ghost use Rattle.scenario_text.specs.ReadingLaws.{SilentLinesAddNothing, FirstFaultDecides, FirstFaultDecidesAlone};
 
@@ -63,4 +63,10 @@ pub fn rate_in_rows()
 #[tactic(auto, using(crate::proofs::InRows::spread_in_rows))]
 pub fn spread_in_rows()
     ensures { SpreadInRows }
+{}
+
+/// The line `grid` says what lines with the cells and with their moves say.
+#[tactic(auto, using(crate::proofs::GridRows::grid_in_rows))]
+pub fn grid_in_rows()
+    ensures { GridInRows }
 {}
