@@ -39,3 +39,5 @@ pub mod Tables
 pub mod Answered
 pub mod InRows
 pub mod GridRows
+pub mod Ordered
+pub mod OneScenario

@@ -1,6 +1,6 @@
 //! What the definitions of the text say together.
 
-ghost use Rattle.scenario_text.specs.Laws.{OneProblem, CanonicalSays, CanonicalReadsBack, CanonicalFrontReadsBack};
+ghost use Rattle.scenario_text.specs.Laws.{OneProblem, EveryTextSpellsOne, CanonicalSays, CanonicalReadsBack, CanonicalFrontReadsBack};
 ghost use Rattle.scenario_text.specs.InRows.{GridInRows, RateInRows, SpreadInRows};
 ghost use Rattle.scenario_text.specs.KindTable.{KindsByTable};
 ghost use Rattle.scenario_text.specs.ReadingLaws.{SilentLinesAddNothing, FirstFaultDecides, FirstFaultDecidesAlone};
@@ -69,4 +69,10 @@ pub fn spread_in_rows()
 #[tactic(auto, using(crate::proofs::GridRows::grid_in_rows))]
 pub fn grid_in_rows()
     ensures { GridInRows }
+{}
+
+/// A text that reads up to its end spells a scenario, and no other.
+#[tactic(auto, using(crate::proofs::OneScenario::every_text_spells_one))]
+pub fn every_text_spells_one()
+    ensures { EveryTextSpellsOne }
 {}
