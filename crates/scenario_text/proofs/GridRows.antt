@@ -1,8 +1,8 @@
 -- A grid says what lines of cells and of moves say.
-use Rattle.std.proofs.Common.{◌≡◌, ℕ, ◌+◌, ◌*◌, ◌<◌, ◌≤◌, Bool, true, false, cond, List, [], ◌∷◌, ◌++◌, map, length, get_or, set, replicate, Option, Some, None, Result, Ok, refl, sym, ap, ◌∙◌, subst, arith, inl, inr, ◌⊎◌}
-use Rattle.std.specs.Prelude.{codes, not, ◌&&◌, ◌||◌, ◌==◌, nat_lt, slice_index_or}
+use Rattle.std.proofs.Common.{◌≡◌, ℕ, ◌+◌, ◌*◌, ◌<◌, ◌≤◌, Bool, true, false, cond, List, [], ◌∷◌, ◌++◌, map, length, get_or, set, replicate, Option, Some, None, Result, Ok, Err, refl, sym, ap, ◌∙◌, subst, arith, inl, inr, ◌⊎◌}
+use Rattle.std.specs.Prelude.{codes, not, ◌&&◌, ◌||◌, ◌==◌, nat_lt, is_none, is_some, unwrap_or, slice_index_or}
 use Rattle.std.specs.Fmt.{decimal}
-use Rattle.std.specs.List.{range_with_len, list_all}
+use Rattle.std.specs.List.{range_with_len, list_all, list_any}
 use Rattle.std.proofs.lemmas.Bool.{le-ltb, lt-ltb, ltb-false, eqb-true, eq-eqb, or_parts, cond_both}
 use Rattle.std.proofs.lemmas.Nat.{mul-le}
 use Rattle.std.proofs.lemmas.List.{length-map, length-replicate, get_or-replicate}
@@ -16,16 +16,16 @@ use Rattle.search_model.specs.Names.{IsName, name_in}
 use Rattle.scenario_text.specs.declared.draft.Stage.{Stage}
 use Rattle.scenario_text.specs.declared.draft.Stage.TheVariants as due
 use Rattle.scenario_text.specs.declared.kind.TextKind.{TextKind}
-use Rattle.scenario_text.specs.declared.kind.TextKind.TheVariants.{NotText, BadLine}
+use Rattle.scenario_text.specs.declared.kind.TextKind.TheVariants.{NotText, BadLine, BadNumber, OverLimit, UnknownName, DoubleName, MissingRow, DoubleRow, WrongSum, PartOver, NoMove, TooWide}
 use Rattle.scenario_text.specs.declared.pair.Pair.{Pair}
 use Rattle.scenario_text.specs.Lines.{fields_of}
-use Rattle.scenario_text.specs.Fields.{is_text_byte, says_nothing, is_word, is_bad, is_over, number_at, cell_named, are_pairs, pairs_of, pairs_fault, entries_of, total_of}
+use Rattle.scenario_text.specs.Fields.{is_text_byte, says_nothing, is_word, is_bad, is_over, number_at, number_in, cell_named, has_double, are_pairs, pairs_of, pairs_fault, entries_of, total_of}
 use Rattle.scenario_text.specs.Grids.{grid_name, grid_names}
 use Rattle.scenario_text.specs.State.{State}
-use Rattle.scenario_text.specs.Reading.{with_cells, with_start, start_line, cells_line, with_first, first_line, stage_line, line_at}
+use Rattle.scenario_text.specs.Reading.{with_cells, with_start, start_line, cells_line, unless_fault, with_first, first_line, has_moves, has_parts, has_overlook, with_moves, moves_line, unknown_after, with_parts_of, drift_line, with_overlook, overlook_line, spread_part, spread_line, rate_line, lacks_row, is_narrow, end_line, row_line, stage_line, line_at}
 use Rattle.scenario_text.specs.Sound.{IsSound}
 use Rattle.scenario_text.specs.Faults.{AreTaken}
-use Rattle.scenario_text.specs.InRows.{line_text, for_each, cell_of, moves_of, GridInRows}
+use Rattle.scenario_text.specs.InRows.{line_text, for_each, cell_of, moves_of, GridInRows, GridReadsOn}
 use Rattle.scenario_text.proofs.Joined.{IsField, AreFields}
 use Rattle.scenario_text.proofs.FieldTexts.{IsField-name, IsField-decimal, AreFields-named}
 use Rattle.scenario_text.proofs.GridNames.{grid_name-new}
@@ -39,6 +39,7 @@ use Rattle.scenario_text.proofs.SoundFields.{err_ok, not_refused, let_through}
 use Rattle.scenario_text.proofs.SoundHeads.{no_grid, no_fault}
 use Rattle.scenario_text.proofs.SoundNames.{IsName-grid, grid_count, All-grid_names, grid_differ}
 use Rattle.scenario_text.proofs.SoundRows.{length-side_moves}
+use Rattle.scenario_text.proofs.Soundness.{reached_sound}
 use Rattle.scenario_text.proofs.Tables.{apart}
 
 -- lines behind others
@@ -296,9 +297,125 @@ behind_cells s t rows cols start first some_row some_col few taken done =
     ]
 
 pub grid_in_rows : GridInRows
-grid_in_rows s t rows cols start first h at none few_rows few_cols taken done =
+grid_in_rows s t rows cols start first came at none few_rows few_cols taken done =
+    let h = reached_sound s came in
     let g = grid_read s taken.0 rows cols at none few_rows few_cols taken.1 in
     let n = rows * cols in
     let behind : AreTaken (with_cells s rows cols) (start ∷ first ∷ []) t = subst (λ (x : State). AreTaken x (start ∷ first ∷ []) t) g.made taken.3 in
     taken_behind (for_each n (cell_of cols)) (start ∷ first ∷ move_lines rows cols) s (plain (with_cells s rows cols) (replicate n [])) (record t { gridded = false })
     (cells_read s rows cols h at none g.some_col g.few) (behind_cells s t rows cols start first g.some_row g.some_col g.few behind done)
+
+-- Behind the moves the mark of a grid only lets `spread` in.
+
+-- what is right without the mark is right with it
+abbrev IsKept : Result State TextKind → Result State TextKind → Type 0
+IsKept r marked = (t : State) → r ≡ Ok t → marked ≡ Ok (record t { gridded = true })
+
+kept : (s : State) → IsKept (Ok s) (Ok (record s { gridded = true }))
+kept s t e = ap (λ (u : State). Ok (record u { gridded = true })) (ok_same s t e)
+
+kept_none : (kind : TextKind) (marked : Result State TextKind) → IsKept (Err kind) marked
+kept_none kind marked t e = absurd (err_ok kind t e)
+
+kept_test : (b : Bool) (x y x' y' : Result State TextKind) → IsKept x x' → IsKept y y' → IsKept (cond b x y) (cond b x' y')
+kept_test true x y x' y' h k = h
+kept_test false x y x' y' h k = k
+
+kept_fault : (fault : Option TextKind) (r marked : Result State TextKind) → IsKept r marked → IsKept (unless_fault fault r) (unless_fault fault marked)
+kept_fault None r marked h = h
+kept_fault (Some kind) r marked h = kept_none kind (Err kind)
+
+-- a test that refuses
+kept_past : (b : Bool) (kind : TextKind) (r marked : Result State TextKind) → IsKept r marked → IsKept (cond b (Err kind) r) (cond b (Err kind) marked)
+kept_past b kind r marked h = kept_test b (Err kind) r (Err kind) marked (kept_none kind (Err kind)) h
+
+-- and several that refuse
+abbrev behind_tests : List (Bool × TextKind) → Result State TextKind → Result State TextKind
+behind_tests [] r = r
+behind_tests (test ∷ tests) r = cond test.0 (Err test.1) (behind_tests tests r)
+
+kept_behind : (tests : List (Bool × TextKind)) (s : State) → IsKept (behind_tests tests (Ok s)) (behind_tests tests (Ok (record s { gridded = true })))
+kept_behind [] s = kept s
+kept_behind (test ∷ tests) s = kept_past test.0 test.1 (behind_tests tests (Ok s)) (behind_tests tests (Ok (record s { gridded = true }))) (kept_behind tests s)
+
+module _ (s : State) where
+  abbrev marked : State
+  marked = record s { gridded = true }
+
+  moves_by : (c : Option ℕ) (moves : List (Option ℕ)) → IsKept (with_moves s c moves) (with_moves marked c moves)
+  moves_by None moves = kept_none UnknownName (Err UnknownName)
+  moves_by (Some c) moves =
+      kept_behind ((list_any (λ m. is_none m) moves, UnknownName) ∷ (has_double moves, DoubleName) ∷ (has_moves s c, DoubleRow) ∷ (length moves == 0, NoMove) ∷ []) (record s { moves = set s.moves c (map (λ m. unwrap_or m 0) moves) })
+
+  kept_moves : (fields : List (List ℕ)) → IsKept (moves_line s fields) (moves_line marked fields)
+  kept_moves [] = kept_none BadLine (Err BadLine)
+  kept_moves (name ∷ moves) =
+      let c = cell_named s.names name in
+      let cells = map (cell_named s.names) moves in
+      kept_past (nat_lt 64 (length moves)) OverLimit (with_moves s c cells) (with_moves marked c cells) (moves_by c cells)
+
+  drift_by : (c : Option ℕ) (pairs : List Pair) → IsKept (with_parts_of s c pairs) (with_parts_of marked c pairs)
+  drift_by None pairs = kept_none (unknown_after (pairs_fault pairs)) (Err (unknown_after (pairs_fault pairs)))
+  drift_by (Some c) pairs =
+      let tests = (has_parts s c, DoubleRow) ∷ (not (total_of pairs == s.drift), WrongSum) ∷ [] in
+      let u = record s { parts = set s.parts c (entries_of pairs) } in
+      kept_fault (pairs_fault pairs) (behind_tests tests (Ok u)) (behind_tests tests (Ok (record u { gridded = true }))) (kept_behind tests u)
+
+  kept_drift : (fields : List (List ℕ)) → IsKept (drift_line s fields) (drift_line marked fields)
+  kept_drift [] = kept_none BadLine (Err BadLine)
+  kept_drift (name ∷ fields) =
+      let c = cell_named s.names name in
+      let pairs = pairs_of s.names fields in
+      kept_test (are_pairs fields) (with_parts_of s c pairs) (Err BadLine) (with_parts_of marked c pairs) (Err BadLine) (drift_by c pairs) (kept_none BadLine (Err BadLine))
+
+  overlook_by : (c : Option ℕ) (n : ℕ) → IsKept (with_overlook s c n) (with_overlook marked c n)
+  overlook_by None n = kept_none UnknownName (Err UnknownName)
+  overlook_by (Some c) n = kept_behind ((has_overlook s c, DoubleRow) ∷ (nat_lt s.look n, PartOver) ∷ []) (record s { overlook = set s.overlook c (Some n) })
+
+  kept_overlook : (fields : List (List ℕ)) → IsKept (overlook_line s fields) (overlook_line marked fields)
+  kept_overlook [] = kept_none BadLine (Err BadLine)
+  kept_overlook (name ∷ []) = kept_none BadLine (Err BadLine)
+  kept_overlook (name ∷ part ∷ []) =
+      let n = number_at 1000000 part in
+      let c = cell_named s.names name in
+      kept_past (is_bad 0 n) BadNumber (cond (is_over n) (Err OverLimit) (with_overlook s c (number_in n))) (cond (is_over n) (Err OverLimit) (with_overlook marked c (number_in n)))
+      (kept_past (is_over n) OverLimit (with_overlook s c (number_in n)) (with_overlook marked c (number_in n)) (overlook_by c (number_in n)))
+  kept_overlook (name ∷ part ∷ more ∷ rest) = kept_none BadLine (Err BadLine)
+
+  kept_spread : (fields : List (List ℕ)) → s.gridded ≡ false → IsKept (spread_line s fields) (spread_line marked fields)
+  kept_spread [] without = kept_none BadLine (Err BadLine)
+  kept_spread (part ∷ []) without = λ t e. absurd (let bad : true ≡ false = sym (let_through s.gridded BadLine (spread_part s (number_at 1000000 part)) t e).0 ∙ without in let none : ⊥ = cc in none)
+  kept_spread (part ∷ more ∷ rest) without = kept_none BadLine (Err BadLine)
+
+  kept_rate : (fields : List (List ℕ)) → IsKept (rate_line s fields) (rate_line marked fields)
+  kept_rate [] = kept_none BadLine (Err BadLine)
+  kept_rate (part ∷ []) =
+      let n = number_at 1000000 part in
+      kept_behind ((is_bad 0 n, BadNumber) ∷ (is_over n, OverLimit) ∷ (list_any (λ o. is_some o) s.overlook, DoubleRow) ∷ (nat_lt s.look (number_in n), PartOver) ∷ []) (record s { overlook = replicate (length s.names) (Some (number_in n)) })
+  kept_rate (part ∷ more ∷ rest) = kept_none BadLine (Err BadLine)
+
+  kept_end : (fields : List (List ℕ)) → IsKept (end_line s fields) (end_line marked fields)
+  kept_end [] = kept_behind ((lacks_row s, MissingRow) ∷ (not (is_narrow s), TooWide) ∷ []) (record s { stage = due.Ended })
+  kept_end (more ∷ rest) = kept_none BadLine (Err BadLine)
+
+  kept_row : (fields : List (List ℕ)) → s.gridded ≡ false → IsKept (row_line s fields) (row_line marked fields)
+  kept_row [] without = kept_none BadLine (Err BadLine)
+  kept_row (key ∷ fields) without =
+      let ends : State → Result State TextKind = λ u. cond (is_word key (codes "end")) (end_line u fields) (Err BadLine) in
+      let rates : State → Result State TextKind = λ u. cond (is_word key (codes "rate")) (rate_line u fields) (ends u) in
+      let spreads : State → Result State TextKind = λ u. cond (is_word key (codes "spread")) (spread_line u fields) (rates u) in
+      let overlooks : State → Result State TextKind = λ u. cond (is_word key (codes "overlook")) (overlook_line u fields) (spreads u) in
+      let drifts : State → Result State TextKind = λ u. cond (is_word key (codes "drift")) (drift_line u fields) (overlooks u) in
+      kept_test (is_word key (codes "moves")) (moves_line s fields) (drifts s) (moves_line marked fields) (drifts marked) (kept_moves fields)
+      (kept_test (is_word key (codes "drift")) (drift_line s fields) (overlooks s) (drift_line marked fields) (overlooks marked) (kept_drift fields)
+      (kept_test (is_word key (codes "overlook")) (overlook_line s fields) (spreads s) (overlook_line marked fields) (spreads marked) (kept_overlook fields)
+      (kept_test (is_word key (codes "spread")) (spread_line s fields) (rates s) (spread_line marked fields) (rates marked) (kept_spread fields without)
+      (kept_test (is_word key (codes "rate")) (rate_line s fields) (ends s) (rate_line marked fields) (ends marked) (kept_rate fields)
+      (kept_test (is_word key (codes "end")) (end_line s fields) (Err BadLine) (end_line marked fields) (Err BadLine) (kept_end fields) (kept_none BadLine (Err BadLine)))))))
+
+pub grid_reads_on : GridReadsOn
+unfolding line_at
+grid_reads_on s t line at without e =
+    kept_test (says_nothing (fields_of line)) (Ok s) (cond (not (list_all is_text_byte line)) (Err NotText) (stage_line s.stage s (fields_of line))) (Ok (record s { gridded = true })) (cond (not (list_all is_text_byte line)) (Err NotText) (stage_line s.stage (record s { gridded = true }) (fields_of line))) (kept s)
+    (kept_past (not (list_all is_text_byte line)) NotText (stage_line s.stage s (fields_of line)) (stage_line s.stage (record s { gridded = true }) (fields_of line))
+    (subst (λ (g : Stage). IsKept (stage_line g s (fields_of line)) (stage_line g (record s { gridded = true }) (fields_of line))) (sym at) (kept_row s (fields_of line) without))) t e

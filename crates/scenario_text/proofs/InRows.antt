@@ -31,6 +31,7 @@ use Rattle.scenario_text.proofs.RowsRead.{Takes, line_at-fields, line_at-row}
 use Rattle.scenario_text.proofs.SoundFields.{not_refused, let_through, none_pass, sum_by-map}
 use Rattle.scenario_text.proofs.SoundHeads.{reached}
 use Rattle.scenario_text.proofs.SoundRows.{AreEntries-spread, own_row}
+use Rattle.scenario_text.proofs.Soundness.{reached_sound}
 
 -- A list that is filled from the front.
 module _ {X : Type 0} (f : ℕ → X) (empty : X) (n : ℕ) where
@@ -74,7 +75,8 @@ none_some os none k lt = empty_of (get_or os k None) (none_pass (λ o. is_some o
     empty_of (Some n) e = absurd (let bad : ⊥ = cc in bad)
 
 pub rate_in_rows : RateInRows
-rate_in_rows s t part h at few e =
+rate_in_rows s t part came at few e =
+    let h = reached_sound s came in
     let n = length s.names in
     let number = number_at-decimal 1000000 part few (omega arith) in
     let least = le-ltb part 0 (omega arith) in
@@ -163,7 +165,8 @@ spread_entries s part h gridded narrow c lt =
     AreEntries-spread (length s.names) s.drift part c (moves_from s.moves c) moves own (ltb-false _ _ fails)
 
 pub spread_in_rows : SpreadInRows
-spread_in_rows s t part h at few e =
+spread_in_rows s t part came at few e =
+    let h = reached_sound s came in
     let n = length s.names in
     let number = number_at-decimal 1000000 part few (omega arith) in
     let least = le-ltb part 0 (omega arith) in

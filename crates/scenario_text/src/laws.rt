@@ -1,7 +1,7 @@
 //! What the definitions of the text say together.
 
 ghost use Rattle.scenario_text.specs.Laws.{OneProblem, EveryTextSpellsOne, CanonicalSays, CanonicalReadsBack, CanonicalFrontReadsBack};
-ghost use Rattle.scenario_text.specs.InRows.{GridInRows, RateInRows, SpreadInRows};
+ghost use Rattle.scenario_text.specs.InRows.{GridInRows, GridReadsOn, RateInRows, SpreadInRows};
 ghost use Rattle.scenario_text.specs.KindTable.{KindsByTable};
 ghost use Rattle.scenario_text.specs.ReadingLaws.{SilentLinesAddNothing, FirstFaultDecides, FirstFaultDecidesAlone};
 
@@ -75,4 +75,10 @@ pub fn grid_in_rows()
 #[tactic(auto, using(crate::proofs::OneScenario::every_text_spells_one))]
 pub fn every_text_spells_one()
     ensures { EveryTextSpellsOne }
+{}
+
+/// Behind the moves of its cells a grid only lets `spread` in: what else is right adds the same.
+#[tactic(auto, using(crate::proofs::GridRows::grid_reads_on))]
+pub fn grid_reads_on()
+    ensures { GridReadsOn }
 {}
