@@ -256,7 +256,7 @@ behind_start : (s t : State) (rows cols n : ℕ) (first : List ℕ) → 1 ≤ ro
     AreTaken (record (plain (with_cells s rows cols) (replicate (rows * cols) [])) { stage = due.First; start = n }) (first ∷ move_lines rows cols) (record t { gridded = false })
 behind_start s t rows cols n first some_row some_col few taken done =
     let b = record (with_cells s rows cols) { stage = due.First; start = n } in
-    let none = replicate (rows * cols) [] in
+    let none : List (List ℕ) = replicate (rows * cols) [] in
     elim (first_alike b taken.0 none first refl taken.1) [
       | inl silent ↦ absurd (let bad : due.First ≡ due.Rows = ap (λ (x : State). x.stage) (sym silent ∙ taken.3) ∙ done in let false_end : ⊥ = cc in false_end)
       | inr said ↦
@@ -275,7 +275,7 @@ behind_cells : (s t : State) (rows cols : ℕ) (start first : List ℕ) → 1 �
     AreTaken (plain (with_cells s rows cols) (replicate (rows * cols) [])) (start ∷ first ∷ move_lines rows cols) (record t { gridded = false })
 behind_cells s t rows cols start first some_row some_col few taken done =
     let a = with_cells s rows cols in
-    let none = replicate (rows * cols) [] in
+    let none : List (List ℕ) = replicate (rows * cols) [] in
     let count = grid_count rows cols in
     let all : 1 * 1 ≤ rows * cols = mul-le 1 1 rows cols some_row some_col in
     let some : 0 < length a.names = omega (arith, count, all) in

@@ -1,9 +1,11 @@
 -- A line has the fault that the table of kinds gives.
-use Rattle.std.proofs.Common.{◌≡◌, ℕ, zero, suc, ◌+◌, ◌*◌, ◌-◌, Bool, true, false, cond, List, [], ◌∷◌, length, map, Option, Some, None, Result, Ok, Err, refl, sym, ap, subst, ◌∙◌, arith}
+use Rattle.std.specs.Str.{bytes_eq}
+use Rattle.std.proofs.Common.{◌≡◌, ℕ, zero, suc, ◌+◌, ◌*◌, ◌-◌, Bool, true, false, cond, List, [], ◌∷◌, length, map, Option, Some, None, Result, Ok, Err, refl, sym, ap, subst, ◌∙◌, arith, inl, inr, get_or}
 use Rattle.std.specs.Prelude.{not, ◌&&◌, ◌||◌, ◌==◌, nat_le, nat_lt, is_none, is_some, set, unwrap_or, sum_by, codes}
 use Rattle.std.specs.List.{list_all, list_any}
-use Rattle.std.proofs.lemmas.Bool.{lt-ltb, ne_eqb}
+use Rattle.std.proofs.lemmas.Bool.{lt-ltb, eq-eqb, ne_eqb, cases_eq, or_parts, false_from_ne_true}
 use Rattle.std.proofs.lemmas.List.{length-map}
+use Rattle.std.proofs.lemmas.List.Quantifiers.{position-Some}
 use Rattle.std.proofs.lemmas.List.Sums.{sum_by-cons}
 use Rattle.std.proofs.lemmas.Slice.Eq.{bytes_eq-Decides}
 use Rattle.search_model.specs.Names.{is_name_byte}
@@ -14,10 +16,10 @@ use Rattle.scenario_text.specs.declared.kind.TextKind.{TextKind}
 use Rattle.scenario_text.specs.declared.kind.TextKind.TheVariants.{NotText, BadLine, BadNumber, OverLimit, UnknownName, DoubleName, MissingRow, DoubleRow, WrongSum, PartOver, NoMove, TooWide}
 use Rattle.scenario_text.specs.declared.pair.Pair.{Pair}
 use Rattle.scenario_text.specs.Lines.{fields_of}
-use Rattle.scenario_text.specs.Fields.{is_text_byte, says_nothing, is_word, number_at, is_bad, is_over, number_in, cell_named, has_double, are_pairs, pairs_of, entries_of, total_of, pairs_fault}
+use Rattle.scenario_text.specs.Fields.{is_text_byte, says_nothing, is_word, number_at, is_bad, is_over, number_in, cell_named, stands_in, has_double, are_pairs, pairs_of, entries_of, total_of, pairs_fault}
 use Rattle.scenario_text.specs.State.{State}
 use Rattle.scenario_text.specs.Reading.{version_line, with_horizon, horizon_line, with_parts, parts_line, cell_line, with_grid, with_start, start_line, cells_line, unless_fault, with_first, first_pairs, first_line, has_moves, has_parts, has_overlook, with_moves, moves_line, unknown_after, drift_pairs, drift_line, overlook_part, overlook_line, with_spread, spread_line, with_rate, rate_line, lacks_row, is_narrow, end_line, row_line, stage_line, line_at}
-use Rattle.scenario_text.specs.KindTable.{Line, Scenario, Horizon, Parts, Cell, Grid, Start, First, Moves, Drift, Overlook, Spread, Rate, End, head_due, row_due, line_due, behind_first, pair_names, pair_parts, value, holds_of, is_bad_line, first_kind, tests, tests_of, fault_of, KindsByTable}
+use Rattle.scenario_text.specs.KindTable.{Line, Scenario, Horizon, Parts, Cell, Grid, Start, First, Moves, Drift, Overlook, Spread, Rate, End, head_due, row_due, line_due, behind_first, pair_names, pair_parts, stands_twice, holds_of, is_bad_line, first_kind, tests, tests_of, fault_of, KindsByTable}
 use Rattle.scenario_text.proofs.SoundFields.{list_any-map, sum_by-map}
 
 -- the kinds in their order, by what the tests give
@@ -187,6 +189,59 @@ module _ (names : List (List ℕ)) where
       ≡ told (list_any (λ f. is_bad 1 (number_at 1000000 f)) (pair_parts fields)) (list_any (λ f. is_over (number_at 1000000 f)) (pair_parts fields)) (list_any (λ f. is_none (cell_named names f)) (pair_names fields)) (map (cell_named names) (pair_names fields)) (sum_by (λ f. number_in (number_at 1000000 f)) (pair_parts fields))
   told_alike told fields = rw (parts_any (is_bad 1) fields, parts_any is_over fields, any_unknown fields, cells_named fields, whole_sum fields) refl
 
+-- Names of cells stand twice where their cells do.
+same_cell : (names : List (List ℕ)) (a b : List ℕ) (c d : ℕ) → cell_named names a ≡ Some c → cell_named names b ≡ Some d → (d == c) ≡ is_word b a
+same_cell names a b c d e f = elim (cases_eq d c) [
+  | inl same ↦
+      let here = (bytes_eq-Decides a (get_or names c [])).0 (position-Some (bytes_eq a) names c [] e).1 in
+      let there = (bytes_eq-Decides b (get_or names d [])).0 (position-Some (bytes_eq b) names d [] f).1 in
+      let equal : b ≡ a = there ∙ ap (λ (k : ℕ). get_or names k []) same ∙ sym here in
+      eq-eqb d c same ∙ sym ((bytes_eq-Decides b a).1 equal)
+  | inr apart_cells ↦ ne_eqb d c apart_cells ∙ sym (false_from_ne_true (is_word b a) (λ is.
+      let both : Some d ≡ Some c = sym f ∙ ap (cell_named names) ((bytes_eq-Decides b a).0 is) ∙ e in
+      apart_cells (let equal : d ≡ c = cc in equal)))
+]
+
+same_places : (names : List (List ℕ)) (name : List ℕ) (c : ℕ) (others : List (List ℕ)) → cell_named names name ≡ Some c → list_any (λ f. is_none (cell_named names f)) others ≡ false → stands_in (Some c) (map (cell_named names) others) ≡ list_any (λ other. is_word other name) others
+same_places names name c [] e known = refl
+same_places names name c (other ∷ others) e known =
+    let parts = or_parts (is_none (cell_named names other)) (list_any (λ f. is_none (cell_named names f)) others) known in
+    let found = found_at (cell_named names other) parts.0 in
+    let here : (is_some (cell_named names other) && unwrap_or (cell_named names other) 0 == c) ≡ is_word other name = ap (λ (o : Option ℕ). is_some o && unwrap_or o 0 == c) found.1 ∙ same_cell names name other c found.0 e found.1 in
+    ap (λ (b : Bool). b || stands_in (Some c) (map (cell_named names) others)) here ∙ ap (λ (b : Bool). is_word other name || b) (same_places names name c others e parts.1)
+  where
+    found_at : (o : Option ℕ) → is_none o ≡ false → (d : ℕ) × (o ≡ Some d)
+    found_at None none = absurd (let bad : ⊥ = cc in bad)
+    found_at (Some d) none = (d, refl)
+
+twice_alike : (names fields : List (List ℕ)) → list_any (λ f. is_none (cell_named names f)) fields ≡ false → has_double (map (cell_named names) fields) ≡ stands_twice fields
+unfolding has_double stands_twice
+twice_alike names [] known = refl
+twice_alike names (name ∷ others) known =
+    let parts = or_parts (is_none (cell_named names name)) (list_any (λ f. is_none (cell_named names f)) others) known in
+    let found = found_at (cell_named names name) parts.0 in
+    let here : stands_in (cell_named names name) (map (cell_named names) others) ≡ list_any (λ other. is_word other name) others = ap (λ (o : Option ℕ). stands_in o (map (cell_named names) others)) found.1 ∙ same_places names name found.0 others found.1 parts.1 in
+    ap (λ (b : Bool). b || has_double (map (cell_named names) others)) here ∙ ap (λ (b : Bool). list_any (λ other. is_word other name) others || b) (twice_alike names others parts.1)
+  where
+    found_at : (o : Option ℕ) → is_none o ≡ false → (d : ℕ) × (o ≡ Some d)
+    found_at None none = absurd (let bad : ⊥ = cc in bad)
+    found_at (Some d) none = (d, refl)
+
+-- names are asked for doubles where each is known
+where_known : (line number over unknown double twice row sum move : Bool) → (unknown ≡ false → double ≡ twice) → table_of line number over unknown double false row sum false move false ≡ table_of line number over unknown twice false row sum false move false
+where_known line number over true double twice row sum move same = refl
+where_known line number over false double twice row sum move same = ap (λ (b : Bool). table_of line number over false b false row sum false move false) (same refl)
+
+-- the table of pairs, told of their fields; with `lost` a name before them isn't a cell's
+pairs_told : (names : List (List ℕ)) (form lost row : Bool) (limit : ℕ) (fields : List (List ℕ)) →
+    table_of (not form || false) (list_any (λ x. is_bad 1 x.part) (pairs_of names fields)) (list_any (λ x. is_over x.part) (pairs_of names fields) || false) (lost || list_any (λ x. is_none x.cell) (pairs_of names fields)) (has_double (map (λ x. x.cell) (pairs_of names fields))) false row (not (total_of (pairs_of names fields) == limit)) false false false
+    ≡ table_of (not form || false) (list_any (λ f. is_bad 1 (number_at 1000000 f)) (pair_parts fields)) (list_any (λ f. is_over (number_at 1000000 f)) (pair_parts fields) || false) (lost || list_any (λ f. is_none (cell_named names f)) (pair_names fields)) (stands_twice (pair_names fields)) false row (not (sum_by (λ f. number_in (number_at 1000000 f)) (pair_parts fields) == limit)) false false false
+pairs_told names form lost row limit fields =
+    let unknown = list_any (λ f. is_none (cell_named names f)) (pair_names fields) in
+    told_alike names (λ bad over lacks cells total. table_of (not form || false) bad (over || false) (lost || lacks) (has_double cells) false row (not (total == limit)) false false false) fields
+    ∙ where_known (not form || false) (list_any (λ f. is_bad 1 (number_at 1000000 f)) (pair_parts fields)) (list_any (λ f. is_over (number_at 1000000 f)) (pair_parts fields) || false) (lost || unknown) (has_double (map (cell_named names) (pair_names fields))) (stands_twice (pair_names fields)) row (not (sum_by (λ f. number_in (number_at 1000000 f)) (pair_parts fields) == limit)) false
+    (λ known. twice_alike names (pair_names fields) (or_parts lost unknown known).1)
+
 -- A line by its keyword.
 module _ (s : State) (fields : List (List ℕ)) where
   -- one line or the others
@@ -206,7 +261,7 @@ module _ (s : State) (fields : List (List ℕ)) where
 
 -- The lines above the rows.
 version_table : (s : State) (word : List ℕ) (fields : List (List ℕ)) → fault_of (version_line s (word ∷ fields)) ≡ first_kind (tests s (line_due due.Version (nat_lt 0 (length s.names)) word) fields)
-unfolding has_double
+unfolding stands_twice
 version_table s word [] = bad_count s [] (is_word word (codes "scenario")) Scenario None refl refl
 version_table s word (version ∷ []) = both (is_word word (codes "scenario")) (is_word version (codes "1")) refl
   where
@@ -216,13 +271,13 @@ version_table s word (version ∷ []) = both (is_word word (codes "scenario")) (
 version_table s word (version ∷ more ∷ rest) = bad_count s (version ∷ more ∷ rest) (is_word word (codes "scenario")) Scenario None refl refl
 
 horizon_table : (s : State) (word : List ℕ) (fields : List (List ℕ)) → fault_of (horizon_line s (word ∷ fields)) ≡ first_kind (tests s (line_due due.Horizon (nat_lt 0 (length s.names)) word) fields)
-unfolding has_double
+unfolding stands_twice
 horizon_table s word [] = bad_count s [] (is_word word (codes "horizon")) Horizon None refl refl
 horizon_table s word (t ∷ []) = by_word s (t ∷ []) (is_word word (codes "horizon")) Horizon _ (number_by (is_bad 1 (number_at 32 t)) (is_over (number_at 32 t)) _)
 horizon_table s word (t ∷ more ∷ rest) = bad_count s (t ∷ more ∷ rest) (is_word word (codes "horizon")) Horizon None refl refl
 
 parts_table : (s : State) (word : List ℕ) (fields : List (List ℕ)) → fault_of (parts_line s (word ∷ fields)) ≡ first_kind (tests s (line_due due.Parts (nat_lt 0 (length s.names)) word) fields)
-unfolding has_double
+unfolding stands_twice
 parts_table s word [] = bad_count s [] (is_word word (codes "parts")) Parts None refl refl
 parts_table s word (a ∷ []) = bad_count s (a ∷ []) (is_word word (codes "parts")) Parts None refl refl
 parts_table s word (a ∷ d ∷ []) = bad_count s (a ∷ d ∷ []) (is_word word (codes "parts")) Parts None refl refl
@@ -232,7 +287,7 @@ parts_table s word (a ∷ d ∷ g ∷ []) =
 parts_table s word (a ∷ d ∷ g ∷ more ∷ rest) = bad_count s (a ∷ d ∷ g ∷ more ∷ rest) (is_word word (codes "parts")) Parts None refl refl
 
 start_table : (s : State) (word : List ℕ) (fields : List (List ℕ)) → fault_of (start_line s (word ∷ fields)) ≡ first_kind (tests s (line_due due.Start (nat_lt 0 (length s.names)) word) fields)
-unfolding has_double
+unfolding stands_twice
 start_table s word [] = bad_count s [] (is_word word (codes "start")) Start None refl refl
 start_table s word (name ∷ []) = by_word s (name ∷ []) (is_word word (codes "start")) Start _ (start_by s (cell_named s.names name))
 start_table s word (name ∷ more ∷ rest) = bad_count s (name ∷ more ∷ rest) (is_word word (codes "start")) Start None refl refl
@@ -247,7 +302,7 @@ none_named zero = refl
 none_named (suc n) = rw (ne_eqb (suc n) 0 (λ e. omega arith), lt-ltb 0 (suc n) (omega arith)) refl
 
 cells_table : (s : State) (word : List ℕ) (fields : List (List ℕ)) → fault_of (cells_line s (word ∷ fields)) ≡ first_kind (tests s (line_due due.Cells (nat_lt 0 (length s.names)) word) fields)
-unfolding has_double
+unfolding stands_twice
 cells_table s word [] = none_due (nat_lt 0 (length s.names))
   where
     none_due : (named : Bool) → Some BadLine ≡ first_kind (tests s (line_due due.Cells named word) [])
@@ -284,7 +339,7 @@ pairs_table : (s : State) (fields : List (List ℕ)) → fault_of (first_pairs s
 pairs_table s fields =
     let pairs = pairs_of s.names fields in
     pairs_by (are_pairs fields) (list_any (λ x. is_bad 1 x.part) pairs) (list_any (λ x. is_over x.part) pairs) (list_any (λ x. is_none x.cell) pairs) (has_double (map (λ x. x.cell) pairs)) (total_of pairs == s.total) _
-    ∙ told_alike s.names (λ bad over unknown cells total. table_of (not (are_pairs fields) || false) bad (over || false) unknown (has_double cells) false false (not (total == s.total)) false false false) fields
+    ∙ pairs_told s.names (are_pairs fields) false false s.total fields
 
 first_table : (s : State) (word : List ℕ) (fields : List (List ℕ)) → fault_of (first_line s (word ∷ fields)) ≡ first_kind (tests s (line_due due.First (nat_lt 0 (length s.names)) word) fields)
 first_table s word fields = by_word s fields (is_word word (codes "first")) First (first_pairs s fields) (pairs_table s fields)
@@ -295,40 +350,41 @@ moves_table s [] = refl
 moves_table s (name ∷ moves) = own (cell_named s.names name)
   where
     own : (c : Option ℕ) → fault_of (cond (nat_lt 64 (length moves)) (Err OverLimit) (with_moves s c (map (cell_named s.names) moves)))
-        ≡ table_of false false (nat_lt 64 (length moves)) (is_none c || list_any (λ f. is_none (cell_named s.names f)) moves) (has_double (map (cell_named s.names) moves)) false (holds_of c (has_moves s)) false false (length moves == 0) false
-    own None = lost_by (nat_lt 64 (length moves)) (list_any (λ f. is_none (cell_named s.names f)) moves) (has_double (map (cell_named s.names) moves)) false (length moves == 0)
+        ≡ table_of false false (nat_lt 64 (length moves)) (is_none c || list_any (λ f. is_none (cell_named s.names f)) moves) (stands_twice moves) false (holds_of c (has_moves s)) false false (length moves == 0) false
+    own None = lost_by (nat_lt 64 (length moves)) (list_any (λ f. is_none (cell_named s.names f)) moves) (stands_twice moves) false (length moves == 0)
     own (Some c) =
         let cells = map (cell_named s.names) moves in
         moves_by (nat_lt 64 (length moves)) (list_any (λ m. is_none m) cells) (has_double cells) (has_moves s c) (length cells == 0) (record s { moves = set s.moves c (map (λ m. unwrap_or m 0) cells) })
         ∙ ap (λ (b : Bool). table_of false false (nat_lt 64 (length moves)) b (has_double cells) false (has_moves s c) false false (length cells == 0) false) (list_any-map (λ m. is_none m) (cell_named s.names) moves)
         ∙ ap (λ (n : ℕ). table_of false false (nat_lt 64 (length moves)) (list_any (λ f. is_none (cell_named s.names f)) moves) (has_double cells) false (has_moves s c) false false (n == 0) false) (length-map moves (cell_named s.names))
+        ∙ where_known false false (nat_lt 64 (length moves)) (list_any (λ f. is_none (cell_named s.names f)) moves) (has_double cells) (stands_twice moves) (has_moves s c) false (length moves == 0) (twice_alike s.names moves)
 
 -- the pairs of a row of drift, by its cell
 drift_pairs_table : (s : State) (c : Option ℕ) (fields : List (List ℕ)) → fault_of (drift_pairs s c fields)
     ≡ table_of (not (are_pairs fields) || false) (list_any (λ f. is_bad 1 (number_at 1000000 f)) (pair_parts fields)) (list_any (λ f. is_over (number_at 1000000 f)) (pair_parts fields) || false) (is_none c || list_any (λ f. is_none (cell_named s.names f)) (pair_names fields))
-        (has_double (map (cell_named s.names) (pair_names fields))) false (holds_of c (has_parts s)) (not (sum_by (λ f. number_in (number_at 1000000 f)) (pair_parts fields) == s.drift)) false false false
+        (stands_twice (pair_names fields)) false (holds_of c (has_parts s)) (not (sum_by (λ f. number_in (number_at 1000000 f)) (pair_parts fields) == s.drift)) false false false
 drift_pairs_table s None fields =
     let pairs = pairs_of s.names fields in
     unknown_by (are_pairs fields) (list_any (λ x. is_bad 1 x.part) pairs) (list_any (λ x. is_over x.part) pairs) (list_any (λ x. is_none x.cell) pairs) (has_double (map (λ x. x.cell) pairs)) false (not (total_of pairs == s.drift))
-    ∙ told_alike s.names (λ bad over unknown cells total. table_of (not (are_pairs fields) || false) bad (over || false) true (has_double cells) false false (not (total == s.drift)) false false false) fields
+    ∙ pairs_told s.names (are_pairs fields) true false s.drift fields
 drift_pairs_table s (Some c) fields =
     let pairs = pairs_of s.names fields in
     drift_by (are_pairs fields) (list_any (λ x. is_bad 1 x.part) pairs) (list_any (λ x. is_over x.part) pairs) (list_any (λ x. is_none x.cell) pairs) (has_double (map (λ x. x.cell) pairs)) (has_parts s c) (total_of pairs == s.drift) _
-    ∙ told_alike s.names (λ bad over unknown cells total. table_of (not (are_pairs fields) || false) bad (over || false) unknown (has_double cells) false (has_parts s c) (not (total == s.drift)) false false false) fields
+    ∙ pairs_told s.names (are_pairs fields) false (has_parts s c) s.drift fields
 
 drift_table : (s : State) (fields : List (List ℕ)) → fault_of (drift_line s fields) ≡ first_kind (tests s (Some Drift) fields)
 drift_table s [] = refl
 drift_table s (name ∷ fields) = drift_pairs_table s (cell_named s.names name) fields
 
 overlook_table : (s : State) (fields : List (List ℕ)) → fault_of (overlook_line s fields) ≡ first_kind (tests s (Some Overlook) fields)
-unfolding has_double
+unfolding stands_twice
 overlook_table s [] = refl
 overlook_table s (name ∷ []) = refl
 overlook_table s (name ∷ part ∷ []) = overlook_by s (cell_named s.names name) (number_at 1000000 part)
 overlook_table s (name ∷ part ∷ more ∷ rest) = refl
 
 spread_table : (s : State) (fields : List (List ℕ)) → fault_of (spread_line s fields) ≡ first_kind (tests s (Some Spread) fields)
-unfolding has_double
+unfolding stands_twice
 spread_table s [] = refl
 spread_table s (part ∷ []) =
     let n = number_at 1000000 part in
@@ -336,7 +392,7 @@ spread_table s (part ∷ []) =
 spread_table s (part ∷ more ∷ rest) = refl
 
 rate_table : (s : State) (fields : List (List ℕ)) → fault_of (rate_line s fields) ≡ first_kind (tests s (Some Rate) fields)
-unfolding has_double
+unfolding stands_twice
 rate_table s [] = refl
 rate_table s (part ∷ []) =
     let n = number_at 1000000 part in
@@ -344,7 +400,7 @@ rate_table s (part ∷ []) =
 rate_table s (part ∷ more ∷ rest) = refl
 
 end_table : (s : State) (fields : List (List ℕ)) → fault_of (end_line s fields) ≡ first_kind (tests s (Some End) fields)
-unfolding has_double
+unfolding stands_twice
 end_table s [] = end_by (lacks_row s) (is_narrow s) _
 end_table s (more ∷ rest) = refl
 

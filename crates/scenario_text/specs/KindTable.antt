@@ -1,5 +1,5 @@
 -- Where a line has each kind of fault, as a table: the first kind whose test holds decides.
-use Rattle.std.specs.Prelude.{ℕ, ◌≡◌, ◌-◌, ◌*◌, Bool, true, false, not, ◌&&◌, ◌||◌, ◌==◌, nat_lt, nat_le, if◌then◌else◌, List, [], ◌∷◌, ◌++◌, map, length, Option, Some, None, is_none, is_some, sum_by, Result, Ok, Err, codes}
+use Rattle.std.specs.Prelude.{ℕ, ◌≡◌, ◌-◌, ◌*◌, Bool, true, false, not, ◌&&◌, ◌||◌, ◌==◌, nat_lt, nat_le, if◌then◌else◌, List, [], ◌∷◌, ◌++◌, length, Option, Some, None, is_none, is_some, sum_by, Result, Ok, Err, codes}
 use Rattle.std.specs.List.{list_all, list_any}
 use Rattle.search_model.specs.Names.{is_name_byte}
 use Rattle.scenario_text.specs.declared.draft.Stage.{Stage}
@@ -7,7 +7,7 @@ use Rattle.scenario_text.specs.declared.draft.Stage.TheVariants as due
 use Rattle.scenario_text.specs.declared.kind.TextKind.{TextKind}
 use Rattle.scenario_text.specs.declared.kind.TextKind.TheVariants.{NotText, BadLine, BadNumber, OverLimit, UnknownName, DoubleName, MissingRow, DoubleRow, WrongSum, PartOver, NoMove, TooWide}
 use Rattle.scenario_text.specs.Lines.{fields_of}
-use Rattle.scenario_text.specs.Fields.{is_text_byte, says_nothing, is_word, number_at, is_bad, is_over, number_in, cell_named, has_double, are_pairs}
+use Rattle.scenario_text.specs.Fields.{is_text_byte, says_nothing, is_word, number_at, is_bad, is_over, number_in, cell_named, are_pairs}
 use Rattle.scenario_text.specs.State.{State}
 use Rattle.scenario_text.specs.Reading.{has_moves, has_parts, has_overlook, lacks_row, is_narrow, line_at}
 
@@ -166,6 +166,11 @@ names_once Moves fields = behind_first fields
 names_once Drift fields = pair_names (behind_first fields)
 names_once _ fields = []
 
+-- a name stands twice
+unfoldable pub stands_twice : List (List ℕ) → Bool
+stands_twice [] = false
+stands_twice (name ∷ others) = list_any (λ other. is_word other name) others || stands_twice others
+
 -- the test holds of the cell that the first field names
 abbrev pub holds_of : Option ℕ → (ℕ → Bool) → Bool
 holds_of None test = false
@@ -210,7 +215,7 @@ has_unknown s line fields = list_any (λ f. is_none (cell_named s.names f)) (cel
 -- a `cell` line repeats a name, or one stands twice in a line where it may stand once
 abbrev pub has_double_name : State → Line → List (List ℕ) → Bool
 has_double_name s Cell fields = list_any (λ f. is_some (cell_named s.names f)) fields
-has_double_name s line fields = has_double (map (cell_named s.names) (names_once line fields))
+has_double_name s line fields = stands_twice (names_once line fields)
 
 -- at the end a cell lacks a row
 abbrev pub has_missing_row : State → Line → Bool
