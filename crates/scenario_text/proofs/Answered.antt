@@ -1,6 +1,6 @@
 -- What the answer of a reader says of the text.
-use Rattle.std.proofs.Common.{◌≡◌, ℕ, ◌+◌, Bool, true, false, List, [], ◌∷◌, length, Option, Some, None, Result, Ok, Err, refl, sym, ap, subst, ◌∙◌, arith, ◌⊎◌, inl, inr, true≢false}
-use Rattle.std.specs.Prelude.{not, ◌||◌, nat_lt}
+use Rattle.std.proofs.Common.{◌≡◌, ℕ, Bool, true, false, List, [], ◌∷◌, length, Option, Some, None, Result, Ok, Err, refl, sym, ap, subst, ◌∙◌, arith, ◌⊎◌, inl, inr, true≢false}
+use Rattle.std.specs.Prelude.{not, nat_lt}
 use Rattle.std.specs.List.{list_all, list_any}
 use Rattle.std.proofs.lemmas.Bool.{cond_both, or_parts}
 use Rattle.search_model.specs.Problem.{Problem}
@@ -13,7 +13,7 @@ use Rattle.scenario_text.specs.declared.stop.TextStop.TheVariants.{Fault, NoMemo
 use Rattle.scenario_text.specs.Lines.{after_lines, fields_of}
 use Rattle.scenario_text.specs.Fields.{is_text_byte, says_nothing}
 use Rattle.scenario_text.specs.State.{State}
-use Rattle.scenario_text.specs.Reading.{Front, line_at, front_of, alone, alone_of}
+use Rattle.scenario_text.specs.Reading.{Front, line_at, alone}
 use Rattle.scenario_text.specs.KindTable.{Line, line_due, first_kind, tests, tests_of, kind_by_table, fault_of}
 use Rattle.scenario_text.specs.Faults.{IsFirstFault, IsRest, IsFirstFaultAlone}
 use Rattle.scenario_text.specs.Scenarios.{Says, IsFront, IsTextOf, ReadsFront, ReadsAlone}

@@ -1,5 +1,5 @@
 -- The fault that reading gives is the first one.
-use Rattle.std.proofs.Common.{◌≡◌, ℕ, ◌+◌, Bool, true, false, List, [], ◌∷◌, ◌++◌, length, Option, Some, None, Result, Ok, Err, refl, sym, ap, subst, ◌∙◌, arith, ◌⊎◌, inl, inr}
+use Rattle.std.proofs.Common.{◌≡◌, ℕ, ◌+◌, true, false, List, [], ◌∷◌, ◌++◌, length, Option, Some, None, Result, Ok, Err, refl, sym, ap, subst, ◌∙◌, arith, ◌⊎◌, inl, inr}
 use Rattle.std.specs.Prelude.{All}
 use Rattle.std.specs.List.{list_all}
 use Rattle.std.proofs.lemmas.Bool.{cond_both}
@@ -9,13 +9,12 @@ use Rattle.scenario_text.specs.declared.draft.Stage.TheVariants as due
 use Rattle.scenario_text.specs.declared.kind.TextKind.{TextKind}
 use Rattle.scenario_text.specs.declared.kind.TextKind.TheVariants.{EarlyEnd, Rest}
 use Rattle.scenario_text.specs.declared.kind.TextFault.{TextFault}
-use Rattle.scenario_text.specs.Lines.{lines_of, after_lines, is_blank, fields_of}
+use Rattle.scenario_text.specs.Lines.{lines_of, after_lines, is_blank}
 use Rattle.scenario_text.specs.State.{State, blank_state}
 use Rattle.scenario_text.specs.Reading.{Front, line_at, lines_at, go_on, unless_ended, front_of, first_said, unless_more, alone, alone_of}
-use Rattle.scenario_text.specs.Faults.{AreTaken, IsWrongLine, HasFault, IsFaultFrom, IsFirstFault, IsRest, IsFirstFaultAlone}
+use Rattle.scenario_text.specs.Faults.{AreTaken, HasFault, IsFaultFrom, IsRest, IsFirstFaultAlone}
 use Rattle.scenario_text.specs.ReadingLaws.{SilentLinesAddNothing, FirstFaultDecides, FirstFaultDecidesAlone}
 use Rattle.scenario_text.proofs.Loop.{at_fault, at_line, said_next, said_here}
-use Rattle.scenario_text.proofs.SoundFields.{err_ok}
 
 pub silent_lines_add_nothing : SilentLinesAddNothing
 unfolding line_at

@@ -1,15 +1,15 @@
 -- A grid says what lines of cells and of moves say.
-use Rattle.std.proofs.Common.{◌≡◌, ℕ, ◌+◌, ◌*◌, ◌<◌, ◌≤◌, Bool, true, false, cond, List, [], ◌∷◌, ◌++◌, map, length, get_or, set, replicate, Option, Some, None, Result, Ok, Err, refl, sym, ap, ◌∙◌, subst, arith, inl, inr, ◌⊎◌}
-use Rattle.std.specs.Prelude.{codes, not, ◌&&◌, ◌||◌, ◌==◌, nat_lt, is_none, is_some, unwrap_or, slice_index_or}
+use Rattle.std.proofs.Common.{◌≡◌, ℕ, ◌+◌, ◌*◌, ◌<◌, ◌≤◌, Bool, true, false, cond, List, [], ◌∷◌, ◌++◌, map, length, set, replicate, Option, Some, None, Result, Ok, Err, refl, sym, ap, ◌∙◌, subst, arith, inl, inr, ◌⊎◌}
+use Rattle.std.specs.Prelude.{codes, not, ◌||◌, ◌==◌, nat_lt, is_none, is_some, unwrap_or}
 use Rattle.std.specs.Fmt.{decimal}
 use Rattle.std.specs.List.{range_with_len, list_all, list_any}
-use Rattle.std.proofs.lemmas.Bool.{le-ltb, lt-ltb, ltb-false, eqb-true, eq-eqb, or_parts, cond_both}
+use Rattle.std.proofs.lemmas.Bool.{le-ltb, lt-ltb, ltb-false, or_parts, cond_both}
 use Rattle.std.proofs.lemmas.Nat.{mul-le}
 use Rattle.std.proofs.lemmas.List.{length-map, length-replicate, get_or-replicate}
 use Rattle.std.proofs.lemmas.List.Elements.{All-get_or}
-use Rattle.std.proofs.lemmas.List.FromFn.{fill_by_all, length-map-range_with_len, get_or-map-range_with_len}
+use Rattle.std.proofs.lemmas.List.FromFn.{fill_by_all, length-map-range_with_len}
 use Rattle.drift_chain.specs.declared.part.DriftPart.{DriftPart}
-use Rattle.search_grid.specs.Moves.{moves_from, IsMoveRow}
+use Rattle.search_grid.specs.Moves.{IsMoveRow}
 use Rattle.search_grid.specs.Sides.{moves_beside, side_moves}
 use Rattle.search_grid.proofs.Beside.{IsGrid-from_sides, side_moves_from}
 use Rattle.search_model.specs.Names.{IsName, name_in}
@@ -211,17 +211,17 @@ moves_read s rows cols some_row some_col few =
     let first : rows_due s rows cols (replicate n []) ≡ after 0 = ap (rows_due s rows cols) (filled-none of [] n (replicate n []) (length-replicate n []) (λ k lt. get_or-replicate n k [] [] lt)) in
     let last : after n ≡ rows_due s rows cols (side_moves rows cols) = ap (rows_due s rows cols) (filled-all of [] n) in
     let takes : (k : ℕ) → k < n → Takes (after k) (row k) (after (k + 1)) = λ k lt.
-        let moves : IsMoveRow n (of k) = subst (λ (m : ℕ). IsMoveRow m (of k)) long (subst (IsMoveRow (length (side_moves rows cols))) (side_moves_from rows cols k lt) (grid.each k (omega (arith, lt, long)))) in
-        let short : length (map (name_in names) (of k)) ≡ length (of k) = length-map (of k) (name_in names) in
-        let room = le-ltb 64 (length (map (name_in names) (of k))) (omega (arith, moves.few)) in
-        let known = names_found names n found (of k) moves.within in
-        let own = found k lt in
-        record {
-          fields = (word (codes "moves") (omega arith) refl, (field k lt, AreFields-named names n field (of k) moves.within));
-          says = refl;
-          taken = rw (room, own, known) (with_moves-taken (after k) k n (of k) moves (filled-open of [] n k lt)
-            ∙ ap (λ (xs : List (List ℕ)). Ok (rows_due s rows cols xs)) (filled-next of [] n k lt));
-        } in
+    let moves : IsMoveRow n (of k) = subst (λ (m : ℕ). IsMoveRow m (of k)) long (subst (IsMoveRow (length (side_moves rows cols))) (side_moves_from rows cols k lt) (grid.each k (omega (arith, lt, long)))) in
+    let short : length (map (name_in names) (of k)) ≡ length (of k) = length-map (of k) (name_in names) in
+    let room = le-ltb 64 (length (map (name_in names) (of k))) (omega (arith, moves.few)) in
+    let known = names_found names n found (of k) moves.within in
+    let own = found k lt in
+    record {
+      fields = (word (codes "moves") (omega arith) refl, (field k lt, AreFields-named names n field (of k) moves.within));
+      says = refl;
+      taken = rw (room, own, known) (with_moves-taken (after k) k n (of k) moves (filled-open of [] n k lt)
+          ∙ ap (λ (xs : List (List ℕ)). Ok (rows_due s rows cols xs)) (filled-next of [] n k lt));
+    } in
     subst (λ (u : State). AreTaken u (move_lines rows cols) (rows_due s rows cols (side_moves rows cols))) (sym first)
     (subst (AreTaken (after 0) (move_lines rows cols)) last (taken_range n 0 n row after (omega arith) takes (λ k. unended_rows due.Rows refl)))
 
@@ -262,8 +262,7 @@ behind_start s t rows cols n first some_row some_col few taken done =
       | inr said ↦
           let reached : record b { stage = due.Rows; first = said.0 } ≡ t = sym said.1 ∙ taken.3 in
           let plain_end = record b { gridded = false; stage = due.Rows; first = said.0 } in
-          let moves = moves_read plain_end rows cols some_row some_col few in
-          (
+          let moves = moves_read plain_end rows cols some_row some_col few in (
             record plain_end { moves = none },
             said.2,
             unended_rows due.Rows refl,
@@ -287,8 +286,7 @@ behind_cells s t rows cols start first some_row some_col few taken done =
             | inr set ↦ absurd (let bad : due.First ≡ due.Rows = ap (λ (x : State). x.stage) (sym set.1 ∙ taken.3.3) ∙ done in let false_end : ⊥ = cc in false_end)
           ]
       | inr set ↦
-          let rest : AreTaken (record a { stage = due.First; start = set.0 }) (first ∷ []) t = subst (λ (x : State). AreTaken x (first ∷ []) t) set.1 taken.3 in
-          (
+          let rest : AreTaken (record a { stage = due.First; start = set.0 }) (first ∷ []) t = subst (λ (x : State). AreTaken x (first ∷ []) t) set.1 taken.3 in (
             record (plain a none) { stage = due.First; start = set.0 },
             set.2,
             λ e. let bad : ⊥ = cc in bad,

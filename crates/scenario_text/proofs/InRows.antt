@@ -1,9 +1,9 @@
 -- The shorthands say what lines of rows say.
-use Rattle.std.proofs.Common.{◌≡◌, ℕ, zero, suc, ◌+◌, ◌-◌, ◌*◌, ◌<◌, ◌≤◌, Bool, true, false, cond, List, [], ◌∷◌, map, length, get_or, set, replicate, Option, Some, None, Ok, refl, sym, ap, ◌∙◌, subst, arith, inl, inr, ◌⊎◌}
-use Rattle.std.specs.Prelude.{All, codes, ◌==◌, nat_lt, is_some, is_none, unwrap_or, count_by, sum_by, slice_index_or}
+use Rattle.std.proofs.Common.{◌≡◌, ℕ, zero, suc, ◌+◌, ◌-◌, ◌*◌, ◌<◌, ◌≤◌, true, false, cond, List, [], ◌∷◌, map, length, get_or, set, replicate, Option, Some, None, Ok, refl, sym, ap, ◌∙◌, subst, arith, inl, inr, ◌⊎◌}
+use Rattle.std.specs.Prelude.{All, codes, ◌==◌, nat_lt, is_some, count_by}
 use Rattle.std.specs.Fmt.{decimal}
-use Rattle.std.specs.List.{range_with_len, list_any, join_with_byte}
-use Rattle.std.proofs.lemmas.Bool.{le-ltb, lt-ltb, ltb-false, eqb-true, eq-eqb, ne_eqb, cases_eq, cases_Bool, false_from_ne_true, or_parts}
+use Rattle.std.specs.List.{range_with_len, list_any}
+use Rattle.std.proofs.lemmas.Bool.{le-ltb, lt-ltb, ltb-false, eq-eqb, ne_eqb, cases_eq, false_from_ne_true}
 use Rattle.std.proofs.lemmas.List.{length-replicate, get_or-replicate}
 use Rattle.std.proofs.lemmas.List.Elements.{All-get_or}
 use Rattle.std.proofs.lemmas.List.FromFn.{fill_by_all, get_or-map-range_with_len}
@@ -13,13 +13,13 @@ use Rattle.search_grid.specs.Moves.{moves_from}
 use Rattle.search_model.specs.Names.{IsName, name_in}
 use Rattle.scenario_text.specs.declared.draft.Stage.{Stage}
 use Rattle.scenario_text.specs.declared.draft.Stage.TheVariants as due
-use Rattle.scenario_text.specs.Fields.{stands_in, has_double, cell_named}
+use Rattle.scenario_text.specs.Fields.{stands_in, has_double}
 use Rattle.scenario_text.specs.Grids.{spread_row, spread_rows}
 use Rattle.scenario_text.specs.State.{State}
-use Rattle.scenario_text.specs.Reading.{stage_line, line_at}
+use Rattle.scenario_text.specs.Reading.{stage_line}
 use Rattle.scenario_text.specs.Sound.{AreEntries, AreMoves, IsSound}
 use Rattle.scenario_text.specs.Faults.{AreTaken}
-use Rattle.scenario_text.specs.InRows.{line_text, for_each, entry_fields, drift_of, overlook_of, RateInRows, SpreadInRows}
+use Rattle.scenario_text.specs.InRows.{line_text, for_each, drift_of, overlook_of, RateInRows, SpreadInRows}
 use Rattle.scenario_text.proofs.Joined.{IsField, AreFields}
 use Rattle.scenario_text.proofs.FieldTexts.{IsField-name, IsField-decimal, AreFields-entries}
 use Rattle.scenario_text.proofs.HeadLines.{word}
@@ -93,14 +93,14 @@ rate_in_rows s t part came at few e =
     let made : record s { overlook = replicate n (Some part) } ≡ t = cc in
     let last : after n ≡ t = ap (λ (xs : List (Option ℕ)). record s { overlook = xs }) (sym full) ∙ made in
     let takes : (k : ℕ) → k < n → Takes (after k) (row k) (after (k + 1)) = λ k lt.
-        let found = named_at s.names h.differ k lt in
-        record {
-          fields = (word (codes "overlook") (omega arith) refl, (field_in s h k lt, (IsField-decimal part (omega (arith, few)), tt)));
-          says = refl;
-          taken = ap (λ (g : Stage). stage_line g (after k) (row k)) at
-            ∙ rw (number, found, least) (with_overlook-taken (after k) k part le (filled-open (λ c. Some part) None n k lt)
-            ∙ ap (λ (xs : List (Option ℕ)). Ok (record s { overlook = xs })) (filled-next (λ c. Some part) None n k lt));
-        } in
+    let found = named_at s.names h.differ k lt in
+    record {
+      fields = (word (codes "overlook") (omega arith) refl, (field_in s h k lt, (IsField-decimal part (omega (arith, few)), tt)));
+      says = refl;
+      taken = ap (λ (g : Stage). stage_line g (after k) (row k)) at
+          ∙ rw (number, found, least) (with_overlook-taken (after k) k part le (filled-open (λ c. Some part) None n k lt)
+          ∙ ap (λ (xs : List (Option ℕ)). Ok (record s { overlook = xs })) (filled-next (λ c. Some part) None n k lt));
+    } in
     subst (λ (u : State). AreTaken u (for_each n row) t) (sym first)
     (subst (AreTaken (after 0) (for_each n row)) last (taken_range n 0 n row after (omega arith) takes (λ k. unended_rows s.stage at)))
 
@@ -185,17 +185,17 @@ spread_in_rows s t part came at few e =
     let made : record s { parts = spread_rows s.drift part s.moves } ≡ t = cc in
     let last : after n ≡ t = ap (λ (xs : List (List DriftPart)). record s { parts = xs }) (sym long) ∙ made in
     let takes : (k : ℕ) → k < n → Takes (after k) (row k) (after (k + 1)) = λ k lt.
-        let found = named_at s.names h.differ k lt in
-        let are = spread_entries s part h gridded.0 narrow.0 k lt in
-        let small = small_of n s.drift 1000000 (of k) are limits.1 in
-        let pairs = pairs_of-named s.names n (named_at s.names h.differ) (of k) are.within small in
-        let even = are_pairs-named s.names (of k) (some_of n s.drift (of k) are limits.0) in
-        record {
-          fields = (word (codes "drift") (omega arith) refl, (field_in s h k lt, AreFields-entries s.names n (field_in s h) (of k) are.within small));
-          says = refl;
-          taken = ap (λ (g : Stage). stage_line g (after k) (row k)) at
-            ∙ rw (even, found, pairs) (with_parts-taken (after k) k (map said (of k)) (of k) (entries_said n s.drift (of k) are) (filled-open of [] n k lt)
-            ∙ ap (λ (xs : List (List DriftPart)). Ok (record s { parts = xs })) (filled-next of [] n k lt));
-        } in
+    let found = named_at s.names h.differ k lt in
+    let are = spread_entries s part h gridded.0 narrow.0 k lt in
+    let small = small_of n s.drift 1000000 (of k) are limits.1 in
+    let pairs = pairs_of-named s.names n (named_at s.names h.differ) (of k) are.within small in
+    let even = are_pairs-named s.names (of k) (some_of n s.drift (of k) are limits.0) in
+    record {
+      fields = (word (codes "drift") (omega arith) refl, (field_in s h k lt, AreFields-entries s.names n (field_in s h) (of k) are.within small));
+      says = refl;
+      taken = ap (λ (g : Stage). stage_line g (after k) (row k)) at
+          ∙ rw (even, found, pairs) (with_parts-taken (after k) k (map said (of k)) (of k) (entries_said n s.drift (of k) are) (filled-open of [] n k lt)
+          ∙ ap (λ (xs : List (List DriftPart)). Ok (record s { parts = xs })) (filled-next of [] n k lt));
+    } in
     subst (λ (u : State). AreTaken u (for_each n row) t) (sym first)
     (subst (AreTaken (after 0) (for_each n row)) last (taken_range n 0 n row after (omega arith) takes (λ k. unended_rows s.stage at)))

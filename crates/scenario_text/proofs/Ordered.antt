@@ -1,5 +1,5 @@
 -- A list in ascending order of a key.
-use Rattle.std.proofs.Common.{◌≡◌, ℕ, ◌+◌, ◌<◌, ◌≤◌, Bool, true, false, cond, List, [], ◌∷◌, ◌++◌, map, length, refl, ap, ◌∙◌, subst, arith, inl, inr}
+use Rattle.std.proofs.Common.{◌≡◌, ℕ, ◌+◌, ◌<◌, ◌≤◌, cond, List, [], ◌∷◌, map, refl, ◌∙◌, arith, inl, inr}
 use Rattle.std.specs.Prelude.{◌==◌, nat_lt, All, count_by}
 use Rattle.std.specs.List.Sorted.{IsPermutation}
 use Rattle.std.proofs.lemmas.Bool.{cases_Bool, cases_eq, eq-eqb, ne_eqb, ltb-true, ltb-false}
@@ -56,6 +56,7 @@ module _ {X : Type 0} (key : X → ℕ) where
     where
       less : (m n : ℕ) → m ≤ n → (m ≡ n → ⊥) → m < n
       less m n le other = elim (cases_eq m n) [ inl same ↦ absurd (other same) | inr apart ↦ omega (arith, le, apart) ]
+
       unmapped : (P : ℕ → Type 0) (zs : List X) → All P (map key zs) → All (λ z. P (key z)) zs
       unmapped P [] all = All-nil (λ z. P (key z))
       unmapped P (z ∷ zs) all = All-cons (λ z. P (key z)) z zs (All-head P (key z) (map key zs) all) (unmapped P zs (All-tail P (key z) (map key zs) all))

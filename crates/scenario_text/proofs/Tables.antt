@@ -14,12 +14,11 @@ use Rattle.scenario_text.specs.declared.draft.Stage.{Stage}
 use Rattle.scenario_text.specs.declared.draft.Stage.TheVariants as due
 use Rattle.scenario_text.specs.declared.kind.TextKind.{TextKind}
 use Rattle.scenario_text.specs.declared.kind.TextKind.TheVariants.{NotText, BadLine, BadNumber, OverLimit, UnknownName, DoubleName, MissingRow, DoubleRow, WrongSum, PartOver, NoMove, TooWide}
-use Rattle.scenario_text.specs.declared.pair.Pair.{Pair}
 use Rattle.scenario_text.specs.Lines.{fields_of}
-use Rattle.scenario_text.specs.Fields.{is_text_byte, says_nothing, is_word, number_at, is_bad, is_over, number_in, cell_named, stands_in, has_double, are_pairs, pairs_of, entries_of, total_of, pairs_fault}
+use Rattle.scenario_text.specs.Fields.{is_text_byte, says_nothing, is_word, number_at, is_bad, is_over, number_in, cell_named, stands_in, has_double, are_pairs, pairs_of, total_of}
 use Rattle.scenario_text.specs.State.{State}
-use Rattle.scenario_text.specs.Reading.{version_line, with_horizon, horizon_line, with_parts, parts_line, cell_line, with_grid, with_start, start_line, cells_line, unless_fault, with_first, first_pairs, first_line, has_moves, has_parts, has_overlook, with_moves, moves_line, unknown_after, drift_pairs, drift_line, overlook_part, overlook_line, with_spread, spread_line, with_rate, rate_line, lacks_row, is_narrow, end_line, row_line, stage_line, line_at}
-use Rattle.scenario_text.specs.KindTable.{Line, Scenario, Horizon, Parts, Cell, Grid, Start, First, Moves, Drift, Overlook, Spread, Rate, End, head_due, row_due, line_due, behind_first, pair_names, pair_parts, stands_twice, holds_of, is_bad_line, first_kind, tests, tests_of, fault_of, KindsByTable}
+use Rattle.scenario_text.specs.Reading.{version_line, horizon_line, parts_line, cell_line, with_grid, with_start, start_line, cells_line, unless_fault, first_pairs, first_line, has_moves, has_parts, has_overlook, with_moves, moves_line, unknown_after, drift_pairs, drift_line, overlook_part, overlook_line, spread_line, rate_line, lacks_row, is_narrow, end_line, row_line, stage_line, line_at}
+use Rattle.scenario_text.specs.KindTable.{Line, Scenario, Horizon, Parts, Cell, Grid, Start, First, Moves, Drift, Overlook, Spread, Rate, End, row_due, line_due, pair_names, pair_parts, stands_twice, holds_of, is_bad_line, first_kind, tests, tests_of, fault_of, KindsByTable}
 use Rattle.scenario_text.proofs.SoundFields.{list_any-map, sum_by-map}
 
 -- the kinds in their order, by what the tests give
@@ -325,6 +324,7 @@ cells_table s word (rows ∷ cols ∷ []) =
     grid_due false false = refl
     grid_due true true = bad_count s (rows ∷ cols ∷ []) (is_word word (codes "start")) Start None refl refl
     grid_due false true = bad_count s (rows ∷ cols ∷ []) (is_word word (codes "start")) Start None refl refl
+
     not_cell : (cell : Bool) → is_word word (codes "cell") ≡ cell → (named : Bool) → fault_of (cond (is_word word (codes "grid") && not named) (with_grid s (number_at 200 rows) (number_at 200 cols)) (Err BadLine)) ≡ first_kind (tests s (cond cell (Some Cell) (cond named (cond (is_word word (codes "start")) (Some Start) None) (cond (is_word word (codes "grid")) (Some Grid) None))) (rows ∷ cols ∷ []))
     not_cell true is named = rw (apart word (codes "cell") (codes "grid") refl is) refl
     not_cell false is named = grid_due (is_word word (codes "grid")) named
@@ -362,7 +362,7 @@ moves_table s (name ∷ moves) = own (cell_named s.names name)
 -- the pairs of a row of drift, by its cell
 drift_pairs_table : (s : State) (c : Option ℕ) (fields : List (List ℕ)) → fault_of (drift_pairs s c fields)
     ≡ table_of (not (are_pairs fields) || false) (list_any (λ f. is_bad 1 (number_at 1000000 f)) (pair_parts fields)) (list_any (λ f. is_over (number_at 1000000 f)) (pair_parts fields) || false) (is_none c || list_any (λ f. is_none (cell_named s.names f)) (pair_names fields))
-        (stands_twice (pair_names fields)) false (holds_of c (has_parts s)) (not (sum_by (λ f. number_in (number_at 1000000 f)) (pair_parts fields) == s.drift)) false false false
+    (stands_twice (pair_names fields)) false (holds_of c (has_parts s)) (not (sum_by (λ f. number_in (number_at 1000000 f)) (pair_parts fields) == s.drift)) false false false
 drift_pairs_table s None fields =
     let pairs = pairs_of s.names fields in
     unknown_by (are_pairs fields) (list_any (λ x. is_bad 1 x.part) pairs) (list_any (λ x. is_over x.part) pairs) (list_any (λ x. is_none x.cell) pairs) (has_double (map (λ x. x.cell) pairs)) false (not (total_of pairs == s.drift))

@@ -50,7 +50,7 @@ abbrev pub GridInRows : Type 0
 GridInRows = (s t : State) (rows cols : ℕ) (start first : List ℕ) → IsReached s → s.stage ≡ due.Cells → s.names ≡ [] → rows ≤ 200 → cols ≤ 200 →
     AreTaken s (line_text (codes "grid" ∷ decimal rows ∷ decimal cols ∷ []) ∷ start ∷ first ∷ []) t → t.stage ≡ due.Rows →
     AreTaken s (for_each (rows * cols) (cell_of cols) ++ start ∷ first ∷ for_each (rows * cols) (λ c. moves_of (grid_names rows cols) c (moves_beside rows cols c)))
-        (record t { gridded = false })
+    (record t { gridded = false })
 
 -- behind the moves of its cells a line that is right without the grid's mark is right with it, too, and adds the same
 abbrev pub GridReadsOn : Type 0

@@ -3,7 +3,7 @@ use Rattle.std.specs.Prelude.{◌≡◌, ℕ, List, ◌++◌, length, Ok}
 use Rattle.search_model.specs.Problem.{Problem, IsProblem}
 use Rattle.scenario_text.specs.Reading.{Front, front_of}
 use Rattle.scenario_text.specs.State.{State}
-use Rattle.scenario_text.specs.Canonical.{canonical_text, state_of_problem, front_of_problem}
+use Rattle.scenario_text.specs.Canonical.{canonical_text, state_of_problem}
 use Rattle.scenario_text.specs.Scenarios.{Says, IsFront, IsTextOf}
 
 -- what was read is one problem
