@@ -11,7 +11,7 @@ use Rattle.drift_chain.specs.declared.part.DriftPart.{DriftPart}
 use Rattle.search_model.specs.Names.{IsName, is_name_byte, name_in}
 use Rattle.search_model.specs.Problem.{Problem, IsProblem, cell_name}
 use Rattle.scenario_text.specs.Canonical.{pair_fields}
-use Rattle.scenario_text.specs.InRows.{entry_fields}
+use Rattle.scenario_text.specs.RowFields.{entry_fields}
 use Rattle.scenario_text.proofs.Joined.{is_field_byte, IsField, AreFields, list_all-weaker}
 
 name_byte_is_field : (c : ℕ) → is_name_byte c ≡ true → is_field_byte c ≡ true

@@ -25,7 +25,8 @@ use Rattle.scenario_text.specs.State.{State}
 use Rattle.scenario_text.specs.Reading.{with_cells, with_start, start_line, cells_line, unless_fault, with_first, first_line, has_moves, has_parts, has_overlook, with_moves, moves_line, unknown_after, with_parts_of, drift_line, with_overlook, overlook_line, spread_part, spread_line, rate_line, lacks_row, is_narrow, end_line, row_line, stage_line, line_at}
 use Rattle.scenario_text.specs.Sound.{IsSound}
 use Rattle.scenario_text.specs.Faults.{AreTaken}
-use Rattle.scenario_text.specs.InRows.{line_text, for_each, cell_of, moves_of, GridInRows, GridReadsOn}
+use Rattle.scenario_text.specs.InRows.{line_text, for_each, GridInRows, GridReadsOn}
+use Rattle.scenario_text.specs.RowFields.{cell_row, moves_of}
 use Rattle.scenario_text.proofs.Joined.{IsField, AreFields}
 use Rattle.scenario_text.proofs.FieldTexts.{IsField-name, IsField-decimal, AreFields-named}
 use Rattle.scenario_text.proofs.GridNames.{grid_name-new}
@@ -86,7 +87,7 @@ none_yet s cols h at none =
 next_name : (s : State) (cols k : ℕ) → with_names (after_names s cols k) due.Cells false (map (grid_name cols) (range_with_len 0 k) ++ grid_name cols k ∷ []) (map (λ c. []) (range_with_len 0 k) ++ [] ∷ []) (map (λ c. []) (range_with_len 0 k) ++ [] ∷ []) (map (λ c. None) (range_with_len 0 k) ++ None ∷ []) ≡ after_names s cols (k + 1)
 next_name s cols k = rw (next_of (grid_name cols) k (grid_name cols k) refl, next_of {X = List ℕ} (λ c. []) k [] refl, next_of {X = List DriftPart} (λ c. []) k [] refl, next_of {X = Option ℕ} (λ c. None) k None refl) refl
 
-Takes-grid_name : (s : State) (cols k : ℕ) → 1 ≤ cols → k < 200 → Takes (after_names s cols k) (cell_of cols k) (after_names s cols (k + 1))
+Takes-grid_name : (s : State) (cols k : ℕ) → 1 ≤ cols → k < 200 → Takes (after_names s cols k) (cell_row (grid_name cols k)) (after_names s cols (k + 1))
 Takes-grid_name s cols k some few =
     let long : length (map (grid_name cols) (range_with_len 0 k)) ≡ k = length-map-range_with_len (grid_name cols) 0 k in
     let name = IsName-grid cols k some few in
@@ -100,12 +101,12 @@ all_named : (s : State) (rows cols : ℕ) → after_names s cols (rows * cols) �
 all_named s rows cols =
     rw (same_to {X = List ℕ} [] (rows * cols), same_to {X = List DriftPart} [] (rows * cols), same_to {X = Option ℕ} None (rows * cols)) refl
 
-cells_read : (s : State) (rows cols : ℕ) → IsSound s → s.stage ≡ due.Cells → s.names ≡ [] → 1 ≤ cols → rows * cols ≤ 200 → AreTaken s (for_each (rows * cols) (cell_of cols)) (plain (with_cells s rows cols) (replicate (rows * cols) []))
+cells_read : (s : State) (rows cols : ℕ) → IsSound s → s.stage ≡ due.Cells → s.names ≡ [] → 1 ≤ cols → rows * cols ≤ 200 → AreTaken s (for_each (rows * cols) (λ c. cell_row (grid_name cols c))) (plain (with_cells s rows cols) (replicate (rows * cols) []))
 cells_read s rows cols h at none some few =
-    let lines = for_each (rows * cols) (cell_of cols) in
+    let lines = for_each (rows * cols) (λ c. cell_row (grid_name cols c)) in
     subst (λ (u : State). AreTaken u lines (plain (with_cells s rows cols) (replicate (rows * cols) []))) (sym (none_yet s cols h at none))
     (subst (AreTaken (after_names s cols 0) lines) (all_named s rows cols)
-    (taken_range (rows * cols) 0 (rows * cols) (cell_of cols) (after_names s cols) (omega arith) (λ k lt. Takes-grid_name s cols k some (omega (arith, lt, few))) (λ k e. let bad : ⊥ = cc in bad)))
+    (taken_range (rows * cols) 0 (rows * cols) (λ c. cell_row (grid_name cols c)) (after_names s cols) (omega arith) (λ k lt. Takes-grid_name s cols k some (omega (arith, lt, few))) (λ k e. let bad : ⊥ = cc in bad)))
 
 -- The lines of the start and of the first parts.
 
@@ -300,7 +301,7 @@ grid_in_rows s t rows cols start first came at none few_rows few_cols taken done
     let g = grid_read s taken.0 rows cols at none few_rows few_cols taken.1 in
     let n = rows * cols in
     let behind : AreTaken (with_cells s rows cols) (start ∷ first ∷ []) t = subst (λ (x : State). AreTaken x (start ∷ first ∷ []) t) g.made taken.3 in
-    taken_behind (for_each n (cell_of cols)) (start ∷ first ∷ move_lines rows cols) s (plain (with_cells s rows cols) (replicate n [])) (record t { gridded = false })
+    taken_behind (for_each n (λ c. cell_row (grid_name cols c))) (start ∷ first ∷ move_lines rows cols) s (plain (with_cells s rows cols) (replicate n [])) (record t { gridded = false })
     (cells_read s rows cols h at none g.some_col g.few) (behind_cells s t rows cols start first g.some_row g.some_col g.few behind done)
 
 -- Behind the moves the mark of a grid only lets `spread` in.

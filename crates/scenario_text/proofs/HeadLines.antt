@@ -17,7 +17,8 @@ use Rattle.scenario_text.specs.declared.pair.Pair.{Pair}
 use Rattle.scenario_text.specs.State.{State, blank_state}
 use Rattle.scenario_text.specs.Fields.{cell_named}
 use Rattle.scenario_text.specs.Reading.{cell_line, with_name, with_first}
-use Rattle.scenario_text.specs.Canonical.{cell_row, first_entries, pair_fields}
+use Rattle.scenario_text.specs.Canonical.{first_entries, pair_fields}
+use Rattle.scenario_text.specs.RowFields.{cell_row}
 use Rattle.scenario_text.proofs.Joined.{is_field_byte, IsField}
 use Rattle.scenario_text.proofs.FieldTexts.{IsField-decimal, IsField-cell_name, AreFields-pairs}
 use Rattle.scenario_text.proofs.NamesApart.{cell_named-at, cell_named-next, names_all}

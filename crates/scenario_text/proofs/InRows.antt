@@ -19,7 +19,8 @@ use Rattle.scenario_text.specs.State.{State}
 use Rattle.scenario_text.specs.Reading.{stage_line}
 use Rattle.scenario_text.specs.Sound.{AreEntries, AreMoves, IsSound}
 use Rattle.scenario_text.specs.Faults.{AreTaken}
-use Rattle.scenario_text.specs.InRows.{line_text, for_each, drift_of, overlook_of, RateInRows, SpreadInRows}
+use Rattle.scenario_text.specs.InRows.{line_text, for_each, RateInRows, SpreadInRows}
+use Rattle.scenario_text.specs.RowFields.{drift_of, overlook_of}
 use Rattle.scenario_text.proofs.Joined.{IsField, AreFields}
 use Rattle.scenario_text.proofs.FieldTexts.{IsField-name, IsField-decimal, AreFields-entries}
 use Rattle.scenario_text.proofs.HeadLines.{word}

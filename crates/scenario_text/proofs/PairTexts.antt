@@ -15,7 +15,7 @@ use Rattle.search_model.specs.Problem.{Problem, IsProblem}
 use Rattle.scenario_text.specs.declared.pair.Pair.{Pair}
 use Rattle.scenario_text.specs.Fields.{cell_named, pairs_of, pairs_fault, entries_of, total_of, are_pairs, has_double, number_at, is_bad, is_over}
 use Rattle.scenario_text.specs.Canonical.{pair_fields}
-use Rattle.scenario_text.specs.InRows.{entry_fields}
+use Rattle.scenario_text.specs.RowFields.{entry_fields}
 use Rattle.scenario_text.proofs.Ascending.{Rises-from_increasing, has_double-rising}
 use Rattle.scenario_text.proofs.NamesApart.{cell_named-at}
 

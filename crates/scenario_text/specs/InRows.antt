@@ -1,16 +1,15 @@
 -- What the lines `grid`, `spread` and `rate` stand for: lines with the rows of each cell.
 use Rattle.std.specs.Prelude.{ℕ, ◌≡◌, ◌*◌, ◌≤◌, true, false, List, [], ◌∷◌, ◌++◌, map, length, codes, Ok}
-use Rattle.std.specs.List.{flat_map, join_with_byte, range_with_len}
+use Rattle.std.specs.List.{join_with_byte, range_with_len}
 use Rattle.std.specs.Fmt.{decimal}
-use Rattle.drift_chain.specs.declared.part.DriftPart.{DriftPart}
 use Rattle.search_grid.specs.Moves.{moves_from}
 use Rattle.search_grid.specs.Sides.{moves_beside}
-use Rattle.search_model.specs.Names.{name_in}
 use Rattle.scenario_text.specs.declared.draft.Stage.TheVariants as due
 use Rattle.scenario_text.specs.Grids.{grid_name, grid_names, spread_row}
 use Rattle.scenario_text.specs.State.{State, blank_state}
 use Rattle.scenario_text.specs.Reading.{line_at}
 use Rattle.scenario_text.specs.Faults.{AreTaken}
+use Rattle.scenario_text.specs.RowFields.{cell_row, moves_of, drift_of, overlook_of}
 
 -- fields with one blank between
 abbrev pub line_text : List (List ℕ) → List ℕ
@@ -19,26 +18,6 @@ line_text fields = join_with_byte 32 fields
 -- a line for each of so many cells, in order of number
 abbrev pub for_each : ℕ → (ℕ → List (List ℕ)) → List (List ℕ)
 for_each cells row = map (λ c. line_text (row c)) (range_with_len 0 cells)
-
--- `NAME PART NAME PART ..`
-abbrev pub entry_fields : List (List ℕ) → List DriftPart → List (List ℕ)
-entry_fields names entries = flat_map (λ e. name_in names e.cell ∷ decimal e.part ∷ []) entries
-
--- `cell NAME` of a cell of a grid
-abbrev pub cell_of : ℕ → ℕ → List (List ℕ)
-cell_of cols c = codes "cell" ∷ grid_name cols c ∷ []
-
--- `moves NAME NAME ..` of a cell
-abbrev pub moves_of : List (List ℕ) → ℕ → List ℕ → List (List ℕ)
-moves_of names c moves = codes "moves" ∷ name_in names c ∷ map (name_in names) moves
-
--- `drift NAME NAME PART ..` of a cell
-abbrev pub drift_of : List (List ℕ) → ℕ → List DriftPart → List (List ℕ)
-drift_of names c entries = codes "drift" ∷ name_in names c ∷ entry_fields names entries
-
--- `overlook NAME PART` of a cell
-abbrev pub overlook_of : List (List ℕ) → ℕ → ℕ → List (List ℕ)
-overlook_of names c part = codes "overlook" ∷ name_in names c ∷ decimal part ∷ []
 
 -- some right lines say this
 abbrev pub IsReached : State → Type 0
@@ -49,7 +28,7 @@ IsReached s = (lines : List (List ℕ)) × AreTaken blank_state lines s
 abbrev pub GridInRows : Type 0
 GridInRows = (s t : State) (rows cols : ℕ) (start first : List ℕ) → IsReached s → s.stage ≡ due.Cells → s.names ≡ [] → rows ≤ 200 → cols ≤ 200 →
     AreTaken s (line_text (codes "grid" ∷ decimal rows ∷ decimal cols ∷ []) ∷ start ∷ first ∷ []) t → t.stage ≡ due.Rows →
-    AreTaken s (for_each (rows * cols) (cell_of cols) ++ start ∷ first ∷ for_each (rows * cols) (λ c. moves_of (grid_names rows cols) c (moves_beside rows cols c)))
+    AreTaken s (for_each (rows * cols) (λ c. cell_row (grid_name cols c)) ++ start ∷ first ∷ for_each (rows * cols) (λ c. moves_of (grid_names rows cols) c (moves_beside rows cols c)))
     (record t { gridded = false })
 
 -- behind the moves of its cells a line that is right without the grid's mark is right with it, too, and adds the same

@@ -12,6 +12,7 @@ pub mod ReadingLaws
 pub mod Scenarios
 pub mod Gives
 pub mod Scanning
+pub mod RowFields
 pub mod Canonical
 pub mod Laws
 pub mod Printing
