@@ -44,14 +44,14 @@ module _ (s : State) (h : IsSound s) (ended : s.stage ≡ Ended) where
       let some = none_pass (λ (r : List DriftPart). length r == 0) s.parts (or_parts (list_any (λ (r : List DriftPart). length r == 0) s.parts) _ rest).0 k row lt in
       not_empty (AreEntries (length s.names) s.drift) _ some (h.parts k row lt)
 
-  some_cell : 1 ≤ length s.names
+  pub some_cell : 1 ≤ length s.names
   some_cell = let start = h.start (reached s.stage Ended 4 ended (omega arith)) in omega (arith, start)
 
-  moves_of : (c : ℕ) → c < length s.moves → AreMoves (length s.names) (moves_from s.moves c)
+  pub moves_of : (c : ℕ) → c < length s.moves → AreMoves (length s.names) (moves_from s.moves c)
   unfolding moves_from
   moves_of c lt = all_moves c [] lt
 
-  parts_at : (c : ℕ) → c < length s.parts → AreEntries (length s.names) s.drift (parts_from s.parts c)
+  pub parts_at : (c : ℕ) → c < length s.parts → AreEntries (length s.names) s.drift (parts_from s.parts c)
   unfolding parts_from
   parts_at c lt = all_parts c [] lt
 

@@ -8,9 +8,10 @@ use Rattle.std.proofs.lemmas.List.Elements.{All-head, All-tail, All-get_or, All-
 use Rattle.std.proofs.lemmas.List.Sums.{list_all-from_AllPass}
 use Rattle.exact_parts.proofs.Decimals.{some-decimal, All-decimal}
 use Rattle.drift_chain.specs.declared.part.DriftPart.{DriftPart}
-use Rattle.search_model.specs.Names.{IsName, is_name_byte}
+use Rattle.search_model.specs.Names.{IsName, is_name_byte, name_in}
 use Rattle.search_model.specs.Problem.{Problem, IsProblem, cell_name}
 use Rattle.scenario_text.specs.Canonical.{pair_fields}
+use Rattle.scenario_text.specs.RowFields.{entry_fields}
 use Rattle.scenario_text.proofs.Joined.{is_field_byte, IsField, AreFields, list_all-weaker}
 
 name_byte_is_field : (c : ℕ) → is_name_byte c ≡ true → is_field_byte c ≡ true
@@ -31,18 +32,27 @@ IsField-decimal n small = record {
   bytes = list_all-from_AllPass is_field_byte (decimal n) (All-weaker (IsInRange 48 57) (λ c. is_field_byte c ≡ true) digit_is_field (decimal n) (All-decimal n small));
 }
 
--- the names of some cells
-pub AreFields-names : (p : Problem) → IsProblem p → (cs : List ℕ) → All (λ c. c < p.cells) cs → AreFields (map (cell_name p) cs)
-AreFields-names p h [] within = tt
-AreFields-names p h (c ∷ cs) within = (IsField-cell_name p h c (All-head (λ c. c < p.cells) c cs within), AreFields-names p h cs (All-tail (λ c. c < p.cells) c cs within))
+-- where so many cells have names
+module _ (names : List (List ℕ)) (cells : ℕ) (field : (c : ℕ) → c < cells → IsField (name_in names c)) where
+  -- the names of some
+  pub AreFields-named : (cs : List ℕ) → All (λ c. c < cells) cs → AreFields (map (name_in names) cs)
+  AreFields-named [] within = tt
+  AreFields-named (c ∷ cs) within = (field c (All-head (λ c. c < cells) c cs within), AreFields-named cs (All-tail (λ c. c < cells) c cs within))
 
--- the pairs of some entries
+  -- the pairs of some entries
+  pub AreFields-entries : (es : List DriftPart) → All (λ e. e.cell < cells) es → All (λ e. e.part ≤ 1000000) es → AreFields (entry_fields names es)
+  AreFields-entries [] within small = tt
+  AreFields-entries (e ∷ es) within small = (
+    field e.cell (All-head (λ e. e.cell < cells) e es within),
+    (
+      IsField-decimal e.part (omega (arith, All-head (λ e. e.part ≤ 1000000) e es small)),
+      AreFields-entries es (All-tail (λ e. e.cell < cells) e es within) (All-tail (λ e. e.part ≤ 1000000) e es small),
+    ),
+  )
+
+-- the names of some cells of a problem, and the pairs of some entries
+pub AreFields-names : (p : Problem) → IsProblem p → (cs : List ℕ) → All (λ c. c < p.cells) cs → AreFields (map (cell_name p) cs)
+AreFields-names p h = AreFields-named p.names p.cells (IsField-cell_name p h)
+
 pub AreFields-pairs : (p : Problem) → IsProblem p → (es : List DriftPart) → All (λ e. e.cell < p.cells) es → All (λ e. e.part ≤ 1000000) es → AreFields (pair_fields p es)
-AreFields-pairs p h [] within small = tt
-AreFields-pairs p h (e ∷ es) within small = (
-  IsField-cell_name p h e.cell (All-head (λ e. e.cell < p.cells) e es within),
-  (
-    IsField-decimal e.part (omega (arith, All-head (λ e. e.part ≤ 1000000) e es small)),
-    AreFields-pairs p h es (All-tail (λ e. e.cell < p.cells) e es within) (All-tail (λ e. e.part ≤ 1000000) e es small),
-  ),
-)
+AreFields-pairs p h = AreFields-entries p.names p.cells (IsField-cell_name p h)

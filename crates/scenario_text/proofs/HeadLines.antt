@@ -17,7 +17,8 @@ use Rattle.scenario_text.specs.declared.pair.Pair.{Pair}
 use Rattle.scenario_text.specs.State.{State, blank_state}
 use Rattle.scenario_text.specs.Fields.{cell_named}
 use Rattle.scenario_text.specs.Reading.{cell_line, with_name, with_first}
-use Rattle.scenario_text.specs.Canonical.{cell_row, first_entries, pair_fields}
+use Rattle.scenario_text.specs.Canonical.{first_entries, pair_fields}
+use Rattle.scenario_text.specs.RowFields.{cell_row}
 use Rattle.scenario_text.proofs.Joined.{is_field_byte, IsField}
 use Rattle.scenario_text.proofs.FieldTexts.{IsField-decimal, IsField-cell_name, AreFields-pairs}
 use Rattle.scenario_text.proofs.NamesApart.{cell_named-at, cell_named-next, names_all}
@@ -87,7 +88,7 @@ Takes-parts p h =
     }
 
 -- a new name behind those that were read
-cell_line-taken : (s : State) (name : List ℕ) → IsName name → length s.names < 200 → cell_named s.names name ≡ None → cell_line s name ≡ Ok (with_name s name)
+pub cell_line-taken : (s : State) (name : List ℕ) → IsName name → length s.names < 200 → cell_named s.names name ≡ None → cell_line s name ≡ Ok (with_name s name)
 cell_line-taken s name h few new =
     let short = le-ltb 24 (length name) h.short in
     let room = lt-leb 200 (length s.names) few in
@@ -95,7 +96,7 @@ cell_line-taken s name h few new =
     rw (bytes, short, room, new) refl
 
 -- the next of some, behind the others
-next_of : {X : Type 0} (f : ℕ → X) (k : ℕ) (x : X) → f k ≡ x → map f (range_with_len 0 k) ++ x ∷ [] ≡ map f (range_with_len 0 (k + 1))
+pub next_of : {X : Type 0} (f : ℕ → X) (k : ℕ) (x : X) → f k ≡ x → map f (range_with_len 0 k) ++ x ∷ [] ≡ map f (range_with_len 0 (k + 1))
 next_of {X} f k x e = ap (λ (y : X). map f (range_with_len 0 k) ++ y ∷ []) (sym e) ∙ sym (map-range_with_len_more f 0 k k (omega arith))
 
 next_named : (p : Problem) (k : ℕ) → with_name (after_cells p k) (cell_name p k) ≡ after_cells p (k + 1)

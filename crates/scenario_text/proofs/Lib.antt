@@ -34,3 +34,10 @@ pub mod Places
 pub mod Faultless
 pub mod Assembled
 pub mod FrontLines
+pub mod FirstFaults
+pub mod Tables
+pub mod Answered
+pub mod InRows
+pub mod GridRows
+pub mod Ordered
+pub mod OneScenario

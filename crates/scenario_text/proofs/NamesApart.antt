@@ -18,17 +18,24 @@ names_apart names differ j k below within same =
     let at : get_or (take k names) j (name_in names k) ≡ get_or names j (name_in names k) = get_or-take k names j (name_in names k) below in
     differ k (within, (j, omega arith, at ∙ get_or_default names j (name_in names k) [] (omega arith) ∙ same))
 
--- a problem's names
-module _ (p : Problem) (h : IsProblem p) where
+-- names of which none is repeated
+module _ (names : List (List ℕ)) (differ : (c : ℕ) → ¬ IsRepeated names c) where
   -- that of an earlier cell is another
-  other_name : (j k : ℕ) → j < k → k < p.cells → bytes_eq (cell_name p k) (cell_name p j) ≡ false
-  other_name j k below within =
-      false_from_ne_true _ (λ e. names_apart p.names h.names_differ j k below (omega (arith, h.names_length)) (sym ((bytes_eq-Decides (cell_name p k) (cell_name p j)).0 e)))
+  pub named_before : (j k : ℕ) → j < k → k < length names → bytes_eq (name_in names k) (name_in names j) ≡ false
+  named_before j k below within = false_from_ne_true _ (λ e. names_apart names differ j k below within (sym ((bytes_eq-Decides (name_in names k) (name_in names j)).0 e)))
 
   -- a name is that of its number
+  pub named_at : (c : ℕ) → c < length names → cell_named names (name_in names c) ≡ Some c
+  named_at c lt =
+      position-first (bytes_eq (name_in names c)) names c [] lt (λ k below. named_before k c below lt) ((bytes_eq-Decides (name_in names c) (name_in names c)).1 refl)
+
+-- a problem's names
+module _ (p : Problem) (h : IsProblem p) where
+  other_name : (j k : ℕ) → j < k → k < p.cells → bytes_eq (cell_name p k) (cell_name p j) ≡ false
+  other_name j k below within = named_before p.names h.names_differ j k below (omega (arith, h.names_length))
+
   pub cell_named-at : (c : ℕ) → c < p.cells → cell_named p.names (cell_name p c) ≡ Some c
-  cell_named-at c lt =
-      position-first (bytes_eq (cell_name p c)) p.names c [] (omega (arith, h.names_length)) (λ k below. other_name k c below lt) ((bytes_eq-Decides (cell_name p c) (cell_name p c)).1 refl)
+  cell_named-at c lt = named_at p.names h.names_differ c (omega (arith, h.names_length))
 
   -- the first k of them
   abbrev these : ℕ → List (List ℕ)

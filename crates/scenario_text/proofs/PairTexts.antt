@@ -10,10 +10,12 @@ use Rattle.exact_parts.specs.declared.number.Number.TheVariants.{Of}
 use Rattle.exact_parts.proofs.Decimals.{plain-decimal, value-decimal}
 use Rattle.drift_chain.specs.declared.part.DriftPart.{DriftPart}
 use Rattle.drift_chain.specs.DriftRows.{IsDriftRow}
+use Rattle.search_model.specs.Names.{name_in}
 use Rattle.search_model.specs.Problem.{Problem, IsProblem}
 use Rattle.scenario_text.specs.declared.pair.Pair.{Pair}
-use Rattle.scenario_text.specs.Fields.{pairs_of, pairs_fault, entries_of, total_of, are_pairs, has_double, number_at, is_bad, is_over}
+use Rattle.scenario_text.specs.Fields.{cell_named, pairs_of, pairs_fault, entries_of, total_of, are_pairs, has_double, number_at, is_bad, is_over}
 use Rattle.scenario_text.specs.Canonical.{pair_fields}
+use Rattle.scenario_text.specs.RowFields.{entry_fields}
 use Rattle.scenario_text.proofs.Ascending.{Rises-from_increasing, has_double-rising}
 use Rattle.scenario_text.proofs.NamesApart.{cell_named-at}
 
@@ -28,13 +30,16 @@ number_at-decimal most n le wide =
 abbrev pub said : DriftPart → Pair
 said e = record { cell = Some e.cell; part = Of e.part }
 
-pub pairs_of-entries : (p : Problem) → IsProblem p → (es : List DriftPart) → All (λ e. e.cell < p.cells) es → All (λ e. e.part ≤ 1000000) es → pairs_of p.names (pair_fields p es) ≡ map said es
+pub pairs_of-named : (names : List (List ℕ)) (cells : ℕ) → ((c : ℕ) → c < cells → cell_named names (name_in names c) ≡ Some c) → (es : List DriftPart) → All (λ e. e.cell < cells) es → All (λ e. e.part ≤ 1000000) es → pairs_of names (entry_fields names es) ≡ map said es
 unfolding pairs_of
-pairs_of-entries p h [] within small = refl
-pairs_of-entries p h (e ∷ es) within small =
-    let cell = cell_named-at p h e.cell (All-head (λ e. e.cell < p.cells) e es within) in
+pairs_of-named names cells found [] within small = refl
+pairs_of-named names cells found (e ∷ es) within small =
+    let cell = found e.cell (All-head (λ e. e.cell < cells) e es within) in
     let part = number_at-decimal 1000000 e.part (All-head (λ e. e.part ≤ 1000000) e es small) (omega arith) in
-    rw (cell, part, pairs_of-entries p h es (All-tail (λ e. e.cell < p.cells) e es within) (All-tail (λ e. e.part ≤ 1000000) e es small)) refl
+    rw (cell, part, pairs_of-named names cells found es (All-tail (λ e. e.cell < cells) e es within) (All-tail (λ e. e.part ≤ 1000000) e es small)) refl
+
+pub pairs_of-entries : (p : Problem) → IsProblem p → (es : List DriftPart) → All (λ e. e.cell < p.cells) es → All (λ e. e.part ≤ 1000000) es → pairs_of p.names (pair_fields p es) ≡ map said es
+pairs_of-entries p h = pairs_of-named p.names p.cells (cell_named-at p h)
 
 none_bad : (es : List DriftPart) → All (λ e. 1 ≤ e.part) es → list_any (λ x. is_bad 1 x.part) (map said es) ≡ false
 none_bad [] positive = refl
@@ -61,9 +66,9 @@ entries_said (e ∷ es) = ap (λ (xs : List DriftPart). e ∷ xs) (entries_said 
 total_said : (es : List DriftPart) → total_of (map said es) ≡ sum_by (λ e. e.part) es
 total_said es = ap (λ (xs : List DriftPart). sum_by (λ e. e.part) xs) (entries_said es)
 
-length-pair_fields : (p : Problem) (es : List DriftPart) → length (pair_fields p es) ≡ 2 * length es
-length-pair_fields p [] = refl
-length-pair_fields p (e ∷ es) = let rest = length-pair_fields p es in omega arith
+length-entry_fields : (names : List (List ℕ)) (es : List DriftPart) → length (entry_fields names es) ≡ 2 * length es
+length-entry_fields names [] = refl
+length-entry_fields names (e ∷ es) = let rest = length-entry_fields names es in omega arith
 
 -- a row in order, with a denominator within the limits, passes each test of its pairs
 pub record IsSaid (denominator : ℕ) (es : List DriftPart) (pairs : List Pair) : Type 0 where
@@ -71,26 +76,33 @@ pub record IsSaid (denominator : ℕ) (es : List DriftPart) (pairs : List Pair) 
   pub total : total_of pairs ≡ denominator
   pub entries : entries_of pairs ≡ es
 
-pub IsSaid-row : (denominator cells : ℕ) (es : List DriftPart) → IsDriftRow denominator cells es → IsSaid denominator es (map said es)
-IsSaid-row denominator cells es row =
-    let double : has_double (map (λ x. x.cell) (map said es)) ≡ false = ap has_double (cells_said es) ∙ has_double-rising (map (λ e. e.cell) es) (Rises-from_increasing (map (λ e. e.cell) es) row.ascending) in
+-- entries for different cells with positive parts
+pub IsSaid-by : (denominator : ℕ) (es : List DriftPart) → All (λ e. 1 ≤ e.part) es → has_double (map Some (map (λ e. e.cell) es)) ≡ false → sum_by (λ e. e.part) es ≡ denominator → IsSaid denominator es (map said es)
+IsSaid-by denominator es positive differ total =
+    let double : has_double (map (λ x. x.cell) (map said es)) ≡ false = ap has_double (cells_said es) ∙ differ in
     record {
-      faultless = rw (none_bad es row.positive, none_over es, none_unknown es, double) refl;
-      total = total_said es ∙ row.total;
+      faultless = rw (none_bad es positive, none_over es, none_unknown es, double) refl;
+      total = total_said es ∙ total;
       entries = entries_said es;
     }
+
+pub IsSaid-row : (denominator cells : ℕ) (es : List DriftPart) → IsDriftRow denominator cells es → IsSaid denominator es (map said es)
+IsSaid-row denominator cells es row = IsSaid-by denominator es row.positive (has_double-rising (map (λ e. e.cell) es) (Rises-from_increasing (map (λ e. e.cell) es) row.ascending)) row.total
 
 -- it isn't empty
 pub some_entry : (denominator cells : ℕ) (es : List DriftPart) → IsDriftRow denominator cells es → 1 ≤ denominator → 0 < length es
 some_entry denominator cells [] row low = absurd (omega (arith, row.total))
 some_entry denominator cells (e ∷ es) row low = omega arith
 
-pub are_pairs-entries : (p : Problem) (es : List DriftPart) → 0 < length es → are_pairs (pair_fields p es) ≡ true
-are_pairs-entries p es some =
-    let long = length-pair_fields p es in
-    let two = le-leb 2 (length (pair_fields p es)) (omega arith) in
-    let even = eq-eqb (length (pair_fields p es) % 2) 0 (omega arith) in
+pub are_pairs-named : (names : List (List ℕ)) (es : List DriftPart) → 0 < length es → are_pairs (entry_fields names es) ≡ true
+are_pairs-named names es some =
+    let long = length-entry_fields names es in
+    let two = le-leb 2 (length (entry_fields names es)) (omega arith) in
+    let even = eq-eqb (length (entry_fields names es) % 2) 0 (omega arith) in
     rw (two, even) refl
+
+pub are_pairs-entries : (p : Problem) (es : List DriftPart) → 0 < length es → are_pairs (pair_fields p es) ≡ true
+are_pairs-entries p es some = are_pairs-named p.names es some
 
 -- and no part exceeds the denominator
 pub parts_within : (denominator cells most : ℕ) (es : List DriftPart) → IsDriftRow denominator cells es → denominator ≤ most → All (λ e. e.part ≤ most) es

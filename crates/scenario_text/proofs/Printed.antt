@@ -12,7 +12,8 @@ use Rattle.drift_chain.specs.declared.part.DriftPart.{DriftPart}
 use Rattle.search_grid.specs.Moves.{moves_from}
 use Rattle.drift_chain.specs.DriftRows.{row_of}
 use Rattle.search_model.specs.Problem.{Problem, IsProblem, first_of, cell_name}
-use Rattle.scenario_text.specs.Canonical.{first_entries, pair_fields, canonical_text, table_rows, moves_row, drift_row, overlook_row, cell_row}
+use Rattle.scenario_text.specs.Canonical.{first_entries, pair_fields, canonical_text, table_rows, moves_row, drift_row, overlook_row}
+use Rattle.scenario_text.specs.RowFields.{cell_row}
 use Rattle.scenario_text.proofs.Appending.{IsThree}
 use Rattle.scenario_text.specs.Printing.{line_of, name_text, entry_text, first_text, moves_text, drift_text, overlook_text, cell_text, chance_text, head_text, front_text, rows_text}
 

@@ -10,6 +10,7 @@ use Rattle.drift_chain.specs.declared.part.DriftPart.{DriftPart}
 use Rattle.drift_chain.specs.DriftRows.{row_of, IsDriftRow}
 use Rattle.search_grid.specs.Moves.{moves_from, IsMoveRow}
 use Rattle.sweep_table.specs.LookParts.{factor_of}
+use Rattle.search_model.specs.Names.{name_in}
 use Rattle.search_model.specs.Problem.{Problem, IsProblem, cell_name, position_name}
 use Rattle.scenario_text.specs.declared.draft.Stage.TheVariants.{Rows}
 use Rattle.scenario_text.specs.declared.pair.Pair.{Pair}
@@ -43,7 +44,7 @@ after_rows p i j k = record {
 }
 
 -- whether a cell is among the first k, but for the next one, doesn't change with k
-among_more : (c k : ℕ) → (c ≡ k → ⊥) → nat_lt c k ≡ nat_lt c (k + 1)
+pub among_more : (c k : ℕ) → (c ≡ k → ⊥) → nat_lt c k ≡ nat_lt c (k + 1)
 among_more c k other =
     elim (cases_order c k) [
       | inl same ↦ absurd (other same)
@@ -53,11 +54,14 @@ among_more c k other =
 
 -- Moves.
 
+pub names_found : (names : List (List ℕ)) (cells : ℕ) → ((c : ℕ) → c < cells → cell_named names (name_in names c) ≡ Some c) → (cs : List ℕ) → All (λ c. c < cells) cs → map (cell_named names) (map (name_in names) cs) ≡ map Some cs
+names_found names cells found [] within = refl
+names_found names cells found (c ∷ cs) within =
+    let head = found c (All-head (λ c. c < cells) c cs within) in
+    rw head (ap (λ (xs : List (Option ℕ)). Some c ∷ xs) (names_found names cells found cs (All-tail (λ c. c < cells) c cs within)))
+
 names_known : (p : Problem) → IsProblem p → (cs : List ℕ) → All (λ c. c < p.cells) cs → map (cell_named p.names) (map (cell_name p) cs) ≡ map Some cs
-names_known p h [] within = refl
-names_known p h (c ∷ cs) within =
-    let head = cell_named-at p h c (All-head (λ c. c < p.cells) c cs within) in
-    rw head (ap (λ (xs : List (Option ℕ)). Some c ∷ xs) (names_known p h cs (All-tail (λ c. c < p.cells) c cs within)))
+names_known p h = names_found p.names p.cells (cell_named-at p h)
 
 none_unknown : (cs : List ℕ) → list_any (λ m. is_none m) (map Some cs) ≡ false
 none_unknown [] = refl
@@ -67,7 +71,7 @@ numbers_of : (cs : List ℕ) → map (λ m. unwrap_or m 0) (map Some cs) ≡ cs
 numbers_of [] = refl
 numbers_of (c ∷ cs) = ap (λ (xs : List ℕ). c ∷ xs) (numbers_of cs)
 
-with_moves-taken : (s : State) (c positions : ℕ) (row : List ℕ) → IsMoveRow positions row → slice_index_or s.moves c [] ≡ [] → with_moves s (Some c) (map Some row) ≡ Ok (record s { moves = set s.moves c row })
+pub with_moves-taken : (s : State) (c positions : ℕ) (row : List ℕ) → IsMoveRow positions row → slice_index_or s.moves c [] ≡ [] → with_moves s (Some c) (map Some row) ≡ Ok (record s { moves = set s.moves c row })
 unfolding moves_from
 with_moves-taken s c positions row h before =
     let unknown = none_unknown row in
@@ -103,7 +107,7 @@ Takes-moves p h i j k lt =
 
 -- Drift rows.
 
-with_parts-taken : (s : State) (c : ℕ) (pairs : List Pair) (es : List DriftPart) → IsSaid s.drift es pairs → slice_index_or s.parts c [] ≡ [] → with_parts_of s (Some c) pairs ≡ Ok (record s { parts = set s.parts c es })
+pub with_parts-taken : (s : State) (c : ℕ) (pairs : List Pair) (es : List DriftPart) → IsSaid s.drift es pairs → slice_index_or s.parts c [] ≡ [] → with_parts_of s (Some c) pairs ≡ Ok (record s { parts = set s.parts c es })
 with_parts-taken s c pairs es h before =
     let total = eq-eqb _ _ h.total in
     rw (h.faultless, before, total, h.entries) refl
@@ -134,7 +138,7 @@ Takes-drift p h i j k lt =
 
 -- Overlook parts.
 
-with_overlook-taken : (s : State) (c part : ℕ) → part ≤ s.look → slice_index_or s.overlook c None ≡ None → with_overlook s (Some c) part ≡ Ok (record s { overlook = set s.overlook c (Some part) })
+pub with_overlook-taken : (s : State) (c part : ℕ) → part ≤ s.look → slice_index_or s.overlook c None ≡ None → with_overlook s (Some c) part ≡ Ok (record s { overlook = set s.overlook c (Some part) })
 with_overlook-taken s c part le before =
     let fits = le-ltb s.look part le in
     rw (before, fits) refl

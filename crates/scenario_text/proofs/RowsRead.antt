@@ -1,5 +1,5 @@
 -- Rows that are taken one after the other.
-use Rattle.std.proofs.Common.{◌≡◌, ℕ, zero, suc, ◌+◌, ◌<◌, false, List, [], ◌∷◌, ◌++◌, length, map, Ok, ap, ◌∙◌, subst, arith, append_assoc}
+use Rattle.std.proofs.Common.{◌≡◌, ℕ, zero, suc, ◌+◌, ◌<◌, false, List, [], ◌∷◌, ◌++◌, length, map, Ok, refl, ap, ◌∙◌, subst, arith, append_assoc}
 use Rattle.std.specs.List.{range_with_len, join_with_byte}
 use Rattle.exact_parts.specs.Rows.{text_of}
 use Rattle.scenario_text.specs.declared.draft.Stage.TheVariants.{Ended}
@@ -22,9 +22,12 @@ pub record Reads (s : State) (rows : List (List (List ℕ))) (t : State) : Type 
   pub cut : (rest : List ℕ) → after_lines (length rows) (text_of rows ++ rest) ≡ rest
 
 -- a row is read as its fields
-line_at-row : (s t : State) (row : List (List ℕ)) → Takes s row t → line_at s (join_with_byte 32 row) ≡ Ok t
+pub line_at-fields : (s : State) (row : List (List ℕ)) → AreFields row → says_nothing row ≡ false → line_at s (join_with_byte 32 row) ≡ stage_line s.stage s row
 unfolding line_at
-line_at-row s t row h = rw (fields_of-join row h.fields, h.says, row_is_text row h.fields) h.taken
+line_at-fields s row fields says = rw (fields_of-join row fields, says, row_is_text row fields) refl
+
+pub line_at-row : (s t : State) (row : List (List ℕ)) → Takes s row t → line_at s (join_with_byte 32 row) ≡ Ok t
+line_at-row s t row h = line_at-fields s row h.fields h.says ∙ h.taken
 
 -- the first row is the first line
 lines_of-first : (row : List (List ℕ)) (rows : List (List (List ℕ))) (rest : List ℕ) → AreFields row → lines_of (text_of (row ∷ rows) ++ rest) ≡ join_with_byte 32 row ∷ lines_of (text_of rows ++ rest)

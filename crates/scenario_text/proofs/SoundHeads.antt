@@ -42,7 +42,7 @@ settled_on a b t total d g past h = record {
   look = λ _. h.look past;
 }
 
-no_grid : (a b : Stage) (g : Bool) → a ≡ b → (b ≡ Start → ⊥) → place_of b < 4 → (g ≡ true → (a ≡ Start) ⊎ (4 ≤ place_of a)) → g ≡ true → ⊥
+pub no_grid : (a b : Stage) (g : Bool) → a ≡ b → (b ≡ Start → ⊥) → place_of b < 4 → (g ≡ true → (a ≡ Start) ⊎ (4 ≤ place_of a)) → g ≡ true → ⊥
 no_grid a b g e other early h is = elim (h is) [
   | inl start ↦ other (sym e ∙ start)
   | inr past ↦ not_reached a b 4 e early past

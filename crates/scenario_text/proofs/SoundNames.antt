@@ -52,7 +52,7 @@ row_small c (suc k) some small = let parts = div-add-mod c (suc k) in omega (ari
 column_small : (c k : ℕ) → c < 200 → c % k ≤ 200
 column_small c k small = let parts = div-add-mod c k in omega (arith, parts)
 
-IsName-grid : (cols c : ℕ) → 1 ≤ cols → c < 200 → IsName (grid_name cols c)
+pub IsName-grid : (cols c : ℕ) → 1 ≤ cols → c < 200 → IsName (grid_name cols c)
 IsName-grid cols c some small =
     let row = row_small c cols some small in
     let column = column_small c cols small in

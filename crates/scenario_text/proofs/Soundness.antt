@@ -1,5 +1,5 @@
 -- Each line keeps what holds of all that lines give.
-use Rattle.std.proofs.Common.{◌≡◌, ℕ, ◌≤◌, List, [], ◌∷◌, length, Ok, refl, arith, ◌⊎◌}
+use Rattle.std.proofs.Common.{◌≡◌, ℕ, ◌≤◌, List, [], ◌∷◌, length, Ok, refl, subst, arith, ◌⊎◌}
 use Rattle.std.specs.Prelude.{not, All, codes}
 use Rattle.std.specs.List.{list_all}
 use Rattle.std.proofs.lemmas.List.Elements.{All-nil}
@@ -12,6 +12,8 @@ use Rattle.scenario_text.specs.Fields.{is_text_byte, is_word, says_nothing}
 use Rattle.scenario_text.specs.State.{State, blank_state}
 use Rattle.scenario_text.specs.Reading.{moves_line, drift_line, overlook_line, spread_line, rate_line, end_line, row_line, stage_line, line_at}
 use Rattle.scenario_text.specs.Sound.{AreEntries, AreMoves, IsPart, IsSound}
+use Rattle.scenario_text.specs.Faults.{AreTaken}
+use Rattle.scenario_text.specs.InRows.{IsReached}
 use Rattle.scenario_text.proofs.Words.{fields_some}
 use Rattle.scenario_text.proofs.SoundFields.{err_ok, not_refused}
 use Rattle.scenario_text.proofs.SoundHeads.{sound_ok, reached, by_word, version_sound, horizon_sound, parts_sound, cells_sound, start_sound, first_sound}
@@ -64,3 +66,11 @@ unfolding line_at
 line_sound s t line h e =
     by_word (says_nothing (fields_of line)) (Ok s) _ t (λ same. sound_ok s t same h)
     (λ e'. stage_sound s.stage s (fields_of line) t refl h (fields_some line) ((not_refused (not (list_all is_text_byte line)) NotText (stage_line s.stage s (fields_of line)) t e').1)) e
+
+-- and so what some right lines say
+pub taken_sound : (lines : List (List ℕ)) (s t : State) → IsSound s → AreTaken s lines t → IsSound t
+taken_sound [] s t h taken = subst IsSound taken h
+taken_sound (line ∷ lines) s t h taken = taken_sound lines taken.0 t (line_sound s taken.0 line h taken.1) taken.3
+
+pub reached_sound : (s : State) → IsReached s → IsSound s
+reached_sound s reached = taken_sound reached.0 blank_state s blank_sound reached.1

@@ -7,31 +7,29 @@ use Rattle.drift_chain.specs.declared.part.DriftPart.{DriftPart}
 use Rattle.drift_chain.specs.DriftRows.{row_of}
 use Rattle.search_grid.specs.Moves.{moves_from}
 use Rattle.sweep_table.specs.LookParts.{factor_of}
-use Rattle.search_model.specs.Problem.{Problem, first_of, cell_name, position_name}
+use Rattle.search_model.specs.Problem.{Problem, first_of, position_name}
 use Rattle.scenario_text.specs.declared.draft.Stage.TheVariants.{Ended}
 use Rattle.scenario_text.specs.State.{State}
 use Rattle.scenario_text.specs.Reading.{Front}
+use Rattle.scenario_text.specs.RowFields.{entry_fields, cell_row, moves_of, drift_of, overlook_of}
 
 -- `NAME PART NAME PART ..`
 abbrev pub pair_fields : Problem → List DriftPart → List (List ℕ)
-pair_fields p entries = flat_map (λ e. cell_name p e.cell ∷ decimal e.part ∷ []) entries
+pair_fields p entries = entry_fields p.names entries
 
 -- the cells with a positive first part, ascending
 abbrev pub first_entries : Problem → List DriftPart
 first_entries p = flat_map (λ c. if first_of p c == 0 then [] else record { cell = c; part = first_of p c } ∷ []) (range_with_len 0 p.cells)
 
-abbrev pub cell_row : List ℕ → List (List ℕ)
-cell_row name = codes "cell" ∷ name ∷ []
-
 abbrev pub moves_row : Problem → ℕ → List (List ℕ)
-moves_row p q = codes "moves" ∷ position_name p q ∷ map (position_name p) (moves_from p.moves q)
+moves_row p q = moves_of p.names q (moves_from p.moves q)
 
 abbrev pub drift_row : Problem → ℕ → List (List ℕ)
-drift_row p c = codes "drift" ∷ cell_name p c ∷ pair_fields p (row_of p.drift 1 c)
+drift_row p c = drift_of p.names c (row_of p.drift 1 c)
 
 -- the overlook part of a position is the factor at its own cell
 abbrev pub overlook_row : Problem → ℕ → List (List ℕ)
-overlook_row p q = codes "overlook" ∷ position_name p q ∷ decimal (factor_of p.sweep 1 q q) ∷ []
+overlook_row p q = overlook_of p.names q (factor_of p.sweep 1 q q)
 
 -- the rows of all cells, and the end
 abbrev pub table_rows : Problem → List (List (List ℕ))

@@ -43,3 +43,21 @@ ReadsDraft text (Err text_stops.NoMemory) = Unit {0}
 abbrev pub stop_at : ℕ → LineStop → TextStop
 stop_at number (line_stops.Fault kind) = text_stops.Fault (record { line = number; kind = kind })
 stop_at number line_stops.NoMemory = text_stops.NoMemory
+
+-- this was read, unless memory ran out
+abbrev pub Answers : {X : Type 0} → Result X TextStop → X → Type 0
+Answers (Ok read) x = read ≡ x
+Answers (Err (text_stops.Fault fault)) x = ⊥
+Answers (Err text_stops.NoMemory) x = Unit {0}
+
+-- this fault was told, unless memory ran out
+abbrev pub Tells : {X : Type 0} → Result X TextStop → TextFault → Type 0
+Tells (Ok read) fault = ⊥
+Tells (Err (text_stops.Fault told)) fault = told ≡ fault
+Tells (Err text_stops.NoMemory) fault = Unit {0}
+
+-- this holds of a fault that was told
+abbrev pub IfFault : {X : Type 0} → Result X TextStop → (TextFault → Type 0) → Type 0
+IfFault (Ok read) P = Unit {0}
+IfFault (Err (text_stops.Fault told)) P = P told
+IfFault (Err text_stops.NoMemory) P = Unit {0}

@@ -1,5 +1,5 @@
 -- What the shorthands stand for: the cells of a grid of rows and columns, and the drift to side neighbours.
-use Rattle.std.specs.Prelude.{ℕ, ◌-◌, ◌*◌, ◌/◌, ◌%◌, ◌==◌, nat_lt, if◌then◌else◌, List, ◌∷◌, [], ◌++◌, map, length, filter}
+use Rattle.std.specs.Prelude.{ℕ, ◌-◌, ◌*◌, ◌/◌, ◌%◌, ◌==◌, nat_lt, if◌then◌else◌, List, ◌∷◌, ◌++◌, map, length, filter}
 use Rattle.std.specs.List.{range_with_len}
 use Rattle.std.specs.Fmt.{decimal}
 use Rattle.drift_chain.specs.declared.part.DriftPart.{DriftPart}

@@ -1,14 +1,18 @@
 -- The canonical text reads back, and a text spells one scenario.
 use Rattle.std.specs.Prelude.{◌≡◌, ℕ, List, ◌++◌, length, Ok}
 use Rattle.search_model.specs.Problem.{Problem, IsProblem}
-use Rattle.scenario_text.specs.Reading.{front_of, alone_of}
+use Rattle.scenario_text.specs.Reading.{Front, front_of}
 use Rattle.scenario_text.specs.State.{State}
-use Rattle.scenario_text.specs.Canonical.{canonical_text, state_of_problem, front_of_problem}
+use Rattle.scenario_text.specs.Canonical.{canonical_text, state_of_problem}
 use Rattle.scenario_text.specs.Scenarios.{Says, IsFront, IsTextOf}
 
 -- what was read is one problem
 abbrev pub OneProblem : Type 0
 OneProblem = (s : State) (p q : Problem) → Says s p → Says s q → p ≡ q
+
+-- a text that reads up to its end spells a scenario, and no other
+abbrev pub EveryTextSpellsOne : Type 0
+EveryTextSpellsOne = (text : List ℕ) (front : Front) → front_of text ≡ Ok front → (p : Problem) × Says front.state p × ((q : Problem) → Says front.state q → q ≡ p)
 
 -- what the canonical text of a problem says is that problem
 abbrev pub CanonicalSays : Type 0

@@ -5,9 +5,14 @@ pub mod Fields
 pub mod Grids
 pub mod Reading
 pub mod Sound
+pub mod Faults
+pub mod KindTable
+pub mod InRows
+pub mod ReadingLaws
 pub mod Scenarios
 pub mod Gives
 pub mod Scanning
+pub mod RowFields
 pub mod Canonical
 pub mod Laws
 pub mod Printing

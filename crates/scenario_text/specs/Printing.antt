@@ -5,7 +5,8 @@ use Rattle.std.specs.Fmt.{decimal}
 use Rattle.exact_parts.specs.Rows.{text_of}
 use Rattle.drift_chain.specs.declared.part.DriftPart.{DriftPart}
 use Rattle.search_model.specs.Problem.{Problem, first_of, cell_name, position_name}
-use Rattle.scenario_text.specs.Canonical.{first_entries, pair_fields, cell_row, moves_row, drift_row, overlook_row}
+use Rattle.scenario_text.specs.Canonical.{first_entries, pair_fields, moves_row, drift_row, overlook_row}
+use Rattle.scenario_text.specs.RowFields.{cell_row}
 
 -- a row's fields with one blank between, and a line feed
 abbrev pub line_of : List (List ℕ) → List ℕ

@@ -1,8 +1,7 @@
 -- Reading line by line: what a line adds to what has been read, or its first fault.
-use Rattle.std.specs.Prelude.{ℕ, ◌+◌, ◌-◌, ◌*◌, ◌^◌, Bool, true, false, not, ◌&&◌, ◌||◌, ◌==◌, nat_lt, nat_le, if◌then◌else◌, List, [], ◌∷◌, ◌++◌, map, length, set, slice_index_or, replicate, Option, Some, None, is_none, is_some, unwrap_or, Result, Ok, Err, codes}
+use Rattle.std.specs.Prelude.{ℕ, ◌+◌, ◌-◌, ◌*◌, ◌^◌, Bool, true, not, ◌&&◌, ◌||◌, ◌==◌, nat_lt, nat_le, if◌then◌else◌, List, [], ◌∷◌, ◌++◌, map, length, set, slice_index_or, replicate, Option, Some, None, is_none, is_some, unwrap_or, Result, Ok, Err, codes}
 use Rattle.std.specs.List.{list_all, list_any}
 use Rattle.exact_parts.specs.declared.number.Number.{Number}
-use Rattle.drift_chain.specs.declared.part.DriftPart.{DriftPart}
 use Rattle.search_model.specs.Names.{is_name_byte}
 use Rattle.search_grid.specs.Moves.{moves_from}
 use Rattle.search_grid.specs.Sides.{side_moves}

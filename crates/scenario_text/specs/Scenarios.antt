@@ -5,7 +5,6 @@ use Rattle.drift_chain.specs.DriftRows.{part_in}
 use Rattle.drift_chain.specs.Faults.{HasSameParts}
 use Rattle.sweep_table.specs.LookParts.{parts_over}
 use Rattle.search_model.specs.Problem.{Problem, IsProblem, first_of}
-use Rattle.scenario_text.specs.declared.kind.TextFault.{TextFault}
 use Rattle.scenario_text.specs.declared.stop.TextStop.{TextStop}
 use Rattle.scenario_text.specs.declared.stop.TextStop.TheVariants.{Fault, NoMemory}
 use Rattle.scenario_text.specs.Lines.{after_lines}

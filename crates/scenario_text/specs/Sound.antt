@@ -1,5 +1,5 @@
 -- What the lines that were read have settled.
-use Rattle.std.specs.Prelude.{ℕ, ◌≡◌, ◌<◌, ◌≤◌, ◌==◌, ◌⊎◌, true, false, List, [], length, map, count_by, sum_by, All, Option, None, Some}
+use Rattle.std.specs.Prelude.{ℕ, ◌≡◌, ◌<◌, ◌≤◌, ◌==◌, ◌⊎◌, true, false, List, length, count_by, sum_by, All, Option, None, Some}
 use Rattle.exact_parts.specs.Width.{Fits}
 use Rattle.drift_chain.specs.declared.part.DriftPart.{DriftPart}
 use Rattle.search_grid.specs.Moves.{moves_from}

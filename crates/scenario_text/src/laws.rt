@@ -1,6 +1,9 @@
 //! What the definitions of the text say together.
 
-ghost use Rattle.scenario_text.specs.Laws.{OneProblem, CanonicalSays, CanonicalReadsBack, CanonicalFrontReadsBack};
+ghost use Rattle.scenario_text.specs.Laws.{OneProblem, EveryTextSpellsOne, CanonicalSays, CanonicalReadsBack, CanonicalFrontReadsBack};
+ghost use Rattle.scenario_text.specs.InRows.{GridInRows, GridReadsOn, RateInRows, SpreadInRows};
+ghost use Rattle.scenario_text.specs.KindTable.{KindsByTable};
+ghost use Rattle.scenario_text.specs.ReadingLaws.{SilentLinesAddNothing, FirstFaultDecides, FirstFaultDecidesAlone};
 
 /// What was read is one problem: no text spells two.
 #[tactic(auto, using(crate::proofs::Determined::one_problem))]
@@ -24,4 +27,58 @@ pub fn canonical_text_reads_back()
 #[tactic(auto, using(crate::proofs::Back::canonical_front_reads_back))]
 pub fn canonical_front_reads_back()
     ensures { CanonicalFrontReadsBack }
+{}
+
+/// A line of blanks alone and a comment add nothing.
+#[tactic(auto, using(crate::proofs::FirstFaults::silent_lines_add_nothing))]
+pub fn silent_lines_add_nothing()
+    ensures { SilentLinesAddNothing }
+{}
+
+/// The fault that reading gives is the first: the lines before it are right.
+#[tactic(auto, using(crate::proofs::FirstFaults::first_fault_decides))]
+pub fn first_fault_decides()
+    ensures { FirstFaultDecides }
+{}
+
+/// So it is for a text that ends with its line `end`, behind which the first line that says anything is a fault.
+#[tactic(auto, using(crate::proofs::FirstFaults::first_fault_decides_alone))]
+pub fn first_fault_decides_alone()
+    ensures { FirstFaultDecidesAlone }
+{}
+
+/// A line has the fault that the table of kinds gives: the first kind whose test holds.
+#[tactic(auto, using(crate::proofs::Tables::kinds_by_table))]
+pub fn kinds_by_table()
+    ensures { KindsByTable }
+{}
+
+/// The line `rate` says what an `overlook` line for each cell says.
+#[tactic(auto, using(crate::proofs::InRows::rate_in_rows))]
+pub fn rate_in_rows()
+    ensures { RateInRows }
+{}
+
+/// The line `spread` says what a `drift` line for each cell says.
+#[tactic(auto, using(crate::proofs::InRows::spread_in_rows))]
+pub fn spread_in_rows()
+    ensures { SpreadInRows }
+{}
+
+/// The line `grid` says what lines with the cells and with their moves say.
+#[tactic(auto, using(crate::proofs::GridRows::grid_in_rows))]
+pub fn grid_in_rows()
+    ensures { GridInRows }
+{}
+
+/// A text that reads up to its end spells a scenario, and no other.
+#[tactic(auto, using(crate::proofs::OneScenario::every_text_spells_one))]
+pub fn every_text_spells_one()
+    ensures { EveryTextSpellsOne }
+{}
+
+/// Behind the moves of its cells a grid only lets `spread` in: what else is right adds the same.
+#[tactic(auto, using(crate::proofs::GridRows::grid_reads_on))]
+pub fn grid_reads_on()
+    ensures { GridReadsOn }
 {}

@@ -5,7 +5,8 @@ ghost use Rattle.std.specs.List.{flat_map, range_with_len};
 ghost use Rattle.exact_parts.specs.Rows.{text_of};
 ghost use Rattle.search_model.specs.Problem.{IsProblem};
 ghost use Rattle.exact_parts.specs.Appending.{AppendsFront};
-ghost use Rattle.scenario_text.specs.Canonical.{canonical_text, cell_row};
+ghost use Rattle.scenario_text.specs.Canonical.{canonical_text};
+ghost use Rattle.scenario_text.specs.RowFields.{cell_row};
 ghost use Rattle.scenario_text.specs.Printing.{horizon_text, parts_text, cell_text, name_text, entry_text, first_text, chance_text, moves_text, drift_text, overlook_text, head_text, front_text, rows_text};
 
 use crate::digits::Digits;

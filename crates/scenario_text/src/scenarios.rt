@@ -1,6 +1,12 @@
 //! Scenarios from their text.
 
-ghost use Rattle.scenario_text.specs.Scenarios.{ReadsFront, ReadsAlone};
+ghost use Rattle.std.specs.Prelude.{◌≡◌, ◌⊎◌, ℕ, IfOk};
+ghost use Rattle.search_model.specs.Problem.{Problem};
+ghost use Rattle.scenario_text.specs.declared.kind.TextKind.TheVariants as kinds;
+ghost use Rattle.scenario_text.specs.declared.kind.TextFault.{TextFault as FaultLem};
+ghost use Rattle.scenario_text.specs.Faults.{IsFirstFault, IsRest};
+ghost use Rattle.scenario_text.specs.Gives.{Answers, Tells, IfFault};
+ghost use Rattle.scenario_text.specs.Scenarios.{IsFront, IsTextOf, ReadsFront, ReadsAlone};
 
 use crate::assembling::assemble;
 use crate::kind::{TextFault, TextKind};
@@ -16,7 +22,12 @@ use std::alloc::Global;
 ///
 /// The first fault by line and kind, never `Rest`; or `NoMemory`.
 pub fn read_scenario(alloc: Global, text: &[u8]) -> Result<(Scenario, usize), TextStop>
-    ensures { ReadsFront text.now result }
+    ensures reads { ReadsFront text.now result }
+    ensures spelled { IfOk result (λ r. IsFront text.now r.0 r.1) }
+    ensures exact { (p : Problem) (n : ℕ) → IsFront text.now p n → Answers result (p, n) }
+    ensures first { IfFault result (IsFirstFault text.now) }
+    ensures faulty { (fault : FaultLem) → IsFirstFault text.now fault → Tells result fault }
+    ensures never_rest { IfFault result (λ fault. fault.kind ≡ kinds.Rest → ⊥) }
 {
     let front = read_draft(alloc, text)?;
     let bytes = text.len() - front.rest.len();
@@ -31,7 +42,13 @@ pub fn read_scenario(alloc: Global, text: &[u8]) -> Result<(Scenario, usize), Te
 /// The first fault by line and kind: that of `read_scenario`, or else `Rest` at the first line behind `end` that holds a
 /// byte other than blanks; or `NoMemory`.
 pub fn read_scenario_alone(alloc: Global, text: &[u8]) -> Result<Scenario, TextStop>
-    ensures { ReadsAlone text.now result }
+    ensures reads { ReadsAlone text.now result }
+    ensures spelled { IfOk result (λ p. IsTextOf p text.now) }
+    ensures exact { (p : Problem) → IsTextOf p text.now → Answers result p }
+    ensures first { IfFault result (λ fault. IsFirstFault text.now fault ⊎ IsRest text.now fault) }
+    ensures faulty { (fault : FaultLem) → IsFirstFault text.now fault → Tells result fault }
+    ensures rest { (fault : FaultLem) → IsRest text.now fault → Tells result fault }
+    ensures no_other_rest { IfFault result (λ fault. fault.kind ≡ kinds.Rest → IsRest text.now fault) }
 {
     let front = read_draft(alloc, text)?;
     if let Some(line) = first_said(front.rest, front.line + 1) {

@@ -1,0 +1,442 @@
+-- A line has the fault that the table of kinds gives.
+use Rattle.std.specs.Str.{bytes_eq}
+use Rattle.std.proofs.Common.{◌≡◌, ℕ, zero, suc, ◌+◌, ◌*◌, ◌-◌, Bool, true, false, cond, List, [], ◌∷◌, length, map, Option, Some, None, Result, Ok, Err, refl, sym, ap, subst, ◌∙◌, arith, inl, inr, get_or}
+use Rattle.std.specs.Prelude.{not, ◌&&◌, ◌||◌, ◌==◌, nat_le, nat_lt, is_none, is_some, set, unwrap_or, sum_by, codes}
+use Rattle.std.specs.List.{list_all, list_any}
+use Rattle.std.proofs.lemmas.Bool.{lt-ltb, eq-eqb, ne_eqb, cases_eq, or_parts, false_from_ne_true}
+use Rattle.std.proofs.lemmas.List.{length-map}
+use Rattle.std.proofs.lemmas.List.Quantifiers.{position-Some}
+use Rattle.std.proofs.lemmas.List.Sums.{sum_by-cons}
+use Rattle.std.proofs.lemmas.Slice.Eq.{bytes_eq-Decides}
+use Rattle.search_model.specs.Names.{is_name_byte}
+use Rattle.exact_parts.specs.declared.number.Number.{Number}
+use Rattle.scenario_text.specs.declared.draft.Stage.{Stage}
+use Rattle.scenario_text.specs.declared.draft.Stage.TheVariants as due
+use Rattle.scenario_text.specs.declared.kind.TextKind.{TextKind}
+use Rattle.scenario_text.specs.declared.kind.TextKind.TheVariants.{NotText, BadLine, BadNumber, OverLimit, UnknownName, DoubleName, MissingRow, DoubleRow, WrongSum, PartOver, NoMove, TooWide}
+use Rattle.scenario_text.specs.Lines.{fields_of}
+use Rattle.scenario_text.specs.Fields.{is_text_byte, says_nothing, is_word, number_at, is_bad, is_over, number_in, cell_named, stands_in, has_double, are_pairs, pairs_of, total_of}
+use Rattle.scenario_text.specs.State.{State}
+use Rattle.scenario_text.specs.Reading.{version_line, horizon_line, parts_line, cell_line, with_grid, with_start, start_line, cells_line, unless_fault, first_pairs, first_line, has_moves, has_parts, has_overlook, with_moves, moves_line, unknown_after, drift_pairs, drift_line, overlook_part, overlook_line, spread_line, rate_line, lacks_row, is_narrow, end_line, row_line, stage_line, line_at}
+use Rattle.scenario_text.specs.KindTable.{Line, Scenario, Horizon, Parts, Cell, Grid, Start, First, Moves, Drift, Overlook, Spread, Rate, End, row_due, line_due, pair_names, pair_parts, stands_twice, holds_of, is_bad_line, first_kind, tests, tests_of, fault_of, KindsByTable}
+use Rattle.scenario_text.proofs.SoundFields.{list_any-map, sum_by-map}
+
+-- the kinds in their order, by what the tests give
+abbrev table_of : Bool → Bool → Bool → Bool → Bool → Bool → Bool → Bool → Bool → Bool → Bool → Option TextKind
+table_of line number over unknown double missing row sum part move wide =
+    first_kind
+    ((line, BadLine) ∷ (number, BadNumber) ∷ (over, OverLimit) ∷ (unknown, UnknownName) ∷ (double, DoubleName) ∷ (missing, MissingRow) ∷ (row, DoubleRow) ∷ (sum, WrongSum) ∷ (part, PartOver) ∷ (move, NoMove) ∷ (wide, TooWide) ∷ [])
+
+-- Each line, with the tests as they come out.
+
+version_by : (one : Bool) (s : State) → fault_of (cond one (Ok s) (Err BadLine)) ≡ table_of (not (one && true)) false false false false false false false false false false
+version_by true s = refl
+version_by false s = refl
+
+number_by : (bad over : Bool) (s : State) → fault_of (cond bad (Err BadNumber) (cond over (Err OverLimit) (Ok s))) ≡ table_of false (bad || false) ((over || false) || false) false false false false false false false false
+number_by true over s = refl
+number_by false true s = refl
+number_by false false s = refl
+
+parts_by : (b c d o p q : Bool) (s : State) → fault_of (cond (b || (c || d)) (Err BadNumber) (cond (o || (p || q)) (Err OverLimit) (Ok s))) ≡ table_of false (b || (c || (d || false))) ((o || (p || (q || false))) || false) false false false false false false false false
+parts_by true c d o p q s = refl
+parts_by false true d o p q s = refl
+parts_by false false true o p q s = refl
+parts_by false false false true p q s = refl
+parts_by false false false false true q s = refl
+parts_by false false false false false true s = refl
+parts_by false false false false false false s = refl
+
+cell_by : (right long many known : Bool) (s : State) → fault_of (cond (not right) (Err BadLine) (cond (long || many) (Err OverLimit) (cond known (Err DoubleName) (Ok s)))) ≡ table_of (not (right && true)) false ((long || false) || many) false (known || false) false false false false false false
+cell_by false long many known s = refl
+cell_by true true many known s = refl
+cell_by true false true known s = refl
+cell_by true false false true s = refl
+cell_by true false false false s = refl
+
+grid_by : (b c o p big : Bool) (s : State) → fault_of (cond (b || c) (Err BadNumber) (cond ((o || p) || big) (Err OverLimit) (Ok s))) ≡ table_of false (b || (c || false)) ((o || (p || false)) || big) false false false false false false false false
+grid_by true c o p big s = refl
+grid_by false true o p big s = refl
+grid_by false false true p big s = refl
+grid_by false false false true big s = refl
+grid_by false false false false true s = refl
+grid_by false false false false false s = refl
+
+start_by : (s : State) (c : Option ℕ) → fault_of (with_start s c) ≡ table_of false false false (is_none c || false) false false false false false false false
+start_by s None = refl
+start_by s (Some c) = refl
+
+pairs_by : (form bad over unknown double whole : Bool) (s : State) →
+    fault_of (cond form (unless_fault (cond bad (Some BadNumber) (cond over (Some OverLimit) (cond unknown (Some UnknownName) (cond double (Some DoubleName) None)))) (cond (not whole) (Err WrongSum) (Ok s))) (Err BadLine))
+    ≡ table_of (not form || false) bad (over || false) unknown double false false (not whole) false false false
+pairs_by false bad over unknown double whole s = refl
+pairs_by true true over unknown double whole s = refl
+pairs_by true false true unknown double whole s = refl
+pairs_by true false false true double whole s = refl
+pairs_by true false false false true whole s = refl
+pairs_by true false false false false true s = refl
+pairs_by true false false false false false s = refl
+
+-- a row of drift, whose cell is unknown or has a row
+unknown_by : (form bad over unknown double : Bool) (row sum : Bool) →
+    fault_of (cond form (Err (unknown_after (cond bad (Some BadNumber) (cond over (Some OverLimit) (cond unknown (Some UnknownName) (cond double (Some DoubleName) None)))))) (Err BadLine))
+    ≡ table_of (not form || false) bad (over || false) true double false row sum false false false
+unknown_by false bad over unknown double row sum = refl
+unknown_by true true over unknown double row sum = refl
+unknown_by true false true unknown double row sum = refl
+unknown_by true false false true double row sum = refl
+unknown_by true false false false true row sum = refl
+unknown_by true false false false false row sum = refl
+
+drift_by : (form bad over unknown double row whole : Bool) (s : State) →
+    fault_of (cond form (unless_fault (cond bad (Some BadNumber) (cond over (Some OverLimit) (cond unknown (Some UnknownName) (cond double (Some DoubleName) None)))) (cond row (Err DoubleRow) (cond (not whole) (Err WrongSum) (Ok s)))) (Err BadLine))
+    ≡ table_of (not form || false) bad (over || false) unknown double false row (not whole) false false false
+drift_by false bad over unknown double row whole s = refl
+drift_by true true over unknown double row whole s = refl
+drift_by true false true unknown double row whole s = refl
+drift_by true false false true double row whole s = refl
+drift_by true false false false true row whole s = refl
+drift_by true false false false false true whole s = refl
+drift_by true false false false false false true s = refl
+drift_by true false false false false false false s = refl
+
+moves_by : (many unknown double row none : Bool) (s : State) →
+    fault_of (cond many (Err OverLimit) (cond unknown (Err UnknownName) (cond double (Err DoubleName) (cond row (Err DoubleRow) (cond none (Err NoMove) (Ok s))))))
+    ≡ table_of false false many unknown double false row false false none false
+moves_by true unknown double row none s = refl
+moves_by false true double row none s = refl
+moves_by false false true row none s = refl
+moves_by false false false true none s = refl
+moves_by false false false false true s = refl
+moves_by false false false false false s = refl
+
+-- a row of moves, whose cell is unknown
+lost_by : (many : Bool) (unknown double row none : Bool) → fault_of (cond many (Err OverLimit) (Err UnknownName)) ≡ table_of false false many true double false row false false none false
+lost_by true unknown double row none = refl
+lost_by false unknown double row none = refl
+
+overlook_by : (s : State) (c : Option ℕ) (n : Number) → fault_of (overlook_part s c n)
+    ≡ table_of false (is_bad 0 n || false) ((is_over n || false) || false) (is_none c || false) false false (holds_of c (has_overlook s)) false (nat_lt s.look (number_in n)) false false
+overlook_by s None n = by_bools (is_bad 0 n) (is_over n)
+  where
+    by_bools : (bad over : Bool) → fault_of (cond bad (Err BadNumber) (cond over (Err OverLimit) (Err UnknownName))) ≡ table_of false (bad || false) ((over || false) || false) true false false false false (nat_lt s.look (number_in n)) false false
+    by_bools true over = refl
+    by_bools false true = refl
+    by_bools false false = refl
+overlook_by s (Some c) n = by_bools (is_bad 0 n) (is_over n) (has_overlook s c) (nat_lt s.look (number_in n)) _
+  where
+    by_bools : (bad over row part : Bool) (t : State) → fault_of (cond bad (Err BadNumber) (cond over (Err OverLimit) (cond row (Err DoubleRow) (cond part (Err PartOver) (Ok t))))) ≡ table_of false (bad || false) ((over || false) || false) false false false row false part false false
+    by_bools true over row part t = refl
+    by_bools false true row part t = refl
+    by_bools false false true part t = refl
+    by_bools false false false true t = refl
+    by_bools false false false false t = refl
+
+spread_by : (gridded bad over row sum : Bool) (s : State) →
+    fault_of (cond gridded (cond bad (Err BadNumber) (cond over (Err OverLimit) (cond row (Err DoubleRow) (cond sum (Err WrongSum) (Ok s))))) (Err BadLine))
+    ≡ table_of (not gridded) (bad || false) ((over || false) || false) false false false row sum false false false
+spread_by false bad over row sum s = refl
+spread_by true true over row sum s = refl
+spread_by true false true row sum s = refl
+spread_by true false false true sum s = refl
+spread_by true false false false true s = refl
+spread_by true false false false false s = refl
+
+rate_by : (bad over row part : Bool) (s : State) → fault_of (cond bad (Err BadNumber) (cond over (Err OverLimit) (cond row (Err DoubleRow) (cond part (Err PartOver) (Ok s))))) ≡ table_of false (bad || false) ((over || false) || false) false false false row false part false false
+rate_by true over row part s = refl
+rate_by false true row part s = refl
+rate_by false false true part s = refl
+rate_by false false false true s = refl
+rate_by false false false false s = refl
+
+end_by : (lacks narrow : Bool) (s : State) → fault_of (cond lacks (Err MissingRow) (cond (not narrow) (Err TooWide) (Ok s))) ≡ table_of false false false false false lacks false false false false (not narrow)
+end_by true narrow s = refl
+end_by false true s = refl
+end_by false false s = refl
+
+-- Pairs are the names and the parts of their fields.
+module _ (names : List (List ℕ)) where
+  parts_any : (test : Number → Bool) (fields : List (List ℕ)) → list_any (λ x. test x.part) (pairs_of names fields) ≡ list_any (λ f. test (number_at 1000000 f)) (pair_parts fields)
+  unfolding pairs_of pair_parts
+  parts_any test [] = refl
+  parts_any test (name ∷ []) = refl
+  parts_any test (name ∷ part ∷ fields) = ap (λ (b : Bool). test (number_at 1000000 part) || b) (parts_any test fields)
+
+  cells_named : (fields : List (List ℕ)) → map (λ x. x.cell) (pairs_of names fields) ≡ map (cell_named names) (pair_names fields)
+  unfolding pairs_of pair_names
+  cells_named [] = refl
+  cells_named (name ∷ []) = refl
+  cells_named (name ∷ part ∷ fields) = ap (λ (cs : List (Option ℕ)). cell_named names name ∷ cs) (cells_named fields)
+
+  any_unknown : (fields : List (List ℕ)) → list_any (λ x. is_none x.cell) (pairs_of names fields) ≡ list_any (λ f. is_none (cell_named names f)) (pair_names fields)
+  any_unknown fields =
+      sym (list_any-map (λ c. is_none c) (λ x. x.cell) (pairs_of names fields)) ∙ ap (list_any (λ c. is_none c)) (cells_named fields) ∙ list_any-map (λ c. is_none c) (cell_named names) (pair_names fields)
+
+  parts_sum : (fields : List (List ℕ)) → sum_by (λ x. number_in x.part) (pairs_of names fields) ≡ sum_by (λ f. number_in (number_at 1000000 f)) (pair_parts fields)
+  unfolding pairs_of pair_parts
+  parts_sum [] = refl
+  parts_sum (name ∷ []) = refl
+  parts_sum (name ∷ part ∷ fields) =
+      sum_by-cons (λ x. number_in x.part) (record { cell = cell_named names name; part = number_at 1000000 part }) (pairs_of names fields) ∙ ap (λ (n : ℕ). number_in (number_at 1000000 part) + n) (parts_sum fields) ∙ sym (sum_by-cons (λ f. number_in (number_at 1000000 f)) part (pair_parts fields))
+
+  whole_sum : (fields : List (List ℕ)) → total_of (pairs_of names fields) ≡ sum_by (λ f. number_in (number_at 1000000 f)) (pair_parts fields)
+  whole_sum fields = sum_by-map (λ e. e.part) _ (pairs_of names fields) ∙ parts_sum fields
+
+  -- what is told of pairs is told of their fields
+  told_alike : (told : Bool → Bool → Bool → List (Option ℕ) → ℕ → Option TextKind) (fields : List (List ℕ)) →
+      told (list_any (λ x. is_bad 1 x.part) (pairs_of names fields)) (list_any (λ x. is_over x.part) (pairs_of names fields)) (list_any (λ x. is_none x.cell) (pairs_of names fields)) (map (λ x. x.cell) (pairs_of names fields)) (total_of (pairs_of names fields))
+      ≡ told (list_any (λ f. is_bad 1 (number_at 1000000 f)) (pair_parts fields)) (list_any (λ f. is_over (number_at 1000000 f)) (pair_parts fields)) (list_any (λ f. is_none (cell_named names f)) (pair_names fields)) (map (cell_named names) (pair_names fields)) (sum_by (λ f. number_in (number_at 1000000 f)) (pair_parts fields))
+  told_alike told fields = rw (parts_any (is_bad 1) fields, parts_any is_over fields, any_unknown fields, cells_named fields, whole_sum fields) refl
+
+-- Names of cells stand twice where their cells do.
+same_cell : (names : List (List ℕ)) (a b : List ℕ) (c d : ℕ) → cell_named names a ≡ Some c → cell_named names b ≡ Some d → (d == c) ≡ is_word b a
+same_cell names a b c d e f = elim (cases_eq d c) [
+  | inl same ↦
+      let here = (bytes_eq-Decides a (get_or names c [])).0 (position-Some (bytes_eq a) names c [] e).1 in
+      let there = (bytes_eq-Decides b (get_or names d [])).0 (position-Some (bytes_eq b) names d [] f).1 in
+      let equal : b ≡ a = there ∙ ap (λ (k : ℕ). get_or names k []) same ∙ sym here in
+      eq-eqb d c same ∙ sym ((bytes_eq-Decides b a).1 equal)
+  | inr apart_cells ↦ ne_eqb d c apart_cells ∙ sym (false_from_ne_true (is_word b a) (λ is.
+      let both : Some d ≡ Some c = sym f ∙ ap (cell_named names) ((bytes_eq-Decides b a).0 is) ∙ e in
+      apart_cells (let equal : d ≡ c = cc in equal)))
+]
+
+same_places : (names : List (List ℕ)) (name : List ℕ) (c : ℕ) (others : List (List ℕ)) → cell_named names name ≡ Some c → list_any (λ f. is_none (cell_named names f)) others ≡ false → stands_in (Some c) (map (cell_named names) others) ≡ list_any (λ other. is_word other name) others
+same_places names name c [] e known = refl
+same_places names name c (other ∷ others) e known =
+    let parts = or_parts (is_none (cell_named names other)) (list_any (λ f. is_none (cell_named names f)) others) known in
+    let found = found_at (cell_named names other) parts.0 in
+    let here : (is_some (cell_named names other) && unwrap_or (cell_named names other) 0 == c) ≡ is_word other name = ap (λ (o : Option ℕ). is_some o && unwrap_or o 0 == c) found.1 ∙ same_cell names name other c found.0 e found.1 in
+    ap (λ (b : Bool). b || stands_in (Some c) (map (cell_named names) others)) here ∙ ap (λ (b : Bool). is_word other name || b) (same_places names name c others e parts.1)
+  where
+    found_at : (o : Option ℕ) → is_none o ≡ false → (d : ℕ) × (o ≡ Some d)
+    found_at None none = absurd (let bad : ⊥ = cc in bad)
+    found_at (Some d) none = (d, refl)
+
+twice_alike : (names fields : List (List ℕ)) → list_any (λ f. is_none (cell_named names f)) fields ≡ false → has_double (map (cell_named names) fields) ≡ stands_twice fields
+unfolding has_double stands_twice
+twice_alike names [] known = refl
+twice_alike names (name ∷ others) known =
+    let parts = or_parts (is_none (cell_named names name)) (list_any (λ f. is_none (cell_named names f)) others) known in
+    let found = found_at (cell_named names name) parts.0 in
+    let here : stands_in (cell_named names name) (map (cell_named names) others) ≡ list_any (λ other. is_word other name) others = ap (λ (o : Option ℕ). stands_in o (map (cell_named names) others)) found.1 ∙ same_places names name found.0 others found.1 parts.1 in
+    ap (λ (b : Bool). b || has_double (map (cell_named names) others)) here ∙ ap (λ (b : Bool). list_any (λ other. is_word other name) others || b) (twice_alike names others parts.1)
+  where
+    found_at : (o : Option ℕ) → is_none o ≡ false → (d : ℕ) × (o ≡ Some d)
+    found_at None none = absurd (let bad : ⊥ = cc in bad)
+    found_at (Some d) none = (d, refl)
+
+-- names are asked for doubles where each is known
+where_known : (line number over unknown double twice row sum move : Bool) → (unknown ≡ false → double ≡ twice) → table_of line number over unknown double false row sum false move false ≡ table_of line number over unknown twice false row sum false move false
+where_known line number over true double twice row sum move same = refl
+where_known line number over false double twice row sum move same = ap (λ (b : Bool). table_of line number over false b false row sum false move false) (same refl)
+
+-- the table of pairs, told of their fields; with `lost` a name before them isn't a cell's
+pairs_told : (names : List (List ℕ)) (form lost row : Bool) (limit : ℕ) (fields : List (List ℕ)) →
+    table_of (not form || false) (list_any (λ x. is_bad 1 x.part) (pairs_of names fields)) (list_any (λ x. is_over x.part) (pairs_of names fields) || false) (lost || list_any (λ x. is_none x.cell) (pairs_of names fields)) (has_double (map (λ x. x.cell) (pairs_of names fields))) false row (not (total_of (pairs_of names fields) == limit)) false false false
+    ≡ table_of (not form || false) (list_any (λ f. is_bad 1 (number_at 1000000 f)) (pair_parts fields)) (list_any (λ f. is_over (number_at 1000000 f)) (pair_parts fields) || false) (lost || list_any (λ f. is_none (cell_named names f)) (pair_names fields)) (stands_twice (pair_names fields)) false row (not (sum_by (λ f. number_in (number_at 1000000 f)) (pair_parts fields) == limit)) false false false
+pairs_told names form lost row limit fields =
+    let unknown = list_any (λ f. is_none (cell_named names f)) (pair_names fields) in
+    told_alike names (λ bad over lacks cells total. table_of (not form || false) bad (over || false) (lost || lacks) (has_double cells) false row (not (total == limit)) false false false) fields
+    ∙ where_known (not form || false) (list_any (λ f. is_bad 1 (number_at 1000000 f)) (pair_parts fields)) (list_any (λ f. is_over (number_at 1000000 f)) (pair_parts fields) || false) (lost || unknown) (has_double (map (cell_named names) (pair_names fields))) (stands_twice (pair_names fields)) row (not (sum_by (λ f. number_in (number_at 1000000 f)) (pair_parts fields) == limit)) false
+    (λ known. twice_alike names (pair_names fields) (or_parts lost unknown known).1)
+
+-- A line by its keyword.
+module _ (s : State) (fields : List (List ℕ)) where
+  -- one line or the others
+  with_word : (b : Bool) (line : Line) (others : Option Line) (r more : Result State TextKind) → fault_of r ≡ first_kind (tests s (Some line) fields) → fault_of more ≡ first_kind (tests s others fields) →
+      fault_of (cond b r more) ≡ first_kind (tests s (cond b (Some line) others) fields)
+  with_word true line others r more here there = here
+  with_word false line others r more here there = there
+
+  -- the one line that is due
+  by_word : (b : Bool) (line : Line) (r : Result State TextKind) → fault_of r ≡ first_kind (tests s (Some line) fields) → fault_of (cond b r (Err BadLine)) ≡ first_kind (tests s (cond b (Some line) None) fields)
+  by_word b line r here = with_word b line None r (Err BadLine) here refl
+
+  -- whose fields are wrong in number
+  bad_count : (b : Bool) (line : Line) (others : Option Line) → is_bad_line s line fields ≡ true → Some BadLine ≡ first_kind (tests s others fields) → Some BadLine ≡ first_kind (tests s (cond b (Some line) others) fields)
+  bad_count true line others bad there = rw bad refl
+  bad_count false line others bad there = there
+
+-- The lines above the rows.
+version_table : (s : State) (word : List ℕ) (fields : List (List ℕ)) → fault_of (version_line s (word ∷ fields)) ≡ first_kind (tests s (line_due due.Version (nat_lt 0 (length s.names)) word) fields)
+unfolding stands_twice
+version_table s word [] = bad_count s [] (is_word word (codes "scenario")) Scenario None refl refl
+version_table s word (version ∷ []) = both (is_word word (codes "scenario")) (is_word version (codes "1")) refl
+  where
+    both : (w one : Bool) → is_word version (codes "1") ≡ one → fault_of (cond (w && one) (Ok (record s { stage = due.Horizon })) (Err BadLine)) ≡ first_kind (tests s (cond w (Some Scenario) None) (version ∷ []))
+    both true one e = version_by one _ ∙ ap (λ (b : Bool). table_of (not (b && true)) false false false false false false false false false false) (sym e)
+    both false one e = refl
+version_table s word (version ∷ more ∷ rest) = bad_count s (version ∷ more ∷ rest) (is_word word (codes "scenario")) Scenario None refl refl
+
+horizon_table : (s : State) (word : List ℕ) (fields : List (List ℕ)) → fault_of (horizon_line s (word ∷ fields)) ≡ first_kind (tests s (line_due due.Horizon (nat_lt 0 (length s.names)) word) fields)
+unfolding stands_twice
+horizon_table s word [] = bad_count s [] (is_word word (codes "horizon")) Horizon None refl refl
+horizon_table s word (t ∷ []) = by_word s (t ∷ []) (is_word word (codes "horizon")) Horizon _ (number_by (is_bad 1 (number_at 32 t)) (is_over (number_at 32 t)) _)
+horizon_table s word (t ∷ more ∷ rest) = bad_count s (t ∷ more ∷ rest) (is_word word (codes "horizon")) Horizon None refl refl
+
+parts_table : (s : State) (word : List ℕ) (fields : List (List ℕ)) → fault_of (parts_line s (word ∷ fields)) ≡ first_kind (tests s (line_due due.Parts (nat_lt 0 (length s.names)) word) fields)
+unfolding stands_twice
+parts_table s word [] = bad_count s [] (is_word word (codes "parts")) Parts None refl refl
+parts_table s word (a ∷ []) = bad_count s (a ∷ []) (is_word word (codes "parts")) Parts None refl refl
+parts_table s word (a ∷ d ∷ []) = bad_count s (a ∷ d ∷ []) (is_word word (codes "parts")) Parts None refl refl
+parts_table s word (a ∷ d ∷ g ∷ []) =
+    by_word s (a ∷ d ∷ g ∷ []) (is_word word (codes "parts")) Parts _
+    (parts_by (is_bad 1 (number_at 1000000 a)) (is_bad 1 (number_at 1000000 d)) (is_bad 1 (number_at 1000000 g)) (is_over (number_at 1000000 a)) (is_over (number_at 1000000 d)) (is_over (number_at 1000000 g)) _)
+parts_table s word (a ∷ d ∷ g ∷ more ∷ rest) = bad_count s (a ∷ d ∷ g ∷ more ∷ rest) (is_word word (codes "parts")) Parts None refl refl
+
+start_table : (s : State) (word : List ℕ) (fields : List (List ℕ)) → fault_of (start_line s (word ∷ fields)) ≡ first_kind (tests s (line_due due.Start (nat_lt 0 (length s.names)) word) fields)
+unfolding stands_twice
+start_table s word [] = bad_count s [] (is_word word (codes "start")) Start None refl refl
+start_table s word (name ∷ []) = by_word s (name ∷ []) (is_word word (codes "start")) Start _ (start_by s (cell_named s.names name))
+start_table s word (name ∷ more ∷ rest) = bad_count s (name ∷ more ∷ rest) (is_word word (codes "start")) Start None refl refl
+
+-- two words aren't one
+pub apart : (word a b : List ℕ) → is_word a b ≡ false → is_word word a ≡ true → is_word word b ≡ false
+apart word a b differ is = subst (λ (w : List ℕ). is_word w b ≡ false) (sym ((bytes_eq-Decides word a).0 is)) differ
+
+-- no cell was named, or some were
+none_named : (n : ℕ) → (n == 0) ≡ not (nat_lt 0 n)
+none_named zero = refl
+none_named (suc n) = rw (ne_eqb (suc n) 0 (λ e. omega arith), lt-ltb 0 (suc n) (omega arith)) refl
+
+cells_table : (s : State) (word : List ℕ) (fields : List (List ℕ)) → fault_of (cells_line s (word ∷ fields)) ≡ first_kind (tests s (line_due due.Cells (nat_lt 0 (length s.names)) word) fields)
+unfolding stands_twice
+cells_table s word [] = none_due (nat_lt 0 (length s.names))
+  where
+    none_due : (named : Bool) → Some BadLine ≡ first_kind (tests s (line_due due.Cells named word) [])
+    none_due true = bad_count s [] (is_word word (codes "cell")) Cell _ refl (bad_count s [] (is_word word (codes "start")) Start None refl refl)
+    none_due false = bad_count s [] (is_word word (codes "cell")) Cell _ refl (bad_count s [] (is_word word (codes "grid")) Grid None refl refl)
+cells_table s word (name ∷ []) =
+    with_word s (name ∷ []) (is_word word (codes "cell")) Cell _ (cell_line s name) _
+    (cell_by (list_all is_name_byte name) (nat_lt 24 (length name)) (nat_le 200 (length s.names)) (is_some (cell_named s.names name)) _) (behind_cell (nat_lt 0 (length s.names)))
+  where
+    behind_cell : (named : Bool) → fault_of (cond named (start_line s (word ∷ name ∷ [])) (Err BadLine)) ≡ first_kind (tests s (cond named (cond (is_word word (codes "start")) (Some Start) None) (cond (is_word word (codes "grid")) (Some Grid) None)) (name ∷ []))
+    behind_cell true = start_table s word (name ∷ [])
+    behind_cell false = bad_count s (name ∷ []) (is_word word (codes "grid")) Grid None refl refl
+cells_table s word (rows ∷ cols ∷ []) =
+    ap (λ (b : Bool). fault_of (cond (is_word word (codes "grid") && b) (with_grid s (number_at 200 rows) (number_at 200 cols)) (Err BadLine))) (none_named (length s.names))
+    ∙ not_cell (is_word word (codes "cell")) refl (nat_lt 0 (length s.names))
+  where
+    grid_due : (grid named : Bool) → fault_of (cond (grid && not named) (with_grid s (number_at 200 rows) (number_at 200 cols)) (Err BadLine)) ≡ first_kind (tests s (cond named (cond (is_word word (codes "start")) (Some Start) None) (cond grid (Some Grid) None)) (rows ∷ cols ∷ []))
+    grid_due true false =
+        grid_by (is_bad 1 (number_at 200 rows)) (is_bad 1 (number_at 200 cols)) (is_over (number_at 200 rows)) (is_over (number_at 200 cols)) (nat_lt 200 (number_in (number_at 200 rows) * number_in (number_at 200 cols))) _
+    grid_due false false = refl
+    grid_due true true = bad_count s (rows ∷ cols ∷ []) (is_word word (codes "start")) Start None refl refl
+    grid_due false true = bad_count s (rows ∷ cols ∷ []) (is_word word (codes "start")) Start None refl refl
+
+    not_cell : (cell : Bool) → is_word word (codes "cell") ≡ cell → (named : Bool) → fault_of (cond (is_word word (codes "grid") && not named) (with_grid s (number_at 200 rows) (number_at 200 cols)) (Err BadLine)) ≡ first_kind (tests s (cond cell (Some Cell) (cond named (cond (is_word word (codes "start")) (Some Start) None) (cond (is_word word (codes "grid")) (Some Grid) None))) (rows ∷ cols ∷ []))
+    not_cell true is named = rw (apart word (codes "cell") (codes "grid") refl is) refl
+    not_cell false is named = grid_due (is_word word (codes "grid")) named
+cells_table s word (one ∷ two ∷ three ∷ rest) = none_due (nat_lt 0 (length s.names))
+  where
+    none_due : (named : Bool) → Some BadLine ≡ first_kind (tests s (line_due due.Cells named word) (one ∷ two ∷ three ∷ rest))
+    none_due true = bad_count s (one ∷ two ∷ three ∷ rest) (is_word word (codes "cell")) Cell _ refl (bad_count s (one ∷ two ∷ three ∷ rest) (is_word word (codes "start")) Start None refl refl)
+    none_due false = bad_count s (one ∷ two ∷ three ∷ rest) (is_word word (codes "cell")) Cell _ refl (bad_count s (one ∷ two ∷ three ∷ rest) (is_word word (codes "grid")) Grid None refl refl)
+
+-- the pairs of a line `first`
+pairs_table : (s : State) (fields : List (List ℕ)) → fault_of (first_pairs s fields) ≡ first_kind (tests s (Some First) fields)
+pairs_table s fields =
+    let pairs = pairs_of s.names fields in
+    pairs_by (are_pairs fields) (list_any (λ x. is_bad 1 x.part) pairs) (list_any (λ x. is_over x.part) pairs) (list_any (λ x. is_none x.cell) pairs) (has_double (map (λ x. x.cell) pairs)) (total_of pairs == s.total) _
+    ∙ pairs_told s.names (are_pairs fields) false false s.total fields
+
+first_table : (s : State) (word : List ℕ) (fields : List (List ℕ)) → fault_of (first_line s (word ∷ fields)) ≡ first_kind (tests s (line_due due.First (nat_lt 0 (length s.names)) word) fields)
+first_table s word fields = by_word s fields (is_word word (codes "first")) First (first_pairs s fields) (pairs_table s fields)
+
+-- The rows and the end.
+moves_table : (s : State) (fields : List (List ℕ)) → fault_of (moves_line s fields) ≡ first_kind (tests s (Some Moves) fields)
+moves_table s [] = refl
+moves_table s (name ∷ moves) = own (cell_named s.names name)
+  where
+    own : (c : Option ℕ) → fault_of (cond (nat_lt 64 (length moves)) (Err OverLimit) (with_moves s c (map (cell_named s.names) moves)))
+        ≡ table_of false false (nat_lt 64 (length moves)) (is_none c || list_any (λ f. is_none (cell_named s.names f)) moves) (stands_twice moves) false (holds_of c (has_moves s)) false false (length moves == 0) false
+    own None = lost_by (nat_lt 64 (length moves)) (list_any (λ f. is_none (cell_named s.names f)) moves) (stands_twice moves) false (length moves == 0)
+    own (Some c) =
+        let cells = map (cell_named s.names) moves in
+        moves_by (nat_lt 64 (length moves)) (list_any (λ m. is_none m) cells) (has_double cells) (has_moves s c) (length cells == 0) (record s { moves = set s.moves c (map (λ m. unwrap_or m 0) cells) })
+        ∙ ap (λ (b : Bool). table_of false false (nat_lt 64 (length moves)) b (has_double cells) false (has_moves s c) false false (length cells == 0) false) (list_any-map (λ m. is_none m) (cell_named s.names) moves)
+        ∙ ap (λ (n : ℕ). table_of false false (nat_lt 64 (length moves)) (list_any (λ f. is_none (cell_named s.names f)) moves) (has_double cells) false (has_moves s c) false false (n == 0) false) (length-map moves (cell_named s.names))
+        ∙ where_known false false (nat_lt 64 (length moves)) (list_any (λ f. is_none (cell_named s.names f)) moves) (has_double cells) (stands_twice moves) (has_moves s c) false (length moves == 0) (twice_alike s.names moves)
+
+-- the pairs of a row of drift, by its cell
+drift_pairs_table : (s : State) (c : Option ℕ) (fields : List (List ℕ)) → fault_of (drift_pairs s c fields)
+    ≡ table_of (not (are_pairs fields) || false) (list_any (λ f. is_bad 1 (number_at 1000000 f)) (pair_parts fields)) (list_any (λ f. is_over (number_at 1000000 f)) (pair_parts fields) || false) (is_none c || list_any (λ f. is_none (cell_named s.names f)) (pair_names fields))
+    (stands_twice (pair_names fields)) false (holds_of c (has_parts s)) (not (sum_by (λ f. number_in (number_at 1000000 f)) (pair_parts fields) == s.drift)) false false false
+drift_pairs_table s None fields =
+    let pairs = pairs_of s.names fields in
+    unknown_by (are_pairs fields) (list_any (λ x. is_bad 1 x.part) pairs) (list_any (λ x. is_over x.part) pairs) (list_any (λ x. is_none x.cell) pairs) (has_double (map (λ x. x.cell) pairs)) false (not (total_of pairs == s.drift))
+    ∙ pairs_told s.names (are_pairs fields) true false s.drift fields
+drift_pairs_table s (Some c) fields =
+    let pairs = pairs_of s.names fields in
+    drift_by (are_pairs fields) (list_any (λ x. is_bad 1 x.part) pairs) (list_any (λ x. is_over x.part) pairs) (list_any (λ x. is_none x.cell) pairs) (has_double (map (λ x. x.cell) pairs)) (has_parts s c) (total_of pairs == s.drift) _
+    ∙ pairs_told s.names (are_pairs fields) false (has_parts s c) s.drift fields
+
+drift_table : (s : State) (fields : List (List ℕ)) → fault_of (drift_line s fields) ≡ first_kind (tests s (Some Drift) fields)
+drift_table s [] = refl
+drift_table s (name ∷ fields) = drift_pairs_table s (cell_named s.names name) fields
+
+overlook_table : (s : State) (fields : List (List ℕ)) → fault_of (overlook_line s fields) ≡ first_kind (tests s (Some Overlook) fields)
+unfolding stands_twice
+overlook_table s [] = refl
+overlook_table s (name ∷ []) = refl
+overlook_table s (name ∷ part ∷ []) = overlook_by s (cell_named s.names name) (number_at 1000000 part)
+overlook_table s (name ∷ part ∷ more ∷ rest) = refl
+
+spread_table : (s : State) (fields : List (List ℕ)) → fault_of (spread_line s fields) ≡ first_kind (tests s (Some Spread) fields)
+unfolding stands_twice
+spread_table s [] = refl
+spread_table s (part ∷ []) =
+    let n = number_at 1000000 part in
+    spread_by s.gridded (is_bad 0 n) (is_over n) (list_any (λ row. nat_lt 0 (length row)) s.parts) (list_any (λ row. nat_lt s.drift (number_in n * (length row - 1))) s.moves) _
+spread_table s (part ∷ more ∷ rest) = refl
+
+rate_table : (s : State) (fields : List (List ℕ)) → fault_of (rate_line s fields) ≡ first_kind (tests s (Some Rate) fields)
+unfolding stands_twice
+rate_table s [] = refl
+rate_table s (part ∷ []) =
+    let n = number_at 1000000 part in
+    rate_by (is_bad 0 n) (is_over n) (list_any (λ o. is_some o) s.overlook) (nat_lt s.look (number_in n)) _
+rate_table s (part ∷ more ∷ rest) = refl
+
+end_table : (s : State) (fields : List (List ℕ)) → fault_of (end_line s fields) ≡ first_kind (tests s (Some End) fields)
+unfolding stands_twice
+end_table s [] = end_by (lacks_row s) (is_narrow s) _
+end_table s (more ∷ rest) = refl
+
+rows_table : (s : State) (word : List ℕ) (fields : List (List ℕ)) → fault_of (row_line s (word ∷ fields)) ≡ first_kind (tests s (row_due word) fields)
+rows_table s word fields =
+    with_word s fields (is_word word (codes "moves")) Moves _ (moves_line s fields) _ (moves_table s fields)
+    (with_word s fields (is_word word (codes "drift")) Drift _ (drift_line s fields) _ (drift_table s fields)
+    (with_word s fields (is_word word (codes "overlook")) Overlook _ (overlook_line s fields) _ (overlook_table s fields)
+    (with_word s fields (is_word word (codes "spread")) Spread _ (spread_line s fields) _ (spread_table s fields)
+    (with_word s fields (is_word word (codes "rate")) Rate _ (rate_line s fields) _ (rate_table s fields)
+    (by_word s fields (is_word word (codes "end")) End (end_line s fields) (end_table s fields))))))
+
+stage_table : (stage : Stage) (s : State) (fields : List (List ℕ)) → fault_of (stage_line stage s fields) ≡ first_kind (tests_of stage s fields)
+stage_table due.Version s [] = refl
+stage_table due.Horizon s [] = refl
+stage_table due.Parts s [] = refl
+stage_table due.Cells s [] = refl
+stage_table due.Start s [] = refl
+stage_table due.First s [] = refl
+stage_table due.Rows s [] = refl
+stage_table due.Ended s [] = refl
+stage_table due.Version s (word ∷ fields) = version_table s word fields
+stage_table due.Horizon s (word ∷ fields) = horizon_table s word fields
+stage_table due.Parts s (word ∷ fields) = parts_table s word fields
+stage_table due.Cells s (word ∷ fields) = cells_table s word fields
+stage_table due.Start s (word ∷ fields) = start_table s word fields
+stage_table due.First s (word ∷ fields) = first_table s word fields
+stage_table due.Rows s (word ∷ fields) = rows_table s word fields
+stage_table due.Ended s (word ∷ fields) = refl
+
+by_bytes : (nothing text : Bool) (s : State) (r : Result State TextKind) (rows : List (Bool × TextKind)) → fault_of r ≡ first_kind rows →
+    fault_of (cond nothing (Ok s) (cond (not text) (Err NotText) r)) ≡ cond nothing None (first_kind ((not text, NotText) ∷ rows))
+by_bytes true text s r rows e = refl
+by_bytes false false s r rows e = refl
+by_bytes false true s r rows e = e
+
+pub kinds_by_table : KindsByTable
+unfolding line_at
+kinds_by_table s line = by_bytes (says_nothing (fields_of line)) (list_all is_text_byte line) s (stage_line s.stage s (fields_of line)) (tests_of s.stage s (fields_of line)) (stage_table s.stage s (fields_of line))
