@@ -3,13 +3,16 @@
 
 mod adding;
 mod draft;
+mod feed;
 mod fields;
+mod gathered_line;
 mod head;
 mod head_lines;
 mod kind;
 mod laws;
 mod lines;
 mod pieces;
+mod plan_item;
 mod plan_line;
 mod printing;
 mod reading;
@@ -25,6 +28,8 @@ pub use laws::{
     first_fault_decides, kinds_by_table, one_plan_a_text, one_text_a_plan, plan_text_reads_back,
     summary_decides,
 };
+pub use feed::PlanFeed;
+pub use plan_item::{Fed, PlanItem, Step};
 pub use printing::print_plan;
 pub use reading::read_plan;
 pub use stop::PlanStop;

@@ -1,0 +1,80 @@
+-- A byte more of the text that a feed was fed.
+use Rattle.std.proofs.Common.{◌≡◌, ℕ, suc, ◌≤◌, ◌+◌, ◌-◌, Bool, true, false, cond, List, [], ◌∷◌, ◌++◌, map, length, Result, Ok, Err, refl, sym, ap, subst, ◌∙◌, arith, append_assoc, length-append, ◌⊎◌, inl, inr}
+use Rattle.std.specs.Prelude.{All, ◌==◌}
+use Rattle.std.specs.List.{flat_map}
+use Rattle.std.proofs.lemmas.Bool.{cond_both, eqb-true, eqb-false}
+use Rattle.std.proofs.lemmas.List.{append-nil, map-append}
+use Rattle.std.proofs.lemmas.List.Concat.{flat_map-append}
+use Rattle.std.proofs.lemmas.List.Elements.{All-nil, All-cons, All-push, All-head, All-tail}
+use Rattle.search_model.specs.Problem.{Problem, IsProblem}
+use Rattle.bound_tree.specs.declared.node.TreeNode.{TreeNode}
+use Rattle.bound_tree.specs.declared.plan.Plan.{Plan}
+use Rattle.tree_format.specs.declared.kind.PlanKind.{PlanKind}
+use Rattle.tree_format.specs.declared.kind.PlanKind.TheVariants.{BadLine, EarlyEnd, Rest}
+use Rattle.tree_format.specs.declared.kind.PlanFault.{PlanFault}
+use Rattle.tree_format.specs.declared.plan_line.Stage.{Stage}
+use Rattle.tree_format.specs.declared.plan_line.Stage.TheVariants as due
+use Rattle.tree_format.specs.declared.plan_line.PlanLine.{PlanLine}
+use Rattle.tree_format.specs.declared.plan_line.PlanLine.TheVariants.{Version, Path, Chance, Count, Node, End}
+use Rattle.tree_format.specs.declared.plan_item.PlanItem.{PlanItem}
+use Rattle.tree_format.specs.declared.plan_item.PlanItem.TheVariants as item
+use Rattle.tree_format.specs.declared.plan_item.Step.{Step}
+use Rattle.tree_format.specs.declared.plan_item.Step.TheVariants.{More, Item, Fault}
+use Rattle.tree_format.specs.Pieces.{pieces_of, fields_of}
+use Rattle.tree_format.specs.PlanText.{IsPrintableRecord}
+use Rattle.tree_format.specs.Faults.{HasNoFeed, lines_text, AreSaid, due_behind}
+use Rattle.tree_format.specs.Reading.{line_at, stage_line, blank_plan, next, taken, is_ended, at_line_number, pieces_at, plan_at}
+use Rattle.tree_format.specs.Gathering.{nothing_gathered, gathered}
+use Rattle.tree_format.specs.FeedSteps.{Stand, stand_at, head_of, moved, step_of, line_ended, line_begun, byte_fed}
+use Rattle.tree_format.specs.Feeding.{items_of, told, plan_behind, HasRead, IsDecided, IsItem, GoesOn}
+use Rattle.tree_format.proofs.Cuts.{split_piece}
+use Rattle.tree_format.proofs.Loop.{at_line, at_fault, at_rest}
+use Rattle.tree_format.proofs.FirstFaults.{due_still}
+use Rattle.tree_format.proofs.SpelledLines.{err_ok, version_told, path_told, chance_told, count_told, record_told}
+use Rattle.tree_format.proofs.Spelled.{IsRead, line_on, ended_stage}
+use Rattle.tree_format.proofs.Gatherings.{gathered_more, gathered_nothing, gathered_judged}
+
+-- One line more.
+
+lines_more : (before : List (List ℕ)) (line rest : List ℕ) → lines_text (before ++ line ∷ []) ++ rest ≡ lines_text before ++ (line ++ 10 ∷ rest)
+lines_more [] line rest = simp append_assoc
+lines_more (first ∷ before) line rest =
+    append_assoc (first ++ 10 ∷ []) (lines_text (before ++ line ∷ [])) rest ∙ ap (λ (x : List ℕ). (first ++ 10 ∷ []) ++ x) (lines_more before line rest) ∙ sym (append_assoc (first ++ 10 ∷ []) (lines_text before) (line ++ 10 ∷ rest))
+
+due_more : (stage : Stage) (said : List PlanLine) (x : PlanLine) → due_behind stage (said ++ x ∷ []) ≡ next (due_behind stage said) x
+due_more stage [] x = refl
+due_more stage (first ∷ said) x = due_more (next stage first) said x
+
+plan_more : (plan : Plan) (said : List PlanLine) (x : PlanLine) → plan_behind plan (said ++ x ∷ []) ≡ taken (plan_behind plan said) x
+plan_more plan [] x = refl
+plan_more plan (first ∷ said) x = plan_more (taken plan first) said x
+
+said_more : (p : Problem) (stage : Stage) (before : List (List ℕ)) (said : List PlanLine) (line : List ℕ) (x : PlanLine) → AreSaid p stage before said → line_at p (due_behind stage said) (fields_of line) ≡ Ok x → AreSaid p stage (before ++ line ∷ []) (said ++ x ∷ [])
+said_more p stage [] [] line x right e = (e, tt)
+said_more p stage [] (first ∷ said) line x right e = absurd right
+said_more p stage (l ∷ before) [] line x right e = absurd right
+said_more p stage (l ∷ before) (first ∷ said) line x right e = (right.0, said_more p (next stage first) before said line x right.1 e)
+
+-- what lines have settled that say this
+pub read_behind : (p : Problem) → IsProblem p → (stage : Stage) (plan : Plan) (before : List (List ℕ)) (said : List PlanLine) → AreSaid p stage before said → IsRead p stage plan → IsRead p (due_behind stage said) (plan_behind plan said)
+read_behind p h stage plan [] [] right read = read
+read_behind p h stage plan [] (first ∷ said) right read = absurd right
+read_behind p h stage plan (line ∷ before) [] right read = absurd right
+read_behind p h stage plan (line ∷ before) (first ∷ said) right read =
+    read_behind p h (next stage first) (taken plan first) before said right.1 (line_on p h stage plan (fields_of line) first read right.0).read
+
+-- reading goes on behind right lines
+pub reads_on : (p : Problem) (before : List (List ℕ)) (said : List PlanLine) (stage : Stage) (plan : Plan) (number : ℕ) (rest : List ℕ) → All HasNoFeed before → AreSaid p stage before said → pieces_at p number stage plan (pieces_of (lines_text before ++ rest)) ≡ pieces_at p (number + length before) (due_behind stage said) (plan_behind plan said) (pieces_of rest)
+reads_on p [] [] stage plan number rest feeds right = let same : number ≡ number + 0 = omega arith in ap (λ (n : ℕ). pieces_at p n stage plan (pieces_of rest)) same
+reads_on p [] (first ∷ said) stage plan number rest feeds right = absurd right
+reads_on p (line ∷ before) [] stage plan number rest feeds right = absurd right
+reads_on p (line ∷ before) (first ∷ said) stage plan number rest feeds right =
+    let left = lines_text before ++ rest in
+    let text = lines_text (line ∷ before) ++ rest in
+    let begins : text ≡ line ++ 10 ∷ left = simp append_assoc in
+    let cut : pieces_of text ≡ line ∷ pieces_of left = ap pieces_of begins ∙ split_piece 10 line left (All-head HasNoFeed line before feeds) in
+    let goes = due_still p stage (fields_of line) first right.0 in
+    let later : number + 1 + length before ≡ number + suc (length before) = omega arith in
+    sym (at_line p number stage plan first text line left _ goes cut right.0 refl)
+    ∙ reads_on p before said (next stage first) (taken plan first) (number + 1) rest (All-tail HasNoFeed line before feeds) right.1
+    ∙ ap (λ (n : ℕ). pieces_at p n (due_behind (next stage first) said) (plan_behind (taken plan first) said) (pieces_of rest)) later
