@@ -36,20 +36,20 @@ use Rattle.tree_format.proofs.Gatherings.{gathered_more, gathered_nothing, gathe
 
 -- One line more.
 
-lines_more : (before : List (List ℕ)) (line rest : List ℕ) → lines_text (before ++ line ∷ []) ++ rest ≡ lines_text before ++ (line ++ 10 ∷ rest)
+pub lines_more : (before : List (List ℕ)) (line rest : List ℕ) → lines_text (before ++ line ∷ []) ++ rest ≡ lines_text before ++ (line ++ 10 ∷ rest)
 lines_more [] line rest = simp append_assoc
 lines_more (first ∷ before) line rest =
     append_assoc (first ++ 10 ∷ []) (lines_text (before ++ line ∷ [])) rest ∙ ap (λ (x : List ℕ). (first ++ 10 ∷ []) ++ x) (lines_more before line rest) ∙ sym (append_assoc (first ++ 10 ∷ []) (lines_text before) (line ++ 10 ∷ rest))
 
-due_more : (stage : Stage) (said : List PlanLine) (x : PlanLine) → due_behind stage (said ++ x ∷ []) ≡ next (due_behind stage said) x
+pub due_more : (stage : Stage) (said : List PlanLine) (x : PlanLine) → due_behind stage (said ++ x ∷ []) ≡ next (due_behind stage said) x
 due_more stage [] x = refl
 due_more stage (first ∷ said) x = due_more (next stage first) said x
 
-plan_more : (plan : Plan) (said : List PlanLine) (x : PlanLine) → plan_behind plan (said ++ x ∷ []) ≡ taken (plan_behind plan said) x
+pub plan_more : (plan : Plan) (said : List PlanLine) (x : PlanLine) → plan_behind plan (said ++ x ∷ []) ≡ taken (plan_behind plan said) x
 plan_more plan [] x = refl
 plan_more plan (first ∷ said) x = plan_more (taken plan first) said x
 
-said_more : (p : Problem) (stage : Stage) (before : List (List ℕ)) (said : List PlanLine) (line : List ℕ) (x : PlanLine) → AreSaid p stage before said → line_at p (due_behind stage said) (fields_of line) ≡ Ok x → AreSaid p stage (before ++ line ∷ []) (said ++ x ∷ [])
+pub said_more : (p : Problem) (stage : Stage) (before : List (List ℕ)) (said : List PlanLine) (line : List ℕ) (x : PlanLine) → AreSaid p stage before said → line_at p (due_behind stage said) (fields_of line) ≡ Ok x → AreSaid p stage (before ++ line ∷ []) (said ++ x ∷ [])
 said_more p stage [] [] line x right e = (e, tt)
 said_more p stage [] (first ∷ said) line x right e = absurd right
 said_more p stage (l ∷ before) [] line x right e = absurd right

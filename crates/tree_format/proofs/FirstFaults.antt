@@ -94,7 +94,7 @@ none_before p stage number text kind fault e here =
       line = omega arith;
     })
 
-unended_stage : (stage : Stage) → is_ended stage ≡ false → stage ≡ due.Ended → ⊥
+pub unended_stage : (stage : Stage) → is_ended stage ≡ false → stage ≡ due.Ended → ⊥
 unended_stage stage unended ended = let bad : true ≡ false = subst (λ (s : Stage). is_ended s ≡ false) ended unended in cc
 
 -- a line and what follows its line feed

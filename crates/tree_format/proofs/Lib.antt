@@ -16,3 +16,4 @@ pub mod Summaries
 pub mod Gatherings
 pub mod LineNumbers
 pub mod Feedings
+pub mod BytesFed

@@ -57,6 +57,17 @@ Tells p fed items = (feed : Stand) × HasRead p fed items feed
 abbrev pub IsDecided : Problem → List ℕ → PlanFault → Type 0
 IsDecided p fed fault = (more : List ℕ) → plan_at p (fed ++ more) ≡ Err fault
 
+-- these bytes are the text of a plan, and these are its items
+pub record IsWhole (p : Problem) (fed : List ℕ) (items : List PlanItem) : Type 0 where
+  pub plan : Plan
+  pub spelled : plan_at p fed ≡ Ok plan
+  pub tell : items ≡ items_of plan
+
+-- the bytes end before the line feed of the line that is due
+pub record IsCutOff (p : Problem) (fed : List ℕ) (fault : PlanFault) : Type 0 where
+  pub first : plan_at p fed ≡ Err fault
+  pub early : fault.kind ≡ EarlyEnd
+
 -- a path and prefixes of the problem's positions; a prefix is within the horizon, and a reference is as long
 pub record IsHead (p : Problem) (path : List ℕ) (nodes : ℕ) : Type 0 where
   pub positions : ArePositions p path

@@ -4,6 +4,9 @@ ghost use Rattle.std.specs.Prelude.{◌≡◌, ◌<◌, ◌≤◌, ◌+◌, ◌�
 ghost use Rattle.tree_format.specs.Pieces.{fields_of};
 ghost use Rattle.tree_format.specs.Reading.{line_at, next, at_line_number};
 ghost use Rattle.tree_format.specs.FeedSteps.{moved, step_of, line_ended, byte_fed, IsNumbered};
+ghost use Rattle.tree_format.specs.Feeding.{HasRead, Tells, IsDecided, IsItem, IsWhole, IsCutOff, IfMore, IfItem, IfFaulty, GoesOn};
+ghost use Rattle.tree_format.specs.declared.plan_item.PlanItem.{PlanItem as ItemLem};
+ghost use Rattle.search_model.specs.Problem.{Problem};
 
 use crate::adding::one_less;
 use crate::gathered_line::GatheredLine;
@@ -103,8 +106,8 @@ impl PlanFeed {
         }
     }
 
-    /// Takes a byte.
-    fn take(&mut self, sc: &Scenario, byte: u8) -> Step
+    /// Takes a byte: how the state changes.
+    fn step(&mut self, sc: &Scenario, byte: u8) -> Step
         ensures step { result ≡ (byte_fed sc.now byte self.old).step }
         ensures stand { self.new ≡ (byte_fed sc.now byte self.old).stand }
     {
@@ -119,5 +122,85 @@ impl PlanFeed {
         }
         self.line.push(byte);
         Step::More
+    }
+
+    /// Takes a byte: what follows from it.
+    fn take(&mut self, sc: &Scenario, byte: u8) -> Step
+        ensures { (fed : List ℕ) (items : List ItemLem) → HasRead sc.now fed items self.old → GoesOn sc.now (fed ++ byte ∷ []) items result self.new }
+    {
+        let _cells = sc.cells();
+        self.step(sc, byte)
+    }
+
+    /// Nothing was fed. It takes all the memory that the feed will ever need.
+    pub fn start(alloc: Global, sc: &Scenario) -> Result<PlanFeed, NoMemory>
+        ensures { IfOk result (λ feed. HasRead sc.now [] [] feed) }
+    {
+        let _cells = sc.cells();
+        let line = GatheredLine::empty(alloc)?;
+        Ok(PlanFeed {
+            number: 1,
+            stage: Stage::Version,
+            standing: Standing {
+                path: Path::empty(),
+                value: 0,
+            },
+            weight: 0,
+            line,
+        })
+    }
+
+    /// Feeds the bytes of a piece up to the first that completes an item or decides a fault, or all of them. It takes no
+    /// memory. The scenario is always the same, and after a fault nothing more is fed.
+    pub fn feed(&mut self, sc: &Scenario, piece: &[u8]) -> Fed
+        requires some { 1 ≤ length piece.now }
+        ensures used { (1 ≤ result.used) × (result.used ≤ length piece.now) }
+        ensures all { IfMore result.step (result.used ≡ length piece.now) }
+        ensures more { (fed : List ℕ) (items : List ItemLem) → HasRead sc.now fed items self.old → IfMore result.step (HasRead sc.now (fed ++ piece.now) items self.new) }
+        ensures item { (fed : List ℕ) (items : List ItemLem) → HasRead sc.now fed items self.old → IfItem result.step (λ told. HasRead sc.now (fed ++ take result.used piece.now) (items ++ told ∷ []) self.new) }
+        ensures sound { (fed : List ℕ) (items : List ItemLem) → HasRead sc.now fed items self.old → IfItem result.step (λ told. IsItem sc.now told) }
+        ensures fault { (fed : List ℕ) (items : List ItemLem) → HasRead sc.now fed items self.old → IfFaulty result.step (λ fault. IsDecided sc.now (fed ++ take result.used piece.now) fault) }
+        ensures first { (fed : List ℕ) (items : List ItemLem) → HasRead sc.now fed items self.old → (n : ℕ) → n < result.used → Tells sc.now (fed ++ take n piece.now) items }
+    {
+        for (i, byte) in piece.iter().enumerate() {
+            match self.take(sc, *byte) {
+                Step::More => {}
+                Step::Item(item) => {
+                    return Fed {
+                        used: i + 1,
+                        step: Step::Item(item),
+                    };
+                }
+                Step::Fault(fault) => {
+                    return Fed {
+                        used: i + 1,
+                        step: Step::Fault(fault),
+                    };
+                }
+            }
+        }
+        Fed {
+            used: piece.len(),
+            step: Step::More,
+        }
+    }
+
+    /// Whether the bytes that were fed are the text of a plan, from its first byte to its last. It takes no memory.
+    ///
+    /// # Errors
+    ///
+    /// `EarlyEnd` in the line that is due: the bytes end before its line feed.
+    pub fn finish(&self) -> Result<(), PlanFault>
+        ensures whole { (p : Problem) (fed : List ℕ) (items : List ItemLem) → HasRead p fed items self.now → IfOk result (λ _. IsWhole p fed items) }
+        ensures early { (p : Problem) (fed : List ℕ) (items : List ItemLem) → HasRead p fed items self.now → IfErr result (λ fault. IsCutOff p fed fault) }
+    {
+        if is_ended(self.stage) {
+            Ok(())
+        } else {
+            Err(PlanFault {
+                line: self.number,
+                kind: PlanKind::EarlyEnd,
+            })
+        }
     }
 }
