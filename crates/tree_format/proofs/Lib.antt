@@ -17,3 +17,4 @@ pub mod Gatherings
 pub mod LineNumbers
 pub mod Feedings
 pub mod BytesFed
+pub mod FedPieces
