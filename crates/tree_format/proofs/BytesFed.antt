@@ -30,7 +30,7 @@ use Rattle.tree_format.proofs.FirstFaults.{unended_stage}
 use Rattle.tree_format.proofs.SpelledLines.{err_ok, version_told, path_told, chance_told, count_told, record_told, IsRecordLine, IsEndLine}
 use Rattle.tree_format.proofs.Spelled.{IsRead, ended_stage}
 use Rattle.tree_format.proofs.Gatherings.{gathered_more, gathered_judged}
-use Rattle.tree_format.proofs.Feedings.{lines_more, due_more, plan_more, said_more, read_behind, reads_on}
+use Rattle.tree_format.proofs.Feedings.{lines_more, due_more, plan_more, said_more, read_behind, text_behind}
 
 -- the items with a step more
 abbrev StepTells : Problem → List PlanItem → Step → List PlanItem → Type 0
@@ -115,17 +115,11 @@ module _ (p : Problem) (h : IsProblem p) (fed : List ℕ) (items : List PlanItem
   abbrev here : Stand
   here = stand_at number stage plan read.begun
 
-  -- the text, where a byte and more follows
-  text_behind : (c : ℕ) (more : List ℕ) → pieces_at p number stage plan (pieces_of (read.begun ++ c ∷ more)) ≡ plan_at p ((fed ++ c ∷ []) ++ more)
-  text_behind c more =
-      let text : (fed ++ c ∷ []) ++ more ≡ lines_text read.before ++ (read.begun ++ c ∷ more) = ap (λ (t : List ℕ). (t ++ c ∷ []) ++ more) read.whole ∙ simp append_assoc in
-      sym (ap (plan_at p) text ∙ reads_on p read.before read.said due.Version blank_plan 1 (read.begun ++ c ∷ more) read.feeds read.right)
-
   -- a byte behind the end
   byte_behind : (c : ℕ) → stage ≡ due.Ended → IsDecided p (fed ++ c ∷ []) (at_line_number number Rest)
   byte_behind c ended = λ more.
       let long = length-append read.begun (c ∷ more) in
-      at_rest p number stage plan (read.begun ++ c ∷ more) _ ended (λ none. omega (arith, none, long)) (text_behind c more)
+      at_rest p number stage plan (read.begun ++ c ∷ more) _ ended (λ none. omega (arith, none, long)) (text_behind p fed items s read c more)
 
   -- a line that says something
   line_read : (said : PlanLine) → line_at p stage (fields_of read.begun) ≡ Ok said → HasRead p (fed ++ 10 ∷ []) (told (next stage said) (taken plan said)) (moved here said)
@@ -153,7 +147,7 @@ module _ (p : Problem) (h : IsProblem p) (fed : List ℕ) (items : List PlanItem
 
   line_end : (r : Result PlanLine PlanKind) → (stage ≡ due.Ended → ⊥) → line_at p stage (fields_of read.begun) ≡ r → GoesOn p (fed ++ 10 ∷ []) items (line_ended here r).step (line_ended here r).stand
   line_end (Err kind) goes e = λ more.
-      at_fault p number stage plan kind (read.begun ++ 10 ∷ more) read.begun more _ goes (split_piece 10 read.begun more read.open_line) e (text_behind 10 more)
+      at_fault p number stage plan kind (read.begun ++ 10 ∷ more) read.begun more _ goes (split_piece 10 read.begun more read.open_line) e (text_behind p fed items s read 10 more)
   line_end (Ok said) goes e =
       let settled = read_behind p h due.Version blank_plan read.before read.said read.right refl in
       let tells : StepTells p items (step_of here said) (told (next stage said) (taken plan said)) =

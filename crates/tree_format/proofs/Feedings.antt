@@ -78,3 +78,9 @@ reads_on p (line ∷ before) (first ∷ said) stage plan number rest feeds right
     sym (at_line p number stage plan first text line left _ goes cut right.0 refl)
     ∙ reads_on p before said (next stage first) (taken plan first) (number + 1) rest (All-tail HasNoFeed line before feeds) right.1
     ∙ ap (λ (n : ℕ). pieces_at p n (due_behind (next stage first) said) (plan_behind (taken plan first) said) (pieces_of rest)) later
+
+-- where a byte and more follows what a feed was fed
+pub text_behind : (p : Problem) (fed : List ℕ) (items : List PlanItem) (feed : Stand) (read : HasRead p fed items feed) (c : ℕ) (more : List ℕ) → pieces_at p (1 + length read.before) (due_behind due.Version read.said) (plan_behind blank_plan read.said) (pieces_of (read.begun ++ c ∷ more)) ≡ plan_at p ((fed ++ c ∷ []) ++ more)
+text_behind p fed items feed read c more =
+    let text : (fed ++ c ∷ []) ++ more ≡ lines_text read.before ++ (read.begun ++ c ∷ more) = ap (λ (t : List ℕ). (t ++ c ∷ []) ++ more) read.whole ∙ simp append_assoc in
+    sym (ap (plan_at p) text ∙ reads_on p read.before read.said due.Version blank_plan 1 (read.begun ++ c ∷ more) read.feeds read.right)

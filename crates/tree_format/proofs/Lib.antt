@@ -18,3 +18,4 @@ pub mod LineNumbers
 pub mod Feedings
 pub mod BytesFed
 pub mod FedPieces
+pub mod FedLaws

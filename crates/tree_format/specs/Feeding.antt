@@ -49,6 +49,10 @@ pub record HasRead (p : Problem) (fed : List ℕ) (items : List PlanItem) (feed 
   pub tell : items ≡ told (due_behind due.Version said) (plan_behind blank_plan said)
   pub stand : feed ≡ stand_at (1 + length before) (due_behind due.Version said) (plan_behind blank_plan said) begun
 
+-- this holds of any bytes and items that a feed has read
+abbrev pub IfRead : Problem → Stand → (List ℕ → List PlanItem → Type 0) → Type 0
+IfRead p feed P = (fed : List ℕ) (items : List PlanItem) → HasRead p fed items feed → P fed items
+
 -- these bytes have no fault so far, and their lines tell these items
 abbrev pub Tells : Problem → List ℕ → List PlanItem → Type 0
 Tells p fed items = (feed : Stand) × HasRead p fed items feed

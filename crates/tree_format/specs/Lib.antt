@@ -6,6 +6,7 @@ pub mod Reading
 pub mod Gathering
 pub mod FeedSteps
 pub mod Feeding
+pub mod FeedLaws
 pub mod Gives
 pub mod Faults
 pub mod KindTable

@@ -4,8 +4,10 @@ ghost use Rattle.std.specs.Prelude.{◌≡◌, ◌<◌, ◌≤◌, ◌+◌, ◌�
 ghost use Rattle.tree_format.specs.Pieces.{fields_of};
 ghost use Rattle.tree_format.specs.Reading.{line_at, next, at_line_number};
 ghost use Rattle.tree_format.specs.FeedSteps.{moved, step_of, line_ended, byte_fed, IsNumbered};
-ghost use Rattle.tree_format.specs.Feeding.{HasRead, Tells, IsDecided, IsItem, IsWhole, IsCutOff, IfMore, IfItem, IfFaulty, GoesOn};
+ghost use Rattle.tree_format.specs.Feeding.{HasRead, IfRead, Tells, IsDecided, IsItem, IsWhole, IsCutOff, IfMore, IfItem, IfFaulty, GoesOn};
 ghost use Rattle.tree_format.specs.declared.plan_item.PlanItem.{PlanItem as ItemLem};
+ghost use Rattle.tree_format.specs.declared.plan_item.Step.TheVariants as step;
+ghost use Rattle.tree_format.specs.declared.kind.PlanFault.{PlanFault as FaultLem};
 ghost use Rattle.search_model.specs.Problem.{Problem};
 
 use crate::adding::one_less;
@@ -126,7 +128,7 @@ impl PlanFeed {
 
     /// Takes a byte: what follows from it.
     fn take(&mut self, sc: &Scenario, byte: u8) -> Step
-        ensures { (fed : List ℕ) (items : List ItemLem) → HasRead sc.now fed items self.old → GoesOn sc.now (fed ++ byte ∷ []) items result self.new }
+        ensures { IfRead sc.now self.old (λ fed items. GoesOn sc.now (fed ++ byte ∷ []) items result self.new) }
     {
         let _cells = sc.cells();
         self.step(sc, byte)
@@ -156,11 +158,13 @@ impl PlanFeed {
         requires some { 1 ≤ length piece.now }
         ensures used { (1 ≤ result.used) × (result.used ≤ length piece.now) }
         ensures all { IfMore result.step (result.used ≡ length piece.now) }
-        ensures more { (fed : List ℕ) (items : List ItemLem) → HasRead sc.now fed items self.old → IfMore result.step (HasRead sc.now (fed ++ piece.now) items self.new) }
-        ensures item { (fed : List ℕ) (items : List ItemLem) → HasRead sc.now fed items self.old → IfItem result.step (λ told. HasRead sc.now (fed ++ take result.used piece.now) (items ++ told ∷ []) self.new) }
-        ensures sound { (fed : List ℕ) (items : List ItemLem) → HasRead sc.now fed items self.old → IfItem result.step (λ told. IsItem sc.now told) }
-        ensures fault { (fed : List ℕ) (items : List ItemLem) → HasRead sc.now fed items self.old → IfFaulty result.step (λ fault. IsDecided sc.now (fed ++ take result.used piece.now) fault) }
-        ensures first { (fed : List ℕ) (items : List ItemLem) → HasRead sc.now fed items self.old → (n : ℕ) → n < result.used → Tells sc.now (fed ++ take n piece.now) items }
+        ensures more { IfRead sc.now self.old (λ fed items. IfMore result.step (HasRead sc.now (fed ++ piece.now) items self.new)) }
+        ensures item { IfRead sc.now self.old (λ fed items. IfItem result.step (λ told. HasRead sc.now (fed ++ take result.used piece.now) (items ++ told ∷ []) self.new)) }
+        ensures completed { IfRead sc.now self.old (λ fed items. (told : ItemLem) → Tells sc.now (fed ++ take result.used piece.now) (items ++ told ∷ []) → result.step ≡ step.Item told) }
+        ensures sound { IfRead sc.now self.old (λ fed items. IfItem result.step (λ told. IsItem sc.now told)) }
+        ensures fault { IfRead sc.now self.old (λ fed items. IfFaulty result.step (λ fault. IsDecided sc.now (fed ++ take result.used piece.now) fault)) }
+        ensures decided { IfRead sc.now self.old (λ fed items. (fault : FaultLem) → IsDecided sc.now (fed ++ take result.used piece.now) fault → result.step ≡ step.Fault fault) }
+        ensures first { IfRead sc.now self.old (λ fed items. (n : ℕ) → n < result.used → Tells sc.now (fed ++ take n piece.now) items) }
     {
         for (i, byte) in piece.iter().enumerate() {
             match self.take(sc, *byte) {

@@ -4,6 +4,7 @@
 mod adding;
 mod draft;
 mod feed;
+mod feed_laws;
 mod fields;
 mod gathered_line;
 mod head;
@@ -29,6 +30,10 @@ pub use laws::{
     summary_decides,
 };
 pub use feed::PlanFeed;
+pub use feed_laws::{
+    cut_anywhere, each_fault_is_met, fault_is_last, gathered_is_summary, items_in_order,
+    items_of_the_plan,
+};
 pub use plan_item::{Fed, PlanItem, Step};
 pub use printing::print_plan;
 pub use reading::read_plan;
