@@ -2,7 +2,7 @@
 use Rattle.std.proofs.Common.{◌≡◌, ℕ, ◌<◌, ◌≤◌, ◌+◌, List, [], ◌∷◌, ◌++◌, length, get_or, take, Result, Ok, Err, refl, sym, ap, subst, ◌∙◌, arith, append_assoc, ◌⊎◌, inl, inr}
 use Rattle.std.specs.Prelude.{All}
 use Rattle.std.proofs.lemmas.Bool.{cases_lt}
-use Rattle.std.proofs.lemmas.List.{append-nil, take_more}
+use Rattle.std.proofs.lemmas.List.{append-nil, take_all, take_more}
 use Rattle.std.proofs.lemmas.List.Elements.{All-nil}
 use Rattle.search_model.specs.Problem.{Problem}
 use Rattle.bound_tree.specs.declared.plan.Plan.{Plan}
@@ -12,12 +12,13 @@ use Rattle.tree_format.specs.declared.plan_line.Stage.{Stage}
 use Rattle.tree_format.specs.declared.plan_line.Stage.TheVariants as due
 use Rattle.tree_format.specs.declared.plan_item.PlanItem.{PlanItem}
 use Rattle.tree_format.specs.declared.plan_item.Step.{Step}
+use Rattle.tree_format.specs.declared.plan_item.Step.TheVariants.{More}
 use Rattle.tree_format.specs.Pieces.{pieces_of}
 use Rattle.tree_format.specs.Faults.{HasNoFeed, lines_text, due_behind}
 use Rattle.tree_format.specs.Reading.{blank_plan, at_line_number, pieces_at, plan_at}
 use Rattle.tree_format.specs.Gathering.{Gathered, nothing_gathered}
 use Rattle.tree_format.specs.FeedSteps.{Stand, stand_at}
-use Rattle.tree_format.specs.Feeding.{told, plan_behind, HasRead, Tells, IsWhole, IsCutOff, GoesOn}
+use Rattle.tree_format.specs.Feeding.{told, plan_behind, HasRead, IfRead, Tells, IsWhole, IsCutOff, GoesOn}
 use Rattle.tree_format.proofs.Cuts.{split_whole}
 use Rattle.tree_format.proofs.Loop.{at_early, at_end}
 use Rattle.tree_format.proofs.Gatherings.{gathered_nothing}
@@ -57,11 +58,17 @@ fed_before p fed items piece i feed to n lt = elim (cases_lt n i) [
   | inr above ↦ let same : i ≡ n = omega (arith, lt, above) in subst (λ (k : ℕ). Tells p (fed ++ take k piece) items) same (feed, to.here)
 ]
 
--- a byte more of it
-pub fed_byte : (p : Problem) (fed : List ℕ) (items : List PlanItem) (piece : List ℕ) (i : ℕ) (step : Step) (new : Stand) → i < length piece → GoesOn p ((fed ++ take i piece) ++ get_or piece i 0 ∷ []) items step new → GoesOn p (fed ++ take (i + 1) piece) items step new
-fed_byte p fed items piece i step new lt goes =
+-- a byte more of it, and what it brought
+pub fed_byte : (p : Problem) (fed : List ℕ) (items : List PlanItem) (piece : List ℕ) (i : ℕ) (step brought : Step) (old new : Stand) → i < length piece → IsFedTo p fed items piece i old → IfRead p old (λ bytes told. GoesOn p (bytes ++ get_or piece i 0 ∷ []) told step new) → step ≡ brought → GoesOn p (fed ++ take (i + 1) piece) items brought new
+fed_byte p fed items piece i step brought old new lt to taken is =
     let bytes : (fed ++ take i piece) ++ get_or piece i 0 ∷ [] ≡ fed ++ take (i + 1) piece = append_assoc fed (take i piece) (get_or piece i 0 ∷ []) ∙ ap (λ (t : List ℕ). fed ++ t) (sym (take_more piece i 0 lt)) in
-    subst (λ (t : List ℕ). GoesOn p t items step new) bytes goes
+    subst (λ (s : Step). GoesOn p (fed ++ take (i + 1) piece) items s new) is (subst (λ (t : List ℕ). GoesOn p t items step new) bytes (taken (fed ++ take i piece) items to.here))
+
+-- and its last byte
+pub fed_all : (p : Problem) (fed : List ℕ) (items : List PlanItem) (piece : List ℕ) (i : ℕ) (feed : Stand) → length piece ≤ i → IsFedTo p fed items piece i feed → GoesOn p (fed ++ take (length piece) piece) items More feed
+fed_all p fed items piece i feed le to =
+    let same : take i piece ≡ take (length piece) piece = take_all i piece le ∙ sym (take_all (length piece) piece (omega arith)) in
+    subst (λ (t : List ℕ). HasRead p (fed ++ t) items feed) same to.here
 
 pub fed_more : (p : Problem) (fed : List ℕ) (items : List PlanItem) (piece : List ℕ) (i : ℕ) (old new : Stand) → IsFedTo p fed items piece i old → HasRead p (fed ++ take (i + 1) piece) items new → IsFedTo p fed items piece (i + 1) new
 fed_more p fed items piece i old new to read = record { here = read; earlier = fed_before p fed items piece i old to }
