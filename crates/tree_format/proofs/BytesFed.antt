@@ -1,15 +1,14 @@
 -- What a byte more of a plan's text brings.
-use Rattle.std.proofs.Common.{◌≡◌, ℕ, suc, ◌≤◌, ◌+◌, ◌-◌, Bool, true, false, cond, List, [], ◌∷◌, ◌++◌, map, length, Result, Ok, Err, refl, sym, ap, subst, ◌∙◌, arith, append_assoc, length-append, ◌⊎◌, inl, inr}
-use Rattle.std.specs.Prelude.{All, ◌==◌}
+use Rattle.std.proofs.Common.{◌≡◌, ℕ, ◌+◌, ◌-◌, List, [], ◌∷◌, ◌++◌, map, length, Result, Ok, Err, refl, sym, ap, subst, ◌∙◌, arith, append_assoc, length-append, inl, inr}
+use Rattle.std.specs.Prelude.{◌==◌}
 use Rattle.std.proofs.lemmas.Bool.{cond_both, eqb-true, eqb-false}
-use Rattle.std.proofs.lemmas.List.{append-nil, map-append}
-use Rattle.std.proofs.lemmas.List.Elements.{All-nil, All-cons, All-push}
+use Rattle.std.proofs.lemmas.List.{map-append}
+use Rattle.std.proofs.lemmas.List.Elements.{All-nil, All-push}
 use Rattle.search_model.specs.Problem.{Problem, IsProblem}
 use Rattle.bound_tree.specs.declared.node.TreeNode.{TreeNode}
 use Rattle.bound_tree.specs.declared.plan.Plan.{Plan}
 use Rattle.tree_format.specs.declared.kind.PlanKind.{PlanKind}
-use Rattle.tree_format.specs.declared.kind.PlanKind.TheVariants.{BadLine, EarlyEnd, Rest}
-use Rattle.tree_format.specs.declared.kind.PlanFault.{PlanFault}
+use Rattle.tree_format.specs.declared.kind.PlanKind.TheVariants.{BadLine, Rest}
 use Rattle.tree_format.specs.declared.plan_line.Stage.{Stage}
 use Rattle.tree_format.specs.declared.plan_line.Stage.TheVariants as due
 use Rattle.tree_format.specs.declared.plan_line.PlanLine.{PlanLine}
@@ -18,12 +17,12 @@ use Rattle.tree_format.specs.declared.plan_item.PlanItem.{PlanItem}
 use Rattle.tree_format.specs.declared.plan_item.PlanItem.TheVariants as item
 use Rattle.tree_format.specs.declared.plan_item.Step.{Step}
 use Rattle.tree_format.specs.declared.plan_item.Step.TheVariants.{More, Item, Fault}
-use Rattle.tree_format.specs.Pieces.{pieces_of, fields_of}
-use Rattle.tree_format.specs.Faults.{HasNoFeed, lines_text, AreSaid, due_behind}
-use Rattle.tree_format.specs.Reading.{line_at, stage_line, blank_plan, next, taken, is_ended, at_line_number, pieces_at, plan_at}
-use Rattle.tree_format.specs.Gathering.{Gathered, nothing_gathered, gathered, with_byte}
-use Rattle.tree_format.specs.FeedSteps.{Stand, Moved, stand_at, head_of, moved, step_of, line_ended, line_begun, byte_fed}
-use Rattle.tree_format.specs.Feeding.{items_of, told, plan_behind, HasRead, IsDecided, IsItem, GoesOn}
+use Rattle.tree_format.specs.Pieces.{fields_of}
+use Rattle.tree_format.specs.Faults.{HasNoFeed, lines_text, due_behind}
+use Rattle.tree_format.specs.Reading.{line_at, stage_line, blank_plan, next, taken, is_ended, at_line_number}
+use Rattle.tree_format.specs.Gathering.{Gathered, nothing_gathered, gathered}
+use Rattle.tree_format.specs.FeedSteps.{Stand, Moved, stand_at, moved, step_of, line_ended, line_begun, byte_fed}
+use Rattle.tree_format.specs.Feeding.{told, plan_behind, HasRead, IsDecided, IsItem, GoesOn}
 use Rattle.tree_format.proofs.Cuts.{split_piece}
 use Rattle.tree_format.proofs.Loop.{at_fault, at_rest}
 use Rattle.tree_format.proofs.FirstFaults.{unended_stage}

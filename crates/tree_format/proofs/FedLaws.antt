@@ -1,12 +1,9 @@
 -- The bytes fed decide the items and the fault.
-use Rattle.std.proofs.Common.{◌≡◌, ℕ, zero, suc, ◌<◌, ◌≤◌, ◌+◌, Bool, true, false, List, [], ◌∷◌, ◌++◌, map, length, take, drop, Option, Some, Result, Ok, Err, refl, sym, ap, subst, ◌∙◌, arith, append_assoc, length-append, ◌⊎◌, inl, inr}
+use Rattle.std.proofs.Common.{◌≡◌, ℕ, suc, ◌≤◌, ◌+◌, Bool, true, false, List, [], ◌∷◌, ◌++◌, length, take, drop, Some, Result, Ok, Err, refl, sym, ap, subst, ◌∙◌, arith, append_assoc, length-append, ◌⊎◌, inl, inr}
 use Rattle.std.specs.Prelude.{All}
-use Rattle.std.proofs.lemmas.Bool.{cond_both}
-use Rattle.std.proofs.lemmas.List.{append-nil, append_cancel_left, take-append-drop}
+use Rattle.std.proofs.lemmas.List.{append-nil, take-append-drop}
 use Rattle.std.proofs.lemmas.List.Elements.{All-head, All-tail}
-use Rattle.search_model.specs.declared.standing.Standing.{Standing}
 use Rattle.search_model.specs.Problem.{Problem, IsProblem}
-use Rattle.bound_tree.specs.declared.node.TreeNode.{TreeNode}
 use Rattle.bound_tree.specs.declared.plan.Plan.{Plan}
 use Rattle.tree_format.specs.declared.kind.PlanKind.{PlanKind}
 use Rattle.tree_format.specs.declared.kind.PlanKind.TheVariants.{BadLine, BadNumber, UnknownName, TooManyNodes, WrongCount, EarlyEnd}
@@ -15,21 +12,20 @@ use Rattle.tree_format.specs.declared.plan_line.Stage.{Stage}
 use Rattle.tree_format.specs.declared.plan_line.Stage.TheVariants as due
 use Rattle.tree_format.specs.declared.plan_line.PlanLine.{PlanLine}
 use Rattle.tree_format.specs.declared.plan_item.PlanItem.{PlanItem}
-use Rattle.tree_format.specs.declared.plan_item.PlanItem.TheVariants as item
 use Rattle.tree_format.specs.declared.plan_item.Step.{Step}
 use Rattle.tree_format.specs.declared.plan_item.Step.TheVariants.{More, Item, Fault}
 use Rattle.tree_format.specs.Pieces.{pieces_of, fields_of}
 use Rattle.tree_format.specs.Faults.{HasNoFeed, lines_text, AreSaid, due_behind}
 use Rattle.tree_format.specs.Reading.{line_at, blank_plan, next, taken, is_ended, at_line_number, pieces_at, plan_at}
-use Rattle.tree_format.specs.KindTable.{first_kind, fault_of, kind_by_table}
+use Rattle.tree_format.specs.KindTable.{first_kind, fault_of}
 use Rattle.tree_format.specs.FeedSteps.{Stand, stand_at, byte_fed}
-use Rattle.tree_format.specs.Feeding.{items_of, told, plan_behind, HasRead, Tells, IsDecided, IsWhole, IsCutOff, IfMore, IfItem, IfFaulty, GoesOn}
-use Rattle.tree_format.specs.FeedLaws.{CutAnywhere, ItemsOfThePlan, IsMet, EachFaultIsMet, FaultIsLast, AreInOrder, ItemsInOrder, GatheredIsSummary}
+use Rattle.tree_format.specs.Feeding.{items_of, told, plan_behind, HasRead, Tells, IsDecided, IsWhole, IsCutOff, GoesOn}
+use Rattle.tree_format.specs.FeedLaws.{CutAnywhere, ItemsOfThePlan, EachFaultIsMet, FaultIsLast, AreInOrder, ItemsInOrder, GatheredIsSummary}
 use Rattle.tree_format.proofs.Cuts.{split_piece, split_whole, split_nothing}
 use Rattle.tree_format.proofs.Loop.{at_line, at_fault, at_early, at_end}
 use Rattle.tree_format.proofs.FirstFaults.{unended_stage}
-use Rattle.tree_format.proofs.SpelledLines.{err_ok, same_ok}
-use Rattle.tree_format.proofs.Spelled.{IsRead, IsTreeOf, ended_stage}
+use Rattle.tree_format.proofs.SpelledLines.{same_ok}
+use Rattle.tree_format.proofs.Spelled.{IsRead, ended_stage}
 use Rattle.tree_format.proofs.Tables.{kinds_by_table}
 use Rattle.tree_format.proofs.Gatherings.{gathered_summary}
 use Rattle.tree_format.proofs.Feedings.{read_behind, text_behind}
@@ -77,10 +73,10 @@ cut_anywhere p fed items others feed other a b =
     let said = said_same p due.Version b.before a.said b.said (subst (λ (lines : List (List ℕ)). AreSaid p due.Version lines a.said) pieces.0 a.right) b.right in (
       a.tell ∙ ap (λ (ls : List PlanLine). told (due_behind due.Version ls) (plan_behind blank_plan ls)) said ∙ sym b.tell,
       a.stand
-      ∙ ap (λ (lines : List (List ℕ)). stand_at (1 + length lines) (due_behind due.Version a.said) (plan_behind blank_plan a.said) a.begun) pieces.0
-      ∙ ap (λ (line : List ℕ). stand_at (1 + length b.before) (due_behind due.Version a.said) (plan_behind blank_plan a.said) line) pieces.1
-      ∙ ap (λ (ls : List PlanLine). stand_at (1 + length b.before) (due_behind due.Version ls) (plan_behind blank_plan ls) b.begun) said
-      ∙ sym b.stand,
+          ∙ ap (λ (lines : List (List ℕ)). stand_at (1 + length lines) (due_behind due.Version a.said) (plan_behind blank_plan a.said) a.begun) pieces.0
+          ∙ ap (λ (line : List ℕ). stand_at (1 + length b.before) (due_behind due.Version a.said) (plan_behind blank_plan a.said) line) pieces.1
+          ∙ ap (λ (ls : List PlanLine). stand_at (1 + length b.before) (due_behind due.Version ls) (plan_behind blank_plan ls) b.begun) said
+          ∙ sym b.stand,
     )
 
 -- No fault is decided where the lines are right so far.

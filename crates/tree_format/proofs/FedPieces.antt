@@ -1,23 +1,21 @@
 -- Pieces of a plan's text, and its end.
-use Rattle.std.proofs.Common.{◌≡◌, ℕ, ◌<◌, ◌≤◌, ◌+◌, List, [], ◌∷◌, ◌++◌, length, get_or, take, Result, Ok, Err, refl, sym, ap, subst, ◌∙◌, arith, append_assoc, ◌⊎◌, inl, inr}
-use Rattle.std.specs.Prelude.{All}
+use Rattle.std.proofs.Common.{◌≡◌, ℕ, ◌<◌, ◌≤◌, ◌+◌, List, [], ◌∷◌, ◌++◌, length, get_or, take, Err, refl, sym, ap, subst, ◌∙◌, arith, append_assoc, inl, inr}
 use Rattle.std.proofs.lemmas.Bool.{cases_lt}
 use Rattle.std.proofs.lemmas.List.{append-nil, take_all, take_more}
 use Rattle.std.proofs.lemmas.List.Elements.{All-nil}
 use Rattle.search_model.specs.Problem.{Problem}
 use Rattle.bound_tree.specs.declared.plan.Plan.{Plan}
 use Rattle.tree_format.specs.declared.kind.PlanKind.TheVariants.{EarlyEnd}
-use Rattle.tree_format.specs.declared.kind.PlanFault.{PlanFault}
 use Rattle.tree_format.specs.declared.plan_line.Stage.{Stage}
 use Rattle.tree_format.specs.declared.plan_line.Stage.TheVariants as due
 use Rattle.tree_format.specs.declared.plan_item.PlanItem.{PlanItem}
 use Rattle.tree_format.specs.declared.plan_item.Step.{Step}
 use Rattle.tree_format.specs.declared.plan_item.Step.TheVariants.{More}
 use Rattle.tree_format.specs.Pieces.{pieces_of}
-use Rattle.tree_format.specs.Faults.{HasNoFeed, lines_text, due_behind}
+use Rattle.tree_format.specs.Faults.{HasNoFeed, due_behind}
 use Rattle.tree_format.specs.Reading.{blank_plan, at_line_number, pieces_at, plan_at}
 use Rattle.tree_format.specs.Gathering.{Gathered, nothing_gathered}
-use Rattle.tree_format.specs.FeedSteps.{Stand, stand_at}
+use Rattle.tree_format.specs.FeedSteps.{Stand}
 use Rattle.tree_format.specs.Feeding.{told, plan_behind, HasRead, IfRead, Tells, IsWhole, IsCutOff, GoesOn}
 use Rattle.tree_format.proofs.Cuts.{split_whole}
 use Rattle.tree_format.proofs.Loop.{at_early, at_end}

@@ -1,38 +1,22 @@
 -- A byte more of the text that a feed was fed.
-use Rattle.std.proofs.Common.{◌≡◌, ℕ, suc, ◌≤◌, ◌+◌, ◌-◌, Bool, true, false, cond, List, [], ◌∷◌, ◌++◌, map, length, Result, Ok, Err, refl, sym, ap, subst, ◌∙◌, arith, append_assoc, length-append, ◌⊎◌, inl, inr}
-use Rattle.std.specs.Prelude.{All, ◌==◌}
-use Rattle.std.specs.List.{flat_map}
-use Rattle.std.proofs.lemmas.Bool.{cond_both, eqb-true, eqb-false}
-use Rattle.std.proofs.lemmas.List.{append-nil, map-append}
-use Rattle.std.proofs.lemmas.List.Concat.{flat_map-append}
-use Rattle.std.proofs.lemmas.List.Elements.{All-nil, All-cons, All-push, All-head, All-tail}
+use Rattle.std.proofs.Common.{◌≡◌, ℕ, suc, ◌+◌, List, [], ◌∷◌, ◌++◌, length, Ok, refl, sym, ap, ◌∙◌, arith, append_assoc}
+use Rattle.std.specs.Prelude.{All}
+use Rattle.std.proofs.lemmas.List.Elements.{All-head, All-tail}
 use Rattle.search_model.specs.Problem.{Problem, IsProblem}
-use Rattle.bound_tree.specs.declared.node.TreeNode.{TreeNode}
 use Rattle.bound_tree.specs.declared.plan.Plan.{Plan}
-use Rattle.tree_format.specs.declared.kind.PlanKind.{PlanKind}
-use Rattle.tree_format.specs.declared.kind.PlanKind.TheVariants.{BadLine, EarlyEnd, Rest}
-use Rattle.tree_format.specs.declared.kind.PlanFault.{PlanFault}
 use Rattle.tree_format.specs.declared.plan_line.Stage.{Stage}
 use Rattle.tree_format.specs.declared.plan_line.Stage.TheVariants as due
 use Rattle.tree_format.specs.declared.plan_line.PlanLine.{PlanLine}
-use Rattle.tree_format.specs.declared.plan_line.PlanLine.TheVariants.{Version, Path, Chance, Count, Node, End}
 use Rattle.tree_format.specs.declared.plan_item.PlanItem.{PlanItem}
-use Rattle.tree_format.specs.declared.plan_item.PlanItem.TheVariants as item
-use Rattle.tree_format.specs.declared.plan_item.Step.{Step}
-use Rattle.tree_format.specs.declared.plan_item.Step.TheVariants.{More, Item, Fault}
 use Rattle.tree_format.specs.Pieces.{pieces_of, fields_of}
-use Rattle.tree_format.specs.PlanText.{IsPrintableRecord}
 use Rattle.tree_format.specs.Faults.{HasNoFeed, lines_text, AreSaid, due_behind}
-use Rattle.tree_format.specs.Reading.{line_at, stage_line, blank_plan, next, taken, is_ended, at_line_number, pieces_at, plan_at}
-use Rattle.tree_format.specs.Gathering.{nothing_gathered, gathered}
-use Rattle.tree_format.specs.FeedSteps.{Stand, stand_at, head_of, moved, step_of, line_ended, line_begun, byte_fed}
-use Rattle.tree_format.specs.Feeding.{items_of, told, plan_behind, HasRead, IsDecided, IsItem, GoesOn}
+use Rattle.tree_format.specs.Reading.{line_at, blank_plan, next, taken, pieces_at, plan_at}
+use Rattle.tree_format.specs.FeedSteps.{Stand}
+use Rattle.tree_format.specs.Feeding.{plan_behind, HasRead}
 use Rattle.tree_format.proofs.Cuts.{split_piece}
-use Rattle.tree_format.proofs.Loop.{at_line, at_fault, at_rest}
+use Rattle.tree_format.proofs.Loop.{at_line}
 use Rattle.tree_format.proofs.FirstFaults.{due_still}
-use Rattle.tree_format.proofs.SpelledLines.{err_ok, version_told, path_told, chance_told, count_told, record_told}
-use Rattle.tree_format.proofs.Spelled.{IsRead, line_on, ended_stage}
-use Rattle.tree_format.proofs.Gatherings.{gathered_more, gathered_nothing, gathered_judged}
+use Rattle.tree_format.proofs.Spelled.{IsRead, line_on}
 
 -- One line more.
 

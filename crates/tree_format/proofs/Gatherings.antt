@@ -1,12 +1,12 @@
 -- The line that a feed keeps has the fields of the line's summary.
 use Rattle.std.proofs.Common.{◌≡◌, ℕ, suc, ◌<◌, ◌≤◌, ◌+◌, ◌-◌, Bool, true, false, cond, List, [], ◌∷◌, ◌++◌, map, length, take, refl, sym, ap, ◌∙◌, arith, append_assoc}
-use Rattle.std.specs.Prelude.{◌==◌, ◌&&◌, nat_lt}
+use Rattle.std.specs.Prelude.{◌==◌, nat_lt}
 use Rattle.std.specs.List.{onto_first}
 use Rattle.std.proofs.lemmas.Bool.{cond_both, lt-ltb, ltb-true, ltb-false, eqb-true, eqb-false}
 use Rattle.std.proofs.lemmas.List.{append-nil, take_all}
 use Rattle.search_model.specs.Problem.{Problem, IsProblem}
 use Rattle.tree_format.specs.declared.plan_line.Stage.{Stage}
-use Rattle.tree_format.specs.Pieces.{split_at, fields_of}
+use Rattle.tree_format.specs.Pieces.{fields_of}
 use Rattle.tree_format.specs.Reading.{line_at, summary_of}
 use Rattle.tree_format.specs.Gathering.{Gathered, nothing_gathered, with_blank, with_other, with_byte, gathered}
 use Rattle.tree_format.proofs.Cuts.{split_more, split_here, split_nothing, some_piece}

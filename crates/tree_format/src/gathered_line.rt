@@ -3,12 +3,13 @@
 ghost use Rattle.std.specs.Prelude.{◌≡◌, IfOk};
 ghost use Rattle.tree_format.specs.Gathering.{nothing_gathered, with_blank, with_other, with_byte};
 
+use crate::pieces::{MOST_BYTES, MOST_FIELDS};
 use exact_parts::NoMemory;
 use std::alloc::Global;
 use std::marker::Model;
 
 /// The most bytes that are kept: 70 fields of 40 bytes, and the blanks between them.
-const ROOM: usize = 2_869;
+const ROOM: usize = MOST_FIELDS * MOST_BYTES + MOST_FIELDS - 1;
 
 /// The front of a line: the first 40 bytes of each of its first 70 fields. The judge of a line needs no more of it.
 #[derive(Drop)]
@@ -72,12 +73,12 @@ impl GatheredLine {
     fn push_blank(&mut self)
         ensures { self.new ≡ with_blank self.old }
     {
-        if self.blanks < 69 {
+        if self.blanks < MOST_FIELDS - 1 {
             self.text[self.len] = b' ';
             self.len += 1;
             self.blanks += 1;
         } else {
-            self.blanks = 70;
+            self.blanks = MOST_FIELDS;
         }
         self.width = 0;
     }
@@ -86,7 +87,7 @@ impl GatheredLine {
     fn push_other(&mut self, byte: u8)
         ensures { self.new ≡ with_other byte self.old }
     {
-        if self.blanks < 70 && self.width < 40 {
+        if self.blanks < MOST_FIELDS && self.width < MOST_BYTES {
             self.text[self.len] = byte;
             self.len += 1;
             self.width += 1;

@@ -1,4 +1,4 @@
-use Rattle.std.proofs.Common.{◌≡◌, ℕ, List, Ok, sym, ap, ◌∙◌}
+use Rattle.std.proofs.Common.{ℕ, List, ap, ◌∙◌}
 use Rattle.tree_format.specs.Pieces.{fields_of}
 use Rattle.tree_format.specs.Reading.{line_at}
 use Rattle.tree_format.proofs.LineNumbers.{said_numbered}
