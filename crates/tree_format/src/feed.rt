@@ -1,8 +1,8 @@
 //! A plan from its text in pieces of any length.
 
-ghost use Rattle.std.specs.Prelude.{◌≡◌, ◌<◌, ◌≤◌, ◌+◌, ◌∷◌, [], ◌++◌, ℕ, List, length, take, map, IfOk, IfErr, Ok, Err};
+ghost use Rattle.std.specs.Prelude.{◌≡◌, ◌<◌, ◌≤◌, ◌+◌, ◌∷◌, [], ◌++◌, ℕ, List, length, take, IfOk, IfErr};
 ghost use Rattle.tree_format.specs.Pieces.{fields_of};
-ghost use Rattle.tree_format.specs.Reading.{line_at, next, at_line_number};
+ghost use Rattle.tree_format.specs.Reading.{line_at, next};
 ghost use Rattle.tree_format.specs.FeedSteps.{moved, step_of, line_ended, byte_fed, IsNumbered};
 ghost use Rattle.tree_format.specs.Feeding.{HasRead, IfRead, Tells, IsDecided, IsItem, IsWhole, IsCutOff, IfMore, IfItem, IfFaulty, GoesOn};
 ghost use Rattle.tree_format.specs.declared.plan_item.PlanItem.{PlanItem as ItemLem};
@@ -138,7 +138,6 @@ impl PlanFeed {
     pub fn start(alloc: Global, sc: &Scenario) -> Result<PlanFeed, NoMemory>
         ensures { IfOk result (λ feed. HasRead sc.now [] [] feed) }
     {
-        let _cells = sc.cells();
         let line = GatheredLine::empty(alloc)?;
         Ok(PlanFeed {
             number: 1,
