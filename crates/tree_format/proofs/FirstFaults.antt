@@ -27,7 +27,7 @@ made_fault : (fault : PlanFault) (number : ℕ) (kind : PlanKind) → fault.line
 made_fault fault number kind line same = let whole : at_line_number number kind ≡ at_line_number fault.line fault.kind = rw (line, same) refl in whole
 
 -- no line is due behind the end
-due_still : (p : Problem) (stage : Stage) (fields : List (List ℕ)) (said : PlanLine) → line_at p stage fields ≡ Ok said → stage ≡ due.Ended → ⊥
+pub due_still : (p : Problem) (stage : Stage) (fields : List (List ℕ)) (said : PlanLine) → line_at p stage fields ≡ Ok said → stage ≡ due.Ended → ⊥
 unfolding line_at
 due_still p stage fields said e ended =
     let at_end : line_at p due.Ended fields ≡ Ok said = subst (λ (s : Stage). line_at p s fields ≡ Ok said) ended e in
@@ -94,7 +94,7 @@ none_before p stage number text kind fault e here =
       line = omega arith;
     })
 
-unended_stage : (stage : Stage) → is_ended stage ≡ false → stage ≡ due.Ended → ⊥
+pub unended_stage : (stage : Stage) → is_ended stage ≡ false → stage ≡ due.Ended → ⊥
 unended_stage stage unended ended = let bad : true ≡ false = subst (λ (s : Stage). is_ended s ≡ false) ended unended in cc
 
 -- a line and what follows its line feed

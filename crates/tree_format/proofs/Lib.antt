@@ -13,3 +13,9 @@ pub mod Answered
 pub mod FirstFaults
 pub mod Tables
 pub mod Summaries
+pub mod Gatherings
+pub mod LineNumbers
+pub mod Feedings
+pub mod BytesFed
+pub mod FedPieces
+pub mod FedLaws

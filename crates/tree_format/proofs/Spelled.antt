@@ -25,7 +25,7 @@ use Rattle.tree_format.specs.ReadingLaws.{OneTextAPlan}
 use Rattle.tree_format.proofs.SpelledLines.{err_ok, same_ok, version_told, IsPathLine, path_told, IsChanceLine, chance_told, IsCountLine, count_told, IsRecordLine, IsEndLine, record_told}
 
 -- the rows of the lines that were read
-abbrev rows_read : Problem → Stage → Plan → List (List (List ℕ))
+abbrev pub rows_read : Problem → Stage → Plan → List (List (List ℕ))
 rows_read p due.Version plan = []
 rows_read p due.Path plan = (codes "plan" ∷ codes "1" ∷ []) ∷ []
 rows_read p due.Chance plan = path_rows p plan.standing.path
@@ -34,17 +34,17 @@ rows_read p (due.Records left) plan = path_rows p plan.standing.path ++ (chance_
 rows_read p due.Ended plan = plan_rows p plan
 
 -- what they have settled
-record IsPathOf (p : Problem) (q : List ℕ) : Type 0 where
-  positions : ArePositions p q
-  some : 1 ≤ length q
-  short : length q ≤ 32
+pub record IsPathOf (p : Problem) (q : List ℕ) : Type 0 where
+  pub positions : ArePositions p q
+  pub some : 1 ≤ length q
+  pub short : length q ≤ 32
 
-record IsTreeOf (p : Problem) (left : ℕ) (tree : List TreeNode) : Type 0 where
-  few : length tree + left ≤ 1048576
-  printable : All (IsPrintableRecord p) tree
-  narrow : All (λ r. IsNarrowKind r.kind) tree
+pub record IsTreeOf (p : Problem) (left : ℕ) (tree : List TreeNode) : Type 0 where
+  pub few : length tree + left ≤ 1048576
+  pub printable : All (IsPrintableRecord p) tree
+  pub narrow : All (λ r. IsNarrowKind r.kind) tree
 
-abbrev IsRead : Problem → Stage → Plan → Type 0
+abbrev pub IsRead : Problem → Stage → Plan → Type 0
 IsRead p due.Version plan = plan.tree ≡ []
 IsRead p due.Path plan = plan.tree ≡ []
 IsRead p due.Chance plan = IsPathOf p plan.standing.path × (plan.tree ≡ [])
@@ -53,9 +53,9 @@ IsRead p (due.Records left) plan = IsPathOf p plan.standing.path × (plan.standi
 IsRead p due.Ended plan = IsPathOf p plan.standing.path × (plan.standing.value < 2 ^ 128) × (plan.weight < 2 ^ 128) × IsTreeOf p 0 plan.tree
 
 -- a line more was read
-record IsReadOn (p : Problem) (stage : Stage) (plan : Plan) (fields : List (List ℕ)) (said : PlanLine) : Type 0 where
-  rows : rows_read p (next stage said) (taken plan said) ≡ rows_read p stage plan ++ fields ∷ []
-  read : IsRead p (next stage said) (taken plan said)
+pub record IsReadOn (p : Problem) (stage : Stage) (plan : Plan) (fields : List (List ℕ)) (said : PlanLine) : Type 0 where
+  pub rows : rows_read p (next stage said) (taken plan said) ≡ rows_read p stage plan ++ fields ∷ []
+  pub read : IsRead p (next stage said) (taken plan said)
 
 module _ (p : Problem) (plan : Plan) (fields : List (List ℕ)) (said : PlanLine) where
   version_on : IsRead p due.Version plan → (fields ≡ codes "plan" ∷ codes "1" ∷ []) × (said ≡ Version) → IsReadOn p due.Version plan fields said
@@ -135,7 +135,7 @@ stage_on p h (due.Records left) plan fields said read e = elim (record_told p h 
 ]
 stage_on p h due.Ended plan fields said read e = absurd (err_ok BadLine said e)
 
-line_on : (p : Problem) → IsProblem p → (stage : Stage) (plan : Plan) (fields : List (List ℕ)) (said : PlanLine) → IsRead p stage plan → line_at p stage fields ≡ Ok said → IsReadOn p stage plan fields said
+pub line_on : (p : Problem) → IsProblem p → (stage : Stage) (plan : Plan) (fields : List (List ℕ)) (said : PlanLine) → IsRead p stage plan → line_at p stage fields ≡ Ok said → IsReadOn p stage plan fields said
 unfolding line_at
 line_on p h stage plan fields said read e =
     cond_both _ _ _ (λ (x : Result PlanLine PlanKind). x ≡ Ok said → IsReadOn p stage plan fields said) (λ _ e'. absurd (err_ok BadLine said e')) (λ _ e'. stage_on p h stage plan fields said read e') e

@@ -3,6 +3,10 @@ pub mod RecordParts
 pub mod Pieces
 pub mod Kinds
 pub mod Reading
+pub mod Gathering
+pub mod FeedSteps
+pub mod Feeding
+pub mod FeedLaws
 pub mod Gives
 pub mod Faults
 pub mod KindTable

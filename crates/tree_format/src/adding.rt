@@ -9,7 +9,8 @@ use crate::plan_line::{PlanLine, Stage};
 use bound_tree::TreeNode;
 use exact_parts::NoMemory;
 
-fn one_less(stage: Stage) -> Stage
+/// One record less is left.
+pub fn one_less(stage: Stage) -> Stage
     ensures { result ≡ one_less_lem stage }
 {
     match stage {

@@ -3,13 +3,19 @@
 
 mod adding;
 mod draft;
+mod feed;
+mod feed_laws;
+#[cfg(test)]
+mod feed_tests;
 mod fields;
+mod gathered_line;
 mod head;
 mod head_lines;
 mod kind;
 mod laws;
 mod lines;
 mod pieces;
+mod plan_item;
 mod plan_line;
 mod printing;
 mod reading;
@@ -20,11 +26,17 @@ mod stop;
 mod tests;
 mod writing;
 
+pub use feed::PlanFeed;
+pub use feed_laws::{
+    cut_anywhere, each_fault_is_met, fault_is_last, gathered_is_summary, items_in_order,
+    items_of_the_plan,
+};
 pub use kind::{PlanFault, PlanKind, plan_kind_name};
 pub use laws::{
     first_fault_decides, kinds_by_table, one_plan_a_text, one_text_a_plan, plan_text_reads_back,
     summary_decides,
 };
+pub use plan_item::{Fed, PlanItem, Step};
 pub use printing::print_plan;
 pub use reading::read_plan;
 pub use stop::PlanStop;

@@ -5,10 +5,10 @@ ghost use Rattle.tree_format.specs.Pieces.{split_at, fields_of};
 ghost use Rattle.tree_format.specs.Reading.{summary_of};
 
 /// The most fields of a line that are looked at: more than any line has that is right.
-const MOST_FIELDS: usize = 70;
+pub const MOST_FIELDS: usize = 70;
 
 /// The most bytes of a field that are looked at: more than any field has that is right.
-const MOST_BYTES: usize = 40;
+pub const MOST_BYTES: usize = 40;
 
 /// What follows the first `at` bytes.
 fn rest_from(text: &[u8], at: usize) -> &[u8]

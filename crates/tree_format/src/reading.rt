@@ -21,7 +21,7 @@ use bound_tree::{BoundTree, Plan};
 use search_model::{Path, Scenario, Standing};
 use std::alloc::Global;
 
-fn is_ended(stage: Stage) -> bool
+pub fn is_ended(stage: Stage) -> bool
     ensures { IsTrue result ↔ (stage ≡ Stage.Ended) }
 {
     matches!(stage, Stage::Ended)

@@ -1,6 +1,7 @@
 //! Texts that are read and print back, and texts that have a fault, by line and kind.
 
 use super::*;
+use crate::feed_tests::tells_as_read;
 use bound_tree::{Kind, TreeNode};
 use drift_chain::{Drift, DriftPart};
 use search_grid::Grid;
@@ -73,7 +74,12 @@ fn prints_back(alloc: Global, names: &[&[u8]], horizon: u32, text: &[u8]) -> Res
         Ok(plan) => print_plan(&mut out, &sc, &plan)?,
         Err(_) => return Ok(false),
     }
-    Ok(out.starts_with(b"!") && out.ends_with(text) && out.len() == text.len() + 1)
+    Ok(
+        out.starts_with(b"!")
+            && out.ends_with(text)
+            && out.len() == text.len() + 1
+            && tells_as_read(alloc, &sc, text)?,
+    )
 }
 
 #[test]
@@ -180,6 +186,7 @@ fn a_text_that_is_cut_off_ends_early(rt: HostRuntime) -> Result<(), Fail> {
             read_plan(alloc, &sc, &TWO_CELLS[..n]).err(),
             Some(PlanStop::Fault(early))
         );
+        assert!(rt; tells_as_read(alloc, &sc, &TWO_CELLS[..n])?);
     }
     Ok(())
 }
@@ -210,7 +217,10 @@ fn has_fault(rt: &impl AllocGlobal, row: Row) -> Result<bool, Fail> {
     let sc = even_scenario(rt.alloc(), &[b"a", b"b"], 2)?;
     let text = with_line(rt.alloc(), number, bytes)?;
     let fault = PlanStop::Fault(PlanFault { line, kind });
-    Ok(read_plan(rt.alloc(), &sc, &text).err() == Some(fault))
+    Ok(
+        read_plan(rt.alloc(), &sc, &text).err() == Some(fault)
+            && tells_as_read(rt.alloc(), &sc, &text)?,
+    )
 }
 
 #[test]
@@ -321,6 +331,27 @@ fn long_lines(rt: HostRuntime) -> Result<(), Fail> {
     blanks.extend_from_slice(&vec![in alloc; b' '; 100_000]?)?;
     blanks.push(b'\n')?;
     assert!(rt; has_fault(&rt, (7, &blanks, 7, PlanKind::BadLine))?);
+    Ok(())
+}
+
+// The first four lines, each record and the end are fed one after the other.
+#[test]
+fn a_feed_stops_at_each_item(rt: HostRuntime) -> Result<(), Fail> {
+    let alloc = rt.alloc();
+    let sc = even_scenario(alloc, &[b"a", b"b"], 2)?;
+    let mut feed = PlanFeed::start(alloc, &sc)?;
+    let mut rest = TWO_CELLS;
+    for length in [37usize, 2, 4, 9, 9, 7, 4] {
+        if rest.is_empty() {
+            return Err(Fail::from("too few bytes"));
+        }
+        let Fed { used, step } = feed.feed(&sc, rest);
+        assert_eq!(rt; used, length);
+        assert!(rt; matches!(step, Step::Item(_)));
+        rest = &rest[used..];
+    }
+    assert!(rt; rest.is_empty());
+    assert_eq!(rt; feed.finish(), Ok(()));
     Ok(())
 }
 

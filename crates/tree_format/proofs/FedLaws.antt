@@ -1,0 +1,273 @@
+-- The bytes fed decide the items and the fault.
+use Rattle.std.proofs.Common.{◌≡◌, ℕ, suc, ◌≤◌, ◌+◌, Bool, true, false, List, [], ◌∷◌, ◌++◌, length, take, drop, Some, Result, Ok, Err, refl, sym, ap, subst, ◌∙◌, arith, append_assoc, length-append, ◌⊎◌, inl, inr}
+use Rattle.std.specs.Prelude.{All}
+use Rattle.std.proofs.lemmas.List.{append-nil, take-append-drop}
+use Rattle.std.proofs.lemmas.List.Elements.{All-head, All-tail}
+use Rattle.search_model.specs.Problem.{Problem, IsProblem}
+use Rattle.bound_tree.specs.declared.plan.Plan.{Plan}
+use Rattle.tree_format.specs.declared.kind.PlanKind.{PlanKind}
+use Rattle.tree_format.specs.declared.kind.PlanKind.TheVariants.{BadLine, BadNumber, UnknownName, TooManyNodes, WrongCount, EarlyEnd}
+use Rattle.tree_format.specs.declared.kind.PlanFault.{PlanFault}
+use Rattle.tree_format.specs.declared.plan_line.Stage.{Stage}
+use Rattle.tree_format.specs.declared.plan_line.Stage.TheVariants as due
+use Rattle.tree_format.specs.declared.plan_line.PlanLine.{PlanLine}
+use Rattle.tree_format.specs.declared.plan_item.PlanItem.{PlanItem}
+use Rattle.tree_format.specs.declared.plan_item.Step.{Step}
+use Rattle.tree_format.specs.declared.plan_item.Step.TheVariants.{More, Item, Fault}
+use Rattle.tree_format.specs.Pieces.{pieces_of, fields_of}
+use Rattle.tree_format.specs.Faults.{HasNoFeed, lines_text, AreSaid, due_behind}
+use Rattle.tree_format.specs.Reading.{line_at, blank_plan, next, taken, is_ended, at_line_number, pieces_at, plan_at}
+use Rattle.tree_format.specs.KindTable.{first_kind, fault_of}
+use Rattle.tree_format.specs.FeedSteps.{Stand, stand_at, byte_fed}
+use Rattle.tree_format.specs.Feeding.{items_of, told, plan_behind, HasRead, Tells, IsDecided, IsWhole, IsCutOff, GoesOn}
+use Rattle.tree_format.specs.FeedLaws.{CutAnywhere, ItemsOfThePlan, EachFaultIsMet, FaultIsLast, AreInOrder, ItemsInOrder, GatheredIsSummary}
+use Rattle.tree_format.proofs.Cuts.{split_piece, split_whole, split_nothing}
+use Rattle.tree_format.proofs.Loop.{at_line, at_fault, at_early, at_end}
+use Rattle.tree_format.proofs.FirstFaults.{unended_stage}
+use Rattle.tree_format.proofs.SpelledLines.{same_ok}
+use Rattle.tree_format.proofs.Spelled.{IsRead, ended_stage}
+use Rattle.tree_format.proofs.Tables.{kinds_by_table}
+use Rattle.tree_format.proofs.Gatherings.{gathered_summary}
+use Rattle.tree_format.proofs.Feedings.{read_behind, text_behind}
+use Rattle.tree_format.proofs.BytesFed.{byte_read}
+use Rattle.tree_format.proofs.FedPieces.{nothing_read, read_whole, read_early}
+
+pub gathered_is_summary : GatheredIsSummary
+gathered_is_summary line = gathered_summary line
+
+-- The bytes decide the lines.
+
+pieces_lines : (before : List (List ℕ)) (begun : List ℕ) → All HasNoFeed before → HasNoFeed begun → pieces_of (lines_text before ++ begun) ≡ before ++ begun ∷ []
+pieces_lines [] begun feeds free = split_whole 10 begun free
+pieces_lines (line ∷ before) begun feeds free =
+    let begins : lines_text (line ∷ before) ++ begun ≡ line ++ 10 ∷ (lines_text before ++ begun) = simp append_assoc in
+    ap pieces_of begins ∙ split_piece 10 line (lines_text before ++ begun) (All-head HasNoFeed line before feeds) ∙ ap (λ (xs : List (List ℕ)). line ∷ xs) (pieces_lines before begun (All-tail HasNoFeed line before feeds) free)
+
+heads_same : {X : Type 0} (x y : X) (xs ys : List X) → x ∷ xs ≡ y ∷ ys → (x ≡ y) × (xs ≡ ys)
+heads_same x y xs ys e = (cc, cc)
+
+ends_same : {X : Type 0} (xs ys : List X) (x y : X) → xs ++ x ∷ [] ≡ ys ++ y ∷ [] → (xs ≡ ys) × (x ≡ y)
+ends_same [] [] x y e = (refl, (heads_same x y [] [] e).0)
+ends_same [] (b ∷ ys) x y e = let same = ap length e in absurd (omega (arith, same, length-append ys (y ∷ [])))
+ends_same (a ∷ xs) [] x y e = let same = ap length e in absurd (omega (arith, same, length-append xs (x ∷ [])))
+ends_same {X = X} (a ∷ xs) (b ∷ ys) x y e =
+    let heads = heads_same a b (xs ++ x ∷ []) (ys ++ y ∷ []) e in
+    let rest = ends_same xs ys x y heads.1 in
+    (ap (λ (c : X). c ∷ xs) heads.0 ∙ ap (λ (cs : List X). b ∷ cs) rest.0, rest.1)
+
+said_same : (p : Problem) (stage : Stage) (before : List (List ℕ)) (said other : List PlanLine) → AreSaid p stage before said → AreSaid p stage before other → said ≡ other
+said_same p stage [] [] [] right right' = refl
+said_same p stage [] [] (y ∷ ys) right right' = absurd right'
+said_same p stage [] (x ∷ xs) other right right' = absurd right
+said_same p stage (line ∷ before) [] other right right' = absurd right
+said_same p stage (line ∷ before) (x ∷ xs) [] right right' = absurd right'
+said_same p stage (line ∷ before) (x ∷ xs) (y ∷ ys) right right' =
+    let same : x ≡ y = same_ok x y (sym right.0 ∙ right'.0) in
+    let later : AreSaid p (next stage x) before ys = subst (λ (z : PlanLine). AreSaid p (next stage z) before ys) (sym same) right'.1 in
+    ap (λ (z : PlanLine). z ∷ xs) same ∙ ap (λ (zs : List PlanLine). y ∷ zs) (said_same p (next stage x) before xs ys right.1 later)
+
+pub cut_anywhere : CutAnywhere
+cut_anywhere p fed items others feed other a b =
+    let text : lines_text a.before ++ a.begun ≡ lines_text b.before ++ b.begun = sym a.whole ∙ b.whole in
+    let pieces = ends_same a.before b.before a.begun b.begun (sym (pieces_lines a.before a.begun a.feeds a.open_line) ∙ ap pieces_of text ∙ pieces_lines b.before b.begun b.feeds b.open_line) in
+    let said = said_same p due.Version b.before a.said b.said (subst (λ (lines : List (List ℕ)). AreSaid p due.Version lines a.said) pieces.0 a.right) b.right in (
+      a.tell ∙ ap (λ (ls : List PlanLine). told (due_behind due.Version ls) (plan_behind blank_plan ls)) said ∙ sym b.tell,
+      a.stand
+          ∙ ap (λ (lines : List (List ℕ)). stand_at (1 + length lines) (due_behind due.Version a.said) (plan_behind blank_plan a.said) a.begun) pieces.0
+          ∙ ap (λ (line : List ℕ). stand_at (1 + length b.before) (due_behind due.Version a.said) (plan_behind blank_plan a.said) line) pieces.1
+          ∙ ap (λ (ls : List PlanLine). stand_at (1 + length b.before) (due_behind due.Version ls) (plan_behind blank_plan ls) b.begun) said
+          ∙ sym b.stand,
+    )
+
+-- No fault is decided where the lines are right so far.
+
+table_early : (a b c d e : Bool) → first_kind ((a, BadLine) ∷ (b, BadNumber) ∷ (c, UnknownName) ∷ (d, TooManyNodes) ∷ (e, WrongCount) ∷ []) ≡ Some EarlyEnd → ⊥
+table_early true b c d e is = let bad : ⊥ = cc in bad
+table_early false true c d e is = let bad : ⊥ = cc in bad
+table_early false false true d e is = let bad : ⊥ = cc in bad
+table_early false false false true e is = let bad : ⊥ = cc in bad
+table_early false false false false true is = let bad : ⊥ = cc in bad
+table_early false false false false false is = let bad : ⊥ = cc in bad
+
+-- a whole line doesn't end early
+never_early : (p : Problem) (stage : Stage) (fields : List (List ℕ)) → line_at p stage fields ≡ Err EarlyEnd → ⊥
+never_early p stage fields e = table_early _ _ _ _ _ (sym (kinds_by_table p stage fields) ∙ ap fault_of e)
+
+by_test : (b : Bool) → (b ≡ true → ⊥) → (b ≡ false → ⊥) → ⊥
+by_test true t f = t refl
+by_test false t f = f refl
+
+same_fault : (f g : PlanFault) → ◌≡◌ {A = Result Plan PlanFault} (Err f) (Err g) → f ≡ g
+same_fault f g e = cc
+
+no_both : (plan : Plan) (f : PlanFault) → ◌≡◌ {A = Result Plan PlanFault} (Err f) (Ok plan) → ⊥
+no_both plan f e = let bad : ⊥ = cc in bad
+
+module _ (p : Problem) (number : ℕ) (stage : Stage) (plan : Plan) (begun : List ℕ) (goes : stage ≡ due.Ended → ⊥) (free : HasNoFeed begun) where
+  abbrev ends : Result Plan PlanFault
+  ends = pieces_at p number stage plan (pieces_of (begun ++ 10 ∷ []))
+
+  -- with its line feed the line has another fault, or none
+  fed_said : (said : PlanLine) → line_at p stage (fields_of begun) ≡ Ok said → ends ≡ Err (at_line_number number EarlyEnd) → ⊥
+  fed_said said e early =
+      let later = at_line p number stage plan said (begun ++ 10 ∷ []) begun [] ends goes (split_piece 10 begun [] free) e refl in
+      by_test (is_ended (next stage said))
+      (λ ended. no_both _ _ (sym early ∙ at_end p (number + 1) (next stage said) (taken plan said) [] ends (ended_stage _ ended) refl later))
+      (λ unended.
+      let again = same_fault _ _ (sym early ∙ at_early p (number + 1) (next stage said) (taken plan said) [] ends (unended_stage _ unended) (split_nothing 10) later) in
+      let same = ap (λ (f : PlanFault). f.line) again in
+      omega (arith, same))
+
+  line_fed : (r : Result PlanLine PlanKind) → line_at p stage (fields_of begun) ≡ r → ends ≡ Err (at_line_number number EarlyEnd) → ⊥
+  line_fed (Ok said) e early = fed_said said e early
+  line_fed (Err kind) e early =
+      let wrong = at_fault p number stage plan kind (begun ++ 10 ∷ []) begun [] ends goes (split_piece 10 begun [] free) e refl in
+      let same = ap (λ (f : PlanFault). f.kind) (same_fault _ _ (sym wrong ∙ early)) in
+      never_early p stage (fields_of begun) (e ∙ ap Err same)
+
+pub fault_is_last : FaultIsLast
+fault_is_last p fed items fault (feed, read) decided =
+    let at_once : plan_at p fed ≡ Err fault = ap (plan_at p) (sym (append-nil fed)) ∙ decided [] in
+    let stage = due_behind due.Version read.said in
+    let number = 1 + length read.before in
+    let due_is : feed.stage ≡ stage = ap (λ (s : Stand). s.stage) read.stand in
+    by_test (is_ended stage)
+    (λ ended. let whole = read_whole p fed items feed read (due_is ∙ ended_stage stage ended) in no_both whole.plan fault (sym at_once ∙ whole.spelled))
+    (λ unended.
+    let goes = unended_stage stage unended in
+    let early = read_early p fed items feed read (λ over. goes (sym due_is ∙ over)) in
+    let same : fault ≡ at_line_number number EarlyEnd = same_fault _ _ (sym at_once ∙ early.first) ∙ ap (λ (s : Stand). at_line_number s.number EarlyEnd) read.stand in
+    let with_feed : plan_at p (fed ++ 10 ∷ []) ≡ Err fault = ap (λ (t : List ℕ). plan_at p t) (sym (append-nil (fed ++ 10 ∷ []))) ∙ ap (plan_at p) (append_assoc fed (10 ∷ []) []) ∙ decided (10 ∷ []) in
+    let ends = text_behind p fed items feed read 10 [] ∙ ap (plan_at p) (append-nil (fed ++ 10 ∷ [])) ∙ with_feed ∙ ap Err same in
+    line_fed p number stage (plan_behind blank_plan read.said) read.begun goes read.open_line _ refl ends)
+
+-- A step is what the bytes decide.
+
+longer : {X : Type 0} (xs : List X) (x : X) → xs ≡ xs ++ x ∷ [] → ⊥
+longer xs x e = let same = ap length e in omega (arith, same, length-append xs (x ∷ []))
+
+-- a fault that is decided is answered
+pub fault_answered : (p : Problem) (bytes : List ℕ) (items : List PlanItem) (step : Step) (feed : Stand) → GoesOn p bytes items step feed → (fault : PlanFault) → IsDecided p bytes fault → step ≡ Fault fault
+fault_answered p bytes items More feed goes fault decided = absurd (fault_is_last p bytes items fault (feed, goes) decided)
+fault_answered p bytes items (Item told) feed goes fault decided = absurd (fault_is_last p bytes (items ++ told ∷ []) fault (feed, goes.0) decided)
+fault_answered p bytes items (Fault found) feed goes fault decided = ap Fault (same_fault found fault (sym (goes []) ∙ decided []))
+
+-- and an item that is complete
+pub item_answered : (p : Problem) (bytes : List ℕ) (items : List PlanItem) (step : Step) (feed : Stand) → GoesOn p bytes items step feed → (told : PlanItem) → Tells p bytes (items ++ told ∷ []) → step ≡ Item told
+item_answered p bytes items More feed goes told (other, tells) = absurd (longer items told (cut_anywhere p bytes items (items ++ told ∷ []) feed other goes tells).0)
+item_answered p bytes items (Item found) feed goes told (other, tells) =
+    let same = (cut_anywhere p bytes (items ++ found ∷ []) (items ++ told ∷ []) feed other goes.0 tells).0 in
+    ap Item (ends_same items items found told same).1
+item_answered p bytes items (Fault found) feed goes told tells = absurd (fault_is_last p bytes (items ++ told ∷ []) found tells goes)
+
+-- Whole texts.
+
+-- so many bytes more decide a fault
+record Decides (p : Problem) (fed more : List ℕ) : Type 0 where
+  count : ℕ
+  fault : PlanFault
+  within : count ≤ length more
+  decided : IsDecided p (fed ++ take count more) fault
+
+-- these bytes more tell these items more
+record TellsMore (p : Problem) (fed more : List ℕ) (items : List PlanItem) : Type 0 where
+  later : List PlanItem
+  feed : Stand
+  read : HasRead p (fed ++ more) (items ++ later) feed
+
+abbrev Runs : Problem → List ℕ → List ℕ → List PlanItem → Type 0
+Runs p fed more items = Decides p fed more ⊎ TellsMore p fed more items
+
+-- behind a byte more
+runs_behind : (p : Problem) (fed more : List ℕ) (c : ℕ) (items new later : List PlanItem) → new ≡ items ++ later → Runs p (fed ++ c ∷ []) more new → Runs p fed (c ∷ more) items
+runs_behind p fed more c items new later same runs = elim runs [
+  | inl found ↦ inl (record {
+    count = suc found.count;
+    fault = found.fault;
+    within = omega (arith, found.within);
+    decided = subst (λ (t : List ℕ). IsDecided p t found.fault) (append_assoc fed (c ∷ []) (take found.count more)) found.decided;
+  })
+  | inr told ↦ inr (record {
+    later = later ++ told.later;
+    feed = told.feed;
+    read = subst (λ (t : List ℕ). HasRead p t (items ++ (later ++ told.later)) told.feed) (append_assoc fed (c ∷ []) more)
+        (subst (λ (xs : List PlanItem). HasRead p ((fed ++ c ∷ []) ++ more) xs told.feed) (ap (λ (xs : List PlanItem). xs ++ told.later) same ∙ append_assoc items later told.later) told.read);
+  })
+]
+
+run_step : (p : Problem) (fed more : List ℕ) (c : ℕ) (items : List PlanItem) (step : Step) (feed : Stand) → GoesOn p (fed ++ c ∷ []) items step feed → ((new : List PlanItem) → HasRead p (fed ++ c ∷ []) new feed → Runs p (fed ++ c ∷ []) more new) → Runs p fed (c ∷ more) items
+run_step p fed more c items More feed goes later = runs_behind p fed more c items items [] (sym (append-nil items)) (later items goes)
+run_step p fed more c items (Item told) feed goes later = runs_behind p fed more c items (items ++ told ∷ []) (told ∷ []) refl (later (items ++ told ∷ []) goes.0)
+run_step p fed more c items (Fault fault) feed goes later = inl (record { count = 1; fault = fault; within = omega arith; decided = goes })
+
+run : (p : Problem) → IsProblem p → (more fed : List ℕ) (items : List PlanItem) (feed : Stand) → HasRead p fed items feed → Runs p fed more items
+run p h [] fed items feed read = inr (record {
+  later = [];
+  feed = feed;
+  read = subst (λ (t : List ℕ). HasRead p t (items ++ []) feed) (sym (append-nil fed)) (subst (λ (xs : List PlanItem). HasRead p fed xs feed) (sym (append-nil items)) read);
+})
+run p h (c ∷ more) fed items feed read =
+    run_step p fed more c items (byte_fed p c feed).step (byte_fed p c feed).stand (byte_read p h fed items feed read c) (λ new read'. run p h more (fed ++ c ∷ []) new (byte_fed p c feed).stand read')
+
+-- bytes that are right so far are the text of a plan or end early
+whole_or_early : (p : Problem) (fed : List ℕ) (items : List PlanItem) (feed : Stand) → HasRead p fed items feed → IsWhole p fed items ⊎ ((fault : PlanFault) × IsCutOff p fed fault)
+whole_or_early p fed items feed read = by_end (is_ended feed.stage) (λ ended. read_whole p fed items feed read (ended_stage feed.stage ended)) (λ unended. read_early p fed items feed read (unended_stage feed.stage unended))
+  where
+    by_end : (b : Bool) → (b ≡ true → IsWhole p fed items) → (b ≡ false → IsCutOff p fed (at_line_number feed.number EarlyEnd)) → IsWhole p fed items ⊎ ((fault : PlanFault) × IsCutOff p fed fault)
+    by_end true w e = inl (w refl)
+    by_end false w e = inr (at_line_number feed.number EarlyEnd, e refl)
+
+same_plan : (a b : Plan) → ◌≡◌ {A = Result Plan PlanFault} (Ok a) (Ok b) → a ≡ b
+same_plan a b e = cc
+
+pub items_of_the_plan : ItemsOfThePlan
+items_of_the_plan p fed more items plan h (feed, read) e = elim (run p h more fed items feed read) [
+  | inl found ↦
+      let text : (fed ++ take found.count more) ++ drop found.count more ≡ fed ++ more = append_assoc fed (take found.count more) (drop found.count more) ∙ ap (λ (t : List ℕ). fed ++ t) (take-append-drop found.count more) in
+      absurd (no_both plan found.fault (sym (found.decided (drop found.count more)) ∙ ap (plan_at p) text ∙ e))
+  | inr told ↦ elim (whole_or_early p (fed ++ more) (items ++ told.later) told.feed told.read) [
+    | inl whole ↦ (told.later, whole.tell ∙ ap items_of (same_plan whole.plan plan (sym whole.spelled ∙ e)))
+    | inr early ↦ absurd (no_both plan early.0 (sym early.1.first ∙ e))
+  ]
+]
+
+pub each_fault_is_met : EachFaultIsMet
+each_fault_is_met p text fault h e =
+    elim (run p h text [] [] _ (nothing_read p [] _ refl refl)) [
+      | inl found ↦
+          let again = found.decided (drop found.count text) ∙ refl in
+          let same = same_fault found.fault fault (sym again ∙ ap (plan_at p) (take-append-drop found.count text) ∙ e) in
+          inl (record { count = found.count; within = found.within; decided = subst (IsDecided p (take found.count text)) same found.decided })
+      | inr told ↦ elim (whole_or_early p text told.later told.feed told.read) [
+        | inl whole ↦ absurd (no_both whole.plan fault (sym e ∙ whole.spelled))
+        | inr early ↦ inr (told.later, (told.feed, told.read), subst (IsCutOff p text) (same_fault early.0 fault (sym early.1.first ∙ e)) early.1)
+      ]
+    ]
+
+in_order : (p : Problem) (stage : Stage) (plan : Plan) → IsRead p stage plan → (told stage plan ≡ []) ⊎ AreInOrder (told stage plan)
+in_order p due.Version plan read = inl refl
+in_order p due.Path plan read = inl refl
+in_order p due.Chance plan read = inl refl
+in_order p due.Count plan read = inl refl
+in_order p (due.Records left) plan read = inr (record {
+  standing = plan.standing;
+  weight = plan.weight;
+  nodes = length plan.tree + left;
+  records = plan.tree;
+  few = read.3.few;
+  within = omega arith;
+  order = inl refl;
+})
+in_order p due.Ended plan read = inr (record {
+  standing = plan.standing;
+  weight = plan.weight;
+  nodes = length plan.tree;
+  records = plan.tree;
+  few = (let few = read.3.few in omega (arith, few));
+  within = omega arith;
+  order = inr (refl, refl);
+})
+
+pub items_in_order : ItemsInOrder
+items_in_order p fed items h (feed, read) =
+    subst (λ (xs : List PlanItem). (xs ≡ []) ⊎ AreInOrder xs) (sym read.tell) (in_order p (due_behind due.Version read.said) (plan_behind blank_plan read.said) (read_behind p h due.Version blank_plan read.before read.said read.right refl))

@@ -1,0 +1,108 @@
+-- Pieces of a plan's text, and its end.
+use Rattle.std.proofs.Common.{◌≡◌, ℕ, ◌<◌, ◌≤◌, ◌+◌, List, [], ◌∷◌, ◌++◌, length, get_or, take, Err, refl, sym, ap, subst, ◌∙◌, arith, append_assoc, inl, inr}
+use Rattle.std.proofs.lemmas.Bool.{cases_lt}
+use Rattle.std.proofs.lemmas.List.{append-nil, take_all, take_more}
+use Rattle.std.proofs.lemmas.List.Elements.{All-nil}
+use Rattle.search_model.specs.Problem.{Problem}
+use Rattle.bound_tree.specs.declared.plan.Plan.{Plan}
+use Rattle.tree_format.specs.declared.kind.PlanKind.TheVariants.{EarlyEnd}
+use Rattle.tree_format.specs.declared.plan_line.Stage.{Stage}
+use Rattle.tree_format.specs.declared.plan_line.Stage.TheVariants as due
+use Rattle.tree_format.specs.declared.plan_item.PlanItem.{PlanItem}
+use Rattle.tree_format.specs.declared.plan_item.Step.{Step}
+use Rattle.tree_format.specs.declared.plan_item.Step.TheVariants.{More}
+use Rattle.tree_format.specs.Pieces.{pieces_of}
+use Rattle.tree_format.specs.Faults.{HasNoFeed, due_behind}
+use Rattle.tree_format.specs.Reading.{blank_plan, at_line_number, pieces_at, plan_at}
+use Rattle.tree_format.specs.Gathering.{Gathered, nothing_gathered}
+use Rattle.tree_format.specs.FeedSteps.{Stand}
+use Rattle.tree_format.specs.Feeding.{told, plan_behind, HasRead, IfRead, Tells, IsWhole, IsCutOff, GoesOn}
+use Rattle.tree_format.proofs.Cuts.{split_whole}
+use Rattle.tree_format.proofs.Loop.{at_early, at_end}
+use Rattle.tree_format.proofs.Gatherings.{gathered_nothing}
+use Rattle.tree_format.proofs.Feedings.{reads_on}
+
+-- a feed that was fed nothing
+pub nothing_read : (p : Problem) (path : List ℕ) (line : Gathered) → path ≡ [] → line ≡ nothing_gathered → HasRead p [] [] (record { number = 1; stage = due.Version; standing = record { path = path; value = 0 }; weight = 0; line = line })
+nothing_read p path line none nothing = record {
+  before = [];
+  said = [];
+  begun = [];
+  whole = refl;
+  feeds = All-nil HasNoFeed;
+  open_line = All-nil (λ (b : ℕ). b ≡ 10 → ⊥);
+  right = tt;
+  behind_end = λ _. refl;
+  tell = refl;
+  stand = ap (λ (q : List ℕ). record { number = 1; stage = due.Version; standing = record { path = q; value = 0 }; weight = 0; line = line }) none
+      ∙ ap (λ (g : Gathered). record { number = 1; stage = due.Version; standing = record { path = []; value = 0 }; weight = 0; line = g }) (nothing ∙ sym (gathered_nothing nothing_gathered));
+}
+
+-- so many bytes of a piece were fed, and none of them completed an item or decided a fault
+pub record IsFedTo (p : Problem) (fed : List ℕ) (items : List PlanItem) (piece : List ℕ) (i : ℕ) (feed : Stand) : Type 0 where
+  pub here : HasRead p (fed ++ take i piece) items feed
+  pub earlier : (n : ℕ) → n < i → Tells p (fed ++ take n piece) items
+
+pub fed_nothing : (p : Problem) (fed : List ℕ) (items : List PlanItem) (piece : List ℕ) (feed : Stand) → HasRead p fed items feed → IsFedTo p fed items piece 0 feed
+fed_nothing p fed items piece feed read = record {
+  here = subst (λ (bytes : List ℕ). HasRead p bytes items feed) (sym (append-nil fed)) read;
+  earlier = λ n lt. absurd (omega (arith, lt));
+}
+
+-- those before a place, where none before it did
+pub fed_before : (p : Problem) (fed : List ℕ) (items : List PlanItem) (piece : List ℕ) (i : ℕ) (feed : Stand) → IsFedTo p fed items piece i feed → (n : ℕ) → n < i + 1 → Tells p (fed ++ take n piece) items
+fed_before p fed items piece i feed to n lt = elim (cases_lt n i) [
+  | inl below ↦ to.earlier n below
+  | inr above ↦ let same : i ≡ n = omega (arith, lt, above) in subst (λ (k : ℕ). Tells p (fed ++ take k piece) items) same (feed, to.here)
+]
+
+-- a byte more of it, and what it brought
+pub fed_byte : (p : Problem) (fed : List ℕ) (items : List PlanItem) (piece : List ℕ) (i : ℕ) (step brought : Step) (old new : Stand) → i < length piece → IsFedTo p fed items piece i old → IfRead p old (λ bytes told. GoesOn p (bytes ++ get_or piece i 0 ∷ []) told step new) → step ≡ brought → GoesOn p (fed ++ take (i + 1) piece) items brought new
+fed_byte p fed items piece i step brought old new lt to taken is =
+    let bytes : (fed ++ take i piece) ++ get_or piece i 0 ∷ [] ≡ fed ++ take (i + 1) piece = append_assoc fed (take i piece) (get_or piece i 0 ∷ []) ∙ ap (λ (t : List ℕ). fed ++ t) (sym (take_more piece i 0 lt)) in
+    subst (λ (s : Step). GoesOn p (fed ++ take (i + 1) piece) items s new) is (subst (λ (t : List ℕ). GoesOn p t items step new) bytes (taken (fed ++ take i piece) items to.here))
+
+-- and its last byte
+pub fed_all : (p : Problem) (fed : List ℕ) (items : List PlanItem) (piece : List ℕ) (i : ℕ) (feed : Stand) → length piece ≤ i → IsFedTo p fed items piece i feed → GoesOn p (fed ++ take (length piece) piece) items More feed
+fed_all p fed items piece i feed le to =
+    let same : take i piece ≡ take (length piece) piece = take_all i piece le ∙ sym (take_all (length piece) piece (omega arith)) in
+    subst (λ (t : List ℕ). HasRead p (fed ++ t) items feed) same to.here
+
+pub fed_more : (p : Problem) (fed : List ℕ) (items : List PlanItem) (piece : List ℕ) (i : ℕ) (old new : Stand) → IsFedTo p fed items piece i old → HasRead p (fed ++ take (i + 1) piece) items new → IsFedTo p fed items piece (i + 1) new
+fed_more p fed items piece i old new to read = record { here = read; earlier = fed_before p fed items piece i old to }
+
+-- The end of the bytes.
+module _ (p : Problem) (fed : List ℕ) (items : List PlanItem) (feed : Stand) (read : HasRead p fed items feed) where
+  abbrev stage : Stage
+  stage = due_behind due.Version read.said
+
+  abbrev plan : Plan
+  plan = plan_behind blank_plan read.said
+
+  abbrev number : ℕ
+  number = 1 + length read.before
+
+  line_left : pieces_at p number stage plan (pieces_of read.begun) ≡ plan_at p fed
+  line_left = sym (ap (plan_at p) read.whole ∙ reads_on p read.before read.said due.Version blank_plan 1 read.begun read.feeds read.right)
+
+  is_due : feed.stage ≡ stage
+  is_due = ap (λ (s : Stand). s.stage) read.stand
+
+  -- behind the end they are the text of a plan
+  pub read_whole : feed.stage ≡ due.Ended → IsWhole p fed items
+  read_whole over =
+      let ended : stage ≡ due.Ended = sym is_due ∙ over in
+      record {
+        plan = plan;
+        spelled = at_end p number stage plan read.begun _ ended (ap length (read.behind_end ended)) line_left;
+        tell = read.tell ∙ ap (λ (t : Stage). told t plan) ended;
+      }
+
+  -- before it a line feed is missing
+  pub read_early : (feed.stage ≡ due.Ended → ⊥) → IsCutOff p fed (at_line_number feed.number EarlyEnd)
+  read_early goes =
+      let early = at_early p number stage plan read.begun _ (λ ended. goes (is_due ∙ ended)) (split_whole 10 read.begun read.open_line) line_left in
+      record {
+        first = early ∙ ap (λ (s : Stand). Err (at_line_number s.number EarlyEnd)) (sym read.stand);
+        early = refl;
+      }

@@ -1,0 +1,209 @@
+//! A plan from its text in pieces of any length.
+
+ghost use Rattle.std.specs.Prelude.{◌≡◌, ◌<◌, ◌≤◌, ◌+◌, ◌∷◌, [], ◌++◌, ℕ, List, length, take, IfOk, IfErr};
+ghost use Rattle.tree_format.specs.Pieces.{fields_of};
+ghost use Rattle.tree_format.specs.Reading.{line_at, next};
+ghost use Rattle.tree_format.specs.FeedSteps.{moved, step_of, line_ended, byte_fed, IsNumbered};
+ghost use Rattle.tree_format.specs.Feeding.{HasRead, IfRead, Tells, IsDecided, IsItem, IsWhole, IsCutOff, IfMore, IfItem, IfFaulty, GoesOn};
+ghost use Rattle.tree_format.specs.declared.plan_item.PlanItem.{PlanItem as ItemLem};
+ghost use Rattle.tree_format.specs.declared.plan_item.Step.TheVariants as step;
+ghost use Rattle.tree_format.specs.declared.kind.PlanFault.{PlanFault as FaultLem};
+ghost use Rattle.search_model.specs.Problem.{Problem};
+
+use crate::adding::one_less;
+use crate::gathered_line::GatheredLine;
+use crate::kind::{PlanFault, PlanKind};
+use crate::lines::read_line;
+use crate::pieces::first_fields;
+use crate::plan_item::{Fed, PlanItem, Step};
+use crate::plan_line::{PlanLine, Stage};
+use crate::reading::is_ended;
+use exact_parts::NoMemory;
+use search_model::{Path, Scenario, Standing};
+use std::alloc::Global;
+use std::marker::Model;
+
+/// What was read of a plan's text, which comes in pieces: the head, and the front of the line that is due. Only the call
+/// that makes it takes memory, and a line of any length needs no more of it.
+#[derive(Drop)]
+pub struct PlanFeed {
+    number: u64,
+    stage: Stage,
+    standing: Standing,
+    weight: u128,
+    line: GatheredLine,
+}
+
+impl Model for PlanFeed {
+    ghost use Rattle.tree_format.specs.FeedSteps.{Stand, IsNumbered};
+
+    ghost Value = { Stand };
+
+    ghost view = { λ f. record { number = f.number; stage = f.stage; standing = f.standing; weight = f.weight; line = f.line } };
+
+    ghost invariant = { λ f. IsNumbered f.stage f.number };
+}
+
+/// What the line that was gathered says where this is due, or its first fault.
+fn judge(line: &GatheredLine, sc: &Scenario, stage: Stage) -> Result<PlanLine, PlanKind>
+    ensures said { result ≡ line_at sc.now stage (fields_of line.now.text) }
+    ensures numbered { IfOk result (λ said. (number : ℕ) → IsNumbered stage number → IsNumbered (next stage said) (number + 1)) }
+{
+    let _cells = sc.cells();
+    let fields = first_fields(line.text());
+    read_line(sc, stage, &fields.items[..fields.len])
+}
+
+impl PlanFeed {
+    /// Goes on behind a line that says this.
+    fn move_on(&mut self, said: PlanLine) -> Step
+        requires { IsNumbered (next self.old.stage said) (self.old.number + 1) }
+        ensures step { result ≡ step_of self.old said }
+        ensures stand { self.new ≡ moved self.old said }
+    {
+        self.line.clear();
+        self.number += 1;
+        match said {
+            PlanLine::Version => {
+                self.stage = Stage::Path;
+                Step::More
+            }
+            PlanLine::Path(path) => {
+                self.stage = Stage::Chance;
+                self.standing.path = path;
+                Step::More
+            }
+            PlanLine::Chance(value, weight) => {
+                self.stage = Stage::Count;
+                self.standing.value = value;
+                self.weight = weight;
+                Step::More
+            }
+            PlanLine::Count(count) => {
+                self.stage = Stage::Records(count);
+                Step::Item(PlanItem::Head(self.standing, self.weight, count))
+            }
+            PlanLine::Node(node) => {
+                self.stage = one_less(self.stage);
+                Step::Item(PlanItem::Node(node))
+            }
+            PlanLine::End => {
+                self.stage = Stage::Ended;
+                Step::Item(PlanItem::End)
+            }
+        }
+    }
+
+    /// Takes the line feed of the line that is due.
+    fn end_line(&mut self, sc: &Scenario) -> Step
+        ensures step { result ≡ (line_ended self.old (line_at sc.now self.old.stage (fields_of self.old.line.text))).step }
+        ensures stand { self.new ≡ (line_ended self.old (line_at sc.now self.old.stage (fields_of self.old.line.text))).stand }
+    {
+        match judge(&self.line, sc, self.stage) {
+            Ok(said) => self.move_on(said),
+            Err(kind) => Step::Fault(PlanFault {
+                line: self.number,
+                kind,
+            }),
+        }
+    }
+
+    /// Takes a byte: how the state changes.
+    fn step(&mut self, sc: &Scenario, byte: u8) -> Step
+        ensures step { result ≡ (byte_fed sc.now byte self.old).step }
+        ensures stand { self.new ≡ (byte_fed sc.now byte self.old).stand }
+    {
+        if is_ended(self.stage) {
+            return Step::Fault(PlanFault {
+                line: self.number,
+                kind: PlanKind::Rest,
+            });
+        }
+        if byte == b'\n' {
+            return self.end_line(sc);
+        }
+        self.line.push(byte);
+        Step::More
+    }
+
+    /// Takes a byte: what follows from it.
+    fn take(&mut self, sc: &Scenario, byte: u8) -> Step
+        ensures { IfRead sc.now self.old (λ fed items. GoesOn sc.now (fed ++ byte ∷ []) items result self.new) }
+    {
+        let _cells = sc.cells();
+        self.step(sc, byte)
+    }
+
+    /// Nothing was fed. It takes all the memory that the feed will ever need.
+    pub fn start(alloc: Global, sc: &Scenario) -> Result<PlanFeed, NoMemory>
+        ensures { IfOk result (λ feed. HasRead sc.now [] [] feed) }
+    {
+        let line = GatheredLine::empty(alloc)?;
+        Ok(PlanFeed {
+            number: 1,
+            stage: Stage::Version,
+            standing: Standing {
+                path: Path::empty(),
+                value: 0,
+            },
+            weight: 0,
+            line,
+        })
+    }
+
+    /// Feeds the bytes of a piece up to the first that completes an item or decides a fault, or all of them. It takes no
+    /// memory. The scenario is always the same, and after a fault nothing more is fed.
+    pub fn feed(&mut self, sc: &Scenario, piece: &[u8]) -> Fed
+        requires some { 1 ≤ length piece.now }
+        ensures used { (1 ≤ result.used) × (result.used ≤ length piece.now) }
+        ensures all { IfMore result.step (result.used ≡ length piece.now) }
+        ensures more { IfRead sc.now self.old (λ fed items. IfMore result.step (HasRead sc.now (fed ++ piece.now) items self.new)) }
+        ensures item { IfRead sc.now self.old (λ fed items. IfItem result.step (λ told. HasRead sc.now (fed ++ take result.used piece.now) (items ++ told ∷ []) self.new)) }
+        ensures completed { IfRead sc.now self.old (λ fed items. (told : ItemLem) → Tells sc.now (fed ++ take result.used piece.now) (items ++ told ∷ []) → result.step ≡ step.Item told) }
+        ensures sound { IfRead sc.now self.old (λ fed items. IfItem result.step (λ told. IsItem sc.now told)) }
+        ensures fault { IfRead sc.now self.old (λ fed items. IfFaulty result.step (λ fault. IsDecided sc.now (fed ++ take result.used piece.now) fault)) }
+        ensures decided { IfRead sc.now self.old (λ fed items. (fault : FaultLem) → IsDecided sc.now (fed ++ take result.used piece.now) fault → result.step ≡ step.Fault fault) }
+        ensures first { IfRead sc.now self.old (λ fed items. (n : ℕ) → n < result.used → Tells sc.now (fed ++ take n piece.now) items) }
+    {
+        for (i, byte) in piece.iter().enumerate() {
+            match self.take(sc, *byte) {
+                Step::More => {}
+                Step::Item(item) => {
+                    return Fed {
+                        used: i + 1,
+                        step: Step::Item(item),
+                    };
+                }
+                Step::Fault(fault) => {
+                    return Fed {
+                        used: i + 1,
+                        step: Step::Fault(fault),
+                    };
+                }
+            }
+        }
+        Fed {
+            used: piece.len(),
+            step: Step::More,
+        }
+    }
+
+    /// Whether the bytes that were fed are the text of a plan, from its first byte to its last. It takes no memory.
+    ///
+    /// # Errors
+    ///
+    /// `EarlyEnd` in the line that is due: the bytes end before its line feed.
+    pub fn finish(&self) -> Result<(), PlanFault>
+        ensures whole { (p : Problem) (fed : List ℕ) (items : List ItemLem) → HasRead p fed items self.now → IfOk result (λ _. IsWhole p fed items) }
+        ensures early { (p : Problem) (fed : List ℕ) (items : List ItemLem) → HasRead p fed items self.now → IfErr result (λ fault. IsCutOff p fed fault) }
+    {
+        if is_ended(self.stage) {
+            Ok(())
+        } else {
+            Err(PlanFault {
+                line: self.number,
+                kind: PlanKind::EarlyEnd,
+            })
+        }
+    }
+}
