@@ -15,6 +15,8 @@ mod left;
 mod muster;
 mod rounds;
 mod run;
+#[cfg(test)]
+mod search_tests;
 mod searching;
 mod sending;
 mod stack;
