@@ -6,6 +6,9 @@ use std::alloc::{AllocError, Global};
 use std::test::Fail;
 use sweep_table::Sweep;
 
+// Holds of what may be shared between threads and moved to one.
+fn crosses_threads<T: Send + Sync + Drop>(_value: T) {}
+
 // The even chance of either of two cells.
 fn either(alloc: Global) -> Result<Vec<DriftPart>, AllocError> {
     [
@@ -71,6 +74,7 @@ fn two_cells_have_these_masses(rt: HostRuntime) -> Result<(), Fail> {
         assert!(rt; t >= 1 && t <= sc.horizon() && c < sc.cells());
         assert_eq!(rt; backward.at(t, c), mass);
     }
+    crosses_threads(backward);
     Ok(())
 }
 

@@ -8,6 +8,9 @@ use std::alloc::{AllocError, Global};
 use std::test::Fail;
 use sweep_table::Sweep;
 
+// Holds of what may be shared between threads and moved to one.
+fn crosses_threads<T: Send + Sync + Drop>(_value: T) {}
+
 // The even chance of either of two cells.
 fn either(alloc: Global) -> Result<Vec<DriftPart>, AllocError> {
     [
@@ -106,5 +109,6 @@ fn prefixes_have_the_worked_values(rt: HostRuntime) -> Result<(), Fail> {
     let sc = two_cells(rt.alloc())?;
     let mut belief = Belief::start(rt.alloc(), &sc)?;
     assert!(rt; have_values(&sc, &mut belief));
+    crosses_threads(belief);
     Ok(())
 }

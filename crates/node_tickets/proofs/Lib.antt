@@ -1,0 +1,6 @@
+pub mod Views
+pub mod Numbers
+pub mod Steps
+pub mod Tallies
+pub mod Closing
+pub mod Crews

@@ -1,3 +1,3 @@
-pub mod Rule
-pub mod Draws
 pub mod Seats
+pub mod Draws
+pub mod Rule

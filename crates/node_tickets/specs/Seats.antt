@@ -1,6 +1,6 @@
 -- What contracts see of tickets and of their seats.
-use Rattle.std.specs.Prelude.{◌≡◌, ℕ, ◌<◌, List, [], All, nat_le, if◌then◌else◌}
-use Rattle.std.specs.List.{sum_by}
+use Rattle.std.specs.Prelude.{◌≡◌, ℕ, ◌<◌, List, [], All, nat_lt}
+use Rattle.std.specs.List.{sum_by, count_by}
 use Rattle.atomic_table.specs.Seated.{TableId}
 
 -- which tickets they are
@@ -12,9 +12,6 @@ pub record TicketsView : Type 0 where
   pub id : TicketsId
   pub limit : ℕ
 
-abbrev pub tickets_view : TicketsId → ℕ → TicketsView
-tickets_view id limit = record { id = id; limit = limit }
-
 -- of which tickets it is, their limit, for how many seats it stands, and the numbers that it drew, in their order
 pub record SeatView : Type 0 where
   pub tickets : TicketsId
@@ -22,13 +19,18 @@ pub record SeatView : Type 0 where
   pub stands_for : ℕ
   pub drawn : List ℕ
 
--- for how many seats all seats of some tickets stand together, however many there are
+-- for how many seats all seats of some tickets stand together: one for each of 16 workers, of whom those that a search
+-- doesn't have leave theirs with one of the others
 abbrev pub ALL_SEATS : ℕ
 ALL_SEATS = 16
 
 -- it is a seat of these tickets
 abbrev pub IsSeatOf : TicketsView → SeatView → Type 0
 IsSeatOf t seat = (seat.tickets ≡ t.id) × (seat.limit ≡ t.limit)
+
+-- it is a seat of these tickets that stands for as many seats as before, whatever it drew meanwhile
+abbrev pub KeepsSeat : TicketsView → SeatView → SeatView → Type 0
+KeepsSeat t old new = IsSeatOf t new × (new.stands_for ≡ old.stands_for)
 
 -- these are all seats of some tickets, in any order
 pub record AreAllSeats (t : TicketsView) (seats : List SeatView) : Type 0 where
@@ -49,4 +51,4 @@ drawn_by seat = seat.drawn
 
 -- how many numbers below the limit it drew
 abbrev pub numbers_of : SeatView → ℕ
-numbers_of seat = sum_by (λ n. if nat_le seat.limit n then 0 else 1) seat.drawn
+numbers_of seat = count_by (λ n. nat_lt n seat.limit) seat.drawn

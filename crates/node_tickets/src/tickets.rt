@@ -3,10 +3,11 @@
 ghost use Rattle.std.specs.Prelude.{◌≡◌, ◌+◌, ◌-◌, ◌<◌, ◌≤◌, ◌++◌, ◌∷◌, [], ◌↔◌, length, min, All, IsPermutation, IfOk};
 ghost use Rattle.std.specs.List.{flat_map, range_with_len, sum_by};
 ghost use Rattle.node_tickets.specs.Draws.{number_drawn, IfNumber, IfFull};
-ghost use Rattle.node_tickets.specs.Seats.{ALL_SEATS, IsSeatOf, AreAllSeats, MayDraw, drawn_by, numbers_of};
+ghost use Rattle.node_tickets.specs.Seats.{ALL_SEATS, IsSeatOf, AreAllSeats, IsFresh, MayDraw, drawn_by, numbers_of};
 
 use crate::draw::Draw;
-use crate::word::{Place, Word, count_drawn, deal_place, draw_next, join_place, open_word};
+use crate::word::{Closes, Deals, Draws, Place, Word};
+use atomic_table::Table;
 use exact_parts::NoMemory;
 use std::alloc::Global;
 use std::marker::Model;
@@ -64,48 +65,6 @@ impl Model for TicketSeat {
     } };
 }
 
-ghost use Rattle.node_tickets.specs.Rule.{ALL, hand, IsWordOf};
-ghost use Rattle.node_tickets.specs.Seats.{IsFresh, tickets_view};
-
-// All seats of a word from which nothing was drawn. Each but the last stands for one.
-fn deal_all(
-    alloc: Global,
-    word: &Word,
-    mut whole: Place,
-    seats: u32,
-) -> Result<Vec<TicketSeat>, NoMemory>
-    requires word { IsWordOf word.now whole }
-    requires hand { whole.me.0 ≡ hand ALL word.now.shared.key [] }
-    requires some { 1 ≤ seats }
-    requires few { seats ≤ 16 }
-    ensures many { IfOk result (λ dealt. length dealt.items ≡ seats) }
-    ensures all { IfOk result (λ dealt. AreAllSeats (tickets_view word.now.shared.table_id word.now.shared.key) dealt.items) }
-    ensures fresh { IfOk result (λ dealt. All IsFresh dealt.items) }
-{
-    let mut dealt = Vec::new(alloc);
-    for _made in 1..seats {
-        let place = deal_place(word, &mut whole);
-        dealt.push(TicketSeat { place })?;
-    }
-    dealt.push(TicketSeat { place: whole })?;
-    Ok(dealt)
-}
-
-// Takes some seats, and what they drew, into one.
-fn join_all(word: &Word, whole: &mut Place, mut seats: Vec<TicketSeat>)
-    requires word { IsWordOf word.now whole.old }
-    requires some { 0 < whole.old.me.0.stands_for }
-    requires seats { All (IsSeatOf (tickets_view word.now.shared.table_id word.now.shared.key)) seats.items }
-    ensures word { IsWordOf word.now whole.new }
-    ensures stands { whole.new.me.0.stands_for ≡ whole.old.me.0.stands_for + sum_by (λ s. s.stands_for) seats.items }
-    ensures drawn { IsPermutation whole.new.me.0.drawn (whole.old.me.0.drawn ++ flat_map drawn_by seats.items) }
-{
-    while let Some(seat) = seats.pop() {
-        let TicketSeat { place } = seat;
-        join_place(word, whole, place);
-    }
-}
-
 impl Tickets {
     /// Tickets with a limit of 1 to 1,048,576, and 1 to 16 seats. Nothing was drawn by any. Takes all the memory that the
     /// tickets ever need.
@@ -123,9 +82,10 @@ impl Tickets {
         ensures all { IfOk result (λ r. AreAllSeats r.0 r.1.items) }
         ensures fresh { IfOk result (λ r. All IsFresh r.1.items) }
     {
-        let (word, first) = open_word(alloc, limit)?;
-        let seats = deal_all(alloc, &word, first, seats)?;
-        Ok((Tickets { word, limit }, seats))
+        let (word, place) = Table::of_words(alloc, &[0], &limit)?;
+        let tickets = Tickets { word, limit };
+        let seats = tickets.deal_all(alloc, TicketSeat { place }, seats)?;
+        Ok((tickets, seats))
     }
 
     /// Draws the next number, in one atomic step: `Number` exactly where it is below the limit. Takes no memory, and
@@ -143,12 +103,12 @@ impl Tickets {
         ensures counts { IfNumber result (λ _. numbers_of seat.new ≡ numbers_of seat.old + 1) }
         ensures no_more { IfFull result (λ _. numbers_of seat.new ≡ numbers_of seat.old) }
     {
-        let number = draw_next(&self.word, &mut seat.place);
+        let number = self.word.shared.fetch_add::<Draws>(&mut seat.place, 0, 1);
         Draw::of(number, self.limit)
     }
 
     /// How many numbers were drawn, told once all seats are back: the numbers that they drew are those below the answer,
-    /// each once. Takes no memory, and doesn't wait.
+    /// each once. It is above the limit exactly where a seat drew `Full`. Takes no memory, and doesn't wait.
     pub fn close(self, mut seats: Vec<TicketSeat>) -> u64
         requires { AreAllSeats self seats.items }
         ensures drawn { IsPermutation (flat_map drawn_by seats.items) (range_with_len 0 result) }
@@ -156,10 +116,69 @@ impl Tickets {
         ensures full { All MayDraw seats.items ↔ (result ≤ self.limit) }
         ensures most { result ≤ self.limit + ALL_SEATS }
     {
-        let Some(TicketSeat { place: mut whole }) = seats.pop() else {
+        let Some(mut whole) = seats.pop() else {
             unreachable!()
         };
-        join_all(&self.word, &mut whole, seats);
-        count_drawn(&self.word, &mut whole)
+        self.join_all(&mut whole, seats);
+        self.word.shared.load::<Closes>(&mut whole.place, 0)
+    }
+
+    // Gives one of the seats away for which a seat stands that drew nothing.
+    fn deal(&self, seat: &mut TicketSeat) -> TicketSeat
+        requires seat { IsSeatOf self.now seat.old }
+        requires some { 1 < seat.old.stands_for }
+        requires fresh { IsFresh seat.old }
+        ensures left { seat.new ≡ record seat.old { stands_for = seat.old.stands_for - 1 } }
+        ensures dealt { result ≡ record seat.old { stands_for = 1 } }
+    {
+        let place = self.word.shared.split_seat::<Deals>(&mut seat.place);
+        TicketSeat { place }
+    }
+
+    // As many seats as asked, of which each but the last stands for one.
+    fn deal_all(
+        &self,
+        alloc: Global,
+        mut whole: TicketSeat,
+        seats: u32,
+    ) -> Result<Vec<TicketSeat>, NoMemory>
+        requires whole { AreAllSeats self.now (whole ∷ []) }
+        requires fresh { IsFresh whole }
+        requires some { 1 ≤ seats }
+        requires few { seats ≤ 16 }
+        ensures many { IfOk result (λ dealt. length dealt.items ≡ seats) }
+        ensures all { IfOk result (λ dealt. AreAllSeats self.now dealt.items) }
+        ensures fresh { IfOk result (λ dealt. All IsFresh dealt.items) }
+    {
+        let mut dealt = Vec::new(alloc);
+        for _made in 1..seats {
+            dealt.push(self.deal(&mut whole))?;
+        }
+        dealt.push(whole)?;
+        Ok(dealt)
+    }
+
+    // Takes a seat, and what it drew, into another.
+    fn join(&self, seat: &mut TicketSeat, other: TicketSeat)
+        requires seat { IsSeatOf self.now seat.old }
+        requires other { IsSeatOf self.now other }
+        ensures { seat.new ≡ record seat.old { stands_for = seat.old.stands_for + other.stands_for; drawn = seat.old.drawn ++ other.drawn } }
+    {
+        self.word
+            .shared
+            .join_seat::<Deals>(&mut seat.place, other.place);
+    }
+
+    // Takes some seats, and what they drew, into one.
+    fn join_all(&self, whole: &mut TicketSeat, mut seats: Vec<TicketSeat>)
+        requires whole { IsSeatOf self.now whole.old }
+        requires seats { All (IsSeatOf self.now) seats.items }
+        ensures whole { IsSeatOf self.now whole.new }
+        ensures stands { whole.new.stands_for ≡ whole.old.stands_for + sum_by (λ s. s.stands_for) seats.items }
+        ensures drawn { IsPermutation whole.new.drawn (whole.old.drawn ++ flat_map drawn_by seats.items) }
+    {
+        while let Some(seat) = seats.pop() {
+            self.join(whole, seat);
+        }
     }
 }

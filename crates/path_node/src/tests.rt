@@ -9,6 +9,9 @@ use std::alloc::{AllocError, Global};
 use std::test::Fail;
 use sweep_table::Sweep;
 
+// Holds of what may be shared between threads and moved to one.
+fn crosses_threads<T: Send + Sync + Drop>(_value: T) {}
+
 // The row of a cell that keeps all of a target.
 fn stays(alloc: Global, cell: u8) -> Result<Vec<DriftPart>, AllocError> {
     [DriftPart { cell, part: 1 }].to_vec(alloc)
@@ -101,5 +104,6 @@ fn looks_of_two_rates_have_no_tangent(rt: HostRuntime) -> Result<(), Fail> {
     let mut scratch = Scratch::tables(rt.alloc(), &sc)?;
     let near = closed(&sc, &mut scratch, &[1], &[2, 2, 2]).ok_or("not legal")?;
     assert!(rt; is_branch(&near));
+    crosses_threads(scratch);
     Ok(())
 }

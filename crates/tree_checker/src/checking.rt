@@ -1,6 +1,6 @@
 //! The check of a whole plan.
 
-ghost use Rattle.std.specs.Prelude.{◌≡◌, ◌≤◌, ◌↔◌, length, IfOk};
+ghost use Rattle.std.specs.Prelude.{◌≡◌, ◌↔◌, IfOk};
 ghost use Rattle.bound_tree.specs.Accepts.{Accepts};
 ghost use Rattle.tree_checker.specs.Reasons.{first_reason, verdict_of};
 
@@ -13,7 +13,6 @@ use std::alloc::Global;
 
 /// The verdict on a plan.
 fn verdict(alloc: Global, sc: &Scenario, plan: &Plan) -> Result<Verdict, NoMemory>
-    requires few { length plan.now.tree ≤ 1048576 }
     ensures { IfOk result (λ v. v ≡ verdict_of (first_reason sc.now plan.now)) }
 {
     let mut checker = Checker::tables(alloc, sc)?;
@@ -24,12 +23,11 @@ fn verdict(alloc: Global, sc: &Scenario, plan: &Plan) -> Result<Verdict, NoMemor
     Ok(checker.finish())
 }
 
-/// Whether a plan with at most 1,048,576 records is accepted; else the first reason against it. A record uses the beliefs
+/// Whether a plan is accepted; else the first reason against it. A record uses the beliefs
 /// of the part that its prefix has in common with the one before it, so the time grows with the number of records and not
 /// with that of the target's tracks.
 #[tactic(auto, using(crate::proofs::Reason::accepted_verdict))]
 pub fn check(alloc: Global, sc: &Scenario, plan: &Plan) -> Result<Verdict, NoMemory>
-    requires few { length plan.now.tree ≤ 1048576 }
     ensures exact { IfOk result (λ v. v ≡ verdict_of (first_reason sc.now plan.now)) }
     ensures accepted { IfOk result (λ v. (v ≡ Verdict.Accepted) ↔ Accepts sc.now plan.now) }
 {
