@@ -5,5 +5,5 @@ mod Ready
 mod Recorded
 pub mod Rooms
 mod Shared
-pub mod Standings
-pub mod Told
+mod Standings
+mod Told
