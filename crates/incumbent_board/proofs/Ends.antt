@@ -1,5 +1,5 @@
 -- The passes of all seats, joined, know the whole history.
-use Rattle.std.proofs.Common.{◌≡◌, ◌⊎◌, ℕ, ◌+◌, ◌<◌, Bool, true, false, IsTrue, List, [], ◌∷◌, ◌++◌, length, drop, sym, refl, ap, ◌∙◌, subst, append_assoc, arith, All, Contains, IsPermutation, sum_by}
+use Rattle.std.proofs.Common.{◌≡◌, ℕ, ◌<◌, false, List, [], ◌∷◌, ◌++◌, length, drop, sym, refl, ap, ◌∙◌, subst, append_assoc, arith, All, Contains, IsPermutation}
 use Rattle.std.specs.List.{flat_map}
 use Rattle.std.proofs.lemmas.List.{append-nil}
 use Rattle.std.proofs.lemmas.List.Sums.{sum_by-append, sum_by-cons}
@@ -16,8 +16,8 @@ use Rattle.incumbent_board.specs.declared.sight.Sight.{Sight}
 use Rattle.incumbent_board.specs.History.{first_of, last_from, last_of, Rises, NoneBetter}
 use Rattle.incumbent_board.specs.Words.{told_by}
 use Rattle.incumbent_board.specs.Boards.{BoardView, SeatView, offers_of, AreAllSeats, EndsWith}
-use Rattle.incumbent_board.specs.Rule.{ALL, sight, cell_of, Holds, Sees, Closes, longer, joined}
-use Rattle.incumbent_board.specs.Joins.{IsOfSeat, Begin, Joins}
+use Rattle.incumbent_board.specs.Rule.{ALL, cell_of, Closes, joined}
+use Rattle.incumbent_board.specs.Joins.{IsOfSeat, Gathers}
 use Rattle.incumbent_board.proofs.Views.{same_items}
 use Rattle.incumbent_board.proofs.Histories.{all_left, all_right, first_seen, some_seen}
 use Rattle.incumbent_board.proofs.Shown.{told_last}
@@ -26,7 +26,7 @@ module _ {X A : Type 0} where
   flat_map_last : (f : X → List A) (xs : List X) (x : X) → flat_map f (xs ++ x ∷ []) ≡ flat_map f xs ++ f x
   flat_map_last f xs x = flat_map-append f xs (x ∷ []) ∙ ap (λ (l : List A). flat_map f xs ++ l) (append-nil (f x))
 
-pub joins_none : (v : Sight) → Joins v [] v
+pub joins_none : (v : Sight) → Gathers v [] v
 joins_none v = record {
   seats = omega arith;
   placed = sym (append-nil v.placed);
@@ -35,20 +35,20 @@ joins_none v = record {
 }
 
 -- and one more
-pub joins_more : (v w u : Sight) (done : List SeatView) (s : SeatView) → Joins v done w → IsOfSeat s u → Joins v (done ++ s ∷ []) (joined w u)
+pub joins_more : (v w u : Sight) (done : List SeatView) (s : SeatView) → Gathers v done w → IsOfSeat s u → Gathers v (done ++ s ∷ []) (joined w u)
 joins_more v w u done s k is = record {
   seats = omega (arith, k.seats, is.seats, sum_by-append (λ (y : SeatView). y.stands) done (s ∷ []), sum_by-cons (λ (y : SeatView). y.stands) s []);
   placed = longer_list (λ (y : SeatView). y.placed) v.placed w.placed u.placed k.placed is.placed;
   behind = longer_list (λ (y : SeatView). y.behind) v.behind w.behind u.behind k.behind is.behind;
   seen = λ history b. (
-    let P : List Standing → Type 0 = λ seen. IsPrefix seen history in
-    let told : All P ((w.seen ∷ w.told) ++ u.seen ∷ u.told) = b.told in
-    let first : All P (w.seen ∷ w.told) = all_left P (w.seen ∷ w.told) (u.seen ∷ u.told) told in
-    let second : All P (u.seen ∷ u.told) = all_right P (w.seen ∷ w.told) (u.seen ∷ u.told) told in
-    let old = k.seen history (record { seen = All-head P w.seen w.told first; told = All-tail P w.seen w.told first }) in
-    let Q : SeatView → Type 0 = λ y. IsPrefix y.seen history in
-    (old.0, All-append Q done (s ∷ []) old.1 (All-cons Q s [] (subst P is.seen (All-head P u.seen u.told second)) (All-nil Q)))
-  );
+      let P : List Standing → Type 0 = λ seen. IsPrefix seen history in
+      let told : All P ((w.seen ∷ w.told) ++ u.seen ∷ u.told) = b.told in
+      let first : All P (w.seen ∷ w.told) = all_left P (w.seen ∷ w.told) (u.seen ∷ u.told) told in
+      let second : All P (u.seen ∷ u.told) = all_right P (w.seen ∷ w.told) (u.seen ∷ u.told) told in
+      let old = k.seen history (record { seen = All-head P w.seen w.told first; told = All-tail P w.seen w.told first }) in
+      let Q : SeatView → Type 0 = λ y. IsPrefix y.seen history in
+      (old.0, All-append Q done (s ∷ []) old.1 (All-cons Q s [] (subst P is.seen (All-head P u.seen u.told second)) (All-nil Q)))
+      );
 }
   where
     longer_list : (f : SeatView → List Standing) (a b c : List Standing) → b ≡ a ++ flat_map f done → c ≡ f s → b ++ c ≡ a ++ flat_map f (done ++ s ∷ [])
@@ -91,18 +91,18 @@ all_of_both P f rest one a c all same e g each =
     subst (All P) (sym (flat_map_last f rest one)) (All-append P (flat_map f rest) (f one) (all_right P a (flat_map f rest) both) (subst (All P) g (all_left P a (flat_map f rest) both)))
 
 -- the joined pass stands for all seats
-sum_is : (b : BoardView) (rest : List SeatView) (one : SeatView) (v w : Sight) → AreAllSeats b (rest ++ one ∷ []) → IsOfSeat one v → Joins v rest w → w.seats ≡ ALL
+sum_is : (b : BoardView) (rest : List SeatView) (one : SeatView) (v w : Sight) → AreAllSeats b (rest ++ one ∷ []) → IsOfSeat one v → Gathers v rest w → w.seats ≡ ALL
 sum_is b rest one v w all is k = omega (arith, k.seats, is.seats, all.all, sum_by-append (λ (y : SeatView). y.stands) rest (one ∷ []), sum_by-cons (λ (y : SeatView). y.stands) one [])
 
 -- and placed what all placed
-own_placed : (rest : List SeatView) (one : SeatView) (v w : Sight) (later : List Standing) → IsOfSeat one v → Joins v rest w → IsPermutation later w.placed → IsPermutation later (flat_map (λ s. s.placed) (rest ++ one ∷ []))
+own_placed : (rest : List SeatView) (one : SeatView) (v w : Sight) (later : List Standing) → IsOfSeat one v → Gathers v rest w → IsPermutation later w.placed → IsPermutation later (flat_map (λ s. s.placed) (rest ++ one ∷ []))
 own_placed rest one v w later is k own =
     let f : SeatView → List Standing = λ y. y.placed in
     IsPermutation-trans _ _ _ (subst (IsPermutation later) k.placed own)
     (IsPermutation-trans _ _ _ (IsPermutation-append_comm v.placed (flat_map f rest))
     (same_items _ _ (ap (λ (l : List Standing). flat_map f rest ++ l) is.placed ∙ sym (flat_map_last f rest one))))
 
-pub ended : (b : BoardView) (rest : List SeatView) (one : SeatView) (v w u : Sight) (words : List ℕ) → AreAllSeats b (rest ++ one ∷ []) → IsOfSeat one v → Joins v rest w → Closes w words words u → Ended b (rest ++ one ∷ []) (told_by b.first words)
+pub ended : (b : BoardView) (rest : List SeatView) (one : SeatView) (v w u : Sight) (words : List ℕ) → AreAllSeats b (rest ++ one ∷ []) → IsOfSeat one v → Gathers v rest w → Closes w words words u → Ended b (rest ++ one ∷ []) (told_by b.first words)
 ended b rest one v w u words all is k (s, placed) =
     let begin = k.seen u.seen (record { seen = s.0.seen; told = s.0.told }) in
     let one_seen : IsPrefix one.seen u.seen = subst (λ (l : List Standing). IsPrefix l u.seen) is.seen begin.0.seen in
@@ -113,7 +113,7 @@ ended b rest one v w u words all is k (s, placed) =
     let cut : u.seen ≡ b.first ∷ later = cut_first u.seen begun ∙ ap (λ (y : Standing). y ∷ later) first in
     let rises : Rises b.first later = subst (λ (y : Standing). Rises y later) first s.0.rises in
     let answer : last_of u.seen ≡ told_by b.first words =
-    sym (ap (told_by b.first) s.0.cell ∙ ap (λ (y : Standing). told_by y (cell_of u.seen)) (sym first) ∙ told_last u.seen begun s.0.holds) in
+    sym (ap (told_by b.first) s.0.cell ∙ ap (λ (y : Standing). told_by y (cell_of u.seen)) (sym first) ∙ told_last u.seen begun s.0.fits) in
     let last : last_from b.first later ≡ told_by b.first words = ap last_of (sym cut) ∙ answer in
     let P : Standing → Type 0 = λ t. better t (told_by b.first words) ≡ false in
     let Q : SeatView → Type 0 = λ y. IsPrefix y.seen (b.first ∷ later) in
@@ -131,7 +131,7 @@ ended b rest one v w u words all is k (s, placed) =
       };
       best = All-cons P b.first (flat_map (λ y. offers_of y) (rest ++ one ∷ [])) (subst (λ (y : Standing). better b.first y ≡ false) last (first_not_better b.first later rises)) (all_offers P (rest ++ one ∷ []) all_placed all_behind);
       known = subst (Contains (b.first ∷ flat_map (λ y. y.placed) (rest ++ one ∷ []))) last
-      (Contains-permutation (b.first ∷ later) (b.first ∷ flat_map (λ y. y.placed) (rest ++ one ∷ [])) (last_from b.first later) (IsPermutation-append_right (b.first ∷ []) later _ own) (last_there b.first later));
+          (Contains-permutation (b.first ∷ later) (b.first ∷ flat_map (λ y. y.placed) (rest ++ one ∷ [])) (last_from b.first later) (IsPermutation-append_right (b.first ∷ []) later _ own) (last_there b.first later));
     }
 
 -- the other seats are of the same cell

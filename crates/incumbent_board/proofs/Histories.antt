@@ -1,5 +1,5 @@
 -- Histories and their beginnings.
-use Rattle.std.proofs.Common.{◌≡◌, ⊎_elim, ◌⊎◌, inl, inr, ℕ, ◌+◌, ◌/◌, ◌%◌, ◌^◌, ◌-◌, ◌<◌, ◌≤◌, Bool, true, false, IsTrue, if◌then◌else◌, nat_lt, List, [], ◌∷◌, ◌++◌, length, take, drop, get_or, slice_index_or, sym, refl, ap, ◌∙◌, subst, append_assoc, arith, All, length-append, ltb-true, ltb-false}
+use Rattle.std.proofs.Common.{◌≡◌, ⊎_elim, ◌⊎◌, ℕ, ◌/◌, ◌^◌, ◌-◌, ◌<◌, ◌≤◌, Bool, true, false, IsTrue, if◌then◌else◌, nat_lt, List, [], ◌∷◌, ◌++◌, length, drop, get_or, slice_index_or, sym, refl, ap, ◌∙◌, subst, append_assoc, arith, All, length-append, ltb-true, ltb-false}
 use Rattle.std.proofs.Math.Seq.{take-append_seam, drop-append_seam}
 use Rattle.std.proofs.lemmas.List.{append-nil, nil_from_length}
 use Rattle.std.proofs.lemmas.List.Elements.{All-head, All-tail, All-take, All-drop}
@@ -7,9 +7,9 @@ use mathlib.Core.List.{IsPrefix}
 use Rattle.search_model.specs.declared.standing.Standing.{Standing}
 use Rattle.search_model.specs.Order.{better}
 use Rattle.search_model.proofs.Orders.{better_one_way, better_order}
-use Rattle.incumbent_board.specs.History.{first_of, last_from, last_of, Rises, NoneBetter, MayStand}
+use Rattle.incumbent_board.specs.History.{first_of, last_from, last_of, Rises, NoneBetter}
 use Rattle.incumbent_board.specs.Words.{words_of, spelled_by, blank}
-use Rattle.incumbent_board.specs.Rule.{cell_of, Holds, longer}
+use Rattle.incumbent_board.specs.Rule.{cell_of, FitsWords, longer}
 use Rattle.incumbent_board.proofs.Packing.{standing_back}
 
 module _ {X : Type 0} where
@@ -106,7 +106,7 @@ pub none_better_on : (us : List Standing) (t s : Standing) → IsTrue (better s 
 none_better_on us t s up all k d below = none_better_one (slice_index_or us k d) t s up (all k d below)
 
 -- standings that were placed are the same where their words are
-pub words_same : (f s t : Standing) → Holds f s → Holds f t → words_of s ≡ words_of t → s ≡ t
+pub words_same : (f s t : Standing) → FitsWords f s → FitsWords f t → words_of s ≡ words_of t → s ≡ t
 words_same f s t hs ht e =
     sym (standing_back s hs.short hs.bytes)
     ∙ ap (λ (n : ℕ). spelled_by n (words_of s)) (hs.stands.size ∙ sym ht.stands.size)
@@ -114,23 +114,23 @@ words_same f s t hs ht e =
     ∙ standing_back t ht.short ht.bytes
 
 -- no standing's words are blank
-pub words_not_blank : (f s : Standing) → Holds f s → words_of s ≡ blank → ⊥
+pub words_not_blank : (f s : Standing) → FitsWords f s → words_of s ≡ blank → ⊥
 words_not_blank f s h e = let v = h.stands.value in let head : s.value / 2 ^ 64 ≡ 2 ^ 64 - 1 = ap (λ (l : List ℕ). get_or l 0 0) e in omega arith
 
-pub last_holds : (f a : Standing) (later : List Standing) → Holds f a → All (Holds f) later → Holds f (last_from a later)
-last_holds f a [] h all = h
-last_holds f a (b ∷ later) h all = last_holds f b later (All-head (Holds f) b later all) (All-tail (Holds f) b later all)
+pub last_fits : (f a : Standing) (later : List Standing) → FitsWords f a → All (FitsWords f) later → FitsWords f (last_from a later)
+last_fits f a [] h all = h
+last_fits f a (b ∷ later) h all = last_fits f b later (All-head (FitsWords f) b later all) (All-tail (FitsWords f) b later all)
 
-last_from_seen : (a : Standing) (seen rest : List Standing) → All (Holds a) (seen ++ rest) → cell_of (a ∷ (seen ++ rest)) ≡ cell_of (a ∷ seen) → last_from a (seen ++ rest) ≡ last_from a seen
+last_from_seen : (a : Standing) (seen rest : List Standing) → All (FitsWords a) (seen ++ rest) → cell_of (a ∷ (seen ++ rest)) ≡ cell_of (a ∷ seen) → last_from a (seen ++ rest) ≡ last_from a seen
 last_from_seen a [] [] holds same = refl
-last_from_seen a [] (r ∷ rest) holds same = absurd (words_not_blank a (last_from r rest) (last_holds a r rest (All-head (Holds a) r rest holds) (All-tail (Holds a) r rest holds)) same)
+last_from_seen a [] (r ∷ rest) holds same = absurd (words_not_blank a (last_from r rest) (last_fits a r rest (All-head (FitsWords a) r rest holds) (All-tail (FitsWords a) r rest holds)) same)
 last_from_seen a (b ∷ seen) rest holds same =
-    let here : Holds a b = All-head (Holds a) b (seen ++ rest) holds in
-    let later : All (Holds a) (seen ++ rest) = All-tail (Holds a) b (seen ++ rest) holds in
-    words_same a (last_from b (seen ++ rest)) (last_from b seen) (last_holds a b (seen ++ rest) here later) (last_holds a b seen here (all_left (Holds a) seen rest later)) same
+    let here : FitsWords a b = All-head (FitsWords a) b (seen ++ rest) holds in
+    let later : All (FitsWords a) (seen ++ rest) = All-tail (FitsWords a) b (seen ++ rest) holds in
+    words_same a (last_from b (seen ++ rest)) (last_from b seen) (last_fits a b (seen ++ rest) here later) (last_fits a b seen here (all_left (FitsWords a) seen rest later)) same
 
 -- a beginning by which the cell holds what it holds ends with the same standing
-pub last_seen : (seen history : List Standing) → IsPrefix seen history → 0 < length seen → All (Holds (first_of history)) (drop 1 history) → cell_of history ≡ cell_of seen → last_of history ≡ last_of seen
+pub last_seen : (seen history : List Standing) → IsPrefix seen history → 0 < length seen → All (FitsWords (first_of history)) (drop 1 history) → cell_of history ≡ cell_of seen → last_of history ≡ last_of seen
 last_seen [] history p some holds same = absurd (omega arith)
 last_seen (a ∷ seen) history (rest, is) some holds same =
-    sym (ap last_of is) ∙ last_from_seen a seen rest (subst (λ (l : List Standing). All (Holds (first_of l)) (drop 1 l)) (sym is) holds) (ap cell_of is ∙ same)
+    sym (ap last_of is) ∙ last_from_seen a seen rest (subst (λ (l : List Standing). All (FitsWords (first_of l)) (drop 1 l)) (sym is) holds) (ap cell_of is ∙ same)

@@ -6,3 +6,4 @@ mod Passes
 mod Shown
 mod Offering
 mod Ends
+pub mod SameSeats

@@ -1,15 +1,14 @@
 -- The tries of an offer.
-use Rattle.std.proofs.Common.{◌≡◌, ℕ, ◌<◌, Bool, true, false, IsTrue, if◌then◌else◌, List, [], ◌∷◌, ◌++◌, length, sym, refl, ap, ◌∙◌, subst, arith}
+use Rattle.std.proofs.Common.{◌≡◌, ℕ, ◌<◌, Bool, false, IsTrue, if◌then◌else◌, List, [], ◌∷◌, ◌++◌, length, sym, ap, ◌∙◌, subst}
 use mathlib.Core.List.{IsPrefix}
 use Rattle.search_model.specs.declared.standing.Standing.{Standing}
 use Rattle.search_model.specs.Order.{better}
 use Rattle.incumbent_board.specs.declared.sight.Sight.{Sight}
-use Rattle.incumbent_board.specs.declared.offer.Offer.{Offer}
 use Rattle.incumbent_board.specs.declared.offer.Offer.TheVariants.{Placed, Behind}
-use Rattle.incumbent_board.specs.History.{first_of, last_of, IsHistory, MayStand}
+use Rattle.incumbent_board.specs.History.{first_of, last_of}
 use Rattle.incumbent_board.specs.Words.{told_by}
-use Rattle.incumbent_board.specs.Offers.{Tells, ComesNext}
-use Rattle.incumbent_board.specs.Rule.{sight, cell_of, Holds, behind_with, Sees, Weighs, Places}
+use Rattle.incumbent_board.specs.Offers.{Tells}
+use Rattle.incumbent_board.specs.Rule.{cell_of, behind_with, Weighs, Places}
 use Rattle.incumbent_board.proofs.Histories.{prefix_more, prefix_trans, first_seen, some_seen}
 use Rattle.incumbent_board.proofs.Shown.{Shown, shown, is_history}
 

@@ -1,6 +1,6 @@
 -- Six words give the standing back.
-use Rattle.std.proofs.Common.{⊎_elim, ◌≡◌, ℕ, zero, suc, ◌+◌, ◌-◌, ◌*◌, ◌/◌, ◌%◌, ◌^◌, ◌<◌, ◌≤◌, List, [], ◌∷◌, ◌++◌, length, take, drop, get_or, slice_index, slice_index_or, sym, refl, ap, ◌∙◌, subst, append_assoc, arith, All, map, replicate}
-use Rattle.std.specs.Int.{w64, to_be_bytes, from_be_bytes}
+use Rattle.std.proofs.Common.{⊎_elim, ◌≡◌, ℕ, ◌+◌, ◌-◌, ◌^◌, ◌<◌, ◌≤◌, List, [], ◌∷◌, ◌++◌, length, take, drop, get_or, slice_index, sym, refl, ap, ◌∙◌, append_assoc, arith, All, map, replicate}
+use Rattle.std.specs.Int.{w64, to_be_bytes}
 use Rattle.std.specs.List.{flat_map}
 use Rattle.std.proofs.lemmas.List.{append-nil, length-replicate, length-append, length-take-le, length-drop, get_or_past, take_all}
 use Rattle.std.proofs.lemmas.Bool.{cases_lt}

@@ -1,5 +1,5 @@
 -- What passes hand on to each other keeps the rule of the cell, and a pass that stands for all seats knows all offers.
-use Rattle.std.proofs.Common.{◌≡◌, ◌≢◌, ◌⊎◌, inl, inr, ⊎_elim, ℕ, ◌+◌, ◌-◌, ◌<◌, List, [], ◌∷◌, ◌++◌, length, drop, set, sym, refl, ap, ◌∙◌, subst, arith, All, false, IsPermutation, sum_by}
+use Rattle.std.proofs.Common.{◌≡◌, ◌≢◌, ◌⊎◌, inl, inr, ⊎_elim, ℕ, ◌-◌, ◌<◌, List, [], ◌∷◌, ◌++◌, length, drop, set, sym, refl, ap, ◌∙◌, subst, arith, false, IsPermutation}
 use Rattle.std.specs.List.{flat_map}
 use Rattle.std.proofs.lemmas.Bool.{cases_order}
 use Rattle.std.proofs.lemmas.List.{nil_from_length}
@@ -14,9 +14,9 @@ use Rattle.crossbeam_utils.specs.Register.{Turns, Forks, Merges}
 use Rattle.search_model.specs.declared.standing.Standing.{Standing}
 use Rattle.search_model.specs.Order.{better}
 use Rattle.incumbent_board.specs.declared.sight.Sight.{Sight}
-use Rattle.incumbent_board.specs.History.{last_of, NoneBetter}
+use Rattle.incumbent_board.specs.History.{last_of}
 use Rattle.incumbent_board.specs.Words.{blank}
-use Rattle.incumbent_board.specs.Rule.{ALL, sight, spent, cell_of, Holds, Knows, IsKept, Closes, longer, joined}
+use Rattle.incumbent_board.specs.Rule.{ALL, sight, spent, cell_of, FitsWords, Knows, IsKept, Closes, joined}
 use Rattle.incumbent_board.proofs.Views.{set_there, sum_set, sum_else, Each, each_set, each_push, lists_same, lists_push, lists_moved, lists_handed, lists_one, same_items}
 use Rattle.incumbent_board.proofs.Histories.{all_left, all_right, prefix_self, prefix_none, longer_prefix, longer_whole}
 use Rattle.incumbent_board.proofs.Steps.{sees}
@@ -104,7 +104,7 @@ starts s port v new x views h at =
     record {
       history = s ∷ [];
       rises = tt;
-      holds = All-nil (Holds s);
+      fits = All-nil (FitsWords s);
       cell = h.cell ∙ cell_alone h.history none;
       all = omega (arith, whole, h.all, sum_set (λ (y : Sight). y.seats) views port v spent at, sum_by-append (λ (y : Sight). y.seats) vs (w ∷ []));
       whole = (length vs, w, last_there vs w, refl);
@@ -122,17 +122,17 @@ deals port v two x views h at =
     record {
       history = h.history;
       rises = h.rises;
-      holds = h.holds;
+      fits = h.fits;
       cell = h.cell;
       all = omega (arith, two, h.all, sum_set (λ (y : Sight). y.seats) views port v l at, sum_by-append (λ (y : Sight). y.seats) vs (r ∷ []));
       whole = seen_push vs r h.history (seen_set views port v l h.history at refl h.whole);
       placed = subst (IsPermutation (drop 1 h.history)) (sym (lists_push (λ (y : Sight). y.placed) vs r refl ∙ lists_same (λ (y : Sight). y.placed) views port v l at refl)) h.placed;
       each = each_push (Knows h.history) vs r (knows_seen h.history v.seen 1 mine.seen (omega arith)) (each_set (Knows h.history) views port l (record {
-          seen = mine.seen;
-          told = mine.told;
-          best = mine.best;
-          none = λ no. absurd (omega (arith, no, two));
-        }) h.each);
+        seen = mine.seen;
+        told = mine.told;
+        best = mine.best;
+        none = λ no. absurd (omega (arith, no, two));
+      }) h.each);
     }
 
 -- all that a pass knows is handed on
@@ -142,7 +142,7 @@ cuts port v x views h at =
     record {
       history = h.history;
       rises = h.rises;
-      holds = h.holds;
+      fits = h.fits;
       cell = h.cell;
       all = omega (arith, h.all, sum_set (λ (y : Sight). y.seats) views port v spent at, sum_by-append (λ (y : Sight). y.seats) vs (v ∷ []), sum_by-cons (λ (y : Sight). y.seats) v []);
       whole = seen_handed views port v h.history at h.whole;
@@ -159,8 +159,8 @@ knows_joined history v w some_seat a b =
       seen = longer_prefix v.seen w.seen history a.seen b.seen;
       told = All-append Q (v.seen ∷ v.told) (w.seen ∷ w.told) (All-cons Q v.seen v.told a.seen a.told) (All-cons Q w.seen w.told b.seen b.told);
       best = All-append P (v.placed ++ w.placed) (v.behind ++ w.behind)
-      (All-append P v.placed w.placed (all_left P v.placed v.behind a.best) (all_left P w.placed w.behind b.best))
-      (All-append P v.behind w.behind (all_right P v.placed v.behind a.best) (all_right P w.placed w.behind b.best));
+          (All-append P v.placed w.placed (all_left P v.placed v.behind a.best) (all_left P w.placed w.behind b.best))
+          (All-append P v.behind w.behind (all_right P v.placed v.behind a.best) (all_right P w.placed w.behind b.best));
       none = λ no. absurd (omega (arith, no, some_seat));
     }
 
@@ -181,7 +181,7 @@ merges port v other w some_seat x views h at differ there =
     record {
       history = h.history;
       rises = h.rises;
-      holds = h.holds;
+      fits = h.fits;
       cell = h.cell;
       all = omega (arith, h.all, sum_set (λ (y : Sight). y.seats) views port v both at, sum_set (λ (y : Sight). y.seats) vs other w spent there);
       whole = kept h.whole;

@@ -1,32 +1,29 @@
 -- Each step at the cell keeps its rule.
-use Rattle.std.proofs.Common.{◌≡◌, ◌≢◌, ◌⊎◌, inl, inr, ⊎_elim, ℕ, zero, suc, ◌+◌, ◌-◌, ◌<◌, List, [], ◌∷◌, ◌++◌, length, drop, set, sym, refl, ap, ◌∙◌, subst, append_assoc, arith, All, Bool, true, false, IsTrue, if◌then◌else◌, nat_eq, MatchBool, IsPermutation, sum_by}
+use Rattle.std.proofs.Common.{◌≡◌, ℕ, zero, suc, ◌<◌, List, [], ◌∷◌, ◌++◌, length, drop, set, sym, refl, ap, ◌∙◌, subst, append_assoc, arith, All, Bool, true, false, IsTrue, if◌then◌else◌, nat_eq, MatchBool, IsPermutation}
 use Rattle.std.specs.List.{flat_map}
-use Rattle.std.proofs.lemmas.List.{append-nil, nil_from_length}
-use Rattle.std.proofs.lemmas.List.Sums.{sum_by-append, sum_by-cons}
 use Rattle.std.proofs.lemmas.List.Elements.{All-nil, All-cons, All-append}
-use Rattle.std.proofs.lemmas.List.Sorted.{IsPermutation-refl, IsPermutation-trans, IsPermutation-append_left, length_permutation}
+use Rattle.std.proofs.lemmas.List.Sorted.{IsPermutation-refl, IsPermutation-trans, IsPermutation-append_left}
 use mathlib.Core.Option.{some, some-injective, some-ne-none}
 use mathlib.Core.List.{IsPrefix}
 use lib.ListN.{get_elem?}
 use lib.Pointwise.{pointwise, bytes_decides}
-use Rattle.atomic_table.proofs.Lists.{at_set, set_else, at_last, at_longer}
-use Rattle.crossbeam_utils.specs.Register.{Turns, Forks, Merges}
+use Rattle.crossbeam_utils.specs.Register.{Turns}
 use Rattle.search_model.specs.declared.standing.Standing.{Standing}
 use Rattle.search_model.specs.Order.{better}
 use Rattle.search_model.proofs.Orders.{better_irreflexive}
 use Rattle.incumbent_board.specs.declared.sight.Sight.{Sight}
 use Rattle.incumbent_board.specs.History.{first_of, last_of, Rises, NoneBetter}
 use Rattle.incumbent_board.specs.Words.{words_of, blank}
-use Rattle.incumbent_board.specs.Rule.{ALL, sight, spent, cell_of, Holds, Knows, IsKept, Sees, Looks, behind_with, Weighs, Places, Tries, Closes, longer, joined}
-use Rattle.incumbent_board.proofs.Views.{set_there, sum_set, sum_one, sum_else, Each, each_set, each_push, lists_set, lists_same, lists_push, lists_moved, lists_handed, lists_none, lists_one, same_items}
-use Rattle.incumbent_board.proofs.Histories.{all_left, all_right, prefix_self, prefix_none, prefix_more, longer_prefix, longer_whole, last_push, first_push, later_push, cell_push, rises_push, first_seen, some_seen, none_better_on, last_seen}
+use Rattle.incumbent_board.specs.Rule.{ALL, sight, cell_of, FitsWords, Knows, IsKept, Sees, Looks, behind_with, Weighs, Places, Tries}
+use Rattle.incumbent_board.proofs.Views.{set_there, sum_set, each_set, lists_set, lists_same}
+use Rattle.incumbent_board.proofs.Histories.{all_left, all_right, prefix_self, prefix_none, prefix_more, last_push, first_push, later_push, cell_push, rises_push, first_seen, some_seen, none_better_on, last_seen}
 
 -- the first view, which stands for all seats
 pub begins : IsKept blank (sight ALL [] [] [] [] ∷ [])
 begins = let v = sight ALL [] [] [] [] in record {
   history = [];
   rises = tt;
-  holds = All-nil (Holds (first_of []));
+  fits = All-nil (FitsWords (first_of []));
   cell = refl;
   all = refl;
   whole = (0, v, refl, refl);
@@ -36,11 +33,11 @@ begins = let v = sight ALL [] [] [] [] in record {
   where
     only : (port : ℕ) (u : Sight) → get_elem? (sight ALL [] [] [] [] ∷ []) port ≡ some u → Knows [] u
     only zero u at = subst (λ (y : Sight). Knows [] y) (some-injective (sight ALL [] [] [] []) u at) (record {
-        seen = prefix_none [];
-        told = All-nil (λ (seen : List Standing). IsPrefix seen []);
-        best = All-nil (λ t. better t (last_of []) ≡ false);
-        none = λ no. absurd (omega (arith, no));
-      })
+      seen = prefix_none [];
+      told = All-nil (λ (seen : List Standing). IsPrefix seen []);
+      best = All-nil (λ t. better t (last_of []) ≡ false);
+      none = λ no. absurd (omega (arith, no));
+    })
     only (suc port) u at = absurd (some-ne-none u (sym at))
 
 -- a step that leaves the words: the whole history is seen, and the offers that are behind may be more
@@ -50,7 +47,7 @@ sees port v x views behind some_seat h at best = let w = sight v.seats h.history
   record {
     history = h.history;
     rises = h.rises;
-    holds = h.holds;
+    fits = h.fits;
     cell = h.cell;
     all = omega (arith, sum_set (λ (y : Sight). y.seats) views port v w at, h.all);
     whole = (port, w, set_there views port v w at, refl);
@@ -66,7 +63,7 @@ sees port v x views behind some_seat h at best = let w = sight v.seats h.history
     seen = (h.each port v at).seen;
     told = (h.each port v at).told;
     rises = h.rises;
-    holds = h.holds;
+    fits = h.fits;
     cell = h.cell;
     best = best;
   },
@@ -96,7 +93,7 @@ weighs s port v some_seat x views h at =
     (w, k.0, (k.1, refl))
 
 -- a replace of what stands there by what is better
-replaces : (s : Standing) (port : ℕ) (v : Sight) (x : List ℕ) (views : List Sight) → 0 < v.seats → (h : IsKept x views) → get_elem? views port ≡ some v → 0 < length h.history → Holds (first_of h.history) s →
+replaces : (s : Standing) (port : ℕ) (v : Sight) (x : List ℕ) (views : List Sight) → 0 < v.seats → (h : IsKept x views) → get_elem? views port ≡ some v → 0 < length h.history → FitsWords (first_of h.history) s →
     IsTrue (better s (last_of h.history)) → let w = sight v.seats (h.history ++ s ∷ []) v.told (v.placed ++ s ∷ []) v.behind in IsKept (words_of s) (set views port w) × Places s v w
 replaces s port v x views some_seat h at begun fits up =
     let all = h.history ++ s ∷ [] in
@@ -114,24 +111,24 @@ replaces s port v x views some_seat h at begun fits up =
       record {
         history = all;
         rises = rises;
-        holds = rw (first, later) (All-append (Holds (first_of h.history)) (drop 1 h.history) (s ∷ []) h.holds (All-cons (Holds (first_of h.history)) s [] fits (All-nil (Holds (first_of h.history)))));
+        fits = rw (first, later) (All-append (FitsWords (first_of h.history)) (drop 1 h.history) (s ∷ []) h.fits (All-cons (FitsWords (first_of h.history)) s [] fits (All-nil (FitsWords (first_of h.history)))));
         cell = sym (cell_push h.history s begun);
         all = omega (arith, sum_set (λ (y : Sight). y.seats) views port v w at, h.all);
         whole = (port, w, set_there views port v w at, refl);
         placed = subst (λ (l : List Standing). IsPermutation l (flat_map (λ (y : Sight). y.placed) (set views port w))) (sym later)
-        (IsPermutation-trans _ _ _ (IsPermutation-append_left (s ∷ []) _ _ h.placed) (lists_set (λ (y : Sight). y.placed) views port v w (s ∷ []) at refl));
+            (IsPermutation-trans _ _ _ (IsPermutation-append_left (s ∷ []) _ _ h.placed) (lists_set (λ (y : Sight). y.placed) views port v w (s ∷ []) at refl));
         each = each_set (Knows all) views port w (record {
           seen = prefix_self all;
           told = λ k d below. prefix_more _ h.history (s ∷ []) (mine.told k d below);
           best = All-append P (v.placed ++ s ∷ []) v.behind (All-append P v.placed (s ∷ []) (all_left P v.placed v.behind parts) (All-cons P s [] own (All-nil P))) (all_right P v.placed v.behind parts);
           none = λ no. absurd (omega (arith, no));
         })
-        (λ j u e. let k = h.each j u e in record {
-          seen = prefix_more u.seen h.history (s ∷ []) k.seen;
-          told = λ i d below. prefix_more _ h.history (s ∷ []) (k.told i d below);
-          best = older (u.placed ++ u.behind) k.best;
-          none = k.none;
-        });
+            (λ j u e. let k = h.each j u e in record {
+              seen = prefix_more u.seen h.history (s ∷ []) k.seen;
+              told = λ i d below. prefix_more _ h.history (s ∷ []) (k.told i d below);
+              best = older (u.placed ++ u.behind) k.best;
+              none = k.none;
+            });
       },
       record {
         before = h.history;
@@ -142,7 +139,7 @@ replaces s port v x views some_seat h at begun fits up =
       },
     )
 
-pub tries : (expected : List ℕ) (s : Standing) (port : ℕ) (v : Sight) → 0 < v.seats → 0 < length v.seen → Holds (first_of v.seen) s → expected ≡ cell_of v.seen → IsTrue (better s (last_of v.seen)) →
+pub tries : (expected : List ℕ) (s : Standing) (port : ℕ) (v : Sight) → 0 < v.seats → 0 < length v.seen → FitsWords (first_of v.seen) s → expected ≡ cell_of v.seen → IsTrue (better s (last_of v.seen)) →
     Turns IsKept port v (λ x. if pointwise nat_eq x expected then words_of s else x) (Tries expected s)
 tries expected s port v some_seat begun fits shown up x views h at = go (pointwise nat_eq x expected) refl
   where
@@ -150,7 +147,7 @@ tries expected s port v some_seat begun fits shown up x views h at = go (pointwi
     go true is =
         let seen = (h.each port v at).seen in
         let same : cell_of h.history ≡ cell_of v.seen = sym h.cell ∙ (bytes_decides x expected).0 is ∙ shown in
-        let last : last_of h.history ≡ last_of v.seen = last_seen v.seen h.history seen begun h.holds same in
+        let last : last_of h.history ≡ last_of v.seen = last_seen v.seen h.history seen begun h.fits same in
         let first : first_of h.history ≡ first_of v.seen = first_seen v.seen h.history seen begun in
         let k = replaces s port v x views some_seat h at (some_seen v.seen h.history seen begun) (rw first fits) (rw last up) in
         (sight v.seats (h.history ++ s ∷ []) v.told (v.placed ++ s ∷ []) v.behind, k.0, k.1)

@@ -1,5 +1,5 @@
 -- What contracts see of a board and of its seats.
-use Rattle.std.specs.Prelude.{ℕ, ◌≡◌, List, [], ◌∷◌, ◌++◌, All, sum_by, IsPermutation}
+use Rattle.std.specs.Prelude.{ℕ, ◌≡◌, ◌<◌, List, [], ◌∷◌, ◌++◌, length, slice_index_or, All, sum_by, IsPermutation}
 use Rattle.std.specs.List.{flat_map}
 use mathlib.Core.List.{IsPrefix}
 use Rattle.atomic_table.specs.Seated.{TableId}
@@ -68,3 +68,8 @@ pub record EndsWith (b : BoardView) (seats : List SeatView) (answer : Standing) 
   pub last : last_of (b.first ∷ later) ≡ answer
   pub seen : All (λ s. IsPrefix s.seen (b.first ∷ later)) seats
   pub placed : IsPermutation later (flat_map (λ s. s.placed) seats)
+
+-- seats that are all seats of a board are so at any later time
+abbrev pub SeatsStay : Type 0
+SeatsStay = (b : BoardView) (old new : List SeatView) → length new ≡ length old → ((k : ℕ) (s : SeatView) → k < length new → IsSameSeat (slice_index_or old k s) (slice_index_or new k s))
+    → AreAllSeats b old → AreAllSeats b new

@@ -1,5 +1,5 @@
 -- What a pass knows after the passes of some seats were joined to it.
-use Rattle.std.specs.Prelude.{◌≡◌, ◌+◌, ◌<◌, List, [], ◌++◌, length, All, sum_by}
+use Rattle.std.specs.Prelude.{◌≡◌, ◌+◌, ◌<◌, List, ◌++◌, length, All, sum_by}
 use Rattle.std.specs.List.{flat_map}
 use mathlib.Core.List.{IsPrefix}
 use Rattle.search_model.specs.declared.standing.Standing.{Standing}
@@ -18,13 +18,13 @@ pub record IsOfSeat (s : SeatView) (v : Sight) : Type 0 where
   pub some : 0 < s.stands
 
 -- what a pass has seen and was told of are beginnings of a history
-pub record Begin (v : Sight) (history : List Standing) : Type 0 where
+pub record AreBeginnings (v : Sight) (history : List Standing) : Type 0 where
   pub seen : IsPrefix v.seen history
   pub told : All (λ seen. IsPrefix seen history) v.told
 
 -- a pass that knew v knows, beside it, what some seats know
-pub record Joins (v : Sight) (joined : List SeatView) (w : Sight) : Type 0 where
+pub record Gathers (v : Sight) (joined : List SeatView) (w : Sight) : Type 0 where
   pub seats : w.seats ≡ v.seats + sum_by (λ s. s.stands) joined
   pub placed : w.placed ≡ v.placed ++ flat_map (λ s. s.placed) joined
   pub behind : w.behind ≡ v.behind ++ flat_map (λ s. s.behind) joined
-  pub seen : (history : List Standing) → Begin w history → Begin v history × All (λ s. IsPrefix s.seen history) joined
+  pub seen : (history : List Standing) → AreBeginnings w history → AreBeginnings v history × All (λ s. IsPrefix s.seen history) joined

@@ -1,5 +1,5 @@
 -- The rule of a board's cell: one history, of which each pass has seen a beginning, and what each step of a pass tells it.
-use Rattle.std.specs.Prelude.{◌≡◌, ◌≢◌, ℕ, ◌+◌, ◌-◌, ◌<◌, ◌≤◌, List, [], ◌∷◌, ◌++◌, drop, length, All, Bool, true, if◌then◌else◌, nat_eq, nat_lt, sum_by, IsPermutation, IsTrue, MatchBool}
+use Rattle.std.specs.Prelude.{◌≡◌, ℕ, ◌+◌, ◌<◌, ◌≤◌, List, [], ◌∷◌, ◌++◌, drop, length, All, if◌then◌else◌, nat_eq, nat_lt, sum_by, IsPermutation, IsTrue, MatchBool}
 use Rattle.std.specs.List.{flat_map}
 use mathlib.Core.Option.{some}
 use mathlib.Core.List.{IsPrefix}
@@ -15,6 +15,7 @@ use Rattle.incumbent_board.specs.Words.{words_of, blank}
 abbrev pub ALL : ℕ
 ALL = 16
 
+-- what a pass knows, part by part
 abbrev pub sight : ℕ → List Standing → List (List Standing) → List Standing → List Standing → Sight
 sight seats seen told placed behind = record { seats = seats; seen = seen; told = told; placed = placed; behind = behind }
 
@@ -29,7 +30,7 @@ cell_of (first ∷ []) = blank
 cell_of (first ∷ s ∷ later) = words_of (last_from s later)
 
 -- a standing that was placed: it may stand on the board, and its path fits 32 bytes
-pub record Holds (first s : Standing) : Type 0 where
+pub record FitsWords (first s : Standing) : Type 0 where
   pub stands : MayStand first s
   pub short : length s.path ≤ 32
   pub bytes : All (λ c. c < 256) s.path
@@ -46,7 +47,7 @@ pub record Knows (history : List Standing) (v : Sight) : Type 0 where
 pub record IsKept (words : List ℕ) (views : List Sight) : Type 0 where
   pub history : List Standing
   pub rises : Rises (first_of history) (drop 1 history)
-  pub holds : All (Holds (first_of history)) (drop 1 history)
+  pub fits : All (FitsWords (first_of history)) (drop 1 history)
   pub cell : words ≡ cell_of history
   -- the passes stand for all seats
   pub all : sum_by (λ v. v.seats) views ≡ ALL
@@ -61,7 +62,7 @@ pub record Sees (v : Sight) (words : List ℕ) (w : Sight) : Type 0 where
   pub seen : IsPrefix v.seen w.seen
   pub told : All (λ seen. IsPrefix seen w.seen) v.told
   pub rises : Rises (first_of w.seen) (drop 1 w.seen)
-  pub holds : All (Holds (first_of w.seen)) (drop 1 w.seen)
+  pub fits : All (FitsWords (first_of w.seen)) (drop 1 w.seen)
   pub cell : words ≡ cell_of w.seen
   pub best : NoneBetter (w.placed ++ w.behind) (last_of w.seen)
 

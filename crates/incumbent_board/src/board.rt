@@ -48,7 +48,7 @@ impl Board {
     ghost use Rattle.incumbent_board.specs.History.{first_of, last_of, IsHistory, NoneBetter, MayStand};
     ghost use Rattle.incumbent_board.specs.Words.{told_by};
     ghost use Rattle.incumbent_board.specs.Boards.{IsSeatOf, IsSameSeat, offers_of};
-    ghost use Rattle.incumbent_board.specs.Offers.{OnPlaced, IfBehind, ComesNext, Tells};
+    ghost use Rattle.incumbent_board.specs.Offers.{OnPlaced, IfBehind, ComesNext, Shows, Tells};
 
     // The standing that the cell's words tell, which is the first one as long as they are blank.
     pub(crate) fn standing(&self, words: &[u64; 6]) -> Standing
@@ -59,6 +59,18 @@ impl Board {
         } else {
             unpack(words, self.first.path.len())
         }
+    }
+
+    // The standing that one load shows.
+    fn look_for<R: Wait>(&self, rt: &R, place: &mut Place) -> Standing
+        requires cell { place.old.table_id ≡ self.now.cell }
+        requires some { 0 < (cell_view place.old).seats }
+        requires seen { (0 < length (cell_view place.old).seen) × (first_of (cell_view place.old).seen ≡ self.now.first) }
+        ensures same { IsSamePass place.old place.new }
+        ensures shows { Shows self.now.first (cell_view place.old) result (cell_view place.new) }
+    {
+        let words = look_at(rt, &self.cell, place);
+        self.standing(&words)
     }
 
     /// The standing on the board at one step of the call: the last of the history, all of which the seat has then seen.
@@ -75,8 +87,7 @@ impl Board {
         ensures looks { seat.new.looks ≡ min (seat.old.looks + 1) (2 ^ 64 - 1) }
         ensures shown { seat.new.shown ≡ result }
     {
-        let words = look_at(rt, &self.cell, &mut seat.pass);
-        let standing = self.standing(&words);
+        let standing = self.look_for(rt, &mut seat.pass);
         seat.looks = seat.looks.saturating_add(1);
         seat.shown = copy_of(&standing);
         standing

@@ -5,7 +5,7 @@ ghost use Rattle.crossbeam_utils.specs.Seq.{cell_view, IsSamePass};
 ghost use Rattle.search_model.specs.Order.{better};
 ghost use Rattle.incumbent_board.specs.History.{first_of, last_of};
 ghost use Rattle.incumbent_board.specs.Words.{words_of};
-ghost use Rattle.incumbent_board.specs.Rule.{ALL, sight, cell_of, joined as joined_lem, Holds, Looks, Weighs, Places, Closes};
+ghost use Rattle.incumbent_board.specs.Rule.{ALL, sight, cell_of, joined as joined_lem, FitsWords, Looks, Weighs, Places, Closes};
 
 use crate::sight::Sight;
 use crate::six_words::BLANK;
@@ -177,6 +177,7 @@ pub fn look_at<R: Wait>(rt: &R, cell: &Cell, place: &mut Place) -> [u64; 6]
     cell.load_as::<LookStep, R>(rt, place)
 }
 
+// Loads the words for the offer that the call picks.
 fn weigh_as<S: Offered, R: Wait>(
     rt: &R,
     cell: &Cell,
@@ -202,6 +203,7 @@ pub fn weigh<R: Wait>(rt: &R, cell: &Cell, place: &mut Place, offer: &Standing) 
     weigh_as::<Brand, R>(rt, cell, place, offer)
 }
 
+// Tries to replace the words that the call picks by those of the offer that it picks.
 fn try_place_as<S: Offered, R: Wait>(
     rt: &R,
     cell: &Cell,
@@ -214,7 +216,7 @@ fn try_place_as<S: Offered, R: Wait>(
     requires picked { (expected ≡ S.expected) × (offer.now ≡ S.offer) }
     requires words { words ≡ words_of offer.now }
     requires seen { (0 < (cell_view place.old).seats) × (0 < length (cell_view place.old).seen) }
-    requires offer { Holds (first_of (cell_view place.old).seen) offer.now }
+    requires offer { FitsWords (first_of (cell_view place.old).seen) offer.now }
     requires shown { expected ≡ cell_of (cell_view place.old).seen }
     requires better { IsTrue (better offer.now (last_of (cell_view place.old).seen)) }
     ensures same { IsSamePass place.old place.new }
@@ -238,7 +240,7 @@ pub fn try_place<R: Wait>(
     requires cell { place.old.table_id ≡ cell.now.table.shared.table_id }
     requires words { words ≡ words_of offer.now }
     requires seen { (0 < (cell_view place.old).seats) × (0 < length (cell_view place.old).seen) }
-    requires offer { Holds (first_of (cell_view place.old).seen) offer.now }
+    requires offer { FitsWords (first_of (cell_view place.old).seen) offer.now }
     requires shown { expected ≡ cell_of (cell_view place.old).seen }
     requires better { IsTrue (better offer.now (last_of (cell_view place.old).seen)) }
     ensures same { IsSamePass place.old place.new }

@@ -5,7 +5,7 @@ ghost use Rattle.std.specs.List.{flat_map};
 ghost use Rattle.crossbeam_utils.specs.Seq.{cell_view, IsSamePass};
 ghost use Rattle.incumbent_board.specs.History.{NoneBetter};
 ghost use Rattle.incumbent_board.specs.Boards.{AreAllSeats, EndsWith, offers_of};
-ghost use Rattle.incumbent_board.specs.Joins.{Joins};
+ghost use Rattle.incumbent_board.specs.Joins.{Gathers};
 
 use crate::board::Board;
 use crate::cell::{Cell, Place, join, last_look};
@@ -19,7 +19,7 @@ fn join_all(cell: &Cell, place: &mut Place, seats: Vec<BoardSeat>)
     requires seats { All (λ s. s.board.cell ≡ place.old.table_id) seats.items }
     requires some { 0 < (cell_view place.old).seats }
     ensures same { IsSamePass place.old place.new }
-    ensures joins { Joins (cell_view place.old) seats.items (cell_view place.new) }
+    ensures joins { Gathers (cell_view place.old) seats.items (cell_view place.new) }
 {
     for seat in seats {
         join(cell, place, pass_of(seat));

@@ -6,15 +6,18 @@
 mod board;
 mod cell;
 mod closing;
+mod laws;
 mod offer;
 mod seat;
 mod sending;
 mod sight;
 mod six_words;
 mod starting;
+#[cfg(test)]
+mod tests;
 
 pub use board::Board;
+pub use laws::{seats_stay, words_spell_standings};
 pub use offer::Offer;
 pub use seat::BoardSeat;
-pub use six_words::words_spell_standings;
 pub use sending::{sent_seat, shared_board};

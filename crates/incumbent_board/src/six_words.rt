@@ -4,11 +4,12 @@ ghost use Rattle.std.specs.Prelude.{◌≡◌, ◌≤◌, ◌<◌, length, drop,
 ghost use Rattle.std.specs.Int.{to_be_bytes, w64};
 ghost use Rattle.std.specs.List.{flat_map};
 ghost use Rattle.search_model.specs.PathPlaces.{padded};
-ghost use Rattle.incumbent_board.specs.Words.{words_of, spelled_by, eight_from, WordsSpellStandings};
+ghost use Rattle.incumbent_board.specs.Words.{words_of, spelled_by, eight_from};
 
 use search_model::{Path, Standing};
 
-/// The words of a board on which no offer was placed: no standing has them.
+/// The words of a board on which no offer was placed: no standing has them. A board isn't started with the words of its
+/// first standing, since only a step that may wait could tell the cell's rule that they are there.
 pub const BLANK: [u64; 6] = [u64::MAX; 6];
 
 // The positions, with zeros after the last.
@@ -83,9 +84,3 @@ pub fn unpack(words: &[u64; 6], size: usize) -> Standing
         value: (u128::from(words[0]) << 64) + u128::from(words[1]),
     }
 }
-
-/// Packing loses nothing: two standings with paths of one length and the same words are the same.
-#[tactic(auto, using(crate::proofs::Packing::standing_back))]
-pub fn words_spell_standings()
-    ensures { WordsSpellStandings }
-{}

@@ -1,4 +1,5 @@
-//! The workers of a search.
+//! The workers of a search: each closes prefixes at a desk of its own, shares what is to be closed through a pool of
+//! deques, and the best standing through a board.
 #![tactic(auto)]
 
 mod answer;

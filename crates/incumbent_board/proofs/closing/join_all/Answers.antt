@@ -1,7 +1,7 @@
-use Rattle.std.proofs.Common.{◌≡◌, [], ◌∷◌, ◌++◌, ap, sym, ◌∙◌, subst, append_assoc}
+use Rattle.std.proofs.Common.{[], ◌∷◌, ◌++◌, ap, sym, ◌∙◌, subst, append_assoc}
 use Rattle.crossbeam_utils.specs.Seq.{cell_view}
 use Rattle.incumbent_board.specs.declared.sight.Sight.{Sight}
-use Rattle.incumbent_board.specs.Joins.{Joins}
+use Rattle.incumbent_board.specs.Joins.{Gathers}
 use Rattle.incumbent_board.proofs.Ends.{joins_more}
 use Rattle.incumbent_board.proofs.closing.join_all.Goals as goal
 
@@ -13,5 +13,5 @@ loop-seat-preserved c =
     record {
       split = split ∙ sym (append_assoc done (c.in-Some.seat ∷ []) c.next.new.self.rest.items);
       same = (c.join.ensures.same.0 ∙ same.0, c.join.ensures.same.1 ∙ same.1);
-      joins = subst (λ (w : Sight). Joins (cell_view c.args.place.now) (done ++ c.in-Some.seat ∷ []) w) (sym c.join.ensures.joined) (joins_more _ _ _ done c.in-Some.seat c.loop-seat.invariant.joins c.pass_of.ensures.knows);
+      joins = subst (λ (w : Sight). Gathers (cell_view c.args.place.now) (done ++ c.in-Some.seat ∷ []) w) (sym c.join.ensures.joined) (joins_more _ _ _ done c.in-Some.seat c.loop-seat.invariant.joins c.pass_of.ensures.knows);
     }

@@ -1,7 +1,6 @@
-use Rattle.std.proofs.Common.{◌≡◌, List, [], ◌∷◌, ◌++◌, sym, subst}
-use Rattle.search_model.specs.declared.standing.Standing.{Standing}
-use Rattle.incumbent_board.specs.Boards.{SeatView, AreAllSeats}
-use Rattle.incumbent_board.proofs.Ends.{Ended, ended, rest_cells}
+use Rattle.std.proofs.Common.{◌≡◌, [], ◌∷◌, ◌++◌, subst}
+use Rattle.incumbent_board.specs.Boards.{AreAllSeats}
+use Rattle.incumbent_board.proofs.Ends.{ended, rest_cells}
 use Rattle.incumbent_board.proofs.board.Board.close.Goals as goal
 
 pub join_all-requires-clause-seats : goal.join_all-requires-clause-seats

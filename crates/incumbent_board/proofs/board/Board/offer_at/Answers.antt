@@ -1,8 +1,8 @@
-use Rattle.std.proofs.Common.{rules, ◌≡◌, ◌∙◌, refl, sym, ap, IsTrue}
+use Rattle.std.proofs.Common.{rules, ◌∙◌, refl, sym, ap, IsTrue}
 use Rattle.crossbeam_utils.specs.Seq.{cell_view}
 use Rattle.search_model.specs.Order.{better as better_lem}
 use Rattle.incumbent_board.specs.History.{last_of}
-use Rattle.incumbent_board.proofs.Offering.{Weighed, weighed, weighed_again, tells_behind, tells_placed}
+use Rattle.incumbent_board.proofs.Offering.{weighed, weighed_again}
 use Rattle.incumbent_board.proofs.board.Board.offer_at.Goals as goal
 
 pub tries-init : goal.tries-init

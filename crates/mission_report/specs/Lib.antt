@@ -1,0 +1,7 @@
+pub mod Account
+pub mod Report
+pub mod Json
+pub mod Laws
+pub mod Worked
+pub mod Course
+pub mod Lines

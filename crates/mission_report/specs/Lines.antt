@@ -1,0 +1,23 @@
+-- The fields of a line, as the code passes them.
+use Rattle.std.specs.Prelude.{ℕ, ◌*◌, ◌^◌, ◌<◌, ◌≤◌, List, [], ◌∷◌, map}
+use Rattle.std.specs.Fmt.{decimal}
+use Rattle.exact_parts.specs.Percent.{percent_text}
+use Rattle.exact_parts.specs.Rows.{text_of}
+use Rattle.mission_report.specs.declared.lines.Field.{Field}
+use Rattle.mission_report.specs.declared.lines.Field.TheVariants.{Word, Number, Share}
+
+-- what a field is in the text
+abbrev pub field_text : Field → List ℕ
+field_text (Word bytes) = bytes.now
+field_text (Number n) = decimal n
+field_text (Share n whole) = percent_text n whole
+
+-- a share is a part of a whole that leaves room for a digit more
+abbrev pub IsField : Field → Type 0
+IsField (Word bytes) = Unit {0}
+IsField (Number n) = Unit {0}
+IsField (Share n whole) = (1 ≤ whole) × (n ≤ whole) × (10 * whole < 2 ^ 127)
+
+-- a line: a word and its fields
+abbrev pub line_of : List ℕ → List Field → List ℕ
+line_of word fields = text_of ((word ∷ map field_text fields) ∷ [])

@@ -1,0 +1,66 @@
+//! The numbers of a report: what the looks along a path find up to each period, and the belief that they leave.
+
+ghost use Rattle.std.specs.Prelude.{◌≡◌, ◌<◌, ◌++◌, ◌∷◌, [], ℕ, List, Some, None, map, IfOk, OnOk};
+ghost use Rattle.search_model.specs.Legal.{IsPath};
+ghost use Rattle.search_model.specs.Tracks.{value_of};
+ghost use Rattle.belief_update.specs.Belief.{IsBelief};
+ghost use Rattle.mission_report.specs.Course.{IsCourse};
+
+use belief_update::Belief;
+use exact_parts::NoMemory;
+use search_model::{Path, Scenario};
+use std::alloc::Global;
+
+/// What the looks along a path make of the belief.
+#[derive(Drop)]
+pub struct Course {
+    /// The value of the path up to each period.
+    pub values: Vec<u128>,
+    /// The belief after the last look: its masses are what the path leaves.
+    pub belief: Belief,
+}
+
+/// The value of a prefix, by the belief after the last of its looks.
+pub fn value_after(sc: &Scenario, belief: &Belief) -> u128
+    requires { (q : List ℕ) × IsBelief sc.now (map Some q) belief.now }
+    ensures { (q : List ℕ) → IsBelief sc.now (map Some q) belief.now → result ≡ value_of sc.now q }
+{
+    // Each period to come counts all parts of its step and of its look.
+    let parts = u128::from(sc.drift().denominator()) * u128::from(sc.sweep().denominator());
+    let later = sc.horizon() - belief.period();
+    sc.weight() - belief.undetected() * parts.pow(later)
+}
+
+/// Looks from a position, in a period that isn't looked at yet, and notes the value of the prefix that ends there.
+fn note_look(
+    sc: &Scenario,
+    belief: &mut Belief,
+    position: u8,
+    values: &mut Vec<u128>,
+) -> Result<(), NoMemory>
+    requires belief { (q : List ℕ) × IsBelief sc.now (map Some q ++ None ∷ []) belief.old }
+    requires position { position < sc.now.positions }
+    ensures belief { (q : List ℕ) → IsBelief sc.now (map Some q ++ None ∷ []) belief.old → IsBelief sc.now (map Some (q ++ position ∷ [])) belief.new }
+    ensures value { OnOk result ((q : List ℕ) → IsBelief sc.now (map Some q ++ None ∷ []) belief.old → values.new.items ≡ values.old.items ++ value_of sc.now (q ++ position ∷ []) ∷ []) }
+{
+    belief.look(sc, position);
+    values.push(value_after(sc, belief))?;
+    Ok(())
+}
+
+/// Looks along a path, one position a period, while the target drifts from each period to the next.
+pub fn follow(alloc: Global, sc: &Scenario, path: &Path) -> Result<Course, NoMemory>
+    requires { IsPath sc.now path.now }
+    ensures { IfOk result (IsCourse sc.now path.now) }
+{
+    let _sound = sc.cells();
+    let looks = path.cells();
+    let mut belief = Belief::start(alloc, sc)?;
+    let mut values = Vec::new(alloc);
+    note_look(sc, &mut belief, looks[0], &mut values)?;
+    for t in 1..looks.len() {
+        belief.drift(sc);
+        note_look(sc, &mut belief, looks[t], &mut values)?;
+    }
+    Ok(Course { values, belief })
+}

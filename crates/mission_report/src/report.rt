@@ -1,0 +1,132 @@
+//! The report as text.
+
+ghost use Rattle.std.specs.Prelude.{◌≡◌, ◌≤◌, ◌<◌, ◌++◌, ◌∷◌, [], length, map, slice_index, All, OnOk, OnErr};
+ghost use Rattle.exact_parts.specs.Appending.{AppendsFront};
+ghost use Rattle.exact_parts.specs.Rows.{text_of};
+ghost use Rattle.search_model.specs.Legal.{IsPath};
+ghost use Rattle.search_model.specs.Tracks.{whole_weight};
+ghost use Rattle.mission_report.specs.Account.{all_cells, values_along};
+ghost use Rattle.mission_report.specs.Report.{chance_row, period_row, period_rows, left_row, report_text};
+
+use crate::course::{follow, value_after};
+use crate::lines::{Field, push_line};
+use belief_update::Belief;
+use exact_parts::NoMemory;
+use search_model::{Path, Scenario};
+
+/// Appends the line `chance VALUE WEIGHT SHARE` of a value: a part of the whole weight.
+pub fn push_chance(out: &mut Vec<u8>, sc: &Scenario, value: u128) -> Result<(), NoMemory>
+    requires { value ≤ whole_weight sc.now }
+    ensures ok { OnOk result (out.new.items ≡ out.old.items ++ text_of (chance_row sc.now value ∷ [])) }
+    ensures err { OnErr result (AppendsFront out.old.items out.new.items (text_of (chance_row sc.now value ∷ []))) }
+{
+    let _sound = sc.cells();
+    let whole = sc.weight();
+    push_line(
+        out,
+        b"chance",
+        &[
+            Field::Number(value),
+            Field::Number(whole),
+            Field::Share(value, whole),
+        ],
+    )
+}
+
+/// Appends the line of a period: the position that is looked from, and the value up to then.
+fn push_period(
+    out: &mut Vec<u8>,
+    sc: &Scenario,
+    t: u32,
+    position: u8,
+    value: u128,
+) -> Result<(), NoMemory>
+    requires position { position < sc.now.positions }
+    requires value { value ≤ whole_weight sc.now }
+    ensures ok { OnOk result (out.new.items ≡ out.old.items ++ text_of (period_row sc.now t position value ∷ [])) }
+    ensures err { OnErr result (AppendsFront out.old.items out.new.items (text_of (period_row sc.now t position value ∷ []))) }
+{
+    let _sound = sc.cells();
+    push_line(
+        out,
+        b"period",
+        &[
+            Field::Number(u128::from(t)),
+            Field::Word(sc.name(position).bytes()),
+            Field::Number(value),
+            Field::Share(value, sc.weight()),
+        ],
+    )
+}
+
+/// Appends the line of a cell: the mass that is left there.
+fn push_left(out: &mut Vec<u8>, sc: &Scenario, c: u8, mass: u128) -> Result<(), NoMemory>
+    requires cell { c < sc.now.cells }
+    requires mass { mass ≤ whole_weight sc.now }
+    ensures ok { OnOk result (out.new.items ≡ out.old.items ++ text_of (left_row sc.now c mass ∷ [])) }
+    ensures err { OnErr result (AppendsFront out.old.items out.new.items (text_of (left_row sc.now c mass ∷ []))) }
+{
+    let _sound = sc.cells();
+    push_line(
+        out,
+        b"left",
+        &[
+            Field::Word(sc.name(c).bytes()),
+            Field::Number(mass),
+            Field::Share(mass, sc.weight()),
+        ],
+    )
+}
+
+/// Appends a line for each period of a path, by the path's value up to it.
+fn push_periods(
+    out: &mut Vec<u8>,
+    sc: &Scenario,
+    path: &Path,
+    values: &[u128],
+) -> Result<(), NoMemory>
+    requires path { IsPath sc.now path.now }
+    requires values { values.now ≡ values_along sc.now path.now }
+    ensures ok { OnOk result (out.new.items ≡ out.old.items ++ text_of (period_rows sc.now path.now)) }
+    ensures err { OnErr result (AppendsFront out.old.items out.new.items (text_of (period_rows sc.now path.now))) }
+{
+    let _sound = sc.cells();
+    let looks = path.cells();
+    for i in 0..looks.len() {
+        push_period(out, sc, i as u32 + 1, looks[i], values[i])?;
+    }
+    Ok(())
+}
+
+/// Appends a line for each cell, by the masses of a belief.
+fn push_masses(out: &mut Vec<u8>, sc: &Scenario, belief: &Belief) -> Result<(), NoMemory>
+    requires cells { length belief.now.masses ≡ sc.now.cells }
+    requires parts { All (λ mass. mass ≤ whole_weight sc.now) belief.now.masses }
+    ensures ok { OnOk result (out.new.items ≡ out.old.items ++ text_of (map (λ c. left_row sc.now c (slice_index belief.now.masses c)) (all_cells sc.now))) }
+    ensures err { OnErr result (AppendsFront out.old.items out.new.items (text_of (map (λ c. left_row sc.now c (slice_index belief.now.masses c)) (all_cells sc.now)))) }
+{
+    for c in 0..sc.cells() {
+        push_left(out, sc, c, belief.at(c))?;
+    }
+    Ok(())
+}
+
+/// Appends the report of a path: its value, the value up to each period, and the mass that it leaves in each cell, each
+/// with its share of the whole weight in percent.
+///
+/// # Errors
+///
+/// `NoMemory`: a front of the text was appended.
+pub fn push_report(out: &mut Vec<u8>, sc: &Scenario, path: &Path) -> Result<(), NoMemory>
+    requires { IsPath sc.now path.now }
+    ensures ok { OnOk result (out.new.items ≡ out.old.items ++ report_text sc.now path.now) }
+    ensures err { OnErr result (AppendsFront out.old.items out.new.items (report_text sc.now path.now)) }
+{
+    let _sound = sc.cells();
+    let course = follow(*out.allocator(), sc, path)?;
+    push_line(out, b"report", &[Field::Word(b"1")])?;
+    push_chance(out, sc, value_after(sc, &course.belief))?;
+    push_periods(out, sc, path, &course.values)?;
+    push_masses(out, sc, &course.belief)?;
+    push_line(out, b"end", &[])
+}

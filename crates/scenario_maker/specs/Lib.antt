@@ -1,0 +1,5 @@
+pub mod Generator
+pub mod Grids
+pub mod Made
+pub mod Laws
+pub mod Worked

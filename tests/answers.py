@@ -1,0 +1,161 @@
+"""The texts that the documents and the examples say an answer of, and what the program answers to them."""
+import os
+import re
+import tempfile
+
+from house import EXAMPLES, TOP, Ran, Wrong, read, run, want
+
+
+# The command whose plans stand beside the scenarios of examples/.
+PLAN = ["plan"]
+
+
+class Text:
+    """An input for the program, and what it has to answer."""
+
+    def __init__(self, name, words, given, status, out=None, err=""):
+        self.name, self.words, self.given, self.status, self.out, self.err = name, words, given, status, out, err
+
+    def holds(self, ran):
+        ran.gives(self.status, self.out)
+        want(ran.err == self.err, f"err {self.err!r} is wanted, and it is {ran.err!r}")
+
+
+class Shown(Text):
+    """A command of a document: what it writes is what the document shows, up to the last of so many lines, if any."""
+
+    def __init__(self, name, words, given, lines, shown):
+        super().__init__(name, words, given, None)
+        self.lines, self.shown = lines, shown
+
+    def holds(self, ran):
+        lines = (ran.out + ran.err).splitlines(True)
+        wrote = "".join(lines[: self.lines or None])
+        want(wrote == self.shown, f"it is shown with {self.shown!r}, and it writes {wrote!r}")
+
+
+LAKE = b"""scenario 1
+horizon 2
+parts 1 4 10
+grid 2 2
+start r0c0
+first r1c1 1
+spread 1
+rate 3
+end
+"""
+USAGE = "usage: osp plan [--workers N] [--nodes N] / check / report [--json yes] / make NUMBER / drill NUMBER [--workers N]"
+
+
+def rows():
+    """The table "you wrote, it says, do this" of docs/FORMATS.md: what stands in the first column, and its cases."""
+    two, plan = read(f"{EXAMPLES}/two-cells.scenario"), read(f"{EXAMPLES}/two-cells.plan")
+    other = read(f"{EXAMPLES}/small-lake.plan")
+    shorter = read(f"{EXAMPLES}/waiting-target.plan")
+    lake = lambda old, new: LAKE.replace(old, new)
+    bad = lambda words, given, says: (words, given, 3, "", says)
+    return [
+        ("`rate 0.3`", [bad("plan", lake(b"rate 3", b"rate 0.3"), "bad scenario: line 8 BadNumber")]),
+        ("`rate 30%`", [bad("plan", lake(b"rate 3", b"rate 30%"), "bad scenario: line 8 BadNumber")]),
+        ("a note behind a line: `horizon 2 # two periods`", [bad("plan", lake(b"horizon 2", b"horizon 2 # two periods"), "bad scenario: line 2 BadLine")]),
+        ("a byte order mark before `scenario 1`", [bad("plan", b"\xef\xbb\xbf" + LAKE, "bad scenario: line 1 NotText")]),
+        ("a comment after `end`", [bad("plan", LAKE + b"# a note\n", "bad scenario: line 10 Rest"), ("check", two + b"# a note\n" + plan, 4, "", "bad plan: line 1 BadLine")]),
+        ("a scenario without a last line feed, put before a plan", [bad("check", two.rstrip(b"\n") + plan, f"bad scenario: line {two.count(10)} BadLine")]),
+        ("a plan with carriage returns", [("check", two + plan.replace(b"\n", b"\r\n"), 4, "", "bad plan: line 1 BadLine")]),
+        ("a plan with an empty line", [("check", two + plan.replace(b"nodes", b"\nnodes"), 4, "", "bad plan: line 4 BadLine")]),
+        ("the plan of another scenario", [("check", two + other, 4, "", "bad plan: line 2 UnknownName"), ("check", read(f"{EXAMPLES}/waiting-longer.scenario") + shorter, 1, "rejected 2 PathIllegal\n", "")]),
+        ("`./osp plan FILE`", [("plan FILE", b"", 2, "", USAGE)]),
+    ]
+
+
+def table_of_formats():
+    """The rows of that table, as docs/FORMATS.md has them."""
+    with open(f"{TOP}/docs/FORMATS.md", encoding="utf-8") as file:
+        part = file.read().split("| you wrote | it says | do this |\n", 1)[1]
+    found = []
+    for line in part.splitlines()[1:]:
+        if not line.startswith("|"):
+            break
+        found.append([it.strip() for it in line.strip("|").split(" | ")])
+    return found
+
+
+def without_lines(says):
+    return re.sub(r"line \d+ ", "line N ", says)
+
+
+def texts_of_rows():
+    """The cases of the table, and what the table and its cases don't have in common."""
+    stated = {wrote: without_lines(says) for wrote, says, *_ in table_of_formats()}
+    texts, wrong = [], [f"no case for the row of docs/FORMATS.md: {it}" for it in stated if it not in dict(rows())]
+    for wrote, cases in rows():
+        for at, (words, given, status, out, err) in enumerate(cases):
+            says = without_lines(out + err).strip().replace(USAGE, "usage: osp plan ..")
+            if f"`{says}`" not in stated.get(wrote, ""):
+                wrong.append(f"docs/FORMATS.md doesn't say `{says}` of: {wrote}")
+            name = f"you wrote {wrote}{f' ({at + 1})' if at else ''}"
+            texts.append(Text(name, words.split(), given, status, out, f"{err}\n" if err else ""))
+    return texts, wrong
+
+
+def texts_of_examples():
+    """Each scenario of examples/ gives the plan beside it, and that plan is accepted; and what is lacking there."""
+    texts, wrong = [], []
+    for name in sorted(os.listdir(EXAMPLES)):
+        stem, kind = os.path.splitext(name)
+        given = read(f"{EXAMPLES}/{name}")
+        if kind == ".scenario" and not given.startswith(b"# "):
+            wrong.append(f"examples/{name} doesn't begin with a comment on what it stands for")
+        if kind == ".scenario" and not os.path.exists(f"{EXAMPLES}/{stem}.plan"):
+            wrong.append(f"examples/{name} has no plan beside it")
+        elif kind == ".scenario":
+            plan = read(f"{EXAMPLES}/{stem}.plan")
+            texts.append(Text(f"the plan of examples/{name}", PLAN, given, 0, plan.decode()))
+            texts.append(Text(f"the check of examples/{stem}.plan", ["check"], given + plan, 0, "accepted\n"))
+    return texts, wrong
+
+
+# A command of a document, from the top of the repository: `$ ./osp WORDS < FILE`, or `$ cat FILES | ./osp WORDS`,
+# perhaps with `| head -n N` behind it.
+COMMAND = re.compile(r"(?:cat (?P<files>[^|<>;]+) \| )?\./osp(?P<words>(?: [\w-]+)*)(?: < (?P<file>\S+))?(?: \| head -n (?P<lines>\d+))?")
+
+
+def texts_of_documents():
+    """Each command that a document shows with what it writes: it stands behind "$ "."""
+    texts = []
+    for name in ("README.md", "CONTRIBUTING.md", "examples/README.md", *(f"docs/{it}" for it in sorted(os.listdir(f"{TOP}/docs")))):
+        for block in re.findall(r"^```\n(\$ .*?)^```", read(f"{TOP}/{name}").decode(), re.M | re.S):
+            for command, out in re.findall(r"^\$ (.*)\n((?:(?!\$ ).*\n)*)", block, re.M):
+                found = COMMAND.fullmatch(command)
+                if not found:
+                    continue
+                files = (found["files"] or found["file"] or "/dev/null").split()
+                given = b"".join(read(os.path.join(TOP, it)) for it in files)
+                texts.append(Shown(f"{name}: {command}", found["words"].split(), given, int(found["lines"] or 0), out))
+    return texts
+
+
+def is_built():
+    """Whether ./osp runs a program that was built from these sources: that needs no rt."""
+    ran = run([f"{TOP}/osp", "plan"], read(f"{EXAMPLES}/one-cell.scenario"), env={"PATH": "/usr/bin:/bin"})
+    return ran.status == 0 and ran.err == ""
+
+
+def answers_built(texts):
+    """What the built program answers to each text."""
+    return [run([f"{TOP}/osp", *it.words], it.given, cwd=TOP) for it in texts]
+
+
+def answers_tried(texts):
+    """The same by one call of `rt try`, which compiles once."""
+    with tempfile.TemporaryDirectory(prefix="front-door-") as folder:
+        for at, text in enumerate(texts):
+            for ending, what in (("", text.given), (".args", "".join(f"{it}\n" for it in text.words).encode())):
+                with open(f"{folder}/case-{at:03}{ending}", "wb") as file:
+                    file.write(what)
+        done = run(["rt", "try", "--cases", folder], cwd=f"{TOP}/crates/osp")
+    outs = re.split(r"^== case-\d+\n", done.out, flags=re.M)[1:]
+    errs = re.findall(r"((?:.*\n)*?)case=case-\d+ run=ended status=(\d+) .*\n", done.err)
+    if not len(texts) == len(outs) == len(errs):
+        raise Wrong(f"rt try answered {len(outs)} of {len(texts)} texts: {done.err[-600:]}")
+    return [Ran(int(status), out.encode(), err.encode()) for out, (err, status) in zip(outs, errs)]

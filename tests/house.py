@@ -1,0 +1,209 @@
+"""What the tests of the front door share: runs, signals, and a made repository with stand-ins for rt and the program."""
+import os
+import shutil
+import signal
+import subprocess
+import time
+
+TOP = os.path.dirname(os.path.dirname(os.path.realpath(__file__)))
+EXAMPLES = os.path.join(TOP, "examples")
+# How the script begins the line that says that a run is unproved, and its status where it failed itself.
+UNPROVED = "osp: unproved run, since "
+FAILED = 70
+
+# In the place of `rt`: it notes its words, and does as its mood says.
+STAND_IN_RT = r"""#!/bin/sh
+echo "$(basename "$PWD") $*" >> "$HOUSE/calls"
+verb=$1
+[ "$verb" = version ] && { echo 'made-kit 1'; exit; }
+[ $# -lt 2 ] || shift 2
+case "$verb/$(cat "$HOUSE/mood")" in
+  lib/fails) [ "$(basename "$PWD")" != middle ] || { echo 'middle is wrong'; exit 1; } ;;
+  lib/edits) echo '// more' >> src/lib.rt ;;
+  */hangs) echo $$ > "$HOUSE/pid"; exec sleep 600 ;;
+  lib/*) ;;
+  run/*) mkdir -p out; cp "$HOUSE/program" out/osp; exec out/osp "$@" ;;
+  try/long) echo 'checked: no-answer: the program wrote more than 1048576 bytes to standard output' >&2; exit 6 ;;
+  try/slow) echo 'checked: no-answer: the program did not end within the time limit' >&2; exit 6 ;;
+  try/wrong) echo '/a/src/lib.rt:2:10: error[unclosed-delimiter]: unclosed' >&2; echo 'run=none proved=no' >&2; exit 1 ;;
+  try/broken) echo 'run=fault proved=no' >&2; exit 4 ;;
+  try/*)
+    [ -f /dev/stdin ] || [ ! -s /dev/stdin ] || { echo 'not a file' >&2; exit 2; }
+    "$HOUSE/program" "$@"
+    status=$?
+    echo 'interpreter: no-answer: a call' >&2
+    echo "checked: ended status=$status" >&2
+    echo "run=ended status=$status runners=1 proved=no" >&2
+    exit "$status" ;;
+esac
+"""
+
+# In the place of the program: it writes its words and its input, or ends as the first word says.
+STAND_IN_PROGRAM = r"""#!/bin/sh
+case "$1" in
+  plan) printf 'words'; printf ' <%s>' "$@"; echo; exec cat ;;
+  check) echo 'bad scenario: line 3 BadNumber' >&2; exit 3 ;;
+  wait) echo $$ > "$HOUSE/pid"; exec sleep 600 ;;
+  *) echo 'usage: osp ..' >&2; exit 2 ;;
+esac
+"""
+
+
+class Wrong(Exception):
+    """What a case found."""
+
+
+def want(holds, why):
+    if not holds:
+        raise Wrong(why)
+
+
+class Ran:
+    """What a run came to."""
+
+    def __init__(self, status, out, err):
+        self.status, self.out, self.err = status, out.decode(errors="replace"), err.decode(errors="replace")
+
+    def gives(self, status, out=None, err=None):
+        """Holds it against a status, a whole output, and a part of what it says ("" for nothing)."""
+        said = f"status {self.status}, out {self.out[:300]!r}, err {self.err[:400]!r}"
+        want(self.status == status, f"status {status} is wanted: {said}")
+        want(out is None or self.out == out, f"out {out!r} is wanted: {said}")
+        want(err is None or (err in self.err if err else self.err == ""), f"err {err!r} is wanted: {said}")
+        return self
+
+    def fails(self, part):
+        """Holds it against a failure of the script: nothing is written, and one line says what happened."""
+        self.gives(FAILED, None, part)
+        lines = [it for it in self.err.splitlines() if not it.startswith(UNPROVED)]
+        want(len(lines) == 1 and lines[0].startswith("osp: "), f"one line of the script's own is wanted: {self.err!r}")
+        return self
+
+
+def at_start(closed):
+    """What a child does first: signals act as in a terminal, and these streams are closed."""
+
+    def act():
+        for each in (signal.SIGINT, signal.SIGTERM, signal.SIGHUP):
+            signal.signal(each, signal.SIG_DFL)
+        for each in closed:
+            os.close(each)
+
+    return act
+
+
+def run(words, given=b"", closed=(), out=subprocess.PIPE, **how):
+    """Runs words on an input, with some of the streams 0, 1, 2 closed."""
+    how.setdefault("timeout", 200)
+    done = subprocess.run(words, input=given, stdout=out, stderr=subprocess.PIPE, preexec_fn=at_start(closed), **how)
+    return Ran(done.returncode, done.stdout or b"", done.stderr or b"")
+
+
+def left_in(folder):
+    """The processes that run in a folder, or name it."""
+    found = []
+    for pid in filter(str.isdigit, os.listdir("/proc")):
+        try:
+            where = os.readlink(f"/proc/{pid}/cwd")
+            with open(f"/proc/{pid}/cmdline", "rb") as file:
+                words = file.read()
+        except OSError:
+            continue
+        if int(pid) != os.getpid() and (where.startswith(folder) or os.fsencode(folder) in words):
+            found.append(f"{pid}: {words.decode(errors='replace')}")
+    return found
+
+
+def until(holds, seconds=10):
+    ends = time.monotonic() + seconds
+    while not holds() and time.monotonic() < ends:
+        time.sleep(0.02)
+    return holds()
+
+
+def stopped_by(number, words, begun, folder, given=subprocess.DEVNULL, **how):
+    """Starts words, sends a signal once they have begun, and wants them to end by it with nothing left running."""
+    how = {"stdout": subprocess.PIPE, "stderr": subprocess.PIPE, "preexec_fn": at_start(()), **how}
+    with subprocess.Popen(words, stdin=given, start_new_session=True, **how) as started:
+        try:
+            want(until(begun, 60), "it didn't begin")
+            started.send_signal(number)
+            try:
+                started.communicate(timeout=30)
+            except subprocess.TimeoutExpired:
+                raise Wrong("it goes on after the signal") from None
+            want(started.returncode == -number, f"it ended with {started.returncode}, not by signal {number}")
+            want(until(lambda: not left_in(folder)), f"left running: {left_in(folder)}")
+        finally:
+            try:
+                os.killpg(started.pid, signal.SIGKILL)
+            except OSError:
+                pass
+
+
+class House:
+    """A made repository: the script as it is, four crates, and the stand-ins. There are blanks in its path."""
+
+    CRATES = "# the lowest\nlow:\nother: low\n\nmiddle: low  # stands on low\nosp: middle low some_kit_crate\n"
+
+    def __init__(self, room):
+        self.at = os.path.join(room, "a house", "with  blanks")
+        self.bin, self.tmp = os.path.join(self.at, "bin"), os.path.join(room, "a house", "tmp")
+        for folder in (self.bin, self.tmp, f"{self.at}/examples"):
+            os.makedirs(folder)
+        self.script = shutil.copy(os.path.join(TOP, "osp"), self.at)
+        for name in ("low", "other", "middle", "osp"):
+            for part in ("src/lib.rt", "specs/Lib.antt", "proofs/Lib.antt"):
+                self.write(f"crates/{name}/{part}", f"{name} {part}\n")
+        self.write("crates.txt", self.CRATES)
+        self.write("bin/rt", STAND_IN_RT, 0o755)
+        self.write("program", STAND_IN_PROGRAM, 0o755)
+        self.write("examples/one-cell.scenario", "one cell\n")
+        self.write("examples/one-cell.plan", "words <plan>\none cell\n")
+        self.write("mood", "well")
+
+    def write(self, name, text, mode=0o644):
+        path = os.path.join(self.at, name)
+        os.makedirs(os.path.dirname(path), exist_ok=True)
+        with open(path, "w", encoding="utf-8") as file:
+            file.write(text)
+        os.chmod(path, mode)
+
+    def how(self, with_rt=True, mood="well"):
+        self.write("mood", mood)
+        path = f"{self.bin}:/usr/bin:/bin" if with_rt else "/usr/bin:/bin"
+        return {"env": {"PATH": path, "HOUSE": self.at, "TMPDIR": self.tmp, "LANG": "C.UTF-8"}, "cwd": self.tmp}
+
+    def run(self, *words, given=b"", closed=(), out=subprocess.PIPE, **how):
+        return run([self.script, *words], given, closed, out, **self.how(**how))
+
+    def built(self):
+        """The same, with a program that was built from its sources."""
+        self.run("build").gives(0)
+        self.forget()
+        return self
+
+    def calls(self):
+        """What rt was called with so far, for other things than its version."""
+        path = os.path.join(self.at, "calls")
+        if not os.path.exists(path):
+            return []
+        with open(path, encoding="utf-8") as file:
+            return [it for it in file.read().splitlines() if not it.endswith(" version")]
+
+    def forget(self):
+        for name in ("calls", "pid"):
+            path = os.path.join(self.at, name)
+            if os.path.exists(path):
+                os.remove(path)
+
+    def has_begun(self):
+        return os.path.exists(f"{self.at}/pid")
+
+    def leaves_nothing(self):
+        want(os.listdir(self.tmp) == [], f"left among the temporary files: {os.listdir(self.tmp)}")
+
+
+def read(path):
+    with open(path, "rb") as file:
+        return file.read()
