@@ -30,9 +30,14 @@ fn four_cells(alloc: Global) -> Result<Scenario, Fail> {
         vec![in alloc; 0, 1]?,
         vec![in alloc; 0, 2]?,
         vec![in alloc; 2, 3]?,
-        vec![in alloc; 2, 3]?
+        vec![in alloc; 2, 3]?,
     ]?;
-    let drifts = vec![in alloc; stay(alloc, 0)?, stay(alloc, 1)?, stay(alloc, 2)?, stay(alloc, 3)?]?;
+    let drifts = vec![in alloc;
+        stay(alloc, 0)?,
+        stay(alloc, 1)?,
+        stay(alloc, 2)?,
+        stay(alloc, 3)?,
+    ]?;
     Ok(Scenario::new(Parts {
         names: vec![in alloc; a, b, c, d]?,
         horizon: 2,
@@ -136,8 +141,10 @@ fn finds_the_better<R: Threads + Wait + Sync + AllocGlobal>(
 {
     let found = found_by(rt, sc, workers, &OpenGate)?;
     let nodes = found.tree.nodes();
-    Ok(is_standing(&found.best, 6, &[2, 3])
-        && (is_tree_of_the_opening(nodes) || is_tree_of_the_best(nodes)))
+    Ok(
+        is_standing(&found.best, 6, &[2, 3])
+            && (is_tree_of_the_opening(nodes) || is_tree_of_the_best(nodes)),
+    )
 }
 
 #[test]
@@ -157,6 +164,7 @@ const MOST_TRIES: u32 = 50_000_000;
 // A gate for two workers. It holds worker 0 after its first node until worker 1 has closed as many as it says, and worker
 // 1 where it found no task until worker 0 has closed its first node; each hold lets go after `MOST_TRIES` tries, and is
 // then counted.
+#[derive(Drop)]
 struct Relay {
     least: u64,
     begun: AtomicU64,
