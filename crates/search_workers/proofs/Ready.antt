@@ -1,5 +1,5 @@
 -- A worker stays ready.
-use Rattle.std.proofs.Common.{◌≡◌, ◌≢◌, ℕ, zero, suc, ◌+◌, ◌*◌, ◌<◌, ◌≤◌, Bool, false, Option, None, Some, List, [], ◌∷◌, ◌++◌, length, get_or, refl, sym, ap, ◌∙◌, subst, arith, All, Contains, length-append, append-nil}
+use Rattle.std.proofs.Common.{◌≡◌, ◌≢◌, ℕ, zero, suc, ◌+◌, ◌*◌, ◌<◌, ◌≤◌, Bool, false, None, List, [], ◌∷◌, ◌++◌, length, get_or, refl, sym, ap, ◌∙◌, subst, arith, All, Contains, length-append, append-nil}
 use Rattle.std.proofs.lemmas.List.{length-map}
 use Rattle.std.proofs.Math.Seq.{get_or-append_seam}
 use Rattle.std.proofs.lemmas.List.Elements.{All-nil, All-cons, All-contains, All-contains_itself, All-map, Contains-append_left}
@@ -17,10 +17,9 @@ use Rattle.node_tickets.specs.Seats.{MayDraw}
 use Rattle.search_workers.specs.Children.{Disposes}
 use Rattle.search_workers.specs.Desks.{DeskView, HasRoom, IsInOrder, IsSameDesk}
 use Rattle.search_workers.specs.Steps.{Records}
-use Rattle.search_workers.specs.declared.left.Left.{Left}
 use Rattle.search_workers.specs.declared.left.Left.TheVariants.{Idle}
 use Rattle.search_workers.specs.Turns.{OnlyTook, HasWork, Turns}
-use Rattle.search_workers.specs.Workers.{WorkerView, begun_by, IsReady, IsSameWorker, Went}
+use Rattle.search_workers.specs.Workers.{begun_by, IsReady, IsSameWorker, Went}
 use Rattle.search_workers.proofs.Rooms.{few_moves}
 use Rattle.search_workers.proofs.Told.{Contains-last}
 use Rattle.search_workers.proofs.Balanced.{new_balanced, took_balanced, closed_balanced, expects_nothing}
@@ -116,23 +115,6 @@ module _ (p : Problem) (first : Standing) (kit : KitView (List ℕ)) (d d' : Des
         more Branch recorded,
       )
 
-same_trans : (a b c : WorkerView) → IsSameWorker a b → IsSameWorker b c → IsSameWorker a c
-same_trans a b c one two = record {
-  pool = two.pool ∙ one.pool;
-  place = two.place ∙ one.place;
-  desk = record {
-    tickets = (two.desk.tickets.0 ∙ one.desk.tickets.0, two.desk.tickets.1 ∙ one.desk.tickets.1);
-    stands_for = two.desk.stands_for ∙ one.desk.stands_for;
-    seat = (two.desk.seat.0 ∙ one.desk.seat.0, two.desk.seat.1 ∙ one.desk.seat.1);
-  };
-}
-
--- a turn that began with taking a task
-pub turned_after : (p : Problem) (first : Standing) (old mid new : WorkerView) (left : Option Left) → IsSameWorker old mid → mid.desk.records ≡ old.desk.records →
-    Turns p first mid left new → Turns p first old left new
-turned_after p first old mid new None same records t = (t.0, same_trans old mid new same t.1, t.2, t.3 ∙ ap (λ rs. length rs + 1) records)
-turned_after p first old mid new (Some left) same records t = record { same = same_trans old mid new same t.same; balanced = t.balanced; order = t.order; leaves = t.leaves }
-
 -- a worker whose kit took tasks, which wait now
 took_same : (kit kit' : KitView (List ℕ)) (d : DeskView) (ws : List (List ℕ)) → OnlyTook kit d.waiting kit' ws →
     IsSameWorker (record { kit = kit; desk = d }) (record { kit = kit'; desk = record d { waiting = ws } })
@@ -159,9 +141,6 @@ module _ (p : Problem) (first : Standing) (kit kit' : KitView (List ℕ)) (d : D
     order = order_with p first d ws ready.order room;
     leaves = (may, none.0, none.1);
   }
-
-  pub took_turned : (left : Option Left) (new : WorkerView) → Turns p first (record { kit = kit'; desk = record d { waiting = ws } }) left new → Turns p first (record { kit = kit; desk = d }) left new
-  took_turned left new t = turned_after p first (record { kit = kit; desk = d }) (record { kit = kit'; desk = record d { waiting = ws } }) new left (took_same kit kit' d ws took) refl t
 
 begun_alone : (place : ℕ) → HasRoom (begun_by place)
 begun_alone zero k d l = omega (arith, l)

@@ -1,5 +1,5 @@
 -- A desk stays in order.
-use Rattle.std.proofs.Common.{◌≡◌, ℕ, ◌+◌, ◌-◌, ◌<◌, ◌^◌, ◌∙◌, min, false, List, [], ◌∷◌, ◌++◌, length, sym, ap, subst, arith, All, AllPairs, Contains, length-append}
+use Rattle.std.proofs.Common.{◌≡◌, ℕ, ◌+◌, ◌-◌, ◌<◌, ◌^◌, ◌∙◌, min, false, List, [], ◌∷◌, ◌++◌, length, sym, ap, subst, arith, All, AllPairs, length-append}
 use Rattle.std.proofs.lemmas.List.Elements.{All-push, All-weaker, All-contains}
 use Rattle.std.proofs.lemmas.List.Quantifiers.{all_pairs_push}
 use Rattle.std.proofs.lemmas.List.{get_or_append_left}

@@ -1,4 +1,5 @@
-//! The workers of a search.
+//! The workers of a search: each closes prefixes at a desk of its own, shares what is to be closed through a pool of
+//! deques, and the best standing through a board.
 #![tactic(auto)]
 
 mod answer;
@@ -15,6 +16,8 @@ mod left;
 mod muster;
 mod rounds;
 mod run;
+#[cfg(test)]
+mod search_tests;
 mod searching;
 mod sending;
 mod stack;

@@ -28,7 +28,7 @@ fn either(alloc: Global) -> Result<Vec<DriftPart>, AllocError> {
 }
 
 // Two cells and two periods; the target moves as it likes, and no look misses.
-fn two_cells(alloc: Global) -> Result<Scenario, Fail> {
+pub(crate) fn two_cells(alloc: Global) -> Result<Scenario, Fail> {
     let a = Name::new(b"a").ok_or("no name")?;
     let b = Name::new(b"b").ok_or("no name")?;
     let moves = vec![in alloc; vec![in alloc; 0, 1]?, vec![in alloc; 0, 1]?]?;
@@ -91,7 +91,7 @@ fn one_kit(alloc: Global) -> Result<Kit<Path>, Fail>
 }
 
 // The opening, which is exact.
-fn first_of(alloc: Global, sc: &Scenario) -> Result<Standing, Fail>
+pub(crate) fn first_of(alloc: Global, sc: &Scenario) -> Result<Standing, Fail>
     ensures exact { IfOk result (IsExact sc.now) }
     ensures value { IfOk result (λ s. s.value < 2 ^ 127) }
 {
@@ -118,12 +118,12 @@ fn go_alone<R: Wait>(rt: &R, alloc: Global, sc: &Scenario, limit: u64) -> Result
 }
 
 // Whether a record is the branch of a prefix.
-fn is_branch(node: &TreeNode, prefix: &[u8]) -> bool {
+pub(crate) fn is_branch(node: &TreeNode, prefix: &[u8]) -> bool {
     matches!(node.kind, Kind::Branch) && node.prefix.cells() == prefix
 }
 
 // Whether a record is a path with this value.
-fn is_whole(node: &TreeNode, value: u128, path: &[u8]) -> bool {
+pub(crate) fn is_whole(node: &TreeNode, value: u128, path: &[u8]) -> bool {
     match node.kind {
         Kind::Whole(found) => found == value && node.prefix.cells() == path,
         _ => false,
@@ -131,7 +131,7 @@ fn is_whole(node: &TreeNode, value: u128, path: &[u8]) -> bool {
 }
 
 // Whether a record is a mean bound of this number.
-fn is_mean(node: &TreeNode, bound: u128, prefix: &[u8]) -> bool {
+pub(crate) fn is_mean(node: &TreeNode, bound: u128, prefix: &[u8]) -> bool {
     match node.kind {
         Kind::Mean(found) => found == bound && node.prefix.cells() == prefix,
         _ => false,

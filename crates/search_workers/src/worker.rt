@@ -23,7 +23,19 @@ use steal_pool::Kit;
 
 /// A worker of a search: its kit, with which it shares tasks, and its desk, at which it closes prefixes.
 ///
-/// Contracts see both, and what it brings back by `haul_of`.
+/// It closes the last prefix of its private stack. Where that is empty it takes a task: in each round the first one of its
+/// own deque, else one that it steals, with one try at each other worker, in ascending order from its own number plus one
+/// and round the end. After 1,024 rounds in a row that got none it leaves.
+///
+/// Before it closes a prefix it makes room for the record, looks at the board, and draws a number. A better standing that
+/// the board shows is used from then on if its path is legal and whole and its value is exact, which the worker computes
+/// itself. At a number that isn't below the limit it leaves, and the prefix waits. A path that is better than the standing
+/// in use takes its place, and is offered to the board.
+///
+/// The children of a prefix that branches and is shorter than half the horizon are shared: all but the least go to the own
+/// deque, where the others may steal them. All other children wait on the private stack, the least of them on top.
+///
+/// Contracts see the kit and the desk, and what the worker brings back by `haul_of`.
 #[derive(Drop)]
 pub struct Worker {
     kit: Kit<Path>,
@@ -81,7 +93,10 @@ impl Worker {
         Ok(Worker { kit, desk })
     }
 
-    /// Closes prefixes until there is nothing to do, the limit is reached, or no memory is found. May wait.
+    /// Closes prefixes until there is nothing to do, the limit is reached, or no memory is found. The gate is told of each
+    /// prefix once its children are disposed of, and of each round that got no task. The search is one from the standing
+    /// that the board was started with. Takes memory for the records alone. May wait; where its waits for the board and
+    /// its tries of an offer end, it returns.
     pub fn go<R: Wait, G: Gate>(
         &mut self,
         rt: &R,
