@@ -1,5 +1,5 @@
 -- What an ending says of a source that tells its input.
-use Rattle.std.proofs.Common.{ℕ, ◌≡◌, ◌+◌, ◌<◌, ◌≤◌, List, [], ◌++◌, length, Option, Some, None, Result, Ok, Err, refl, sym, ap, ◌∙◌, inl, inr, subst, arith, length-append}
+use Rattle.std.proofs.Common.{ℕ, ◌≡◌, ◌+◌, ◌≤◌, List, [], ◌++◌, length, Option, Some, None, Result, Ok, Err, refl, sym, ap, ◌∙◌, inl, inr, subst, arith, length-append}
 use Rattle.std.proofs.lemmas.List.{append-nil}
 use Rattle.std.proofs.KnownBytes.{Appends-nil}
 use Rattle.std.specs.Io.KnownBytes.{Consumes, IsAtEnd}
@@ -11,8 +11,8 @@ use Rattle.plan_command.specs.declared.status.Stop.TheVariants as stops
 use Rattle.plan_command.specs.Words.{Spells, limit_of}
 use Rattle.plan_command.specs.Lines.{status_of}
 use Rattle.plan_command.specs.Commands.{Answers, Refuses}
-use Rattle.plan_command.specs.Inputs.{Source, ReadWhole, ReadNone, Reads, IsOverLong}
-use Rattle.plan_command.specs.Run.{Shown, Seen, Delivered, CutOff, Refused, Stopped, Ends, ending_of, status_at, Says}
+use Rattle.plan_command.specs.Inputs.{Source, ReadWhole, Reads, IsOverLong}
+use Rattle.plan_command.specs.Run.{Shown, Seen, Delivered, Refused, Stopped, Ends, ending_of, status_at, Says}
 use Rattle.plan_command.specs.Complete.{IsHeard, IsUndisturbed, IsWithin, IsLonger, IsStopDue, IsDue, IsByText}
 use Rattle.plan_command.proofs.WordForms.{spelled_once}
 use Rattle.plan_command.proofs.Exclusive.{answers_or_refuses, refuses_once}

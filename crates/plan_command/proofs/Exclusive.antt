@@ -1,5 +1,5 @@
 -- An input is answered or refused, and refused in one way.
-use Rattle.std.proofs.Common.{ℕ, ◌≡◌, Bool, List, Result, Ok, Err, Some, sym, ap, ◌∙◌, subst}
+use Rattle.std.proofs.Common.{ℕ, ◌≡◌, Bool, List, Result, Ok, Err, Some, sym, ap, subst}
 use Rattle.search_model.specs.Problem.{Problem}
 use Rattle.scenario_text.specs.declared.kind.TextFault.{TextFault}
 use Rattle.scenario_text.specs.Reading.{Front, front_of}

@@ -1,5 +1,5 @@
 -- What is due to a scenario with few live prefixes, and to a plan that is accepted or isn't.
-use Rattle.std.proofs.Common.{ℕ, ◌≡◌, ◌≤◌, ◌⊎◌, Bool, List, [], ◌++◌, length, Some, None, inl, inr, refl, sym, ap, subst, ◌∙◌}
+use Rattle.std.proofs.Common.{ℕ, ◌≡◌, ◌≤◌, Bool, List, [], length, inl, inr, refl, sym, ap, subst, ◌∙◌}
 use Rattle.search_model.specs.Problem.{Problem}
 use Rattle.search_model.specs.Order.{standing_of}
 use Rattle.search_model.specs.Opening.{IsOpening}
@@ -11,19 +11,19 @@ use Rattle.bound_tree.specs.Close.{HasMoreLive}
 use Rattle.tree_format.specs.PlanText.{IsPlanText}
 use Rattle.tree_checker.specs.declared.verdict.RejectAt.{RejectAt}
 use Rattle.plan_command.specs.declared.request.Request.{Request}
-use Rattle.plan_command.specs.declared.request.Request.TheVariants.{Plan, Check, Report, Make, Drill}
+use Rattle.plan_command.specs.declared.request.Request.TheVariants.{Plan, Check, Report}
 use Rattle.plan_command.specs.declared.status.Status.{Status}
 use Rattle.plan_command.specs.declared.status.Status.TheVariants as statuses
 use Rattle.plan_command.specs.declared.status.Stop.{Stop}
 use Rattle.plan_command.specs.declared.status.Stop.TheVariants as stops
 use Rattle.plan_command.specs.Words.{limit_of}
 use Rattle.plan_command.specs.Lines.{status_of}
-use Rattle.plan_command.specs.Plans.{BeginsWith, IsPlanRest, HasFault}
-use Rattle.plan_command.specs.Commands.{Answers, Refuses, IsTooLarge, IsPlanned, IsInput, IsRejected, IsChecked, IsVerdict}
+use Rattle.plan_command.specs.Plans.{IsPlanRest}
+use Rattle.plan_command.specs.Commands.{Refuses, IsTooLarge, IsInput, IsRejected, IsChecked, IsVerdict}
 use Rattle.plan_command.specs.Complete.{IsDue, IsJudge, IsWithin, IsUnlessNoMemory}
 use Rattle.plan_command.specs.Laws.{PlannedIsAccepted}
 use Rattle.plan_command.proofs.Apart.{same_scenario}
-use Rattle.plan_command.proofs.Exclusive.{read_or_not, read_alike, answers_or_refuses, made_refuses, drilled_refuses, not_rejected, no_front_fault, no_fault_behind}
+use Rattle.plan_command.proofs.Exclusive.{read_or_not, read_alike, answers_or_refuses, not_rejected, no_front_fault, no_fault_behind}
 
 -- a scenario isn't too large where its live prefixes are few
 not_too_large : (p : Problem) (input opening : List ℕ) (limit : ℕ) → IsTextOf p input → IsOpening p opening → (HasMoreLive p (standing_of p opening) limit → ⊥) → IsTooLarge input limit → ⊥

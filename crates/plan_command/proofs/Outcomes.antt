@@ -23,9 +23,9 @@ use Rattle.plan_command.specs.declared.status.Stop.TheVariants as stops
 use Rattle.plan_command.specs.Words.{Spells, limit_of}
 use Rattle.plan_command.specs.Lines.{status_of, rejection_of}
 use Rattle.plan_command.specs.Plans.{IsCertified}
-use Rattle.plan_command.specs.Inputs.{Source, Reads, ReadNone}
+use Rattle.plan_command.specs.Inputs.{Source}
 use Rattle.plan_command.specs.Commands.{IsInput, IsRejected, IsVerdict, Refuses, report_of, IsDrilled}
-use Rattle.plan_command.specs.Run.{Shown, Seen, Delivered, Refused, CutOff, Stopped, Ends, Ending, IsCutOff, delivered, stopped, ending_of, status_at}
+use Rattle.plan_command.specs.Run.{Shown, Delivered, Refused, CutOff, Ends, delivered, stopped, ending_of, status_at}
 use Rattle.plan_command.specs.Complete.{IsUnlessNoMemory}
 use Rattle.plan_command.proofs.WordForms.{spelled_once}
 use Rattle.plan_command.proofs.Exclusive.{made_refuses, drilled_refuses}

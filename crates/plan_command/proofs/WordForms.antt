@@ -1,9 +1,9 @@
 -- Words read one after the other spell a request, and the words of a request are read as it.
-use Rattle.std.proofs.Common.{ℕ, ◌≡◌, ◌≤◌, ◌<◌, ◌^◌, ◌⊎◌, Bool, true, false, List, [], ◌∷◌, ◌++◌, Option, Some, None, inl, inr, refl, sym, ap, ◌∙◌, subst, arith, codes}
+use Rattle.std.proofs.Common.{ℕ, ◌≡◌, ◌≤◌, ◌<◌, ◌^◌, ◌⊎◌, Bool, true, false, List, [], ◌∷◌, Option, Some, None, inl, inr, refl, sym, ap, ◌∙◌, subst, arith, codes}
 use Rattle.std.specs.Str.{bytes_eq}
 use Rattle.std.specs.Fmt.{decimal}
 use Rattle.std.specs.Prelude.{nat_le, ◌&&◌, if◌then◌else◌}
-use Rattle.std.proofs.lemmas.Bool.{cond_both, cond-true}
+use Rattle.std.proofs.lemmas.Bool.{cond_both}
 use Rattle.std.proofs.lemmas.Bool.Decides.{leb_tells}
 use Rattle.std.proofs.lemmas.Slice.Eq.{bytes_eq-Decides}
 use Rattle.exact_parts.specs.declared.number.Number.{Number}
@@ -12,7 +12,7 @@ use Rattle.exact_parts.specs.Decimal.{Spells as SpellsNumber, number_at}
 use Rattle.exact_parts.proofs.Decimals.{spells-number_at, spelled_text, number_at-decimal}
 use Rattle.plan_command.specs.declared.request.Request.{Request}
 use Rattle.plan_command.specs.declared.request.Request.TheVariants.{Plan, Check, Report, Make, Drill}
-use Rattle.plan_command.specs.Words.{Spells, SpellNone, SpellsPlan, IsCrew, workers_option, nodes_option}
+use Rattle.plan_command.specs.Words.{Spells, SpellNone, SpellsPlan, IsCrew}
 use Rattle.plan_command.specs.WordReading.{at_least, number_within, workers_in, nodes_in, number_in, asks, asks_both, plan_with_one, plan_with_two, plan_at, check_at, report_at, make_at, drill_at, request_at}
 
 some_tells : {X : Type 0} (x y : X) → Some x ≡ Some y → x ≡ y

@@ -1,5 +1,5 @@
 -- Lists of so many words.
-use Rattle.std.proofs.Common.{ℕ, ◌≡◌, ◌≤◌, ◌<◌, ◌-◌, List, [], ◌∷◌, length, get_or, map, None, sym, ap, ◌∙◌, arith, refl}
+use Rattle.std.proofs.Common.{ℕ, ◌≡◌, ◌≤◌, ◌<◌, List, [], ◌∷◌, length, get_or, map, None, sym, ap, ◌∙◌, arith, refl}
 use Rattle.plan_command.specs.WordReading.{plan_at, check_at, report_at, make_at, drill_at}
 
 module _ {X Y : Type 0} (f : X → Y) where

@@ -1,5 +1,5 @@
 -- What each request makes of its input.
-use Rattle.std.specs.Prelude.{◌≡◌, ◌⊎◌, ℕ, Bool, true, false, List, [], codes, Some, Err}
+use Rattle.std.specs.Prelude.{◌≡◌, ◌⊎◌, ℕ, Bool, true, false, List, codes, Some, Err}
 use Rattle.search_model.specs.Problem.{Problem}
 use Rattle.search_model.specs.Order.{standing_of, IsBest}
 use Rattle.search_model.specs.Opening.{IsOpening}

@@ -1,10 +1,10 @@
 -- When a run answers its input, or refuses it.
-use Rattle.std.specs.Prelude.{◌≡◌, ℕ, ◌<◌, ◌≤◌, ◌⊎◌, Bool, List, Some, None, length}
+use Rattle.std.specs.Prelude.{◌≡◌, ℕ, ◌<◌, ◌≤◌, ◌⊎◌, Bool, List, Some, length}
 use Rattle.byte_ports.specs.Causes.{Rose}
 use Rattle.plan_command.specs.declared.request.Request.{Request}
 use Rattle.plan_command.specs.declared.request.Request.TheVariants.{Check, Report}
 use Rattle.plan_command.specs.declared.status.Status.{Status}
-use Rattle.plan_command.specs.declared.status.Status.TheVariants.{Done, NoMemory}
+use Rattle.plan_command.specs.declared.status.Status.TheVariants.{NoMemory}
 use Rattle.plan_command.specs.declared.status.Stop.{Stop}
 use Rattle.plan_command.specs.declared.status.Stop.TheVariants as stops
 use Rattle.plan_command.specs.Words.{Spells, limit_of}

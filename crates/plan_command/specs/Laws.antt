@@ -1,5 +1,5 @@
 -- What the two halves of the program say of each other.
-use Rattle.std.specs.Prelude.{◌≡◌, ◌⊎◌, ℕ, List}
+use Rattle.std.specs.Prelude.{ℕ, List}
 use Rattle.search_model.specs.Problem.{Problem}
 use Rattle.scenario_text.specs.Scenarios.{IsTextOf}
 use Rattle.plan_command.specs.declared.request.Request.TheVariants.{Check}

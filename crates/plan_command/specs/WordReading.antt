@@ -1,5 +1,5 @@
 -- The words of the command line, read one after the other.
-use Rattle.std.specs.Prelude.{ℕ, Bool, true, false, ◌&&◌, nat_le, if◌then◌else◌, List, [], ◌∷◌, codes, Option, Some, None}
+use Rattle.std.specs.Prelude.{ℕ, true, false, ◌&&◌, nat_le, if◌then◌else◌, List, [], ◌∷◌, codes, Option, Some, None}
 use Rattle.std.specs.Str.{bytes_eq}
 use Rattle.exact_parts.specs.declared.number.Number.{Number}
 use Rattle.exact_parts.specs.declared.number.Number.TheVariants.{NotPlain, Above, Of}

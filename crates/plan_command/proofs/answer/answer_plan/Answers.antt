@@ -1,4 +1,4 @@
-use Rattle.std.proofs.Common.{◌≤◌, arith}
+use Rattle.std.proofs.Common.{arith}
 use Rattle.plan_command.proofs.Printing.{accepted_printable}
 use Rattle.plan_command.proofs.answer.answer_plan.Goals as goal
 

@@ -1,5 +1,3 @@
-use Rattle.std.proofs.Common.{sym, subst}
-use Rattle.plan_command.specs.Makes.{IsTooMany}
 use Rattle.plan_command.proofs.Summaries.{made_few}
 use Rattle.plan_command.proofs.drilling.answer_drill.Goals as goal
 
