@@ -475,15 +475,27 @@ fn reports(rt: HostRuntime) -> Result<(), Fail> {
     Ok(())
 }
 
+/// Whether the scenario that a number makes is read again and planned.
+fn is_planned<R: AllocGlobal + Threads + Wait + Sync>(rt: &R, make: &str) -> Result<bool, Fail> {
+    let made = ended(rt, make, Vec::new(rt.alloc()), 4096, &[], &[])?;
+    let planned = ended(rt, "plan", made.out, 4096, &[], &[])?;
+    Ok(made.status == Status::Done && planned.status == Status::Done)
+}
+
 #[test]
 fn made_scenarios_and_drills(rt: HostRuntime) -> Result<(), Fail> {
     let alloc = rt.alloc();
     let made = ended(&rt, "make 0", Vec::new(alloc), 16, &[], &[])?;
-    assert_eq!(rt; made.status, Status::Done);
     let line = made.out.split(|c| *c == b'\n').nth(28).ok_or("no line")?;
     assert_eq!(rt; line, b"start r1c2".as_slice());
-    let planned = ended(&rt, "plan", made.out, 4096, &[], &[])?;
-    assert_eq!(rt; planned.status, Status::Done);
+    for make in [
+        "make 0",
+        "make 1",
+        "make 9223372036854775808",
+        "make 18446744073709551615",
+    ] {
+        assert!(rt; is_planned(&rt, make)?);
+    }
     let one = ended(&rt, "drill 0 --workers 1", Vec::new(alloc), 16, &[], &[])?;
     let many = ended(&rt, "drill 0 --workers 16", Vec::new(alloc), 16, &[], &[])?;
     assert_eq!(rt; one.status, Status::Done);
