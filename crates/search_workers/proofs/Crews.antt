@@ -118,5 +118,5 @@ pub left_desks : (p : Problem) (t : TicketsView) (b : BoardView) (crew : List Me
     IsSettled p t b tasks (map (λ m. m.worker.desk) crew) → LeaveTogether crew left → LeaveDesks left (map (λ m. m.worker.desk) crew)
 left_desks p t b crew tasks Idle sound gone settled together =
     idle_desks p b.first crew gone together (all_legal p b.first tasks (map (λ m. m.worker.desk) crew) sound settled.order settled.even).1
-left_desks p t b crew tasks Full sound gone settled (k, m, within, at, full) = full_desk p b.first crew k m gone within at full
+left_desks p t b crew tasks Full sound gone settled ((k, m, within, at, full), enough) = full_desk p b.first crew k m gone within at full
 left_desks p t b crew tasks NoMemory sound gone settled together = tt

@@ -1,5 +1,5 @@
 -- The workers of a search together: before they go, and when all have left.
-use Rattle.std.specs.Prelude.{◌≡◌, List, map, All, Any}
+use Rattle.std.specs.Prelude.{◌≡◌, ◌≢◌, List, map, All, Any}
 use Rattle.search_model.specs.declared.standing.Standing.{Standing}
 use Rattle.search_model.specs.Problem.{Problem}
 use Rattle.bound_tree.specs.Close.{IsExact}
@@ -38,9 +38,9 @@ pub record HasGone (p : Problem) (first : Standing) (m : Member) : Type 0 where
 abbrev pub SomeLeft : List Member → Left → Type 0
 SomeLeft crew left = Any (λ m. m.left ≡ left) crew
 
--- how the workers left together: without memory where one found none, else full where one drew a number that isn't below
--- the limit, else idle
+-- how the workers left together: without memory where one found none, whatever the others met; else full where one drew a
+-- number that isn't below the limit; else idle
 abbrev pub LeaveTogether : List Member → Left → Type 0
 LeaveTogether crew Idle = All (λ m. m.left ≡ Idle) crew
-LeaveTogether crew Full = SomeLeft crew Full
+LeaveTogether crew Full = SomeLeft crew Full × All (λ m. m.left ≢ NoMemory) crew
 LeaveTogether crew NoMemory = SomeLeft crew NoMemory
