@@ -12,12 +12,7 @@ use Rattle.search_model.specs.Legal.{IsPath}
 use Rattle.search_model.proofs.PlainSteps.{entry_term, positions_follow, next_fits, entry_fits, entries_done, row_within, after_of-end}
 use Rattle.backward_mass.specs.Masses.{backward_of}
 use Rattle.backward_mass.specs.Table.{IsRow, IsMissedRow, AreRowsFrom}
-
--- terms that are equal at each element have equal sums
-sum_by-same_all : {X : Type 0} (f g : X → ℕ) (xs : List X) → All (λ x. f x ≡ g x) xs → sum_by f xs ≡ sum_by g xs
-sum_by-same_all f g [] each = refl
-sum_by-same_all f g (x ∷ xs) each =
-    rw (sum_by-cons f x xs, sum_by-cons g x xs, All-head (λ x. f x ≡ g x) x xs each, sum_by-same_all f g xs (All-tail (λ x. f x ≡ g x) x xs each)) refl
+use Rattle.list_laws.proofs.Sums.{sum_by-same_all}
 
 -- what an entry of a row adds, by what is missed of the masses of the next period
 abbrev pub mass_term : List ℕ → DriftPart → ℕ

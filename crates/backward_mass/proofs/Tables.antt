@@ -6,7 +6,7 @@ use Rattle.search_model.proofs.Totals.{after_of-fits}
 use Rattle.backward_mass.specs.Table.{BackwardTable, mass_at, IsFilledFrom}
 
 -- the place of a cell in a period is within the table
-place_within : (horizon cells t c : ℕ) → 1 ≤ t → t ≤ horizon → c < cells → (t - 1) * cells + c < horizon * cells
+pub place_within : (horizon cells t c : ℕ) → 1 ≤ t → t ≤ horizon → c < cells → (t - 1) * cells + c < horizon * cells
 place_within horizon cells zero c some last cell = absurd (omega (arith, some))
 place_within horizon cells (suc n) c some last cell =
     let first : suc n - 1 ≡ n = omega arith in

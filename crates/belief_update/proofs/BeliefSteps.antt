@@ -6,7 +6,7 @@ use Rattle.std.proofs.lemmas.List.FromFn.{fill_by_all, get_or-map-range_with_len
 use Rattle.drift_chain.specs.DriftRows.{part_of}
 use Rattle.sweep_table.specs.LookParts.{factor_of}
 use Rattle.search_model.specs.Problem.{Problem, IsProblem, first_of}
-use Rattle.search_model.proofs.Sums.{sum_by-range-part, sum_by-range-same}
+use Rattle.list_laws.proofs.Sums.{sum_by-range-part, sum_by-range-same}
 use Rattle.belief_update.specs.Masses.{mass_of, masses_of}
 use Rattle.belief_update.specs.Belief.{BeliefState, IsBelief}
 use Rattle.belief_update.proofs.MassSteps.{mass_of-look, mass_of-drift, mass_of-start}

@@ -5,7 +5,7 @@ use Rattle.std.proofs.Math.Nat.{pow-zero, pow-suc}
 use Rattle.drift_chain.specs.DriftRows.{part_of}
 use Rattle.search_model.specs.Problem.{Problem, IsProblem}
 use Rattle.search_model.specs.Tracks.{tracks, weight_of}
-use Rattle.search_model.proofs.Sums.{sum_by-same, sum_by-times, sum_by-range-same}
+use Rattle.list_laws.proofs.Sums.{sum_by-same, sum_by-times, sum_by-range-same}
 use Rattle.search_model.proofs.DriftSums.{steps_total}
 use Rattle.search_model.proofs.TrackSums.{sum_tracks-suc, sum_tracks-same}
 use Rattle.belief_update.proofs.TrackSteps.{weight_of-push}

@@ -5,7 +5,7 @@ use Rattle.drift_chain.specs.DriftRows.{part_of}
 use Rattle.sweep_table.specs.LookParts.{factor_of}
 use Rattle.search_model.specs.Problem.{Problem, first_of}
 use Rattle.search_model.specs.Tracks.{tracks, steps_product, weight_of}
-use Rattle.search_model.proofs.Sums.{sum_by-same, sum_by-times, sum_by-exchange}
+use Rattle.list_laws.proofs.Sums.{sum_by-same, sum_by-times, sum_by-exchange}
 use Rattle.search_model.proofs.TrackSums.{sum_tracks-suc, sum_tracks-same}
 use Rattle.belief_update.specs.Masses.{looked_along, mass_of}
 use Rattle.belief_update.proofs.TrackSteps.{weight_of-push, looked_along-none, looked_along-some}

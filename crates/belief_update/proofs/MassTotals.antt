@@ -5,7 +5,7 @@ use Rattle.std.proofs.Math.Nat.{pow-zero, pow-suc, mul-le-mul_left, mul-le-mul_r
 use Rattle.drift_chain.specs.DriftRows.{part_of}
 use Rattle.exact_parts.proofs.Widths.{part_fits}
 use Rattle.search_model.specs.Problem.{Problem, IsProblem}
-use Rattle.search_model.proofs.Sums.{sum_by-same, sum_by-times, sum_by-exchange, sum_by-range-same, sum_by-range-le}
+use Rattle.list_laws.proofs.Sums.{sum_by-same, sum_by-times, sum_by-exchange, sum_by-range-same, sum_by-range-le}
 use Rattle.search_model.proofs.DriftSums.{steps_total, first_total}
 use Rattle.belief_update.specs.Masses.{mass_of}
 use Rattle.belief_update.proofs.MassSteps.{mass_of-look, mass_of-drift, mass_of-start}

@@ -6,7 +6,7 @@ use Rattle.std.proofs.Math.Nat.{pow-zero, pow-suc}
 use Rattle.std.proofs.lemmas.Nat.{pow-add, mul-pow}
 use Rattle.search_model.specs.Problem.{Problem}
 use Rattle.search_model.specs.Tracks.{tracks, weight_of, miss_from, missed_weight}
-use Rattle.search_model.proofs.Sums.{sum_by-same, sum_by-times, sum_by-exchange}
+use Rattle.list_laws.proofs.Sums.{sum_by-same, sum_by-times, sum_by-exchange}
 use Rattle.search_model.proofs.TrackSums.{sum_tracks-suc, sum_tracks-same}
 use Rattle.belief_update.specs.Masses.{looked_along, mass_of, masses_of, looks_to}
 use Rattle.belief_update.specs.Laws.{MissedByMasses}

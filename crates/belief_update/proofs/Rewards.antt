@@ -7,7 +7,7 @@ use Rattle.sweep_table.specs.LookParts.{factor_of}
 use Rattle.search_model.specs.Problem.{Problem}
 use Rattle.search_model.specs.Tracks.{tracks, weight_of}
 use Rattle.search_model.specs.Bounds.{factors_along, cell_in, reward_of}
-use Rattle.search_model.proofs.Sums.{sum_by-same, sum_by-times}
+use Rattle.list_laws.proofs.Sums.{sum_by-same, sum_by-times}
 use Rattle.search_model.proofs.TrackSums.{sum_tracks-suc, sum_tracks-same}
 use Rattle.belief_update.specs.Masses.{looked_along, mass_of, looks_to}
 use Rattle.belief_update.specs.Laws.{RewardsByMasses}

@@ -10,7 +10,7 @@ use Rattle.search_model.specs.Problem.{Problem, IsProblem}
 use Rattle.search_model.specs.Legal.{Follows, IsPath, last_of}
 use Rattle.search_model.specs.Tracks.{value_of}
 use Rattle.search_model.specs.Order.{smaller, better, standing_of}
-use Rattle.search_model.proofs.Members.{Contains-map}
+use Rattle.list_laws.proofs.Members.{Contains-map}
 use Rattle.search_model.proofs.Orders.{better_total, not_better_parts, not_better_from, smaller_one_way}
 use Rattle.bound_tree.specs.declared.node.Kind.{Kind}
 use Rattle.bound_tree.specs.declared.node.Kind.TheVariants.{Branch, Whole, Mean, Tangent}
@@ -22,13 +22,7 @@ use Rattle.bound_tree.proofs.Continuing.{front_legal}
 use Rattle.bound_tree.proofs.MeanBound.{mean_is_above}
 use Rattle.bound_tree.proofs.TangentBound.{tangent_is_above}
 use Rattle.bound_tree.proofs.Closing.{smaller_by_fronts}
-
--- what holds of all of two joined lists holds of all of the first, and of all of the second
-All-front : {X : Type 0} (P : X → Type 0) (xs ys : List X) → All P (xs ++ ys) → All P xs
-All-front P xs ys h = λ k d l. subst P (get_or_append_left xs ys d k l) (h k d (omega (arith, l, length-append xs ys)))
-
-All-back : {X : Type 0} (P : X → Type 0) (xs ys : List X) → All P (xs ++ ys) → All P ys
-All-back P xs ys h = λ k d l. subst P (get_or-append-add xs ys k d) (h (length xs + k) d (omega (arith, l, length-append xs ys)))
+use Rattle.list_laws.proofs.Halves.{All-front, All-back}
 
 -- a longer list that begins with a prefix goes on by a move
 next_move : (rows : List (List ℕ)) (a : ℕ) (q y : List ℕ) → Follows rows a y → take (length q) y ≡ q → length q < length y →

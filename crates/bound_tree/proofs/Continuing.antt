@@ -6,19 +6,11 @@ use Rattle.search_model.specs.Problem.{Problem, IsProblem}
 use Rattle.search_model.specs.Legal.{Follows, IsLegal, last_of, continuations}
 use Rattle.search_model.specs.Bounds.{sum_along, greatest}
 use Rattle.search_model.proofs.LegalLemmas.{last_within}
-use Rattle.search_model.proofs.Members.{Contains-nil, Contains-cons_cases, Contains-map}
+use Rattle.list_laws.proofs.Members.{Contains-nil, Contains-cons_cases, Contains-map}
 use Rattle.search_model.proofs.PlainSteps.{positions_follow}
 use Rattle.search_model.proofs.WalkLemmas.{walk_listed, follows-append}
 use Rattle.bound_tree.specs.Accepts.{Extends}
-
--- no number is above the greatest
-pub greatest_above : (ns : List ℕ) (n : ℕ) → Contains ns n → n ≤ greatest ns
-unfolding greatest
-greatest_above [] n h = absurd (Contains-nil n h)
-greatest_above (a ∷ ns) n h = elim (Contains-cons_cases a n ns h) [
-  | inl e ↦ omega (arith, e, le-max_left a (greatest ns))
-  | inr k ↦ omega (arith, greatest_above ns n k, le-max_right a (greatest ns))
-]
+use Rattle.longest_walk.proofs.Greatest.{greatest_above}
 
 -- what is left of a path after the prefix
 abbrev pub rest_of : List ℕ → List ℕ → List ℕ

@@ -6,7 +6,7 @@ use Rattle.sweep_table.specs.LookParts.{factor_of}
 use Rattle.search_model.specs.Problem.{Problem, IsProblem}
 use Rattle.search_model.specs.Tracks.{tracks, weight_of, miss_from, miss_of, missed_weight, whole_weight}
 use Rattle.search_model.specs.Bounds.{factors_along, cell_in, reward_of, sum_along}
-use Rattle.search_model.proofs.Sums.{sum_by-same, sum_by-none, sum_by-plus}
+use Rattle.list_laws.proofs.Sums.{sum_by-same, sum_by-none, sum_by-plus}
 use Rattle.search_model.proofs.Totals.{nothing_is_cut_off}
 use Rattle.bound_tree.specs.Accepts.{Extends}
 use Rattle.bound_tree.specs.BoundLaws.{MeanIsAbove}

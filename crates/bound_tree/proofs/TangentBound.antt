@@ -8,7 +8,7 @@ use Rattle.sweep_table.specs.LookParts.{factor_of}
 use Rattle.search_model.specs.Problem.{Problem, IsProblem}
 use Rattle.search_model.specs.Tracks.{tracks, weight_of, miss_from, miss_of, missed_weight, whole_weight}
 use Rattle.search_model.specs.Bounds.{factors_along, cell_in, gain_of, sum_along, IsRate}
-use Rattle.search_model.proofs.Sums.{sum_by-same, sum_by-none, sum_by-plus, sum_by-times}
+use Rattle.list_laws.proofs.Sums.{sum_by-same, sum_by-none, sum_by-plus, sum_by-times, sum_by-filter}
 use Rattle.search_model.proofs.Totals.{nothing_is_cut_off}
 use Rattle.bound_tree.specs.Accepts.{Extends}
 use Rattle.bound_tree.specs.BoundLaws.{missed_by, TangentIsAbove}
@@ -45,17 +45,6 @@ looks_counted p rate sound is (a ∷ z) (c ∷ x) u t size begin end positions c
     let moved = rw (append_assoc u (c ∷ []) x) at rest in
     rw here (one_look g rate f (length z) (covers_along p (t + 1) z (u ++ c ∷ x)) (miss_from p (t + 1) z x) (rate_within p rate sound is) either moved.0 moved.1)
 
-kept : {X : Type 0} (b : Bool) (f : X → ℕ) (x : X) (ys : List X) → sum_by f (cond b (x ∷ ys) ys) ≡ (if b then 1 else 0) * f x + sum_by f ys
-kept true f x ys = sum_by-cons f x ys ∙ omega arith
-kept false f x ys = omega arith
-
--- a sum over the elements that pass a test
-sum_by-kept : {X : Type 0} (test : X → Bool) (f : X → ℕ) (xs : List X) → sum_by f (filter test xs) ≡ sum_by (λ x. (if test x then 1 else 0) * f x) xs
-sum_by-kept test f [] = refl
-sum_by-kept test f (x ∷ xs) =
-    kept (test x) f x (filter test xs)
-    ∙ rw (sum_by-cons (λ y. (if test y then 1 else 0) * f y) x xs, sum_by-kept test f xs) refl
-
 module _ (p : Problem) (rate : ℕ) (whole : List ℕ) where
   -- what one more look that covers a track finds of what the path misses of it
   abbrev gain_at : List ℕ → ℕ
@@ -69,10 +58,10 @@ module _ (p : Problem) (rate : ℕ) (whole : List ℕ) where
       let all = tracks p.cells p.horizon in
       let test : List ℕ → Bool = λ x. nat_lt (factor_of p.sweep t a (cell_in x t)) p.sweep.denominator in
       let lost : List ℕ → ℕ = λ x. weight_of p x * miss_of p whole x in
-      let first : List ℕ → ℕ = λ x. (if test x then 1 else 0) * lost x in
+      let first : List ℕ → ℕ = λ x. lost x * (if test x then 1 else 0) in
       let later : List ℕ → ℕ = λ x. covers_along p (t + 1) z x * gain_at x in
       let d : ℕ = p.sweep.denominator - rate in
-      let one = sum_by-kept test lost all in
+      let one = sum_by-filter test lost all in
       let times = sum_by-times first d all in
       let both = sum_by-plus (λ x. first x * d) later all in
       let same = sum_by-same (λ x. covers_along p t (a ∷ z) x * gain_at x) (λ x. first x * d + later x) all (λ x. omega arith) in

@@ -16,13 +16,6 @@ use Rattle.longest_walk.proofs.LeastWalks.{one_least_best}
 use Rattle.bound_tree.specs.Accepts.{Extends}
 use Rattle.bound_tree.specs.Close.{IsReference, IsTangent}
 
--- a problem's look factors have one rate at most
-pub one_rate : (p : Problem) (r s : ℕ) → IsRate p r → IsRate p s → r ≡ s
-one_rate p r s first second =
-    let (t, a, c, from, to, position, cell, here) = first.reached in
-    let (u, b, d, begin, end, place, spot, there) = second.reached in
-    omega (arith, here, there, second.least t a c from to position cell, first.least u b d begin end place spot)
-
 -- without one rate a prefix has no tangent
 pub tangent_needs_rate : (p : Problem) (q : List ℕ) (b : ℕ) (whole : List ℕ) → ((rate : ℕ) → IsRate p rate → ⊥) → IsTangent p q b whole → ⊥
 tangent_needs_rate p q b whole none tangent = none tangent.rate tangent.is_rate

@@ -5,18 +5,14 @@ use Rattle.std.proofs.lemmas.List.Sums.{sum_by-cons}
 use Rattle.std.proofs.lemmas.List.FromFn.{length-range_with_len, get_or-range_with_len}
 use Rattle.std.proofs.lemmas.List.Elements.{All-nil, All-cons, All-append}
 use Rattle.search_model.specs.Tracks.{tracks}
-use Rattle.search_model.proofs.Members.{Contains-nil, Contains-head, Contains-tail, Contains-cons_cases, Contains-map_cases, Contains-flat_map_cases}
+use Rattle.list_laws.proofs.Members.{Contains-nil, Contains-head, Contains-tail, Contains-cons_cases, Contains-map_cases, Contains-flat_map_cases}
+use Rattle.list_laws.proofs.Ranges.{within_range}
+use Rattle.list_laws.proofs.Sums.{sum_by-within}
 
 -- a list of n cells
 pub record IsTrack (cells n : ℕ) (x : List ℕ) : Type 0 where
   pub size : length x ≡ n
   pub within : All (λ c. c < cells) x
-
--- a number of a range from 0 is below its end
-within_range : (n c : ℕ) → Contains (range_with_len 0 n) c → c < n
-within_range n c (k, inside, is) =
-    let few : k < n = omega (arith, inside, length-range_with_len 0 n) in
-    omega (arith, get_or-range_with_len 0 n k c few, is, few)
 
 -- each listed track is one
 pub track_is : (cells n : ℕ) (x : List ℕ) → Contains (tracks cells n) x → IsTrack cells n x
@@ -33,13 +29,6 @@ track_is cells (suc n) x h =
       size = omega (arith, length-append step.0 (last.0 ∷ []), known.size);
       within = All-append (λ c. c < cells) step.0 (last.0 ∷ []) known.within (All-cons (λ c. c < cells) last.0 [] (within_range cells last.0 last.1) (All-nil (λ c. c < cells)));
     })
-
--- a sum of larger terms is larger, where the terms of the list's elements are compared
-pub sum_by-within : {X : Type 0} (f g : X → ℕ) (xs : List X) → ((x : X) → Contains xs x → f x ≤ g x) → sum_by f xs ≤ sum_by g xs
-sum_by-within f g [] h = omega arith
-sum_by-within f g (x ∷ xs) h =
-    rw (sum_by-cons f x xs, sum_by-cons g x xs)
-    (omega (arith, h x (Contains-head x xs), sum_by-within f g xs (λ y k. h y (Contains-tail x y xs k))))
 
 -- a sum over tracks of larger terms is larger
 pub sum_tracks-le : (cells n : ℕ) (f g : List ℕ → ℕ) → ((x : List ℕ) → IsTrack cells n x → f x ≤ g x) → sum_by f (tracks cells n) ≤ sum_by g (tracks cells n)

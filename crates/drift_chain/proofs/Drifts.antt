@@ -6,7 +6,7 @@ use Rattle.std.proofs.lemmas.List.Sorted.{Contains-permutation, IsPermutation-sy
 use Rattle.drift_chain.specs.declared.part.DriftPart.{DriftPart}
 use Rattle.drift_chain.specs.DriftRows.{row_of, drift_over, IsDriftRow, IsDrift}
 use Rattle.drift_chain.specs.Faults.{parts_from, HasSameParts}
-use Rattle.drift_chain.proofs.Ascending.{Ascends-from_keys, same_ascending}
+use Rattle.list_laws.proofs.Ascending.{Ascends-from_keys, same_ascending}
 
 -- a drift's rows are right
 pub right_rows : (denominator : ℕ) (rows : List (List DriftPart)) → IsDrift (drift_over denominator rows) → (c : ℕ) → c < length rows → IsDriftRow denominator (length rows) (parts_from rows c)

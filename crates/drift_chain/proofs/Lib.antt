@@ -1,4 +1,3 @@
-pub mod Ascending
 pub mod Drifts
 pub mod NamedFaults
 pub mod PartRows

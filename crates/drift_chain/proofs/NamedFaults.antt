@@ -8,7 +8,7 @@ use Rattle.drift_chain.specs.declared.faults.DriftFault.{DriftFault}
 use Rattle.drift_chain.specs.declared.faults.DriftFault.TheVariants.{OutOfRange, ZeroPart, DoubleEntry, WrongSum, NoMemory}
 use Rattle.drift_chain.specs.DriftRows.{drift_over, IsDriftRow, IsDrift}
 use Rattle.drift_chain.specs.Faults.{parts_from, HasSameParts, HasDouble, HasFault, IsNotAfter, IsFirstFault, IsFirstOfRow}
-use Rattle.drift_chain.proofs.Ascending.{Ascends-from_keys, count_at-le}
+use Rattle.list_laws.proofs.Ascending.{Ascends-from_keys, count_at-le}
 use Rattle.drift_chain.proofs.Drifts.{right_rows}
 
 -- the order of the entries in a row makes and mends no fault

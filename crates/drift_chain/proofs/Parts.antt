@@ -7,7 +7,7 @@ use Rattle.std.proofs.lemmas.Map.Views.{length-le_from_below}
 use Rattle.std.specs.List.Sorted.{IsStrictlyIncreasing}
 use Rattle.drift_chain.specs.declared.part.DriftPart.{DriftPart}
 use Rattle.drift_chain.specs.DriftRows.{part_in}
-use Rattle.drift_chain.proofs.Ascending.{Ascends-from_keys, sum_at-none, sum_at-one}
+use Rattle.list_laws.proofs.Ascending.{Ascends-from_keys, sum_at-none, sum_at-one}
 
 -- a row without the cell gives it nothing
 pub part_in-none : (row : List DriftPart) (d : ℕ) → All (λ entry. entry.cell ≢ d) row → part_in row d ≡ 0

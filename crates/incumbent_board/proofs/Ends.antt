@@ -10,7 +10,7 @@ use mathlib.Core.List.{IsPrefix}
 use Rattle.atomic_table.specs.Seated.{TableId}
 use Rattle.search_model.specs.declared.standing.Standing.{Standing}
 use Rattle.search_model.specs.Order.{better}
-use Rattle.search_model.proofs.Members.{Contains-head, Contains-tail}
+use Rattle.list_laws.proofs.Members.{Contains-head, Contains-tail}
 use Rattle.search_model.proofs.Orders.{better_irreflexive, better_one_way, better_order}
 use Rattle.incumbent_board.specs.declared.sight.Sight.{Sight}
 use Rattle.incumbent_board.specs.History.{first_of, last_from, last_of, Rises, NoneBetter}
@@ -19,8 +19,9 @@ use Rattle.incumbent_board.specs.Boards.{BoardView, SeatView, offers_of, AreAllS
 use Rattle.incumbent_board.specs.Rule.{ALL, cell_of, Closes, joined}
 use Rattle.incumbent_board.specs.Joins.{IsOfSeat, Gathers}
 use Rattle.incumbent_board.proofs.Views.{same_items}
-use Rattle.incumbent_board.proofs.Histories.{all_left, all_right, first_seen, some_seen}
+use Rattle.incumbent_board.proofs.Histories.{first_seen, some_seen}
 use Rattle.incumbent_board.proofs.Shown.{told_last}
+use Rattle.list_laws.proofs.Halves.{All-front, All-back}
 
 module _ {X A : Type 0} where
   flat_map_last : (f : X → List A) (xs : List X) (x : X) → flat_map f (xs ++ x ∷ []) ≡ flat_map f xs ++ f x
@@ -43,8 +44,8 @@ joins_more v w u done s k is = record {
   seen = λ history b. (
       let P : List Standing → Type 0 = λ seen. IsPrefix seen history in
       let told : All P ((w.seen ∷ w.told) ++ u.seen ∷ u.told) = b.told in
-      let first : All P (w.seen ∷ w.told) = all_left P (w.seen ∷ w.told) (u.seen ∷ u.told) told in
-      let second : All P (u.seen ∷ u.told) = all_right P (w.seen ∷ w.told) (u.seen ∷ u.told) told in
+      let first : All P (w.seen ∷ w.told) = All-front P (w.seen ∷ w.told) (u.seen ∷ u.told) told in
+      let second : All P (u.seen ∷ u.told) = All-back P (w.seen ∷ w.told) (u.seen ∷ u.told) told in
       let old = k.seen history (record { seen = All-head P w.seen w.told first; told = All-tail P w.seen w.told first }) in
       let Q : SeatView → Type 0 = λ y. IsPrefix y.seen history in
       (old.0, All-append Q done (s ∷ []) old.1 (All-cons Q s [] (subst P is.seen (All-head P u.seen u.told second)) (All-nil Q)))
@@ -60,7 +61,7 @@ first_not_better : (a : Standing) (later : List Standing) → Rises a later → 
 first_not_better a [] r = better_irreflexive a
 first_not_better a (b ∷ later) r = better_order.chain a b (last_from b later) (better_one_way b a r.0) (first_not_better b later r.1)
 
-last_there : (a : Standing) (later : List Standing) → Contains (a ∷ later) (last_from a later)
+pub last_there : (a : Standing) (later : List Standing) → Contains (a ∷ later) (last_from a later)
 last_there a [] = Contains-head a []
 last_there a (b ∷ later) = Contains-tail a (last_from b later) (b ∷ later) (last_there b later)
 
@@ -71,8 +72,8 @@ all_offers P (s ∷ seats) placed behind =
     let later = flat_map (λ (y : SeatView). y.placed) seats in
     let others = flat_map (λ (y : SeatView). y.behind) seats in
     All-append P (s.placed ++ s.behind) (flat_map (λ y. offers_of y) seats)
-    (All-append P s.placed s.behind (all_left P s.placed later placed) (all_left P s.behind others behind))
-    (all_offers P seats (all_right P s.placed later placed) (all_right P s.behind others behind))
+    (All-append P s.placed s.behind (All-front P s.placed later placed) (All-front P s.behind others behind))
+    (all_offers P seats (All-back P s.placed later placed) (All-back P s.behind others behind))
 
 -- what the last load of a pass that knows what all seats know tells
 pub record Ended (b : BoardView) (seats : List SeatView) (answer : Standing) : Type 0 where
@@ -88,7 +89,7 @@ cut_first (a ∷ later) begun = refl
 all_of_both : (P : Standing → Type 0) (f : SeatView → List Standing) (rest : List SeatView) (one : SeatView) (a c all : List Standing) → all ≡ c → c ≡ a ++ flat_map f rest → a ≡ f one → All P all → All P (flat_map f (rest ++ one ∷ []))
 all_of_both P f rest one a c all same e g each =
     let both : All P (a ++ flat_map f rest) = subst (All P) (same ∙ e) each in
-    subst (All P) (sym (flat_map_last f rest one)) (All-append P (flat_map f rest) (f one) (all_right P a (flat_map f rest) both) (subst (All P) g (all_left P a (flat_map f rest) both)))
+    subst (All P) (sym (flat_map_last f rest one)) (All-append P (flat_map f rest) (f one) (All-back P a (flat_map f rest) both) (subst (All P) g (All-front P a (flat_map f rest) both)))
 
 -- the joined pass stands for all seats
 sum_is : (b : BoardView) (rest : List SeatView) (one : SeatView) (v w : Sight) → AreAllSeats b (rest ++ one ∷ []) → IsOfSeat one v → Gathers v rest w → w.seats ≡ ALL
@@ -107,7 +108,7 @@ ended b rest one v w u words all is k (s, placed) =
     let begin = k.seen u.seen (record { seen = s.0.seen; told = s.0.told }) in
     let one_seen : IsPrefix one.seen u.seen = subst (λ (l : List Standing). IsPrefix l u.seen) is.seen begin.0.seen in
     let begun : 0 < length u.seen = some_seen one.seen u.seen one_seen is.begun in
-    let of_board : one.board ≡ b = All-head (λ (y : SeatView). y.board ≡ b) one [] (all_right (λ (y : SeatView). y.board ≡ b) rest (one ∷ []) all.each) in
+    let of_board : one.board ≡ b = All-head (λ (y : SeatView). y.board ≡ b) one [] (All-back (λ (y : SeatView). y.board ≡ b) rest (one ∷ []) all.each) in
     let first : first_of u.seen ≡ b.first = first_seen one.seen u.seen one_seen is.begun ∙ is.first ∙ ap (λ (y : BoardView). y.first) of_board in
     let later = drop 1 u.seen in
     let cut : u.seen ≡ b.first ∷ later = cut_first u.seen begun ∙ ap (λ (y : Standing). y ∷ later) first in
@@ -119,8 +120,8 @@ ended b rest one v w u words all is k (s, placed) =
     let Q : SeatView → Type 0 = λ y. IsPrefix y.seen (b.first ∷ later) in
     let own = own_placed rest one v w later is k (placed (sum_is b rest one v w all is k)) in
     let best : All P (u.placed ++ u.behind) = subst (NoneBetter (u.placed ++ u.behind)) answer s.0.best in
-    let all_placed = all_of_both P (λ y. y.placed) rest one v.placed w.placed u.placed (ap (λ (y : Sight). y.placed) s.1) k.placed is.placed (all_left P u.placed u.behind best) in
-    let all_behind = all_of_both P (λ y. y.behind) rest one v.behind w.behind u.behind (ap (λ (y : Sight). y.behind) s.1) k.behind is.behind (all_right P u.placed u.behind best) in
+    let all_placed = all_of_both P (λ y. y.placed) rest one v.placed w.placed u.placed (ap (λ (y : Sight). y.placed) s.1) k.placed is.placed (All-front P u.placed u.behind best) in
+    let all_behind = all_of_both P (λ y. y.behind) rest one v.behind w.behind u.behind (ap (λ (y : Sight). y.behind) s.1) k.behind is.behind (All-back P u.placed u.behind best) in
     record {
       history = record {
         later = later;
@@ -138,5 +139,5 @@ ended b rest one v w u words all is k (s, placed) =
 pub rest_cells : (b : BoardView) (rest : List SeatView) (one : SeatView) (id : TableId) → AreAllSeats b (rest ++ one ∷ []) → id ≡ one.board.cell → All (λ s. s.board.cell ≡ id) rest
 rest_cells b rest one id all same k d below =
     let Q : SeatView → Type 0 = λ y. y.board ≡ b in
-    let of_board : one.board ≡ b = All-head Q one [] (all_right Q rest (one ∷ []) all.each) in
-    ap (λ (y : BoardView). y.cell) (all_left Q rest (one ∷ []) all.each k d below) ∙ ap (λ (y : BoardView). y.cell) (sym of_board) ∙ sym same
+    let of_board : one.board ≡ b = All-head Q one [] (All-back Q rest (one ∷ []) all.each) in
+    ap (λ (y : BoardView). y.cell) (All-front Q rest (one ∷ []) all.each k d below) ∙ ap (λ (y : BoardView). y.cell) (sym of_board) ∙ sym same

@@ -11,6 +11,7 @@ use Rattle.incumbent_board.specs.History.{first_of, last_from, last_of, Rises, N
 use Rattle.incumbent_board.specs.Words.{words_of, spelled_by, blank}
 use Rattle.incumbent_board.specs.Rule.{cell_of, FitsWords, longer}
 use Rattle.incumbent_board.proofs.Packing.{standing_back}
+use Rattle.list_laws.proofs.Halves.{All-front}
 
 module _ {X : Type 0} where
   pub prefix_self : (xs : List X) → IsPrefix xs xs
@@ -34,13 +35,6 @@ module _ {X : Type 0} where
       let n : length (xs ++ p.0) ≡ length ys = ap length p.1 in
       let none : p.0 ≡ [] = nil_from_length p.0 (omega (arith, length-append xs p.0)) in
       sym (append-nil xs) ∙ ap (λ (l : List X). xs ++ l) (sym none) ∙ p.1
-
-  -- what holds of all elements of a joined list holds of both parts
-  pub all_left : (P : X → Type 0) (xs ys : List X) → All P (xs ++ ys) → All P xs
-  all_left P xs ys all = subst (All P) (take-append_seam xs ys) (All-take P (length xs) (xs ++ ys) all)
-
-  pub all_right : (P : X → Type 0) (xs ys : List X) → All P (xs ++ ys) → All P ys
-  all_right P xs ys all = subst (All P) (drop-append_seam xs ys) (All-drop P (length xs) (xs ++ ys) all)
 
 -- the longer of two beginnings
 pub longer_prefix : (a b h : List Standing) → IsPrefix a h → IsPrefix b h → IsPrefix (longer a b) h
@@ -127,7 +121,7 @@ last_from_seen a [] (r ∷ rest) holds same = absurd (words_not_blank a (last_fr
 last_from_seen a (b ∷ seen) rest holds same =
     let here : FitsWords a b = All-head (FitsWords a) b (seen ++ rest) holds in
     let later : All (FitsWords a) (seen ++ rest) = All-tail (FitsWords a) b (seen ++ rest) holds in
-    words_same a (last_from b (seen ++ rest)) (last_from b seen) (last_fits a b (seen ++ rest) here later) (last_fits a b seen here (all_left (FitsWords a) seen rest later)) same
+    words_same a (last_from b (seen ++ rest)) (last_from b seen) (last_fits a b (seen ++ rest) here later) (last_fits a b seen here (All-front (FitsWords a) seen rest later)) same
 
 -- a beginning by which the cell holds what it holds ends with the same standing
 pub last_seen : (seen history : List Standing) → IsPrefix seen history → 0 < length seen → All (FitsWords (first_of history)) (drop 1 history) → cell_of history ≡ cell_of seen → last_of history ≡ last_of seen

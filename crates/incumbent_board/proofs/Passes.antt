@@ -18,8 +18,9 @@ use Rattle.incumbent_board.specs.History.{last_of}
 use Rattle.incumbent_board.specs.Words.{blank}
 use Rattle.incumbent_board.specs.Rule.{ALL, sight, spent, cell_of, FitsWords, Knows, IsKept, Closes, joined}
 use Rattle.incumbent_board.proofs.Views.{set_there, sum_set, sum_else, Each, each_set, each_push, lists_same, lists_push, lists_moved, lists_handed, lists_one, same_items}
-use Rattle.incumbent_board.proofs.Histories.{all_left, all_right, prefix_self, prefix_none, longer_prefix, longer_whole}
+use Rattle.incumbent_board.proofs.Histories.{prefix_self, prefix_none, longer_prefix, longer_whole}
 use Rattle.incumbent_board.proofs.Steps.{sees}
+use Rattle.list_laws.proofs.Halves.{All-front, All-back}
 
 -- one number is another, or it differs
 same_or_not : (m n : ℕ) → (m ≡ n) ⊎ (m ≢ n)
@@ -159,8 +160,8 @@ knows_joined history v w some_seat a b =
       seen = longer_prefix v.seen w.seen history a.seen b.seen;
       told = All-append Q (v.seen ∷ v.told) (w.seen ∷ w.told) (All-cons Q v.seen v.told a.seen a.told) (All-cons Q w.seen w.told b.seen b.told);
       best = All-append P (v.placed ++ w.placed) (v.behind ++ w.behind)
-          (All-append P v.placed w.placed (all_left P v.placed v.behind a.best) (all_left P w.placed w.behind b.best))
-          (All-append P v.behind w.behind (all_right P v.placed v.behind a.best) (all_right P w.placed w.behind b.best));
+          (All-append P v.placed w.placed (All-front P v.placed v.behind a.best) (All-front P w.placed w.behind b.best))
+          (All-append P v.behind w.behind (All-back P v.placed v.behind a.best) (All-back P w.placed w.behind b.best));
       none = λ no. absurd (omega (arith, no, some_seat));
     }
 

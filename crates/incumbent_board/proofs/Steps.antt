@@ -16,7 +16,8 @@ use Rattle.incumbent_board.specs.History.{first_of, last_of, Rises, NoneBetter}
 use Rattle.incumbent_board.specs.Words.{words_of, blank}
 use Rattle.incumbent_board.specs.Rule.{ALL, sight, cell_of, FitsWords, Knows, IsKept, Sees, Looks, behind_with, Weighs, Places, Tries}
 use Rattle.incumbent_board.proofs.Views.{set_there, sum_set, each_set, lists_set, lists_same}
-use Rattle.incumbent_board.proofs.Histories.{all_left, all_right, prefix_self, prefix_none, prefix_more, last_push, first_push, later_push, cell_push, rises_push, first_seen, some_seen, none_better_on, last_seen}
+use Rattle.incumbent_board.proofs.Histories.{prefix_self, prefix_none, prefix_more, last_push, first_push, later_push, cell_push, rises_push, first_seen, some_seen, none_better_on, last_seen}
+use Rattle.list_laws.proofs.Halves.{All-front, All-back}
 
 -- the first view, which stands for all seats
 pub begins : IsKept blank (sight ALL [] [] [] [] ∷ [])
@@ -120,7 +121,7 @@ replaces s port v x views some_seat h at begun fits up =
         each = each_set (Knows all) views port w (record {
           seen = prefix_self all;
           told = λ k d below. prefix_more _ h.history (s ∷ []) (mine.told k d below);
-          best = All-append P (v.placed ++ s ∷ []) v.behind (All-append P v.placed (s ∷ []) (all_left P v.placed v.behind parts) (All-cons P s [] own (All-nil P))) (all_right P v.placed v.behind parts);
+          best = All-append P (v.placed ++ s ∷ []) v.behind (All-append P v.placed (s ∷ []) (All-front P v.placed v.behind parts) (All-cons P s [] own (All-nil P))) (All-back P v.placed v.behind parts);
           none = λ no. absurd (omega (arith, no));
         })
             (λ j u e. let k = h.each j u e in record {

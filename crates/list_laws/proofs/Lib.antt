@@ -1,2 +1,9 @@
+pub mod Ascending
+pub mod Firsts
+pub mod Halves
+pub mod Mapped
+pub mod Members
 pub mod Pairs
 pub mod Parts
+pub mod Ranges
+pub mod Sums

@@ -7,7 +7,7 @@ use Rattle.search_model.specs.Legal.{walks}
 use Rattle.search_model.specs.Bounds.{sum_along, greatest}
 use Rattle.search_model.specs.Order.{smaller}
 use Rattle.search_model.specs.Worked.{one_cell, waiting_target}
-use Rattle.search_model.proofs.Members.{list_all-contains}
+use Rattle.list_laws.proofs.Members.{list_all-contains}
 use Rattle.longest_walk.specs.Sums.{entry_at, greatest_sum, IsLeastBest}
 use Rattle.longest_walk.specs.Worked.{last_cell_rewards, no_rewards, LastCellWalks, NoRewardWalks, OneCellWalks, WorkedWalks}
 

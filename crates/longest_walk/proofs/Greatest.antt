@@ -4,7 +4,7 @@ use Rattle.std.proofs.Math.Nat.{le-max_left, le-max_right, max-eq_left, max-eq_r
 use Rattle.std.proofs.lemmas.Bool.{cases_lt}
 use Rattle.std.proofs.lemmas.List.Elements.{All-head, All-tail}
 use Rattle.search_model.specs.Bounds.{greatest}
-use Rattle.search_model.proofs.Members.{Contains-nil, Contains-head, Contains-tail, Contains-cons_cases}
+use Rattle.list_laws.proofs.Members.{Contains-nil, Contains-head, Contains-tail, Contains-cons_cases}
 
 -- one number more
 pub greatest-cons : (x : ℕ) (xs : List ℕ) → greatest (x ∷ xs) ≡ max x (greatest xs)

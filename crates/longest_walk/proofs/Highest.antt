@@ -7,12 +7,13 @@ use Rattle.std.proofs.lemmas.List.Sums.{sum_by-cons}
 use Rattle.search_grid.specs.Moves.{IsGrid}
 use Rattle.search_model.specs.Legal.{walks, Follows}
 use Rattle.search_model.specs.Bounds.{sum_along, greatest}
-use Rattle.search_model.proofs.Members.{Contains-map}
+use Rattle.list_laws.proofs.Members.{Contains-map}
 use Rattle.search_model.proofs.LegalLemmas.{move_within}
 use Rattle.search_model.proofs.WalkLemmas.{listed_walk}
 use Rattle.longest_walk.specs.Sums.{highest, highest_sum}
 use Rattle.longest_walk.specs.Laws.{SameRewardsSameSum, HighestAbove, HighestBelow}
 use Rattle.longest_walk.proofs.Greatest.{greatest_above, greatest_below, map_agree}
+use Rattle.list_laws.proofs.Ranges.{All-range, Contains-range_from_0}
 
 -- along one walk
 sum_along-same : (rows : List (List ℕ)) → IsGrid rows → (r s : ℕ → ℕ → ℕ) (n t a : ℕ) (y : List ℕ) → a < length rows → Follows rows a y → length y ≡ n →
@@ -33,14 +34,9 @@ same_rewards_same_sum rows r s n t a grid here same =
     (λ y listed. let known = listed_walk rows n a y listed in sum_along-same rows grid r s n t a y here known.0 known.1 same)
     (walks rows n a) (All-contains_itself (walks rows n a))))
 
--- a number below the length stands in the range
-Contains-range : (n q : ℕ) → q < n → Contains (range_with_len 0 n) q
-Contains-range n q less =
-    (q, rw length-range_with_len less, get_or-range_with_len 0 n q q less ∙ omega arith)
-
 -- no reward is above the highest of its period
 pub highest_above_reward : (cells : ℕ) (r : ℕ → ℕ → ℕ) (t q : ℕ) → q < cells → r t q ≤ highest cells r t
-highest_above_reward cells r t q less = greatest_above (map (r t) (range_with_len 0 cells)) (r t q) (Contains-map (r t) (range_with_len 0 cells) q (Contains-range cells q less))
+highest_above_reward cells r t q less = greatest_above (map (r t) (range_with_len 0 cells)) (r t q) (Contains-map (r t) (range_with_len 0 cells) q (Contains-range_from_0 cells q less))
 
 -- the first period's highest reward, and those of the rest
 pub highest_sum-suc : (cells : ℕ) (r : ℕ → ℕ → ℕ) (n t : ℕ) → highest_sum cells r (suc n) t ≡ highest cells r t + highest_sum cells r n (t + 1)
@@ -65,11 +61,6 @@ highest_above rows r n t a grid here =
     (All-weaker (Contains (walks rows n a)) (λ y. sum_along r t y ≤ highest_sum (length rows) r n t)
     (λ y listed. let known = listed_walk rows n a y listed in sum_along_below_highest rows grid r n t a y here known.0 known.1)
     (walks rows n a) (All-contains_itself (walks rows n a))))
-
--- each number of a range is within it
-All-range : (P : ℕ → Type 0) (a n : ℕ) → ((q : ℕ) → a ≤ q → q < a + n → P q) → All P (range_with_len a n)
-All-range P a zero each = All-nil P
-All-range P a (suc n) each = All-cons P a (range_with_len (a + 1) n) (each a (omega arith) (omega arith)) (All-range P (a + 1) n (λ q from to. each q (omega (arith, from)) (omega (arith, to))))
 
 pub highest_below : HighestBelow
 highest_below cells most r zero t each = omega arith

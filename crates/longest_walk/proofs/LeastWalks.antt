@@ -6,7 +6,7 @@ use Rattle.search_grid.specs.Moves.{moves_from, IsGrid}
 use Rattle.search_model.specs.Legal.{walks}
 use Rattle.search_model.specs.Bounds.{sum_along, greatest}
 use Rattle.search_model.specs.Order.{smaller}
-use Rattle.search_model.proofs.Members.{Contains-nil, Contains-head, Contains-tail, Contains-cons_cases, Contains-map, Contains-map_cases, Contains-some}
+use Rattle.list_laws.proofs.Members.{Contains-nil, Contains-head, Contains-tail, Contains-cons_cases, Contains-map, Contains-map_cases, Contains-some}
 use Rattle.search_model.proofs.WalkLemmas.{walk_listed, listed_walk}
 use Rattle.search_model.proofs.Orders.{smaller_order, same_from_neither}
 use Rattle.search_model.proofs.Best.{unbeaten}

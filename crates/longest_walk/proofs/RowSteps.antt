@@ -7,7 +7,7 @@ use Rattle.std.proofs.lemmas.List.{at_drop_all, at_drop_more, get_or_default}
 use Rattle.std.proofs.lemmas.List.Elements.{All-map, All-weaker, All-contains_itself}
 use Rattle.std.proofs.lemmas.List.Kept.{AllPairs-from_increasing}
 use Rattle.search_model.specs.Bounds.{greatest}
-use Rattle.search_model.proofs.Members.{Contains-map}
+use Rattle.list_laws.proofs.Members.{Contains-map}
 use Rattle.longest_walk.specs.Rows.{sums_at, IsLeastMove}
 use Rattle.longest_walk.proofs.Greatest.{greatest-nil, greatest-cons, greatest_above, greatest_below}
 

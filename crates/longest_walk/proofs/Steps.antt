@@ -5,7 +5,7 @@ use Rattle.std.proofs.lemmas.List.Elements.{All-weaker, All-contains_itself}
 use Rattle.search_grid.specs.Moves.{moves_from, IsGrid}
 use Rattle.search_model.specs.Legal.{walks}
 use Rattle.search_model.specs.Bounds.{sum_along, greatest}
-use Rattle.search_model.proofs.Members.{Contains-some, Contains-map}
+use Rattle.list_laws.proofs.Members.{Contains-some, Contains-map}
 use Rattle.search_model.proofs.LegalLemmas.{move_within}
 use Rattle.search_model.proofs.WalkLemmas.{some_walk, walk_listed}
 use Rattle.longest_walk.specs.Sums.{greatest_sum}

@@ -6,7 +6,7 @@ use Rattle.std.proofs.lemmas.List.FromFn.{get_or-map-range_with_len}
 use Rattle.sweep_table.specs.LookParts.{LookParts, factor_of}
 use Rattle.search_model.specs.Problem.{Problem, IsProblem}
 use Rattle.search_model.specs.Bounds.{reward_of}
-use Rattle.search_model.proofs.Sums.{sum_by-range-same, sum_by-range-pick}
+use Rattle.list_laws.proofs.Sums.{sum_by-range-same, sum_by-range-pick}
 use Rattle.belief_update.specs.Masses.{mass_of, looks_to}
 use Rattle.belief_update.specs.Belief.{BeliefState, IsBelief}
 use Rattle.belief_update.proofs.Looks.{length-looks_to}

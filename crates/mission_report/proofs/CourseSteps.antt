@@ -7,7 +7,7 @@ use Rattle.search_model.specs.Problem.{Problem, IsProblem}
 use Rattle.search_model.specs.Legal.{IsPath}
 use Rattle.search_model.specs.Tracks.{value_of}
 use Rattle.search_model.proofs.PlainSteps.{positions_follow}
-use Rattle.search_model.proofs.Sums.{range_with_len-suc}
+use Rattle.list_laws.proofs.Ranges.{range_with_len-suc}
 use Rattle.belief_update.specs.Belief.{BeliefState, IsBelief}
 use Rattle.mission_report.specs.Account.{value_up_to}
 

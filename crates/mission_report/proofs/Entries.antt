@@ -5,7 +5,7 @@ use Rattle.std.proofs.lemmas.List.{map_push}
 use Rattle.serde_json.specs.Data.{Data}
 use Rattle.serde_json.specs.View.{view}
 use Rattle.serde_json.specs.declared.value.Value.{Value}
-use Rattle.search_model.proofs.Sums.{range_with_len-suc}
+use Rattle.list_laws.proofs.Ranges.{range_with_len-suc}
 
 -- one value more, for the next number
 pub entries_more : (f : ℕ → Data) (k : ℕ) (values : List Value) (v : Value) → map view values ≡ map f (range_with_len 0 k) → view v ≡ f k → map view (values ++ v ∷ []) ≡ map f (range_with_len 0 (k + 1))

@@ -10,7 +10,7 @@ use Rattle.std.proofs.lemmas.List.Sums.{sum-map}
 use Rattle.search_model.specs.Problem.{Problem, IsProblem}
 use Rattle.search_model.specs.Tracks.{tracks, weight_of, miss_from, miss_of, missed_weight}
 use Rattle.search_model.specs.Bounds.{cell_in}
-use Rattle.search_model.proofs.Sums.{sum_by-flat_map, sum_by-exchange, sum_by-range-same}
+use Rattle.list_laws.proofs.Sums.{sum_by-flat_map, sum_by-exchange, sum_by-range-same}
 use Rattle.search_model.proofs.TrackSums.{sum_tracks-suc, sum_tracks-same}
 use Rattle.search_model.proofs.Totals.{nothing_is_cut_off}
 use Rattle.belief_update.specs.Masses.{looked_along, mass_of}

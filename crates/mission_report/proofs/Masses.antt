@@ -8,7 +8,7 @@ use Rattle.std.proofs.lemmas.List.Sums.{sum-map}
 use Rattle.search_model.specs.Problem.{Problem, IsProblem}
 use Rattle.search_model.specs.Legal.{IsPath}
 use Rattle.search_model.specs.Tracks.{whole_weight}
-use Rattle.search_model.proofs.Sums.{sum_by-range-part}
+use Rattle.list_laws.proofs.Sums.{sum_by-range-part}
 use Rattle.search_model.proofs.Totals.{nothing_is_cut_off}
 use Rattle.belief_update.specs.Belief.{BeliefState, IsBelief}
 use Rattle.belief_update.proofs.BeliefSteps.{mass_at}

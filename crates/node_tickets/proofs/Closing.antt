@@ -11,7 +11,8 @@ use native.Mathlib.Decide.{dec_le}
 use mathlib.Core.Logic.{dite}
 use Rattle.node_tickets.specs.Seats.{TicketsView, SeatView, IsSeatOf, MayDraw, drawn_by, numbers_of}
 use Rattle.node_tickets.proofs.Views.{IsPermutation-same, IsPermutation-swap_last, All-left, All-right}
-use Rattle.node_tickets.proofs.Numbers.{low_of, low_range, range_below}
+use Rattle.node_tickets.proofs.Numbers.{low_of, low_range}
+use Rattle.list_laws.proofs.Ranges.{range_below}
 
 -- the last seat's numbers come last
 drawn_last : (rest : List SeatView) (seat : SeatView) → flat_map drawn_by (rest ++ seat ∷ []) ≡ flat_map drawn_by rest ++ seat.drawn

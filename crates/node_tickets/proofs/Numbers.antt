@@ -9,6 +9,7 @@ use Rattle.std.proofs.lemmas.List.Sums.{sum_by-cons, sum_by-append, sum_by_push}
 use native.Mathlib.Decide.{dec_le}
 use mathlib.Core.Logic.{dite}
 use Rattle.node_tickets.specs.Rule.{high_of}
+use Rattle.list_laws.proofs.Ranges.{range_more, range_below}
 
 -- how many of some numbers are below a limit
 abbrev pub low_of : ℕ → List ℕ → ℕ
@@ -55,14 +56,6 @@ high_none limit (x ∷ xs) h =
     let e : cond {A = ℕ} (leb limit x) 1 0 ≡ 0 = ap (λ (b : Bool). cond b 1 0) (lt-leb limit x (All-head (λ n. n < limit) x xs h)) in
     omega (arith, s, e, high_none limit xs (All-tail (λ n. n < limit) x xs h))
 
--- a range with one number more
-pub range_push : (n : ℕ) → range_with_len 0 (n + 1) ≡ range_with_len 0 n ++ n ∷ []
-range_push n = sym (map-id (range_with_len 0 (n + 1))) ∙ map-range_with_len_more (λ (x : ℕ). x) 0 n n (omega arith) ∙ ap (λ (l : List ℕ). l ++ n ∷ []) (map-id (range_with_len 0 n))
-
--- the numbers of a range are below its end
-pub range_below : (n : ℕ) → All (λ x. x < n) (range_with_len 0 n)
-range_below n k d h = omega (arith, length-range_with_len 0 n, get_or-range_with_len 0 n k d (omega (arith, length-range_with_len 0 n)))
-
 -- a range has as many numbers below a limit as the lesser of both
 pub low_range : (limit n : ℕ) → low_of limit (range_with_len 0 n) ≡ min limit n
 low_range limit zero = omega arith
@@ -71,7 +64,7 @@ low_range limit (suc n) = dite (dec_le limit n)
     (λ low. ap (low_of limit) longer ∙ low_push_yes limit (range_with_len 0 n) n (omega arith) ∙ (let r = low_range limit n in omega arith))
   where
     longer : range_with_len 0 (suc n) ≡ range_with_len 0 n ++ n ∷ []
-    longer = (let e : suc n ≡ n + 1 = omega arith in ap (range_with_len 0) e) ∙ range_push n
+    longer = (let e : suc n ≡ n + 1 = omega arith in ap (range_with_len 0) e) ∙ range_more n
 
 -- so it is as long as the limit at most, and the high numbers that it has
 pub range_length : (limit n : ℕ) → n ≤ limit + high_of limit (range_with_len 0 n)

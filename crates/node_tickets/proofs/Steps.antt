@@ -15,7 +15,8 @@ use Rattle.node_tickets.specs.declared.hand.Hand.{Hand}
 use Rattle.node_tickets.specs.Rule.{hand, high_of, IsCounted}
 use Rattle.node_tickets.specs.Seats.{ALL_SEATS}
 use Rattle.node_tickets.proofs.Views.{IsPermutation-same, All-at, All-flat_map_at, sum_by-set_at, flat_map-grown, flat_map-stays, flat_map-moved, flat_map-whole}
-use Rattle.node_tickets.proofs.Numbers.{high_append, high_push, high_none, range_push, range_below, range_length}
+use Rattle.node_tickets.proofs.Numbers.{high_append, high_push, high_none, range_length}
+use Rattle.list_laws.proofs.Ranges.{range_more, range_below}
 
 -- what the rule reads of a view
 abbrev weight : Hand → ℕ
@@ -73,7 +74,7 @@ draws limit slots id me low some_seat most s h homes at small =
         all = omega (arith, sum_by-set_at weight s.views id v w at, h.all);
         once = subst (λ (l : List ℕ). IsPermutation (flat_map numbers (set s.views id w)) (range_with_len 0 (slice_index l 0))) (sym words)
             (IsPermutation-trans _ _ _ (IsPermutation-sym _ _ (flat_map-grown numbers s.views id v w (n ∷ []) at refl))
-            (IsPermutation-trans _ _ _ (IsPermutation-append_left (n ∷ []) _ _ h.once) (IsPermutation-same _ _ (sym (range_push n)))));
+            (IsPermutation-trans _ _ _ (IsPermutation-append_left (n ∷ []) _ _ h.once) (IsPermutation-same _ _ (sym (range_more n)))));
         high = All-set (IsFewHigh limit) s.views id w (omega (arith, high_push limit v.drawn n, high_none limit v.drawn low)) h.high;
         spent = All-set IsSpent s.views id w (λ none. absurd (omega arith)) h.spent;
       },

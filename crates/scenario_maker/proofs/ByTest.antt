@@ -11,7 +11,7 @@ use Rattle.std.proofs.lemmas.Slice.Eq.{bytes_eq-Decides}
 use Rattle.drift_chain.specs.declared.part.DriftPart.{DriftPart}
 use Rattle.drift_chain.specs.DriftRows.{IsDriftRow}
 use Rattle.search_model.specs.Names.{IsName, is_name_byte, name_in, IsRepeated}
-use Rattle.search_model.proofs.Members.{Contains-nil, Contains-cons_cases}
+use Rattle.list_laws.proofs.Members.{Contains-nil, Contains-cons_cases}
 
 -- what passes a test
 pub All-by_test : {X : Type 0} (test : X → Bool) (P : X → Type 0) → ((x : X) → test x ≡ true → P x) → (xs : List X) → list_all test xs ≡ true → All P xs

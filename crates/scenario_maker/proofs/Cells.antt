@@ -13,19 +13,18 @@ use Rattle.drift_chain.specs.Faults.{parts_from}
 use Rattle.drift_chain.proofs.Drifts.{IsDrift-from_rows}
 use Rattle.search_grid.specs.Moves.{moves_from}
 use Rattle.search_model.specs.Names.{IsName, IsRepeated}
-use Rattle.scenario_maker.specs.Grids.{grid_name, grid_names, spread_row, spread_rows}
+use Rattle.search_model.specs.Grids.{grid_name, grid_names, spread_row, spread_rows}
 use Rattle.scenario_maker.proofs.ByTest.{All-by_test, is_drift_row, IsDriftRow-by_test, is_name, IsName-by_test, differ-apart}
 
 pub names_right : All IsName (grid_names 5 5)
-unfolding grid_name grid_names digits
+unfolding digits
 names_right = All-by_test is_name IsName IsName-by_test (grid_names 5 5) refl
 
 pub names_apart : (c : ℕ) → ¬ IsRepeated (grid_names 5 5) c
-unfolding grid_name grid_names digits
+unfolding digits
 names_apart = differ-apart (grid_names 5 5) refl
 
 pub length-grid_names : length (grid_names 5 5) ≡ 25
-unfolding grid_names
 length-grid_names = length-map-range_with_len (grid_name 5) 0 25
 
 -- a cell has five moves at most
@@ -38,7 +37,6 @@ unfolding side_moves
 length-side_moves = length-map-range_with_len (moves_beside 5 5) 0 25
 
 pub length-spread_rows : (part : ℕ) → length (spread_rows 12 part (side_moves 5 5)) ≡ 25
-unfolding spread_rows
 length-spread_rows part = length-map-range_with_len (λ c. spread_row 12 part c (moves_from (side_moves 5 5) c)) 0 (length (side_moves 5 5)) ∙ length-side_moves
 
 -- the moves of a position, where no row has more
@@ -66,15 +64,15 @@ rows_right part passes =
     IsDrift-from_rows 12 rows 25 (sym long) (omega arith, omega arith) (omega arith, omega arith) (λ c lt. all c [] (omega (arith, lt, long)))
 
 one_part : list_all (is_drift_row 12 25) (spread_rows 12 1 (side_moves 5 5)) ≡ true
-unfolding spread_rows spread_row side_moves moves_from
+unfolding spread_row side_moves moves_from
 one_part = refl
 
 two_parts : list_all (is_drift_row 12 25) (spread_rows 12 2 (side_moves 5 5)) ≡ true
-unfolding spread_rows spread_row side_moves moves_from
+unfolding spread_row side_moves moves_from
 two_parts = refl
 
 three_parts : list_all (is_drift_row 12 25) (spread_rows 12 3 (side_moves 5 5)) ≡ true
-unfolding spread_rows spread_row side_moves moves_from
+unfolding spread_row side_moves moves_from
 three_parts = refl
 
 -- a part of 1, 2 or 3 leaves each cell enough

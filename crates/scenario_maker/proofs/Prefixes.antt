@@ -8,9 +8,9 @@ use Rattle.std.proofs.lemmas.List.Elements.{All-weaker}
 use Rattle.search_grid.specs.Moves.{moves_from}
 use Rattle.search_model.specs.Legal.{Follows, IsLegal}
 use Rattle.search_model.specs.Order.{smaller}
-use Rattle.search_model.proofs.Members.{Contains-head, Contains-tail, Contains-map, Contains-flat_map}
+use Rattle.list_laws.proofs.Members.{Contains-head, Contains-tail, Contains-map, Contains-flat_map}
 use Rattle.search_model.proofs.Orders.{smaller_irreflexive}
-use Rattle.search_model.proofs.Sums.{sum_by-range-suc}
+use Rattle.list_laws.proofs.Sums.{sum_by-range-suc}
 use Rattle.scenario_maker.specs.Made.{made_problem}
 use Rattle.scenario_maker.specs.Laws.{powers_up_to, FewPrefixes, FewMadePrefixes}
 use Rattle.scenario_maker.proofs.Cells.{few_moves, row_few}

@@ -15,12 +15,13 @@ use Rattle.search_model.specs.Parts.{problem_of}
 use Rattle.search_model.specs.Faults.{HasFault}
 use Rattle.search_model.proofs.FaultLemmas
 use Rattle.scenario_maker.specs.Generator.{next, state_after}
-use Rattle.scenario_maker.specs.Grids.{grid_names, spread_rows}
+use Rattle.search_model.specs.Grids.{grid_names, spread_rows}
 use Rattle.scenario_maker.specs.Made.{start_of, part_cells, spread_of, overlook_of, counts_of, made_problem}
 use Rattle.scenario_maker.specs.Laws.{MadeIsProblem}
 use Rattle.scenario_maker.proofs.Draws.{draw_below-lt, All-draws, length-same_draws, start_is, part_cells_is, spread_is, overlook_is}
 use Rattle.scenario_maker.proofs.Counts.{length-counts_of, sum-counts_of}
 use Rattle.scenario_maker.proofs.Cells.{names_right, names_apart, length-grid_names, length-side_moves, length-spread_rows, drift_right}
+use Rattle.search_model.proofs.SameParts.{same_problem}
 
 start_within : (number : ℕ) → start_of number < 25
 start_within number = rw (start_is number) (draw_below-lt 25 number (omega arith))
@@ -82,22 +83,6 @@ no_fault parts right =
     right.first_total
     right.names_differ
     right.fits
-
--- problems that agree in each part are the same
-same_problem : (p q : Problem) → p.names ≡ q.names → p.cells ≡ q.cells → p.positions ≡ q.positions → p.horizon ≡ q.horizon → p.start ≡ q.start → p.total ≡ q.total → p.first ≡ q.first →
-    p.moves ≡ q.moves → p.drift ≡ q.drift → p.sweep ≡ q.sweep → p ≡ q
-same_problem p q names cells positions horizon start total first moves drift sweep = λ i. record {
-  names = names i;
-  cells = cells i;
-  positions = positions i;
-  horizon = horizon i;
-  start = start i;
-  total = total i;
-  first = first i;
-  moves = moves i;
-  drift = drift i;
-  sweep = sweep i;
-}
 
 -- a problem of these parts is the one that is made
 pub is_made : (number : ℕ) (p : Problem) → p.names ≡ grid_names 5 5 → p.cells ≡ drift_cells p.drift → p.positions ≡ length p.moves → p.horizon ≡ 8 → p.start ≡ start_of number → p.total ≡ 60 →

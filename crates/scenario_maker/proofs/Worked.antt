@@ -2,12 +2,12 @@
 use Rattle.std.proofs.Common.{refl}
 use Rattle.std.specs.Fmt.{digits}
 use Rattle.scenario_maker.specs.Generator.{next, draw_below, draws_below}
-use Rattle.scenario_maker.specs.Grids.{grid_name, grid_names}
+use Rattle.search_model.specs.Grids.{grid_name, grid_names}
 use Rattle.scenario_maker.specs.Made.{bounds, draws_of, start_of, part_cells, counts_of, spread_of, overlook_of}
 use Rattle.scenario_maker.specs.Worked.{WorkedDraws}
 
 pub worked_draws : WorkedDraws
-unfolding next draw_below draws_below bounds draws_of start_of part_cells counts_of spread_of overlook_of grid_name grid_names digits
+unfolding next draw_below draws_below bounds draws_of start_of part_cells counts_of spread_of overlook_of digits
 worked_draws = record {
   step = refl;
   shifted = refl;

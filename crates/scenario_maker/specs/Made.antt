@@ -6,7 +6,7 @@ use Rattle.drift_chain.specs.DriftRows.{drift_over}
 use Rattle.sweep_table.specs.LookParts.{parts_over}
 use Rattle.search_model.specs.Problem.{Problem}
 use Rattle.scenario_maker.specs.Generator.{draws_below}
-use Rattle.scenario_maker.specs.Grids.{grid_names, spread_rows}
+use Rattle.search_model.specs.Grids.{grid_names, spread_rows}
 
 -- the bounds of its draws in their order: of the start, of the cells of sixty parts, of the spread and of the overlook part
 unfoldable pub bounds : List ℕ

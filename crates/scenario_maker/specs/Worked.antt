@@ -1,7 +1,7 @@
 -- What is drawn for some numbers.
 use Rattle.std.specs.Prelude.{ℕ, ◌≡◌, ◌-◌, ◌/◌, ◌^◌, List, [], ◌∷◌, length, slice_index_or}
 use Rattle.scenario_maker.specs.Generator.{next}
-use Rattle.scenario_maker.specs.Grids.{grid_names}
+use Rattle.search_model.specs.Grids.{grid_names}
 use Rattle.scenario_maker.specs.Made.{draws_of, start_of, part_cells, counts_of, spread_of, overlook_of}
 
 -- the start, the first distribution, the spread and the overlook part of a number

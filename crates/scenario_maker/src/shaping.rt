@@ -4,7 +4,7 @@ ghost use Rattle.std.specs.Prelude.{◌≡◌, ◌≤◌, ◌<◌, ◌==◌, if�
 ghost use Rattle.search_grid.specs.Sides.{side_moves};
 ghost use Rattle.drift_chain.specs.DriftRows.{drift_over, IsDrift};
 ghost use Rattle.sweep_table.specs.LookParts.{parts_over};
-ghost use Rattle.scenario_maker.specs.Grids.{grid_name as grid_name_lem, grid_names as grid_names_lem, rest_of as rest_lem, spread_row as spread_row_lem, spread_rows as spread_rows_lem};
+ghost use Rattle.search_model.specs.Grids.{grid_name as grid_name_lem, grid_names as grid_names_lem, rest_of as rest_lem, spread_row as spread_row_lem, spread_rows as spread_rows_lem};
 
 use crate::sizes::{CELLS, DRIFT, LOOK, SIDE};
 use drift_chain::{Drift, DriftPart};
@@ -65,7 +65,7 @@ fn part_to(c: u8, rest: u32, part: u32, m: u8) -> u32
 }
 
 /// The drift row of cell `c` with these moves.
-#[tactic(auto, unfolding(crate::specs::Grids::spread_row))]
+#[tactic(auto, unfolding(search_model::specs::Grids::spread_row))]
 fn spread_row(alloc: Global, part: u32, c: u8, moves: &[u8]) -> Result<Vec<DriftPart>, AllocError>
     requires part { part ≤ 3 }
     requires some { 1 ≤ length moves.now }

@@ -12,17 +12,7 @@ use Rattle.search_grid.proofs.Grids.{same_grid}
 use Rattle.sweep_table.specs.LookParts.{LookParts}
 use Rattle.search_model.specs.Problem.{Problem}
 use Rattle.scenario_text.specs.Laws.{OneProblem}
-
--- problems of the same parts are the same
-abbrev made_of : List (List ℕ) → ℕ → ℕ → ℕ → ℕ → ℕ → List ℕ → List (List ℕ) → DriftRows → LookParts → Problem
-made_of names cells positions horizon start total first moves drift sweep =
-    record { names = names; cells = cells; positions = positions; horizon = horizon; start = start; total = total; first = first; moves = moves; drift = drift; sweep = sweep }
-
-same_parts : (p q : Problem) → p.names ≡ q.names → p.cells ≡ q.cells → p.positions ≡ q.positions → p.horizon ≡ q.horizon → p.start ≡ q.start → p.total ≡ q.total → p.first ≡ q.first → p.moves ≡ q.moves → p.drift ≡ q.drift → p.sweep ≡ q.sweep → p ≡ q
-same_parts p q names cells positions horizon start total first moves drift sweep =
-    let same : made_of p.names p.cells p.positions p.horizon p.start p.total p.first p.moves p.drift p.sweep ≡ made_of q.names q.cells q.positions q.horizon q.start q.total q.first q.moves q.drift q.sweep =
-    rw (names, cells, positions, horizon, start, total, first, moves, drift, sweep) refl in
-    same
+use Rattle.search_model.proofs.SameParts.{same_problem}
 
 -- rows with the moves of the same rows have the same moves
 moves_shared : (given xs ys : List (List ℕ)) → HasSameMoves given xs → HasSameMoves given ys → HasSameMoves xs ys
@@ -56,4 +46,4 @@ one_problem s p q g h =
     g.first c here ∙ sym (h.first c (omega (arith, cells)))) in
     let moves : q.moves ≡ p.moves = same_grid p.moves q.moves g.sound.grid h.sound.grid (moves_shared s.moves p.moves q.moves g.moves h.moves) in
     let drift : p.drift ≡ q.drift = same_rows p.drift.denominator q.drift.denominator p.drift.rows q.drift.rows (g.denominator ∙ sym h.denominator) g.sound.drift h.sound.drift (parts_shared s.parts p.drift.rows q.drift.rows g.parts h.parts) in
-    same_parts p q names cells (g.sound.positions ∙ cells ∙ sym h.sound.positions) (g.horizon ∙ sym h.horizon) (g.start ∙ sym h.start) (g.total ∙ sym h.total) firsts (sym moves) drift (g.sweep ∙ sym h.sweep)
+    same_problem p q names cells (g.sound.positions ∙ cells ∙ sym h.sound.positions) (g.horizon ∙ sym h.horizon) (g.start ∙ sym h.start) (g.total ∙ sym h.total) firsts (sym moves) drift (g.sweep ∙ sym h.sweep)

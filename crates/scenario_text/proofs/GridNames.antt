@@ -10,7 +10,7 @@ use Rattle.std.proofs.lemmas.List.Elements.{All-head, All-tail}
 use Rattle.std.proofs.lemmas.List.FromFn.{length-map-range_with_len, get_or-map-range_with_len}
 use Rattle.std.proofs.lemmas.Slice.Eq.{bytes_eq-Decides}
 use Rattle.exact_parts.proofs.Decimals.{All-decimal, decimal_tells}
-use Rattle.scenario_text.specs.Grids.{grid_name}
+use Rattle.search_model.specs.Grids.{grid_name}
 use Rattle.scenario_text.proofs.Ranges.{position-none}
 
 -- what stands before and behind the first byte that is no digit

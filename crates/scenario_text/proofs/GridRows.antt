@@ -20,7 +20,7 @@ use Rattle.scenario_text.specs.declared.kind.TextKind.TheVariants.{NotText, BadL
 use Rattle.scenario_text.specs.declared.pair.Pair.{Pair}
 use Rattle.scenario_text.specs.Lines.{fields_of}
 use Rattle.scenario_text.specs.Fields.{is_text_byte, says_nothing, is_word, is_bad, is_over, number_at, number_in, cell_named, has_double, are_pairs, pairs_of, pairs_fault, entries_of, total_of}
-use Rattle.scenario_text.specs.Grids.{grid_name, grid_names}
+use Rattle.search_model.specs.Grids.{grid_name, grid_names}
 use Rattle.scenario_text.specs.State.{State}
 use Rattle.scenario_text.specs.Reading.{with_cells, with_start, start_line, cells_line, unless_fault, with_first, first_line, has_moves, has_parts, has_overlook, with_moves, moves_line, unknown_after, with_parts_of, drift_line, with_overlook, overlook_line, spread_part, spread_line, rate_line, lacks_row, is_narrow, end_line, row_line, stage_line, line_at}
 use Rattle.scenario_text.specs.Sound.{IsSound}

@@ -14,7 +14,7 @@ use Rattle.search_model.specs.Names.{IsName, name_in}
 use Rattle.scenario_text.specs.declared.draft.Stage.{Stage}
 use Rattle.scenario_text.specs.declared.draft.Stage.TheVariants as due
 use Rattle.scenario_text.specs.Fields.{stands_in, has_double}
-use Rattle.scenario_text.specs.Grids.{spread_row, spread_rows}
+use Rattle.search_model.specs.Grids.{spread_row, spread_rows}
 use Rattle.scenario_text.specs.State.{State}
 use Rattle.scenario_text.specs.Reading.{stage_line}
 use Rattle.scenario_text.specs.Sound.{AreEntries, AreMoves, IsSound}

@@ -10,13 +10,7 @@ use Rattle.search_model.specs.Names.{name_in, IsRepeated}
 use Rattle.search_model.specs.Problem.{Problem, IsProblem, cell_name}
 use Rattle.scenario_text.specs.Fields.{cell_named}
 use Rattle.scenario_text.proofs.Ranges.{position-first, position-none}
-
--- two cells have two names
-names_apart : (names : List (List ℕ)) → ((c : ℕ) → ¬ IsRepeated names c) → (j k : ℕ) → j < k → k < length names → name_in names j ≡ name_in names k → ⊥
-names_apart names differ j k below within same =
-    let cut : length (take k names) ≡ k = length-take-le k names (omega arith) in
-    let at : get_or (take k names) j (name_in names k) ≡ get_or names j (name_in names k) = get_or-take k names j (name_in names k) below in
-    differ k (within, (j, omega arith, at ∙ get_or_default names j (name_in names k) [] (omega arith) ∙ same))
+use Rattle.search_model.proofs.NameLemmas.{names_apart}
 
 -- names of which none is repeated
 module _ (names : List (List ℕ)) (differ : (c : ℕ) → ¬ IsRepeated names c) where

@@ -13,7 +13,7 @@ use Rattle.scenario_text.specs.declared.draft.Stage.TheVariants.{Version, Horizo
 use Rattle.scenario_text.specs.declared.kind.TextKind.{TextKind}
 use Rattle.scenario_text.specs.declared.kind.TextKind.TheVariants.{BadLine}
 use Rattle.scenario_text.specs.Fields.{number_at, is_bad, is_over, number_in, is_word, cell_named, pairs_of, are_pairs, pairs_fault, total_of}
-use Rattle.scenario_text.specs.Grids.{grid_names}
+use Rattle.search_model.specs.Grids.{grid_names}
 use Rattle.scenario_text.specs.State.{State}
 use Rattle.scenario_text.specs.Reading.{version_line, with_horizon, horizon_line, with_parts, parts_line, with_name, cell_line, with_cells, with_grid, with_start, start_line, cells_line, unless_fault, with_first, first_pairs, first_line}
 use Rattle.scenario_text.specs.Sound.{place_of, IsSettled, AreEntries, AreMoves, IsPart, IsSound}

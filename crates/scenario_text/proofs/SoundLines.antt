@@ -13,7 +13,7 @@ use Rattle.scenario_text.specs.declared.draft.Stage.{Stage}
 use Rattle.scenario_text.specs.declared.draft.Stage.TheVariants.{Rows, Ended}
 use Rattle.scenario_text.specs.declared.kind.TextKind.TheVariants.{BadLine}
 use Rattle.scenario_text.specs.Fields.{number_at, is_bad, is_over, number_in, cell_named, has_double, pairs_of, are_pairs, pairs_fault, total_of}
-use Rattle.scenario_text.specs.Grids.{spread_rows}
+use Rattle.search_model.specs.Grids.{spread_rows}
 use Rattle.scenario_text.specs.State.{State}
 use Rattle.scenario_text.specs.Reading.{has_moves, has_parts, has_overlook, with_moves, moves_line, with_parts_of, drift_line, with_overlook, overlook_line, spread_part, spread_line, rate_line, lacks_row, is_narrow, end_line}
 use Rattle.scenario_text.specs.Sound.{AreEntries, AreMoves, IsPart, IsSound}

@@ -13,7 +13,7 @@ use Rattle.std.proofs.lemmas.List.FromFn.{length-map-range_with_len, get_or-map-
 use Rattle.std.proofs.lemmas.List.Sums.{list_all-from_AllPass}
 use Rattle.exact_parts.proofs.Decimals.{All-decimal, decimal_tells}
 use Rattle.search_model.specs.Names.{IsName, is_name_byte, name_in, IsRepeated}
-use Rattle.scenario_text.specs.Grids.{grid_name, grid_names}
+use Rattle.search_model.specs.Grids.{grid_name, grid_names}
 
 -- a name that isn't there repeats none
 pub differ_more : (names : List (List ℕ)) (name : List ℕ) → ((c : ℕ) → ¬ IsRepeated names c) → ¬ Contains names name → (c : ℕ) → ¬ IsRepeated (names ++ name ∷ []) c

@@ -11,9 +11,9 @@ use Rattle.std.proofs.lemmas.List.Sums.{sum_by-cons, count_by-le-length}
 use Rattle.drift_chain.specs.declared.part.DriftPart.{DriftPart}
 use Rattle.search_grid.specs.Moves.{moves_from, IsMoveRow}
 use Rattle.search_grid.specs.Sides.{is_beside, moves_beside, side_moves}
-use Rattle.search_grid.proofs.Ascending.{count_at-le}
+use Rattle.list_laws.proofs.Ascending.{count_at-le}
 use Rattle.search_grid.proofs.Beside.{IsGrid-from_sides, side_moves_from}
-use Rattle.scenario_text.specs.Grids.{rest_of, spread_row, spread_rows}
+use Rattle.search_model.specs.Grids.{rest_of, spread_row, spread_rows}
 use Rattle.scenario_text.specs.Sound.{AreEntries, AreMoves}
 use Rattle.scenario_text.proofs.SoundFields.{none_pass, sum_by-map}
 

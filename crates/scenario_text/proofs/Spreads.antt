@@ -10,7 +10,7 @@ use Rattle.std.proofs.lemmas.List.FromFn.{map-range_with_len_more}
 use Rattle.search_grid.specs.Moves.{moves_from}
 use Rattle.search_grid.proofs.MoveRows.{moves_from-map}
 use Rattle.drift_chain.specs.declared.part.DriftPart.{DriftPart}
-use Rattle.scenario_text.specs.Grids.{rest_of, spread_row}
+use Rattle.search_model.specs.Grids.{rest_of, spread_row}
 
 -- the entry of a move, and the entries that stand
 abbrev pub entry_to : ℕ → ℕ → ℕ → ℕ → DriftPart

@@ -5,7 +5,7 @@ use Rattle.std.specs.Fmt.{decimal}
 use Rattle.search_grid.specs.Moves.{moves_from}
 use Rattle.search_grid.specs.Sides.{moves_beside}
 use Rattle.scenario_text.specs.declared.draft.Stage.TheVariants as due
-use Rattle.scenario_text.specs.Grids.{grid_name, grid_names, spread_row}
+use Rattle.search_model.specs.Grids.{grid_name, grid_names, spread_row}
 use Rattle.scenario_text.specs.State.{State, blank_state}
 use Rattle.scenario_text.specs.Reading.{line_at}
 use Rattle.scenario_text.specs.Faults.{AreTaken}

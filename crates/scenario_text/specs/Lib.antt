@@ -2,7 +2,6 @@ pub mod Kinds
 pub mod Lines
 pub mod State
 pub mod Fields
-pub mod Grids
 pub mod Reading
 pub mod Sound
 pub mod Faults

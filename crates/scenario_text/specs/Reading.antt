@@ -13,7 +13,7 @@ use Rattle.scenario_text.specs.declared.kind.TextFault.{TextFault}
 use Rattle.scenario_text.specs.declared.pair.Pair.{Pair}
 use Rattle.scenario_text.specs.Lines.{lines_of, fields_of, after_lines, is_blank}
 use Rattle.scenario_text.specs.Fields.{is_text_byte, says_nothing, is_word, number_at, is_bad, is_over, number_in, cell_named, has_double, pairs_of, are_pairs, entries_of, total_of, pairs_fault}
-use Rattle.scenario_text.specs.Grids.{grid_names, spread_rows}
+use Rattle.search_model.specs.Grids.{grid_names, spread_rows}
 use Rattle.scenario_text.specs.State.{State, blank_state}
 
 -- `scenario 1`

@@ -3,7 +3,7 @@
 ghost use Rattle.std.specs.Prelude.{◌≡◌, ◌≤◌, ◌*◌, ◌-◌, ◌==◌, ◌++◌, ◌∷◌, [], nat_lt, if◌then◌else◌, map, filter, replicate, length, is_some, false, Ok, IfOk, OnOk};
 ghost use Rattle.std.specs.List.{list_any};
 ghost use Rattle.scenario_text.specs.Fields.{number_in as number_in_lem};
-ghost use Rattle.scenario_text.specs.Grids.{grid_name as grid_name_lem, grid_names as grid_names_lem, rest_of as rest_lem, spread_row as spread_row_lem, spread_rows as spread_rows_lem};
+ghost use Rattle.search_model.specs.Grids.{grid_name as grid_name_lem, grid_names as grid_names_lem, rest_of as rest_lem, spread_row as spread_row_lem, spread_rows as spread_rows_lem};
 ghost use Rattle.scenario_text.specs.State.{state_of};
 ghost use Rattle.scenario_text.specs.Sound.{IsSound};
 ghost use Rattle.scenario_text.specs.Gives.{TakesLine};

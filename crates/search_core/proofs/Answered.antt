@@ -7,7 +7,7 @@ use Rattle.std.specs.Result.{IsErrAnd, IsErrOf}
 use Rattle.search_model.specs.declared.standing.Standing.{Standing}
 use Rattle.search_model.specs.Problem.{Problem, IsProblem}
 use Rattle.search_model.specs.Legal.{IsLegal}
-use Rattle.search_model.proofs.Members.{Contains-head}
+use Rattle.list_laws.proofs.Members.{Contains-head}
 use Rattle.bound_tree.specs.declared.node.Kind.TheVariants.{Branch}
 use Rattle.bound_tree.specs.declared.node.TreeNode.{TreeNode}
 use Rattle.bound_tree.specs.Accepts.{prefixes_of}

@@ -6,10 +6,10 @@ use Rattle.std.proofs.lemmas.List.Elements.{All-contains}
 use Rattle.std.proofs.lemmas.Slice.Eq.{bytes_eq-Decides}
 use Rattle.std.proofs.lemmas.List.Kept.{AllPairs-from_increasing}
 use Rattle.search_grid.specs.Moves.{moves_from, IsGrid}
-use Rattle.search_grid.proofs.Ascending.{Ascends, Ascends-head, Ascends-tail}
+use Rattle.list_laws.proofs.Ascending.{Ascends, Ascends-head, Ascends-tail}
 use Rattle.search_model.specs.Problem.{Problem, IsProblem}
 use Rattle.search_model.specs.Legal.{last_of, moves_after}
-use Rattle.search_model.proofs.Members.{Contains-nil, Contains-map_cases}
+use Rattle.list_laws.proofs.Members.{Contains-nil, Contains-map_cases}
 use Rattle.bound_tree.specs.declared.node.Kind.{Kind}
 use Rattle.bound_tree.specs.declared.node.Kind.TheVariants.{Branch, Whole, Mean, Tangent}
 use Rattle.bound_tree.specs.declared.node.TreeNode.{TreeNode}

@@ -4,7 +4,7 @@ use Rattle.std.proofs.lemmas.List.Sorted.{IsPermutation-swap_remove, sum_by-IsPe
 use Rattle.std.proofs.lemmas.List.Recursion.{is_sum_by}
 use Rattle.std.proofs.lemmas.Slice.Eq.{bytes_eq-Decides}
 use Rattle.std.proofs.lemmas.Bool.{cond_both, cases_lt}
-use Rattle.search_model.proofs.Members.{Contains-head, Contains-tail, Contains-nil, Contains-cons_cases}
+use Rattle.list_laws.proofs.Members.{Contains-head, Contains-tail, Contains-nil, Contains-cons_cases}
 use Rattle.search_core.specs.Counts.{count_of, SameItems}
 
 pub count_of-append : (q : List ℕ) (xs ys : List (List ℕ)) → count_of q (xs ++ ys) ≡ count_of q xs + count_of q ys

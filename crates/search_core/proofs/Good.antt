@@ -7,7 +7,7 @@ use Rattle.search_model.specs.declared.standing.Standing.{Standing}
 use Rattle.search_model.specs.Problem.{Problem, IsProblem}
 use Rattle.search_model.specs.Legal.{IsLegal}
 use Rattle.search_model.specs.Order.{better}
-use Rattle.search_model.proofs.Members.{Contains-head, Contains-tail, Contains-nil, Contains-map, Contains-cons_cases, Contains-flat_map, Contains-flat_map_cases}
+use Rattle.list_laws.proofs.Members.{Contains-head, Contains-tail, Contains-nil, Contains-map, Contains-cons_cases, Contains-flat_map, Contains-flat_map_cases}
 use Rattle.bound_tree.specs.declared.node.Kind.{Kind}
 use Rattle.bound_tree.specs.declared.node.Kind.TheVariants.{Branch, Whole, Mean, Tangent}
 use Rattle.bound_tree.specs.declared.node.TreeNode.{TreeNode}

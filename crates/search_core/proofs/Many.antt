@@ -5,14 +5,14 @@ use Rattle.std.proofs.lemmas.List.Elements.{All-nil, All-cons, All-weaker}
 use Rattle.std.proofs.lemmas.List.Kept.{AllPairs-cons}
 use Rattle.std.proofs.lemmas.List.Sorted.{IsPermutation-refl, IsPermutation-sym, IsPermutation-cons, IsPermutation-middle, IsPermutation-trans, All-permutation, Contains-permutation, length_permutation}
 use Rattle.search_model.specs.Order.{smaller}
-use Rattle.search_model.proofs.Members.{Contains-head, Contains-tail}
+use Rattle.list_laws.proofs.Members.{Contains-head, Contains-tail}
 use Rattle.search_model.proofs.Orders.{smaller_total, smaller_trans}
 use Rattle.bound_tree.specs.Close.{IsLive}
 use Rattle.search_core.specs.Balance.{AreDistinct}
 use Rattle.search_core.specs.Laws.{DistinctLiveAreMany}
 use Rattle.search_core.proofs.Counts.{counted, count_of_here}
 
-abbrev IsAbove : List ℕ → List ℕ → Type 0
+abbrev pub IsAbove : List ℕ → List ℕ → Type 0
 IsAbove q r = smaller q r ≡ true
 
 abbrev Ascends : List (List ℕ) → Type 0

@@ -2,12 +2,12 @@
 use Rattle.std.proofs.Common.{◌≡◌, ℕ, suc, ◌+◌, ◌<◌, true, false, List, [], ◌∷◌, ◌++◌, map, inl, inr, sym, refl, ap, ◌∙◌, subst, arith, Contains, All, append_assoc, append-nil}
 use Rattle.std.proofs.lemmas.Bool.{cases_lt, true≢false}
 use Rattle.std.proofs.lemmas.List.Elements.{All-nil, All-cons, All-head, All-tail, All-append, All-contains, All-map, All-weaker}
-use Rattle.search_grid.proofs.Ascending.{Ascends-head, Ascends-tail}
+use Rattle.list_laws.proofs.Ascending.{Ascends-head, Ascends-tail}
 use Rattle.search_model.specs.declared.standing.Standing.{Standing}
 use Rattle.search_model.specs.Problem.{Problem, IsProblem}
 use Rattle.search_model.specs.Legal.{moves_after}
 use Rattle.search_model.specs.Order.{smaller}
-use Rattle.search_model.proofs.Members.{Contains-map, Contains-map_cases, Contains-cons_cases, Contains-flat_map_cases}
+use Rattle.list_laws.proofs.Members.{Contains-map, Contains-map_cases, Contains-cons_cases, Contains-flat_map_cases}
 use Rattle.search_model.proofs.Orders.{smaller_irreflexive, smaller_one_way, smaller_prefix, smaller_at}
 use Rattle.bound_tree.specs.declared.node.Kind.{Kind}
 use Rattle.bound_tree.specs.declared.node.Kind.TheVariants.{Branch, Whole, Mean, Tangent}

@@ -5,7 +5,7 @@ use Rattle.std.proofs.lemmas.List.Elements.{All-contains_itself, Contains-append
 use Rattle.search_model.specs.Problem.{Problem, IsProblem}
 use Rattle.search_model.specs.Legal.{IsLegal, moves_after}
 use Rattle.search_model.proofs.WalkLemmas.{follows-append}
-use Rattle.search_model.proofs.Members.{Contains-map, Contains-flat_map_cases}
+use Rattle.list_laws.proofs.Members.{Contains-map, Contains-flat_map_cases}
 use Rattle.bound_tree.specs.declared.node.Kind.TheVariants.{Branch}
 use Rattle.bound_tree.specs.declared.node.TreeNode.{TreeNode}
 use Rattle.bound_tree.specs.Accepts.{prefixes_of}

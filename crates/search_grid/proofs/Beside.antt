@@ -7,22 +7,17 @@ use Rattle.std.proofs.lemmas.List.FromFn.{length-range_with_len, get_or-range_wi
 use Rattle.std.proofs.lemmas.List.Kept.{AllPairs-from_increasing, IsStrictlyIncreasing-filter}
 use Rattle.std.proofs.lemmas.List.Sums.{length-filter, sum_by-cons}
 use Rattle.std.proofs.lemmas.List.{append-nil}
-use Rattle.std.proofs.lemmas.Bool.{false≢true, cases_eq, cases_lt, eq-eqb}
+use Rattle.std.proofs.lemmas.Bool.{false≢true, cases_eq, cases_lt, eq-eqb, and_parts}
 use Rattle.std.proofs.lemmas.Bool.Decides.{nat_tests}
 use Rattle.std.proofs.Math.Nat.{div-add-mod, mul-le-mul_left}
 use Rattle.search_grid.specs.Moves.{moves_from, IsMoveRow, IsGrid}
 use Rattle.search_grid.specs.Sides.{is_close, is_beside, moves_beside, side_moves, WorkedSides}
-use Rattle.search_grid.proofs.Ascending.{Ascends, count_at-le}
-
--- one number more
-range_more : (a n : ℕ) → range_with_len a (suc n) ≡ range_with_len a n ++ (a + n) ∷ []
-range_more a zero = ap (λ m. m ∷ []) (omega arith)
-range_more a (suc n) = ap (λ xs. a ∷ xs) (range_more (a + 1) n ∙ ap (λ m. range_with_len (a + 1) n ++ m ∷ []) (omega arith))
+use Rattle.list_laws.proofs.Ascending.{Ascends, count_at-le}
+use Rattle.list_laws.proofs.Ranges.{range_more, range_below}
 
 filter_more_of : (p : ℕ → Bool) (n : ℕ) → filter p (range_with_len 0 (n + 1)) ≡ filter p (range_with_len 0 n) ++ filter p (n ∷ [])
 filter_more_of p n =
-    let more : range_with_len 0 (suc n) ≡ range_with_len 0 n ++ n ∷ [] = range_more 0 n ∙ ap (λ m. range_with_len 0 n ++ m ∷ []) (omega arith) in
-    ap (λ m. filter p (range_with_len 0 m)) (add-one n) ∙ ap (filter p) more ∙ filter-append p (range_with_len 0 n) (n ∷ [])
+    ap (filter p) (range_more n) ∙ filter-append p (range_with_len 0 n) (n ∷ [])
 
 -- which the test keeps
 pub kept_more : (p : ℕ → Bool) (n : ℕ) (row : List ℕ) → p n ≡ true → row ≡ filter p (range_with_len 0 n) → row ++ n ∷ [] ≡ filter p (range_with_len 0 (n + 1))
@@ -78,10 +73,6 @@ close_cases m n is =
     both_le : (m n : ℕ) → is_close m n ≡ true → (m ≤ n + 1) × (n ≤ m + 1)
     both_le m n is = grind (arith, nat_tests)
 
-and_split : (a b : Bool) → (a && b) ≡ true → (a ≡ true) × (b ≡ true)
-and_split true b is = (refl, is)
-and_split false b is = absurd (false≢true is)
-
 or_split : (a b : Bool) → (a || b) ≡ true → (a ≡ true) ⊎ (b ≡ true)
 or_split true b is = inl refl
 or_split false b is = inr is
@@ -98,7 +89,7 @@ in_column k c d = c % k == d % k && is_close (c / k) (d / k)
 
 in_row_three : (k c : ℕ) → AtThree (in_row k c) c 1
 in_row_three k c d is =
-    let both = and_split (c / k == d / k) (is_close (c % k) (d % k)) is in
+    let both = and_parts (c / k == d / k) (is_close (c % k) (d % k)) is in
     let rows = ap (λ q. k * q) (same_number _ _ both.0) in
     let here = div-add-mod c k in
     let there = div-add-mod d k in
@@ -109,7 +100,7 @@ in_row_three k c d is =
 
 in_column_three : (k c : ℕ) → AtThree (in_column k c) c k
 in_column_three k c d is =
-    let both = and_split (c % k == d % k) (is_close (c / k) (d / k)) is in
+    let both = and_parts (c % k == d % k) (is_close (c / k) (d / k)) is in
     let columns = same_number _ _ both.0 in
     let here = div-add-mod c k in
     let there = div-add-mod d k in
@@ -143,9 +134,6 @@ range_rises : (n : ℕ) → IsStrictlyIncreasing (range_with_len 0 n)
 range_rises n k inside =
     let long = length-range_with_len 0 n in
     rw (get_or-range_with_len 0 n k 0 (omega arith), get_or-range_with_len 0 n (k + 1) 0 (omega (arith, long))) (omega arith)
-
-range_below : (n : ℕ) → All (λ d. d < n) (range_with_len 0 n)
-range_below n k d inside = let long = length-range_with_len 0 n in rw (get_or-range_with_len 0 n k d (omega (arith, long))) (omega (arith, long))
 
 -- the moves of a cell
 row_right : (n k c : ℕ) → c < n → IsMoveRow n (filter (is_beside k c) (range_with_len 0 n))

@@ -6,7 +6,7 @@ use Rattle.std.proofs.lemmas.List.Kept.{AllPairs-from_increasing}
 use Rattle.std.proofs.lemmas.List.Sorted.{Contains-permutation, IsPermutation-sym}
 use Rattle.search_grid.specs.Moves.{moves_from, IsMoveRow, IsGrid}
 use Rattle.search_grid.specs.Faults.{HasSameMoves}
-use Rattle.search_grid.proofs.Ascending.{same_ascending}
+use Rattle.list_laws.proofs.Ascending.{same_ascending}
 
 -- two right rows with the same moves are the same
 same_row : (n m : ℕ) (xs ys : List ℕ) → IsMoveRow n xs → IsMoveRow m ys → IsPermutation xs ys → xs ≡ ys

@@ -1,4 +1,3 @@
-pub mod Ascending
 pub mod Grids
 pub mod MoveRows
 pub mod NamedFaults

@@ -8,7 +8,7 @@ use Rattle.search_grid.specs.declared.faults.GridFault.{GridFault}
 use Rattle.search_grid.specs.declared.faults.GridFault.TheVariants.{CellCount, NoMove, TooManyMoves, OutOfRange, DoubleMove, NoMemory}
 use Rattle.search_grid.specs.Moves.{moves_from, IsMoveRow, IsGrid}
 use Rattle.search_grid.specs.Faults.{HasSameMoves, HasDouble, HasFault, IsNotAfter, IsFirstFault, IsFirstOfRow}
-use Rattle.search_grid.proofs.Ascending.{count_at-le}
+use Rattle.list_laws.proofs.Ascending.{count_at-le}
 
 -- the order of the moves in a row makes and mends no fault
 Any-permutation : (P : ℕ → Type 0) (xs ys : List ℕ) → IsPermutation xs ys → Any P xs → Any P ys

@@ -7,7 +7,7 @@ use Rattle.drift_chain.specs.DriftRows.{row_of, part_of}
 use Rattle.search_model.specs.Problem.{Problem, first_of, IsProblem}
 use Rattle.search_model.specs.Tracks.{tracks, steps_product, weight_of, miss_from, missed_weight, whole_weight}
 use Rattle.search_model.specs.Following.{look_factor, after_of}
-use Rattle.search_model.proofs.Sums.{sum_by-same, sum_by-times, sum_by-range-same, sum_by-range-le, sum_by-range-fewer}
+use Rattle.list_laws.proofs.Sums.{sum_by-same, sum_by-times, sum_by-range-same, sum_by-range-le, sum_by-range-fewer}
 use Rattle.search_model.proofs.DriftSums.{row_by_cells, steps_total, first_total}
 use Rattle.search_model.proofs.TrackSums.{one_track, sum_tracks-cons}
 

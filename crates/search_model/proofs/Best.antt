@@ -9,7 +9,7 @@ use Rattle.search_model.specs.Problem.{Problem}
 use Rattle.search_model.specs.Legal.{walks}
 use Rattle.search_model.specs.Order.{smaller, better, standing_of, IsBest}
 use Rattle.search_model.specs.Laws.{OneBest}
-use Rattle.search_model.proofs.Members.{Contains-some, list_all-contains}
+use Rattle.list_laws.proofs.Members.{Contains-some, list_all-contains}
 use Rattle.search_model.proofs.WalkLemmas.{some_walk, path_listed, listed_path}
 use Rattle.search_model.proofs.Orders.{better_order, better_total, better_one_way, same_or_differ, same_from_neither}
 

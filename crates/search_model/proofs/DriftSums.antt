@@ -7,7 +7,7 @@ use Rattle.std.proofs.lemmas.List.Elements.{recursion_from_All}
 use Rattle.drift_chain.specs.declared.part.DriftPart.{DriftPart}
 use Rattle.drift_chain.specs.DriftRows.{DriftRows, drift_cells, row_of, part_in, part_of, IsDrift}
 use Rattle.search_model.specs.Problem.{Problem, first_of, IsProblem}
-use Rattle.search_model.proofs.Sums.{sum_by-same, sum_by-none, sum_by-plus, sum_by-range-pick}
+use Rattle.list_laws.proofs.Sums.{sum_by-same, sum_by-none, sum_by-plus, sum_by-range-pick}
 
 by_cells : (n : ℕ) (f : ℕ → ℕ) (row : List DriftPart) → AllByRecursion (λ entry. entry.cell < n) row →
     sum_by (λ d. part_in row d * f d) (range_with_len 0 n) ≡ sum_by (λ entry. entry.part * f entry.cell) row

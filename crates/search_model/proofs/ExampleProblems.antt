@@ -10,7 +10,7 @@ use Rattle.search_model.specs.Names.{IsName, is_name_byte, name_in}
 use Rattle.search_model.specs.Problem.{IsProblem}
 use Rattle.search_model.specs.Worked.{goes_to, one_cell, two_cells, waiting_for, waiting_target, waiting_longer}
 use Rattle.search_model.proofs.NameLemmas.{below_more}
-use Rattle.search_model.proofs.Members.{Contains-nil, Contains-cons_cases}
+use Rattle.list_laws.proofs.Members.{Contains-nil, Contains-cons_cases}
 
 -- what holds of the first few numbers holds below them
 below_one : (P : ℕ → Type 0) → P 0 → (d : ℕ) → d < 1 → P d

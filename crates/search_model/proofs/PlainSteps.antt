@@ -10,7 +10,7 @@ use Rattle.drift_chain.specs.DriftRows.{row_of}
 use Rattle.search_model.specs.Problem.{Problem, first_of, IsProblem}
 use Rattle.search_model.specs.Legal.{Follows}
 use Rattle.search_model.specs.Following.{look_factor, after_of}
-use Rattle.search_model.proofs.Sums.{sum_by-range_more}
+use Rattle.list_laws.proofs.Sums.{sum_by-range_more}
 use Rattle.search_model.proofs.LegalLemmas.{move_within}
 use Rattle.search_model.proofs.After.{after_of-zero, after_of-by_row, after_of-le, look_factor-le}
 use Rattle.search_model.proofs.Totals.{powers_fit, after_entries-fit, missed_cells-fit}

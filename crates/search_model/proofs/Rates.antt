@@ -75,3 +75,10 @@ one_rate_of p rate sound is =
 
 pub one_rate_is_rate : OneRateIsRate
 one_rate_is_rate p rate sound = (rate_of p rate sound, one_rate_of p rate sound)
+
+-- a problem's look factors have one rate at most
+pub one_rate : (p : Problem) (r s : ℕ) → IsRate p r → IsRate p s → r ≡ s
+one_rate p r s first second =
+    let (t, a, c, from, to, position, cell, here) = first.reached in
+    let (u, b, d, begin, end, place, spot, there) = second.reached in
+    omega (arith, here, there, second.least t a c from to position cell, first.least u b d begin end place spot)

@@ -8,7 +8,7 @@ use Rattle.exact_parts.proofs.Widths.{le-times, part_fits, weight_fits}
 use Rattle.search_model.specs.Problem.{Problem, first_of, IsProblem}
 use Rattle.search_model.specs.Tracks.{tracks, steps_product, weight_of, missed_weight, whole_weight}
 use Rattle.search_model.specs.Laws.{WeightsSum, NothingCutOff}
-use Rattle.search_model.proofs.Sums.{sum_by-same, sum_by-times, sum_by-range-same, sum_by-range-fewer}
+use Rattle.list_laws.proofs.Sums.{sum_by-same, sum_by-times, sum_by-range-same, sum_by-range-fewer}
 use Rattle.search_model.proofs.DriftSums.{steps_total, first_total}
 use Rattle.search_model.proofs.TrackSums.{one_track, sum_tracks-cons}
 use Rattle.search_model.proofs.After.{after_of-cons, after_of-by_row, after_of-le, missed_weight-by_first, missed_part-le}

@@ -3,7 +3,7 @@ use Rattle.std.proofs.Common.{ℕ, zero, suc, ◌+◌, ◌≡◌, List, [], ◌�
 use Rattle.std.specs.List.{range_with_len}
 use Rattle.std.proofs.lemmas.List.{append-nil}
 use Rattle.search_model.specs.Tracks.{tracks}
-use Rattle.search_model.proofs.Sums.{sum_by-same, sum_by-map, sum_by-flat_map}
+use Rattle.list_laws.proofs.Sums.{sum_by-same, sum_by-map, sum_by-flat_map}
 
 -- there is one track of no cells
 pub one_track : (f : List ℕ → ℕ) (cells : ℕ) → sum_by f (tracks cells 0) ≡ f []

@@ -5,7 +5,7 @@ use Rattle.search_model.specs.Problem.{Problem}
 use Rattle.search_model.specs.Legal.{last_of, Follows, IsPath, walks}
 use Rattle.search_model.specs.Laws.{WalksFollow}
 use Rattle.search_model.proofs.LegalLemmas.{move_within}
-use Rattle.search_model.proofs.Members.{Contains-nil, Contains-head, Contains-cons_cases, Contains-map, Contains-map_cases, Contains-flat_map, Contains-flat_map_cases}
+use Rattle.list_laws.proofs.Members.{Contains-nil, Contains-head, Contains-cons_cases, Contains-map, Contains-map_cases, Contains-flat_map, Contains-flat_map_cases}
 
 -- what follows the moves is listed
 pub walk_listed : (rows : List (List ℕ)) (n a : ℕ) (y : List ℕ) → Follows rows a y → length y ≡ n → Contains (walks rows n a) y

@@ -4,7 +4,7 @@ use Rattle.std.proofs.lemmas.Bool.{cond_both}
 use Rattle.std.proofs.lemmas.List.Elements.{All-push, All-weaker, Contains-append_left, Contains-append_right}
 use Rattle.search_model.specs.declared.standing.Standing.{Standing}
 use Rattle.search_model.specs.Order.{better}
-use Rattle.search_model.proofs.Members.{Contains-head}
+use Rattle.list_laws.proofs.Members.{Contains-head}
 use Rattle.bound_tree.specs.Close.{IsAtLeast}
 use Rattle.bound_tree.proofs.Closing.{at_least_itself, at_least_trans, at_least_from}
 use Rattle.tree_gather.specs.Hauls.{IsBestOf}

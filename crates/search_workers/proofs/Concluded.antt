@@ -23,7 +23,7 @@ use Rattle.search_workers.specs.Desks.{DeskView, haul_at, IsInOrder}
 use Rattle.search_workers.specs.Settled.{closed_at, waiting_at, lasts_at, IsSettled, EndsSearch}
 use Rattle.search_workers.specs.Search.{reached_by, IfFull}
 use Rattle.search_workers.specs.Harvests.{EndsHarvest}
-use Rattle.search_workers.proofs.Crews.{flat_map-map, map-map}
+use Rattle.list_laws.proofs.Mapped.{flat_map-map, map-map}
 
 -- what the desks bring back, and the tasks left
 abbrev hauls_at : Standing → List (List ℕ) → List DeskView → List Haul

@@ -5,7 +5,7 @@ use Rattle.std.proofs.lemmas.List.Elements.{All-nil, All-cons, All-head, All-tai
 use Rattle.search_model.specs.declared.standing.Standing.{Standing}
 use Rattle.search_model.specs.Problem.{Problem, IsProblem}
 use Rattle.search_model.specs.Legal.{IsLegal}
-use Rattle.search_model.proofs.Members.{Contains-some}
+use Rattle.list_laws.proofs.Members.{Contains-some}
 use Rattle.bound_tree.specs.declared.node.TreeNode.{TreeNode}
 use Rattle.steal_pool.specs.Kits.{KitView, put_of, taken_of}
 use Rattle.steal_pool.specs.Pools.{EachAt, IsWhole}
@@ -25,15 +25,7 @@ use Rattle.search_workers.specs.Workers.{begun_by, haul_of, LeavesAs}
 use Rattle.search_workers.specs.Crew.{IsComplete, HasGone, LeaveTogether}
 use Rattle.search_workers.specs.Settled.{closed_at, waiting_at, IsSettled, LeaveDesks}
 use Rattle.search_workers.proofs.Settling.{all_legal}
-
--- changed twice, or once by both
-pub flat_map-map : {X Y Z : Type 0} (f : Y → List Z) (g : X → Y) (xs : List X) → flat_map f (map g xs) ≡ flat_map (λ x. f (g x)) xs
-flat_map-map f g [] = refl
-flat_map-map {X} {Y} {Z} f g (x ∷ xs) = ap (λ (zs : List Z). f (g x) ++ zs) (flat_map-map f g xs)
-
-pub map-map : {X Y Z : Type 0} (f : Y → Z) (g : X → Y) (xs : List X) → map f (map g xs) ≡ map (λ x. f (g x)) xs
-map-map f g [] = refl
-map-map {X} {Y} {Z} f g (x ∷ xs) = ap (λ (zs : List Z). f (g x) ∷ zs) (map-map f g xs)
+use Rattle.list_laws.proofs.Mapped.{map-map, flat_map-map}
 
 -- the workers at places from a later one on began with nothing
 others_began : (n : ℕ) (crew : List Member) → EachAt (map (λ m. m.worker.kit) crew) (λ i k. k.place ≡ suc (n + i)) → flat_map (λ m. begun_by m.worker.kit.place) crew ≡ []

@@ -4,7 +4,7 @@ use Rattle.std.proofs.lemmas.Bool.{cases_lt}
 use Rattle.std.proofs.lemmas.List.{length-reverse, get_or_append_left, get_or-append_right}
 use Rattle.std.proofs.lemmas.List.Elements.{All-push, All-append, All-weaker, All-contains, All-contains_itself, Contains-append_right}
 use Rattle.std.proofs.lemmas.List.Sorted.{IsPermutation-reverse, All-permutation}
-use Rattle.search_model.proofs.Members.{Contains-head, Contains-tail}
+use Rattle.list_laws.proofs.Members.{Contains-head, Contains-tail}
 use Rattle.search_core.specs.Counts.{count_of, SameItems}
 use Rattle.search_core.proofs.Counts.{count_of-append, SameItems-permutation}
 use Rattle.steal_pool.specs.Kits.{KitView, put_of, taken_of}

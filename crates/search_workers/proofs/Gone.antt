@@ -6,7 +6,7 @@ use Rattle.std.proofs.lemmas.List.Elements.{All-nil, All-cons, All-head, All-tai
 use Rattle.std.proofs.lemmas.List.Sums.{sum_by-cons}
 use Rattle.search_model.specs.declared.standing.Standing.{Standing}
 use Rattle.search_model.specs.Problem.{Problem}
-use Rattle.search_model.proofs.Sums.{sum_by-map}
+use Rattle.list_laws.proofs.Sums.{sum_by-map}
 use Rattle.steal_pool.specs.Kits.{KitView}
 use Rattle.steal_pool.proofs.Wholes.{KeepPlaces, whole_kept}
 use Rattle.node_tickets.specs.Seats.{TicketsView, SeatView as TicketView, IsSeatOf as IsTicketOf}

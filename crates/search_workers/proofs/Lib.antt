@@ -8,7 +8,6 @@ mod Limits
 pub mod Mustered
 mod Ready
 mod Recorded
-pub mod Rooms
 pub mod Settling
 mod Shared
 pub mod Standings

@@ -24,6 +24,7 @@ use Rattle.search_workers.proofs.Rooms.{few_moves}
 use Rattle.search_workers.proofs.Told.{Contains-last}
 use Rattle.search_workers.proofs.Balanced.{new_balanced, took_balanced, closed_balanced, expects_nothing}
 use Rattle.search_workers.proofs.Disposed.{waits, disposed_same, disposed_kit, all_wait, room_wait}
+use Rattle.search_model.proofs.Children.{child_is_legal}
 
 -- other prefixes wait at a desk in order
 pub order_with : (p : Problem) (first : Standing) (d : DeskView) (ws : List (List ℕ)) → IsInOrder p first d → HasRoom ws → IsInOrder p first (record d { waiting = ws })
@@ -38,13 +39,6 @@ order_with p first d ws order room = record {
   room = room;
   tables = order.tables;
   belief = order.belief;
-}
-
--- the children of a legal prefix are legal, and longer by one
-child_is_legal : (p : Problem) (q : List ℕ) (d : ℕ) → IsLegal p q → length q < p.horizon → Contains (moves_after p q) d → IsLegal p (q ++ d ∷ [])
-child_is_legal p q d legal short move = record {
-  follows = (follows-append p.moves p.start q (d ∷ [])).1 (legal.follows, (move, tt));
-  short = omega (arith, short, length-append q (d ∷ []));
 }
 
 pub legal_children : (p : Problem) (q : List ℕ) → IsLegal p q → length q < p.horizon → All (IsLegal p) (children_of p q)

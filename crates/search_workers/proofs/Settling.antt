@@ -26,6 +26,7 @@ use Rattle.search_workers.specs.Finish.{MayClose, WorksOff, EndsWork}
 use Rattle.search_workers.specs.Settled.{closed_at, waiting_at, IsSettled, LeaveDesks, EndsSearch}
 use Rattle.search_workers.proofs.Gone.{ticket_same, seat_same}
 use Rattle.search_workers.proofs.Worked.{even_from}
+use Rattle.list_laws.proofs.Halves.{All-front, All-back}
 
 -- what holds of all parts of each holds of the whole
 pub all_at : {X : Type 0} (P : X → Type 0) (f : DeskView → List X) (desks : List DeskView) → All (λ d. All P (f d)) desks → All P (flat_map f desks)
@@ -33,15 +34,9 @@ all_at P f [] each = All-nil P
 all_at P f (d ∷ ds) each = All-append P (f d) (flat_map f ds) (All-head (λ d. All P (f d)) d ds each) (all_at P f ds (All-tail (λ d. All P (f d)) d ds each))
 
 -- and the other way round
-all_left : {X : Type 0} (P : X → Type 0) (xs ys : List X) → All P (xs ++ ys) → All P xs
-all_left P xs ys all = All-weaker (Contains xs) P (λ x h. All-contains P (xs ++ ys) x all (Contains-append_left xs ys x h)) xs (All-contains_itself xs)
-
-all_right : {X : Type 0} (P : X → Type 0) (xs ys : List X) → All P (xs ++ ys) → All P ys
-all_right P xs ys all = All-weaker (Contains ys) P (λ x h. All-contains P (xs ++ ys) x all (Contains-append_right xs ys x h)) ys (All-contains_itself ys)
-
 pub each_at : {X : Type 0} (P : X → Type 0) (f : DeskView → List X) (desks : List DeskView) → All P (flat_map f desks) → All (λ d. All P (f d)) desks
 each_at P f [] all = All-nil (λ d. All P (f d))
-each_at P f (d ∷ ds) all = All-cons (λ d. All P (f d)) d ds (all_left P (f d) (flat_map f ds) all) (each_at P f ds (all_right P (f d) (flat_map f ds) all))
+each_at P f (d ∷ ds) all = All-cons (λ d. All P (f d)) d ds (All-front P (f d) (flat_map f ds) all) (each_at P f ds (All-back P (f d) (flat_map f ds) all))
 
 -- desks in order branch only where the first standing does
 pub lets_branch_at : (p : Problem) (first : Standing) (desks : List DeskView) → All (IsInOrder p first) desks → LetsBranch p first (closed_at desks)
@@ -55,9 +50,9 @@ pub all_legal : (p : Problem) (first : Standing) (tasks : List (List ℕ)) (desk
     MeetsEquation p [] (waiting_at tasks desks) (closed_at desks) → All (IsLegal p) tasks × All (λ d. All (IsLegal p) d.waiting) desks
 all_legal p first tasks desks sound order even =
     let live = (balanced_is_live p first [] (waiting_at tasks desks) (closed_at desks) sound even (lets_branch_at p first desks order)).1 in
-    let waiting = all_left (IsLive p first) (waiting_at tasks desks) (prefixes_of (closed_at desks)) live in
+    let waiting = All-front (IsLive p first) (waiting_at tasks desks) (prefixes_of (closed_at desks)) live in
     let legal = All-weaker (IsLive p first) (IsLegal p) (λ q l. l.legal) (waiting_at tasks desks) waiting in
-    (all_left (IsLegal p) tasks (flat_map (λ d. d.waiting) desks) legal, each_at (IsLegal p) (λ d. d.waiting) desks (all_right (IsLegal p) tasks (flat_map (λ d. d.waiting) desks) legal))
+    (All-front (IsLegal p) tasks (flat_map (λ d. d.waiting) desks) legal, each_at (IsLegal p) (λ d. d.waiting) desks (All-back (IsLegal p) tasks (flat_map (λ d. d.waiting) desks) legal))
 
 -- the first desk
 first_of : (P : DeskView → Type 0) (desks : List Desk) (d : Desk) → 0 < length desks → d ≡ get_or desks 0 d → All P (map desk_view desks) → P (desk_view d)

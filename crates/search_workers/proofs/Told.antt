@@ -2,13 +2,14 @@
 use Rattle.std.proofs.Common.{◌≡◌, List, [], ◌∷◌, ◌++◌, inl, inr, sym, subst, Contains}
 use Rattle.std.proofs.lemmas.List.Elements.{Contains-append_left, Contains-append_right, Contains-append_cases}
 use Rattle.search_model.specs.declared.standing.Standing.{Standing}
-use Rattle.search_model.proofs.Members.{Contains-head, Contains-tail}
+use Rattle.list_laws.proofs.Members.{Contains-head, Contains-tail}
 use Rattle.incumbent_board.specs.declared.offer.Offer.{Offer}
 use Rattle.incumbent_board.specs.declared.offer.Offer.TheVariants.{Placed, Behind}
 use Rattle.incumbent_board.specs.History.{last_of, last_from}
 use Rattle.incumbent_board.specs.Boards.{SeatView, offers_of}
 use Rattle.incumbent_board.specs.Offers.{OnPlaced, IfBehind}
 use Rattle.search_workers.specs.Incumbents.{WasTold, Looked}
+use Rattle.incumbent_board.proofs.Ends.{last_there}
 
 -- what was added last stands in a list
 pub Contains-last : {X : Type 0} (xs : List X) (x : X) → Contains (xs ++ x ∷ []) x
@@ -27,18 +28,13 @@ told_by_offer s old new (Behind b) placed behind = record {
       (Contains-append_right new.placed new.behind s (subst (λ xs. Contains xs s) (sym behind.1) (Contains-last old.behind s)));
 }
 
--- a history has its last standing
-last_among : (s : Standing) (later : List Standing) → Contains (s ∷ later) (last_from s later)
-last_among s [] = Contains-head s []
-last_among s (t ∷ later) = Contains-tail s (last_from t later) (t ∷ later) (last_among t later)
-
 -- and of what it was shown
 pub told_by_look : (first shown : Standing) (old new : SeatView) → Looked first old shown new → WasTold new shown
 told_by_look first shown old new looked =
     let h = looked.history.0 in
     record {
       among = Contains-append_left new.seen (offers_of new) shown
-          (subst (Contains new.seen) (sym looked.history.1) (subst (λ xs. Contains xs (last_of xs)) (sym h.begins) (last_among first h.later)));
+          (subst (Contains new.seen) (sym looked.history.1) (subst (λ xs. Contains xs (last_of xs)) (sym h.begins) (last_there first h.later)));
     }
 
 -- what a seat was told, it stays told

@@ -5,7 +5,7 @@ use Rattle.std.proofs.lemmas.List.FromFn.{get_or-map-range_with_len}
 use Rattle.search_model.specs.Problem.{Problem}
 use Rattle.search_model.specs.Tracks.{tracks}
 use Rattle.search_model.specs.Bounds.{factors_along}
-use Rattle.search_model.proofs.Sums.{sum_by-same}
+use Rattle.list_laws.proofs.Sums.{sum_by-same}
 use Rattle.belief_update.specs.Masses.{looked_along, mass_of}
 use Rattle.belief_update.specs.Belief.{BeliefState}
 use Rattle.belief_update.proofs.Looks.{looks_to-some}

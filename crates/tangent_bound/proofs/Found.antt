@@ -7,7 +7,7 @@ use Rattle.search_model.specs.Problem.{Problem, IsProblem}
 use Rattle.search_model.specs.Legal.{IsPath}
 use Rattle.search_model.specs.Tracks.{whole_weight}
 use Rattle.search_model.specs.Bounds.{gain_of}
-use Rattle.search_model.proofs.Sums.{sum_by-range-part}
+use Rattle.list_laws.proofs.Sums.{sum_by-range-part}
 use Rattle.search_model.proofs.Totals.{nothing_is_cut_off}
 use Rattle.belief_update.specs.Belief.{BeliefState}
 use Rattle.backward_mass.specs.Masses.{forward_of, backward_of}

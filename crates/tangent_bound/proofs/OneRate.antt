@@ -5,16 +5,6 @@ use Rattle.search_model.specs.Problem.{Problem, IsProblem}
 use Rattle.search_model.specs.Bounds.{IsRate}
 use Rattle.search_model.proofs.Rates.{one_rate_is_rate}
 
--- a rate is a factor that is reached, and so none is less
-not_less : (p : Problem) (rate other : ℕ) → IsRate p rate → IsRate p other → rate ≤ other
-not_less p rate other is reached =
-    let (t, a, c, first, last, position, cell, here) = reached.reached in
-    omega (arith, is.least t a c first last position cell, here)
-
--- there is no second one
-pub one_rate : (p : Problem) (rate other : ℕ) → IsRate p rate → IsRate p other → rate ≡ other
-one_rate p rate other is also = omega (arith, not_less p rate other is also, not_less p other rate also is)
-
 -- where there is a rate, it is found
 pub rate_found : (p : Problem) → IsProblem p → (rate : ℕ) × IsRate p rate → (found : Option ℕ) → IfNone found ((rate : ℕ) → IsOneRate p.sweep rate → ⊥) → IsSome found
 rate_found p sound (rate, is) None none = absurd (none rate ((one_rate_is_rate p rate sound).1 is))

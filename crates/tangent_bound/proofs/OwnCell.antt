@@ -3,8 +3,8 @@ use Rattle.std.proofs.Common.{ℕ, ◌*◌, ◌<◌, ◌≤◌, ◌≡◌, ◌==
 use Rattle.std.specs.List.{range_with_len}
 use Rattle.std.proofs.lemmas.Bool.{cases_eq, eq-eqb, ne_eqb, lt-ltb, le-ltb}
 use Rattle.sweep_table.specs.LookParts.{LookParts, factor_of}
-use Rattle.search_model.proofs.Sums.{sum_by-same, sum_by-range-pick}
-use Rattle.backward_mass.proofs.Filtered.{sum_by-filter}
+use Rattle.list_laws.proofs.Sums.{sum_by-same, sum_by-range-pick}
+use Rattle.list_laws.proofs.Sums.{sum_by-filter}
 
 -- 1 where a look finds something in a cell, else 0
 abbrev pub covers : LookParts → ℕ → ℕ → ℕ → ℕ

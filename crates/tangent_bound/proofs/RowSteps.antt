@@ -8,13 +8,6 @@ use Rattle.longest_walk.specs.Sums.{entry_at}
 use Rattle.longest_walk.proofs.Steps.{sum_along-cons}
 use Rattle.tangent_bound.specs.Gains.{IsGainRow, AreGains}
 
--- the place of a cell in a period is within the table
-pub place_within : (horizon cells t c : ℕ) → 1 ≤ t → t ≤ horizon → c < cells → (t - 1) * cells + c < horizon * cells
-place_within horizon cells zero c some last here = absurd (omega (arith, some))
-place_within horizon cells (suc n) c some last here =
-    let first : suc n - 1 ≡ n = omega arith in
-    rw first (omega (arith, mul-le-mul_right cells last, here))
-
 -- one number more of a row
 pub row_more : (xs : List ℕ) (here n v : ℕ) (f : ℕ → ℕ) → here + n < length xs → ((k : ℕ) → k < n → slice_index xs (here + k) ≡ f k) → v ≡ f n →
     (k : ℕ) → k < n + 1 → slice_index (slice_set xs (here + n) v) (here + k) ≡ f k

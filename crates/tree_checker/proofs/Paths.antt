@@ -7,7 +7,7 @@ use Rattle.std.proofs.lemmas.Slice.Eq.{slice_eq-Decides}
 use Rattle.search_grid.specs.Moves.{moves_from}
 use Rattle.search_model.specs.Problem.{Problem}
 use Rattle.search_model.specs.Legal.{Follows, IsLegal, IsPath}
-use Rattle.search_model.proofs.Members.{Contains-head, Contains-tail, Contains-nil, Contains-cons_cases}
+use Rattle.list_laws.proofs.Members.{Contains-head, Contains-tail, Contains-nil, Contains-cons_cases}
 use Rattle.tree_checker.specs.Reasons.{follows, is_path}
 
 found : (b : ℕ) (xs : List ℕ) → list_any (nat_eq b) xs ≡ true → Contains xs b

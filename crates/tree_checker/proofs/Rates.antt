@@ -6,11 +6,12 @@ use Rattle.std.proofs.lemmas.List.FromFn.{length-range_with_len, get_or-range_wi
 use Rattle.sweep_table.specs.LookParts.{factor_of, IsOneRate}
 use Rattle.search_model.specs.Problem.{Problem, IsProblem}
 use Rattle.search_model.specs.Bounds.{IsRate}
-use Rattle.search_model.proofs.Members.{Contains-head, Contains-tail, Contains-nil, Contains-cons_cases, Contains-map, Contains-map_cases, Contains-flat_map, Contains-flat_map_cases, list_all-contains}
+use Rattle.list_laws.proofs.Members.{Contains-head, Contains-tail, Contains-nil, Contains-cons_cases, Contains-map, Contains-map_cases, Contains-flat_map, Contains-flat_map_cases, list_all-contains}
 use Rattle.search_model.proofs.Rates.{one_rate_is_rate}
 use Rattle.bound_tree.proofs.Tangents.{one_rate}
 use Rattle.tree_checker.specs.Rate.{factors_of, is_rate_of, one_rate_of}
 use Rattle.tree_checker.specs.Laws.{FindsOneRate}
+use Rattle.list_laws.proofs.Ranges.{Contains-range, Contains-range_cases}
 
 found_step : (b : Bool) (y x : ℕ) (rest : Option ℕ) → cond b (Some y) rest ≡ Some x → ((b ≡ true) × (y ≡ x)) ⊎ (rest ≡ Some x)
 found_step true y x rest h = inl (refl, cc)
@@ -46,21 +47,13 @@ all_pass : (test : ℕ → Bool) (xs : List ℕ) → ((x : ℕ) → Contains xs 
 all_pass test [] each = refl
 all_pass test (x ∷ xs) each = and_from _ _ (each x (Contains-head x xs)) (all_pass test xs (λ y k. each y (Contains-tail x y xs k)))
 
-in_range : (a n k : ℕ) → k < n → Contains (range_with_len a n) (a + k)
-in_range a n k inside = (k, rw length-range_with_len inside, get_or-range_with_len a n k (a + k) inside)
-
-of_range : (a n x : ℕ) → Contains (range_with_len a n) x → (k : ℕ) × (k < n) × (x ≡ a + k)
-of_range a n x (k, inside, is) =
-    let below : k < n = rw length-range_with_len at inside in
-    (k, below, sym is ∙ get_or-range_with_len a n k x below)
-
 module _ (p : Problem) where
   -- the factor of each look stands among the factors
   has_factor : (t a c : ℕ) → 1 ≤ t → t ≤ p.horizon → a < p.positions → c < p.cells → Contains (factors_of p) (factor_of p.sweep t a c)
   has_factor t a c first last position cell =
-      let at : Contains (range_with_len 1 p.horizon) t = subst (Contains (range_with_len 1 p.horizon)) (omega (arith, first)) (in_range 1 p.horizon (t - 1) (omega (arith, first, last))) in
-      let row = Contains-map (factor_of p.sweep t a) (range_with_len 0 p.cells) c (subst (Contains (range_with_len 0 p.cells)) (omega arith) (in_range 0 p.cells c cell)) in
-      let place : Contains (range_with_len 0 p.positions) a = subst (Contains (range_with_len 0 p.positions)) (omega arith) (in_range 0 p.positions a position) in
+      let at : Contains (range_with_len 1 p.horizon) t = subst (Contains (range_with_len 1 p.horizon)) (omega (arith, first)) (Contains-range 1 p.horizon (t - 1) (omega (arith, first, last))) in
+      let row = Contains-map (factor_of p.sweep t a) (range_with_len 0 p.cells) c (subst (Contains (range_with_len 0 p.cells)) (omega arith) (Contains-range 0 p.cells c cell)) in
+      let place : Contains (range_with_len 0 p.positions) a = subst (Contains (range_with_len 0 p.positions)) (omega arith) (Contains-range 0 p.positions a position) in
       let from = Contains-flat_map (λ b. map (factor_of p.sweep t b) (range_with_len 0 p.cells)) (range_with_len 0 p.positions) a (factor_of p.sweep t a c) place row in
       Contains-flat_map (λ u. flat_map (λ b. map (factor_of p.sweep u b) (range_with_len 0 p.cells)) (range_with_len 0 p.positions)) (range_with_len 1 p.horizon) t (factor_of p.sweep t a c) at from
 
@@ -80,9 +73,9 @@ module _ (p : Problem) where
       let (t, at, row) = Contains-flat_map_cases (λ u. flat_map (λ b. map (factor_of p.sweep u b) (range_with_len 0 p.cells)) (range_with_len 0 p.positions)) (range_with_len 1 p.horizon) f h in
       let (a, place, entry) = Contains-flat_map_cases (λ b. map (factor_of p.sweep t b) (range_with_len 0 p.cells)) (range_with_len 0 p.positions) f row in
       let (c, cell, here) = Contains-map_cases (factor_of p.sweep t a) (range_with_len 0 p.cells) f entry in
-      let (i, below, t_is) = of_range 1 p.horizon t at in
-      let (j, within, a_is) = of_range 0 p.positions a place in
-      let (k, inside, c_is) = of_range 0 p.cells c cell in
+      let (i, below, t_is) = Contains-range_cases 1 p.horizon t at in
+      let (j, within, a_is) = Contains-range_cases 0 p.positions a place in
+      let (k, inside, c_is) = Contains-range_cases 0 p.cells c cell in
       record {
         t = t;
         a = a;

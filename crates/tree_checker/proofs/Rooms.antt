@@ -10,19 +10,7 @@ use Rattle.bound_tree.specs.declared.node.Kind.{Kind}
 use Rattle.bound_tree.specs.declared.node.Kind.TheVariants.{Branch, Whole, Mean, Tangent}
 use Rattle.bound_tree.specs.Accepts.{expected_by}
 use Rattle.tree_checker.specs.Room.{HasRoom}
-
--- a legal prefix has at most 64 moves
-pub few_moves : (p : Problem) (q : List ℕ) → IsProblem p → IsLegal p q → length (moves_after p q) ≤ 64
-few_moves p q sound legal =
-    let start = sound.start in
-    let positions = sound.grid_positions in
-    (sound.grid.each (last_of p.start q) (last_within p.moves sound.grid p.start (omega (arith, start, positions)) q legal.follows)).few
-
-child_is_legal : (p : Problem) (q : List ℕ) (d : ℕ) → IsLegal p q → length q < p.horizon → Contains (moves_after p q) d → IsLegal p (q ++ d ∷ [])
-child_is_legal p q d legal short move = record {
-  follows = (follows-append p.moves p.start q (d ∷ [])).1 (legal.follows, (move, tt));
-  short = omega (arith, short, length-append q (d ∷ []));
-}
+use Rattle.search_model.proofs.Children.{few_moves, child_is_legal}
 
 -- what a record at a legal prefix makes expected is legal
 pub legal_expected : (p : Problem) (q : List ℕ) (kind : Kind) → IsLegal p q → (kind ≡ Branch → length q < p.horizon) → All (IsLegal p) (expected_by p q kind)

@@ -12,19 +12,13 @@ use Rattle.search_model.specs.Names.{name_in, IsRepeated}
 use Rattle.search_model.specs.Problem.{Problem, IsProblem, position_name}
 use Rattle.tree_format.specs.Reading.{said, amount_in, place_in, position_named, all_of}
 use Rattle.tree_format.proofs.FieldSteps.{position-first}
+use Rattle.search_model.proofs.NameLemmas.{names_apart}
 
 pub amount_in-decimal : (n : ℕ) → n < 2 ^ 128 → amount_in (decimal n) ≡ Some n
 amount_in-decimal n small = ap said (number_at-decimal 340282366920938463463374607431768211455 n (omega arith) (omega arith))
 
 pub place_in-decimal : (p : Problem) → IsProblem p → (q : ℕ) → q < p.positions → place_in p (decimal q) ≡ Some q
 place_in-decimal p h q lt = ap said (number_at-decimal (p.positions - 1) q (omega arith) (omega (arith, h.cells.1, h.positions)))
-
--- two positions have two names
-names_apart : (names : List (List ℕ)) → ((c : ℕ) → ¬ IsRepeated names c) → (j k : ℕ) → j < k → k < length names → name_in names j ≡ name_in names k → ⊥
-names_apart names differ j k below within same =
-    let cut : length (take k names) ≡ k = length-take-le k names (omega arith) in
-    let at : get_or (take k names) j (name_in names k) ≡ get_or names j (name_in names k) = get_or-take k names j (name_in names k) below in
-    differ k (within, (j, omega arith, at ∙ get_or_default names j (name_in names k) [] (omega arith) ∙ same))
 
 pub position_named-name : (p : Problem) → IsProblem p → (q : ℕ) → q < p.positions → position_named p (position_name p q) ≡ Some q
 position_named-name p h q lt =

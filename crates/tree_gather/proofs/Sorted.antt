@@ -18,13 +18,11 @@ use Rattle.search_core.proofs.Counts.{count_of-append, count_of_here, SameItems-
 use Rattle.search_core.proofs.Reached.{distinct}
 use Rattle.search_core.proofs.Preorder.{balanced_is_accepted}
 use Rattle.tree_gather.specs.Gathered.{IsGathered, IsAcceptedWhereGood}
+use Rattle.search_core.proofs.Many.{IsAbove}
 
 -- no prefix is smaller than the one before it
 abbrev NeverFalls : List (List ℕ) → Type 0
 NeverFalls qs = (k : ℕ) (d : List ℕ) → k + 1 < length qs → smaller (get_or qs (k + 1) d) (get_or qs k d) ≡ false
-
-abbrev IsAbove : List ℕ → List ℕ → Type 0
-IsAbove q r = smaller q r ≡ true
 
 -- the first of distinct prefixes that never fall is smaller than the second, and so than all
 first_below : (q : List ℕ) (qs : List (List ℕ)) → NeverFalls (q ∷ qs) → AreDistinct (q ∷ qs) → AllPairs IsAbove qs → All (IsAbove q) qs

@@ -1,6 +1,6 @@
 use Rattle.std.proofs.Common.{◌*◌, ◌<◌, length, slice_index, arith, refl}
 use Rattle.drift_chain.specs.DriftRows.{part_of}
-use Rattle.search_model.proofs.Sums.{sum_by-range_more, sum_by-range-part}
+use Rattle.list_laws.proofs.Sums.{sum_by-range_more, sum_by-range-part}
 use Rattle.belief_update.proofs.steps.move_on.Goals as goal
 
 pub spread_some-requires-clause-fits : goal.spread_some-requires-clause-fits

@@ -1,6 +1,6 @@
 use Rattle.std.proofs.Common.{rules, sym}
 use Rattle.std.proofs.lemmas.List.Sorted.{answers_always}
-use Rattle.drift_chain.proofs.Ascending.{Ascends-from_keys, absent_from_search, found_from_search}
+use Rattle.list_laws.proofs.Ascending.{Ascends-from_keys, absent_from_search, found_from_search}
 use Rattle.drift_chain.proofs.Parts.{part_in-none, part_in-entry}
 use Rattle.drift_chain.proofs.chain.part_in_row.Goals as goal
 

@@ -1,6 +1,6 @@
 use Rattle.std.proofs.Common.{rules, ltb}
 use Rattle.std.proofs.lemmas.List.Sorted.{answers_always}
-use Rattle.drift_chain.proofs.Ascending.{double_or_keys_rise}
+use Rattle.list_laws.proofs.Ascending.{double_or_keys_rise}
 use Rattle.drift_chain.proofs.faults.has_double.Goals as goal
 
 pub returns : goal.returns

@@ -1,8 +1,8 @@
-use Rattle.std.proofs.Common.{◌≡◌, ◌∙◌, sym, ap}
+use Rattle.std.proofs.Common.{◌≡◌, ◌∙◌, sym, ap, arith}
 use Rattle.bound_tree.specs.Close.{IsTangent}
 use Rattle.bound_tree.specs.Cut.{is_cut, times}
 use Rattle.bound_tree.proofs.Tangents.{one_tangent, reference_extends}
-use Rattle.path_node.proofs.Cutting.{finer_fits}
+use Rattle.tangent_bound.proofs.Sizes.{finer_fits}
 use Rattle.path_node.proofs.node.close_by_tangent.Goals as goal
 use Rattle.path_node.proofs.node.close_by_tangent.Goals.{then-cuts, else-cuts}
 
@@ -10,7 +10,7 @@ pub bound-bound-requires-clause-path : goal.bound-bound-requires-clause-path
 bound-bound-requires-clause-path c = (reference_extends c.args.sc.now c.args.prefix.now c.cells-sound.ensures.sound c.requires.legal c.reference.new.to c.reference.ensures).path
 
 pub in_parts-finer-requires : goal.in_parts-finer-requires
-in_parts-finer-requires c = rw (c.denominator.ensures.value, c.sweep.ensures) (finer_fits c.args.sc.now c.args.standing.now c.cells-sound.ensures.sound c.requires.exact)
+in_parts-finer-requires c = rw (c.denominator.ensures.value, c.sweep.ensures) (finer_fits c.args.sc.now c.args.standing.now.value c.cells-sound.ensures.sound (omega (arith, c.requires.exact.value)))
 
 pub returns-clause-closed : goal.returns-clause-closed
 returns-clause-closed c =

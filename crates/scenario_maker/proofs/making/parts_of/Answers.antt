@@ -2,7 +2,7 @@ use Rattle.std.proofs.Common.{replicate, refl, ap, ◌∙◌, arith}
 use Rattle.drift_chain.specs.DriftRows.{drift_over}
 use Rattle.search_grid.specs.Sides.{side_moves}
 use Rattle.sweep_table.specs.LookParts.{parts_over}
-use Rattle.scenario_maker.specs.Grids.{spread_rows}
+use Rattle.search_model.specs.Grids.{spread_rows}
 use Rattle.scenario_maker.proofs.Problems.{spread_within, overlook_within, is_made}
 use Rattle.scenario_maker.proofs.making.parts_of.Goals as goal
 

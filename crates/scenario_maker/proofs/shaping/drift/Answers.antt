@@ -2,7 +2,7 @@ use Rattle.std.proofs.Common.{◌≤◌, length, ◌∙◌, ap, sym, subst, List
 use Rattle.std.specs.Prelude.{All}
 use Rattle.drift_chain.specs.declared.part.DriftPart.{DriftPart}
 use Rattle.drift_chain.specs.DriftRows.{drift_over, IsDrift}
-use Rattle.scenario_maker.specs.Grids.{spread_rows}
+use Rattle.search_model.specs.Grids.{spread_rows}
 use Rattle.scenario_maker.proofs.Cells.{few_moves, drift_right}
 use Rattle.scenario_maker.proofs.shaping.drift.Goals as goal
 

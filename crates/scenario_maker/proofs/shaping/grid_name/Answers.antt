@@ -1,8 +1,7 @@
 use Rattle.std.proofs.Common.{◌/◌, ◌%◌, ◌∙◌, arith, refl}
 use Rattle.std.proofs.lemmas.Fmt.{decimal_digit}
-use Rattle.scenario_maker.specs.Grids.{grid_name}
+use Rattle.search_model.specs.Grids.{grid_name}
 use Rattle.scenario_maker.proofs.shaping.grid_name.Goals as goal
 
 pub returns : goal.returns
-unfolding grid_name
 returns c = c.in-Some.ensures.some.0 ∙ rw (decimal_digit (c.args.c / 5) (omega arith), decimal_digit (c.args.c % 5) (omega arith)) refl

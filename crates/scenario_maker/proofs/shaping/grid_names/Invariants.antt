@@ -1,6 +1,6 @@
 use Rattle.std.proofs.Common.{◌≡◌, map}
 use Rattle.std.specs.List.{range_with_len}
-use Rattle.scenario_maker.specs.Grids.{grid_name}
+use Rattle.search_model.specs.Grids.{grid_name}
 use Rattle.scenario_maker.proofs.shaping.grid_names.Given as goal
 
 abbrev pub invariant-loop-c : goal.invariant-loop-c

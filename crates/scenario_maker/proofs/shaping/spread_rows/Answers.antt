@@ -4,7 +4,7 @@ use Rattle.std.proofs.lemmas.List.{map_push}
 use Rattle.std.proofs.lemmas.List.FromFn.{map-range_with_len_more}
 use Rattle.drift_chain.specs.declared.part.DriftPart.{DriftPart}
 use Rattle.search_grid.specs.Moves.{moves_from}
-use Rattle.scenario_maker.specs.Grids.{spread_row, spread_rows}
+use Rattle.search_model.specs.Grids.{spread_row, spread_rows}
 use Rattle.scenario_maker.proofs.Cells.{row_few}
 use Rattle.scenario_maker.proofs.shaping.spread_rows.Goals as goal
 
@@ -22,7 +22,6 @@ loop-c-preserved c =
     ap (map parts) c.in_ok-push.ensures.items ∙ map_push parts c.loop-c.rows.items c.in_ok-spread_row.field-0 ∙ (rw (before, own) refl) ∙ sym next
 
 pub returns : goal.returns
-unfolding spread_rows
 returns c =
     let all : c.loop-c.c ≡ length c.args.grid.now = omega arith in
     c.loop-c.invariant ∙ ap (λ n. map (λ k. spread_row 12 c.args.part k (moves_from c.args.grid.now k)) (range_with_len 0 n)) all

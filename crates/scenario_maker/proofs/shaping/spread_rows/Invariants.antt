@@ -1,7 +1,7 @@
 use Rattle.std.proofs.Common.{◌≡◌, map}
 use Rattle.std.specs.List.{range_with_len}
 use Rattle.search_grid.specs.Moves.{moves_from}
-use Rattle.scenario_maker.specs.Grids.{spread_row}
+use Rattle.search_model.specs.Grids.{spread_row}
 use Rattle.scenario_maker.proofs.shaping.spread_rows.Given as goal
 
 abbrev pub invariant-loop-c : goal.invariant-loop-c

@@ -2,7 +2,7 @@ use Rattle.std.proofs.Common.{refl, sym, ◌∙◌, arith, ap, map, ◌≡◌, B
 use Rattle.std.specs.List.{range_with_len}
 use Rattle.std.specs.Str.{bytes_eq}
 use Rattle.std.proofs.lemmas.List.FromFn.{map-range_with_len_more}
-use Rattle.scenario_text.specs.Grids.{grid_name}
+use Rattle.search_model.specs.Grids.{grid_name}
 use Rattle.scenario_text.proofs.Columns.{inserted_last}
 use Rattle.scenario_text.proofs.GridNames.{grid_name-new}
 use Rattle.scenario_text.proofs.shorthands.grid_names.Goals as goal

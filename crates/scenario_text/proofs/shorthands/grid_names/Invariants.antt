@@ -1,6 +1,6 @@
 use Rattle.std.proofs.Common.{◌≡◌, map}
 use Rattle.std.specs.List.{range_with_len}
-use Rattle.scenario_text.specs.Grids.{grid_name}
+use Rattle.search_model.specs.Grids.{grid_name}
 use Rattle.scenario_text.proofs.shorthands.grid_names.Given as goal
 
 abbrev pub invariant-loop-c : goal.invariant-loop-c

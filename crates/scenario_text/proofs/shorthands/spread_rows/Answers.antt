@@ -3,7 +3,7 @@ use Rattle.std.specs.List.{range_with_len}
 use Rattle.std.proofs.lemmas.List.{map_push}
 use Rattle.drift_chain.specs.declared.part.DriftPart.{DriftPart}
 use Rattle.search_grid.specs.Moves.{moves_from}
-use Rattle.scenario_text.specs.Grids.{spread_row}
+use Rattle.search_model.specs.Grids.{spread_row}
 use Rattle.scenario_text.proofs.Spreads.{spread_next}
 use Rattle.scenario_text.proofs.shorthands.spread_rows.Goals as goal
 

@@ -1,6 +1,6 @@
 use Rattle.std.proofs.Common.{rules, ltb}
 use Rattle.std.proofs.lemmas.List.Sorted.{answers_always}
-use Rattle.search_grid.proofs.Ascending.{double_or_ascends}
+use Rattle.list_laws.proofs.Ascending.{double_or_ascends}
 use Rattle.search_grid.proofs.faults.has_double.Goals as goal
 
 pub returns : goal.returns

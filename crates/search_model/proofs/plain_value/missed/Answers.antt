@@ -1,6 +1,6 @@
 use Rattle.std.proofs.Common.{ℕ, ◌≡◌, ◌+◌, ◌*◌, sum_by, ap, sym, refl, ◌∙◌, arith}
 use Rattle.std.specs.List.{range_with_len}
-use Rattle.search_model.proofs.Sums.{sum_by-range_more}
+use Rattle.list_laws.proofs.Sums.{sum_by-range_more}
 use Rattle.search_model.proofs.After.{missed_weight-by_first}
 use Rattle.search_model.proofs.PlainSteps.{first_term, first_fits}
 use Rattle.search_model.proofs.plain_value.missed.Goals as goal

@@ -13,6 +13,7 @@ use Rattle.std.proofs.lemmas.List.Elements.{All-head, All-tail, All-weaker, All-
 use Rattle.std.proofs.lemmas.List.Sums.{sum_by-cons}
 use borrow.Author.Tests.{ltb-true, ltb-false}
 use Rattle.std.specs.List.{IsAllAdjacentAnswer}
+use Rattle.list_laws.proofs.Members.{Contains-tail}
 
 -- each key is below all later ones
 abbrev pub Ascends : {X : Type 0} → (X → ℕ) → List X → Type 0
@@ -100,7 +101,7 @@ double-from_neighbours {X} key (x ∷ y ∷ ys) (suc k) d inside same =
     rw (sum_by-cons f x (y ∷ ys)) (omega (arith, double-from_neighbours key (y ∷ ys) k d (omega arith) same))
 
 -- whether a list whose keys don't fall ascends, or a key stands in it twice
-double_or_ascends : {X : Type 0} (key : X → ℕ) (xs : List X) (r : Bool) (d : X) → IsNonDecreasingBy key xs → IsAllAdjacentAnswer (λ x y b. b ≡ ltb (key x) (key y)) xs r →
+pub double_or_ascends : {X : Type 0} (key : X → ℕ) (xs : List X) (r : Bool) (d : X) → IsNonDecreasingBy key xs → IsAllAdjacentAnswer (λ x y b. b ≡ ltb (key x) (key y)) xs r →
     MatchBool (not r) ((q : ℕ) × (1 < count_by (λ y. key y == q) xs)) ((k : ℕ) → k + 1 < length xs → key (get_or xs k d) < key (get_or xs (k + 1) d))
 double_or_ascends key xs true d up below = λ k inside. ltb-true (key (get_or xs k d)) (key (get_or xs (k + 1) d)) (sym (below k d inside))
 double_or_ascends key xs false d up falls =
@@ -133,10 +134,7 @@ in_rest : {X : Type 0} (key : X → ℕ) (x y : X) (ys : List X) → key y < key
 in_rest key x y ys above zero inside is = let same = ap key is in absurd (omega (arith, above, same))
 in_rest key x y ys above (suc k) inside is = (k, omega arith, is)
 
--- what stands in the rest stands in the whole, and above the head
-in_whole : {X : Type 0} (x z : X) (xs : List X) → Contains xs z → Contains (x ∷ xs) z
-in_whole x z xs there = (suc there.0, omega (arith, there.1), there.2)
-
+-- what stands in the rest is above the head
 above_head : {X : Type 0} (key : X → ℕ) (x z : X) (xs : List X) → Ascends key (x ∷ xs) → Contains xs z → key x < key z
 above_head key x z xs up there = All-contains (λ y. key x < key y) xs z (Ascends-head key x xs up) there
 
@@ -155,6 +153,6 @@ same_ascending key (x ∷ xs) (y ∷ ys) up up' to fro =
     ] in
     let keys : key x ≡ key y = ap key head in
     let rest : xs ≡ ys = same_ascending key xs ys (Ascends-tail key x xs up) (Ascends-tail key y ys up')
-    (λ z here. let above = above_head key x z xs up here in let w = to z (in_whole x z xs here) in in_rest key z y ys (omega (arith, above, keys)) w.0 w.1 w.2)
-    (λ z here. let above = above_head key y z ys up' here in let w = fro z (in_whole y z ys here) in in_rest key z x xs (omega (arith, above, keys)) w.0 w.1 w.2) in
+    (λ z here. let above = above_head key x z xs up here in let w = to z (Contains-tail x z xs here) in in_rest key z y ys (omega (arith, above, keys)) w.0 w.1 w.2)
+    (λ z here. let above = above_head key y z ys up' here in let w = fro z (Contains-tail y z ys here) in in_rest key z x xs (omega (arith, above, keys)) w.0 w.1 w.2) in
     cc

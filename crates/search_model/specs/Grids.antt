@@ -6,11 +6,11 @@ use Rattle.drift_chain.specs.declared.part.DriftPart.{DriftPart}
 use Rattle.search_grid.specs.Moves.{moves_from}
 
 -- `r`, the row number, `c`, the column number
-unfoldable pub grid_name : ℕ → ℕ → List ℕ
+abbrev pub grid_name : ℕ → ℕ → List ℕ
 grid_name cols c = 114 ∷ (decimal (c / cols) ++ 99 ∷ decimal (c % cols))
 
 -- the names of a grid's cells, row by row
-unfoldable pub grid_names : ℕ → ℕ → List (List ℕ)
+abbrev pub grid_names : ℕ → ℕ → List (List ℕ)
 grid_names rows cols = map (grid_name cols) (range_with_len 0 (rows * cols))
 
 -- what stays in a cell of so many moves, one of them to itself, where each of the others takes the part
@@ -23,5 +23,5 @@ spread_row denominator part c moves =
     filter (λ e. nat_lt 0 e.part) (map (λ m. record { cell = m; part = if m == c then rest_of denominator part (length moves) else part }) moves)
 
 -- the drift rows of all cells
-unfoldable pub spread_rows : ℕ → ℕ → List (List ℕ) → List (List DriftPart)
+abbrev pub spread_rows : ℕ → ℕ → List (List ℕ) → List (List DriftPart)
 spread_rows denominator part moves = map (λ c. spread_row denominator part c (moves_from moves c)) (range_with_len 0 (length moves))

@@ -1,9 +1,10 @@
--- How many prefixes wait on a private stack, and which.
-use Rattle.std.proofs.Common.{ℕ, ◌≤◌, List, length, arith}
+-- The moves after a legal prefix, and the prefixes that they make.
+use Rattle.std.proofs.Common.{ℕ, ◌+◌, ◌<◌, ◌≤◌, List, [], ◌∷◌, ◌++◌, length, arith, Contains, length-append}
+use Rattle.search_grid.specs.Moves.{IsMoveRow}
 use Rattle.search_model.specs.Problem.{Problem, IsProblem}
 use Rattle.search_model.specs.Legal.{IsLegal, last_of, moves_after}
 use Rattle.search_model.proofs.LegalLemmas.{last_within}
-use Rattle.search_grid.specs.Moves.{IsMoveRow}
+use Rattle.search_model.proofs.WalkLemmas.{follows-append}
 
 -- the moves after a legal prefix
 row_after : (p : Problem) (q : List ℕ) → IsProblem p → IsLegal p q → IsMoveRow (length p.moves) (moves_after p q)
@@ -19,3 +20,10 @@ few_moves p q sound legal = (row_after p q sound legal).few
 -- there is one at least
 pub some_moves : (p : Problem) (q : List ℕ) → IsProblem p → IsLegal p q → 1 ≤ length (moves_after p q)
 some_moves p q sound legal = (row_after p q sound legal).some
+
+-- a legal prefix that isn't whole, with a move after it, is legal
+pub child_is_legal : (p : Problem) (q : List ℕ) (d : ℕ) → IsLegal p q → length q < p.horizon → Contains (moves_after p q) d → IsLegal p (q ++ d ∷ [])
+child_is_legal p q d legal short move = record {
+  follows = (follows-append p.moves p.start q (d ∷ [])).1 (legal.follows, (move, tt));
+  short = omega (arith, short, length-append q (d ∷ []));
+}

@@ -1,8 +1,11 @@
 -- Sums over lists and ranges.
-use Rattle.std.proofs.Common.{ℕ, zero, suc, ◌+◌, ◌*◌, ◌<◌, ◌≤◌, ◌≡◌, ◌==◌, true, false, if◌then◌else◌, List, [], ◌∷◌, ◌++◌, map, refl, sym, arith, sum_by, add-one, add-zero, zero-add, inl, inr}
+use Rattle.std.proofs.Common.{ℕ, zero, suc, ◌+◌, ◌*◌, ◌<◌, ◌≤◌, ◌≡◌, ◌==◌, ◌∙◌, Bool, true, false, cond, if◌then◌else◌, List, [], ◌∷◌, ◌++◌, map, refl, sym, arith, sum_by, filter, All, Contains, add-one, add-zero, zero-add, inl, inr}
 use Rattle.std.specs.List.{flat_map, range_with_len}
 use Rattle.std.proofs.lemmas.Bool.{cases_eq, eq-eqb, ne_eqb}
+use Rattle.std.proofs.lemmas.List.Elements.{All-head, All-tail}
 use Rattle.std.proofs.lemmas.List.Sums.{sum_by-cons, sum_by-append, sum_by_push}
+use Rattle.list_laws.proofs.Members.{Contains-head, Contains-tail}
+use Rattle.list_laws.proofs.Ranges.{range_with_len-suc}
 
 -- equal terms have equal sums
 pub sum_by-same : {X : Type 0} (f g : X → ℕ) (xs : List X) → ((x : X) → f x ≡ g x) → sum_by f xs ≡ sum_by g xs
@@ -43,13 +46,6 @@ sum_by-exchange f (x ∷ xs) ys =
     let parts = sum_by-plus (f x) (λ y. sum_by (λ x. f x y) xs) ys in
     let rest = sum_by-exchange f xs ys in
     omega (arith, head, split, parts, rest)
-
--- the numbers from a on, with the last one apart
-pub range_with_len-suc : (a n : ℕ) → range_with_len a (suc n) ≡ range_with_len a n ++ (a + n) ∷ []
-range_with_len-suc a zero = rw add-zero refl
-range_with_len-suc a (suc n) =
-    let e : a + 1 + n ≡ a + suc n = omega arith in
-    rw (range_with_len-suc (a + 1) n, e) refl
 
 -- a sum over one more number
 pub sum_by-range-suc : (f : ℕ → ℕ) (n : ℕ) → sum_by f (range_with_len 0 (suc n)) ≡ sum_by f (range_with_len 0 n) + f n
@@ -101,3 +97,27 @@ sum_by-range-pick (suc n) k v f h =
       | inl e ↦ let at : (k == n) ≡ true = eq-eqb k n e in rw (at, sum_by-range-miss n k v f (omega arith), e) (zero-add (v * f n))
       | inr ne ↦ let apart : (k == n) ≡ false = ne_eqb k n ne in rw (apart, sum_by-range-pick n k v f (omega arith)) (omega arith)
     ])
+
+-- a sum of larger terms is larger, where the terms of the list's elements are compared
+pub sum_by-within : {X : Type 0} (f g : X → ℕ) (xs : List X) → ((x : X) → Contains xs x → f x ≤ g x) → sum_by f xs ≤ sum_by g xs
+sum_by-within f g [] h = omega arith
+sum_by-within f g (x ∷ xs) h =
+    rw (sum_by-cons f x xs, sum_by-cons g x xs)
+    (omega (arith, h x (Contains-head x xs), sum_by-within f g xs (λ y k. h y (Contains-tail x y xs k))))
+
+-- equal terms of the list's elements have equal sums
+pub sum_by-same_all : {X : Type 0} (f g : X → ℕ) (xs : List X) → All (λ x. f x ≡ g x) xs → sum_by f xs ≡ sum_by g xs
+sum_by-same_all f g [] each = refl
+sum_by-same_all f g (x ∷ xs) each =
+    rw (sum_by-cons f x xs, sum_by-cons g x xs, All-head (λ x. f x ≡ g x) x xs each, sum_by-same_all f g xs (All-tail (λ x. f x ≡ g x) x xs each)) refl
+
+kept : {X : Type 0} (b : Bool) (f : X → ℕ) (x : X) (ys : List X) → sum_by f (cond b (x ∷ ys) ys) ≡ f x * (if b then 1 else 0) + sum_by f ys
+kept true f x ys = sum_by-cons f x ys ∙ omega arith
+kept false f x ys = omega arith
+
+-- the sum over the elements that pass a test counts each of them once, and the others not at all
+pub sum_by-filter : {X : Type 0} (test : X → Bool) (f : X → ℕ) (xs : List X) → sum_by f (filter test xs) ≡ sum_by (λ x. f x * (if test x then 1 else 0)) xs
+sum_by-filter test f [] = refl
+sum_by-filter test f (x ∷ xs) =
+    kept (test x) f x (filter test xs)
+    ∙ rw (sum_by-cons (λ y. f y * (if test y then 1 else 0)) x xs, sum_by-filter test f xs) refl
