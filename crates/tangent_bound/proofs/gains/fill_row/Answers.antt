@@ -1,6 +1,6 @@
 use Rattle.std.proofs.Common.{◌*◌, ◌-◌, ◌+◌, ◌<◌, ◌≡◌, length, ◌∙◌, arith}
 use Rattle.search_model.specs.Bounds.{gain_of}
-use Rattle.tangent_bound.proofs.RowSteps.{place_within, row_more, earlier_stays}
+use Rattle.tangent_bound.proofs.RowSteps.{row_more, earlier_stays, place_within}
 use Rattle.tangent_bound.proofs.gains.fill_row.Goals as goal
 
 -- the place of the next gain is in the table
