@@ -11,10 +11,11 @@ use Rattle.search_model.specs.Bounds.{reward_of, IsRate, tangent_of}
 use Rattle.search_model.proofs.LegalLemmas.{last_within}
 use Rattle.search_model.proofs.WalkLemmas.{listed_walk, follows-append}
 use Rattle.search_model.proofs.Best.{unbeaten}
-use Rattle.search_model.proofs.Rates.{one_rate_is_rate}
-use Rattle.longest_walk.proofs.LeastWalks.{one_least_best}
+use Rattle.search_model.proofs.Rates.{one_rate_is_rate, one_rate}
+use Rattle.search_model.proofs.LeastBest.{one_least_best}
 use Rattle.bound_tree.specs.Accepts.{Extends}
-use Rattle.bound_tree.specs.Close.{IsReference, IsTangent}
+use Rattle.bound_tree.specs.Close.{IsTangent}
+use Rattle.search_model.specs.Reference.{IsReference}
 
 -- without one rate a prefix has no tangent
 pub tangent_needs_rate : (p : Problem) (q : List ℕ) (b : ℕ) (whole : List ℕ) → ((rate : ℕ) → IsRate p rate → ⊥) → IsTangent p q b whole → ⊥

@@ -5,7 +5,8 @@ ghost use Rattle.std.specs.List.Sorted.{IsStrictlyIncreasing};
 ghost use Rattle.search_grid.specs.Moves.{moves_from};
 ghost use Rattle.search_model.specs.Bounds.{greatest};
 ghost use Rattle.search_model.specs.Order.{Starts};
-ghost use Rattle.longest_walk.specs.Sums.{entry_at, highest_sum, IsLeastBest};
+ghost use Rattle.longest_walk.specs.Sums.{entry_at, highest_sum};
+ghost use Rattle.search_model.specs.Reference.{IsLeastBest};
 ghost use Rattle.longest_walk.specs.Tables.{HasSums};
 ghost use Rattle.longest_walk.specs.Rows.{sums_at, IsLeastMove};
 

@@ -6,6 +6,8 @@ pub mod ExampleBounds
 pub mod ExampleProblems
 pub mod Examples
 pub mod FaultLemmas
+pub mod Greatest
+pub mod LeastBest
 pub mod LegalLemmas
 pub mod NameLemmas
 pub mod Orders

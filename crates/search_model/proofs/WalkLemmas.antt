@@ -5,7 +5,7 @@ use Rattle.search_model.specs.Problem.{Problem}
 use Rattle.search_model.specs.Legal.{last_of, Follows, IsPath, walks}
 use Rattle.search_model.specs.Laws.{WalksFollow}
 use Rattle.search_model.proofs.LegalLemmas.{move_within}
-use Rattle.list_laws.proofs.Members.{Contains-nil, Contains-head, Contains-cons_cases, Contains-map, Contains-map_cases, Contains-flat_map, Contains-flat_map_cases}
+use Rattle.list_laws.proofs.Members.{Contains-nil, Contains-head, Contains-some, Contains-cons_cases, Contains-map, Contains-map_cases, Contains-flat_map, Contains-flat_map_cases}
 
 -- what follows the moves is listed
 pub walk_listed : (rows : List (List ℕ)) (n a : ℕ) (y : List ℕ) → Follows rows a y → length y ≡ n → Contains (walks rows n a) y
@@ -41,6 +41,12 @@ some_walk rows grid (suc n) a here =
     let move : Contains (moves_from rows a) b = (0, omega (arith, (grid.each a here).some), Rattle.std.proofs.lemmas.List.get_or_default (moves_from rows a) 0 b 0 (omega (arith, (grid.each a here).some))) in
     let rest = some_walk rows grid n b (move_within rows grid a b here move) in
     (b ∷ rest.0, (move, rest.1), ap suc rest.2)
+
+-- so the list of them isn't empty
+pub some_walks : (rows : List (List ℕ)) → IsGrid rows → (n a : ℕ) → a < length rows → 0 < length (walks rows n a)
+some_walks rows grid n a here =
+    let walk = some_walk rows grid n a here in
+    Contains-some (walks rows n a) walk.0 (walk_listed rows n a walk.0 walk.1 walk.2)
 
 -- the paths are the walks of the horizon's length from the start
 pub path_listed : (p : Problem) (q : List ℕ) → IsPath p q → Contains (walks p.moves p.horizon p.start) q

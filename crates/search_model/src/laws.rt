@@ -1,6 +1,6 @@
-//! What the definitions say together.
+//! Laws over the definitions.
 
-ghost use Rattle.search_model.specs.Laws.{WeightsSum, NothingCutOff, WalksFollow, OneBest, OneRateIsRate};
+ghost use Rattle.search_model.specs.Laws.{WeightsSum, NothingCutOff, WalksFollow, OneBest, OneLeastBest, OneRateIsRate};
 
 /// The weights of all tracks sum to the total times the drift's denominators.
 pub fn weights_sum()
@@ -20,6 +20,11 @@ pub fn walks_follow()
 /// There is a best path, and no second one.
 pub fn one_best()
     ensures { OneBest }
+{}
+
+/// From each position there is one least walk of the greatest sum of rewards, and no second one.
+pub fn one_least_best()
+    ensures { OneLeastBest }
 {}
 
 /// `Sweep::one_rate` answers the rate of a scenario's look factors, and `None` where they have none.
