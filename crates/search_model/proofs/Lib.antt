@@ -1,5 +1,6 @@
 pub mod After
 pub mod Best
+pub mod BoundSizes
 pub mod Children
 pub mod DriftSums
 pub mod ExampleBounds

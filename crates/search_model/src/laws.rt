@@ -1,6 +1,6 @@
 //! Laws over the definitions.
 
-ghost use Rattle.search_model.specs.Laws.{WeightsSum, NothingCutOff, WalksFollow, OneBest, OneLeastBest, OneRateIsRate};
+ghost use Rattle.search_model.specs.Laws.{WeightsSum, NothingCutOff, WalksFollow, OneBest, OneLeastBest, OneRateIsRate, ContinuationsAre, MeanSize, TangentSize, NoTangentCutOff};
 
 /// The weights of all tracks sum to the total times the drift's denominators.
 pub fn weights_sum()
@@ -15,6 +15,23 @@ pub fn nothing_is_cut_off()
 /// The walks of a length are the lists of that length that follow the moves.
 pub fn walks_follow()
     ensures { WalksFollow }
+{}
+
+/// The continuations of a legal prefix are the lists that go on from it to a path.
+pub fn continuations_are()
+    ensures { ContinuationsAre }
+{}
+
+/// A mean bound is at most the whole weight, once for each period and once more, and a tangent bound at most so much times
+/// the look denominator.
+pub fn bound_sizes()
+    ensures mean { MeanSize }
+    ensures tangent { TangentSize }
+{}
+
+/// The sum that a tangent bound takes off is at most what it takes it off, so none is cut off at 0.
+pub fn no_tangent_is_cut_off()
+    ensures { NoTangentCutOff }
 {}
 
 /// There is a best path, and no second one.
