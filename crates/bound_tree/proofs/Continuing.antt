@@ -2,11 +2,11 @@
 use Rattle.std.proofs.Common.{ℕ, ◌-◌, ◌<◌, ◌≤◌, ◌≡◌, List, ◌++◌, map, length, drop, sym, ap, ◌∙◌, subst, arith, Contains, All, length-append}
 use Rattle.std.proofs.lemmas.List.{take-append-drop, length-drop}
 use Rattle.search_model.specs.Problem.{Problem, IsProblem}
-use Rattle.search_model.specs.Legal.{Follows, IsLegal, last_of, continuations}
+use Rattle.search_model.specs.Legal.{Follows, IsLegal, IsPath, last_of, continuations}
 use Rattle.search_model.specs.Bounds.{sum_along, greatest}
 use Rattle.search_model.proofs.LegalLemmas.{last_within}
 use Rattle.search_model.proofs.PlainSteps.{positions_follow}
-use Rattle.search_model.proofs.WalkLemmas.{walk_listed, follows-append}
+use Rattle.search_model.proofs.WalkLemmas.{follows-append, continuations_are}
 use Rattle.search_model.proofs.LeastBest.{sum_along-below}
 use Rattle.bound_tree.specs.Accepts.{Extends}
 
@@ -42,7 +42,7 @@ module _ (p : Problem) (q y : List ℕ) (x : Extends p q y) where
 
   -- the rest is a continuation of the prefix
   pub rest_listed : Contains (continuations p q) (rest_of q y)
-  rest_listed = walk_listed p.moves (p.horizon - length q) (last_of p.start q) (rest_of q y) follows_both.1 rest_size
+  rest_listed = (continuations_are p q (rest_of q y) front_legal).1 (subst (IsPath p) whole_is x.path)
 
   -- no sum along a rest is above the greatest over all continuations
   pub rest_below : (r : ℕ → ℕ → ℕ) (t : ℕ) → sum_along r t (rest_of q y) ≤ greatest (map (sum_along r t) (continuations p q))

@@ -1,4 +1,4 @@
-//! The tables.
+//! The tables of greatest sums.
 
 ghost use Rattle.std.specs.Prelude.{◌≡◌, ℕ, ◌+◌, ◌-◌, ◌*◌, ◌^◌, ◌<◌, ◌≤◌, List, length, drop, IfOk};
 ghost use Rattle.search_model.specs.Order.{Starts};

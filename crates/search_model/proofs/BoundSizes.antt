@@ -12,8 +12,8 @@ use Rattle.search_model.specs.Problem.{Problem, IsProblem}
 use Rattle.search_model.specs.Legal.{IsLegal, IsPath, last_of, continuations}
 use Rattle.search_model.specs.Tracks.{tracks, weight_of, miss_of, missed_weight, whole_weight, value_of}
 use Rattle.search_model.specs.Bounds.{factors_along, cell_in, reward_of, sum_along, greatest, gain_of}
-use Rattle.search_model.specs.Laws.{ContinuationsAre, MeanSize, TangentSize, NoTangentCutOff}
-use Rattle.search_model.proofs.WalkLemmas.{walk_listed, listed_walk, follows-append}
+use Rattle.search_model.specs.Laws.{MeanSize, TangentSize, NoTangentCutOff}
+use Rattle.search_model.proofs.WalkLemmas.{listed_walk, follows-append, continuations_are}
 use Rattle.search_model.proofs.Totals.{weights_sum, nothing_is_cut_off}
 use Rattle.search_model.proofs.Greatest.{greatest_below}
 use Rattle.search_model.proofs.LeastBest.{sum_along-below}
@@ -95,17 +95,6 @@ pub tangent_size : TangentSize
 tangent_size p rate q whole sound =
     let sums = sums-le p q (gain_of p rate whole) (p.sweep.denominator * whole_weight p) (length q + 1) (gain-le p sound rate whole) in
     within_parts p.sweep.denominator (whole_weight p) (value_of p whole) _ _ p.horizon (omega arith) sums
-
-pub continuations_are : ContinuationsAre
-continuations_are p q y legal =
-    let n : ℕ = p.horizon - length q in
-    let from : ℕ = last_of p.start q in
-    let both = follows-append p.moves p.start q y in (
-      (λ listed.
-          let known = listed_walk p.moves n from y listed in
-          record { follows = both.1 (legal.follows, known.0); whole = omega (arith, length-append q y, known.1, legal.short) }),
-      λ path. walk_listed p.moves n from y (both.0 path.follows).1 (omega (arith, length-append q y, path.whole)),
-    )
 
 -- the front of a path is legal
 front_legal : (p : Problem) (q rest : List ℕ) → IsPath p (q ++ rest) → IsLegal p q

@@ -1,9 +1,9 @@
 -- The walks from a position.
-use Rattle.std.proofs.Common.{ℕ, zero, suc, ◌<◌, ◌≡◌, ◌↔◌, List, [], ◌∷◌, ◌++◌, map, length, get_or, inl, inr, refl, ap, subst, arith, Contains}
+use Rattle.std.proofs.Common.{ℕ, zero, suc, ◌-◌, ◌<◌, ◌≡◌, ◌↔◌, List, [], ◌∷◌, ◌++◌, map, length, get_or, inl, inr, refl, ap, subst, arith, Contains, length-append}
 use Rattle.search_grid.specs.Moves.{moves_from, IsGrid}
 use Rattle.search_model.specs.Problem.{Problem}
 use Rattle.search_model.specs.Legal.{last_of, Follows, IsPath, walks}
-use Rattle.search_model.specs.Laws.{WalksFollow}
+use Rattle.search_model.specs.Laws.{WalksFollow, ContinuationsAre}
 use Rattle.search_model.proofs.LegalLemmas.{move_within}
 use Rattle.list_laws.proofs.Members.{Contains-nil, Contains-head, Contains-some, Contains-cons_cases, Contains-map, Contains-map_cases, Contains-flat_map, Contains-flat_map_cases}
 
@@ -61,3 +61,14 @@ follows-append rows a [] y = ((λ f. (tt, f)), λ f. f.1)
 follows-append rows a (b ∷ q) y =
     let rest = follows-append rows b q y in
     ((λ f. ((f.0, (rest.0 f.1).0), (rest.0 f.1).1)), λ f. (f.0.0, rest.1 (f.0.1, f.1)))
+
+pub continuations_are : ContinuationsAre
+continuations_are p q y legal =
+    let n : ℕ = p.horizon - length q in
+    let from : ℕ = last_of p.start q in
+    let both = follows-append p.moves p.start q y in (
+      (λ listed.
+          let known = listed_walk p.moves n from y listed in
+          record { follows = both.1 (legal.follows, known.0); whole = omega (arith, length-append q y, known.1, legal.short) }),
+      λ path. walk_listed p.moves n from y (both.0 path.follows).1 (omega (arith, length-append q y, path.whole)),
+    )

@@ -1,4 +1,4 @@
-use Rattle.search_model.proofs.BoundSizes.{continuations_are}
+use Rattle.search_model.proofs.WalkLemmas.{continuations_are}
 use Rattle.search_model.proofs.laws.continuations_are.Goals as goal
 
 pub returns : goal.returns
