@@ -1,9 +1,9 @@
 -- Accepted records leave no path that is better than the plan's.
-use Rattle.std.proofs.Common.{◌≡◌, ℕ, ◌+◌, ◌*◌, ◌<◌, ◌≤◌, true, false, ltb-true, eqb-true, inl, inr, ap, List, [], ◌∷◌, ◌++◌, length, take, sym, refl, ◌∙◌, subst, arith, Contains, All}
+use Rattle.std.proofs.Common.{◌≡◌, ℕ, ◌*◌, ◌<◌, ◌≤◌, true, false, ltb-true, eqb-true, inl, inr, ap, List, [], ◌∷◌, ◌++◌, length, take, sym, refl, ◌∙◌, subst, arith, Contains, All}
 use Rattle.std.proofs.Math.Nat.{le_of_mul-le-mul_left}
 use Rattle.std.proofs.lemmas.Bool.{or_cases, and_parts}
 use Rattle.std.proofs.lemmas.List.Elements.{All-nil, All-cons, All-head, All-contains}
-use Rattle.std.proofs.lemmas.List.{take_all, get_or_append_left, get_or-append-add, length-append}
+use Rattle.std.proofs.lemmas.List.{take_all}
 use Rattle.search_grid.specs.Moves.{moves_from}
 use Rattle.search_model.specs.declared.standing.Standing.{Standing}
 use Rattle.search_model.specs.Problem.{Problem, IsProblem}

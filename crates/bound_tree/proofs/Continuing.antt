@@ -1,16 +1,14 @@
 -- Paths that extend a prefix: what is left of them is a continuation.
-use Rattle.std.proofs.Common.{ℕ, ◌-◌, ◌<◌, ◌≤◌, ◌≡◌, List, [], ◌∷◌, ◌++◌, map, length, drop, inl, inr, sym, ap, ◌∙◌, subst, arith, Contains, All, length-append}
-use Rattle.std.proofs.Math.Nat.{le-max_left, le-max_right}
+use Rattle.std.proofs.Common.{ℕ, ◌-◌, ◌<◌, ◌≤◌, ◌≡◌, List, ◌++◌, map, length, drop, sym, ap, ◌∙◌, subst, arith, Contains, All, length-append}
 use Rattle.std.proofs.lemmas.List.{take-append-drop, length-drop}
 use Rattle.search_model.specs.Problem.{Problem, IsProblem}
-use Rattle.search_model.specs.Legal.{Follows, IsLegal, last_of, continuations}
+use Rattle.search_model.specs.Legal.{Follows, IsLegal, IsPath, last_of, continuations}
 use Rattle.search_model.specs.Bounds.{sum_along, greatest}
 use Rattle.search_model.proofs.LegalLemmas.{last_within}
-use Rattle.list_laws.proofs.Members.{Contains-nil, Contains-cons_cases, Contains-map}
 use Rattle.search_model.proofs.PlainSteps.{positions_follow}
-use Rattle.search_model.proofs.WalkLemmas.{walk_listed, follows-append}
+use Rattle.search_model.proofs.WalkLemmas.{follows-append, continuations_are}
+use Rattle.search_model.proofs.LeastBest.{sum_along-below}
 use Rattle.bound_tree.specs.Accepts.{Extends}
-use Rattle.longest_walk.proofs.Greatest.{greatest_above}
 
 -- what is left of a path after the prefix
 abbrev pub rest_of : List ℕ → List ℕ → List ℕ
@@ -44,8 +42,8 @@ module _ (p : Problem) (q y : List ℕ) (x : Extends p q y) where
 
   -- the rest is a continuation of the prefix
   pub rest_listed : Contains (continuations p q) (rest_of q y)
-  rest_listed = walk_listed p.moves (p.horizon - length q) (last_of p.start q) (rest_of q y) follows_both.1 rest_size
+  rest_listed = (continuations_are p q (rest_of q y) front_legal).1 (subst (IsPath p) whole_is x.path)
 
   -- no sum along a rest is above the greatest over all continuations
   pub rest_below : (r : ℕ → ℕ → ℕ) (t : ℕ) → sum_along r t (rest_of q y) ≤ greatest (map (sum_along r t) (continuations p q))
-  rest_below r t = greatest_above _ _ (Contains-map (sum_along r t) (continuations p q) (rest_of q y) rest_listed)
+  rest_below r t = sum_along-below p.moves r (p.horizon - length q) t (last_of p.start q) (rest_of q y) rest_listed

@@ -24,7 +24,7 @@ one_more_look g f r n m s e h =
     let a = mul-le-mul_left f (subst (λ z. n * z ≤ z * m + s * n) (sym e) h) in
     subst (λ z. (n * z) * z ≤ z * (f * m) + (r + s) * (n * z)) e (omega (arith, a))
 
--- a track u, x, of which the looks begin in the period after u
+-- a track u, x, whose looks start in the period after u
 looks_together : (p : Problem) → IsProblem p → (z x u : List ℕ) (t : ℕ) → length x ≡ length z → t ≡ length u + 1 →
     p.sweep.denominator ^ length z * p.sweep.denominator ≤ p.sweep.denominator * miss_from p t z x + found_along p t z (u ++ x) * p.sweep.denominator ^ length z
 unfolding miss_from

@@ -1,8 +1,7 @@
 -- The tangent bound: what looks at one rate miss is convex, track by track and so in their sum.
-use Rattle.std.proofs.Common.{ℕ, suc, ◌+◌, ◌*◌, ◌-◌, ◌<◌, ◌≤◌, ◌≡◌, Bool, true, false, if◌then◌else◌, cond, nat_lt, List, [], ◌∷◌, ◌++◌, length, take, drop, filter, refl, sym, ap, ◌∙◌, arith, sum_by, All, append_assoc, length-append, mul-le-mul_left}
+use Rattle.std.proofs.Common.{ℕ, suc, ◌+◌, ◌*◌, ◌-◌, ◌<◌, ◌≤◌, ◌≡◌, Bool, if◌then◌else◌, nat_lt, List, [], ◌∷◌, ◌++◌, length, take, drop, refl, sym, ap, ◌∙◌, arith, sum_by, All, append_assoc, length-append, mul-le-mul_left}
 use Rattle.std.proofs.Math.Nat.{pow-zero}
 use Rattle.std.proofs.lemmas.List.{take-append-drop, length-drop, length-take-le}
-use Rattle.std.proofs.lemmas.List.Sums.{sum_by-cons}
 use Rattle.std.proofs.lemmas.List.Elements.{All-head, All-tail, All-drop}
 use Rattle.sweep_table.specs.LookParts.{factor_of}
 use Rattle.search_model.specs.Problem.{Problem, IsProblem}
@@ -28,7 +27,7 @@ rate_within p rate sound is =
     let (t, a, c, first, last, from, to, here) = is.reached in
     omega (arith, sound.sweep.within t a c, here)
 
--- what looks at one rate miss of a track u, x depends on how many cover it; the looks begin in the period after u
+-- what looks at one rate miss of a track u, x depends on how many cover it; the looks start in the period after u
 looks_counted : (p : Problem) (rate : ℕ) → IsProblem p → IsRate p rate → (z x u : List ℕ) (t : ℕ) → length x ≡ length z → t ≡ length u + 1 → t + length z ≤ suc p.horizon →
     All (λ a. a < p.positions) z → All (λ c. c < p.cells) x →
     (covers_along p t z (u ++ x) ≤ length z) × (miss_from p t z x ≡ missed_by p.sweep.denominator rate (length z) (covers_along p t z (u ++ x)))

@@ -1,5 +1,5 @@
 -- A prefix's tangent bound: there is at most one, and whether there is one is decided by the look factors.
-use Rattle.std.proofs.Common.{◌≡◌, ◌⊎◌, ℕ, ◌+◌, ◌-◌, ◌<◌, ◌≤◌, List, [], ◌∷◌, ◌++◌, length, inl, inr, sym, refl, ap, ◌∙◌, subst, arith, ltb, ltb-false, All, Contains, length-append}
+use Rattle.std.proofs.Common.{◌≡◌, ◌⊎◌, ℕ, ◌+◌, ◌-◌, ◌<◌, ◌≤◌, List, [], ◌∷◌, ◌++◌, length, inl, inr, sym, refl, ap, ◌∙◌, subst, arith, ltb, ltb-false, All, Contains}
 use Rattle.std.proofs.lemmas.Bool.{cases_eq}
 use Rattle.std.proofs.lemmas.List.{take_at, get_or_default}
 use Rattle.std.proofs.lemmas.List.Elements.{All-nil, All-cons, All-head, All-tail, All-contains}
@@ -9,12 +9,14 @@ use Rattle.search_model.specs.Problem.{Problem, IsProblem}
 use Rattle.search_model.specs.Legal.{IsLegal, last_of}
 use Rattle.search_model.specs.Bounds.{reward_of, IsRate, tangent_of}
 use Rattle.search_model.proofs.LegalLemmas.{last_within}
-use Rattle.search_model.proofs.WalkLemmas.{listed_walk, follows-append}
+use Rattle.search_model.proofs.WalkLemmas.{continuations_are}
 use Rattle.search_model.proofs.Best.{unbeaten}
 use Rattle.search_model.proofs.Rates.{one_rate, one_rate_is_rate}
 use Rattle.longest_walk.proofs.LeastWalks.{one_least_best}
+use Rattle.search_model.proofs.LeastBest.{one_least_best}
 use Rattle.bound_tree.specs.Accepts.{Extends}
-use Rattle.bound_tree.specs.Close.{IsReference, IsTangent}
+use Rattle.bound_tree.specs.Close.{IsTangent}
+use Rattle.search_model.specs.Reference.{IsReference}
 
 -- without one rate a prefix has no tangent
 pub tangent_needs_rate : (p : Problem) (q : List ℕ) (b : ℕ) (whole : List ℕ) → ((rate : ℕ) → IsRate p rate → ⊥) → IsTangent p q b whole → ⊥
@@ -65,14 +67,7 @@ module _ (p : Problem) (q : List ℕ) (sound : IsProblem p) (legal : IsLegal p q
   -- the reference is a path that extends the prefix
   pub reference_extends : (whole : List ℕ) → IsReference p q whole → Extends p q whole
   reference_extends whole (y, is, least) =
-      let walk = listed_walk p.moves (p.horizon - length q) (last_of p.start q) y least.walk in
-      subst (Extends p q) (sym is) (record {
-        path = record {
-          follows = (follows-append p.moves p.start q y).1 (legal.follows, walk.0);
-          whole = omega (arith, length-append q y, walk.1, legal.short);
-        };
-        front = take_at q y (length q) refl;
-      })
+      subst (Extends p q) (sym is) (record { path = (continuations_are p q y legal).0 least.walk; front = take_at q y (length q) refl })
 
   -- a prefix has one tangent at most
   pub one_tangent : (b c : ℕ) (x y : List ℕ) → IsTangent p q b x → IsTangent p q c y → (b ≡ c) × (x ≡ y)

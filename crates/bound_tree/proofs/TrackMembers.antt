@@ -1,11 +1,9 @@
 -- Which lists are tracks, and sums over tracks of larger terms.
 use Rattle.std.proofs.Common.{ℕ, zero, suc, ◌<◌, ◌≤◌, ◌≡◌, List, [], ◌∷◌, ◌++◌, map, length, inl, inr, refl, subst, arith, sum_by, All, Contains, length-append}
 use Rattle.std.specs.List.{range_with_len}
-use Rattle.std.proofs.lemmas.List.Sums.{sum_by-cons}
-use Rattle.std.proofs.lemmas.List.FromFn.{length-range_with_len, get_or-range_with_len}
 use Rattle.std.proofs.lemmas.List.Elements.{All-nil, All-cons, All-append}
 use Rattle.search_model.specs.Tracks.{tracks}
-use Rattle.list_laws.proofs.Members.{Contains-nil, Contains-head, Contains-tail, Contains-cons_cases, Contains-map_cases, Contains-flat_map_cases}
+use Rattle.list_laws.proofs.Members.{Contains-nil, Contains-cons_cases, Contains-map_cases, Contains-flat_map_cases}
 use Rattle.list_laws.proofs.Ranges.{within_range}
 use Rattle.list_laws.proofs.Sums.{sum_by-within}
 

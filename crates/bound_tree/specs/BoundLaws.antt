@@ -1,4 +1,4 @@
--- What the bounds say of the paths below a prefix.
+-- No path below a prefix finds more than the bounds of the prefix.
 use Rattle.std.specs.Prelude.{ℕ, ◌+◌, ◌-◌, ◌*◌, ◌^◌, ◌<◌, ◌≤◌, List, length}
 use Rattle.search_model.specs.Problem.{Problem, IsProblem}
 use Rattle.search_model.specs.Legal.{IsLegal}

@@ -1,22 +1,16 @@
 -- How a prefix is closed under a standing, and which prefixes stay open.
-use Rattle.std.specs.Prelude.{ℕ, ◌+◌, ◌-◌, ◌≡◌, ◌<◌, ◌⊎◌, List, ◌++◌, take, length, All, AllPairs, IsTrue, IsFalse}
+use Rattle.std.specs.Prelude.{ℕ, ◌≡◌, ◌<◌, ◌⊎◌, List, take, length, All, AllPairs, IsTrue, IsFalse}
 use Rattle.search_model.specs.declared.standing.Standing.{Standing}
 use Rattle.search_model.specs.Problem.{Problem}
-use Rattle.search_model.specs.Legal.{IsLegal, IsPath, last_of}
+use Rattle.search_model.specs.Legal.{IsLegal, IsPath}
 use Rattle.search_model.specs.Tracks.{value_of}
 use Rattle.search_model.specs.Order.{smaller, better}
-use Rattle.search_model.specs.Bounds.{mean_of, reward_of, IsRate, tangent_of}
-use Rattle.longest_walk.specs.Sums.{IsLeastBest}
+use Rattle.search_model.specs.Bounds.{mean_of, IsRate, tangent_of}
+use Rattle.search_model.specs.Reference.{IsReference}
 use Rattle.bound_tree.specs.declared.node.Kind.{Kind}
 use Rattle.bound_tree.specs.declared.node.Kind.TheVariants.{Branch, Whole, Mean, Tangent}
 use Rattle.bound_tree.specs.declared.node.TreeNode.{TreeNode}
 use Rattle.bound_tree.specs.Cut.{is_cut, times}
-
--- the path at which a prefix's tangent is taken: the prefix, and then the least of the continuations with the greatest sum
--- of rewards; no standing has a part in it
-abbrev pub IsReference : Problem → List ℕ → List ℕ → Type 0
-IsReference p q whole =
-    (y : List ℕ) × (whole ≡ q ++ y) × IsLeastBest p.moves (reward_of p q) (p.horizon - length q) (length q + 1) (last_of p.start q) y
 
 -- a prefix's tangent bound, at its reference; there is none without one rate
 pub record IsTangent (p : Problem) (q : List ℕ) (b : ℕ) (whole : List ℕ) : Type 0 where

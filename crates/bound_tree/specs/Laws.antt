@@ -1,4 +1,4 @@
--- What acceptance says of a plan's path.
+-- The path of an accepted plan.
 use Rattle.search_model.specs.Problem.{Problem, IsProblem}
 use Rattle.search_model.specs.Order.{IsBest}
 use Rattle.bound_tree.specs.declared.plan.Plan.{Plan}

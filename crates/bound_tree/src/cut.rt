@@ -12,7 +12,7 @@ pub fn cuts(standing: &Standing, bound: u128, prefix: &Path) -> bool
     ensures { result ≡ is_cut bound prefix.now standing.now }
 {
     let first = standing.path.first(prefix.len());
-    bound < standing.value || (bound == standing.value && first.cells().cmp(prefix.cells()).is_lt())
+    bound < standing.value || (bound == standing.value && first < *prefix)
 }
 
 /// The standing with its value in finer parts, so many for each, as a tangent is compared with.

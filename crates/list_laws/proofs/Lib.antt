@@ -1,4 +1,6 @@
+pub mod Agreeing
 pub mod Ascending
+pub mod Filtered
 pub mod Firsts
 pub mod Halves
 pub mod Mapped

@@ -8,7 +8,8 @@ use Rattle.search_model.specs.Bounds.{sum_along, greatest}
 use Rattle.search_model.specs.Order.{smaller}
 use Rattle.search_model.specs.Worked.{one_cell, waiting_target}
 use Rattle.list_laws.proofs.Members.{list_all-contains}
-use Rattle.longest_walk.specs.Sums.{entry_at, greatest_sum, IsLeastBest}
+use Rattle.longest_walk.specs.Sums.{entry_at}
+use Rattle.search_model.specs.Reference.{greatest_sum, IsLeastBest}
 use Rattle.longest_walk.specs.Worked.{last_cell_rewards, no_rewards, LastCellWalks, NoRewardWalks, OneCellWalks, WorkedWalks}
 
 -- whether a walk has another sum, or isn't smaller

@@ -3,10 +3,11 @@ use Rattle.std.proofs.Common.{ℕ, suc, ◌+◌, ◌-◌, ◌*◌, ◌^◌, ◌�
 use Rattle.std.proofs.lemmas.Bool.{cases_lt}
 use Rattle.search_grid.specs.Moves.{moves_from, IsGrid}
 use Rattle.search_model.specs.Bounds.{greatest}
-use Rattle.longest_walk.specs.Sums.{entry_at, greatest_sum, highest_sum}
+use Rattle.longest_walk.specs.Sums.{entry_at, highest_sum}
+use Rattle.search_model.specs.Reference.{greatest_sum}
 use Rattle.longest_walk.specs.Rows.{sums_at}
 use Rattle.longest_walk.specs.Tables.{Tables, HasSums, IsFilled}
-use Rattle.longest_walk.proofs.Greatest.{map_agree}
+use Rattle.list_laws.proofs.Agreeing.{map_agree}
 use Rattle.longest_walk.proofs.Steps.{sum_through, All-moves, greatest_sum-zero, greatest_sum-suc}
 use Rattle.longest_walk.proofs.Highest.{highest_above_reward, highest_above, highest_sum-suc, highest_sum-later}
 

@@ -1,37 +1,28 @@
 -- Rewards that agree, and rewards that are bounded.
-use Rattle.std.proofs.Common.{ℕ, zero, suc, ◌+◌, ◌≤◌, ◌<◌, ◌≡◌, List, [], ◌∷◌, map, length, refl, ap, ◌∙◌, arith, All, Contains}
+use Rattle.std.proofs.Common.{ℕ, zero, suc, ◌+◌, ◌≤◌, ◌<◌, ◌≡◌, List, [], ◌∷◌, map, length, ap, arith, Contains}
 use Rattle.std.specs.List.{range_with_len}
-use Rattle.std.proofs.lemmas.List.FromFn.{length-range_with_len, get_or-range_with_len}
-use Rattle.std.proofs.lemmas.List.Elements.{All-nil, All-cons, All-map, All-weaker, All-contains_itself}
+use Rattle.std.proofs.lemmas.List.Elements.{All-map, All-weaker, All-contains_itself}
 use Rattle.std.proofs.lemmas.List.Sums.{sum_by-cons}
 use Rattle.search_grid.specs.Moves.{IsGrid}
 use Rattle.search_model.specs.Legal.{walks, Follows}
 use Rattle.search_model.specs.Bounds.{sum_along, greatest}
 use Rattle.list_laws.proofs.Members.{Contains-map}
-use Rattle.search_model.proofs.LegalLemmas.{move_within}
+use Rattle.search_model.proofs.LeastBest.{sum_along-agree}
+use Rattle.search_model.proofs.LegalLemmas.{move_within, follows_within}
 use Rattle.search_model.proofs.WalkLemmas.{listed_walk}
 use Rattle.longest_walk.specs.Sums.{highest, highest_sum}
 use Rattle.longest_walk.specs.Laws.{SameRewardsSameSum, HighestAbove, HighestBelow}
-use Rattle.longest_walk.proofs.Greatest.{greatest_above, greatest_below, map_agree}
+use Rattle.list_laws.proofs.Agreeing.{map_agree}
+use Rattle.search_model.proofs.Greatest.{greatest_above, greatest_below}
 use Rattle.list_laws.proofs.Ranges.{All-range, Contains-range_from_0}
-
--- along one walk
-sum_along-same : (rows : List (List ℕ)) → IsGrid rows → (r s : ℕ → ℕ → ℕ) (n t a : ℕ) (y : List ℕ) → a < length rows → Follows rows a y → length y ≡ n →
-    ((u q : ℕ) → t ≤ u → u < t + n → q < length rows → r u q ≡ s u q) → sum_along r t y ≡ sum_along s t y
-unfolding sum_along
-sum_along-same rows grid r s n t a [] here follows long same = refl
-sum_along-same rows grid r s zero t a (b ∷ y) here follows long same = cc
-sum_along-same rows grid r s (suc n) t a (b ∷ y) here follows long same =
-    let there : b < length rows = move_within rows grid a b here follows.0 in
-    let first : r t b ≡ s t b = same t b (omega arith) (omega arith) there in
-    let rest : sum_along r (t + 1) y ≡ sum_along s (t + 1) y = sum_along-same rows grid r s n (t + 1) b y there follows.1 (cc) (λ u q from to at. same u q (omega (arith, from)) (omega (arith, to)) at) in
-    omega (arith, first, rest)
 
 pub same_rewards_same_sum : SameRewardsSameSum
 same_rewards_same_sum rows r s n t a grid here same =
     ap greatest (map_agree (sum_along r t) (sum_along s t) (walks rows n a)
     (All-weaker (Contains (walks rows n a)) (λ y. sum_along r t y ≡ sum_along s t y)
-    (λ y listed. let known = listed_walk rows n a y listed in sum_along-same rows grid r s n t a y here known.0 known.1 same)
+    (λ y listed.
+    let known = listed_walk rows n a y listed in
+    sum_along-agree (length rows) r s t y (follows_within rows grid a here y known.0) (λ u q from to at. same u q from (omega (arith, to, known.1)) at))
     (walks rows n a) (All-contains_itself (walks rows n a))))
 
 -- no reward is above the highest of its period

@@ -5,7 +5,8 @@ use Rattle.search_grid.specs.Moves.{moves_from, IsGrid}
 use Rattle.search_model.specs.Bounds.{greatest}
 use Rattle.search_model.specs.Order.{Starts}
 use Rattle.search_model.proofs.LegalLemmas.{move_within}
-use Rattle.longest_walk.specs.Sums.{entry_at, IsLeastBest}
+use Rattle.longest_walk.specs.Sums.{entry_at}
+use Rattle.search_model.specs.Reference.{IsLeastBest}
 use Rattle.longest_walk.specs.Rows.{sums_at, IsLeastMove}
 use Rattle.longest_walk.specs.Tables.{HasSums}
 use Rattle.longest_walk.proofs.Steps.{sum_through}

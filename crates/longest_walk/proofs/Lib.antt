@@ -1,4 +1,3 @@
-pub mod Greatest
 pub mod Steps
 pub mod LeastWalks
 pub mod Highest

@@ -9,7 +9,7 @@ use Rattle.std.proofs.lemmas.List.Kept.{AllPairs-from_increasing}
 use Rattle.search_model.specs.Bounds.{greatest}
 use Rattle.list_laws.proofs.Members.{Contains-map}
 use Rattle.longest_walk.specs.Rows.{sums_at, IsLeastMove}
-use Rattle.longest_walk.proofs.Greatest.{greatest-nil, greatest-cons, greatest_above, greatest_below}
+use Rattle.search_model.proofs.Greatest.{greatest-nil, greatest-cons, greatest_above, greatest_below}
 
 -- one place more
 pub best_more : (f : ℕ → ℕ) (xs : List ℕ) (i best whole : ℕ) → i < length xs → max best (greatest (map f (drop i xs))) ≡ whole →

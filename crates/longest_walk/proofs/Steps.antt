@@ -1,15 +1,15 @@
 -- The greatest sum over longer walks, by way of each first move.
-use Rattle.std.proofs.Common.{ℕ, suc, ◌+◌, ◌≤◌, ◌<◌, ◌≡◌, List, [], ◌∷◌, ◌++◌, map, length, refl, ap, ◌∙◌, All, Contains, flat_map}
-use Rattle.std.proofs.lemmas.List.{length-map, map-append}
+use Rattle.std.proofs.Common.{ℕ, suc, ◌+◌, ◌<◌, ◌≡◌, List, [], ◌∷◌, map, length, refl, ap, ◌∙◌, All, Contains}
+use Rattle.std.proofs.lemmas.List.{length-map}
 use Rattle.std.proofs.lemmas.List.Elements.{All-weaker, All-contains_itself}
 use Rattle.search_grid.specs.Moves.{moves_from, IsGrid}
 use Rattle.search_model.specs.Legal.{walks}
 use Rattle.search_model.specs.Bounds.{sum_along, greatest}
-use Rattle.list_laws.proofs.Members.{Contains-some, Contains-map}
 use Rattle.search_model.proofs.LegalLemmas.{move_within}
-use Rattle.search_model.proofs.WalkLemmas.{some_walk, walk_listed}
-use Rattle.longest_walk.specs.Sums.{greatest_sum}
-use Rattle.longest_walk.proofs.Greatest.{greatest-one, greatest_above, greatest-raised, greatest-flat_map, map_agree}
+use Rattle.search_model.proofs.WalkLemmas.{some_walks}
+use Rattle.search_model.specs.Reference.{greatest_sum}
+use Rattle.list_laws.proofs.Agreeing.{map_agree, map-flat_map}
+use Rattle.search_model.proofs.Greatest.{greatest-one, greatest-raised, greatest-flat_map}
 
 -- the greatest sum over the walks that are on a cell in period t and go on for n periods more
 abbrev pub sum_through : List (List ℕ) → (ℕ → ℕ → ℕ) → ℕ → ℕ → ℕ → ℕ
@@ -25,16 +25,6 @@ sums-first : (r : ℕ → ℕ → ℕ) (t b : ℕ) (ys : List (List ℕ)) → ma
 unfolding sum_along
 sums-first r t b [] = refl
 sums-first r t b (y ∷ ys) = ap (λ vs. (r t b + sum_along r (t + 1) y) ∷ vs) (sums-first r t b ys)
-
-map-flat_map : {A B : Type 0} (f : B → ℕ) (g : A → List B) (xs : List A) → map f (flat_map g xs) ≡ flat_map (λ x. map f (g x)) xs
-map-flat_map f g [] = refl
-map-flat_map f g (x ∷ xs) = map-append f (g x) (flat_map g xs) ∙ ap (λ vs. map f (g x) ++ vs) (map-flat_map f g xs)
-
--- each cell has a walk of each length
-pub some_walks : (rows : List (List ℕ)) → IsGrid rows → (n a : ℕ) → a < length rows → 0 < length (walks rows n a)
-some_walks rows grid n a here =
-    let walk = some_walk rows grid n a here in
-    Contains-some (walks rows n a) walk.0 (walk_listed rows n a walk.0 walk.1 walk.2)
 
 -- by way of one first move
 sums-through : (rows : List (List ℕ)) → IsGrid rows → (r : ℕ → ℕ → ℕ) (n t b : ℕ) → b < length rows →
@@ -58,12 +48,3 @@ greatest_sum-suc rows grid r n t a here =
     ∙ greatest-flat_map (λ b. map (sum_along r t) (parts b)) (moves_from rows a)
     ∙ ap greatest (map_agree (λ b. greatest (map (sum_along r t) (parts b))) (sum_through rows r n t) (moves_from rows a)
     (All-moves rows grid (λ b. greatest (map (sum_along r t) (parts b)) ≡ sum_through rows r n t b) (λ b within. sums-through rows grid r n t b within) a here))
-
--- the first cell's reward, and the sum of the rest
-pub sum_along-cons : (r : ℕ → ℕ → ℕ) (t b : ℕ) (y : List ℕ) → sum_along r t (b ∷ y) ≡ r t b + sum_along r (t + 1) y
-unfolding sum_along
-sum_along-cons r t b y = refl
-
--- no walk has more than the greatest sum
-pub sum_along-below : (rows : List (List ℕ)) (r : ℕ → ℕ → ℕ) (n t a : ℕ) (y : List ℕ) → Contains (walks rows n a) y → sum_along r t y ≤ greatest_sum rows r n t a
-sum_along-below rows r n t a y listed = greatest_above (map (sum_along r t) (walks rows n a)) (sum_along r t y) (Contains-map (sum_along r t) (walks rows n a) y listed)

@@ -1,7 +1,8 @@
--- What the definitions say together.
+-- Greatest sums of rewards that agree, and of rewards below a bound.
 use Rattle.std.specs.Prelude.{ℕ, ◌≡◌, ◌+◌, ◌≤◌, ◌<◌, ◌*◌, List, length}
 use Rattle.search_grid.specs.Moves.{IsGrid}
-use Rattle.longest_walk.specs.Sums.{greatest_sum, IsLeastBest, highest_sum}
+use Rattle.longest_walk.specs.Sums.{highest_sum}
+use Rattle.search_model.specs.Reference.{greatest_sum}
 
 -- rewards that are the same in each period from t on and at each cell have the same greatest sum
 abbrev pub SameRewardsSameSum : Type 0
@@ -9,12 +10,6 @@ SameRewardsSameSum =
     (rows : List (List ℕ)) (r s : ℕ → ℕ → ℕ) (n t a : ℕ) → IsGrid rows → a < length rows →
     ((u q : ℕ) → t ≤ u → u < t + n → q < length rows → r u q ≡ s u q) →
     greatest_sum rows r n t a ≡ greatest_sum rows s n t a
-
--- from each cell there is one least walk of the greatest sum, and no second one
-abbrev pub OneLeastBest : Type 0
-OneLeastBest =
-    (rows : List (List ℕ)) (r : ℕ → ℕ → ℕ) (n t a : ℕ) → IsGrid rows → a < length rows →
-    (y : List ℕ) × IsLeastBest rows r n t a y × ((z : List ℕ) → IsLeastBest rows r n t a z → z ≡ y)
 
 -- no walk has more than the greatest rewards of its periods together
 abbrev pub HighestAbove : Type 0

@@ -2,7 +2,7 @@
 use Rattle.std.specs.Prelude.{ℕ, ◌≡◌, ◌+◌, ◌≤◌, List, map, slice_index, Contains}
 use Rattle.search_model.specs.Bounds.{greatest}
 
--- the sums of some cells, in the row that begins at a place
+-- the sums of some cells, in the row that starts at a place
 abbrev pub sums_at : List ℕ → ℕ → List ℕ → List ℕ
 sums_at sums row cells = map (λ d. slice_index sums (row + d)) cells
 

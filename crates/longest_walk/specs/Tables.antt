@@ -1,7 +1,8 @@
 -- What contracts see of the tables, and when they are filled.
 use Rattle.std.specs.Prelude.{ℕ, ◌≡◌, ◌+◌, ◌-◌, ◌*◌, ◌<◌, ◌≤◌, List, length}
 use Rattle.search_grid.specs.Moves.{IsGrid}
-use Rattle.longest_walk.specs.Sums.{entry_at, greatest_sum}
+use Rattle.longest_walk.specs.Sums.{entry_at}
+use Rattle.search_model.specs.Reference.{greatest_sum}
 
 -- the sizes that the tables were made for, the cell that they were last filled from, the greatest sum from there, and
 -- for each period and cell the greatest sum over the walks that are on that cell in that period

@@ -1,7 +1,8 @@
 -- Walks over the moves of the small problems, worked by hand.
 use Rattle.std.specs.Prelude.{ℕ, ◌≡◌, List, [], ◌∷◌}
 use Rattle.search_model.specs.Worked.{one_cell, waiting_target}
-use Rattle.longest_walk.specs.Sums.{entry_at, greatest_sum, IsLeastBest, highest_sum}
+use Rattle.longest_walk.specs.Sums.{entry_at, highest_sum}
+use Rattle.search_model.specs.Reference.{greatest_sum, IsLeastBest}
 
 -- two periods over three cells, with a reward of 2 for each look at the last one
 abbrev pub last_cell_rewards : List ℕ

@@ -1,16 +1,11 @@
-//! What the definitions say together.
+//! Laws of greatest sums.
 
-ghost use Rattle.longest_walk.specs.Laws.{SameRewardsSameSum, OneLeastBest, HighestAbove, HighestBelow};
+ghost use Rattle.longest_walk.specs.Laws.{SameRewardsSameSum, HighestAbove, HighestBelow};
 ghost use Rattle.longest_walk.specs.Worked.{WorkedWalks};
 
 /// Rewards that are the same in each period and at each cell have the same greatest sum.
 pub fn same_rewards_same_sum()
     ensures { SameRewardsSameSum }
-{}
-
-/// From each cell there is one least walk of the greatest sum, and no second one.
-pub fn one_least_best()
-    ensures { OneLeastBest }
 {}
 
 /// No walk has more than the greatest rewards of its periods together.

@@ -8,5 +8,5 @@ mod rows;
 mod tests;
 mod walk;
 
-pub use laws::{highest_above, highest_below, one_least_best, same_rewards_same_sum, worked_walks};
+pub use laws::{highest_above, highest_below, same_rewards_same_sum, worked_walks};
 pub use walk::Walk;

@@ -5,14 +5,15 @@ ghost use Rattle.std.specs.List.Sorted.{IsStrictlyIncreasing};
 ghost use Rattle.search_grid.specs.Moves.{moves_from};
 ghost use Rattle.search_model.specs.Bounds.{greatest};
 ghost use Rattle.search_model.specs.Order.{Starts};
-ghost use Rattle.longest_walk.specs.Sums.{entry_at, highest_sum, IsLeastBest};
+ghost use Rattle.longest_walk.specs.Sums.{entry_at, highest_sum};
+ghost use Rattle.search_model.specs.Reference.{IsLeastBest};
 ghost use Rattle.longest_walk.specs.Tables.{HasSums};
 ghost use Rattle.longest_walk.specs.Rows.{sums_at, IsLeastMove};
 
 use search_grid::Grid;
 use search_model::Path;
 
-// The greatest sum among some cells, in the row that begins at `row`.
+// The greatest sum among some cells, in the row that starts at `row`.
 pub(crate) fn greatest_at(sums: &[u128], row: usize, cells: &[u8]) -> u128
     requires { All (λ d. row + d < length sums.now) cells.now }
     ensures { result ≡ greatest (sums_at sums.now row cells.now) }
@@ -24,7 +25,7 @@ pub(crate) fn greatest_at(sums: &[u128], row: usize, cells: &[u8]) -> u128
     best
 }
 
-// The first of some cells that have the greatest sum among them, in the row that begins at `row`.
+// The first of some cells that have the greatest sum among them, in the row that starts at `row`.
 pub(crate) fn least_move(sums: &[u128], row: usize, cells: &[u8]) -> u8
     requires some { 1 ≤ length cells.now }
     requires within { All (λ d. row + d < length sums.now) cells.now }
@@ -40,7 +41,7 @@ pub(crate) fn least_move(sums: &[u128], row: usize, cells: &[u8]) -> u8
     cells[best]
 }
 
-// Fills the row that begins at `here` from the row of the period after it, which begins at `next`.
+// Fills the row that starts at `here` from the row of the period after it, which starts at `next`.
 fn fill_row(sums: &mut [u128], grid: &Grid, rewards: &[u128], here: usize, next: usize)
     requires order { here + length grid.now ≤ next }
     requires rewards { here + length grid.now ≤ length rewards.now }
@@ -57,7 +58,7 @@ fn fill_row(sums: &mut [u128], grid: &Grid, rewards: &[u128], here: usize, next:
     }
 }
 
-// Fills the row of the last period, which begins at `last`: after it comes nothing.
+// Fills the row of the last period, which starts at `last`: after it comes nothing.
 fn fill_last(sums: &mut [u128], rewards: &[u128], last: usize)
     requires last { last ≤ length sums.old }
     requires rewards { length rewards.now ≡ length sums.old }

@@ -1,8 +1,9 @@
-//! The tables.
+//! The tables of greatest sums.
 
 ghost use Rattle.std.specs.Prelude.{◌≡◌, ℕ, ◌+◌, ◌-◌, ◌*◌, ◌^◌, ◌<◌, ◌≤◌, List, length, drop, IfOk};
 ghost use Rattle.search_model.specs.Order.{Starts};
-ghost use Rattle.longest_walk.specs.Sums.{entry_at, greatest_sum, IsLeastBest, highest_sum};
+ghost use Rattle.longest_walk.specs.Sums.{entry_at, highest_sum};
+ghost use Rattle.search_model.specs.Reference.{greatest_sum, IsLeastBest};
 
 use crate::rows::{append_least, fill_rows, greatest_at};
 use exact_parts::NoMemory;

@@ -12,7 +12,8 @@ use Rattle.search_model.specs.Tracks.{missed_weight, whole_weight}
 use Rattle.search_model.specs.Bounds.{reward_of}
 use Rattle.list_laws.proofs.Sums.{sum_by-range-le, sum_by-times}
 use Rattle.search_model.proofs.Totals.{nothing_is_cut_off, whole_weight-fits}
-use Rattle.longest_walk.specs.Sums.{entry_at, greatest_sum, highest_sum}
+use Rattle.longest_walk.specs.Sums.{entry_at, highest_sum}
+use Rattle.search_model.specs.Reference.{greatest_sum}
 use Rattle.longest_walk.proofs.Highest.{highest_above, highest_below}
 use Rattle.belief_update.specs.Masses.{mass_of, masses_of, looks_to}
 use Rattle.belief_update.specs.Belief.{BeliefState, IsBelief}

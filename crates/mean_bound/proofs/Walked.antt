@@ -6,7 +6,8 @@ use Rattle.search_model.specs.Legal.{Follows, walks}
 use Rattle.search_model.specs.Bounds.{reward_of, sum_along}
 use Rattle.search_model.proofs.LegalLemmas.{move_within}
 use Rattle.search_model.proofs.WalkLemmas.{listed_walk}
-use Rattle.longest_walk.specs.Sums.{entry_at, greatest_sum, IsLeastBest}
+use Rattle.longest_walk.specs.Sums.{entry_at}
+use Rattle.search_model.specs.Reference.{greatest_sum, IsLeastBest}
 use Rattle.longest_walk.proofs.Highest.{same_rewards_same_sum}
 use Rattle.mean_bound.specs.Rewards.{HasRewards}
 

@@ -1,9 +1,7 @@
 -- What contracts see of the tables of the mean bound, and when they are right.
-use Rattle.std.specs.Prelude.{ℕ, ◌≡◌, ◌+◌, ◌-◌, ◌*◌, ◌<◌, ◌++◌, List, length}
+use Rattle.std.specs.Prelude.{ℕ, ◌≡◌, ◌-◌, ◌*◌, ◌<◌, List, length}
 use Rattle.search_model.specs.Problem.{Problem}
 use Rattle.search_model.specs.Legal.{last_of, IsLegal}
-use Rattle.search_model.specs.Bounds.{reward_of}
-use Rattle.longest_walk.specs.Sums.{IsLeastBest}
 use Rattle.longest_walk.specs.Tables.{Tables, IsFilled}
 use Rattle.mean_bound.specs.declared.trail.Trail.{Trail}
 use Rattle.mean_bound.specs.Trails.{IsTrailFor}
@@ -28,10 +26,3 @@ pub record IsFilledFor (p : Problem) (q : List ℕ) (m : MeanState) : Type 0 whe
   pub short : length q < p.horizon
   pub rewarded : HasRewards p q m.rewards
   pub walked : IsFilled m.walk p.moves m.rewards (last_of p.start q) (length q)
-
--- a prefix, followed by the least of its continuations that reach the greatest sum of rewards
-abbrev pub AddsLeastBest : Problem → List ℕ → List ℕ → Type 0
-AddsLeastBest p q whole =
-    (y : List ℕ)
-    × (whole ≡ q ++ y)
-    × IsLeastBest p.moves (reward_of p q) (p.horizon - length q) (length q + 1) (last_of p.start q) y

@@ -45,7 +45,8 @@ fn last_or_start(sc: &Scenario, prefix: &Path) -> u8
 }
 
 impl Mean {
-    ghost use Rattle.mean_bound.specs.Means.{IsMadeFor, IsFilledFor, AddsLeastBest};
+    ghost use Rattle.mean_bound.specs.Means.{IsMadeFor, IsFilledFor};
+    ghost use Rattle.search_model.specs.Reference.{IsReference};
 
     /// Tables for a scenario. Only this call takes memory.
     pub fn tables(alloc: Global, sc: &Scenario) -> Result<Mean, NoMemory>
@@ -97,7 +98,7 @@ impl Mean {
     pub fn reference(&self, sc: &Scenario, to: &mut Path)
         requires made { IsMadeFor sc.now self.now }
         requires filled { IsFilledFor sc.now to.old self.now }
-        ensures { AddsLeastBest sc.now to.old to.new }
+        ensures { IsReference sc.now to.old to.new }
     {
         let _sound = sc.cells();
         self.walk.least_best(sc.grid(), &self.rewards, to);

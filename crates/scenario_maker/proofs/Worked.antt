@@ -2,7 +2,6 @@
 use Rattle.std.proofs.Common.{refl}
 use Rattle.std.specs.Fmt.{digits}
 use Rattle.scenario_maker.specs.Generator.{next, draw_below, draws_below}
-use Rattle.search_model.specs.Grids.{grid_name, grid_names}
 use Rattle.scenario_maker.specs.Made.{bounds, draws_of, start_of, part_cells, counts_of, spread_of, overlook_of}
 use Rattle.scenario_maker.specs.Worked.{WorkedDraws}
 

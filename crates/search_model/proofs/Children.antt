@@ -1,5 +1,5 @@
 -- The moves after a legal prefix, and the prefixes that they make.
-use Rattle.std.proofs.Common.{ℕ, ◌+◌, ◌<◌, ◌≤◌, List, [], ◌∷◌, ◌++◌, length, arith, Contains, length-append}
+use Rattle.std.proofs.Common.{ℕ, ◌<◌, ◌≤◌, List, [], ◌∷◌, ◌++◌, length, arith, Contains, length-append}
 use Rattle.search_grid.specs.Moves.{IsMoveRow}
 use Rattle.search_model.specs.Problem.{Problem, IsProblem}
 use Rattle.search_model.specs.Legal.{IsLegal, last_of, moves_after}

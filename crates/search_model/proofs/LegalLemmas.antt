@@ -1,6 +1,6 @@
 -- Prefixes that follow the moves.
-use Rattle.std.proofs.Common.{ℕ, suc, ◌≡◌, ◌<◌, ◌-◌, List, [], ◌∷◌, ◌++◌, length, refl, arith, Contains, unwrap_or, slice_get}
-use Rattle.std.proofs.lemmas.List.Elements.{All-contains}
+use Rattle.std.proofs.Common.{ℕ, suc, ◌≡◌, ◌<◌, ◌-◌, List, [], ◌∷◌, ◌++◌, length, refl, arith, All, Contains, unwrap_or, slice_get}
+use Rattle.std.proofs.lemmas.List.Elements.{All-nil, All-cons, All-contains}
 use Rattle.search_grid.specs.Moves.{moves_from, IsGrid}
 use Rattle.search_model.specs.Legal.{last_of, Follows}
 
@@ -12,6 +12,13 @@ move_within rows grid a b here move = All-contains (λ q. q < length rows) (move
 pub last_within : (rows : List (List ℕ)) → IsGrid rows → (a : ℕ) → a < length rows → (q : List ℕ) → Follows rows a q → last_of a q < length rows
 last_within rows grid a here [] follows = here
 last_within rows grid a here (b ∷ q) follows = last_within rows grid b (move_within rows grid a b here follows.0) q follows.1
+
+-- what follows the moves holds positions
+pub follows_within : (rows : List (List ℕ)) → IsGrid rows → (a : ℕ) → a < length rows → (q : List ℕ) → Follows rows a q → All (λ b. b < length rows) q
+follows_within rows grid a here [] follows = All-nil (λ b. b < length rows)
+follows_within rows grid a here (b ∷ q) follows =
+    let next : b < length rows = move_within rows grid a b here follows.0 in
+    All-cons (λ b. b < length rows) b q next (follows_within rows grid b next q follows.1)
 
 -- the last position of a longer prefix is the one that was added
 pub last_of-push : (a : ℕ) (q : List ℕ) (b : ℕ) → last_of a (q ++ b ∷ []) ≡ b

@@ -1,11 +1,14 @@
 pub mod After
 pub mod Best
+pub mod BoundSizes
 pub mod Children
 pub mod DriftSums
 pub mod ExampleBounds
 pub mod ExampleProblems
 pub mod Examples
 pub mod FaultLemmas
+pub mod Greatest
+pub mod LeastBest
 pub mod LegalLemmas
 pub mod NameLemmas
 pub mod Orders

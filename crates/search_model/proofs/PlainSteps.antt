@@ -4,14 +4,14 @@ use Rattle.std.specs.List.{range_with_len}
 use Rattle.std.proofs.lemmas.Nat.{mul-le}
 use Rattle.std.proofs.Math.Nat.{pow-suc}
 use Rattle.std.proofs.lemmas.List.Sums.{sum_by_more}
-use Rattle.std.proofs.lemmas.List.Elements.{All-nil, All-cons, All-tail}
+use Rattle.std.proofs.lemmas.List.Elements.{All-tail}
 use Rattle.drift_chain.specs.declared.part.DriftPart.{DriftPart}
 use Rattle.drift_chain.specs.DriftRows.{row_of}
 use Rattle.search_model.specs.Problem.{Problem, first_of, IsProblem}
 use Rattle.search_model.specs.Legal.{Follows}
 use Rattle.search_model.specs.Following.{look_factor, after_of}
 use Rattle.list_laws.proofs.Sums.{sum_by-range_more}
-use Rattle.search_model.proofs.LegalLemmas.{move_within}
+use Rattle.search_model.proofs.LegalLemmas.{follows_within}
 use Rattle.search_model.proofs.After.{after_of-zero, after_of-by_row, after_of-le, look_factor-le}
 use Rattle.search_model.proofs.Totals.{powers_fit, after_entries-fit, missed_cells-fit}
 
@@ -56,10 +56,7 @@ module _ (p : Problem) (sound : IsProblem p) where
 
   -- the positions of what follows the moves are positions
   pub positions_follow : (a : ℕ) → a < length p.moves → (q : List ℕ) → Follows p.moves a q → All (λ b. b < p.positions) q
-  positions_follow a here [] follows = All-nil (λ b. b < p.positions)
-  positions_follow a here (b ∷ q) follows =
-      let next : b < length p.moves = move_within p.moves sound.grid a b here follows.0 in
-      All-cons (λ b. b < p.positions) b q (omega (arith, next, sound.grid_positions)) (positions_follow b next q follows.1)
+  positions_follow a here q follows = rw (← sound.grid_positions) (follows_within p.moves sound.grid a here q follows)
 
   -- all looks but the first are positions, too
   pub later_positions : (q : List ℕ) → All (λ b. b < p.positions) q → All (λ b. b < p.positions) (drop 1 q)

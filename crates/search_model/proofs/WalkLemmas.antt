@@ -1,11 +1,11 @@
 -- The walks from a position.
-use Rattle.std.proofs.Common.{ℕ, zero, suc, ◌<◌, ◌≡◌, ◌↔◌, List, [], ◌∷◌, ◌++◌, map, length, get_or, inl, inr, refl, ap, subst, arith, Contains}
+use Rattle.std.proofs.Common.{ℕ, zero, suc, ◌-◌, ◌<◌, ◌≡◌, ◌↔◌, List, [], ◌∷◌, ◌++◌, map, length, get_or, inl, inr, refl, ap, subst, arith, Contains, length-append}
 use Rattle.search_grid.specs.Moves.{moves_from, IsGrid}
 use Rattle.search_model.specs.Problem.{Problem}
 use Rattle.search_model.specs.Legal.{last_of, Follows, IsPath, walks}
-use Rattle.search_model.specs.Laws.{WalksFollow}
+use Rattle.search_model.specs.Laws.{WalksFollow, ContinuationsAre}
 use Rattle.search_model.proofs.LegalLemmas.{move_within}
-use Rattle.list_laws.proofs.Members.{Contains-nil, Contains-head, Contains-cons_cases, Contains-map, Contains-map_cases, Contains-flat_map, Contains-flat_map_cases}
+use Rattle.list_laws.proofs.Members.{Contains-nil, Contains-head, Contains-some, Contains-cons_cases, Contains-map, Contains-map_cases, Contains-flat_map, Contains-flat_map_cases}
 
 -- what follows the moves is listed
 pub walk_listed : (rows : List (List ℕ)) (n a : ℕ) (y : List ℕ) → Follows rows a y → length y ≡ n → Contains (walks rows n a) y
@@ -42,6 +42,12 @@ some_walk rows grid (suc n) a here =
     let rest = some_walk rows grid n b (move_within rows grid a b here move) in
     (b ∷ rest.0, (move, rest.1), ap suc rest.2)
 
+-- so the list of them isn't empty
+pub some_walks : (rows : List (List ℕ)) → IsGrid rows → (n a : ℕ) → a < length rows → 0 < length (walks rows n a)
+some_walks rows grid n a here =
+    let walk = some_walk rows grid n a here in
+    Contains-some (walks rows n a) walk.0 (walk_listed rows n a walk.0 walk.1 walk.2)
+
 -- the paths are the walks of the horizon's length from the start
 pub path_listed : (p : Problem) (q : List ℕ) → IsPath p q → Contains (walks p.moves p.horizon p.start) q
 path_listed p q path = walk_listed p.moves p.horizon p.start q path.follows path.whole
@@ -55,3 +61,14 @@ follows-append rows a [] y = ((λ f. (tt, f)), λ f. f.1)
 follows-append rows a (b ∷ q) y =
     let rest = follows-append rows b q y in
     ((λ f. ((f.0, (rest.0 f.1).0), (rest.0 f.1).1)), λ f. (f.0.0, rest.1 (f.0.1, f.1)))
+
+pub continuations_are : ContinuationsAre
+continuations_are p q y legal =
+    let n : ℕ = p.horizon - length q in
+    let from : ℕ = last_of p.start q in
+    let both = follows-append p.moves p.start q y in (
+      (λ listed.
+          let known = listed_walk p.moves n from y listed in
+          record { follows = both.1 (legal.follows, known.0); whole = omega (arith, length-append q y, known.1, legal.short) }),
+      λ path. walk_listed p.moves n from y (both.0 path.follows).1 (omega (arith, length-append q y, path.whole)),
+    )

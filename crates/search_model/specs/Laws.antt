@@ -1,10 +1,12 @@
--- What the definitions say together.
-use Rattle.std.specs.Prelude.{ℕ, ◌≡◌, ◌≤◌, ◌*◌, ◌^◌, ◌-◌, ◌↔◌, List, length, sum_by, Contains}
+-- Laws over the definitions of tracks, walks, paths and bounds.
+use Rattle.std.specs.Prelude.{ℕ, ◌≡◌, ◌<◌, ◌≤◌, ◌+◌, ◌*◌, ◌^◌, ◌-◌, ◌↔◌, List, ◌++◌, map, length, drop, sum_by, Contains}
+use Rattle.search_grid.specs.Moves.{IsGrid}
 use Rattle.search_model.specs.Problem.{Problem, IsProblem}
-use Rattle.search_model.specs.Legal.{Follows, walks}
-use Rattle.search_model.specs.Tracks.{tracks, weight_of, missed_weight, whole_weight}
-use Rattle.search_model.specs.Order.{IsBest}
-use Rattle.search_model.specs.Bounds.{IsRate}
+use Rattle.search_model.specs.Legal.{IsLegal, IsPath, Follows, walks, continuations}
+use Rattle.search_model.specs.Tracks.{tracks, weight_of, missed_weight, whole_weight, value_of}
+use Rattle.search_model.specs.Order.{Starts, IsBest}
+use Rattle.search_model.specs.Bounds.{IsRate, sum_along, greatest, gain_of, mean_of, tangent_of}
+use Rattle.search_model.specs.Reference.{IsLeastBest}
 use Rattle.sweep_table.specs.LookParts.{IsOneRate}
 
 -- the weights of all tracks sum to the total times the drift's denominators
@@ -26,3 +28,28 @@ OneBest = (p : Problem) → IsProblem p → (q : List ℕ) × IsBest p q × ((r 
 -- a sweep has one rate exactly where that is the rate of the problem's look factors
 abbrev pub OneRateIsRate : Type 0
 OneRateIsRate = (p : Problem) (rate : ℕ) → IsProblem p → IsOneRate p.sweep rate ↔ IsRate p rate
+
+-- from each position there is one least walk of the greatest sum, and no second one
+abbrev pub OneLeastBest : Type 0
+OneLeastBest =
+    (rows : List (List ℕ)) (r : ℕ → ℕ → ℕ) (n t a : ℕ) → IsGrid rows → a < length rows →
+    (y : List ℕ) × IsLeastBest rows r n t a y × ((z : List ℕ) → IsLeastBest rows r n t a z → z ≡ y)
+
+-- the continuations of a legal prefix are the lists that go on from it to a path
+abbrev pub ContinuationsAre : Type 0
+ContinuationsAre = (p : Problem) (q y : List ℕ) → IsLegal p q → Contains (continuations p q) y ↔ IsPath p (q ++ y)
+
+-- the mean bound of a prefix with periods left is at most the whole weight, once for each period and once more
+abbrev pub MeanSize : Type 0
+MeanSize = (p : Problem) (q : List ℕ) → IsProblem p → length q < p.horizon → mean_of p q ≤ (p.horizon + 1) * whole_weight p
+
+-- and a tangent bound at most so much times the look denominator
+abbrev pub TangentSize : Type 0
+TangentSize = (p : Problem) (rate : ℕ) (q whole : List ℕ) → IsProblem p → tangent_of p rate q whole ≤ (p.horizon + 1) * whole_weight p * p.sweep.denominator
+
+-- the sum that a tangent bound takes off is at most what it takes it off, so no tangent bound is cut off at 0
+abbrev pub NoTangentCutOff : Type 0
+NoTangentCutOff =
+    (p : Problem) (rate : ℕ) (q whole : List ℕ) → IsPath p whole → Starts q whole →
+    sum_along (gain_of p rate whole) (length q + 1) (drop (length q) whole)
+    ≤ p.sweep.denominator * value_of p whole + greatest (map (sum_along (gain_of p rate whole) (length q + 1)) (continuations p q))

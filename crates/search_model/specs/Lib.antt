@@ -11,6 +11,7 @@ pub mod Order
 pub mod Parts
 pub mod PathPlaces
 pub mod Problem
+pub mod Reference
 pub mod Tracks
 pub mod Worked
 pub mod WorkedBounds

@@ -1,6 +1,6 @@
-//! What the definitions say together.
+//! Laws over the definitions.
 
-ghost use Rattle.search_model.specs.Laws.{WeightsSum, NothingCutOff, WalksFollow, OneBest, OneRateIsRate};
+ghost use Rattle.search_model.specs.Laws.{WeightsSum, NothingCutOff, WalksFollow, OneBest, OneLeastBest, OneRateIsRate, ContinuationsAre, MeanSize, TangentSize, NoTangentCutOff};
 
 /// The weights of all tracks sum to the total times the drift's denominators.
 pub fn weights_sum()
@@ -17,9 +17,31 @@ pub fn walks_follow()
     ensures { WalksFollow }
 {}
 
+/// The continuations of a legal prefix are the lists that go on from it to a path.
+pub fn continuations_are()
+    ensures { ContinuationsAre }
+{}
+
+/// A mean bound is at most the whole weight, once for each period and once more, and a tangent bound at most so much times
+/// the look denominator.
+pub fn bound_sizes()
+    ensures mean { MeanSize }
+    ensures tangent { TangentSize }
+{}
+
+/// The sum that a tangent bound takes off is at most what it takes it off, so none is cut off at 0.
+pub fn no_tangent_is_cut_off()
+    ensures { NoTangentCutOff }
+{}
+
 /// There is a best path, and no second one.
 pub fn one_best()
     ensures { OneBest }
+{}
+
+/// From each position there is one least walk of the greatest sum of rewards, and no second one.
+pub fn one_least_best()
+    ensures { OneLeastBest }
 {}
 
 /// `Sweep::one_rate` answers the rate of a scenario's look factors, and `None` where they have none.

@@ -17,7 +17,7 @@ pub struct Standing {
 pub fn better(a: &Standing, b: &Standing) -> bool
     ensures { result ≡ better_lem a.now b.now }
 {
-    a.value > b.value || (a.value == b.value && a.path.cells().cmp(b.path.cells()).is_lt())
+    a.value > b.value || (a.value == b.value && a.path < b.path)
 }
 
 /// Whether a path begins with a prefix.

@@ -2,6 +2,7 @@ use super::*;
 use drift_chain::{Drift, DriftPart};
 use search_grid::Grid;
 use std::alloc::{AllocError, Global};
+use std::cmp::Ordering;
 use std::test::Fail;
 use sweep_table::Sweep;
 
@@ -31,6 +32,28 @@ fn positions_are_pushed_and_popped(rt: HostRuntime) {
     path.pop();
     assert_eq!(rt; path.cells(), [3, 0].as_slice());
     assert!(rt; !path.is_empty());
+}
+
+// Whether two values are equal, and how they compare, as a caller sees it that only knows the traits.
+fn compared<T: Copy + Ord>(a: T, b: T) -> (bool, Ordering) {
+    (a == b, a.cmp(&b))
+}
+
+#[test]
+fn paths_compare_as_lists(rt: HostRuntime) {
+    let cases: [(&[u8], &[u8], Ordering); 6] = [
+        (&[], &[0], Ordering::Less),
+        (&[1], &[1, 0], Ordering::Less),
+        (&[1, 2], &[2, 0], Ordering::Less),
+        (&[2], &[1, 9], Ordering::Greater),
+        (&[0], &[], Ordering::Greater),
+        (&[3, 3], &[3, 3], Ordering::Equal),
+    ];
+    for (a, b, order) in cases {
+        let (equal, found) = compared(standing(0, a).path, standing(0, b).path);
+        assert_eq!(rt; equal, order == Ordering::Equal);
+        assert!(rt; found == order);
+    }
 }
 
 #[test]

@@ -7,8 +7,9 @@ use Rattle.search_model.specs.Legal.{last_of, Follows, IsLegal, IsPath}
 use Rattle.search_model.specs.Bounds.{sum_along, gain_of}
 use Rattle.search_model.proofs.LegalLemmas.{last_within}
 use Rattle.search_model.proofs.WalkLemmas.{walk_listed, follows-append}
-use Rattle.longest_walk.specs.Sums.{entry_at, greatest_sum, highest_sum}
-use Rattle.longest_walk.proofs.Steps.{sum_along-below}
+use Rattle.longest_walk.specs.Sums.{entry_at, highest_sum}
+use Rattle.search_model.specs.Reference.{greatest_sum}
+use Rattle.search_model.proofs.LeastBest.{sum_along-below}
 use Rattle.longest_walk.proofs.Highest.{same_rewards_same_sum, highest_above, highest_below}
 use Rattle.tangent_bound.specs.Gains.{AreGains}
 use Rattle.tangent_bound.proofs.Found.{gain-le}

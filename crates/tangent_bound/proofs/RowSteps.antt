@@ -5,7 +5,7 @@ use Rattle.std.proofs.lemmas.List.{at_drop_more, at_drop_all}
 use Rattle.search_model.specs.Problem.{Problem}
 use Rattle.search_model.specs.Bounds.{sum_along}
 use Rattle.longest_walk.specs.Sums.{entry_at}
-use Rattle.longest_walk.proofs.Steps.{sum_along-cons}
+use Rattle.search_model.proofs.LeastBest.{sum_along-cons}
 use Rattle.tangent_bound.specs.Gains.{IsGainRow, AreGains}
 use Rattle.backward_mass.proofs.Tables.{place_within}
 

@@ -1,6 +1,7 @@
 use Rattle.std.proofs.Common.{◌≡◌, ◌+◌, ◌-◌, [], ◌∷◌, length, sym, ◌∙◌, subst, arith, length-append, append-nil}
 use Rattle.search_model.proofs.LegalLemmas.{move_within}
-use Rattle.longest_walk.specs.Sums.{entry_at, IsLeastBest}
+use Rattle.longest_walk.specs.Sums.{entry_at}
+use Rattle.search_model.specs.Reference.{IsLeastBest}
 use Rattle.longest_walk.proofs.LeastWalks.{IsLeastBest-nil}
 use Rattle.longest_walk.proofs.LeastSteps.{HasSums-later, IsLeastBest-step, drop-pushed, Starts-pushed}
 use Rattle.longest_walk.proofs.rows.append_least.Goals as goal

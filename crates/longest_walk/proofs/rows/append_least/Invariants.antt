@@ -1,6 +1,7 @@
 use Rattle.std.proofs.Common.{ℕ, ◌≡◌, ◌+◌, ◌-◌, ◌<◌, List, ◌++◌, length, drop}
 use Rattle.search_model.specs.Order.{Starts}
-use Rattle.longest_walk.specs.Sums.{entry_at, IsLeastBest}
+use Rattle.longest_walk.specs.Sums.{entry_at}
+use Rattle.search_model.specs.Reference.{IsLeastBest}
 use Rattle.longest_walk.specs.Tables.{HasSums}
 use Rattle.longest_walk.proofs.rows.append_least.Given as goal
 

@@ -1,6 +1,5 @@
 use Rattle.std.proofs.Common.{◌/◌, ◌%◌, ◌∙◌, arith, refl}
 use Rattle.std.proofs.lemmas.Fmt.{decimal_digit}
-use Rattle.search_model.specs.Grids.{grid_name}
 use Rattle.scenario_maker.proofs.shaping.grid_name.Goals as goal
 
 pub returns : goal.returns

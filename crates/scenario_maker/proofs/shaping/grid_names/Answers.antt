@@ -1,7 +1,7 @@
 use Rattle.std.proofs.Common.{◌≡◌, map, refl, ◌∙◌, ap, sym, arith}
 use Rattle.std.specs.List.{range_with_len}
 use Rattle.std.proofs.lemmas.List.FromFn.{map-range_with_len_more}
-use Rattle.search_model.specs.Grids.{grid_name, grid_names}
+use Rattle.search_model.specs.Grids.{grid_name}
 use Rattle.scenario_maker.proofs.shaping.grid_names.Goals as goal
 
 pub loop-c-preserved : goal.loop-c-preserved

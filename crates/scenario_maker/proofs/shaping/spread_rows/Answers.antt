@@ -4,7 +4,7 @@ use Rattle.std.proofs.lemmas.List.{map_push}
 use Rattle.std.proofs.lemmas.List.FromFn.{map-range_with_len_more}
 use Rattle.drift_chain.specs.declared.part.DriftPart.{DriftPart}
 use Rattle.search_grid.specs.Moves.{moves_from}
-use Rattle.search_model.specs.Grids.{spread_row, spread_rows}
+use Rattle.search_model.specs.Grids.{spread_row}
 use Rattle.scenario_maker.proofs.Cells.{row_few}
 use Rattle.scenario_maker.proofs.shaping.spread_rows.Goals as goal
 

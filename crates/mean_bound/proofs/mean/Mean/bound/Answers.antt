@@ -3,7 +3,8 @@ use Rattle.std.proofs.lemmas.List.{with_items_is}
 use Rattle.search_model.specs.Legal.{last_of}
 use Rattle.search_model.specs.Bounds.{reward_of}
 use Rattle.search_model.proofs.LegalLemmas.{last_within}
-use Rattle.longest_walk.specs.Sums.{entry_at, greatest_sum, highest_sum}
+use Rattle.longest_walk.specs.Sums.{entry_at, highest_sum}
+use Rattle.search_model.specs.Reference.{greatest_sum}
 use Rattle.mean_bound.proofs.Fitting.{highest-le, greatest-le, weights_fit}
 use Rattle.mean_bound.proofs.Walked.{greatest_is}
 use Rattle.mean_bound.proofs.mean.Mean.bound.Goals as goal

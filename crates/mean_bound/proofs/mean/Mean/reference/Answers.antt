@@ -2,7 +2,8 @@ use Rattle.std.proofs.Common.{◌≡◌, ◌<◌, ◌+◌, ◌-◌, ◌++◌, le
 use Rattle.std.proofs.Math.Seq.{drop-append_seam}
 use Rattle.search_model.specs.Legal.{last_of}
 use Rattle.search_model.proofs.LegalLemmas.{last_within}
-use Rattle.longest_walk.specs.Sums.{entry_at, IsLeastBest}
+use Rattle.longest_walk.specs.Sums.{entry_at}
+use Rattle.search_model.specs.Reference.{IsLeastBest}
 use Rattle.mean_bound.proofs.Walked.{least_is}
 use Rattle.mean_bound.proofs.mean.Mean.reference.Goals as goal
 

@@ -3,7 +3,8 @@ use Rattle.std.proofs.lemmas.List.{with_items_is}
 use Rattle.search_model.specs.Legal.{last_of}
 use Rattle.search_model.specs.Tracks.{value_of}
 use Rattle.search_model.specs.Bounds.{sum_along}
-use Rattle.longest_walk.specs.Sums.{entry_at, greatest_sum}
+use Rattle.longest_walk.specs.Sums.{entry_at}
+use Rattle.search_model.specs.Reference.{greatest_sum}
 use Rattle.tangent_bound.specs.Room.{TangentRoom}
 use Rattle.tangent_bound.proofs.Continued.{IsTable, last_inside, rest_below, highest_bounded, greatest_bounded, greatest_is, rest_is}
 use Rattle.tangent_bound.proofs.Sizes.{most_fits}

@@ -66,11 +66,3 @@ pub greatest-flat_map : {A : Type 0} (f : A → List ℕ) (xs : List A) → grea
 unfolding greatest
 greatest-flat_map f [] = refl
 greatest-flat_map f (x ∷ xs) = greatest-append (f x) (flat_map f xs) ∙ ap (λ v. max (greatest (f x)) v) (greatest-flat_map f xs)
-
--- functions that agree on a list make the same list of it
-pub map_agree : {A : Type 0} (f g : A → ℕ) (xs : List A) → All (λ x. f x ≡ g x) xs → map f xs ≡ map g xs
-map_agree f g [] each = refl
-map_agree f g (x ∷ xs) each =
-    let first : f x ≡ g x = All-head (λ x. f x ≡ g x) x xs each in
-    let rest : map f xs ≡ map g xs = map_agree f g xs (All-tail (λ x. f x ≡ g x) x xs each) in
-    cc
