@@ -2,6 +2,7 @@ pub mod After
 pub mod Best
 pub mod Children
 pub mod DriftSums
+pub mod EdgeRewards
 pub mod ExampleBounds
 pub mod ExampleProblems
 pub mod Examples
