@@ -10,4 +10,4 @@ mod values;
 
 pub use belief::Belief;
 pub use laws::{masses_follow, missed_by_masses, rewards_by_masses, worked_masses};
-pub use values::prefix_value;
+pub use values::{later_parts, prefix_value};

@@ -37,7 +37,7 @@ fn follow(sc: &Scenario, belief: &mut Belief, looks: &[u8])
 }
 
 /// The parts of the steps after period `t` and of the looks after the first `k`, up to the horizon.
-fn later_parts(sc: &Scenario, t: u32, k: u32) -> u128
+pub fn later_parts(sc: &Scenario, t: u32, k: u32) -> u128
     requires first { 1 ≤ t }
     requires last { t ≤ sc.now.horizon }
     requires looks { k ≤ sc.now.horizon }

@@ -8,3 +8,4 @@ pub mod Convex
 pub mod TangentBound
 pub mod EatLemmas
 pub mod Accepted
+pub mod EdgeBound

@@ -5,3 +5,4 @@ pub mod Eat
 pub mod BoundLaws
 pub mod CutLaws
 pub mod Laws
+pub mod EdgeLaws

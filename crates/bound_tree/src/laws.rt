@@ -63,3 +63,12 @@ pub fn closes_once()
 pub fn closed_is_good()
     ensures { ClosedIsGood }
 {}
+
+ghost use Rattle.bound_tree.specs.EdgeLaws.{EdgeIsAbove, EdgeIsWithinMean};
+
+/// The edge bound of a prefix is no less than what each path that extends it finds, and no more than its mean bound.
+#[tactic(auto, using(crate::proofs::EdgeBound::edge_is_above, crate::proofs::EdgeBound::edge_is_within_mean))]
+pub fn edge_is_between()
+    ensures above { EdgeIsAbove }
+    ensures within { EdgeIsWithinMean }
+{}

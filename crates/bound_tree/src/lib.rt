@@ -10,7 +10,7 @@ mod tree;
 pub use cut::{cuts, in_parts};
 pub use laws::{
     accepted_is_best, closed_is_good, closed_stays, closes_once, cut_stays, eaten_by_either,
-    looks_are_convex, mean_is_above, tangent_is_above,
+    edge_is_between, looks_are_convex, mean_is_above, tangent_is_above,
 };
 pub use node::{Kind, TreeNode};
 pub use plan::Plan;

@@ -4,4 +4,5 @@ pub mod Highest
 pub mod RowSteps
 pub mod Filling
 pub mod LeastSteps
+pub mod Entries
 pub mod Examples

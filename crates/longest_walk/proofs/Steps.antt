@@ -20,31 +20,49 @@ pub greatest_sum-zero : (rows : List (List ℕ)) (r : ℕ → ℕ → ℕ) (t a 
 unfolding walks sum_along
 greatest_sum-zero rows r t a = greatest-one 0
 
--- a first cell adds its reward to each sum
-sums-first : (r : ℕ → ℕ → ℕ) (t b : ℕ) (ys : List (List ℕ)) → map (sum_along r t) (map (λ y. b ∷ y) ys) ≡ map (λ v. r t b + v) (map (sum_along r (t + 1)) ys)
+-- the first cell's reward, and the sum of the rest
+pub sum_along-cons : (r : ℕ → ℕ → ℕ) (t b : ℕ) (y : List ℕ) → sum_along r t (b ∷ y) ≡ r t b + sum_along r (t + 1) y
 unfolding sum_along
-sums-first r t b [] = refl
-sums-first r t b (y ∷ ys) = ap (λ vs. (r t b + sum_along r (t + 1) y) ∷ vs) (sums-first r t b ys)
+sum_along-cons r t b y = refl
+
+-- a first cell adds its part to each sum
+sums-first : (f g : List ℕ → ℕ) (b part : ℕ) → ((y : List ℕ) → f (b ∷ y) ≡ part + g y) → (ys : List (List ℕ)) → map f (map (λ y. b ∷ y) ys) ≡ map (λ v. part + v) (map g ys)
+sums-first f g b part first [] = refl
+sums-first f g b part first (y ∷ ys) =
+    let head : f (b ∷ y) ≡ part + g y = first y in
+    let rest : map f (map (λ y. b ∷ y) ys) ≡ map (λ v. part + v) (map g ys) = sums-first f g b part first ys in
+    cc
 
 -- by way of one first move
-sums-through : (rows : List (List ℕ)) → IsGrid rows → (r : ℕ → ℕ → ℕ) (n t b : ℕ) → b < length rows →
-    greatest (map (sum_along r t) (map (λ y. b ∷ y) (walks rows n b))) ≡ sum_through rows r n t b
-sums-through rows grid r n t b here =
-    ap greatest (sums-first r t b (walks rows n b))
-    ∙ greatest-raised (r t b) (map (sum_along r (t + 1)) (walks rows n b)) (rw length-map (some_walks rows grid n b here))
+sums-through : (rows : List (List ℕ)) → IsGrid rows → (f g : List ℕ → ℕ) (n b part : ℕ) → ((y : List ℕ) → f (b ∷ y) ≡ part + g y) → b < length rows →
+    greatest (map f (map (λ y. b ∷ y) (walks rows n b))) ≡ part + greatest (map g (walks rows n b))
+sums-through rows grid f g n b part first here =
+    ap greatest (sums-first f g b part first (walks rows n b))
+    ∙ greatest-raised part (map g (walks rows n b)) (rw length-map (some_walks rows grid n b here))
 
 -- what holds of each cell holds of each move
 pub All-moves : (rows : List (List ℕ)) → IsGrid rows → (P : ℕ → Type 0) → ((d : ℕ) → d < length rows → P d) → (a : ℕ) → a < length rows → All P (moves_from rows a)
 All-moves rows grid P each a here =
     All-weaker (Contains (moves_from rows a)) P (λ d move. each d (move_within rows grid a d here move)) (moves_from rows a) (All-contains_itself (moves_from rows a))
 
--- the greatest sum over walks that are longer by one is the greatest by way of a first move
+-- over the walks that are longer by one, the greatest of some sums is the greatest by way of a first move
+pub greatest_walks-suc : (rows : List (List ℕ)) → IsGrid rows → (f : List ℕ → ℕ) (part : ℕ → ℕ) (g : ℕ → List ℕ → ℕ) →
+    ((b : ℕ) (y : List ℕ) → f (b ∷ y) ≡ part b + g b y) → (n a : ℕ) → a < length rows →
+    greatest (map f (walks rows (suc n) a)) ≡ greatest (map (λ b. part b + greatest (map (g b) (walks rows n b))) (moves_from rows a))
+unfolding walks
+greatest_walks-suc rows grid f part g first n a here =
+    let parts : ℕ → List (List ℕ) = λ b. map (λ y. b ∷ y) (walks rows n b) in
+    let through : ℕ → ℕ = λ b. part b + greatest (map (g b) (walks rows n b)) in
+    ap greatest (map-flat_map f parts (moves_from rows a))
+    ∙ greatest-flat_map (λ b. map f (parts b)) (moves_from rows a)
+    ∙ ap greatest (map_agree (λ b. greatest (map f (parts b))) through (moves_from rows a)
+    (All-moves rows grid (λ b. greatest (map f (parts b)) ≡ through b) (λ b within. sums-through rows grid f (g b) n b (part b) (first b) within) a here))
+
+-- the greatest sum of rewards
 pub greatest_sum-suc : (rows : List (List ℕ)) → IsGrid rows → (r : ℕ → ℕ → ℕ) (n t a : ℕ) → a < length rows →
     greatest_sum rows r (suc n) t a ≡ greatest (map (sum_through rows r n t) (moves_from rows a))
-unfolding walks
-greatest_sum-suc rows grid r n t a here =
-    let parts : ℕ → List (List ℕ) = λ b. map (λ y. b ∷ y) (walks rows n b) in
-    ap greatest (map-flat_map (sum_along r t) parts (moves_from rows a))
-    ∙ greatest-flat_map (λ b. map (sum_along r t) (parts b)) (moves_from rows a)
-    ∙ ap greatest (map_agree (λ b. greatest (map (sum_along r t) (parts b))) (sum_through rows r n t) (moves_from rows a)
-    (All-moves rows grid (λ b. greatest (map (sum_along r t) (parts b)) ≡ sum_through rows r n t b) (λ b within. sums-through rows grid r n t b within) a here))
+greatest_sum-suc rows grid r n t a here = greatest_walks-suc rows grid (sum_along r t) (r t) (λ _. sum_along r (t + 1)) (λ b y. sum_along-cons r t b y) n a here
+
+-- no walk has more than the greatest sum
+pub sum_along-below : (rows : List (List ℕ)) (r : ℕ → ℕ → ℕ) (n t a : ℕ) (y : List ℕ) → Contains (walks rows n a) y → sum_along r t y ≤ greatest_sum rows r n t a
+sum_along-below rows r n t a y listed = greatest_above (map (sum_along r t) (walks rows n a)) (sum_along r t y) (Contains-map (sum_along r t) (walks rows n a) y listed)

@@ -3,6 +3,7 @@ pub mod Best
 pub mod BoundSizes
 pub mod Children
 pub mod DriftSums
+pub mod EdgeRewards
 pub mod ExampleBounds
 pub mod ExampleProblems
 pub mod Examples

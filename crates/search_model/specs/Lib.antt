@@ -1,4 +1,5 @@
 pub mod Bounds
+pub mod Edge
 pub mod Faults
 pub mod Following
 pub mod Grids

@@ -1,0 +1,4 @@
+pub mod Examples
+pub mod Discounts
+pub mod Fitting
+pub mod Walking

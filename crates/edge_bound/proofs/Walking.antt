@@ -1,0 +1,71 @@
+-- The greatest sums of edge rewards, by way of a first move.
+use Rattle.std.proofs.Common.{ℕ, suc, ◌+◌, ◌-◌, ◌<◌, ◌≤◌, ◌≡◌, List, ◌∷◌, map, length, slice_index, refl, sym, ap, ◌∙◌, arith}
+use Rattle.std.proofs.lemmas.List.Elements.{All-get_or}
+use Rattle.search_grid.specs.Moves.{moves_from}
+use Rattle.search_model.specs.Problem.{Problem, IsProblem}
+use Rattle.search_model.specs.Legal.{IsLegal, walks, continuations, last_of, moves_after}
+use Rattle.search_model.specs.Bounds.{reward_of, greatest}
+use Rattle.search_model.specs.Edge.{edge_reward_of, sum_moves, edge_sum}
+use Rattle.search_model.proofs.LegalLemmas.{last_within}
+use Rattle.search_model.proofs.Greatest.{greatest-one}
+use Rattle.list_laws.proofs.Agreeing.{map_agree}
+use Rattle.longest_walk.proofs.Steps.{greatest_walks-suc, All-moves}
+use Rattle.edge_bound.specs.Moves.{greatest_moves, HasSums}
+
+sum_moves-cons : (r : ℕ → ℕ → ℕ → ℕ) (t a b : ℕ) (y : List ℕ) → sum_moves r t a (b ∷ y) ≡ r t a b + sum_moves r (t + 1) b y
+unfolding sum_moves
+sum_moves-cons r t a b y = refl
+
+-- no walk, no sum
+pub greatest_moves-zero : (rows : List (List ℕ)) (r : ℕ → ℕ → ℕ → ℕ) (t a : ℕ) → greatest_moves rows r 0 t a ≡ 0
+unfolding walks sum_moves
+greatest_moves-zero rows r t a = greatest-one 0
+
+module _ (p : Problem) (sound : IsProblem p) (q sums : List ℕ) where
+  -- past the horizon the sums are 0
+  pub sums_none : (t : ℕ) → p.horizon < t → ((a : ℕ) → a < p.positions → slice_index sums a ≡ 0) → HasSums p q t sums
+  sums_none t past zeros a here =
+      let none : p.horizon + 1 - t ≡ 0 = omega (arith, past) in
+      rw none (zeros a here ∙ sym (greatest_moves-zero p.moves (edge_reward_of p q) t a))
+
+  -- the greatest of a move's parts and sums
+  with_sums : (t n : ℕ) (part : ℕ → ℕ) (a : ℕ) → a < length p.moves → n ≡ p.horizon + 1 - t → HasSums p q t sums →
+      greatest (map (λ b. part b + greatest_moves p.moves (edge_reward_of p q) n t b) (moves_from p.moves a)) ≡ greatest (map (λ b. part b + slice_index sums b) (moves_from p.moves a))
+  with_sums t n part a here left filled =
+      let f : ℕ → ℕ = λ b. part b + greatest_moves p.moves (edge_reward_of p q) n t b in
+      let g : ℕ → ℕ = λ b. part b + slice_index sums b in
+      ap greatest (map_agree f g (moves_from p.moves a)
+      (All-moves p.moves sound.grid (λ b. f b ≡ g b) (λ b there.
+      let at : slice_index sums b ≡ greatest_moves p.moves (edge_reward_of p q) (p.horizon + 1 - t) t b = filled b (omega (arith, there, sound.grid_positions)) in
+      rw (at, left) refl) a here))
+
+  -- in a period by the sums of the next one
+  pub sums_before : (t a : ℕ) → t ≤ p.horizon → a < p.positions → HasSums p q (t + 1) sums →
+      greatest_moves p.moves (edge_reward_of p q) (p.horizon + 1 - t) t a ≡ greatest (map (λ b. edge_reward_of p q t a b + slice_index sums b) (moves_from p.moves a))
+  sums_before t a last here filled =
+      let n = p.horizon - t in
+      let r = edge_reward_of p q in
+      let at : a < length p.moves = omega (arith, here, sound.grid_positions) in
+      let long : p.horizon + 1 - t ≡ suc n = omega (arith, last) in
+      let left : n ≡ p.horizon + 1 - (t + 1) = omega (arith, last) in
+      rw long
+      (greatest_walks-suc p.moves sound.grid (sum_moves r t a) (r t a) (λ b. sum_moves r (t + 1) b) (λ b y. sum_moves-cons r t a b y) n a at
+      ∙ with_sums (t + 1) n (r t a) a at left filled)
+
+  -- and over all continuations by the sums of the second period after the prefix
+  pub sums_first : IsLegal p q → length q < p.horizon → HasSums p q (length q + 2) sums →
+      greatest (map (edge_sum p q) (continuations p q)) ≡ greatest (map (λ b. reward_of p q (length q + 1) b + slice_index sums b) (moves_after p q))
+  sums_first legal short filled =
+      let n = p.horizon - length q - 1 in
+      let a = last_of p.start q in
+      let at : a < length p.moves = last_within p.moves sound.grid p.start (omega (arith, sound.start, sound.grid_positions)) q legal.follows in
+      let long : p.horizon - length q ≡ suc n = omega (arith, short) in
+      let left : n ≡ p.horizon + 1 - (length q + 2) = omega (arith, short) in
+      rw long
+      (greatest_walks-suc p.moves sound.grid (edge_sum p q) (reward_of p q (length q + 1)) (λ b. sum_moves (edge_reward_of p q) (length q + 2) b) (λ b y. refl) n a at
+      ∙ with_sums (length q + 2) n (reward_of p q (length q + 1)) a at left filled)
+
+  -- each move is a position
+  pub move_there : (a i : ℕ) → a < length p.moves → i < length (moves_from p.moves a) → slice_index (moves_from p.moves a) i < p.positions
+  move_there a i here short =
+      All-get_or (λ b. b < p.positions) (moves_from p.moves a) i 0 short (All-moves p.moves sound.grid (λ b. b < p.positions) (λ b there. omega (arith, there, sound.grid_positions)) a here)

@@ -1,0 +1,4 @@
+pub mod Onward
+pub mod Moves
+pub mod Edges
+pub mod Worked

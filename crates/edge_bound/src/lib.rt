@@ -1,0 +1,12 @@
+//! The edge bound: the value of a prefix, and the greatest sum of the rewards that looks after it have, each discounted
+//! by the look just before it.
+#![tactic(auto)]
+
+mod edge;
+mod laws;
+mod masses;
+mod moves;
+mod rows;
+
+pub use edge::Edge;
+pub use laws::worked_edges;

@@ -1,0 +1,88 @@
+//! The greatest sums of edge rewards, one row of positions for a period, from the last period back.
+
+ghost use Rattle.std.specs.Prelude.{◌≡◌, ◌<◌, ◌≤◌, ◌+◌, ◌-◌, length, map};
+ghost use Rattle.search_model.specs.Legal.{IsLegal, continuations};
+ghost use Rattle.search_model.specs.Bounds.{greatest};
+ghost use Rattle.search_model.specs.Edge.{edge_reward_of, edge_sum};
+ghost use Rattle.edge_bound.specs.Onward.{IsTableFor};
+ghost use Rattle.edge_bound.specs.Moves.{IsLater, HasSums, greatest_moves};
+
+use crate::moves::{found_after, found_first};
+use belief_update::later_parts;
+use search_model::{Path, Scenario};
+
+/// The greatest sum over the walks that go on from position `a` in period `t`, by the sums of the period after it.
+fn best_move(sc: &Scenario, prefix: &Path, masses: &[u128], sums: &[u128], t: u32, a: u8) -> u128
+    requires period { IsLater sc.now prefix.now t }
+    requires from { a < sc.now.positions }
+    requires masses { IsTableFor sc.now prefix.now masses.now }
+    requires width { length sums.now ≡ sc.now.positions }
+    requires sums { HasSums sc.now prefix.now (t + 1) sums.now }
+    ensures { result ≡ greatest_moves sc.now.moves (edge_reward_of sc.now prefix.now) (sc.now.horizon + 1 - t) t a }
+{
+    let _sound = sc.cells();
+    let parts = later_parts(sc, t, prefix.len() as u32 + 2);
+    let moves = sc.grid().moves(a);
+    let mut best = 0;
+    for b in moves {
+        let reward = found_after(sc, prefix, masses, t, a, *b) * parts;
+        best = (reward + sums[usize::from(*b)]).max(best);
+    }
+    best
+}
+
+/// The row of period `t`, by the sums of the period after it.
+fn fill_row(row: &mut [u128], sc: &Scenario, prefix: &Path, masses: &[u128], sums: &[u128], t: u32)
+    requires size { length row.old ≡ sc.now.positions }
+    requires period { IsLater sc.now prefix.now t }
+    requires masses { IsTableFor sc.now prefix.now masses.now }
+    requires width { length sums.now ≡ sc.now.positions }
+    requires sums { HasSums sc.now prefix.now (t + 1) sums.now }
+    ensures { HasSums sc.now prefix.now t row.new }
+{
+    for a in 0..sc.positions() {
+        row[usize::from(a)] = best_move(sc, prefix, masses, sums, t, a);
+    }
+}
+
+/// The sums of the second period after a prefix, by those of the last period and back; `earlier` is room for one row.
+pub(crate) fn fill_sums(
+    sums: &mut [u128],
+    earlier: &mut [u128],
+    sc: &Scenario,
+    prefix: &Path,
+    masses: &[u128],
+)
+    requires short { length prefix.now < sc.now.horizon }
+    requires width { length sums.old ≡ sc.now.positions }
+    requires room { length earlier.old ≡ sc.now.positions }
+    requires masses { IsTableFor sc.now prefix.now masses.now }
+    ensures { HasSums sc.now prefix.now (length prefix.now + 2) sums.new }
+{
+    sums.fill(0);
+    for t in (prefix.len() as u32 + 1..sc.horizon()).rev() {
+        fill_row(earlier, sc, prefix, masses, sums, t + 1);
+        sums.copy_from_slice(earlier);
+    }
+}
+
+/// The greatest sum of edge rewards over the continuations of a prefix, by the sums of the second period after it.
+pub(crate) fn best_first(sc: &Scenario, prefix: &Path, masses: &[u128], sums: &[u128]) -> u128
+    requires legal { IsLegal sc.now prefix.now }
+    requires short { length prefix.now < sc.now.horizon }
+    requires masses { IsTableFor sc.now prefix.now masses.now }
+    requires width { length sums.now ≡ sc.now.positions }
+    requires sums { HasSums sc.now prefix.now (length prefix.now + 2) sums.now }
+    ensures { result ≡ greatest (map (edge_sum sc.now prefix.now) (continuations sc.now prefix.now)) }
+{
+    let _sound = sc.cells();
+    let looks = prefix.len() as u32 + 1;
+    let parts = later_parts(sc, looks, looks);
+    let moves = sc.moves_after(prefix);
+    let mut best = 0;
+    for b in moves {
+        let reward = found_first(sc, prefix, masses, *b) * parts;
+        best = (reward + sums[usize::from(*b)]).max(best);
+    }
+    best
+}
