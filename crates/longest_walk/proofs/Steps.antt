@@ -10,6 +10,7 @@ use Rattle.search_model.proofs.WalkLemmas.{some_walks}
 use Rattle.search_model.specs.Reference.{greatest_sum}
 use Rattle.list_laws.proofs.Agreeing.{map_agree, map-flat_map}
 use Rattle.search_model.proofs.Greatest.{greatest-one, greatest-raised, greatest-flat_map}
+use Rattle.search_model.proofs.LeastBest.{sum_along-cons}
 
 -- the greatest sum over the walks that are on a cell in period t and go on for n periods more
 abbrev pub sum_through : List (List ℕ) → (ℕ → ℕ → ℕ) → ℕ → ℕ → ℕ → ℕ
@@ -19,11 +20,6 @@ sum_through rows r n t d = r t d + greatest_sum rows r n (t + 1) d
 pub greatest_sum-zero : (rows : List (List ℕ)) (r : ℕ → ℕ → ℕ) (t a : ℕ) → greatest_sum rows r 0 t a ≡ 0
 unfolding walks sum_along
 greatest_sum-zero rows r t a = greatest-one 0
-
--- the first cell's reward, and the sum of the rest
-pub sum_along-cons : (r : ℕ → ℕ → ℕ) (t b : ℕ) (y : List ℕ) → sum_along r t (b ∷ y) ≡ r t b + sum_along r (t + 1) y
-unfolding sum_along
-sum_along-cons r t b y = refl
 
 -- a first cell adds its part to each sum
 sums-first : (f g : List ℕ → ℕ) (b part : ℕ) → ((y : List ℕ) → f (b ∷ y) ≡ part + g y) → (ys : List (List ℕ)) → map f (map (λ y. b ∷ y) ys) ≡ map (λ v. part + v) (map g ys)
@@ -62,7 +58,3 @@ greatest_walks-suc rows grid f part g first n a here =
 pub greatest_sum-suc : (rows : List (List ℕ)) → IsGrid rows → (r : ℕ → ℕ → ℕ) (n t a : ℕ) → a < length rows →
     greatest_sum rows r (suc n) t a ≡ greatest (map (sum_through rows r n t) (moves_from rows a))
 greatest_sum-suc rows grid r n t a here = greatest_walks-suc rows grid (sum_along r t) (r t) (λ _. sum_along r (t + 1)) (λ b y. sum_along-cons r t b y) n a here
-
--- no walk has more than the greatest sum
-pub sum_along-below : (rows : List (List ℕ)) (r : ℕ → ℕ → ℕ) (n t a : ℕ) (y : List ℕ) → Contains (walks rows n a) y → sum_along r t y ≤ greatest_sum rows r n t a
-sum_along-below rows r n t a y listed = greatest_above (map (sum_along r t) (walks rows n a)) (sum_along r t y) (Contains-map (sum_along r t) (walks rows n a) y listed)

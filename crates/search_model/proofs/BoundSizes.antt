@@ -17,15 +17,7 @@ use Rattle.search_model.proofs.WalkLemmas.{listed_walk, follows-append, continua
 use Rattle.search_model.proofs.Totals.{weights_sum, nothing_is_cut_off}
 use Rattle.search_model.proofs.Greatest.{greatest_below}
 use Rattle.search_model.proofs.LeastBest.{sum_along-below}
-
--- the looks of a prefix scale by no more than the denominators
-factors-le : (p : Problem) → IsProblem p → (t : ℕ) (q x : List ℕ) → factors_along p t q x ≤ p.sweep.denominator ^ length q
-unfolding factors_along
-factors-le p sound t [] x = rw (pow-zero p.sweep.denominator) (omega arith)
-factors-le p sound t (a ∷ q) [] = one-le-pow (suc (length q)) p.sweep.denominator sound.sweep.denominator.0
-factors-le p sound t (a ∷ q) (c ∷ x) =
-    rw (pow-suc p.sweep.denominator (length q))
-    (omega (arith, mul-le _ _ _ _ (sound.sweep.within t a c) (factors-le p sound (t + 1) q x)))
+use Rattle.search_model.proofs.EdgeRewards.{factors_along-le}
 
 -- what a look finds of a track in so many periods
 found_within : (w f r m g front : ℕ) → f ≤ front → r ≤ g → w * f * r * m ≤ w * (front * g * m)
@@ -40,7 +32,7 @@ reward-le p sound q short t a =
     let later = g ^ (p.horizon - length q - 1) in
     let most = g ^ length q * g * later in
     let each = sum_by-le-sum_by (λ x. weight_of p x * factors_along p 1 q x * (g - factor_of p.sweep t a (cell_in x t)) * later) (λ x. weight_of p x * most) all (λ x.
-    found_within (weight_of p x) (factors_along p 1 q x) (g - factor_of p.sweep t a (cell_in x t)) later g (g ^ length q) (factors-le p sound 1 q x) (omega arith)) in
+    found_within (weight_of p x) (factors_along p 1 q x) (g - factor_of p.sweep t a (cell_in x t)) later g (g ^ length q) (factors_along-le p sound 1 q x) (omega arith)) in
     let sum = sum_by-times (weight_of p) most all in
     let long : p.horizon ≡ suc (length q) + (p.horizon - length q - 1) = omega (arith, short) in
     let powers : g ^ p.horizon ≡ most =
