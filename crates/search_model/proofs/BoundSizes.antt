@@ -1,45 +1,23 @@
 -- How large the bounds are at most: no reward is above the whole weight, and no gain above the whole weight in finer parts.
-use Rattle.std.proofs.Common.{ℕ, suc, ◌+◌, ◌*◌, ◌-◌, ◌^◌, ◌<◌, ◌≤◌, ◌≡◌, Bool, nat_lt, if◌then◌else◌, List, [], ◌∷◌, ◌++◌, map, filter, length, drop, ap, ◌∙◌, subst, arith, sum_by, Contains, length-append, pow-add}
-use Rattle.std.proofs.Math.Nat.{pow-zero, pow-suc, mul-le-mul_left, le_refl, one-le-pow}
+use Rattle.std.proofs.Common.{ℕ, ◌+◌, ◌*◌, ◌-◌, ◌≤◌, ◌≡◌, Bool, nat_lt, if◌then◌else◌, List, [], ◌∷◌, ◌++◌, map, filter, length, drop, ap, ◌∙◌, subst, arith, sum_by, Contains, length-append}
+use Rattle.std.proofs.Math.Nat.{mul-le-mul_left, le_refl}
 use Rattle.std.proofs.Math.Seq.{drop-append_seam}
 use Rattle.std.proofs.lemmas.Bool.{cond_both}
 use Rattle.std.proofs.lemmas.Nat.{mul-le}
 use Rattle.std.proofs.lemmas.List.Sums.{sum_by-le-sum_by}
 use Rattle.std.proofs.lemmas.List.Elements.{All-map, All-weaker, All-contains_itself}
-use Rattle.list_laws.proofs.Sums.{sum_by-filter, sum_by-times}
+use Rattle.list_laws.proofs.Sums.{sum_by-filter}
 use Rattle.sweep_table.specs.LookParts.{factor_of}
 use Rattle.search_model.specs.Problem.{Problem, IsProblem}
 use Rattle.search_model.specs.Legal.{IsLegal, IsPath, last_of, continuations}
 use Rattle.search_model.specs.Tracks.{tracks, weight_of, miss_of, missed_weight, whole_weight, value_of}
-use Rattle.search_model.specs.Bounds.{factors_along, cell_in, reward_of, sum_along, greatest, gain_of}
+use Rattle.search_model.specs.Bounds.{cell_in, reward_of, sum_along, greatest, gain_of}
 use Rattle.search_model.specs.Laws.{MeanSize, TangentSize, NoTangentCutOff}
 use Rattle.search_model.proofs.WalkLemmas.{listed_walk, follows-append, continuations_are}
-use Rattle.search_model.proofs.Totals.{weights_sum, nothing_is_cut_off}
+use Rattle.search_model.proofs.Totals.{nothing_is_cut_off}
 use Rattle.search_model.proofs.Greatest.{greatest_below}
 use Rattle.search_model.proofs.LeastBest.{sum_along-below}
-use Rattle.search_model.proofs.EdgeRewards.{factors_along-le}
-
--- what a look finds of a track in so many periods
-found_within : (w f r m g front : ℕ) → f ≤ front → r ≤ g → w * f * r * m ≤ w * (front * g * m)
-found_within w f r m g front hf hr = omega (arith, mul-le-mul_left (w * m) (mul-le f r front g hf hr))
-
--- no reward is above the whole weight
-reward-le : (p : Problem) → IsProblem p → (q : List ℕ) → length q < p.horizon → (t a : ℕ) → reward_of p q t a ≤ whole_weight p
-unfolding reward_of
-reward-le p sound q short t a =
-    let g = p.sweep.denominator in
-    let all = tracks p.cells p.horizon in
-    let later = g ^ (p.horizon - length q - 1) in
-    let most = g ^ length q * g * later in
-    let each = sum_by-le-sum_by (λ x. weight_of p x * factors_along p 1 q x * (g - factor_of p.sweep t a (cell_in x t)) * later) (λ x. weight_of p x * most) all (λ x.
-    found_within (weight_of p x) (factors_along p 1 q x) (g - factor_of p.sweep t a (cell_in x t)) later g (g ^ length q) (factors_along-le p sound 1 q x) (omega arith)) in
-    let sum = sum_by-times (weight_of p) most all in
-    let long : p.horizon ≡ suc (length q) + (p.horizon - length q - 1) = omega (arith, short) in
-    let powers : g ^ p.horizon ≡ most =
-    ap (λ (n : ℕ). g ^ n) long ∙ pow-add g (suc (length q)) (p.horizon - length q - 1) ∙ rw (pow-suc g (length q)) (omega arith) in
-    let whole : whole_weight p ≡ p.total * p.drift.denominator ^ (p.horizon - 1) * most = ap (λ (n : ℕ). p.total * p.drift.denominator ^ (p.horizon - 1) * n) powers in
-    let weights = ap (λ (n : ℕ). n * most) (weights_sum p sound) in
-    omega (arith, each, sum, weights, whole)
+use Rattle.search_model.proofs.EdgeRewards.{reward-within}
 
 -- what some of the tracks miss is at most what all miss
 some_tracks-le : (test : List ℕ → Bool) (f : List ℕ → ℕ) (xs : List (List ℕ)) → sum_by f (filter test xs) ≤ sum_by f xs
@@ -77,7 +55,7 @@ sums-le p q r most t each =
 
 pub mean_size : MeanSize
 mean_size p q sound short =
-    let sums = sums-le p q (reward_of p q) (whole_weight p) (length q + 1) (reward-le p sound q short) in
+    let sums = sums-le p q (reward_of p q) (whole_weight p) (length q + 1) (λ t a. reward-within p sound q t a short) in
     omega (arith, sums)
 
 within_parts : (g w v s r n : ℕ) → v ≤ w → s ≤ n * (g * w) → g * v + s - r ≤ (n + 1) * w * g
