@@ -1,6 +1,6 @@
 use Rattle.std.proofs.Common.{ap, ◌∙◌}
 use Rattle.search_model.specs.Bounds.{tangent_of}
-use Rattle.tangent_bound.proofs.OneRate.{one_rate}
+use Rattle.search_model.proofs.Rates.{one_rate}
 use Rattle.tangent_bound.proofs.tangent.Tangent.bound.Goals as goal
 
 pub returns-clause-value : goal.returns-clause-value
