@@ -12,7 +12,6 @@ use Rattle.exact_parts.specs.declared.number.Number.{Number}
 use Rattle.exact_parts.specs.declared.number.Number.TheVariants.{NotPlain, Above, Of}
 use Rattle.exact_parts.proofs.Canonical.{is_text, plain_of_text}
 use Rattle.exact_parts.proofs.PlainDigits.{plain_digit}
-use Rattle.exact_parts.proofs.Written.{digits_fit}
 
 -- it is a plain decimal
 pub plain-decimal : (n : ℕ) → n < 2 ^ 128 → is_plain (decimal n) ≡ true
@@ -26,12 +25,9 @@ value-decimal n small = (plain_of_text (decimal n) n small refl).1
 pub decimal_tells : (m n : ℕ) → m < 2 ^ 128 → n < 2 ^ 128 → decimal m ≡ decimal n → m ≡ n
 decimal_tells m n m_small n_small e = sym (value-decimal m m_small) ∙ ap (digits_value 10) e ∙ value-decimal n n_small
 
--- it isn't empty, and has at most 39 bytes
+-- it isn't empty
 pub some-decimal : (n : ℕ) → n < 2 ^ 128 → 0 < length (decimal n)
 some-decimal n small = decimal_by_steps_wide (λ _ ds. 0 < length ds) (λ k lt. grind arith) (λ k ds le h. simp length-append (omega arith)) n (omega arith)
-
-pub short-decimal : (n : ℕ) → n < 2 ^ 128 → length (decimal n) ≤ 39
-short-decimal n small = digits_fit n small
 
 -- each of its bytes is a digit, 48 to 57
 pub digit_in-decimal : (n i : ℕ) → n < 2 ^ 128 → i < length (decimal n) → IsInRange 48 57 (get_or (decimal n) i 0)

@@ -4,5 +4,4 @@ pub mod Written
 pub mod Widths
 pub mod Decimals
 pub mod AppendLemmas
-pub mod RowLemmas
 pub mod Percents

@@ -8,4 +8,5 @@ pub mod Members
 pub mod Pairs
 pub mod Parts
 pub mod Ranges
+pub mod Rising
 pub mod Sums

@@ -1,8 +1,8 @@
 -- The text of a line, field by field.
 use Rattle.std.proofs.Common.{ℕ, ◌+◌, ◌<◌, ◌≤◌, ◌≡◌, List, [], ◌∷◌, ◌++◌, map, length, get_or, take, take_all, drop, refl, sym, ap, ◌∙◌, append_assoc}
-use Rattle.exact_parts.specs.Rows.{spaced}
+use Rattle.text_rows.specs.Rows.{spaced}
+use Rattle.text_rows.proofs.RowLemmas.{join-fields, stands_at_field}
 use Rattle.exact_parts.proofs.AppendLemmas.{Stands}
-use Rattle.exact_parts.proofs.RowLemmas.{join-fields, stands_at_field}
 use Rattle.mission_report.specs.declared.lines.Field.{Field}
 use Rattle.mission_report.specs.Lines.{field_text, line_of}
 

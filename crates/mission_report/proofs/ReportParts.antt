@@ -1,8 +1,8 @@
 -- The text of a report, in the pieces in which it is appended.
 use Rattle.std.proofs.Common.{ℕ, ◌≡◌, List, [], ◌∷◌, ◌++◌, Some, map, ap, ◌∙◌}
 use Rattle.std.specs.Prelude.{codes}
-use Rattle.exact_parts.specs.Rows.{text_of}
-use Rattle.exact_parts.proofs.RowLemmas.{text_of-append}
+use Rattle.text_rows.specs.Rows.{text_of}
+use Rattle.text_rows.proofs.RowLemmas.{text_of-append}
 use Rattle.search_model.specs.Problem.{Problem, IsProblem}
 use Rattle.search_model.specs.Legal.{IsPath}
 use Rattle.search_model.specs.Tracks.{value_of}

@@ -3,9 +3,9 @@ use Rattle.std.proofs.Common.{ℕ, ◌+◌, ◌-◌, ◌<◌, ◌≤◌, ◌≡�
 use Rattle.std.specs.List.{range_with_len}
 use Rattle.std.proofs.lemmas.List.{length-map}
 use Rattle.std.proofs.lemmas.List.FromFn.{length-range_with_len, get_or-range_with_len, get_or-map-range_with_len}
-use Rattle.exact_parts.specs.Rows.{text_of}
+use Rattle.text_rows.specs.Rows.{text_of}
+use Rattle.text_rows.proofs.RowLemmas.{stands_at_row, text_of-more}
 use Rattle.exact_parts.proofs.AppendLemmas.{Stands, then_more}
-use Rattle.exact_parts.proofs.RowLemmas.{stands_at_row, text_of-more}
 use Rattle.search_model.specs.Problem.{Problem}
 use Rattle.search_model.specs.Tracks.{whole_weight}
 use Rattle.mission_report.specs.Account.{value_up_to, values_along}

@@ -2,7 +2,7 @@
 use Rattle.std.specs.Prelude.{ℕ, ◌*◌, ◌^◌, ◌<◌, ◌≤◌, List, [], ◌∷◌, map}
 use Rattle.std.specs.Fmt.{decimal}
 use Rattle.exact_parts.specs.Percent.{percent_text}
-use Rattle.exact_parts.specs.Rows.{text_of}
+use Rattle.text_rows.specs.Rows.{text_of}
 use Rattle.mission_report.specs.declared.lines.Field.{Field}
 use Rattle.mission_report.specs.declared.lines.Field.TheVariants.{Word, Number, Share}
 

@@ -2,7 +2,7 @@
 use Rattle.std.specs.Prelude.{ℕ, ◌-◌, List, [], ◌∷◌, ◌++◌, map, slice_index, codes}
 use Rattle.std.specs.Fmt.{decimal}
 use Rattle.exact_parts.specs.Percent.{percent_text}
-use Rattle.exact_parts.specs.Rows.{text_of}
+use Rattle.text_rows.specs.Rows.{text_of}
 use Rattle.search_model.specs.Problem.{Problem, cell_name, position_name}
 use Rattle.search_model.specs.Tracks.{whole_weight, value_of}
 use Rattle.mission_report.specs.Account.{all_periods, all_cells, value_up_to, mass_left}

@@ -2,7 +2,7 @@
 
 ghost use Rattle.std.specs.Prelude.{◌≡◌, ◌≤◌, ◌<◌, ◌++◌, ◌∷◌, [], length, map, slice_index, All, OnOk, OnErr};
 ghost use Rattle.exact_parts.specs.Appending.{AppendsFront};
-ghost use Rattle.exact_parts.specs.Rows.{text_of};
+ghost use Rattle.text_rows.specs.Rows.{text_of};
 ghost use Rattle.search_model.specs.Legal.{IsPath};
 ghost use Rattle.search_model.specs.Tracks.{whole_weight};
 ghost use Rattle.mission_report.specs.Account.{all_cells, values_along};

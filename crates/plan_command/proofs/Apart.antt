@@ -2,7 +2,7 @@
 use Rattle.std.proofs.Common.{ℕ, ◌≡◌, List, length, drop, Result, Ok, sym, ap, ◌∙◌, subst, arith}
 use Rattle.search_model.specs.Problem.{Problem}
 use Rattle.scenario_text.specs.declared.kind.TextFault.{TextFault}
-use Rattle.scenario_text.specs.Lines.{after_lines}
+use Rattle.text_rows.specs.Lines.{after_lines}
 use Rattle.scenario_text.specs.Reading.{Front}
 use Rattle.scenario_text.specs.Scenarios.{Says, IsTextOf}
 use Rattle.scenario_text.proofs.Determined.{one_problem}

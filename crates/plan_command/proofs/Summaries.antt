@@ -3,8 +3,8 @@ use Rattle.std.proofs.Common.{ℕ, ◌≡◌, List, [], ◌∷◌, ◌++◌, map
 use Rattle.std.specs.Fmt.{decimal}
 use Rattle.std.proofs.lemmas.List.{append-nil}
 use Rattle.std.proofs.lemmas.List.Elements.{All-weaker}
-use Rattle.exact_parts.specs.Rows.{text_of, spaced}
-use Rattle.exact_parts.proofs.RowLemmas.{join-fields}
+use Rattle.text_rows.specs.Rows.{text_of, spaced}
+use Rattle.text_rows.proofs.RowLemmas.{join-fields}
 use Rattle.exact_parts.proofs.AppendLemmas.{stands_first, stands_next, stands_last}
 use Rattle.search_model.specs.Problem.{Problem, position_name}
 use Rattle.search_model.specs.Legal.{IsLegal}

@@ -1,7 +1,7 @@
 -- The summary of a drill.
 use Rattle.std.specs.Prelude.{ℕ, List, [], ◌∷◌, map, codes}
 use Rattle.std.specs.Fmt.{decimal}
-use Rattle.exact_parts.specs.Rows.{text_of}
+use Rattle.text_rows.specs.Rows.{text_of}
 use Rattle.search_model.specs.Problem.{Problem, position_name}
 use Rattle.search_model.specs.Tracks.{value_of}
 use Rattle.mission_report.specs.Report.{chance_row}

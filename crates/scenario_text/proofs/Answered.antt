@@ -10,15 +10,17 @@ use Rattle.scenario_text.specs.declared.kind.TextKind.TheVariants.{NotText, BadL
 use Rattle.scenario_text.specs.declared.kind.TextFault.{TextFault}
 use Rattle.scenario_text.specs.declared.stop.TextStop.{TextStop}
 use Rattle.scenario_text.specs.declared.stop.TextStop.TheVariants.{Fault, NoMemory}
-use Rattle.scenario_text.specs.Lines.{after_lines, fields_of}
-use Rattle.scenario_text.specs.Fields.{is_text_byte, says_nothing}
+use Rattle.text_rows.specs.Lines.{after_lines}
+use Rattle.text_rows.specs.Fields.{fields_of, is_text_byte}
+use Rattle.text_rows.proofs.Results.{err_ok}
+use Rattle.scenario_text.specs.Fields.{says_nothing}
 use Rattle.scenario_text.specs.State.{State}
 use Rattle.scenario_text.specs.Reading.{Front, line_at, alone}
-use Rattle.scenario_text.specs.KindTable.{Line, line_due, first_kind, tests, tests_of, kind_by_table, fault_of}
+use Rattle.scenario_text.specs.KindTable.{Line, line_due, tests, tests_of, kind_by_table}
+use Rattle.text_rows.specs.Kinds.{first_kind, fault_of}
 use Rattle.scenario_text.specs.Faults.{IsFirstFault, IsRest, IsFirstFaultAlone}
 use Rattle.scenario_text.specs.Scenarios.{Says, IsFront, IsTextOf, ReadsFront, ReadsAlone}
 use Rattle.scenario_text.specs.Gives.{ReadsDraft, Answers, Tells, IfFault}
-use Rattle.scenario_text.proofs.SoundFields.{err_ok}
 use Rattle.scenario_text.proofs.Determined.{one_problem}
 use Rattle.scenario_text.proofs.Tables.{kinds_by_table}
 use Rattle.scenario_text.proofs.FirstFaults.{first_fault_decides, first_fault_decides_alone}

@@ -1,13 +1,13 @@
 -- Texts that are appended one after the other.
-use Rattle.std.proofs.Common.{◌≡◌, ℕ, suc, zero, ◌+◌, ◌<◌, ◌≤◌, List, [], ◌∷◌, ◌++◌, length, get_or, take, drop, refl, sym, ap, ◌∙◌, subst, arith, append_assoc, add-one, zero-add}
-use Rattle.std.specs.Prelude.{Result, Ok, Err, OnErr}
+use Rattle.std.proofs.Common.{◌≡◌, ℕ, suc, zero, ◌+◌, ◌<◌, ◌≤◌, List, [], ◌∷◌, ◌++◌, length, get_or, take, drop, refl, sym, ap, ◌∙◌, subst, arith, add-one, zero-add}
+use Rattle.std.specs.Prelude.{Result, OnErr}
 use Rattle.std.specs.List.{flat_map, range_with_len}
 use Rattle.std.proofs.lemmas.List.{drop_more, take-append-drop}
 use Rattle.std.proofs.lemmas.List.FromFn.{length-range_with_len, get_or-range_with_len}
 use Rattle.std.proofs.lemmas.List.Concat.{flat_map-append}
 use Rattle.std.proofs.lemmas.List.{append-nil}
 use Rattle.exact_parts.specs.Appending.{AppendsFront}
-use Rattle.exact_parts.proofs.AppendLemmas.{Stands, stands_stopped, stands_refused}
+use Rattle.exact_parts.proofs.AppendLemmas.{then_more, Stands, stands_stopped, stands_refused}
 
 -- where pieces of a text stand, the next piece stops early
 stopped_within : (old mid new done piece left text : List ℕ) → mid ≡ old ++ done → text ≡ done ++ (piece ++ left) → AppendsFront mid new piece → AppendsFront old new text
@@ -29,20 +29,12 @@ front_of_first old new a b h = stopped_within old old new [] a b (a ++ b) (sym (
 pub front_of_second : (old out new a b : List ℕ) → out ≡ old ++ a → AppendsFront out new b → AppendsFront old new (a ++ b)
 front_of_second old out new a b e h = stopped_within old out new a b [] (a ++ b) e (ap (λ (t : List ℕ). a ++ t) (sym (append-nil b))) h
 
-pub both_appended : (old out new a b : List ℕ) → out ≡ old ++ a → new ≡ out ++ b → new ≡ old ++ (a ++ b)
-both_appended old out new a b e f = f ∙ ap (λ (t : List ℕ). t ++ b) e ∙ append_assoc old a b
-
 pub front_of_same : (old new a b : List ℕ) → b ≡ a → AppendsFront old new a → AppendsFront old new b
 front_of_same old new a b e h = subst (AppendsFront old new) (sym e) h
 
 -- the last call's answer, of the same text
 pub err_same : {E : Type 0} (r : Result (Unit {0}) E) (old new a b : List ℕ) → OnErr r (AppendsFront old new a) → b ≡ a → OnErr r (AppendsFront old new b)
 err_same r old new a b h e = subst (λ (t : List ℕ). OnErr r (AppendsFront old new t)) (sym e) h
-
--- what holds anyhow holds at a refusal
-pub on_err : {T E : Type 0} (r : Result T E) (P : Type 0) → P → OnErr r P
-on_err (Ok x) P h = tt
-on_err (Err e) P h = h
 
 -- The texts of a list's elements, up to one of them.
 
@@ -73,7 +65,7 @@ pub front_of_three-third : {text a b c : List ℕ} (old out more new : List ℕ)
 front_of_three-third {a = a} {b = b} {c = c} old out more new is e f h = subst (AppendsFront old new) (sym is.whole) (front_of_second old out new a (b ++ c) e (front_of_second out more new b c f h))
 
 pub three_appended : {text a b c : List ℕ} (old out more new : List ℕ) → IsThree text a b c → out ≡ old ++ a → more ≡ out ++ b → new ≡ more ++ c → new ≡ old ++ text
-three_appended {a = a} {b = b} {c = c} old out more new is e f g = both_appended old out new a (b ++ c) e (both_appended out more new b c f g) ∙ ap (λ (t : List ℕ). old ++ t) (sym is.whole)
+three_appended {a = a} {b = b} {c = c} old out more new is e f g = then_more old out new a (b ++ c) e (then_more out more new b c f g) ∙ ap (λ (t : List ℕ). old ++ t) (sym is.whole)
 
 -- The texts of a range of numbers.
 
@@ -100,4 +92,4 @@ one_in_range f k old out new e more =
     let last : range_with_len 0 (k + 1) ≡ range_with_len 0 k ++ (0 + k) ∷ [] = rw add-one (range_with_len-push k 0) in
     let same : 0 + k ≡ k = omega arith in
     let whole : flat_map f (range_with_len 0 (k + 1)) ≡ flat_map f (range_with_len 0 k) ++ f k = rw last (rw same (flat_map-append f (range_with_len 0 k) (k ∷ []) ∙ ap (λ (t : List ℕ). flat_map f (range_with_len 0 k) ++ t) (append-nil (f k)))) in
-    rw whole (both_appended old out new (flat_map f (range_with_len 0 k)) (f k) e more)
+    rw whole (then_more old out new (flat_map f (range_with_len 0 k)) (f k) e more)

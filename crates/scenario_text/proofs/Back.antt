@@ -13,7 +13,8 @@ use Rattle.sweep_table.specs.LookParts.{factor_of}
 use Rattle.search_model.specs.Problem.{Problem, IsProblem, cell_name, position_name}
 use Rattle.scenario_text.specs.declared.draft.Stage.TheVariants.{Rows}
 use Rattle.scenario_text.specs.State.{State, blank_state}
-use Rattle.scenario_text.specs.Lines.{lines_of, after_lines}
+use Rattle.text_rows.specs.Lines.{lines_of, after_lines}
+use Rattle.text_rows.proofs.RowTexts.{word}
 use Rattle.scenario_text.specs.Reading.{lacks_row, is_narrow, first_said, front_of}
 use Rattle.scenario_text.specs.Canonical.{moves_row, drift_row, overlook_row, first_entries, canonical_text, scenario_rows, state_of_problem, front_of_problem, pair_fields}
 use Rattle.scenario_text.specs.RowFields.{cell_row}
@@ -23,7 +24,7 @@ use Rattle.scenario_text.proofs.Ranges.{map-range-same}
 use Rattle.scenario_text.proofs.Printed.{cell_rows}
 use Rattle.scenario_text.proofs.PairTexts.{some_entry}
 use Rattle.scenario_text.proofs.RowsRead.{Takes, Reads, Reads-row, Reads-end, Reads-range}
-use Rattle.scenario_text.proofs.HeadLines.{word, moves_after, parts_after, overlook_after, after_cells, after_all_cells, named, Takes-version, Takes-horizon, Takes-parts, Takes-cell, Takes-start, Takes-first}
+use Rattle.scenario_text.proofs.HeadLines.{moves_after, parts_after, overlook_after, after_cells, after_all_cells, named, Takes-version, Takes-horizon, Takes-parts, Takes-cell, Takes-start, Takes-first}
 use Rattle.scenario_text.proofs.RowLines.{after_rows, Takes-moves, Takes-drift, Takes-overlook}
 
 -- all rows were read

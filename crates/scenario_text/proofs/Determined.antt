@@ -3,14 +3,12 @@ use Rattle.std.proofs.Common.{◌≡◌, ℕ, ◌<◌, List, length, refl, sym, 
 use Rattle.std.proofs.lemmas.Grind.{same_number_lists}
 use Rattle.std.proofs.lemmas.List.Sorted.{IsPermutation-sym, IsPermutation-trans}
 use Rattle.drift_chain.specs.declared.part.DriftPart.{DriftPart}
-use Rattle.drift_chain.specs.DriftRows.{DriftRows, drift_over, IsDrift}
+use Rattle.drift_chain.specs.DriftRows.{drift_over, IsDrift}
 use Rattle.drift_chain.specs.Faults.{HasSameParts, parts_from}
 use Rattle.drift_chain.proofs.Drifts.{same_drift}
 use Rattle.search_grid.specs.Faults.{HasSameMoves}
 use Rattle.search_grid.specs.Moves.{moves_from}
 use Rattle.search_grid.proofs.Grids.{same_grid}
-use Rattle.sweep_table.specs.LookParts.{LookParts}
-use Rattle.search_model.specs.Problem.{Problem}
 use Rattle.scenario_text.specs.Laws.{OneProblem}
 use Rattle.search_model.proofs.SameParts.{same_problem}
 

@@ -1,43 +1,30 @@
 -- Names, numbers and keywords are fields.
-use Rattle.std.proofs.Common.{◌≡◌, ℕ, ◌<◌, ◌≤◌, ◌^◌, true, List, [], ◌∷◌, map, arith}
+use Rattle.std.proofs.Common.{◌≡◌, ℕ, ◌<◌, ◌≤◌, true, List, [], ◌∷◌, map, arith}
 use Rattle.std.specs.Prelude.{All}
-use Rattle.std.specs.Fmt.{decimal}
-use Rattle.std.specs.Int.{IsInRange}
 use Rattle.std.proofs.lemmas.Grind.{common_steps}
-use Rattle.std.proofs.lemmas.List.Elements.{All-head, All-tail, All-get_or, All-weaker}
-use Rattle.std.proofs.lemmas.List.Sums.{list_all-from_AllPass}
-use Rattle.exact_parts.proofs.Decimals.{some-decimal, All-decimal}
+use Rattle.std.proofs.lemmas.List.Elements.{All-head, All-tail, All-get_or}
 use Rattle.drift_chain.specs.declared.part.DriftPart.{DriftPart}
 use Rattle.search_model.specs.Names.{IsName, is_name_byte, name_in}
 use Rattle.search_model.specs.Problem.{Problem, IsProblem, cell_name}
 use Rattle.scenario_text.specs.Canonical.{pair_fields}
 use Rattle.scenario_text.specs.RowFields.{entry_fields}
-use Rattle.scenario_text.proofs.Joined.{is_field_byte, IsField, AreFields, list_all-weaker}
+use Rattle.text_rows.specs.Fields.{is_field_byte}
+use Rattle.text_rows.proofs.RowTexts.{IsField, AreFields, field_by, IsField-decimal, AreFields-map}
 
 name_byte_is_field : (c : ℕ) → is_name_byte c ≡ true → is_field_byte c ≡ true
 name_byte_is_field c h = grind (arith, common_steps)
 
 pub IsField-name : (name : List ℕ) → IsName name → IsField name
-IsField-name name h = record { some = omega (arith, h.some); bytes = list_all-weaker is_name_byte is_field_byte name_byte_is_field name h.bytes }
+IsField-name name h = field_by is_name_byte name_byte_is_field name (omega (arith, h.some)) h.bytes
 
 pub IsField-cell_name : (p : Problem) → IsProblem p → (c : ℕ) → c < p.cells → IsField (cell_name p c)
 IsField-cell_name p h c lt = IsField-name (cell_name p c) (All-get_or IsName p.names c [] (omega (arith, h.names_length)) h.names)
-
-digit_is_field : (c : ℕ) → IsInRange 48 57 c → is_field_byte c ≡ true
-digit_is_field c range = grind (arith, common_steps)
-
-pub IsField-decimal : (n : ℕ) → n < 2 ^ 128 → IsField (decimal n)
-IsField-decimal n small = record {
-  some = some-decimal n small;
-  bytes = list_all-from_AllPass is_field_byte (decimal n) (All-weaker (IsInRange 48 57) (λ c. is_field_byte c ≡ true) digit_is_field (decimal n) (All-decimal n small));
-}
 
 -- where so many cells have names
 module _ (names : List (List ℕ)) (cells : ℕ) (field : (c : ℕ) → c < cells → IsField (name_in names c)) where
   -- the names of some
   pub AreFields-named : (cs : List ℕ) → All (λ c. c < cells) cs → AreFields (map (name_in names) cs)
-  AreFields-named [] within = tt
-  AreFields-named (c ∷ cs) within = (field c (All-head (λ c. c < cells) c cs within), AreFields-named cs (All-tail (λ c. c < cells) c cs within))
+  AreFields-named cs within = AreFields-map (name_in names) (λ c. c < cells) field cs within
 
   -- the pairs of some entries
   pub AreFields-entries : (es : List DriftPart) → All (λ e. e.cell < cells) es → All (λ e. e.part ≤ 1000000) es → AreFields (entry_fields names es)

@@ -1,16 +1,18 @@
 -- The positive first parts, as entries, are a row in order.
-use Rattle.std.proofs.Common.{◌≡◌, ℕ, zero, suc, ◌+◌, ◌<◌, ◌≤◌, cond, eqb, List, [], ◌∷◌, ◌++◌, map, length, refl, sym, ap, ◌∙◌, arith, zero-add, inl, inr}
+use Rattle.std.proofs.Common.{◌≡◌, ℕ, zero, suc, ◌+◌, ◌<◌, ◌≤◌, cond, eqb, List, [], ◌∷◌, ◌++◌, length, refl, sym, ap, ◌∙◌, arith, zero-add, inl, inr}
 use Rattle.std.specs.Prelude.{All, ◌==◌, if◌then◌else◌, sum, sum_by, slice_index}
 use Rattle.std.specs.List.{flat_map, range_with_len}
 use Rattle.std.proofs.lemmas.Bool.{cases_eq, eq-eqb, ne_eqb}
-use Rattle.std.proofs.lemmas.List.Elements.{All-nil, All-cons, All-weaker, All-map}
+use Rattle.std.proofs.lemmas.List.Elements.{All-nil, All-cons, All-weaker}
 use Rattle.std.proofs.lemmas.List.FromFn.{fill_by_all}
 use Rattle.std.proofs.lemmas.List.Sums.{sum_by-cons, sum-map}
 use Rattle.drift_chain.specs.declared.part.DriftPart.{DriftPart}
 use Rattle.drift_chain.specs.DriftRows.{IsDriftRow, part_in}
 use Rattle.search_model.specs.Problem.{Problem, IsProblem, first_of}
 use Rattle.scenario_text.specs.Canonical.{first_entries}
-use Rattle.scenario_text.proofs.Ascending.{Rises, Rises-cons, increasing_from_Rises}
+use Rattle.list_laws.proofs.Ascending.{Ascends}
+use Rattle.list_laws.proofs.Pairs.{AllPairs-nil, AllPairs-cons}
+use Rattle.list_laws.proofs.Rising.{increasing_from_ascends}
 
 -- the entry of a number with a positive part
 abbrev entry_at : (ℕ → ℕ) → ℕ → List DriftPart
@@ -21,7 +23,7 @@ record Enters (a b total : ℕ) (es : List DriftPart) : Type 0 where
   from : All (λ e. a ≤ e.cell) es
   upto : All (λ e. e.cell < b) es
   positive : All (λ e. 1 ≤ e.part) es
-  rises : Rises (map (λ e. e.cell) es)
+  rises : Ascends (λ e. e.cell) es
   total_is : sum_by (λ e. e.part) es ≡ total
 
 none_entered : (a b : ℕ) → Enters a b 0 []
@@ -29,7 +31,7 @@ none_entered a b = record {
   from = All-nil (λ e. a ≤ e.cell);
   upto = All-nil (λ e. e.cell < b);
   positive = All-nil (λ e. 1 ≤ e.part);
-  rises = λ k lt. absurd (omega arith);
+  rises = AllPairs-nil (λ d e. d.cell < e.cell);
   total_is = refl;
 }
 
@@ -38,7 +40,7 @@ one_more a b total part es lt some h = record {
   from = All-cons (λ e. a ≤ e.cell) (record { cell = a; part = part }) es (omega arith) (All-weaker (λ e. a + 1 ≤ e.cell) (λ e. a ≤ e.cell) (λ e le. omega arith) es h.from);
   upto = All-cons (λ e. e.cell < b) (record { cell = a; part = part }) es lt h.upto;
   positive = All-cons (λ e. 1 ≤ e.part) (record { cell = a; part = part }) es some h.positive;
-  rises = Rises-cons a (map (λ e. e.cell) es) (All-map (λ c. a < c) (λ e. e.cell) es (All-weaker (λ e. a + 1 ≤ e.cell) (λ e. a < e.cell) (λ e le. omega arith) es h.from)) h.rises;
+  rises = AllPairs-cons (λ d e. d.cell < e.cell) (record { cell = a; part = part }) es (All-weaker (λ e. a + 1 ≤ e.cell) (λ e. a < e.cell) (λ e le. omega arith) es h.from) h.rises;
   total_is = sum_by-cons (λ e. e.part) (record { cell = a; part = part }) es ∙ ap (λ (n : ℕ). part + n) h.total_is;
 }
 
@@ -72,7 +74,7 @@ IsDriftRow-first p h =
     record {
       within = row.upto;
       positive = row.positive;
-      ascending = increasing_from_Rises _ row.rises;
+      ascending = increasing_from_ascends (λ e. e.cell) _ row.rises;
       total = row.total_is ∙ total;
     }
 

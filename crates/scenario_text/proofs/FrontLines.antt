@@ -1,16 +1,16 @@
 -- Where the line `end` of a text stands, and what follows it.
-use Rattle.std.proofs.Common.{◌≡◌, ℕ, zero, suc, ◌+◌, ◌-◌, ◌<◌, ◌≤◌, Bool, true, false, List, [], ◌∷◌, length, Option, Some, None, Result, Ok, Err, refl, sym, ap, ◌∙◌, arith, subst}
-use Rattle.std.specs.Prelude.{◌==◌, if◌then◌else◌}
+use Rattle.std.proofs.Common.{◌≡◌, ℕ, ◌+◌, ◌-◌, ◌<◌, ◌≤◌, List, [], ◌∷◌, length, Option, Some, None, Result, Ok, Err, refl, sym, ap, ◌∙◌, arith, subst}
 use Rattle.search_model.specs.Problem.{Problem}
 use Rattle.scenario_text.specs.declared.draft.Stage.{Stage}
 use Rattle.scenario_text.specs.declared.draft.Stage.TheVariants.{Version, Horizon, Parts, Cells, Start, First, Rows, Ended}
 use Rattle.scenario_text.specs.declared.kind.TextKind.{TextKind}
 use Rattle.scenario_text.specs.declared.kind.TextFault.{TextFault}
-use Rattle.scenario_text.specs.Lines.{onto_first, lines_of, after_lines}
+use Rattle.text_rows.specs.Lines.{lines_of, after_lines}
+use Rattle.text_rows.proofs.Results.{err_ok}
 use Rattle.scenario_text.specs.State.{State}
 use Rattle.scenario_text.specs.Reading.{Front, line_at, lines_at, go_on, unless_ended, first_said, unless_more, alone, alone_of, front_of}
 use Rattle.scenario_text.specs.Scenarios.{Says, IsFront, IsTextOf}
-use Rattle.scenario_text.proofs.SoundFields.{err_ok}
+use Rattle.text_rows.proofs.LineCuts.{after_short, lines_fit}
 
 -- all was read, and the line is before that number
 abbrev AtEnd : Front → ℕ → Type 0
@@ -45,37 +45,10 @@ at_lines (line ∷ lines) s number front is =
 pub front_ended : (text : List ℕ) (front : Front) → front_of text ≡ Ok front → front.state.stage ≡ Ended
 front_ended text front is = (at_lines (lines_of text) _ 1 front is).0
 
--- Lines have bytes.
-one_shorter : (b : Bool) (most : ℕ) (xs ys : List ℕ) → length xs ≤ most → length ys ≤ most → length (if b then xs else ys) ≤ suc most
-one_shorter true most xs ys le le' = omega (arith, le)
-one_shorter false most xs ys le le' = omega (arith, le')
-
-pub after_short : (n : ℕ) (text : List ℕ) → length (after_lines n text) ≤ length text
-unfolding after_lines
-after_short zero text = omega arith
-after_short (suc n) [] = omega arith
-after_short (suc n) (c ∷ cs) = one_shorter (c == 10) (length cs) _ _ (after_short n cs) (after_short (suc n) cs)
-
-one_or_all : {P : Type 0} (c n : ℕ) (pieces : List (List ℕ)) → suc n ≤ length (onto_first c pieces) → (n ≡ 0 → P) → (suc n ≤ length pieces → P) → P
-one_or_all c n [] le one all = one (omega (arith, le))
-one_or_all c n (piece ∷ pieces) le one all = all le
-
-one_line : (b : Bool) (c n : ℕ) (cs : List ℕ) → (n ≤ length (lines_of cs) → n + length (after_lines n cs) ≤ length cs) → (suc n ≤ length (lines_of cs) → suc n + length (after_lines (suc n) cs) ≤ length cs) →
-    suc n ≤ length (if b then [] ∷ lines_of cs else onto_first c (lines_of cs)) → suc n + length (if b then after_lines n cs else after_lines (suc n) cs) ≤ suc (length cs)
-one_line true c n cs here further le = omega (arith, here (omega (arith, le)))
-one_line false c n cs here further le =
-    one_or_all c n (lines_of cs) le (λ none. omega (arith, none, after_short (suc n) cs)) (λ all. omega (arith, further all))
-
-room : (n : ℕ) (text : List ℕ) → n ≤ length (lines_of text) → n + length (after_lines n text) ≤ length text
-unfolding lines_of after_lines
-room zero text le = omega arith
-room (suc n) [] le = absurd (omega arith)
-room (suc n) (c ∷ cs) le = one_line (c == 10) c n cs (room n cs) (room (suc n) cs) le
-
 pub front_room : (text : List ℕ) (front : Front) → front_of text ≡ Ok front → front.line + length (after_lines front.line text) ≤ length text
 front_room text front is =
     let line = (at_lines (lines_of text) _ 1 front is).1 in
-    room front.line text (omega (arith, line))
+    lines_fit front.line text (omega (arith, line))
 
 -- What was read is the scenario at the front, and of the whole text where nothing more is said.
 pub IsFront-read : (text rest : List ℕ) (front : Front) (p : Problem) (n : ℕ) → front_of text ≡ Ok front → rest ≡ after_lines front.line text → Says front.state p → n ≡ length text - length rest → IsFront text p n

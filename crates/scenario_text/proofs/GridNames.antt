@@ -1,35 +1,22 @@
 -- The names of a grid's cells are all different, and each name that a set lacks goes last.
-use Rattle.std.proofs.Common.{◌≡◌, ℕ, ◌+◌, ◌*◌, ◌/◌, ◌%◌, ◌<◌, ◌≤◌, ◌^◌, List, [], ◌∷◌, ◌++◌, map, length, None, refl, ap, ◌∙◌, arith}
-use Rattle.std.specs.Prelude.{All}
+use Rattle.std.proofs.Common.{◌≡◌, ℕ, ◌+◌, ◌*◌, ◌/◌, ◌%◌, ◌<◌, ◌≤◌, ◌^◌, [], ◌∷◌, ◌++◌, map, length, None, refl, ap, ◌∙◌, arith}
 use Rattle.std.specs.Fmt.{decimal}
 use Rattle.std.specs.Int.{IsInRange}
 use Rattle.std.specs.List.{position, range_with_len}
 use Rattle.std.specs.Str.{bytes_eq}
 use Rattle.std.proofs.lemmas.Bool.{false_from_ne_true}
-use Rattle.std.proofs.lemmas.List.Elements.{All-head, All-tail}
+use Rattle.std.proofs.lemmas.List.Elements.{All-weaker}
 use Rattle.std.proofs.lemmas.List.FromFn.{length-map-range_with_len, get_or-map-range_with_len}
 use Rattle.std.proofs.lemmas.Slice.Eq.{bytes_eq-Decides}
 use Rattle.exact_parts.proofs.Decimals.{All-decimal, decimal_tells}
 use Rattle.search_model.specs.Grids.{grid_name}
-use Rattle.scenario_text.proofs.Ranges.{position-none}
+use Rattle.list_laws.proofs.Firsts.{position-none}
+use Rattle.text_rows.specs.Lines.{HasNo}
+use Rattle.text_rows.proofs.Splits.{split_once}
 
--- what stands before and behind the first byte that is no digit
-front_tells : (xs ys us vs : List ℕ) → All (IsInRange 48 57) xs → All (IsInRange 48 57) ys → xs ++ 99 ∷ us ≡ ys ++ 99 ∷ vs → (xs ≡ ys) × (us ≡ vs)
-front_tells [] [] us vs h k e = (refl, cc)
-front_tells [] (y ∷ ys) us vs h k e =
-    let range = All-head (IsInRange 48 57) y ys k in
-    let bad : 99 ≡ y = cc in
-    absurd (omega arith)
-front_tells (x ∷ xs) [] us vs h k e =
-    let range = All-head (IsInRange 48 57) x xs h in
-    let bad : x ≡ 99 = cc in
-    absurd (omega arith)
-front_tells (x ∷ xs) (y ∷ ys) us vs h k e =
-    let head : x ≡ y = cc in
-    let tail : xs ++ 99 ∷ us ≡ ys ++ 99 ∷ vs = cc in
-    let rest = front_tells xs ys us vs (All-tail (IsInRange 48 57) x xs h) (All-tail (IsInRange 48 57) y ys k) tail in
-    let first : xs ≡ ys = rest.0 in
-    (cc, rest.1)
+-- no digit is the letter between them
+no_letter : (n : ℕ) → n < 2 ^ 128 → HasNo 99 (decimal n)
+no_letter n small = All-weaker (IsInRange 48 57) (λ b. b ≡ 99 → ⊥) (λ b range e. absurd (omega (arith, range.0, range.1, e))) (decimal n) (All-decimal n small)
 
 -- two cells of one name are the same
 pub grid_name_tells : (cols j k : ℕ) → 1 ≤ cols → j < 2 ^ 128 → k < 2 ^ 128 → grid_name cols j ≡ grid_name cols k → j ≡ k
@@ -39,7 +26,7 @@ grid_name_tells cols j k some j_small k_small e =
     let j_col : j % cols ≤ j = omega arith in
     let k_col : k % cols ≤ k = omega arith in
     let behind : decimal (j / cols) ++ 99 ∷ decimal (j % cols) ≡ decimal (k / cols) ++ 99 ∷ decimal (k % cols) = cc in
-    let parts = front_tells (decimal (j / cols)) (decimal (k / cols)) (decimal (j % cols)) (decimal (k % cols)) (All-decimal (j / cols) (omega arith)) (All-decimal (k / cols) (omega arith)) behind in
+    let parts = split_once 99 (decimal (j / cols)) (decimal (k / cols)) (decimal (j % cols)) (decimal (k % cols)) (no_letter (j / cols) (omega arith)) (no_letter (k / cols) (omega arith)) behind in
     let row : j / cols ≡ k / cols = decimal_tells (j / cols) (k / cols) (omega arith) (omega arith) parts.0 in
     let col : j % cols ≡ k % cols = decimal_tells (j % cols) (k % cols) (omega arith) (omega arith) parts.1 in
     let j_whole : cols * (j / cols) + j % cols ≡ j = omega arith in

@@ -11,15 +11,19 @@ use Rattle.std.proofs.lemmas.List.FromFn.{fill_by_all, length-map-range_with_len
 use Rattle.drift_chain.specs.declared.part.DriftPart.{DriftPart}
 use Rattle.search_grid.specs.Moves.{IsMoveRow}
 use Rattle.search_grid.specs.Sides.{moves_beside, side_moves}
-use Rattle.search_grid.proofs.Beside.{IsGrid-from_sides, side_moves_from}
+use Rattle.search_grid.proofs.Beside.{IsGrid-from_sides, side_moves_from, length-side_moves}
 use Rattle.search_model.specs.Names.{IsName, name_in}
 use Rattle.scenario_text.specs.declared.draft.Stage.{Stage}
 use Rattle.scenario_text.specs.declared.draft.Stage.TheVariants as due
 use Rattle.scenario_text.specs.declared.kind.TextKind.{TextKind}
 use Rattle.scenario_text.specs.declared.kind.TextKind.TheVariants.{NotText, BadLine, BadNumber, OverLimit, UnknownName, DoubleName, MissingRow, DoubleRow, WrongSum, PartOver, NoMove, TooWide}
 use Rattle.scenario_text.specs.declared.pair.Pair.{Pair}
-use Rattle.scenario_text.specs.Lines.{fields_of}
-use Rattle.scenario_text.specs.Fields.{is_text_byte, says_nothing, is_word, is_bad, is_over, number_at, number_in, cell_named, has_double, are_pairs, pairs_of, pairs_fault, entries_of, total_of}
+use Rattle.text_rows.specs.Fields.{fields_of, is_text_byte, is_word}
+use Rattle.exact_parts.specs.Decimal.{number_at}
+use Rattle.text_rows.proofs.RowTexts.{IsField, AreFields, IsField-decimal, word}
+use Rattle.exact_parts.proofs.Decimals.{number_at-decimal}
+use Rattle.text_rows.proofs.Results.{err_ok, let_through, same_ok}
+use Rattle.scenario_text.specs.Fields.{says_nothing, is_bad, is_over, number_in, cell_named, has_double, are_pairs, pairs_of, pairs_fault, entries_of, total_of}
 use Rattle.search_model.specs.Grids.{grid_name, grid_names}
 use Rattle.scenario_text.specs.State.{State}
 use Rattle.scenario_text.specs.Reading.{with_cells, with_start, start_line, cells_line, unless_fault, with_first, first_line, has_moves, has_parts, has_overlook, with_moves, moves_line, unknown_after, with_parts_of, drift_line, with_overlook, overlook_line, spread_part, spread_line, rate_line, lacks_row, is_narrow, end_line, row_line, stage_line, line_at}
@@ -27,19 +31,16 @@ use Rattle.scenario_text.specs.Sound.{IsSound}
 use Rattle.scenario_text.specs.Faults.{AreTaken}
 use Rattle.scenario_text.specs.InRows.{line_text, for_each, GridInRows, GridReadsOn}
 use Rattle.scenario_text.specs.RowFields.{cell_row, moves_of}
-use Rattle.scenario_text.proofs.Joined.{IsField, AreFields}
-use Rattle.scenario_text.proofs.FieldTexts.{IsField-name, IsField-decimal, AreFields-named}
+use Rattle.scenario_text.proofs.FieldTexts.{IsField-name, AreFields-named}
 use Rattle.scenario_text.proofs.GridNames.{grid_name-new}
-use Rattle.scenario_text.proofs.HeadLines.{word, cell_line-taken, next_of}
+use Rattle.scenario_text.proofs.HeadLines.{cell_line-taken, next_of}
 use Rattle.scenario_text.proofs.InRows.{filled, filled-none, filled-open, filled-next, filled-all, taken_range, unended_rows}
 use Rattle.scenario_text.proofs.NamesApart.{named_at}
-use Rattle.scenario_text.proofs.PairTexts.{number_at-decimal}
 use Rattle.scenario_text.proofs.RowLines.{names_found, with_moves-taken}
 use Rattle.scenario_text.proofs.RowsRead.{Takes, line_at-fields}
-use Rattle.scenario_text.proofs.SoundFields.{err_ok, not_refused, let_through}
+use Rattle.scenario_text.proofs.SoundFields.{not_refused}
 use Rattle.scenario_text.proofs.SoundHeads.{no_grid, no_fault}
 use Rattle.scenario_text.proofs.SoundNames.{IsName-grid, grid_count, All-grid_names, grid_differ}
-use Rattle.scenario_text.proofs.SoundRows.{length-side_moves}
 use Rattle.scenario_text.proofs.Soundness.{reached_sound}
 use Rattle.scenario_text.proofs.Tables.{apart}
 
@@ -110,9 +111,6 @@ cells_read s rows cols h at none some few =
 
 -- The lines of the start and of the first parts.
 
-ok_same : {X E : Type 0} (x y : X) → ◌≡◌ {A = Result X E} (Ok x) (Ok y) → x ≡ y
-ok_same x y e = cc
-
 -- a test that passes, and one that fails
 passing : {X : Type 0} (b : Bool) (x y : X) → b ≡ true → cond b x y ≡ x
 passing true x y e = refl
@@ -132,7 +130,7 @@ unfolding line_at
 read_fields a a' line e =
     let G : Result State TextKind → Type 0 = λ r. r ≡ Ok a' → (a' ≡ a) ⊎ ((says_nothing (fields_of line) ≡ false) × (list_all is_text_byte line ≡ true) × (stage_line a.stage a (fields_of line) ≡ Ok a')) in
     cond_both (says_nothing (fields_of line)) (Ok a) _ G
-    (λ _ e'. inl (sym (ok_same a a' e')))
+    (λ _ e'. inl (sym (same_ok a a' e')))
     (λ speaks e'. let text = not_refused (not (list_all is_text_byte line)) NotText _ a' e' in inr (speaks, not_false (list_all is_text_byte line) text.0, text.1)) e
   where
     not_false : (b : Bool) → not b ≡ false → b ≡ true
@@ -142,7 +140,7 @@ read_fields a a' line e =
 -- the start of a grid and that behind cells
 start_set : (a a' : State) (moves : List (List ℕ)) (c : Option ℕ) → with_start a c ≡ Ok a' → (n : ℕ) × (a' ≡ record a { stage = due.First; start = n }) × (with_start (plain a moves) c ≡ Ok (record (plain a moves) { stage = due.First; start = n }))
 start_set a a' moves None e = absurd (let bad : ⊥ = cc in bad)
-start_set a a' moves (Some n) e = (n, sym (ok_same _ a' e), refl)
+start_set a a' moves (Some n) e = (n, sym (same_ok _ a' e), refl)
 
 start_fields : (a a' : State) (moves : List (List ℕ)) (fields : List (List ℕ)) → 0 < length a.names → start_line a fields ≡ Ok a' → (n : ℕ) × (a' ≡ record a { stage = due.First; start = n }) × (cells_line (plain a moves) fields ≡ Ok (record (plain a moves) { stage = due.First; start = n }))
 start_fields a a' moves [] some e = absurd (err_ok BadLine a' e)
@@ -168,7 +166,7 @@ first_set : (a a' : State) (moves : List (List ℕ)) (pairs : List Pair) → wit
 first_set a a' moves pairs e =
     let faultless = no_fault (pairs_fault pairs) _ a' e in
     let right = not_refused (not (total_of pairs == a.total)) _ _ a' faultless.1 in
-    (entries_of pairs, sym (ok_same _ a' right.1), rw (faultless.0, right.0) refl)
+    (entries_of pairs, sym (same_ok _ a' right.1), rw (faultless.0, right.0) refl)
 
 first_fields : (a a' : State) (moves : List (List ℕ)) (fields : List (List ℕ)) → first_line a fields ≡ Ok a' → (es : List DriftPart) × (a' ≡ record a { stage = due.Rows; first = es }) × (first_line (record a { gridded = false; moves = moves }) fields ≡ Ok (record a { gridded = false; moves = moves; stage = due.Rows; first = es }))
 first_fields a a' moves [] e = absurd (err_ok BadLine a' e)
@@ -249,7 +247,7 @@ grid_read s t rows cols at none few_rows few_cols e =
       some_row = ltb-false rows 1 parts.0;
       some_col = ltb-false cols 1 parts.1;
       few = ltb-false 200 (rows * cols) small.0;
-      made = sym (ok_same _ t small.1);
+      made = sym (same_ok _ t small.1);
     }
 
 -- the first parts and the moves, behind the start
@@ -311,7 +309,7 @@ abbrev IsKept : Result State TextKind → Result State TextKind → Type 0
 IsKept r marked = (t : State) → r ≡ Ok t → marked ≡ Ok (record t { gridded = true })
 
 kept : (s : State) → IsKept (Ok s) (Ok (record s { gridded = true }))
-kept s t e = ap (λ (u : State). Ok (record u { gridded = true })) (ok_same s t e)
+kept s t e = ap (λ (u : State). Ok (record u { gridded = true })) (same_ok s t e)
 
 kept_none : (kind : TextKind) (marked : Result State TextKind) → IsKept (Err kind) marked
 kept_none kind marked t e = absurd (err_ok kind t e)

@@ -19,16 +19,13 @@ use Rattle.scenario_text.specs.Fields.{cell_named}
 use Rattle.scenario_text.specs.Reading.{cell_line, with_name, with_first}
 use Rattle.scenario_text.specs.Canonical.{first_entries, pair_fields}
 use Rattle.scenario_text.specs.RowFields.{cell_row}
-use Rattle.scenario_text.proofs.Joined.{is_field_byte, IsField}
-use Rattle.scenario_text.proofs.FieldTexts.{IsField-decimal, IsField-cell_name, AreFields-pairs}
+use Rattle.text_rows.proofs.RowTexts.{IsField-decimal, word}
+use Rattle.exact_parts.proofs.Decimals.{number_at-decimal}
+use Rattle.scenario_text.proofs.FieldTexts.{IsField-cell_name, AreFields-pairs}
 use Rattle.scenario_text.proofs.NamesApart.{cell_named-at, cell_named-next, names_all}
-use Rattle.scenario_text.proofs.PairTexts.{number_at-decimal, said, pairs_of-entries, IsSaid, IsSaid-row, some_entry, are_pairs-entries, parts_within}
+use Rattle.scenario_text.proofs.PairTexts.{said, pairs_of-entries, IsSaid, IsSaid-row, some_entry, are_pairs-entries, parts_within}
 use Rattle.scenario_text.proofs.FirstParts.{IsDriftRow-first}
 use Rattle.scenario_text.proofs.RowsRead.{Takes}
-
--- a word of bytes of text without blanks
-pub word : (w : List ℕ) → 0 < length w → list_all is_field_byte w ≡ true → IsField w
-word w some bytes = record { some = some; bytes = bytes }
 
 pub Takes-version : Takes blank_state (codes "scenario" ∷ codes "1" ∷ []) (record blank_state { stage = Horizon })
 Takes-version = record { fields = (word (codes "scenario") (omega arith) refl, (word (codes "1") (omega arith) refl, tt)); says = refl; taken = refl }

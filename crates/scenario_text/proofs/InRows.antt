@@ -21,17 +21,19 @@ use Rattle.scenario_text.specs.Sound.{AreEntries, AreMoves, IsSound}
 use Rattle.scenario_text.specs.Faults.{AreTaken}
 use Rattle.scenario_text.specs.InRows.{line_text, for_each, RateInRows, SpreadInRows}
 use Rattle.scenario_text.specs.RowFields.{drift_of, overlook_of}
-use Rattle.scenario_text.proofs.Joined.{IsField, AreFields}
-use Rattle.scenario_text.proofs.FieldTexts.{IsField-name, IsField-decimal, AreFields-entries}
-use Rattle.scenario_text.proofs.HeadLines.{word}
+use Rattle.text_rows.proofs.RowTexts.{IsField, AreFields, IsField-decimal, word}
+use Rattle.exact_parts.proofs.Decimals.{number_at-decimal}
+use Rattle.text_rows.proofs.Results.{let_through}
+use Rattle.list_laws.proofs.Sums.{sum_by-map}
+use Rattle.scenario_text.proofs.FieldTexts.{IsField-name, AreFields-entries}
 use Rattle.scenario_text.proofs.NamesApart.{named_at}
-use Rattle.scenario_text.proofs.PairTexts.{number_at-decimal, said, pairs_of-named, are_pairs-named, IsSaid, IsSaid-by}
+use Rattle.scenario_text.proofs.PairTexts.{said, pairs_of-named, are_pairs-named, IsSaid, IsSaid-by}
 use Rattle.scenario_text.proofs.Ranges.{map-range-same, set-map-range}
 use Rattle.scenario_text.proofs.RowLines.{among_more, with_overlook-taken, with_parts-taken}
 use Rattle.scenario_text.proofs.RowsRead.{Takes, line_at-fields, line_at-row}
-use Rattle.scenario_text.proofs.SoundFields.{not_refused, let_through, none_pass, sum_by-map}
+use Rattle.scenario_text.proofs.SoundFields.{not_refused, none_pass}
 use Rattle.scenario_text.proofs.SoundHeads.{reached}
-use Rattle.scenario_text.proofs.SoundRows.{AreEntries-spread, own_row}
+use Rattle.scenario_text.proofs.SoundRows.{AreEntries-spread, own_row, moves_at}
 use Rattle.scenario_text.proofs.Soundness.{reached_sound}
 
 -- A list that is filled from the front.
@@ -149,10 +151,6 @@ none_there rows none k lt = empty_of (get_or rows k []) (none_pass (λ row. nat_
     empty_of : (row : List DriftPart) → nat_lt 0 (length row) ≡ false → row ≡ []
     empty_of [] e = refl
     empty_of (x ∷ xs) e = absurd (let le = ltb-false 0 (length (x ∷ xs)) e in omega (arith, le))
-
-moves_at : (rows : List (List ℕ)) (c : ℕ) → moves_from rows c ≡ get_or rows c []
-unfolding moves_from
-moves_at rows c = refl
 
 -- the row of a cell of a grid, where its side neighbours don't take more than all
 spread_entries : (s : State) (part : ℕ) → IsSound s → s.gridded ≡ true → list_any (λ row. nat_lt s.drift (part * (length row - 1))) s.moves ≡ false → (c : ℕ) → c < length s.names → AreEntries (length s.names) s.drift (spread_row s.drift part c (moves_from s.moves c))

@@ -1,12 +1,9 @@
-pub mod Cuts
-pub mod Words
 pub mod Doubles
 pub mod PairSteps
 pub mod Numbers
 pub mod Positions
 pub mod Ranges
 pub mod Ascending
-pub mod Joined
 pub mod FieldTexts
 pub mod Appending
 pub mod Printed

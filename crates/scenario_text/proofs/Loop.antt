@@ -1,6 +1,5 @@
 -- One line after the other, as a loop takes them.
-use Rattle.std.proofs.Common.{◌≡◌, ℕ, zero, suc, ◌+◌, ◌-◌, ◌≤◌, true, false, Bool, List, [], ◌∷◌, length, None, Some, Result, Ok, Err, refl, sym, ap, ◌∙◌, arith}
-use Rattle.std.specs.Prelude.{◌==◌, if◌then◌else◌}
+use Rattle.std.proofs.Common.{◌≡◌, ℕ, ◌+◌, ◌-◌, true, false, List, [], ◌∷◌, length, None, Some, Result, Ok, Err, refl, sym, ap, ◌∙◌, arith}
 use Rattle.std.specs.List.{list_all}
 use Rattle.scenario_text.specs.declared.draft.Stage.{Stage}
 use Rattle.scenario_text.specs.declared.draft.Stage.TheVariants.{Version, Horizon, Parts, Cells, Start, First, Rows, Ended}
@@ -10,10 +9,12 @@ use Rattle.scenario_text.specs.declared.kind.TextFault.{TextFault}
 use Rattle.scenario_text.specs.declared.draft.Draft.{Draft}
 use Rattle.scenario_text.specs.declared.stop.LineStop.{LineStop}
 use Rattle.scenario_text.specs.declared.stop.LineStop.TheVariants as line_stops
-use Rattle.scenario_text.specs.Lines.{lines_of, after_lines, is_blank}
+use Rattle.text_rows.specs.Lines.{lines_of, after_lines}
+use Rattle.text_rows.specs.Fields.{is_blank}
 use Rattle.scenario_text.specs.Gives.{TakesLine, ReadsDraft, stop_at}
 use Rattle.scenario_text.specs.State.{State, blank_state}
 use Rattle.scenario_text.specs.Reading.{Front, line_at, lines_at, unless_ended, first_said}
+use Rattle.text_rows.proofs.LineCuts.{lines_of-nil, after_next}
 
 -- a line with a fault
 pub at_fault : (s : State) (number : ℕ) (line : List ℕ) (lines ls : List (List ℕ)) (kind : TextKind) → ls ≡ line ∷ lines → line_at s line ≡ Err kind → lines_at s number ls ≡ Err (record { line = number; kind = kind })
@@ -50,27 +51,7 @@ pub at_stop : (s : State) (number : ℕ) (new : Draft) (line : List ℕ) (lines 
 at_stop s number new line lines ls (line_stops.Fault kind) text e f so_far = sym so_far ∙ at_fault s number line lines ls kind e f
 at_stop s number new line lines ls line_stops.NoMemory text e f so_far = tt
 
--- what follows some line feeds, and then one more
-after_by : (b : Bool) (n : ℕ) (cs : List ℕ) → after_lines 1 (after_lines n cs) ≡ after_lines (suc n) cs → after_lines 1 (after_lines (suc n) cs) ≡ after_lines (suc (suc n)) cs → after_lines 1 (if b then after_lines n cs else after_lines (suc n) cs) ≡ (if b then after_lines (suc n) cs else after_lines (suc (suc n)) cs)
-after_by true n cs here further = here
-after_by false n cs here further = further
-
-after_one : (n : ℕ) (text : List ℕ) → after_lines 1 (after_lines n text) ≡ after_lines (suc n) text
-unfolding after_lines
-after_one zero text = refl
-after_one (suc n) [] = refl
-after_one (suc n) (c ∷ cs) = after_by (c == 10) n cs (after_one n cs) (after_one (suc n) cs)
-
-pub after_none : (text : List ℕ) → text ≡ after_lines 0 text
-unfolding after_lines
-after_none text = refl
-
-pub after_next : (number : ℕ) (text rest after : List ℕ) → 1 ≤ number → rest ≡ after_lines (number - 1) text → after ≡ after_lines 1 rest → after ≡ after_lines number text
-after_next zero text rest after some here next = absurd (omega arith)
-after_next (suc n) text rest after some here next =
-    let less : suc n - 1 ≡ n = omega arith in
-    next ∙ ap (after_lines 1) (here ∙ ap (λ (k : ℕ). after_lines k text) less) ∙ after_one n text
-
+-- what follows the line feed of the line of this number
 pub after_going_on : (number : ℕ) (text after : List ℕ) → after ≡ after_lines number text → after ≡ after_lines (number + 1 - 1) text
 after_going_on number text after here = let same : number ≡ number + 1 - 1 = omega arith in here ∙ ap (λ (k : ℕ). after_lines k text) same
 

@@ -1,15 +1,14 @@
 -- A cell is found by its name, since no name is repeated.
-use Rattle.std.proofs.Common.{◌≡◌, ℕ, ◌<◌, false, List, [], map, length, get_or, take, Some, None, refl, sym, ap, ◌∙◌, arith, get_or-take}
+use Rattle.std.proofs.Common.{◌≡◌, ℕ, ◌<◌, false, List, [], map, length, Some, None, refl, sym, ap, ◌∙◌, arith}
 use Rattle.std.specs.List.{range_with_len}
 use Rattle.std.specs.Str.{bytes_eq}
 use Rattle.std.proofs.lemmas.Bool.{false_from_ne_true}
-use Rattle.std.proofs.lemmas.List.{length-take-le, get_or_default}
 use Rattle.std.proofs.lemmas.List.FromFn.{fill_by_all, length-map-range_with_len, get_or-map-range_with_len}
 use Rattle.std.proofs.lemmas.Slice.Eq.{bytes_eq-Decides}
 use Rattle.search_model.specs.Names.{name_in, IsRepeated}
 use Rattle.search_model.specs.Problem.{Problem, IsProblem, cell_name}
 use Rattle.scenario_text.specs.Fields.{cell_named}
-use Rattle.scenario_text.proofs.Ranges.{position-first, position-none}
+use Rattle.list_laws.proofs.Firsts.{position-first, position-none}
 use Rattle.search_model.proofs.NameLemmas.{names_apart}
 
 -- names of which none is repeated

@@ -17,19 +17,19 @@ use Rattle.scenario_text.specs.declared.draft.Stage.{Stage}
 use Rattle.scenario_text.specs.declared.draft.Stage.TheVariants as due
 use Rattle.scenario_text.specs.declared.kind.TextKind.{TextKind}
 use Rattle.scenario_text.specs.declared.kind.TextFault.{TextFault}
-use Rattle.scenario_text.specs.Lines.{lines_of}
+use Rattle.text_rows.specs.Lines.{lines_of}
+use Rattle.text_rows.proofs.Results.{err_ok}
 use Rattle.scenario_text.specs.State.{State, blank_state}
 use Rattle.scenario_text.specs.Reading.{Front, line_at, lines_at, go_on, unless_ended}
 use Rattle.scenario_text.specs.Scenarios.{Says}
 use Rattle.scenario_text.specs.Sound.{AreEntries, AreMoves, IsSound}
 use Rattle.scenario_text.specs.Laws.{EveryTextSpellsOne}
-use Rattle.scenario_text.proofs.Ascending.{increasing_from_Rises}
+use Rattle.list_laws.proofs.Rising.{increasing_from_ascends}
 use Rattle.scenario_text.proofs.Assembled.{moves_of, parts_at, some_cell, drift_limits, first_entries, Made, problem_says}
 use Rattle.scenario_text.proofs.Determined.{one_problem}
 use Rattle.scenario_text.proofs.FrontLines.{front_ended}
 use Rattle.scenario_text.proofs.Ordered.{in_order, in_order_same, in_order_rises}
 use Rattle.scenario_text.proofs.Places.{Placed, Placed-none, Placed-more}
-use Rattle.scenario_text.proofs.SoundFields.{err_ok}
 use Rattle.scenario_text.proofs.Soundness.{blank_sound, line_sound}
 
 -- What is read up to the end is sound.
@@ -125,7 +125,7 @@ module _ (s : State) (h : IsSound s) (ended : s.stage ≡ due.Ended) where
       record {
         some = omega (arith, long, given.some);
         few = omega (arith, long, given.few);
-        ascending = subst IsStrictlyIncreasing (map-id (in_order (λ m. m) xs)) (increasing_from_Rises _ (in_order_rises (λ m. m) xs given.once));
+        ascending = subst IsStrictlyIncreasing (map-id (in_order (λ m. m) xs)) (increasing_from_ascends (λ m. m) _ (in_order_rises (λ m. m) xs given.once));
         within = All-permutation (λ d. d < cells) xs (in_order (λ m. m) xs) same given.within;
       }
 
@@ -138,7 +138,7 @@ module _ (s : State) (h : IsSound s) (ended : s.stage ≡ due.Ended) where
       record {
         within = All-permutation (λ e. e.cell < cells) es (in_order (λ e. e.cell) es) same given.within;
         positive = All-permutation (λ e. 1 ≤ e.part) es (in_order (λ e. e.cell) es) same given.positive;
-        ascending = increasing_from_Rises _ (in_order_rises (λ e. e.cell) es given.once);
+        ascending = increasing_from_ascends (λ e. e.cell) _ (in_order_rises (λ e. e.cell) es given.once);
         total = sum_by-IsPermutation (λ e. e.part) es (in_order (λ e. e.cell) es) same ∙ given.total;
       }
 

@@ -1,12 +1,13 @@
 -- A list in ascending order of a key.
-use Rattle.std.proofs.Common.{◌≡◌, ℕ, ◌+◌, ◌<◌, ◌≤◌, cond, List, [], ◌∷◌, map, refl, ◌∙◌, arith, inl, inr}
+use Rattle.std.proofs.Common.{◌≡◌, ℕ, ◌+◌, ◌<◌, ◌≤◌, cond, List, [], ◌∷◌, refl, ◌∙◌, arith, inl, inr}
 use Rattle.std.specs.Prelude.{◌==◌, nat_lt, All, count_by}
 use Rattle.std.specs.List.Sorted.{IsPermutation}
 use Rattle.std.proofs.lemmas.Bool.{cases_Bool, cases_eq, eq-eqb, ne_eqb, ltb-true, ltb-false}
-use Rattle.std.proofs.lemmas.List.Elements.{All-nil, All-cons, All-head, All-tail, All-map, All-weaker}
+use Rattle.std.proofs.lemmas.List.Elements.{All-nil, All-cons, All-head, All-tail, All-weaker}
 use Rattle.std.proofs.lemmas.List.Sorted.{IsPermutation-refl, IsPermutation-trans, IsPermutation-cons, IsPermutation-to_front, IsPermutation-append_left, All-permutation}
 use Rattle.std.proofs.lemmas.List.Sums.{sum_by-cons}
-use Rattle.scenario_text.proofs.Ascending.{Rises, Rises-cons, Rises-tail, All-above_first}
+use Rattle.list_laws.proofs.Ascending.{Ascends, Ascends-head, Ascends-tail}
+use Rattle.list_laws.proofs.Pairs.{AllPairs-nil, AllPairs-cons}
 
 module _ {X : Type 0} (key : X → ℕ) where
   -- an element before the first that is above it
@@ -36,30 +37,26 @@ module _ {X : Type 0} (key : X → ℕ) where
   in_order_same (x ∷ xs) = IsPermutation-trans (x ∷ xs) (x ∷ in_order xs) (put x (in_order xs)) (IsPermutation-cons x xs (in_order xs) (in_order_same xs)) (put_same x (in_order xs))
 
   -- the keys rise, where none is met twice
-  put_rises : (x : X) (ys : List X) → Rises (map key ys) → All (λ y. key y ≡ key x → ⊥) ys → Rises (map key (put x ys))
+  put_rises : (x : X) (ys : List X) → Ascends key ys → All (λ y. key y ≡ key x → ⊥) ys → Ascends key (put x ys)
   unfolding put
-  put_rises x [] up apart = Rises-cons (key x) [] (All-nil (λ n. key x < n)) up
+  put_rises x [] up apart = AllPairs-cons (λ y z. key y < key z) x [] (All-nil (λ z. key x < key z)) up
   put_rises x (y ∷ ys) up apart =
       let other = All-head (λ z. key z ≡ key x → ⊥) y ys apart in
-      let above_y = All-above_first (key y) (map key ys) up in
+      let above_y = Ascends-head key y ys up in
       elim (cases_Bool (nat_lt (key x) (key y))) [
         | inl below ↦
             let lt = ltb-true (key x) (key y) below in
-            rw below (Rises-cons (key x) (map key (y ∷ ys)) (All-cons (λ n. key x < n) (key y) (map key ys) lt (All-weaker (λ n. key y < n) (λ n. key x < n) (λ n more. omega (arith, lt, more)) (map key ys) above_y)) up)
+            rw below (AllPairs-cons (λ a b. key a < key b) x (y ∷ ys) (All-cons (λ z. key x < key z) y ys lt (All-weaker (λ z. key y < key z) (λ z. key x < key z) (λ z more. omega (arith, lt, more)) ys above_y)) up)
         | inr above ↦
             let le = ltb-false (key x) (key y) above in
             let lt : key y < key x = less (key y) (key x) le other in
-            let rest = put_rises x ys (Rises-tail (key y) (map key ys) up) (All-tail (λ z. key z ≡ key x → ⊥) y ys apart) in
-            let all = All-permutation (λ z. key y < key z) (x ∷ ys) (put x ys) (put_same x ys) (All-cons (λ z. key y < key z) x ys lt (unmapped (λ n. key y < n) ys above_y)) in
-            rw above (Rises-cons (key y) (map key (put x ys)) (All-map (λ n. key y < n) key (put x ys) all) rest)
+            let rest = put_rises x ys (Ascends-tail key y ys up) (All-tail (λ z. key z ≡ key x → ⊥) y ys apart) in
+            let all = All-permutation (λ z. key y < key z) (x ∷ ys) (put x ys) (put_same x ys) (All-cons (λ z. key y < key z) x ys lt above_y) in
+            rw above (AllPairs-cons (λ a b. key a < key b) y (put x ys) all rest)
       ]
     where
       less : (m n : ℕ) → m ≤ n → (m ≡ n → ⊥) → m < n
       less m n le other = elim (cases_eq m n) [ inl same ↦ absurd (other same) | inr apart ↦ omega (arith, le, apart) ]
-
-      unmapped : (P : ℕ → Type 0) (zs : List X) → All P (map key zs) → All (λ z. P (key z)) zs
-      unmapped P [] all = All-nil (λ z. P (key z))
-      unmapped P (z ∷ zs) all = All-cons (λ z. P (key z)) z zs (All-head P (key z) (map key zs) all) (unmapped P zs (All-tail P (key z) (map key zs) all))
 
   none_of : (d : ℕ) (xs : List X) → count_by (λ y. key y == d) xs ≡ 0 → All (λ y. key y ≡ d → ⊥) xs
   none_of d [] none = All-nil (λ y. key y ≡ d → ⊥)
@@ -74,9 +71,9 @@ module _ {X : Type 0} (key : X → ℕ) where
             All-cons (λ y. key y ≡ d → ⊥) x xs apart (none_of d xs (omega (arith, less, none)))
       ]
 
-  pub in_order_rises : (xs : List X) → ((d : ℕ) → count_by (λ y. key y == d) xs ≤ 1) → Rises (map key (in_order xs))
+  pub in_order_rises : (xs : List X) → ((d : ℕ) → count_by (λ y. key y == d) xs ≤ 1) → Ascends key (in_order xs)
   unfolding in_order
-  in_order_rises [] once = λ k lt. absurd (omega arith)
+  in_order_rises [] once = AllPairs-nil (λ y z. key y < key z)
   in_order_rises (x ∷ xs) once =
       let own : count_by (λ y. key y == key x) (x ∷ xs) ≡ 1 + count_by (λ y. key y == key x) xs = sum_by-cons (λ y. cond (key y == key x) 1 0) x xs ∙ rw (eq-eqb (key x) (key x) refl) refl in
       let apart = All-permutation (λ y. key y ≡ key x → ⊥) xs (in_order xs) (in_order_same xs) (none_of (key x) xs (let most = once (key x) in omega (arith, own, most))) in

@@ -1,7 +1,7 @@
 -- Pairs of a line, one after the other.
 use Rattle.std.proofs.Common.{◌≡◌, ℕ, suc, ◌<◌, ◌%◌, Bool, true, false, cond, eqb, List, [], ◌∷◌, ◌++◌, length, map, Option, Some, None, refl, sym, ap, ◌∙◌, subst, arith, append_assoc}
 use Rattle.std.specs.Prelude.{◌||◌, ◌&&◌, ◌==◌, nat_le, is_some, is_none, unwrap_or, if◌then◌else◌, Result, Ok, Err, OnOk}
-use Rattle.std.specs.List.{list_any}
+use Rattle.std.specs.List.{list_any, onto_first}
 use Rattle.std.proofs.lemmas.List.{append-nil, map_push}
 use Rattle.std.proofs.lemmas.Bool.{eq-eqb, ne_eqb, le-leb}
 use Rattle.drift_chain.specs.declared.part.DriftPart.{DriftPart}
@@ -9,11 +9,12 @@ use Rattle.scenario_text.specs.declared.kind.TextKind.TheVariants.{BadNumber, Ov
 use Rattle.scenario_text.specs.declared.pair.Pair.{Pair}
 use Rattle.scenario_text.specs.declared.pairs.Pairs.{Pairs}
 use Rattle.scenario_text.specs.declared.pairs.Scan.{Scan}
-use Rattle.scenario_text.specs.Lines.{onto_first, ends_field, fields_of}
-use Rattle.scenario_text.specs.Fields.{is_bad, is_over, number_in, number_at, cell_named, stands_in, has_double, entries_of, pairs_of, pairs_fault, are_pairs}
+use Rattle.text_rows.specs.Fields.{ends_field, fields_of}
+use Rattle.exact_parts.specs.Decimal.{number_at}
+use Rattle.text_rows.proofs.FieldCuts.{fields_gone, starts_field}
+use Rattle.scenario_text.specs.Fields.{is_bad, is_over, number_in, cell_named, stands_in, has_double, entries_of, pairs_of, pairs_fault, are_pairs}
 use Rattle.scenario_text.specs.Scanning.{HasSeen, IsMarked, IsAdded}
 use Rattle.scenario_text.specs.Gives.{AreScanned}
-use Rattle.scenario_text.proofs.Words.{fields_gone, starts_field}
 
 or_false : (a : Bool) → (a || false) ≡ a
 or_false true = refl

@@ -1,31 +1,25 @@
 -- A row of entries, written as pairs, is read as those entries.
-use Rattle.std.proofs.Common.{◌≡◌, ℕ, ◌*◌, ◌<◌, ◌≤◌, ◌%◌, ◌^◌, true, false, List, [], ◌∷◌, map, length, Some, None, refl, ap, ◌∙◌, arith}
+use Rattle.std.proofs.Common.{◌≡◌, ℕ, ◌*◌, ◌<◌, ◌≤◌, ◌%◌, true, false, List, [], ◌∷◌, map, length, Some, None, refl, ap, ◌∙◌, arith}
 use Rattle.std.specs.Prelude.{All, is_none, sum_by}
-use Rattle.std.specs.Fmt.{decimal}
 use Rattle.std.specs.List.{list_any}
 use Rattle.std.proofs.lemmas.Bool.{le-ltb, le-leb, eq-eqb}
 use Rattle.std.proofs.lemmas.List.Elements.{All-head, All-tail}
 use Rattle.std.proofs.lemmas.List.Sums.{get_or-le-sum_by}
 use Rattle.exact_parts.specs.declared.number.Number.TheVariants.{Of}
-use Rattle.exact_parts.proofs.Decimals.{plain-decimal, value-decimal}
+use Rattle.exact_parts.proofs.Decimals.{number_at-decimal}
 use Rattle.drift_chain.specs.declared.part.DriftPart.{DriftPart}
 use Rattle.drift_chain.specs.DriftRows.{IsDriftRow}
 use Rattle.search_model.specs.Names.{name_in}
 use Rattle.search_model.specs.Problem.{Problem, IsProblem}
 use Rattle.scenario_text.specs.declared.pair.Pair.{Pair}
-use Rattle.scenario_text.specs.Fields.{cell_named, pairs_of, pairs_fault, entries_of, total_of, are_pairs, has_double, number_at, is_bad, is_over}
+use Rattle.scenario_text.specs.Fields.{cell_named, pairs_of, pairs_fault, entries_of, total_of, are_pairs, has_double, is_bad, is_over}
 use Rattle.scenario_text.specs.Canonical.{pair_fields}
 use Rattle.scenario_text.specs.RowFields.{entry_fields}
-use Rattle.scenario_text.proofs.Ascending.{Rises-from_increasing, has_double-rising}
+use Rattle.scenario_text.proofs.Ascending.{has_double-rising}
 use Rattle.scenario_text.proofs.NamesApart.{cell_named-at}
+use Rattle.std.proofs.lemmas.List.Kept.{AllPairs-from_increasing}
 
 -- the text of a number within a limit says that number
-pub number_at-decimal : (most n : ℕ) → n ≤ most → most < 2 ^ 128 → number_at most (decimal n) ≡ Of n
-number_at-decimal most n le wide =
-    let value = value-decimal n (omega arith) in
-    let fits = le-ltb most n le in
-    rw (plain-decimal n (omega arith), value, fits) refl
-
 -- what an entry's pair says
 abbrev pub said : DriftPart → Pair
 said e = record { cell = Some e.cell; part = Of e.part }
@@ -87,7 +81,7 @@ IsSaid-by denominator es positive differ total =
     }
 
 pub IsSaid-row : (denominator cells : ℕ) (es : List DriftPart) → IsDriftRow denominator cells es → IsSaid denominator es (map said es)
-IsSaid-row denominator cells es row = IsSaid-by denominator es row.positive (has_double-rising (map (λ e. e.cell) es) (Rises-from_increasing (map (λ e. e.cell) es) row.ascending)) row.total
+IsSaid-row denominator cells es row = IsSaid-by denominator es row.positive (has_double-rising (map (λ e. e.cell) es) (AllPairs-from_increasing (map (λ e. e.cell) es) row.ascending)) row.total
 
 -- it isn't empty
 pub some_entry : (denominator cells : ℕ) (es : List DriftPart) → IsDriftRow denominator cells es → 1 ≤ denominator → 0 < length es

@@ -4,6 +4,7 @@ use Rattle.std.specs.Prelude.{position}
 use Rattle.std.specs.List.{prefix_len}
 use Rattle.std.proofs.lemmas.List.{length-map}
 use Rattle.std.proofs.lemmas.List.Quantifiers.{position-Some}
+use Rattle.list_laws.proofs.Mapped.{map-map}
 
 prefix_len_map : {X Y : Type 0} (f : X → Y) (p : Y → Bool) (xs : List X) → prefix_len p (map f xs) ≡ prefix_len (λ x. p (f x)) xs
 prefix_len_map f p [] = refl
@@ -15,8 +16,4 @@ position_map f p xs = rw (prefix_len_map f (λ y. not (p y)) xs, length-map xs f
 pub position_within : {X : Type 0} (p : X → Bool) (xs : List X) (i : ℕ) (d : X) → position p xs ≡ Some i → i < length xs
 position_within p xs i d e = (position-Some p xs i d e).0
 
-pub map_map : {X Y Z : Type 0} (g : Y → Z) (f : X → Y) (xs : List X) → map g (map f xs) ≡ map (λ x. g (f x)) xs
-map_map g f [] = refl
-map_map g f (x ∷ xs) = ap (λ ys. g (f x) ∷ ys) (map_map g f xs)
-
-pub ruleset names_steps = (map_map)
+pub ruleset names_steps = (map-map)

@@ -6,8 +6,8 @@ use Rattle.std.specs.List.{flat_map, range_with_len}
 use Rattle.std.proofs.lemmas.List.{append-nil, length-map, get_or-map}
 use Rattle.std.proofs.lemmas.List.FromFn.{fill_by_all}
 use Rattle.std.proofs.lemmas.List.Concat.{flat_map-append}
-use Rattle.exact_parts.specs.Rows.{text_of, spaced}
-use Rattle.exact_parts.proofs.RowLemmas.{join-fields, text_of-append, text_of-map}
+use Rattle.text_rows.specs.Rows.{text_of, spaced}
+use Rattle.text_rows.proofs.RowLemmas.{join-fields, text_of-append, text_of-map}
 use Rattle.drift_chain.specs.declared.part.DriftPart.{DriftPart}
 use Rattle.search_grid.specs.Moves.{moves_from}
 use Rattle.drift_chain.specs.DriftRows.{row_of}

@@ -1,8 +1,6 @@
--- Lists over a range of numbers, and the first place that passes a test.
-use Rattle.std.proofs.Common.{◌≡◌, ℕ, zero, suc, ◌+◌, ◌<◌, ◌≤◌, Bool, true, false, List, ◌∷◌, map, length, get_or, set, Some, None, refl, ap, arith}
-use Rattle.std.specs.List.{range_with_len, position, position_or_len, slice_get}
-use Rattle.std.proofs.lemmas.Bool.{lt-ltb, le-ltb}
-use Rattle.std.proofs.lemmas.List.Sums.{position_or_len_is}
+-- Lists over a range of numbers.
+use Rattle.std.proofs.Common.{◌≡◌, ℕ, zero, suc, ◌+◌, ◌<◌, ◌≤◌, List, ◌∷◌, map, set, Some, refl, ap, arith}
+use Rattle.std.specs.List.{range_with_len, slice_get}
 
 -- two functions that agree on the range
 pub map-range-same : {X : Type 0} (n a : ℕ) (f g : ℕ → X) → ((c : ℕ) → a ≤ c → c < a + n → f c ≡ g c) → map f (range_with_len a n) ≡ map g (range_with_len a n)
@@ -27,15 +25,3 @@ set-map-range {X} (suc n) a zero j f g lt at same =
 set-map-range {X} (suc n) a (suc k) j f g lt at same =
     let head : f a ≡ g a = same a (λ e. omega arith) in
     rw head (ap (λ (xs : List X). g a ∷ xs) (set-map-range n (a + 1) k j f g (omega arith) (omega arith) same))
-
--- the first place that passes a test is found
-pub position-first : {X : Type 0} (p : X → Bool) (xs : List X) (i : ℕ) (d : X) → i < length xs → ((k : ℕ) → k < i → p (get_or xs k d) ≡ false) → p (get_or xs i d) ≡ true → position p xs ≡ Some i
-position-first p xs i d lt before here =
-    let at : position_or_len p xs ≡ i = position_or_len_is p xs i d (omega arith) before (λ _. here) in
-    rw (at, lt-ltb i (length xs) lt) refl
-
--- and nothing is where no place passes
-pub position-none : {X : Type 0} (p : X → Bool) (xs : List X) (d : X) → ((k : ℕ) → k < length xs → p (get_or xs k d) ≡ false) → position p xs ≡ None
-position-none p xs d fails =
-    let at : position_or_len p xs ≡ length xs = position_or_len_is p xs (length xs) d (omega arith) fails (λ lt. absurd (omega arith)) in
-    rw (at, le-ltb (length xs) (length xs) (omega arith)) refl

@@ -18,13 +18,16 @@ use Rattle.scenario_text.specs.State.{State}
 use Rattle.scenario_text.specs.Fields.{cell_named}
 use Rattle.scenario_text.specs.Reading.{with_moves, with_parts_of, with_overlook}
 use Rattle.scenario_text.specs.Canonical.{first_entries, moves_row, drift_row, overlook_row}
-use Rattle.scenario_text.proofs.Ascending.{Rises-from_increasing, has_double-rising}
-use Rattle.scenario_text.proofs.FieldTexts.{IsField-decimal, IsField-cell_name, AreFields-names, AreFields-pairs}
+use Rattle.scenario_text.proofs.Ascending.{has_double-rising}
+use Rattle.scenario_text.proofs.FieldTexts.{IsField-cell_name, AreFields-names, AreFields-pairs}
+use Rattle.text_rows.proofs.RowTexts.{IsField-decimal, word}
+use Rattle.exact_parts.proofs.Decimals.{number_at-decimal}
 use Rattle.scenario_text.proofs.RowsRead.{Takes}
-use Rattle.scenario_text.proofs.HeadLines.{word, moves_after, parts_after, overlook_after}
+use Rattle.scenario_text.proofs.HeadLines.{moves_after, parts_after, overlook_after}
 use Rattle.scenario_text.proofs.NamesApart.{cell_named-at}
-use Rattle.scenario_text.proofs.PairTexts.{number_at-decimal, said, pairs_of-entries, IsSaid, IsSaid-row, some_entry, are_pairs-entries, parts_within}
+use Rattle.scenario_text.proofs.PairTexts.{said, pairs_of-entries, IsSaid, IsSaid-row, some_entry, are_pairs-entries, parts_within}
 use Rattle.scenario_text.proofs.Ranges.{set-map-range}
+use Rattle.std.proofs.lemmas.List.Kept.{AllPairs-from_increasing}
 
 -- the first i cells have their moves, the first j their drift and the first k their overlook part
 abbrev pub after_rows : Problem → ℕ → ℕ → ℕ → State
@@ -75,7 +78,7 @@ pub with_moves-taken : (s : State) (c positions : ℕ) (row : List ℕ) → IsMo
 unfolding moves_from
 with_moves-taken s c positions row h before =
     let unknown = none_unknown row in
-    let double = has_double-rising row (Rises-from_increasing row h.ascending) in
+    let double = has_double-rising row (AllPairs-from_increasing row h.ascending) in
     let long = length-map row Some in
     let some = ne_eqb (length (map Some row)) 0 (λ e. omega (arith, long, h.some)) in
     let numbers = numbers_of row in

@@ -1,14 +1,15 @@
 -- Rows that are taken one after the other.
-use Rattle.std.proofs.Common.{◌≡◌, ℕ, zero, suc, ◌+◌, ◌<◌, false, List, [], ◌∷◌, ◌++◌, length, map, Ok, refl, ap, ◌∙◌, subst, arith, append_assoc}
+use Rattle.std.proofs.Common.{◌≡◌, ℕ, zero, suc, ◌+◌, ◌<◌, false, List, [], ◌∷◌, ◌++◌, length, map, Ok, refl, sym, ap, ◌∙◌, subst, arith, append_assoc}
 use Rattle.std.specs.List.{range_with_len, join_with_byte}
-use Rattle.exact_parts.specs.Rows.{text_of}
+use Rattle.text_rows.specs.Rows.{text_of}
+use Rattle.text_rows.specs.Lines.{lines_of, after_lines}
+use Rattle.text_rows.proofs.RowTexts.{AreFields, fields_of-join, row_is_text, lines_of-row, after_lines-row}
+use Rattle.text_rows.proofs.LineCuts.{after_none}
 use Rattle.scenario_text.specs.declared.draft.Stage.TheVariants.{Ended}
-use Rattle.scenario_text.specs.Lines.{lines_of, after_lines}
 use Rattle.scenario_text.specs.State.{State}
 use Rattle.scenario_text.specs.Fields.{says_nothing}
 use Rattle.scenario_text.specs.Reading.{stage_line, line_at, lines_at}
 use Rattle.scenario_text.proofs.Loop.{at_line, at_last}
-use Rattle.scenario_text.proofs.Joined.{AreFields, fields_of-join, row_is_text, lines_of-row, after_lines-row, after_no_lines}
 
 -- a state takes a row of fields and becomes another
 pub record Takes (s : State) (row : List (List ℕ)) (t : State) : Type 0 where
@@ -50,7 +51,7 @@ Reads-end s t row h ended = record {
   lines = λ number last rest long.
       let here : last ≡ number = omega arith in
       rw here (at_last s t number (join_with_byte 32 row) (lines_of rest) _ (lines_of-first row [] rest h.fields) (line_at-row s t row h) ended);
-  cut = λ rest. after_first 0 row [] rest h.fields ∙ after_no_lines rest;
+  cut = λ rest. after_first 0 row [] rest h.fields ∙ sym (after_none rest);
 }
 
 -- one row for each number from a up to b

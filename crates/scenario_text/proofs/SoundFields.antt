@@ -1,6 +1,6 @@
 -- What tests that a line has passed say of its numbers, names and pairs.
-use Rattle.std.proofs.Common.{◌≡◌, ℕ, ◌<◌, ◌≤◌, ◌+◌, Bool, true, false, cond, List, [], ◌∷◌, map, length, get_or, Option, Some, None, Result, Ok, Err, refl, sym, ap, ◌∙◌, arith, inl, inr}
-use Rattle.std.specs.Prelude.{◌||◌, ◌==◌, is_none, is_some, unwrap_or, All, Contains, count_by, sum_by}
+use Rattle.std.proofs.Common.{◌≡◌, ℕ, ◌<◌, ◌≤◌, Bool, true, false, cond, List, [], ◌∷◌, map, length, get_or, Option, Some, None, Result, Ok, Err, refl, sym, ◌∙◌, arith, inl, inr}
+use Rattle.std.specs.Prelude.{◌==◌, is_none, is_some, unwrap_or, All, Contains, count_by}
 use Rattle.std.specs.List.{list_any, position_or_len}
 use Rattle.std.specs.Str.{bytes_eq}
 use Rattle.std.proofs.lemmas.Bool.{eq-eqb, ne_eqb, cases_eq, or_parts, lt-ltb, true≢false, cases_lt}
@@ -10,23 +10,19 @@ use Rattle.std.proofs.lemmas.List.Sums.{sum_by-cons, fails_before_first}
 use Rattle.std.proofs.lemmas.Slice.Eq.{bytes_eq-Decides}
 use Rattle.drift_chain.specs.declared.part.DriftPart.{DriftPart}
 use Rattle.scenario_text.specs.declared.pair.Pair.{Pair}
-use Rattle.scenario_text.specs.Fields.{number_at, is_bad, is_over, number_in, cell_named, stands_in, has_double, pairs_of, entries_of, total_of, pairs_fault}
+use Rattle.scenario_text.specs.Fields.{is_bad, is_over, number_in, cell_named, stands_in, has_double, pairs_of, entries_of, total_of, pairs_fault}
+use Rattle.exact_parts.specs.Decimal.{number_at}
 use Rattle.scenario_text.specs.Sound.{AreEntries, AreMoves}
 use Rattle.scenario_text.proofs.Numbers.{number_at_within, least_met}
 use Rattle.scenario_text.proofs.Positions.{position_within}
-
-pub err_ok : {X E : Type 0} (k : E) (t : X) → ◌≡◌ {A = Result X E} (Err k) (Ok t) → ⊥
-err_ok k t e = let bad : ⊥ = cc in bad
+use Rattle.list_laws.proofs.Mapped.{list_any-map}
+use Rattle.list_laws.proofs.Sums.{sum_by-map}
+use Rattle.text_rows.proofs.Results.{err_ok}
 
 -- a test that would have refused
 pub not_refused : {X E : Type 0} (b : Bool) (k : E) (r : Result X E) (t : X) → cond b (Err k) r ≡ Ok t → (b ≡ false) × (r ≡ Ok t)
 not_refused true k r t e = absurd (err_ok k t e)
 not_refused false k r t e = (refl, e)
-
--- a test that had to pass
-pub let_through : {X E : Type 0} (b : Bool) (k : E) (r : Result X E) (t : X) → cond b r (Err k) ≡ Ok t → (b ≡ true) × (r ≡ Ok t)
-let_through true k r t e = (refl, e)
-let_through false k r t e = absurd (err_ok k t e)
 
 no_kind : {K : Type 0} (b : Bool) (k : K) (r : Option K) → cond b (Some k) r ≡ None → (b ≡ false) × (r ≡ None)
 no_kind true k r e = absurd (let bad : ⊥ = cc in bad)
@@ -103,14 +99,6 @@ AreMoves-from_named names fields few some found single =
     }
 
 -- Pairs.
-pub sum_by-map : {X Y : Type 0} (f : Y → ℕ) (g : X → Y) (xs : List X) → sum_by f (map g xs) ≡ sum_by (λ x. f (g x)) xs
-sum_by-map f g [] = refl
-sum_by-map f g (x ∷ xs) = sum_by-cons f (g x) (map g xs) ∙ ap (λ n. f (g x) + n) (sum_by-map f g xs) ∙ sym (sum_by-cons (λ y. f (g y)) x xs)
-
-pub list_any-map : {X Y : Type 0} (p : Y → Bool) (g : X → Y) (xs : List X) → list_any p (map g xs) ≡ list_any (λ x. p (g x)) xs
-list_any-map p g [] = refl
-list_any-map p g (x ∷ xs) = ap (λ b. p (g x) || b) (list_any-map p g xs)
-
 pairs_within : (names fields : List (List ℕ)) → list_any (λ x. is_none x.cell) (pairs_of names fields) ≡ false → All (λ x. unwrap_or x.cell 0 < length names) (pairs_of names fields)
 unfolding pairs_of
 pairs_within names [] found = All-nil (λ x. unwrap_or x.cell 0 < length names)

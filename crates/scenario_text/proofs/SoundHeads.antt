@@ -12,14 +12,18 @@ use Rattle.scenario_text.specs.declared.draft.Stage.{Stage}
 use Rattle.scenario_text.specs.declared.draft.Stage.TheVariants.{Version, Horizon, Parts, Cells, Start, First, Rows}
 use Rattle.scenario_text.specs.declared.kind.TextKind.{TextKind}
 use Rattle.scenario_text.specs.declared.kind.TextKind.TheVariants.{BadLine}
-use Rattle.scenario_text.specs.Fields.{number_at, is_bad, is_over, number_in, is_word, cell_named, pairs_of, are_pairs, pairs_fault, total_of}
+use Rattle.scenario_text.specs.Fields.{is_bad, is_over, number_in, cell_named, pairs_of, are_pairs, pairs_fault, total_of}
+use Rattle.exact_parts.specs.Decimal.{number_at}
+use Rattle.text_rows.specs.Fields.{is_word}
+use Rattle.text_rows.proofs.Results.{err_ok, let_through}
 use Rattle.search_model.specs.Grids.{grid_names}
 use Rattle.scenario_text.specs.State.{State}
 use Rattle.scenario_text.specs.Reading.{version_line, with_horizon, horizon_line, with_parts, parts_line, with_name, cell_line, with_cells, with_grid, with_start, start_line, cells_line, unless_fault, with_first, first_pairs, first_line}
 use Rattle.scenario_text.specs.Sound.{place_of, IsSettled, AreEntries, AreMoves, IsPart, IsSound}
-use Rattle.scenario_text.proofs.SoundFields.{err_ok, not_refused, let_through, in_limits, named_within, not_there, AreEntries-from_pairs}
+use Rattle.scenario_text.proofs.SoundFields.{not_refused, in_limits, named_within, not_there, AreEntries-from_pairs}
 use Rattle.scenario_text.proofs.SoundNames.{differ_more, grid_count, All-grid_names, grid_differ}
-use Rattle.scenario_text.proofs.SoundRows.{length-side_moves, All-side_moves, own_once}
+use Rattle.scenario_text.proofs.SoundRows.{All-side_moves, own_once}
+use Rattle.search_grid.proofs.Beside.{length-side_moves}
 
 pub sound_ok : (x t : State) → ◌≡◌ {A = Result State TextKind} (Ok x) (Ok t) → IsSound x → IsSound t
 sound_ok x t e h = let same : x ≡ t = cc in subst IsSound same h

@@ -12,12 +12,14 @@ use Rattle.search_grid.specs.Moves.{moves_from}
 use Rattle.scenario_text.specs.declared.draft.Stage.{Stage}
 use Rattle.scenario_text.specs.declared.draft.Stage.TheVariants.{Rows, Ended}
 use Rattle.scenario_text.specs.declared.kind.TextKind.TheVariants.{BadLine}
-use Rattle.scenario_text.specs.Fields.{number_at, is_bad, is_over, number_in, cell_named, has_double, pairs_of, are_pairs, pairs_fault, total_of}
+use Rattle.scenario_text.specs.Fields.{is_bad, is_over, number_in, cell_named, has_double, pairs_of, are_pairs, pairs_fault, total_of}
+use Rattle.exact_parts.specs.Decimal.{number_at}
+use Rattle.text_rows.proofs.Results.{err_ok, let_through}
 use Rattle.search_model.specs.Grids.{spread_rows}
 use Rattle.scenario_text.specs.State.{State}
 use Rattle.scenario_text.specs.Reading.{has_moves, has_parts, has_overlook, with_moves, moves_line, with_parts_of, drift_line, with_overlook, overlook_line, spread_part, spread_line, rate_line, lacks_row, is_narrow, end_line}
 use Rattle.scenario_text.specs.Sound.{AreEntries, AreMoves, IsPart, IsSound}
-use Rattle.scenario_text.proofs.SoundFields.{err_ok, not_refused, let_through, named_within, AreMoves-from_named, AreEntries-from_pairs}
+use Rattle.scenario_text.proofs.SoundFields.{not_refused, named_within, AreMoves-from_named, AreEntries-from_pairs}
 use Rattle.scenario_text.proofs.SoundRows.{length-spread_rows, All-spread_rows}
 use Rattle.scenario_text.proofs.SoundHeads.{sound_ok, reached, settled_on, no_fault}
 

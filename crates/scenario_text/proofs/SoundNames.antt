@@ -1,5 +1,5 @@
 -- Names of cells: a new one, and those of a grid.
-use Rattle.std.proofs.Common.{◌≡◌, ℕ, zero, suc, ◌<◌, ◌≤◌, ◌+◌, ◌*◌, ◌/◌, ◌%◌, true, List, [], ◌∷◌, ◌++◌, length, get_or, take, refl, sym, ap, ◌∙◌, arith, subst, inl, inr, get_or-take}
+use Rattle.std.proofs.Common.{◌≡◌, ℕ, zero, suc, ◌<◌, ◌≤◌, ◌+◌, ◌*◌, ◌/◌, ◌%◌, true, List, [], ◌∷◌, ◌++◌, length, get_or, take, refl, sym, ◌∙◌, arith, subst, inl, inr, get_or-take}
 use Rattle.std.specs.Prelude.{All, Contains}
 use Rattle.std.specs.Fmt.{decimal}
 use Rattle.std.specs.Int.{IsInRange}
@@ -8,12 +8,13 @@ use Rattle.std.proofs.lemmas.Bool.{cases_lt}
 use Rattle.std.proofs.lemmas.Fmt.{length-decimal-le}
 use Rattle.std.proofs.lemmas.Grind.{common_steps}
 use Rattle.std.proofs.lemmas.List.{length-append, length-take-le, length_push, take-append-le, take_at, get_or_append_left, get_or_push}
-use Rattle.std.proofs.lemmas.List.Elements.{All-cons, All-append, All-weaker, All-head, All-tail, All-from_get_or}
+use Rattle.std.proofs.lemmas.List.Elements.{All-cons, All-append, All-weaker, All-from_get_or}
 use Rattle.std.proofs.lemmas.List.FromFn.{length-map-range_with_len, get_or-map-range_with_len}
 use Rattle.std.proofs.lemmas.List.Sums.{list_all-from_AllPass}
-use Rattle.exact_parts.proofs.Decimals.{All-decimal, decimal_tells}
+use Rattle.exact_parts.proofs.Decimals.{All-decimal}
 use Rattle.search_model.specs.Names.{IsName, is_name_byte, name_in, IsRepeated}
 use Rattle.search_model.specs.Grids.{grid_name, grid_names}
+use Rattle.scenario_text.proofs.GridNames.{grid_name_tells}
 
 -- a name that isn't there repeats none
 pub differ_more : (names : List (List ℕ)) (name : List ℕ) → ((c : ℕ) → ¬ IsRepeated names c) → ¬ Contains names name → (c : ℕ) → ¬ IsRepeated (names ++ name ∷ []) c
@@ -66,11 +67,8 @@ IsName-grid cols c some small =
       bytes = list_all-from_AllPass is_name_byte (grid_name cols c) bytes;
     }
 
-length-grid_names : (rows cols : ℕ) → length (grid_names rows cols) ≡ rows * cols
-length-grid_names rows cols = length-map-range_with_len (grid_name cols) 0 (rows * cols)
-
 pub grid_count : (rows cols : ℕ) → length (grid_names rows cols) ≡ rows * cols
-grid_count rows cols = length-grid_names rows cols
+grid_count rows cols = length-map-range_with_len (grid_name cols) 0 (rows * cols)
 
 grid_name-at : (rows cols c : ℕ) (d : List ℕ) → c < rows * cols → get_or (grid_names rows cols) c d ≡ grid_name cols c
 grid_name-at rows cols c d lt = get_or-map-range_with_len (grid_name cols) 0 (rows * cols) c c d lt (omega arith)
@@ -81,34 +79,6 @@ All-grid_names rows cols some few = All-from_get_or IsName (grid_names rows cols
     let P : List ℕ → Type 0 = λ n. IsName n in
     subst P (sym (grid_name-at rows cols c [] within)) (IsName-grid cols c some (omega (arith, within, few))))
 
--- where a list ends is told by a byte that it doesn't hold
-cut_once : (stop : ℕ) (xs ys us vs : List ℕ) → All (λ b. b ≡ stop → ⊥) xs → All (λ b. b ≡ stop → ⊥) ys → xs ++ stop ∷ us ≡ ys ++ stop ∷ vs → (xs ≡ ys) × (us ≡ vs)
-cut_once stop [] [] us vs free free' e = (refl, cc)
-cut_once stop [] (y ∷ ys) us vs free free' e = absurd (All-head (λ b. b ≡ stop → ⊥) y ys free' (let same : y ≡ stop = cc in same))
-cut_once stop (x ∷ xs) [] us vs free free' e = absurd (All-head (λ b. b ≡ stop → ⊥) x xs free (let same : x ≡ stop = cc in same))
-cut_once stop (x ∷ xs) (y ∷ ys) us vs free free' e =
-    let rest : xs ++ stop ∷ us ≡ ys ++ stop ∷ vs = cc in
-    let head : x ≡ y = cc in
-    let parts = cut_once stop xs ys us vs (All-tail (λ b. b ≡ stop → ⊥) x xs free) (All-tail (λ b. b ≡ stop → ⊥) y ys free') rest in
-    let tail : xs ≡ ys = parts.0 in
-    (cc, parts.1)
-
-no_letter : (n : ℕ) → n ≤ 200 → All (λ b. b ≡ 99 → ⊥) (decimal n)
-no_letter n small = All-weaker (IsInRange 48 57) (λ b. b ≡ 99 → ⊥) (λ b range e. absurd (omega (arith, range.0, range.1, e))) (decimal n) (All-decimal n (omega arith))
-
-names_tell : (cols c d : ℕ) → 1 ≤ cols → c < 200 → d < 200 → grid_name cols c ≡ grid_name cols d → c ≡ d
-names_tell cols c d some small small' e =
-    let behind : decimal (c / cols) ++ 99 ∷ decimal (c % cols) ≡ decimal (d / cols) ++ 99 ∷ decimal (d % cols) = cc in
-    let row = row_small c cols some small in
-    let row' = row_small d cols some small' in
-    let parts = cut_once 99 (decimal (c / cols)) (decimal (d / cols)) (decimal (c % cols)) (decimal (d % cols)) (no_letter (c / cols) row) (no_letter (d / cols) row') behind in
-    let rows : c / cols ≡ d / cols = decimal_tells (c / cols) (d / cols) (omega arith) (omega arith) parts.0 in
-    let columns : c % cols ≡ d % cols = decimal_tells (c % cols) (d % cols) (omega (arith, column_small c cols small)) (omega (arith, column_small d cols small')) parts.1 in
-    let here = div-add-mod c cols in
-    let there = div-add-mod d cols in
-    let times = ap (λ q. cols * q) rows in
-    omega (arith, times, columns, here, there)
-
 pub grid_differ : (rows cols : ℕ) → 1 ≤ cols → rows * cols ≤ 200 → (c : ℕ) → ¬ IsRepeated (grid_names rows cols) c
 grid_differ rows cols some few c again =
     let names = grid_names rows cols in
@@ -118,5 +88,5 @@ grid_differ rows cols some few c again =
     let earlier : get_or names again.1.0 (name_in names c) ≡ grid_name cols again.1.0 = grid_name-at rows cols again.1.0 (name_in names c) (omega arith) in
     let here : name_in names c ≡ grid_name cols c = grid_name-at rows cols c [] within in
     let same : grid_name cols again.1.0 ≡ grid_name cols c = sym earlier ∙ sym at ∙ again.1.2 ∙ here in
-    let equal : again.1.0 ≡ c = names_tell cols again.1.0 c some (omega arith) (omega (arith, within, few)) same in
+    let equal : again.1.0 ≡ c = grid_name_tells cols again.1.0 c some (omega arith) (omega (arith, within, few)) same in
     omega (arith, place, equal)

@@ -3,19 +3,19 @@ use Rattle.std.proofs.Common.{◌≡◌, ℕ, zero, suc, ◌<◌, ◌≤◌, ◌
 use Rattle.std.specs.Prelude.{◌==◌, nat_lt, if◌then◌else◌, filter, All, count_by, sum_by}
 use Rattle.std.specs.List.{list_any, range_with_len}
 use Rattle.std.proofs.lemmas.Bool.{ltb-true, ltb-false, eq-eqb, ne_eqb, cases_eq, cases_lt, cases_Bool, lt-ltb, le-ltb, true≢false}
-use Rattle.std.proofs.lemmas.Bool.Decides.{nat_tests}
 use Rattle.std.proofs.lemmas.List.Elements.{All-map, All-filter, All-from_get_or, All-weaker, filter_passes}
 use Rattle.std.proofs.lemmas.List.FromFn.{length-map-range_with_len, get_or-map-range_with_len}
 use Rattle.std.proofs.lemmas.List.Kept.{AllPairs-from_increasing}
 use Rattle.std.proofs.lemmas.List.Sums.{sum_by-cons, count_by-le-length}
 use Rattle.drift_chain.specs.declared.part.DriftPart.{DriftPart}
 use Rattle.search_grid.specs.Moves.{moves_from, IsMoveRow}
-use Rattle.search_grid.specs.Sides.{is_beside, moves_beside, side_moves}
+use Rattle.search_grid.specs.Sides.{is_beside, side_moves}
 use Rattle.list_laws.proofs.Ascending.{count_at-le}
-use Rattle.search_grid.proofs.Beside.{IsGrid-from_sides, side_moves_from}
+use Rattle.search_grid.proofs.Beside.{IsGrid-from_sides, side_moves_from, length-side_moves, stays}
 use Rattle.search_model.specs.Grids.{rest_of, spread_row, spread_rows}
 use Rattle.scenario_text.specs.Sound.{AreEntries, AreMoves}
-use Rattle.scenario_text.proofs.SoundFields.{none_pass, sum_by-map}
+use Rattle.scenario_text.proofs.SoundFields.{none_pass}
+use Rattle.list_laws.proofs.Sums.{sum_by-map}
 
 -- The moves of a grid.
 AreMoves-from_row : (cells : ℕ) (row : List ℕ) → IsMoveRow cells row → AreMoves cells row
@@ -26,11 +26,7 @@ AreMoves-from_row cells row h = record {
   once = λ d. count_at-le (λ m. m) d row (AllPairs-from_increasing row h.ascending);
 }
 
-pub length-side_moves : (rows cols : ℕ) → length (side_moves rows cols) ≡ rows * cols
-unfolding side_moves
-length-side_moves rows cols = length-map-range_with_len (moves_beside rows cols) 0 (rows * cols)
-
-moves_at : (rows : List (List ℕ)) (c : ℕ) → moves_from rows c ≡ get_or rows c []
+pub moves_at : (rows : List (List ℕ)) (c : ℕ) → moves_from rows c ≡ get_or rows c []
 unfolding moves_from
 moves_at rows c = refl
 
@@ -68,9 +64,6 @@ kept_count p c keeps (x ∷ xs) =
           let apart : x ≡ c → ⊥ = λ same. let bad : true ≡ false = sym keeps ∙ ap p (sym same) ∙ fails in true≢false bad in
           rw (fails, step, ne_eqb x c apart) (omega (arith, kept_count p c keeps xs))
     ]
-
-stays : (k c : ℕ) → is_beside k c c ≡ true
-stays k c = grind (arith, nat_tests)
 
 pub own_once : (rows cols c : ℕ) → c < length (side_moves rows cols) → count_by (λ m. m == c) (moves_from (side_moves rows cols) c) ≡ 1
 own_once rows cols c lt =

@@ -7,15 +7,16 @@ use Rattle.search_model.specs.Names.{IsName}
 use Rattle.scenario_text.specs.declared.draft.Stage.{Stage}
 use Rattle.scenario_text.specs.declared.draft.Stage.TheVariants.{Version, Horizon, Parts, Cells, Start, First, Rows, Ended}
 use Rattle.scenario_text.specs.declared.kind.TextKind.TheVariants.{BadLine, NotText}
-use Rattle.scenario_text.specs.Lines.{fields_of}
-use Rattle.scenario_text.specs.Fields.{is_text_byte, is_word, says_nothing}
+use Rattle.text_rows.specs.Fields.{fields_of, is_text_byte, is_word}
+use Rattle.text_rows.proofs.FieldCuts.{fields_some}
+use Rattle.text_rows.proofs.Results.{err_ok}
+use Rattle.scenario_text.specs.Fields.{says_nothing}
 use Rattle.scenario_text.specs.State.{State, blank_state}
 use Rattle.scenario_text.specs.Reading.{moves_line, drift_line, overlook_line, spread_line, rate_line, end_line, row_line, stage_line, line_at}
 use Rattle.scenario_text.specs.Sound.{AreEntries, AreMoves, IsPart, IsSound}
 use Rattle.scenario_text.specs.Faults.{AreTaken}
 use Rattle.scenario_text.specs.InRows.{IsReached}
-use Rattle.scenario_text.proofs.Words.{fields_some}
-use Rattle.scenario_text.proofs.SoundFields.{err_ok, not_refused}
+use Rattle.scenario_text.proofs.SoundFields.{not_refused}
 use Rattle.scenario_text.proofs.SoundHeads.{sound_ok, reached, by_word, version_sound, horizon_sound, parts_sound, cells_sound, start_sound, first_sound}
 use Rattle.scenario_text.proofs.SoundLines.{moves_sound, drift_sound, overlook_sound, spread_sound, rate_sound, end_sound}
 

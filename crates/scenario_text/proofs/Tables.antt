@@ -14,12 +14,15 @@ use Rattle.scenario_text.specs.declared.draft.Stage.{Stage}
 use Rattle.scenario_text.specs.declared.draft.Stage.TheVariants as due
 use Rattle.scenario_text.specs.declared.kind.TextKind.{TextKind}
 use Rattle.scenario_text.specs.declared.kind.TextKind.TheVariants.{NotText, BadLine, BadNumber, OverLimit, UnknownName, DoubleName, MissingRow, DoubleRow, WrongSum, PartOver, NoMove, TooWide}
-use Rattle.scenario_text.specs.Lines.{fields_of}
-use Rattle.scenario_text.specs.Fields.{is_text_byte, says_nothing, is_word, number_at, is_bad, is_over, number_in, cell_named, stands_in, has_double, are_pairs, pairs_of, total_of}
+use Rattle.text_rows.specs.Fields.{fields_of, is_text_byte, is_word}
+use Rattle.exact_parts.specs.Decimal.{number_at}
+use Rattle.list_laws.proofs.Mapped.{list_any-map}
+use Rattle.list_laws.proofs.Sums.{sum_by-map}
+use Rattle.scenario_text.specs.Fields.{says_nothing, is_bad, is_over, number_in, cell_named, stands_in, has_double, are_pairs, pairs_of, total_of}
 use Rattle.scenario_text.specs.State.{State}
 use Rattle.scenario_text.specs.Reading.{version_line, horizon_line, parts_line, cell_line, with_grid, with_start, start_line, cells_line, unless_fault, first_pairs, first_line, has_moves, has_parts, has_overlook, with_moves, moves_line, unknown_after, drift_pairs, drift_line, overlook_part, overlook_line, spread_line, rate_line, lacks_row, is_narrow, end_line, row_line, stage_line, line_at}
-use Rattle.scenario_text.specs.KindTable.{Line, Scenario, Horizon, Parts, Cell, Grid, Start, First, Moves, Drift, Overlook, Spread, Rate, End, row_due, line_due, pair_names, pair_parts, stands_twice, holds_of, is_bad_line, first_kind, tests, tests_of, fault_of, KindsByTable}
-use Rattle.scenario_text.proofs.SoundFields.{list_any-map, sum_by-map}
+use Rattle.scenario_text.specs.KindTable.{Line, Scenario, Horizon, Parts, Cell, Grid, Start, First, Moves, Drift, Overlook, Spread, Rate, End, row_due, line_due, pair_names, pair_parts, stands_twice, holds_of, is_bad_line, tests, tests_of, KindsByTable}
+use Rattle.text_rows.specs.Kinds.{first_kind, fault_of}
 
 -- the kinds in their order, by what the tests give
 abbrev table_of : Bool → Bool → Bool → Bool → Bool → Bool → Bool → Bool → Bool → Bool → Bool → Option TextKind
@@ -79,7 +82,7 @@ pairs_by true false false false false false s = refl
 
 -- a row of drift, whose cell is unknown or has a row
 unknown_by : (form bad over unknown double : Bool) (row sum : Bool) →
-    fault_of (cond form (Err (unknown_after (cond bad (Some BadNumber) (cond over (Some OverLimit) (cond unknown (Some UnknownName) (cond double (Some DoubleName) None)))))) (Err BadLine))
+    fault_of {X = State} (cond form (Err (unknown_after (cond bad (Some BadNumber) (cond over (Some OverLimit) (cond unknown (Some UnknownName) (cond double (Some DoubleName) None)))))) (Err BadLine))
     ≡ table_of (not form || false) bad (over || false) true double false row sum false false false
 unknown_by false bad over unknown double row sum = refl
 unknown_by true true over unknown double row sum = refl
@@ -111,7 +114,7 @@ moves_by false false false false true s = refl
 moves_by false false false false false s = refl
 
 -- a row of moves, whose cell is unknown
-lost_by : (many : Bool) (unknown double row none : Bool) → fault_of (cond many (Err OverLimit) (Err UnknownName)) ≡ table_of false false many true double false row false false none false
+lost_by : (many : Bool) (unknown double row none : Bool) → fault_of {X = State} (cond many (Err OverLimit) (Err UnknownName)) ≡ table_of false false many true double false row false false none false
 lost_by true unknown double row none = refl
 lost_by false unknown double row none = refl
 
@@ -119,7 +122,7 @@ overlook_by : (s : State) (c : Option ℕ) (n : Number) → fault_of (overlook_p
     ≡ table_of false (is_bad 0 n || false) ((is_over n || false) || false) (is_none c || false) false false (holds_of c (has_overlook s)) false (nat_lt s.look (number_in n)) false false
 overlook_by s None n = by_bools (is_bad 0 n) (is_over n)
   where
-    by_bools : (bad over : Bool) → fault_of (cond bad (Err BadNumber) (cond over (Err OverLimit) (Err UnknownName))) ≡ table_of false (bad || false) ((over || false) || false) true false false false false (nat_lt s.look (number_in n)) false false
+    by_bools : (bad over : Bool) → fault_of {X = State} (cond bad (Err BadNumber) (cond over (Err OverLimit) (Err UnknownName))) ≡ table_of false (bad || false) ((over || false) || false) true false false false false (nat_lt s.look (number_in n)) false false
     by_bools true over = refl
     by_bools false true = refl
     by_bools false false = refl

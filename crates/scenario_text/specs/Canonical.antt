@@ -2,7 +2,7 @@
 use Rattle.std.specs.Prelude.{ℕ, ◌==◌, if◌then◌else◌, List, [], ◌∷◌, ◌++◌, map, length, codes, false, Some}
 use Rattle.std.specs.List.{flat_map, range_with_len}
 use Rattle.std.specs.Fmt.{decimal}
-use Rattle.exact_parts.specs.Rows.{text_of}
+use Rattle.text_rows.specs.Rows.{text_of}
 use Rattle.drift_chain.specs.declared.part.DriftPart.{DriftPart}
 use Rattle.drift_chain.specs.DriftRows.{row_of}
 use Rattle.search_grid.specs.Moves.{moves_from}

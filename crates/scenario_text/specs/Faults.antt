@@ -5,7 +5,8 @@ use Rattle.scenario_text.specs.declared.draft.Stage.TheVariants as due
 use Rattle.scenario_text.specs.declared.kind.TextKind.{TextKind}
 use Rattle.scenario_text.specs.declared.kind.TextKind.TheVariants.{EarlyEnd, Rest}
 use Rattle.scenario_text.specs.declared.kind.TextFault.{TextFault}
-use Rattle.scenario_text.specs.Lines.{lines_of, after_lines, is_blank}
+use Rattle.text_rows.specs.Lines.{lines_of, after_lines}
+use Rattle.text_rows.specs.Fields.{is_blank}
 use Rattle.scenario_text.specs.State.{State, blank_state}
 use Rattle.scenario_text.specs.Reading.{Front, line_at, front_of}
 

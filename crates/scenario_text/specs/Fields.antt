@@ -1,19 +1,14 @@
 -- The fields of a line: words, numbers, names of cells, and pairs of a cell with its part.
-use Rattle.std.specs.Prelude.{ℕ, ◌%◌, Bool, true, false, not, ◌&&◌, ◌||◌, ◌==◌, nat_lt, nat_le, if◌then◌else◌, List, [], ◌∷◌, map, length, Option, Some, None, is_none, is_some, unwrap_or, position, sum_by}
+use Rattle.std.specs.Prelude.{ℕ, ◌%◌, Bool, true, false, ◌&&◌, ◌||◌, ◌==◌, nat_lt, nat_le, if◌then◌else◌, List, [], ◌∷◌, map, length, Option, Some, None, is_none, is_some, unwrap_or, position, sum_by}
 use Rattle.std.specs.List.{list_any}
 use Rattle.std.specs.Str.{bytes_eq}
-use Rattle.std.specs.Str.Parse.{digits_value}
 use Rattle.exact_parts.specs.declared.number.Number.{Number}
 use Rattle.exact_parts.specs.declared.number.Number.TheVariants.{NotPlain, Above, Of}
-use Rattle.exact_parts.specs.Decimal.{is_plain}
+use Rattle.exact_parts.specs.Decimal.{number_at}
 use Rattle.drift_chain.specs.declared.part.DriftPart.{DriftPart}
 use Rattle.scenario_text.specs.declared.kind.TextKind.{TextKind}
 use Rattle.scenario_text.specs.declared.kind.TextKind.TheVariants.{BadNumber, OverLimit, UnknownName, DoubleName}
 use Rattle.scenario_text.specs.declared.pair.Pair.{Pair}
-
--- tab, carriage return and 0x20 to 0x7E
-abbrev pub is_text_byte : ℕ → Bool
-is_text_byte c = (c == 9 || c == 13) || not (nat_lt c 32 || nat_lt 126 c)
 
 -- blanks alone, or a comment
 abbrev pub says_nothing : List (List ℕ) → Bool
@@ -21,15 +16,7 @@ says_nothing [] = true
 says_nothing ([] ∷ fields) = false
 says_nothing ((c ∷ cs) ∷ fields) = c == 35
 
-abbrev pub is_word : List ℕ → List ℕ → Bool
-is_word field word = bytes_eq field word
-
 -- Numbers.
-
--- what a field says in the place of a number of at most most
-abbrev pub number_at : ℕ → List ℕ → Number
-number_at most field =
-    if not (is_plain field) then NotPlain else (if nat_lt most (digits_value 10 field) then Above else Of (digits_value 10 field))
 
 -- no plain decimal, or below the least
 abbrev pub is_bad : ℕ → Number → Bool

@@ -1,15 +1,17 @@
 -- Where a line has each kind of fault, as a table: the first kind whose test holds decides.
-use Rattle.std.specs.Prelude.{ℕ, ◌≡◌, ◌-◌, ◌*◌, Bool, true, false, not, ◌&&◌, ◌||◌, ◌==◌, nat_lt, nat_le, if◌then◌else◌, List, [], ◌∷◌, ◌++◌, length, Option, Some, None, is_none, is_some, sum_by, Result, Ok, Err, codes}
+use Rattle.std.specs.Prelude.{ℕ, ◌≡◌, ◌-◌, ◌*◌, Bool, true, false, not, ◌&&◌, ◌||◌, ◌==◌, nat_lt, nat_le, if◌then◌else◌, List, [], ◌∷◌, ◌++◌, length, Option, Some, None, is_none, is_some, sum_by, codes}
 use Rattle.std.specs.List.{list_all, list_any}
 use Rattle.search_model.specs.Names.{is_name_byte}
 use Rattle.scenario_text.specs.declared.draft.Stage.{Stage}
 use Rattle.scenario_text.specs.declared.draft.Stage.TheVariants as due
 use Rattle.scenario_text.specs.declared.kind.TextKind.{TextKind}
 use Rattle.scenario_text.specs.declared.kind.TextKind.TheVariants.{NotText, BadLine, BadNumber, OverLimit, UnknownName, DoubleName, MissingRow, DoubleRow, WrongSum, PartOver, NoMove, TooWide}
-use Rattle.scenario_text.specs.Lines.{fields_of}
-use Rattle.scenario_text.specs.Fields.{is_text_byte, says_nothing, is_word, number_at, is_bad, is_over, number_in, cell_named, are_pairs}
+use Rattle.text_rows.specs.Fields.{fields_of, is_text_byte, is_word, behind_first, first_alone}
+use Rattle.exact_parts.specs.Decimal.{number_at}
+use Rattle.scenario_text.specs.Fields.{says_nothing, is_bad, is_over, number_in, cell_named, are_pairs}
 use Rattle.scenario_text.specs.State.{State}
 use Rattle.scenario_text.specs.Reading.{has_moves, has_parts, has_overlook, lacks_row, is_narrow, line_at}
+use Rattle.text_rows.specs.Kinds.{first_kind, fault_of}
 
 -- The lines.
 
@@ -60,16 +62,6 @@ line_due due.Rows named word = row_due word
 line_due due.Ended named word = None
 
 -- The fields behind the keyword.
-
--- all but the first
-abbrev pub behind_first : List (List ℕ) → List (List ℕ)
-behind_first [] = []
-behind_first (field ∷ fields) = fields
-
--- the first, if there is one
-abbrev pub first_alone : List (List ℕ) → List (List ℕ)
-first_alone [] = []
-first_alone (field ∷ fields) = field ∷ []
 
 -- the names of `NAME PART NAME PART ..`
 unfoldable pub pair_names : List (List ℕ) → List (List ℕ)
@@ -256,11 +248,6 @@ is_too_wide s _ = false
 
 -- The table.
 
--- the first kind whose test holds
-abbrev pub first_kind : List (Bool × TextKind) → Option TextKind
-first_kind [] = None
-first_kind (row ∷ rows) = if row.0 then Some row.1 else first_kind rows
-
 -- the kinds of a line in their order, with the test of each
 abbrev pub tests : State → Option Line → List (List ℕ) → List (Bool × TextKind)
 tests s None fields = (true, BadLine) ∷ []
@@ -287,11 +274,6 @@ tests_of stage s (word ∷ fields) = tests s (line_due stage (nat_lt 0 (length s
 abbrev pub kind_by_table : State → List ℕ → Option TextKind
 kind_by_table s line =
     if says_nothing (fields_of line) then None else first_kind ((not (list_all is_text_byte line), NotText) ∷ tests_of s.stage s (fields_of line))
-
--- the fault of a line that was read
-abbrev pub fault_of : Result State TextKind → Option TextKind
-fault_of (Ok s) = None
-fault_of (Err kind) = Some kind
 
 -- a line has the fault that the table gives
 abbrev pub KindsByTable : Type 0

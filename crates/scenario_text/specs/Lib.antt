@@ -1,5 +1,4 @@
 pub mod Kinds
-pub mod Lines
 pub mod State
 pub mod Fields
 pub mod Reading

@@ -2,7 +2,7 @@
 use Rattle.std.specs.Prelude.{ℕ, ◌==◌, if◌then◌else◌, List, [], ◌∷◌, ◌++◌, map, codes}
 use Rattle.std.specs.List.{flat_map, join_with_byte, range_with_len}
 use Rattle.std.specs.Fmt.{decimal}
-use Rattle.exact_parts.specs.Rows.{text_of}
+use Rattle.text_rows.specs.Rows.{text_of}
 use Rattle.drift_chain.specs.declared.part.DriftPart.{DriftPart}
 use Rattle.search_model.specs.Problem.{Problem, first_of, cell_name, position_name}
 use Rattle.scenario_text.specs.Canonical.{first_entries, pair_fields, moves_row, drift_row, overlook_row}

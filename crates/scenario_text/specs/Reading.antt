@@ -11,8 +11,10 @@ use Rattle.scenario_text.specs.declared.kind.TextKind.{TextKind}
 use Rattle.scenario_text.specs.declared.kind.TextKind.TheVariants.{NotText, BadLine, BadNumber, OverLimit, UnknownName, DoubleName, MissingRow, DoubleRow, WrongSum, PartOver, NoMove, TooWide, EarlyEnd, Rest}
 use Rattle.scenario_text.specs.declared.kind.TextFault.{TextFault}
 use Rattle.scenario_text.specs.declared.pair.Pair.{Pair}
-use Rattle.scenario_text.specs.Lines.{lines_of, fields_of, after_lines, is_blank}
-use Rattle.scenario_text.specs.Fields.{is_text_byte, says_nothing, is_word, number_at, is_bad, is_over, number_in, cell_named, has_double, pairs_of, are_pairs, entries_of, total_of, pairs_fault}
+use Rattle.text_rows.specs.Lines.{lines_of, after_lines}
+use Rattle.text_rows.specs.Fields.{fields_of, is_blank, is_text_byte, is_word}
+use Rattle.exact_parts.specs.Decimal.{number_at}
+use Rattle.scenario_text.specs.Fields.{says_nothing, is_bad, is_over, number_in, cell_named, has_double, pairs_of, are_pairs, entries_of, total_of, pairs_fault}
 use Rattle.search_model.specs.Grids.{grid_names, spread_rows}
 use Rattle.scenario_text.specs.State.{State, blank_state}
 

@@ -1,7 +1,7 @@
 -- What holds of reading the text of a scenario.
 use Rattle.std.specs.Prelude.{ℕ, ◌≡◌, ◌↔◌, true, List, Ok, Err}
 use Rattle.scenario_text.specs.declared.kind.TextFault.{TextFault}
-use Rattle.scenario_text.specs.Lines.{fields_of}
+use Rattle.text_rows.specs.Fields.{fields_of}
 use Rattle.scenario_text.specs.Fields.{says_nothing}
 use Rattle.scenario_text.specs.State.{State}
 use Rattle.scenario_text.specs.Reading.{line_at, front_of, alone_of}

@@ -7,7 +7,7 @@ use Rattle.sweep_table.specs.LookParts.{parts_over}
 use Rattle.search_model.specs.Problem.{Problem, IsProblem, first_of}
 use Rattle.scenario_text.specs.declared.stop.TextStop.{TextStop}
 use Rattle.scenario_text.specs.declared.stop.TextStop.TheVariants.{Fault, NoMemory}
-use Rattle.scenario_text.specs.Lines.{after_lines}
+use Rattle.text_rows.specs.Lines.{after_lines}
 use Rattle.scenario_text.specs.State.{State}
 use Rattle.scenario_text.specs.Reading.{Front, front_of, alone_of}
 

@@ -8,7 +8,6 @@ mod digits;
 mod draft;
 mod kind;
 mod laws;
-mod lines;
 mod number_field;
 mod pair;
 mod pairs;

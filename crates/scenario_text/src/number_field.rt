@@ -1,7 +1,8 @@
 //! Fields in the place of a number.
 
 ghost use Rattle.std.specs.Prelude.{◌≡◌, ◌≤◌};
-ghost use Rattle.scenario_text.specs.Fields.{number_at as number_at_lem, is_bad as is_bad_lem, is_over as is_over_lem, number_in as number_in_lem};
+ghost use Rattle.scenario_text.specs.Fields.{is_bad as is_bad_lem, is_over as is_over_lem, number_in as number_in_lem};
+ghost use Rattle.exact_parts.specs.Decimal.{number_at as number_at_lem};
 
 use exact_parts::{Number, number_of};
 

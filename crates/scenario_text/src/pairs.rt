@@ -4,7 +4,7 @@
 ghost use Rattle.std.specs.Prelude.{◌≡◌, ◌≤◌, ◌||◌, ◌==◌, false, List, ◌++◌, ◌∷◌, [], map, length, sum_by, IfOk, OnOk};
 ghost use Rattle.std.specs.List.{list_any};
 ghost use Rattle.drift_chain.specs.declared.part.DriftPart.{DriftPart};
-ghost use Rattle.scenario_text.specs.Lines.{fields_of as fields_lem};
+ghost use Rattle.text_rows.specs.Fields.{fields_of as fields_lem};
 ghost use Rattle.scenario_text.specs.declared.pair.Pair.{Pair};
 ghost use Rattle.scenario_text.specs.Fields.{number_in as number_in_lem, pairs_fault};
 ghost use Rattle.scenario_text.specs.Gives.{Scans};
@@ -12,12 +12,12 @@ ghost use Rattle.scenario_text.specs.Scanning.{HasSeen, IsAdded, IsMarked};
 
 use crate::cell_names::cell_named;
 use crate::kind::TextKind;
-use crate::lines::{cut_field, skip_blanks};
 use crate::number_field::{MOST_PART, is_bad, is_over, number_at, number_in};
 use crate::pair::Pair;
 use drift_chain::DriftPart;
 use indexmap::IndexSet;
 use std::alloc::{AllocError, Global};
+use text_rows::{cut_field, skip_blanks};
 
 /// What the pairs of a line come to: their first kind of fault, or else their entries.
 #[derive(Drop)]

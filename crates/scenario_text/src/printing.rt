@@ -2,7 +2,7 @@
 
 ghost use Rattle.std.specs.Prelude.{◌≡◌, ◌<◌, ◌++◌, All, map, OnOk, OnErr};
 ghost use Rattle.std.specs.List.{flat_map, range_with_len};
-ghost use Rattle.exact_parts.specs.Rows.{text_of};
+ghost use Rattle.text_rows.specs.Rows.{text_of};
 ghost use Rattle.search_model.specs.Problem.{IsProblem};
 ghost use Rattle.exact_parts.specs.Appending.{AppendsFront};
 ghost use Rattle.scenario_text.specs.Canonical.{canonical_text};

@@ -2,18 +2,19 @@
 
 ghost use Rattle.std.specs.Prelude.{◌≡◌, ◌<◌, ◌+◌, ◌^◌, ◌↔◌, length, IsTrue};
 ghost use Rattle.std.specs.List.{list_all};
-ghost use Rattle.scenario_text.specs.Lines.{lines_of, is_blank as is_blank_lem};
+ghost use Rattle.text_rows.specs.Lines.{lines_of};
+ghost use Rattle.text_rows.specs.Fields.{is_blank as is_blank_lem};
 ghost use Rattle.scenario_text.specs.Reading.{first_said as first_said_lem};
 ghost use Rattle.scenario_text.specs.State.{state_of, blank_state};
 ghost use Rattle.scenario_text.specs.Gives.{ReadsDraft, stop_at};
 
 use crate::draft::{Draft, Stage};
 use crate::kind::{TextFault, TextKind};
-use crate::lines::{cut_line, is_blank};
 use crate::stop::{LineStop, TextStop};
 use crate::taking_line::take_line;
 use indexmap::IndexSet;
 use std::alloc::Global;
+use text_rows::{cut_line, is_blank};
 
 /// What was read up to the line `end`, the number of that line, and what follows its line feed.
 #[derive(Drop)]

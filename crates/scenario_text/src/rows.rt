@@ -2,7 +2,7 @@
 
 ghost use Rattle.std.specs.Prelude.{◌≡◌, ◌<◌, ◌≤◌, List, map, take, slice_set, vec_len, IfSome};
 ghost use Rattle.scenario_text.specs.declared.pair.Pair.{Pair};
-ghost use Rattle.scenario_text.specs.Lines.{fields_of as fields_lem};
+ghost use Rattle.text_rows.specs.Fields.{fields_of as fields_lem};
 ghost use Rattle.scenario_text.specs.Fields.{number_in as number_in_lem};
 ghost use Rattle.scenario_text.specs.State.{state_of};
 ghost use Rattle.scenario_text.specs.Sound.{IsSound};
@@ -13,13 +13,13 @@ use crate::cell_names::cell_named;
 use crate::cells::{any_unknown, cells_named, has_double, numbers_of};
 use crate::draft::Draft;
 use crate::kind::TextKind;
-use crate::lines::after_field;
 use crate::number_field::{MOST_PART, is_bad, is_over, number_at, number_in};
 use crate::pairs::{Pairs, scan_pairs, total_of};
 use crate::stop::LineStop;
 use drift_chain::DriftPart;
 use exact_parts::Number;
 use std::alloc::Global;
+use text_rows::after_field;
 
 fn write_moves(rows: &mut Vec<Vec<u8>>, c: u8, row: Vec<u8>)
     requires { c < vec_len rows.old }

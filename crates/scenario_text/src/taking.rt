@@ -2,7 +2,7 @@
 
 ghost use Rattle.std.specs.Prelude.{◌≡◌, ◌≤◌, List, None, Ok, map, take, length};
 ghost use Rattle.scenario_text.specs.declared.pair.Pair.{Pair};
-ghost use Rattle.scenario_text.specs.Lines.{fields_of as fields_lem};
+ghost use Rattle.text_rows.specs.Fields.{fields_of as fields_lem};
 ghost use Rattle.scenario_text.specs.State.{state_of};
 ghost use Rattle.scenario_text.specs.Sound.{IsSound};
 ghost use Rattle.scenario_text.specs.Gives.{TakesLine, AreScanned};
@@ -12,12 +12,12 @@ ghost use Rattle.scenario_text.specs.Reading.{version_line, with_horizon, horizo
 use crate::cell_names::{are_name_bytes, cell_named};
 use crate::draft::{Draft, Stage};
 use crate::kind::TextKind;
-use crate::lines::after_field;
 use crate::number_field::{MOST_PART, is_bad, is_over, number_at, number_in};
 use crate::pairs::{Pairs, scan_pairs, total_of};
 use crate::stop::LineStop;
 use exact_parts::Number;
 use std::alloc::Global;
+use text_rows::after_field;
 
 /// `scenario 1`
 pub fn take_version(draft: &mut Draft, fields: &[&[u8]]) -> Result<(), LineStop>

@@ -2,8 +2,8 @@
 
 ghost use Rattle.std.specs.Prelude.{◌≡◌, ◌==◌, ◌∷◌, [], map, take, length, is_none};
 ghost use Rattle.std.specs.List.{list_all, list_any};
-ghost use Rattle.scenario_text.specs.Lines.{fields_of as fields_lem};
-ghost use Rattle.scenario_text.specs.Fields.{is_text_byte as is_text_byte_lem, says_nothing as says_nothing_lem};
+ghost use Rattle.text_rows.specs.Fields.{fields_of as fields_lem, is_text_byte as is_text_byte_lem};
+ghost use Rattle.scenario_text.specs.Fields.{says_nothing as says_nothing_lem};
 ghost use Rattle.scenario_text.specs.State.{state_of};
 ghost use Rattle.scenario_text.specs.Sound.{IsSound};
 ghost use Rattle.scenario_text.specs.Gives.{TakesLine};
@@ -11,7 +11,6 @@ ghost use Rattle.scenario_text.specs.Reading.{cells_line, end_line, lacks_row as
 
 use crate::draft::{Draft, Stage};
 use crate::kind::TextKind;
-use crate::lines::{after_field, first_fields};
 use crate::number_field::number_at;
 use crate::rows::{take_drift, take_moves, take_overlook};
 use crate::shorthands::{take_grid, take_rate, take_spread};
@@ -20,6 +19,7 @@ use crate::taking::{take_cell, take_first, take_horizon, take_parts, take_start,
 use drift_chain::DriftPart;
 use exact_parts::fits;
 use std::alloc::Global;
+use text_rows::{after_field, first_fields};
 
 /// How many fields of a line are looked at, but for those of pairs: a row of 64 moves has 66.
 const MOST_FIELDS: usize = 67;

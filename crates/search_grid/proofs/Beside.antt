@@ -127,7 +127,7 @@ some_kept p [] k d inside is = absurd (omega arith)
 some_kept p (x ∷ xs) zero d inside is = rw (sum_by-cons (λ y. if p y then 1 else 0) x xs, is) (omega arith)
 some_kept p (x ∷ xs) (suc k) d inside is = rw (sum_by-cons (λ y. if p y then 1 else 0) x xs) (omega (arith, some_kept p xs k d (omega arith) is))
 
-stays : (k c : ℕ) → is_beside k c c ≡ true
+pub stays : (k c : ℕ) → is_beside k c c ≡ true
 stays k c = grind (arith, nat_tests)
 
 range_rises : (n : ℕ) → IsStrictlyIncreasing (range_with_len 0 n)
@@ -152,9 +152,9 @@ row_right n k c inside =
 one-le-times : (m k : ℕ) → 1 ≤ m → 1 ≤ k → 1 ≤ m * k
 one-le-times m k h g = grind (arith, mul-le-mul_left)
 
-long : (rows columns : ℕ) → length (side_moves rows columns) ≡ rows * columns
+pub length-side_moves : (rows columns : ℕ) → length (side_moves rows columns) ≡ rows * columns
 unfolding side_moves
-long rows columns = length-map-range_with_len (moves_beside rows columns) 0 (rows * columns)
+length-side_moves rows columns = length-map-range_with_len (moves_beside rows columns) 0 (rows * columns)
 
 -- the moves of a cell of so many rows and columns
 pub side_moves_from : (rows columns c : ℕ) → c < rows * columns → moves_from (side_moves rows columns) c ≡ moves_beside rows columns c
@@ -164,10 +164,10 @@ side_moves_from rows columns c inside = get_or-map-range_with_len (moves_beside 
 -- side moves make a grid
 pub IsGrid-from_sides : (rows columns : ℕ) → 1 ≤ rows → 1 ≤ columns → rows * columns ≤ 200 → IsGrid (side_moves rows columns)
 IsGrid-from_sides rows columns some_row some_column few = record {
-  size = (omega (arith, long rows columns, one-le-times rows columns some_row some_column), omega (arith, long rows columns, few));
+  size = (omega (arith, length-side_moves rows columns, one-le-times rows columns some_row some_column), omega (arith, length-side_moves rows columns, few));
   each = λ c inside.
-      let within : c < rows * columns = omega (arith, long rows columns, inside) in
-      rw (long rows columns, side_moves_from rows columns c within) (row_right (rows * columns) columns c within);
+      let within : c < rows * columns = omega (arith, length-side_moves rows columns, inside) in
+      rw (length-side_moves rows columns, side_moves_from rows columns c within) (row_right (rows * columns) columns c within);
 }
 
 -- the worked grids

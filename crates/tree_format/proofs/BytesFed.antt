@@ -17,16 +17,18 @@ use Rattle.tree_format.specs.declared.plan_item.PlanItem.{PlanItem}
 use Rattle.tree_format.specs.declared.plan_item.PlanItem.TheVariants as item
 use Rattle.tree_format.specs.declared.plan_item.Step.{Step}
 use Rattle.tree_format.specs.declared.plan_item.Step.TheVariants.{More, Item, Fault}
-use Rattle.tree_format.specs.Pieces.{fields_of}
-use Rattle.tree_format.specs.Faults.{HasNoFeed, lines_text, due_behind}
+use Rattle.text_rows.specs.Fields.{exact_fields}
+use Rattle.text_rows.specs.Lines.{HasNoFeed, lines_text}
+use Rattle.text_rows.proofs.Splits.{split_piece}
+use Rattle.text_rows.proofs.Results.{err_ok}
+use Rattle.tree_format.specs.Faults.{due_behind}
 use Rattle.tree_format.specs.Reading.{line_at, stage_line, blank_plan, next, taken, is_ended, at_line_number}
 use Rattle.tree_format.specs.Gathering.{Gathered, nothing_gathered, gathered}
 use Rattle.tree_format.specs.FeedSteps.{Stand, Moved, stand_at, moved, step_of, line_ended, line_begun, byte_fed}
 use Rattle.tree_format.specs.Feeding.{told, plan_behind, HasRead, IsDecided, IsItem, GoesOn}
-use Rattle.tree_format.proofs.Cuts.{split_piece}
 use Rattle.tree_format.proofs.Loop.{at_fault, at_rest}
 use Rattle.tree_format.proofs.FirstFaults.{unended_stage}
-use Rattle.tree_format.proofs.SpelledLines.{err_ok, version_told, path_told, chance_told, count_told, record_told, IsRecordLine, IsEndLine}
+use Rattle.tree_format.proofs.SpelledLines.{version_told, path_told, chance_told, count_told, record_told, IsRecordLine, IsEndLine}
 use Rattle.tree_format.proofs.Spelled.{IsRead, ended_stage}
 use Rattle.tree_format.proofs.Gatherings.{gathered_more, gathered_judged}
 use Rattle.tree_format.proofs.Feedings.{lines_more, due_more, plan_more, said_more, read_behind, text_behind}
@@ -121,7 +123,7 @@ module _ (p : Problem) (h : IsProblem p) (fed : List ℕ) (items : List PlanItem
       at_rest p number stage plan (read.begun ++ c ∷ more) _ ended (λ none. omega (arith, none, long)) (text_behind p fed items s read c more)
 
   -- a line that says something
-  line_read : (said : PlanLine) → line_at p stage (fields_of read.begun) ≡ Ok said → HasRead p (fed ++ 10 ∷ []) (told (next stage said) (taken plan said)) (moved here said)
+  line_read : (said : PlanLine) → line_at p stage (exact_fields read.begun) ≡ Ok said → HasRead p (fed ++ 10 ∷ []) (told (next stage said) (taken plan said)) (moved here said)
   line_read said e =
       let lines = read.before ++ read.begun ∷ [] in
       let all = read.said ++ said ∷ [] in
@@ -144,13 +146,13 @@ module _ (p : Problem) (h : IsProblem p) (fed : List ℕ) (items : List PlanItem
             ∙ ap (λ (q : Plan). stand_at (1 + length lines) (due_behind due.Version all) q []) (sym plans);
       }
 
-  line_end : (r : Result PlanLine PlanKind) → (stage ≡ due.Ended → ⊥) → line_at p stage (fields_of read.begun) ≡ r → GoesOn p (fed ++ 10 ∷ []) items (line_ended here r).step (line_ended here r).stand
+  line_end : (r : Result PlanLine PlanKind) → (stage ≡ due.Ended → ⊥) → line_at p stage (exact_fields read.begun) ≡ r → GoesOn p (fed ++ 10 ∷ []) items (line_ended here r).step (line_ended here r).stand
   line_end (Err kind) goes e = λ more.
       at_fault p number stage plan kind (read.begun ++ 10 ∷ more) read.begun more _ goes (split_piece 10 read.begun more read.open_line) e (text_behind p fed items s read 10 more)
   line_end (Ok said) goes e =
       let settled = read_behind p h due.Version blank_plan read.before read.said read.right refl in
       let tells : StepTells p items (step_of here said) (told (next stage said) (taken plan said)) =
-      subst (λ (xs : List PlanItem). StepTells p xs (step_of here said) (told (next stage said) (taken plan said))) (sym read.tell) (line_tells p number plan read.begun h stage (fields_of read.begun) said settled e) in
+      subst (λ (xs : List PlanItem). StepTells p xs (step_of here said) (told (next stage said) (taken plan said))) (sym read.tell) (line_tells p number plan read.begun h stage (exact_fields read.begun) said settled e) in
       goes_on p (fed ++ 10 ∷ []) items (told (next stage said) (taken plan said)) (step_of here said) (moved here said) tells (line_read said e)
 
   -- a byte of the line that is due
@@ -175,7 +177,7 @@ module _ (p : Problem) (h : IsProblem p) (fed : List ℕ) (items : List PlanItem
       (λ unended.
       let goes = unended_stage stage unended in
       cond_both (c == 10) _ (line_begun c here) G
-      (λ feed. subst (λ (b : ℕ). GoesOn p (fed ++ b ∷ []) items (line_ended here (line_at p stage (fields_of here.line.text))).step (line_ended here (line_at p stage (fields_of here.line.text))).stand) (sym (eqb-true c 10 feed))
+      (λ feed. subst (λ (b : ℕ). GoesOn p (fed ++ b ∷ []) items (line_ended here (line_at p stage (exact_fields here.line.text))).step (line_ended here (line_at p stage (exact_fields here.line.text))).stand) (sym (eqb-true c 10 feed))
       (line_end _ goes (sym (gathered_judged p h stage read.begun))))
       (λ other. byte_begun c goes (eqb-false c 10 other)))
 

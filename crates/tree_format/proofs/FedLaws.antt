@@ -14,17 +14,18 @@ use Rattle.tree_format.specs.declared.plan_line.PlanLine.{PlanLine}
 use Rattle.tree_format.specs.declared.plan_item.PlanItem.{PlanItem}
 use Rattle.tree_format.specs.declared.plan_item.Step.{Step}
 use Rattle.tree_format.specs.declared.plan_item.Step.TheVariants.{More, Item, Fault}
-use Rattle.tree_format.specs.Pieces.{pieces_of, fields_of}
-use Rattle.tree_format.specs.Faults.{HasNoFeed, lines_text, AreSaid, due_behind}
+use Rattle.text_rows.specs.Lines.{pieces_of, HasNoFeed, lines_text}
+use Rattle.text_rows.specs.Fields.{exact_fields}
+use Rattle.text_rows.proofs.Splits.{split_piece, split_whole, split_nothing}
+use Rattle.text_rows.proofs.Results.{same_ok}
+use Rattle.tree_format.specs.Faults.{AreSaid, due_behind}
 use Rattle.tree_format.specs.Reading.{line_at, blank_plan, next, taken, is_ended, at_line_number, pieces_at, plan_at}
-use Rattle.tree_format.specs.KindTable.{first_kind, fault_of}
+use Rattle.text_rows.specs.Kinds.{first_kind, fault_of}
 use Rattle.tree_format.specs.FeedSteps.{Stand, stand_at, byte_fed}
 use Rattle.tree_format.specs.Feeding.{items_of, told, plan_behind, HasRead, Tells, IsDecided, IsWhole, IsCutOff, GoesOn}
 use Rattle.tree_format.specs.FeedLaws.{CutAnywhere, ItemsOfThePlan, EachFaultIsMet, FaultIsLast, AreInOrder, ItemsInOrder, GatheredIsSummary}
-use Rattle.tree_format.proofs.Cuts.{split_piece, split_whole, split_nothing}
 use Rattle.tree_format.proofs.Loop.{at_line, at_fault, at_early, at_end}
 use Rattle.tree_format.proofs.FirstFaults.{unended_stage}
-use Rattle.tree_format.proofs.SpelledLines.{same_ok}
 use Rattle.tree_format.proofs.Spelled.{IsRead, ended_stage}
 use Rattle.tree_format.proofs.Tables.{kinds_by_table}
 use Rattle.tree_format.proofs.Gatherings.{gathered_summary}
@@ -108,7 +109,7 @@ module _ (p : Problem) (number : ℕ) (stage : Stage) (plan : Plan) (begun : Lis
   ends = pieces_at p number stage plan (pieces_of (begun ++ 10 ∷ []))
 
   -- with its line feed the line has another fault, or none
-  fed_said : (said : PlanLine) → line_at p stage (fields_of begun) ≡ Ok said → ends ≡ Err (at_line_number number EarlyEnd) → ⊥
+  fed_said : (said : PlanLine) → line_at p stage (exact_fields begun) ≡ Ok said → ends ≡ Err (at_line_number number EarlyEnd) → ⊥
   fed_said said e early =
       let later = at_line p number stage plan said (begun ++ 10 ∷ []) begun [] ends goes (split_piece 10 begun [] free) e refl in
       by_test (is_ended (next stage said))
@@ -118,12 +119,12 @@ module _ (p : Problem) (number : ℕ) (stage : Stage) (plan : Plan) (begun : Lis
       let same = ap (λ (f : PlanFault). f.line) again in
       omega (arith, same))
 
-  line_fed : (r : Result PlanLine PlanKind) → line_at p stage (fields_of begun) ≡ r → ends ≡ Err (at_line_number number EarlyEnd) → ⊥
+  line_fed : (r : Result PlanLine PlanKind) → line_at p stage (exact_fields begun) ≡ r → ends ≡ Err (at_line_number number EarlyEnd) → ⊥
   line_fed (Ok said) e early = fed_said said e early
   line_fed (Err kind) e early =
       let wrong = at_fault p number stage plan kind (begun ++ 10 ∷ []) begun [] ends goes (split_piece 10 begun [] free) e refl in
       let same = ap (λ (f : PlanFault). f.kind) (same_fault _ _ (sym wrong ∙ early)) in
-      never_early p stage (fields_of begun) (e ∙ ap Err same)
+      never_early p stage (exact_fields begun) (e ∙ ap Err same)
 
 pub fault_is_last : FaultIsLast
 fault_is_last p fed items fault (feed, read) decided =

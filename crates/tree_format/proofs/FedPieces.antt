@@ -11,13 +11,13 @@ use Rattle.tree_format.specs.declared.plan_line.Stage.TheVariants as due
 use Rattle.tree_format.specs.declared.plan_item.PlanItem.{PlanItem}
 use Rattle.tree_format.specs.declared.plan_item.Step.{Step}
 use Rattle.tree_format.specs.declared.plan_item.Step.TheVariants.{More}
-use Rattle.tree_format.specs.Pieces.{pieces_of}
-use Rattle.tree_format.specs.Faults.{HasNoFeed, due_behind}
+use Rattle.text_rows.specs.Lines.{pieces_of, HasNoFeed}
+use Rattle.text_rows.proofs.Splits.{split_whole}
+use Rattle.tree_format.specs.Faults.{due_behind}
 use Rattle.tree_format.specs.Reading.{blank_plan, at_line_number, pieces_at, plan_at}
 use Rattle.tree_format.specs.Gathering.{Gathered, nothing_gathered}
 use Rattle.tree_format.specs.FeedSteps.{Stand}
 use Rattle.tree_format.specs.Feeding.{told, plan_behind, HasRead, IfRead, Tells, IsWhole, IsCutOff, GoesOn}
-use Rattle.tree_format.proofs.Cuts.{split_whole}
 use Rattle.tree_format.proofs.Loop.{at_early, at_end}
 use Rattle.tree_format.proofs.Gatherings.{gathered_nothing}
 use Rattle.tree_format.proofs.Feedings.{reads_on}

@@ -8,12 +8,13 @@ use Rattle.tree_format.specs.declared.plan_line.Stage.{Stage}
 use Rattle.tree_format.specs.declared.plan_line.Stage.TheVariants as due
 use Rattle.tree_format.specs.declared.plan_line.PlanLine.{PlanLine}
 use Rattle.tree_format.specs.declared.plan_item.PlanItem.{PlanItem}
-use Rattle.tree_format.specs.Pieces.{pieces_of, fields_of}
-use Rattle.tree_format.specs.Faults.{HasNoFeed, lines_text, AreSaid, due_behind}
+use Rattle.text_rows.specs.Lines.{pieces_of, HasNoFeed, lines_text}
+use Rattle.text_rows.specs.Fields.{exact_fields}
+use Rattle.text_rows.proofs.Splits.{split_piece}
+use Rattle.tree_format.specs.Faults.{AreSaid, due_behind}
 use Rattle.tree_format.specs.Reading.{line_at, blank_plan, next, taken, pieces_at, plan_at}
 use Rattle.tree_format.specs.FeedSteps.{Stand}
 use Rattle.tree_format.specs.Feeding.{plan_behind, HasRead}
-use Rattle.tree_format.proofs.Cuts.{split_piece}
 use Rattle.tree_format.proofs.Loop.{at_line}
 use Rattle.tree_format.proofs.FirstFaults.{due_still}
 use Rattle.tree_format.proofs.Spelled.{IsRead, line_on}
@@ -33,7 +34,7 @@ pub plan_more : (plan : Plan) (said : List PlanLine) (x : PlanLine) → plan_beh
 plan_more plan [] x = refl
 plan_more plan (first ∷ said) x = plan_more (taken plan first) said x
 
-pub said_more : (p : Problem) (stage : Stage) (before : List (List ℕ)) (said : List PlanLine) (line : List ℕ) (x : PlanLine) → AreSaid p stage before said → line_at p (due_behind stage said) (fields_of line) ≡ Ok x → AreSaid p stage (before ++ line ∷ []) (said ++ x ∷ [])
+pub said_more : (p : Problem) (stage : Stage) (before : List (List ℕ)) (said : List PlanLine) (line : List ℕ) (x : PlanLine) → AreSaid p stage before said → line_at p (due_behind stage said) (exact_fields line) ≡ Ok x → AreSaid p stage (before ++ line ∷ []) (said ++ x ∷ [])
 said_more p stage [] [] line x right e = (e, tt)
 said_more p stage [] (first ∷ said) line x right e = absurd right
 said_more p stage (l ∷ before) [] line x right e = absurd right
@@ -45,7 +46,7 @@ read_behind p h stage plan [] [] right read = read
 read_behind p h stage plan [] (first ∷ said) right read = absurd right
 read_behind p h stage plan (line ∷ before) [] right read = absurd right
 read_behind p h stage plan (line ∷ before) (first ∷ said) right read =
-    read_behind p h (next stage first) (taken plan first) before said right.1 (line_on p h stage plan (fields_of line) first read right.0).read
+    read_behind p h (next stage first) (taken plan first) before said right.1 (line_on p h stage plan (exact_fields line) first read right.0).read
 
 -- reading goes on behind right lines
 pub reads_on : (p : Problem) (before : List (List ℕ)) (said : List PlanLine) (stage : Stage) (plan : Plan) (number : ℕ) (rest : List ℕ) → All HasNoFeed before → AreSaid p stage before said → pieces_at p number stage plan (pieces_of (lines_text before ++ rest)) ≡ pieces_at p (number + length before) (due_behind stage said) (plan_behind plan said) (pieces_of rest)
@@ -57,7 +58,7 @@ reads_on p (line ∷ before) (first ∷ said) stage plan number rest feeds right
     let text = lines_text (line ∷ before) ++ rest in
     let begins : text ≡ line ++ 10 ∷ left = simp append_assoc in
     let cut : pieces_of text ≡ line ∷ pieces_of left = ap pieces_of begins ∙ split_piece 10 line left (All-head HasNoFeed line before feeds) in
-    let goes = due_still p stage (fields_of line) first right.0 in
+    let goes = due_still p stage (exact_fields line) first right.0 in
     let later : number + 1 + length before ≡ number + suc (length before) = omega arith in
     sym (at_line p number stage plan first text line left _ goes cut right.0 refl)
     ∙ reads_on p before said (next stage first) (taken plan first) (number + 1) rest (All-tail HasNoFeed line before feeds) right.1

@@ -1,11 +1,10 @@
 -- Fields that are read one after the other.
-use Rattle.std.proofs.Common.{◌≡◌, ℕ, ◌<◌, ◌≤◌, ◌+◌, Bool, true, false, List, [], ◌∷◌, ◌++◌, map, length, get_or, drop, Option, Some, None, refl, sym, ap, ◌∙◌, arith, add-one, drop-cons, append_assoc, Bor}
-use Rattle.std.specs.Prelude.{position, ◌||◌, ◌==◌}
-use Rattle.std.proofs.lemmas.Bool.{lt-ltb, le-ltb}
-use Rattle.std.proofs.lemmas.List.Sums.{position_or_len_is}
-use Rattle.std.specs.List.{position_or_len, list_any}
+use Rattle.std.proofs.Common.{◌≡◌, ℕ, ◌<◌, ◌≤◌, ◌+◌, Bool, false, List, [], ◌∷◌, ◌++◌, map, length, get_or, drop, Option, Some, None, refl, sym, ap, ◌∙◌, add-one, drop-cons, append_assoc, Bor}
+use Rattle.std.specs.Prelude.{◌||◌, ◌==◌}
+use Rattle.std.specs.List.{list_any}
 use Rattle.std.proofs.lemmas.List.{drop_all, append-nil}
 use Rattle.tree_format.specs.Reading.{in_front, all_of}
+use Rattle.list_laws.proofs.Firsts.{position-first, position-none}
 
 -- what was read, and what the rest says
 abbrev pub behind : List ℕ → Option (List ℕ) → Option (List ℕ)
@@ -38,18 +37,6 @@ unfolding all_of
 fields_read says fields i done all le so_far =
     let gone : drop i fields ≡ [] = drop_all i fields le in
     ap Some (sym (append-nil done)) ∙ ap (λ (fs : List (Bor (List ℕ))). behind done (all_of says (map (λ f. f.now) fs))) (sym gone) ∙ so_far
-
--- the first place that passes a test is found
-pub position-first : {X : Type 0} (p : X → Bool) (xs : List X) (i : ℕ) (d : X) → i < length xs → ((k : ℕ) → k < i → p (get_or xs k d) ≡ false) → p (get_or xs i d) ≡ true → position p xs ≡ Some i
-position-first p xs i d lt before here =
-    let at : position_or_len p xs ≡ i = position_or_len_is p xs i d (omega arith) before (λ _. here) in
-    rw (at, lt-ltb i (length xs) lt) refl
-
--- and nothing is where no place passes
-pub position-none : {X : Type 0} (p : X → Bool) (xs : List X) (d : X) → ((k : ℕ) → k < length xs → p (get_or xs k d) ≡ false) → position p xs ≡ None
-position-none p xs d fails =
-    let at : position_or_len p xs ≡ length xs = position_or_len_is p xs (length xs) d (omega arith) fails (λ lt. absurd (omega arith)) in
-    rw (at, le-ltb (length xs) (length xs) (omega arith)) refl
 
 abbrev any_empty : List (List ℕ) → Bool
 any_empty fields = list_any (λ f. length f == 0) fields

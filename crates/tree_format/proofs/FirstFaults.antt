@@ -1,8 +1,8 @@
 -- The fault that reading gives is the first one.
 use Rattle.std.proofs.Common.{◌≡◌, ℕ, ◌+◌, true, false, List, [], ◌∷◌, ◌++◌, length, Result, Ok, Err, refl, sym, ap, subst, ◌∙◌, arith, append_assoc, ◌⊎◌, inl, inr}
 use Rattle.std.specs.Prelude.{All, ◌&&◌, ◌==◌}
-use Rattle.std.specs.List.{join_with_byte, onto_first}
-use Rattle.std.proofs.lemmas.Bool.{cond_both, eqb-true, cases_eq}
+use Rattle.std.specs.List.{join_with_byte}
+use Rattle.std.proofs.lemmas.Bool.{cond_both, eqb-true}
 use Rattle.std.proofs.lemmas.List.Elements.{All-nil, All-cons, All-head, All-tail}
 use Rattle.search_model.specs.Problem.{Problem}
 use Rattle.bound_tree.specs.declared.plan.Plan.{Plan}
@@ -12,14 +12,15 @@ use Rattle.tree_format.specs.declared.kind.PlanFault.{PlanFault}
 use Rattle.tree_format.specs.declared.plan_line.Stage.{Stage}
 use Rattle.tree_format.specs.declared.plan_line.Stage.TheVariants as due
 use Rattle.tree_format.specs.declared.plan_line.PlanLine.{PlanLine}
-use Rattle.tree_format.specs.Pieces.{pieces_of, fields_of}
+use Rattle.text_rows.specs.Lines.{pieces_of, HasNoFeed, lines_text}
+use Rattle.text_rows.specs.Fields.{exact_fields}
+use Rattle.text_rows.proofs.Splits.{split_piece, split_whole, some_piece, split_joined, split_free}
+use Rattle.text_rows.proofs.Results.{err_ok}
 use Rattle.tree_format.specs.Reading.{line_at, blank_plan, next, taken, is_ended, at_line_number, go_on, pieces_at, plan_at}
-use Rattle.tree_format.specs.Faults.{HasNoFeed, lines_text, AreSaid, due_behind, HasFault, IsFaultFrom, IsFirstFault}
+use Rattle.tree_format.specs.Faults.{AreSaid, due_behind, HasFault, IsFaultFrom, IsFirstFault}
 use Rattle.tree_format.specs.ReadingLaws.{FirstFaultDecides}
-use Rattle.tree_format.proofs.Cuts.{split_piece, split_whole, split_more, split_here, split_nothing, some_piece}
 use Rattle.tree_format.proofs.Loop.{at_line, at_fault, at_early, at_rest}
-use Rattle.tree_format.proofs.SpelledLines.{err_ok}
-use Rattle.tree_format.proofs.Spelled.{ended_stage, text_joined}
+use Rattle.tree_format.proofs.Spelled.{ended_stage, feed_join}
 
 -- A first fault is given.
 
@@ -60,14 +61,14 @@ module _ (p : Problem) (fault : PlanFault) where
       let text = lines_text (first ∷ before) ++ rest in
       let begins : text ≡ first ++ 10 ∷ left = simp append_assoc in
       let cut : pieces_of text ≡ first ∷ pieces_of left = ap pieces_of begins ∙ split_piece 10 first left (All-head HasNoFeed first before feeds) in
-      let goes = due_still p stage (fields_of first) said right.0 in
+      let goes = due_still p stage (exact_fields first) said right.0 in
       sym (at_line p number stage plan said text first left _ goes cut right.0 refl)
       ∙ fault_behind before more (next stage said) (taken plan said) (number + 1) rest (All-tail HasNoFeed first before feeds) right.1 (omega (arith, line)) here
 
 -- The fault that is given is the first.
 
 -- a line before it
-line_before : (p : Problem) (stage : Stage) (number : ℕ) (first left text : List ℕ) (said : PlanLine) (fault : PlanFault) → text ≡ first ++ 10 ∷ left → HasNoFeed first → line_at p stage (fields_of first) ≡ Ok said → IsFaultFrom p (next stage said) (number + 1) left fault → IsFaultFrom p stage number text fault
+line_before : (p : Problem) (stage : Stage) (number : ℕ) (first left text : List ℕ) (said : PlanLine) (fault : PlanFault) → text ≡ first ++ 10 ∷ left → HasNoFeed first → line_at p stage (exact_fields first) ≡ Ok said → IsFaultFrom p (next stage said) (number + 1) left fault → IsFaultFrom p stage number text fault
 line_before p stage number first left text said fault whole feed right h = record {
   before = first ∷ h.before;
   said = said ∷ h.said;
@@ -96,11 +97,6 @@ none_before p stage number text kind fault e here =
 
 pub unended_stage : (stage : Stage) → is_ended stage ≡ false → stage ≡ due.Ended → ⊥
 unended_stage stage unended ended = let bad : true ≡ false = subst (λ (s : Stage). is_ended s ≡ false) ended unended in cc
-
--- a line and what follows its line feed
-feed_join : (line : List ℕ) (rest : List (List ℕ)) → (length rest == 0) ≡ false → join_with_byte 10 (line ∷ rest) ≡ line ++ 10 ∷ join_with_byte 10 rest
-feed_join line [] e = absurd (let bad : ⊥ = cc in bad)
-feed_join line (piece ∷ pieces) e = refl
 
 some_join : (line : List ℕ) (rest : List (List ℕ)) → (length line == 0 && length rest == 0) ≡ false → join_with_byte 10 (line ∷ rest) ≡ [] → ⊥
 some_join [] [] e none = absurd (let bad : ⊥ = cc in bad)
@@ -131,7 +127,7 @@ fault_told p fault (line ∷ rest) number stage plan some feeds e =
     (λ left e'. none_before p stage number text Rest fault e' (inr (inl (refl, ended_stage stage ended, some_join line rest left)))))
     (λ unended. cond_both (length rest == 0) (Err (at_line_number number EarlyEnd)) _ G
     (λ last e'. none_before p stage number text EarlyEnd fault e' (inl (refl, unended_stage stage unended, last_piece line rest last feed)))
-    (λ follows e'. elim (line_or_later p number (line_at p stage (fields_of line)) (λ said. pieces_at p (number + 1) (next stage said) (taken plan said) rest) fault e') [
+    (λ follows e'. elim (line_or_later p number (line_at p stage (exact_fields line)) (λ said. pieces_at p (number + 1) (next stage said) (taken plan said) rest) fault e') [
       | inl wrong ↦ none_before p stage number text wrong.0 fault (ap Err wrong.2) (inr (inr (record {
         line = line;
         more = join_with_byte 10 rest;
@@ -144,21 +140,8 @@ fault_told p fault (line ∷ rest) number stage plan some feeds e =
           (fault_told p fault rest (number + 1) (next stage right.0) (taken plan right.0) follows (All-tail HasNoFeed line rest feeds) right.2)
     ])) e
 
--- no piece has a line feed
-onto_first_free : (c : ℕ) (pieces : List (List ℕ)) → (c ≡ 10 → ⊥) → All HasNoFeed pieces → All HasNoFeed (onto_first c pieces)
-onto_first_free c [] other h = All-cons HasNoFeed (c ∷ []) [] (All-cons (λ (b : ℕ). b ≡ 10 → ⊥) c [] other (All-nil (λ (b : ℕ). b ≡ 10 → ⊥))) h
-onto_first_free c (piece ∷ pieces) other h =
-    All-cons HasNoFeed (c ∷ piece) pieces (All-cons (λ (b : ℕ). b ≡ 10 → ⊥) c piece other (All-head HasNoFeed piece pieces h)) (All-tail HasNoFeed piece pieces h)
-
-pieces_free : (text : List ℕ) → All HasNoFeed (pieces_of text)
-pieces_free [] = subst (All HasNoFeed) (sym (split_nothing 10)) (All-cons HasNoFeed [] [] (All-nil (λ (b : ℕ). b ≡ 10 → ⊥)) (All-nil HasNoFeed))
-pieces_free (c ∷ cs) = elim (cases_eq c 10) [
-  | inl feed ↦ subst (λ (b : ℕ). All HasNoFeed (pieces_of (b ∷ cs))) (sym feed) (subst (All HasNoFeed) (sym (split_here 10 cs)) (All-cons HasNoFeed [] (pieces_of cs) (All-nil (λ (b : ℕ). b ≡ 10 → ⊥)) (pieces_free cs)))
-  | inr other ↦ subst (All HasNoFeed) (sym (split_more 10 c cs other)) (onto_first_free c (pieces_of cs) other (pieces_free cs))
-]
-
 pub first_fault_decides : FirstFaultDecides
 first_fault_decides p text fault = (
-  λ e. subst (λ (t : List ℕ). IsFirstFault p t fault) (text_joined text) (fault_told p fault (pieces_of text) 1 due.Version blank_plan (some_piece 10 text) (pieces_free text) e),
+  λ e. subst (λ (t : List ℕ). IsFirstFault p t fault) (split_joined 10 text) (fault_told p fault (pieces_of text) 1 due.Version blank_plan (some_piece 10 text) (split_free 10 text) e),
   λ h. ap (λ (t : List ℕ). plan_at p t) h.whole ∙ fault_behind p fault h.before h.said due.Version blank_plan 1 h.rest h.feeds h.right h.line h.here,
 )

@@ -1,16 +1,17 @@
 -- The line that a feed keeps has the fields of the line's summary.
-use Rattle.std.proofs.Common.{◌≡◌, ℕ, suc, ◌<◌, ◌≤◌, ◌+◌, ◌-◌, Bool, true, false, cond, List, [], ◌∷◌, ◌++◌, map, length, take, refl, sym, ap, ◌∙◌, arith, append_assoc}
+use Rattle.std.proofs.Common.{◌≡◌, ℕ, suc, ◌<◌, ◌≤◌, ◌+◌, ◌-◌, Bool, true, false, cond, List, [], ◌∷◌, ◌++◌, length, take, refl, sym, ap, ◌∙◌, arith, append_assoc}
 use Rattle.std.specs.Prelude.{◌==◌, nat_lt}
 use Rattle.std.specs.List.{onto_first}
 use Rattle.std.proofs.lemmas.Bool.{cond_both, lt-ltb, ltb-true, ltb-false, eqb-true, eqb-false}
 use Rattle.std.proofs.lemmas.List.{append-nil, take_all}
 use Rattle.search_model.specs.Problem.{Problem, IsProblem}
 use Rattle.tree_format.specs.declared.plan_line.Stage.{Stage}
-use Rattle.tree_format.specs.Pieces.{fields_of}
+use Rattle.text_rows.specs.Fields.{exact_fields}
+use Rattle.text_rows.proofs.Splits.{split_more, split_here, split_nothing, some_piece}
 use Rattle.tree_format.specs.Reading.{line_at, summary_of}
 use Rattle.tree_format.specs.Gathering.{Gathered, nothing_gathered, with_blank, with_other, with_byte, gathered}
-use Rattle.tree_format.proofs.Cuts.{split_more, split_here, split_nothing, some_piece}
 use Rattle.tree_format.proofs.Summaries.{summary_decides}
+use Rattle.tree_format.proofs.FirstFields.{fronts}
 
 -- one byte more at the end
 pub gathered_more : (cs : List ℕ) (g : Gathered) (c : ℕ) → gathered g (cs ++ c ∷ []) ≡ with_byte c (gathered g cs)
@@ -55,9 +56,6 @@ gathered_kept (c ∷ cs) text k w lt =
     (λ _. gathered_kept cs (text ++ c ∷ []) k (w + 1) lt ∙ append_assoc text (c ∷ []) (kept cs k (w + 1)))
     (λ _. gathered_kept cs text k w lt)))
 
-abbrev fronts : List (List ℕ) → List (List ℕ)
-fronts fields = map (λ f. take 40 f) fields
-
 -- the fields of a line behind so many blanks and bytes of the last field, cut off
 abbrev cut_from : ℕ → ℕ → List (List ℕ) → List (List ℕ)
 cut_from k w [] = []
@@ -78,37 +76,37 @@ cut_full k w c (f ∷ fs) le some = let none : 40 - w ≡ 0 = omega (arith, le) 
 cut_last : (k : ℕ) (fs : List (List ℕ)) → 69 ≤ k → fronts (take (69 - k) fs) ≡ []
 cut_last k fs le = let none : 69 - k ≡ 0 = omega (arith, le) in rw none refl
 
-kept_fields : (cs : List ℕ) (k w : ℕ) → k < 70 → fields_of (kept cs k w) ≡ cut_from k w (fields_of cs)
+kept_fields : (cs : List ℕ) (k w : ℕ) → k < 70 → exact_fields (kept cs k w) ≡ cut_from k w (exact_fields cs)
 unfolding kept
 kept_fields [] k w lt =
     split_nothing 32 ∙ ap (λ (f : List ℕ). f ∷ []) (sym (take_all (40 - w) [] (omega arith))) ∙ ap (λ (fs : List (List ℕ)). take (40 - w) [] ∷ fronts fs) (sym (take_all (69 - k) [] (omega arith))) ∙ ap (cut_from k w) (sym (split_nothing 32))
 kept_fields (c ∷ cs) k w lt =
-    by_test (c == 32) (λ b. fields_of (cond b (cond (nat_lt k 69) (32 ∷ kept cs (k + 1) 0) []) (cond (nat_lt w 40) (c ∷ kept cs k (w + 1)) (kept cs k w))) ≡ cut_from k w (fields_of (c ∷ cs)))
+    by_test (c == 32) (λ b. exact_fields (cond b (cond (nat_lt k 69) (32 ∷ kept cs (k + 1) 0) []) (cond (nat_lt w 40) (c ∷ kept cs k (w + 1)) (kept cs k w))) ≡ cut_from k w (exact_fields (c ∷ cs)))
     (λ blank.
-    let whole : fields_of (c ∷ cs) ≡ [] ∷ fields_of cs = ap (λ (x : ℕ). fields_of (x ∷ cs)) (eqb-true c 32 blank) ∙ split_here 32 cs in
+    let whole : exact_fields (c ∷ cs) ≡ [] ∷ exact_fields cs = ap (λ (x : ℕ). exact_fields (x ∷ cs)) (eqb-true c 32 blank) ∙ split_here 32 cs in
     let nothing : take (40 - w) [] ≡ [] = take_all (40 - w) [] (omega arith) in
-    let right : cut_from k w (fields_of (c ∷ cs)) ≡ [] ∷ fronts (take (69 - k) (fields_of cs)) = ap (cut_from k w) whole ∙ ap (λ (f : List ℕ). f ∷ fronts (take (69 - k) (fields_of cs))) nothing in
-    by_test (nat_lt k 69) (λ b. fields_of (cond b (32 ∷ kept cs (k + 1) 0) []) ≡ cut_from k w (fields_of (c ∷ cs)))
+    let right : cut_from k w (exact_fields (c ∷ cs)) ≡ [] ∷ fronts (take (69 - k) (exact_fields cs)) = ap (cut_from k w) whole ∙ ap (λ (f : List ℕ). f ∷ fronts (take (69 - k) (exact_fields cs))) nothing in
+    by_test (nat_lt k 69) (λ b. exact_fields (cond b (32 ∷ kept cs (k + 1) 0) []) ≡ cut_from k w (exact_fields (c ∷ cs)))
     (λ below.
     let few = ltb-true k 69 below in
-    split_here 32 (kept cs (k + 1) 0) ∙ ap (λ (fs : List (List ℕ)). [] ∷ fs) (kept_fields cs (k + 1) 0 (omega (arith, few)) ∙ cut_next k (fields_of cs) few) ∙ sym right)
-    (λ above. split_nothing 32 ∙ ap (λ (fs : List (List ℕ)). [] ∷ fs) (sym (cut_last k (fields_of cs) (ltb-false k 69 above))) ∙ sym right))
+    split_here 32 (kept cs (k + 1) 0) ∙ ap (λ (fs : List (List ℕ)). [] ∷ fs) (kept_fields cs (k + 1) 0 (omega (arith, few)) ∙ cut_next k (exact_fields cs) few) ∙ sym right)
+    (λ above. split_nothing 32 ∙ ap (λ (fs : List (List ℕ)). [] ∷ fs) (sym (cut_last k (exact_fields cs) (ltb-false k 69 above))) ∙ sym right))
     (λ other.
     let ne = eqb-false c 32 other in
     let some = some_piece 32 cs in
-    let right : cut_from k w (fields_of (c ∷ cs)) ≡ cut_from k w (onto_first c (fields_of cs)) = ap (cut_from k w) (split_more 32 c cs ne) in
-    by_test (nat_lt w 40) (λ b. fields_of (cond b (c ∷ kept cs k (w + 1)) (kept cs k w)) ≡ cut_from k w (fields_of (c ∷ cs)))
-    (λ below. split_more 32 c (kept cs k (w + 1)) ne ∙ ap (onto_first c) (kept_fields cs k (w + 1) lt) ∙ cut_more k w c (fields_of cs) (ltb-true w 40 below) some ∙ sym right)
-    (λ above. kept_fields cs k w lt ∙ cut_full k w c (fields_of cs) (ltb-false w 40 above) some ∙ sym right))
+    let right : cut_from k w (exact_fields (c ∷ cs)) ≡ cut_from k w (onto_first c (exact_fields cs)) = ap (cut_from k w) (split_more 32 c cs ne) in
+    by_test (nat_lt w 40) (λ b. exact_fields (cond b (c ∷ kept cs k (w + 1)) (kept cs k w)) ≡ cut_from k w (exact_fields (c ∷ cs)))
+    (λ below. split_more 32 c (kept cs k (w + 1)) ne ∙ ap (onto_first c) (kept_fields cs k (w + 1) lt) ∙ cut_more k w c (exact_fields cs) (ltb-true w 40 below) some ∙ sym right)
+    (λ above. kept_fields cs k w lt ∙ cut_full k w c (exact_fields cs) (ltb-false w 40 above) some ∙ sym right))
 
 cut_summary : (fs : List (List ℕ)) → cut_from 0 0 fs ≡ summary_of fs
 cut_summary [] = ap fronts (sym (take_all 70 [] (omega arith)))
 cut_summary (f ∷ fs) = refl
 
 -- of a line the first 40 bytes of each of its first 70 fields are kept
-pub gathered_summary : (line : List ℕ) → fields_of (gathered nothing_gathered line).text ≡ summary_of (fields_of line)
-gathered_summary line = ap fields_of (gathered_kept line [] 0 0 (omega arith)) ∙ kept_fields line 0 0 (omega arith) ∙ cut_summary (fields_of line)
+pub gathered_summary : (line : List ℕ) → exact_fields (gathered nothing_gathered line).text ≡ summary_of (exact_fields line)
+gathered_summary line = ap exact_fields (gathered_kept line [] 0 0 (omega arith)) ∙ kept_fields line 0 0 (omega arith) ∙ cut_summary (exact_fields line)
 
 -- so it is judged as the whole line is
-pub gathered_judged : (p : Problem) → IsProblem p → (stage : Stage) (line : List ℕ) → line_at p stage (fields_of (gathered nothing_gathered line).text) ≡ line_at p stage (fields_of line)
-gathered_judged p h stage line = ap (line_at p stage) (gathered_summary line) ∙ summary_decides p stage (fields_of line) h
+pub gathered_judged : (p : Problem) → IsProblem p → (stage : Stage) (line : List ℕ) → line_at p stage (exact_fields (gathered nothing_gathered line).text) ≡ line_at p stage (exact_fields line)
+gathered_judged p h stage line = ap (line_at p stage) (gathered_summary line) ∙ summary_decides p stage (exact_fields line) h

@@ -1,9 +1,7 @@
 pub mod LineTexts
-pub mod Cuts
 pub mod FieldSteps
 pub mod FirstFields
 pub mod Loop
-pub mod RowTexts
 pub mod Said
 pub mod ReadsBack
 pub mod Told

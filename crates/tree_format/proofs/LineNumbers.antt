@@ -10,7 +10,8 @@ use Rattle.tree_format.specs.declared.plan_line.Stage.TheVariants as due
 use Rattle.tree_format.specs.declared.plan_line.PlanLine.{PlanLine}
 use Rattle.tree_format.specs.Reading.{line_at, stage_line, next}
 use Rattle.tree_format.specs.FeedSteps.{lines_left, IsNumbered}
-use Rattle.tree_format.proofs.SpelledLines.{err_ok, version_told, path_told, chance_told, count_told, record_told}
+use Rattle.tree_format.proofs.SpelledLines.{version_told, path_told, chance_told, count_told, record_told}
+use Rattle.text_rows.proofs.Results.{err_ok}
 
 abbrev Falls : Stage → PlanLine → Type 0
 Falls stage said = lines_left (next stage said) + 1 ≤ lines_left stage

@@ -3,9 +3,9 @@ use Rattle.std.proofs.Common.{◌≡◌, ℕ, List, [], ◌∷◌, ◌++◌, map
 use Rattle.std.specs.Fmt.{decimal}
 use Rattle.std.proofs.lemmas.List.{append-nil}
 use Rattle.std.proofs.lemmas.List.Concat.{flat_map-append}
-use Rattle.exact_parts.specs.Rows.{text_of, spaced}
+use Rattle.text_rows.specs.Rows.{text_of, spaced}
+use Rattle.text_rows.proofs.RowLemmas.{join-fields, text_of-append}
 use Rattle.exact_parts.proofs.AppendLemmas.{Stands}
-use Rattle.exact_parts.proofs.RowLemmas.{join-fields, text_of-append}
 use Rattle.search_model.specs.Problem.{Problem, position_name}
 use Rattle.bound_tree.specs.declared.node.Kind.{Kind}
 use Rattle.bound_tree.specs.declared.node.Kind.TheVariants.{Branch, Whole, Mean, Tangent}

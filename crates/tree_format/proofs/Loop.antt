@@ -15,10 +15,11 @@ use Rattle.tree_format.specs.declared.kind.PlanKind.TheVariants.{EarlyEnd, Rest}
 use Rattle.tree_format.specs.declared.kind.PlanFault.{PlanFault}
 use Rattle.tree_format.specs.declared.stop.PlanStop.{PlanStop}
 use Rattle.tree_format.specs.declared.stop.PlanStop.TheVariants.{Fault, NoMemory}
-use Rattle.tree_format.specs.Pieces.{pieces_of, fields_of}
+use Rattle.text_rows.specs.Lines.{pieces_of}
+use Rattle.text_rows.specs.Fields.{exact_fields}
+use Rattle.text_rows.proofs.Splits.{some_piece, split_nothing, some_left}
 use Rattle.tree_format.specs.Gives.{Adds, TakesLine, Gives, plan_of}
 use Rattle.tree_format.specs.Reading.{line_at, pieces_at, is_ended, next, taken, at_line_number}
-use Rattle.tree_format.proofs.Cuts.{some_piece, split_nothing, some_left}
 
 unended : (stage : Stage) → (stage ≡ due.Ended → ⊥) → is_ended stage ≡ false
 unended due.Version h = refl
@@ -30,12 +31,12 @@ unended due.Ended h = absurd (h refl)
 
 module _ (p : Problem) (number : ℕ) (stage : Stage) (plan : Plan) where
   -- a line that is taken
-  pub at_line : (said : PlanLine) (rest line after : List ℕ) (all : Result Plan PlanFault) → (stage ≡ due.Ended → ⊥) → pieces_of rest ≡ line ∷ pieces_of after → line_at p stage (fields_of line) ≡ Ok said → pieces_at p number stage plan (pieces_of rest) ≡ all → pieces_at p (number + 1) (next stage said) (taken plan said) (pieces_of after) ≡ all
+  pub at_line : (said : PlanLine) (rest line after : List ℕ) (all : Result Plan PlanFault) → (stage ≡ due.Ended → ⊥) → pieces_of rest ≡ line ∷ pieces_of after → line_at p stage (exact_fields line) ≡ Ok said → pieces_at p number stage plan (pieces_of rest) ≡ all → pieces_at p (number + 1) (next stage said) (taken plan said) (pieces_of after) ≡ all
   unfolding pieces_at
   at_line said rest line after all goes e f so_far = sym (rw (e, unended stage goes, some_piece 10 after, f) refl) ∙ so_far
 
   -- a line with a fault
-  pub at_fault : (kind : PlanKind) (rest line after : List ℕ) (all : Result Plan PlanFault) → (stage ≡ due.Ended → ⊥) → pieces_of rest ≡ line ∷ pieces_of after → line_at p stage (fields_of line) ≡ Err kind → pieces_at p number stage plan (pieces_of rest) ≡ all → all ≡ Err (at_line_number number kind)
+  pub at_fault : (kind : PlanKind) (rest line after : List ℕ) (all : Result Plan PlanFault) → (stage ≡ due.Ended → ⊥) → pieces_of rest ≡ line ∷ pieces_of after → line_at p stage (exact_fields line) ≡ Err kind → pieces_at p number stage plan (pieces_of rest) ≡ all → all ≡ Err (at_line_number number kind)
   unfolding pieces_at
   at_fault kind rest line after all goes e f so_far = sym so_far ∙ rw (e, unended stage goes, some_piece 10 after, f) refl
 
@@ -69,12 +70,12 @@ module _ (p : Problem) (number : ℕ) (stage : Stage) (plan : Plan) where
       ]
 
   -- reading stopped at a line
-  pub at_stop : (old new : Draft) (stop : PlanStop) (rest line after : List ℕ) (all : Result Plan PlanFault) → (stage ≡ due.Ended → ⊥) → pieces_of rest ≡ line ∷ pieces_of after → TakesLine number old new (Err stop) (line_at p stage (fields_of line)) → pieces_at p number stage plan (pieces_of rest) ≡ all → Gives (Err stop) all
+  pub at_stop : (old new : Draft) (stop : PlanStop) (rest line after : List ℕ) (all : Result Plan PlanFault) → (stage ≡ due.Ended → ⊥) → pieces_of rest ≡ line ∷ pieces_of after → TakesLine number old new (Err stop) (line_at p stage (exact_fields line)) → pieces_at p number stage plan (pieces_of rest) ≡ all → Gives (Err stop) all
   at_stop old new (Fault fault) rest line after all goes e f so_far = at_fault f.0 rest line after all goes e f.1 so_far ∙ ap Err (sym f.2)
   at_stop old new NoMemory rest line after all goes e f so_far = tt
 
 -- a line was added to a draft
-pub at_added : (p : Problem) (number : ℕ) (old new : Draft) (rest line after : List ℕ) (all : Result Plan PlanFault) → (old.stage ≡ due.Ended → ⊥) → pieces_of rest ≡ line ∷ pieces_of after → (said : PlanLine) × (line_at p old.stage (fields_of line) ≡ Ok said) × Adds old new said → pieces_at p number old.stage (plan_of old) (pieces_of rest) ≡ all → pieces_at p (number + 1) new.stage (plan_of new) (pieces_of after) ≡ all
+pub at_added : (p : Problem) (number : ℕ) (old new : Draft) (rest line after : List ℕ) (all : Result Plan PlanFault) → (old.stage ≡ due.Ended → ⊥) → pieces_of rest ≡ line ∷ pieces_of after → (said : PlanLine) × (line_at p old.stage (exact_fields line) ≡ Ok said) × Adds old new said → pieces_at p number old.stage (plan_of old) (pieces_of rest) ≡ all → pieces_at p (number + 1) new.stage (plan_of new) (pieces_of after) ≡ all
 at_added p number old new rest line after all goes e f so_far =
     ap (λ (stage : Stage). pieces_at p (number + 1) stage (plan_of new) (pieces_of after)) f.2.stage
     ∙ ap (λ (plan : Plan). pieces_at p (number + 1) (next old.stage f.0) plan (pieces_of after)) f.2.plan

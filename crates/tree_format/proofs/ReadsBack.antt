@@ -7,22 +7,24 @@ use Rattle.std.proofs.Math.Seq.{take-append_seam, drop-append_seam}
 use Rattle.std.proofs.lemmas.Bool.{le-leb, ne_eqb}
 use Rattle.std.proofs.lemmas.List.{append-nil, length-map}
 use Rattle.std.proofs.lemmas.List.Elements.{All-get_or, All-head, All-tail}
-use Rattle.exact_parts.specs.Rows.{text_of}
+use Rattle.text_rows.specs.Rows.{text_of}
+use Rattle.text_rows.specs.Lines.{pieces_of}
+use Rattle.text_rows.specs.Fields.{is_word}
+use Rattle.text_rows.proofs.RowTexts.{IsField, AreFields, IsRow, exact_fields-row, pieces_of-row, row_fields, none_empty, word, field_by, IsField-decimal, AreFields-map, AreFields-append}
 use Rattle.search_model.specs.Problem.{Problem, IsProblem, position_name}
 use Rattle.bound_tree.specs.declared.node.Kind.{Kind}
 use Rattle.bound_tree.specs.declared.node.Kind.TheVariants.{Branch, Whole, Mean, Tangent}
 use Rattle.bound_tree.specs.declared.node.TreeNode.{TreeNode}
 use Rattle.bound_tree.specs.declared.plan.Plan.{Plan}
-use Rattle.search_model.specs.Names.{IsName}
+use Rattle.search_model.specs.Names.{IsName, is_name_byte}
+use Rattle.std.proofs.lemmas.Grind.{common_steps}
 use Rattle.tree_format.specs.PlanText.{numbers, kind_fields, record_row, chance_row, count_row, ArePositions, IsPrintableKind, IsPrintableRecord, IsPrintable, IsNarrowKind, IsNarrow}
 use Rattle.tree_format.specs.declared.plan_line.Stage.{Stage}
 use Rattle.tree_format.specs.declared.plan_line.Stage.TheVariants as due
 use Rattle.tree_format.specs.declared.plan_line.PlanLine.{PlanLine}
 use Rattle.tree_format.specs.declared.plan_line.PlanLine.TheVariants.{Version, Path, Chance, Count, Node, End}
-use Rattle.tree_format.specs.Pieces.{pieces_of}
 use Rattle.tree_format.specs.ReadingLaws.{PlanTextReadsBack, OnePlanAText}
-use Rattle.tree_format.specs.Reading.{is_word, is_end, all_of, place_in, position_named, node_line, stage_line, line_at, blank_plan, next, taken, pieces_at, plan_at}
-use Rattle.tree_format.proofs.RowTexts.{IsField, AreFields, IsRow, fields_of-row, pieces_of-row, none_empty, word, IsField-name, IsField-decimal, AreFields-map, AreFields-append}
+use Rattle.tree_format.specs.Reading.{is_end, all_of, place_in, position_named, node_line, stage_line, line_at, blank_plan, next, taken, pieces_at, plan_at}
 use Rattle.tree_format.proofs.Said.{amount_in-decimal, place_in-decimal, position_named-name, all_of-map}
 use Rattle.tree_format.proofs.Loop.{at_line, at_end}
 
@@ -38,20 +40,22 @@ Reads p stage plan rows whole = (number : ℕ) → pieces_at p number stage plan
 
 line_at-row : (p : Problem) (stage : Stage) (said : PlanLine) (row : List (List ℕ)) → Takes p stage row said → line_at p stage row ≡ Ok said
 unfolding line_at
-line_at-row p stage said row h = rw (none_empty row h.fields) h.says
+line_at-row p stage said row h = rw (none_empty row (row_fields row h.fields)) h.says
 
 -- one row more at the front
 Reads-row : (p : Problem) (stage : Stage) (plan whole : Plan) (said : PlanLine) (row : List (List ℕ)) (rows : List (List (List ℕ))) → Takes p stage row said → Reads p (next stage said) (taken plan said) rows whole → Reads p stage plan (row ∷ rows) whole
 Reads-row p stage plan whole said row rows h rest = λ number.
     let line = join_with_byte 32 row in
-    let read = ap (line_at p stage) (fields_of-row row h.fields) ∙ line_at-row p stage said row h in
-    sym (at_line p number stage plan said (line ++ 10 ∷ text_of rows) line (text_of rows) _ h.goes (pieces_of-row row (text_of rows) h.fields) read refl) ∙ rest (number + 1)
+    let read = ap (line_at p stage) (exact_fields-row row h.fields) ∙ line_at-row p stage said row h in
+    sym (at_line p number stage plan said (line ++ 10 ∷ text_of rows) line (text_of rows) _ h.goes (pieces_of-row row (text_of rows) (row_fields row h.fields)) read refl) ∙ rest (number + 1)
 
 Takes-version : (p : Problem) → Takes p due.Version (codes "plan" ∷ codes "1" ∷ []) Version
 Takes-version p = record { fields = (word (codes "plan") (omega arith) refl, (word (codes "1") (omega arith) refl, tt)); goes = λ e. cc; says = refl }
 
 name_field : (p : Problem) → IsProblem p → (q : ℕ) → q < p.positions → IsField (position_name p q)
-name_field p h q lt = IsField-name (position_name p q) (All-get_or IsName p.names q [] (omega (arith, h.names_length, h.positions)) h.names)
+name_field p h q lt =
+    let name = All-get_or IsName p.names q [] (omega (arith, h.names_length, h.positions)) h.names in
+    field_by is_name_byte (λ c is. grind (arith, common_steps)) (position_name p q) (omega (arith, name.some)) name.bytes
 
 Takes-path : (p : Problem) → IsProblem p → (plan : Plan) → IsPrintable p plan → Takes p due.Path (codes "path" ∷ map (position_name p) plan.standing.path) (Path plan.standing.path)
 Takes-path p h plan k =

@@ -1,17 +1,15 @@
 -- The text of a number or a name says it.
-use Rattle.std.proofs.Common.{◌≡◌, ℕ, ◌<◌, ◌-◌, ◌^◌, List, [], ◌∷◌, map, length, get_or, take, Option, Some, refl, ap, ◌∙◌, arith, get_or-take}
+use Rattle.std.proofs.Common.{◌≡◌, ℕ, ◌<◌, ◌-◌, ◌^◌, List, [], ◌∷◌, map, length, Option, Some, refl, ap, arith}
 use Rattle.std.specs.Prelude.{All}
 use Rattle.std.specs.Fmt.{decimal}
 use Rattle.std.specs.Str.{bytes_eq}
 use Rattle.std.proofs.lemmas.Bool.{false_from_ne_true}
-use Rattle.std.proofs.lemmas.List.{length-take-le, get_or_default}
 use Rattle.std.proofs.lemmas.List.Elements.{All-head, All-tail}
 use Rattle.std.proofs.lemmas.Slice.Eq.{bytes_eq-Decides}
 use Rattle.exact_parts.proofs.Decimals.{number_at-decimal}
-use Rattle.search_model.specs.Names.{name_in, IsRepeated}
 use Rattle.search_model.specs.Problem.{Problem, IsProblem, position_name}
 use Rattle.tree_format.specs.Reading.{said, amount_in, place_in, position_named, all_of}
-use Rattle.tree_format.proofs.FieldSteps.{position-first}
+use Rattle.list_laws.proofs.Firsts.{position-first}
 use Rattle.search_model.proofs.NameLemmas.{names_apart}
 
 pub amount_in-decimal : (n : ℕ) → n < 2 ^ 128 → amount_in (decimal n) ≡ Some n

@@ -5,9 +5,11 @@ use Rattle.std.specs.List.{join_with_byte}
 use Rattle.std.proofs.lemmas.Bool.{cond_both, and_parts, eqb-true}
 use Rattle.std.proofs.lemmas.List.{append-nil, map-append}
 use Rattle.std.proofs.lemmas.List.Elements.{All-nil, All-push}
-use Rattle.std.proofs.lemmas.List.Splits.{join_with_byte-slice_split}
-use Rattle.exact_parts.specs.Rows.{text_of}
-use Rattle.exact_parts.proofs.RowLemmas.{text_of-append}
+use Rattle.text_rows.specs.Rows.{text_of}
+use Rattle.text_rows.proofs.RowLemmas.{text_of-append}
+use Rattle.text_rows.specs.Lines.{pieces_of}
+use Rattle.text_rows.specs.Fields.{exact_fields}
+use Rattle.text_rows.proofs.Results.{err_ok, same_ok}
 use Rattle.search_model.specs.Problem.{Problem, IsProblem}
 use Rattle.bound_tree.specs.declared.node.TreeNode.{TreeNode}
 use Rattle.bound_tree.specs.declared.plan.Plan.{Plan}
@@ -18,11 +20,11 @@ use Rattle.tree_format.specs.declared.plan_line.Stage.{Stage}
 use Rattle.tree_format.specs.declared.plan_line.Stage.TheVariants as due
 use Rattle.tree_format.specs.declared.plan_line.PlanLine.{PlanLine}
 use Rattle.tree_format.specs.declared.plan_line.PlanLine.TheVariants.{Version}
-use Rattle.tree_format.specs.Pieces.{split_at, pieces_of, fields_of}
 use Rattle.tree_format.specs.PlanText.{record_row, path_rows, chance_row, count_row, plan_rows, ArePositions, IsPrintableRecord, IsNarrowKind}
 use Rattle.tree_format.specs.Reading.{line_at, stage_line, blank_plan, next, taken, is_ended, at_line_number, go_on, pieces_at}
 use Rattle.tree_format.specs.ReadingLaws.{OneTextAPlan}
-use Rattle.tree_format.proofs.SpelledLines.{err_ok, same_ok, version_told, IsPathLine, path_told, IsChanceLine, chance_told, IsCountLine, count_told, IsRecordLine, IsEndLine, record_told}
+use Rattle.tree_format.proofs.SpelledLines.{version_told, IsPathLine, path_told, IsChanceLine, chance_told, IsCountLine, count_told, IsRecordLine, IsEndLine, record_told}
+use Rattle.text_rows.proofs.Splits.{split_joined}
 
 -- the rows of the lines that were read
 abbrev pub rows_read : Problem → Stage → Plan → List (List (List ℕ))
@@ -165,22 +167,18 @@ whole_read p stage plan whole line rest ended read none nothing same =
     let there = subst (λ (s : Stage). IsWhole p s plan plan ([] ∷ [])) (sym ended) here in
     rw (none, nothing) (subst (λ (w : Plan). IsWhole p stage plan w ([] ∷ [])) same there)
 
--- a line, its line feed, and what follows
-feed_join : (before line : List ℕ) (rest : List (List ℕ)) → (length rest == 0) ≡ false → (before ++ (line ++ 10 ∷ [])) ++ join_with_byte 10 rest ≡ before ++ join_with_byte 10 (line ∷ rest)
-feed_join before line [] e = absurd (let bad : ⊥ = cc in bad)
-feed_join before line (piece ∷ pieces) e = simp append_assoc
+-- a line and what follows its line feed
+pub feed_join : (line : List ℕ) (rest : List (List ℕ)) → (length rest == 0) ≡ false → join_with_byte 10 (line ∷ rest) ≡ line ++ 10 ∷ join_with_byte 10 rest
+feed_join line [] e = absurd (let bad : ⊥ = cc in bad)
+feed_join line (piece ∷ pieces) e = refl
 
-fields_join : (line : List ℕ) → join_with_byte 32 (fields_of line) ≡ line
-unfolding split_at
-fields_join line = join_with_byte-slice_split 32 line
-
-line_added : (p : Problem) (stage : Stage) (plan whole : Plan) (line : List ℕ) (rest : List (List ℕ)) (said : PlanLine) → (length rest == 0) ≡ false → IsReadOn p stage plan (fields_of line) said → IsWhole p (next stage said) (taken plan said) whole rest → IsWhole p stage plan whole (line ∷ rest)
+line_added : (p : Problem) (stage : Stage) (plan whole : Plan) (line : List ℕ) (rest : List (List ℕ)) (said : PlanLine) → (length rest == 0) ≡ false → IsReadOn p stage plan (exact_fields line) said → IsWhole p (next stage said) (taken plan said) whole rest → IsWhole p stage plan whole (line ∷ rest)
 line_added p stage plan whole line rest said some on more =
     let rows = rows_read p stage plan in
     let joined : text_of (rows_read p (next stage said) (taken plan said)) ≡ text_of rows ++ (line ++ 10 ∷ []) =
-    ap text_of on.rows ∙ text_of-append rows (fields_of line ∷ []) ∙ ap (λ (x : List ℕ). text_of rows ++ (x ++ 10 ∷ [])) (fields_join line) in
+    ap text_of on.rows ∙ text_of-append rows (exact_fields line ∷ []) ∙ ap (λ (x : List ℕ). text_of rows ++ (x ++ 10 ∷ [])) (split_joined 32 line) in
     record {
-      text = sym (feed_join (text_of rows) line rest some) ∙ ap (λ (x : List ℕ). x ++ join_with_byte 10 rest) (sym joined) ∙ more.text;
+      text = ap (λ (x : List ℕ). text_of rows ++ x) (feed_join line rest some) ∙ sym (simp append_assoc) ∙ ap (λ (x : List ℕ). x ++ join_with_byte 10 rest) (sym joined) ∙ more.text;
       read = more.read;
     }
 
@@ -201,13 +199,9 @@ pieces_told p h (line ∷ rest) number stage plan whole read e =
     (λ _ e'. absurd (err_ok (at_line_number number Rest) whole e')))
     (λ _. cond_both (length rest == 0) (Err (at_line_number number EarlyEnd)) _ G (λ _ e'. absurd (err_ok (at_line_number number EarlyEnd) whole e'))
     (λ some e'.
-    let on = went_on number (line_at p stage (fields_of line)) (λ said. pieces_at p (number + 1) (next stage said) (taken plan said) rest) whole e' in
-    let here = line_on p h stage plan (fields_of line) on.0 read on.1 in
+    let on = went_on number (line_at p stage (exact_fields line)) (λ said. pieces_at p (number + 1) (next stage said) (taken plan said) rest) whole e' in
+    let here = line_on p h stage plan (exact_fields line) on.0 read on.1 in
     line_added p stage plan whole line rest on.0 some here (pieces_told p h rest (number + 1) (next stage on.0) (taken plan on.0) whole here.read on.2))) e
-
-pub text_joined : (text : List ℕ) → join_with_byte 10 (pieces_of text) ≡ text
-unfolding split_at
-text_joined text = join_with_byte-slice_split 10 text
 
 pub one_text_a_plan : OneTextAPlan
 one_text_a_plan p plan text h e =
@@ -222,5 +216,5 @@ one_text_a_plan p plan text h e =
         records = read.3.printable;
       };
       narrow = record { value = read.1; weight = read.2; records = read.3.narrow };
-      spelled = sym (text_joined text) ∙ whole.text;
+      spelled = sym (split_joined 10 text) ∙ whole.text;
     }

@@ -1,5 +1,5 @@
 -- A line that says something is the row of what it says.
-use Rattle.std.proofs.Common.{◌≡◌, ℕ, zero, suc, ◌<◌, ◌≤◌, ◌+◌, ◌-◌, ◌*◌, ◌^◌, Bool, true, false, cond, List, [], ◌∷◌, ◌++◌, map, length, take, drop, Option, Some, None, Result, Ok, Err, refl, sym, ap, subst, ◌∙◌, arith, length-drop, length-append, ◌⊎◌, inl, inr}
+use Rattle.std.proofs.Common.{◌≡◌, ℕ, zero, suc, ◌<◌, ◌≤◌, ◌+◌, ◌-◌, ◌*◌, ◌^◌, true, false, List, [], ◌∷◌, ◌++◌, map, length, take, drop, Option, Some, None, Result, Ok, Err, refl, sym, ap, subst, ◌∙◌, arith, length-drop, length-append, ◌⊎◌, inl, inr}
 use Rattle.std.specs.Prelude.{codes, nat_le, ◌&&◌, ◌==◌}
 use Rattle.std.specs.Fmt.{decimal}
 use Rattle.std.proofs.lemmas.Bool.{cond_both, and_parts, leb-true, eqb-true, eqb-false}
@@ -14,19 +14,10 @@ use Rattle.tree_format.specs.declared.plan_line.PlanLine.{PlanLine}
 use Rattle.tree_format.specs.declared.plan_line.PlanLine.TheVariants.{Version, Path, Chance, Count, Node, End}
 use Rattle.tree_format.specs.declared.record_lines.Bounded.{Bounded}
 use Rattle.tree_format.specs.PlanText.{numbers, kind_fields, record_row, chance_row, count_row, ArePositions, IsPrintableKind, IsPrintableRecord, IsNarrowKind}
-use Rattle.tree_format.specs.Reading.{is_word, all_of, amount_in, place_in, position_named, version_line, path_said, path_line, chance_said, chance_line, count_said, count_line, branch_of, branch_line, bounded_of, bounded_line, node_of, tangent_of, tangent_line, node_line, node_said, is_end, end_said, record_line}
+use Rattle.tree_format.specs.Reading.{all_of, amount_in, place_in, position_named, version_line, path_said, path_line, chance_said, chance_line, count_said, count_line, branch_of, branch_line, bounded_of, bounded_line, node_of, tangent_of, tangent_line, node_line, node_said, is_end, end_said, record_line}
+use Rattle.text_rows.specs.Fields.{is_word}
 use Rattle.tree_format.proofs.Told.{word_told, amount_told, places_told, names_told}
-
-pub err_ok : {X E : Type 0} (k : E) (t : X) → ◌≡◌ {A = Result X E} (Err k) (Ok t) → ⊥
-err_ok k t e = let bad : ⊥ = cc in bad
-
-pub same_ok : {X E : Type 0} (s t : X) → ◌≡◌ {A = Result X E} (Ok s) (Ok t) → s ≡ t
-same_ok s t e = cc
-
--- a test that had to pass
-pub let_through : {X E : Type 0} (b : Bool) (k : E) (r : Result X E) (t : X) → cond b r (Err k) ≡ Ok t → (b ≡ true) × (r ≡ Ok t)
-let_through true k r t e = (refl, e)
-let_through false k r t e = absurd (err_ok k t e)
+use Rattle.text_rows.proofs.Results.{err_ok, same_ok, let_through}
 
 -- `plan 1`
 pub version_told : (fields : List (List ℕ)) (said : PlanLine) → version_line fields ≡ Ok said → (fields ≡ codes "plan" ∷ codes "1" ∷ []) × (said ≡ Version)

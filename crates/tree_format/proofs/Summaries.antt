@@ -11,7 +11,8 @@ use Rattle.std.proofs.lemmas.Slice.Eq.{bytes_eq-Decides}
 use Rattle.exact_parts.specs.declared.number.Number.{Number}
 use Rattle.exact_parts.specs.declared.number.Number.TheVariants.{NotPlain, Above, Of}
 use Rattle.exact_parts.specs.Decimal.{Spells, number_at}
-use Rattle.exact_parts.proofs.Decimals.{spells-number_at, spelled_text, short-decimal}
+use Rattle.exact_parts.proofs.Decimals.{spells-number_at, spelled_text}
+use Rattle.exact_parts.proofs.Written.{digits_fit}
 use Rattle.search_model.specs.Names.{IsName}
 use Rattle.search_model.specs.Problem.{Problem, IsProblem}
 use Rattle.bound_tree.specs.declared.node.TreeNode.{TreeNode}
@@ -20,9 +21,10 @@ use Rattle.tree_format.specs.declared.kind.PlanKind.TheVariants.{BadLine}
 use Rattle.tree_format.specs.declared.plan_line.Stage.{Stage}
 use Rattle.tree_format.specs.declared.plan_line.Stage.TheVariants as due
 use Rattle.tree_format.specs.declared.plan_line.PlanLine.{PlanLine}
-use Rattle.tree_format.specs.Reading.{is_word, said, amount_in, place_in, position_named, all_of, version_line, path_line, chance_line, count_line, branch_line, bounded_line, tangent_line, node_line, is_end, record_line, stage_line, line_at}
+use Rattle.tree_format.specs.Reading.{said, amount_in, place_in, position_named, all_of, version_line, path_line, chance_line, count_line, branch_line, bounded_line, tangent_line, node_line, is_end, record_line, stage_line, line_at}
+use Rattle.text_rows.specs.Fields.{is_word}
+use Rattle.list_laws.proofs.Firsts.{position-none}
 use Rattle.tree_format.specs.ReadingLaws.{SummaryDecides}
-use Rattle.tree_format.proofs.FieldSteps.{position-none}
 
 abbrev front : List ℕ → List ℕ
 front f = take 40 f
@@ -46,7 +48,7 @@ long_number : (most : ℕ) (f : List ℕ) → most < 2 ^ 128 → 40 ≤ length f
 long_number most f wide long = none_said (number_at most f) (λ n e.
     let spells : Spells most f (Of n) = subst (Spells most f) e (spells-number_at most f) in
     let same = ap length (spelled_text most n f wide spells) in
-    omega (arith, same, long, short-decimal n (omega (arith, spells.2))))
+    omega (arith, same, long, digits_fit n (omega (arith, spells.2))))
 
 front_number : (most : ℕ) (f : List ℕ) → most < 2 ^ 128 → said (number_at most (front f)) ≡ said (number_at most f)
 front_number most f wide = by_front (λ g. said (number_at most g)) f None (λ g long. long_number most g wide long)

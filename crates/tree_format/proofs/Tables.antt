@@ -15,8 +15,10 @@ use Rattle.tree_format.specs.declared.plan_line.Stage.TheVariants as due
 use Rattle.tree_format.specs.declared.plan_line.PlanLine.{PlanLine}
 use Rattle.tree_format.specs.declared.plan_line.PlanLine.TheVariants.{Version, Count, Node, End}
 use Rattle.tree_format.specs.declared.record_lines.Bounded.{Bounded}
-use Rattle.tree_format.specs.Reading.{is_word, amount_in, place_in, position_named, in_front, all_of, path_said, chance_said, count_said, branch_of, branch_line, bounded_of, bounded_line, node_of, tangent_of, tangent_line, node_line, node_said, is_end, end_said, stage_line, line_at}
-use Rattle.tree_format.specs.KindTable.{bounded_form, tangent_form, node_form, has_form, first_alone, behind_first, node_amounts, node_cells, is_bad_number, has_unknown, has_too_many, is_miscounted, first_kind, fault_of, KindsByTable}
+use Rattle.tree_format.specs.Reading.{amount_in, place_in, position_named, in_front, all_of, path_said, chance_said, count_said, branch_of, branch_line, bounded_of, bounded_line, node_of, tangent_of, tangent_line, node_line, node_said, is_end, end_said, stage_line, line_at}
+use Rattle.text_rows.specs.Fields.{is_word, first_alone, behind_first}
+use Rattle.tree_format.specs.KindTable.{bounded_form, tangent_form, node_form, has_form, node_amounts, node_cells, is_bad_number, has_unknown, has_too_many, is_miscounted, KindsByTable}
+use Rattle.text_rows.specs.Kinds.{first_kind, fault_of}
 
 -- fields say something together where each does
 front_none : (o : Option ℕ) (os : Option (List ℕ)) → is_none (in_front o os) ≡ (is_none o || is_none os)

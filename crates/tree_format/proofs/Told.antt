@@ -11,7 +11,8 @@ use Rattle.exact_parts.specs.declared.number.Number.TheVariants.{NotPlain, Above
 use Rattle.exact_parts.specs.Decimal.{Spells, number_at}
 use Rattle.exact_parts.proofs.Decimals.{spells-number_at, spelled_text}
 use Rattle.search_model.specs.Problem.{Problem, IsProblem, position_name}
-use Rattle.tree_format.specs.Reading.{is_word, said, amount_in, place_in, position_named, in_front, all_of}
+use Rattle.tree_format.specs.Reading.{said, amount_in, place_in, position_named, in_front, all_of}
+use Rattle.text_rows.specs.Fields.{is_word}
 
 -- a field that is a word
 pub word_told : (field word : List ℕ) → is_word field word ≡ true → field ≡ word

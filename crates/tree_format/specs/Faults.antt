@@ -1,6 +1,5 @@
 -- The first fault of a text, in other words than those of reading: the lines before it are right.
 use Rattle.std.specs.Prelude.{ℕ, ◌≡◌, ◌+◌, ◌⊎◌, List, [], ◌∷◌, ◌++◌, length, All, Ok, Err}
-use Rattle.std.specs.List.{flat_map}
 use Rattle.search_model.specs.Problem.{Problem}
 use Rattle.tree_format.specs.declared.kind.PlanKind.{PlanKind}
 use Rattle.tree_format.specs.declared.kind.PlanKind.TheVariants.{EarlyEnd, Rest}
@@ -8,22 +7,16 @@ use Rattle.tree_format.specs.declared.kind.PlanFault.{PlanFault}
 use Rattle.tree_format.specs.declared.plan_line.Stage.{Stage}
 use Rattle.tree_format.specs.declared.plan_line.Stage.TheVariants as due
 use Rattle.tree_format.specs.declared.plan_line.PlanLine.{PlanLine}
-use Rattle.tree_format.specs.Pieces.{fields_of}
+use Rattle.text_rows.specs.Fields.{exact_fields}
 use Rattle.tree_format.specs.Reading.{line_at, next}
-
--- bytes without a line feed, and lines with one each
-abbrev pub HasNoFeed : List ℕ → Type 0
-HasNoFeed line = All (λ c. c ≡ 10 → ⊥) line
-
-abbrev pub lines_text : List (List ℕ) → List ℕ
-lines_text lines = flat_map (λ line. line ++ 10 ∷ []) lines
+use Rattle.text_rows.specs.Lines.{HasNoFeed, lines_text}
 
 -- each line says this where it is due
 abbrev pub AreSaid : Problem → Stage → List (List ℕ) → List PlanLine → Type 0
 AreSaid p stage [] [] = Unit {0}
 AreSaid p stage [] (said ∷ more) = ⊥
 AreSaid p stage (line ∷ lines) [] = ⊥
-AreSaid p stage (line ∷ lines) (said ∷ more) = (line_at p stage (fields_of line) ≡ Ok said) × AreSaid p (next stage said) lines more
+AreSaid p stage (line ∷ lines) (said ∷ more) = (line_at p stage (exact_fields line) ≡ Ok said) × AreSaid p (next stage said) lines more
 
 -- what is due behind lines that say this
 abbrev pub due_behind : Stage → List PlanLine → Stage
@@ -37,7 +30,7 @@ pub record IsWrongLine (p : Problem) (stage : Stage) (rest : List ℕ) (kind : P
   pub whole : rest ≡ line ++ 10 ∷ more
   pub feed : HasNoFeed line
   pub goes : stage ≡ due.Ended → ⊥
-  pub wrong : line_at p stage (fields_of line) ≡ Err kind
+  pub wrong : line_at p stage (exact_fields line) ≡ Err kind
 
 -- the bytes behind right lines lack the line feed of the line that is due, or stand behind the end, or begin with a wrong line
 abbrev pub HasFault : Problem → Stage → List ℕ → PlanKind → Type 0

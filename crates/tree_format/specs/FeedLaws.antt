@@ -7,7 +7,7 @@ use Rattle.bound_tree.specs.declared.plan.Plan.{Plan}
 use Rattle.tree_format.specs.declared.kind.PlanFault.{PlanFault}
 use Rattle.tree_format.specs.declared.plan_item.PlanItem.{PlanItem}
 use Rattle.tree_format.specs.declared.plan_item.PlanItem.TheVariants.{Head, Node, End}
-use Rattle.tree_format.specs.Pieces.{fields_of}
+use Rattle.text_rows.specs.Fields.{exact_fields}
 use Rattle.tree_format.specs.Reading.{plan_at, summary_of}
 use Rattle.tree_format.specs.Gathering.{nothing_gathered, gathered}
 use Rattle.tree_format.specs.FeedSteps.{Stand}
@@ -51,4 +51,4 @@ ItemsInOrder = (p : Problem) (fed : List ℕ) (items : List PlanItem) → IsProb
 
 -- of a line the first 40 bytes of each of its first 70 fields are kept
 abbrev pub GatheredIsSummary : Type 0
-GatheredIsSummary = (line : List ℕ) → fields_of (gathered nothing_gathered line).text ≡ summary_of (fields_of line)
+GatheredIsSummary = (line : List ℕ) → exact_fields (gathered nothing_gathered line).text ≡ summary_of (exact_fields line)

@@ -12,7 +12,7 @@ use Rattle.tree_format.specs.declared.plan_line.PlanLine.TheVariants.{Version, P
 use Rattle.tree_format.specs.declared.plan_item.PlanItem.TheVariants as item
 use Rattle.tree_format.specs.declared.plan_item.Step.{Step}
 use Rattle.tree_format.specs.declared.plan_item.Step.TheVariants.{More, Item, Fault}
-use Rattle.tree_format.specs.Pieces.{fields_of}
+use Rattle.text_rows.specs.Fields.{exact_fields}
 use Rattle.tree_format.specs.Gathering.{Gathered, nothing_gathered, gathered, with_byte}
 use Rattle.tree_format.specs.Reading.{line_at, next, taken, is_ended, at_line_number}
 
@@ -69,7 +69,7 @@ line_begun c s = record { step = More; stand = record { number = s.number; stage
 abbrev pub byte_fed : Problem → ℕ → Stand → Moved
 byte_fed p c s =
     if is_ended s.stage then record { step = Fault (at_line_number s.number Rest); stand = s } else
-    (if c == 10 then line_ended s (line_at p s.stage (fields_of s.line.text)) else line_begun c s)
+    (if c == 10 then line_ended s (line_at p s.stage (exact_fields s.line.text)) else line_begun c s)
 
 -- the most lines that follow, of which the announced records are at most 1,048,576
 abbrev pub lines_left : Stage → ℕ

@@ -12,7 +12,8 @@ use Rattle.tree_format.specs.declared.plan_item.PlanItem.TheVariants.{Head, Node
 use Rattle.tree_format.specs.declared.plan_item.Step.{Step}
 use Rattle.tree_format.specs.declared.plan_item.Step.TheVariants.{More, Item, Fault}
 use Rattle.tree_format.specs.PlanText.{ArePositions, IsPrintableRecord}
-use Rattle.tree_format.specs.Faults.{HasNoFeed, lines_text, AreSaid, due_behind}
+use Rattle.tree_format.specs.Faults.{AreSaid, due_behind}
+use Rattle.text_rows.specs.Lines.{HasNoFeed, lines_text}
 use Rattle.tree_format.specs.Reading.{blank_plan, taken, plan_at}
 use Rattle.tree_format.specs.FeedSteps.{Stand, stand_at}
 

@@ -1,13 +1,14 @@
 -- Where a line has each kind of fault, as a table: the first kind whose test holds decides.
-use Rattle.std.specs.Prelude.{ℕ, ◌≡◌, ◌*◌, Bool, false, not, ◌&&◌, ◌||◌, ◌==◌, nat_le, if◌then◌else◌, List, [], ◌∷◌, length, Option, Some, None, is_none, unwrap_or, Result, Ok, Err, codes}
+use Rattle.std.specs.Prelude.{ℕ, ◌≡◌, ◌*◌, Bool, false, not, ◌&&◌, ◌||◌, ◌==◌, nat_le, if◌then◌else◌, List, [], ◌∷◌, length, Option, is_none, unwrap_or, codes}
 use Rattle.std.specs.List.{list_any}
 use Rattle.search_model.specs.Problem.{Problem}
 use Rattle.tree_format.specs.declared.plan_line.Stage.{Stage}
 use Rattle.tree_format.specs.declared.plan_line.Stage.TheVariants as due
-use Rattle.tree_format.specs.declared.plan_line.PlanLine.{PlanLine}
 use Rattle.tree_format.specs.declared.kind.PlanKind.{PlanKind}
 use Rattle.tree_format.specs.declared.kind.PlanKind.TheVariants.{BadLine, BadNumber, UnknownName, TooManyNodes, WrongCount}
-use Rattle.tree_format.specs.Reading.{is_word, amount_in, place_in, position_named, is_end, line_at}
+use Rattle.tree_format.specs.Reading.{amount_in, place_in, position_named, is_end, line_at}
+use Rattle.text_rows.specs.Fields.{is_word, behind_first, first_alone}
+use Rattle.text_rows.specs.Kinds.{first_kind, fault_of}
 
 -- The keyword or letter and the number of fields.
 
@@ -60,16 +61,6 @@ has_form p (due.Records left) fields = is_end fields || node_form p fields
 has_form p due.Ended fields = false
 
 -- The fields in the places of numbers, cells and names.
-
--- all fields but the first
-abbrev pub behind_first : List (List ℕ) → List (List ℕ)
-behind_first [] = []
-behind_first (first ∷ fields) = fields
-
--- the first field, if there is one
-abbrev pub first_alone : List (List ℕ) → List (List ℕ)
-first_alone [] = []
-first_alone (first ∷ fields) = first ∷ []
 
 -- the number of a record, which a branch has not
 abbrev pub node_amounts : List (List ℕ) → List (List ℕ)
@@ -128,11 +119,6 @@ abbrev pub is_miscounted : Stage → List (List ℕ) → Bool
 is_miscounted (due.Records left) fields = if is_end fields then not (left == 0) else left == 0
 is_miscounted _ fields = false
 
--- the first kind whose test holds
-abbrev pub first_kind : List (Bool × PlanKind) → Option PlanKind
-first_kind [] = None
-first_kind (row ∷ rows) = if row.0 then Some row.1 else first_kind rows
-
 -- the kinds in their order
 abbrev pub kind_by_table : Problem → Stage → List (List ℕ) → Option PlanKind
 kind_by_table p stage fields =
@@ -143,11 +129,6 @@ kind_by_table p stage fields =
     ∷ (has_too_many stage fields, TooManyNodes)
     ∷ (is_miscounted stage fields, WrongCount)
     ∷ [])
-
--- the fault of a line that was read
-abbrev pub fault_of : Result PlanLine PlanKind → Option PlanKind
-fault_of (Ok said) = None
-fault_of (Err kind) = Some kind
 
 -- a line has the fault that the table gives
 abbrev pub KindsByTable : Type 0

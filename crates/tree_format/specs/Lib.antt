@@ -1,6 +1,5 @@
 pub mod PlanText
 pub mod RecordParts
-pub mod Pieces
 pub mod Kinds
 pub mod Reading
 pub mod Gathering

@@ -18,11 +18,8 @@ use Rattle.tree_format.specs.declared.kind.PlanKind.{PlanKind}
 use Rattle.tree_format.specs.declared.kind.PlanKind.TheVariants.{BadLine, BadNumber, UnknownName, TooManyNodes, WrongCount, EarlyEnd, Rest}
 use Rattle.tree_format.specs.declared.kind.PlanFault.{PlanFault}
 use Rattle.tree_format.specs.declared.record_lines.Bounded.{Bounded}
-use Rattle.tree_format.specs.Pieces.{pieces_of, fields_of}
-
--- a field is a word
-abbrev pub is_word : List ℕ → List ℕ → Bool
-is_word field word = bytes_eq field word
+use Rattle.text_rows.specs.Lines.{pieces_of}
+use Rattle.text_rows.specs.Fields.{exact_fields, is_word}
 
 -- Numbers and names.
 
@@ -230,7 +227,7 @@ pieces_at p number stage plan [] = Err (at_line_number number EarlyEnd)
 pieces_at p number stage plan (line ∷ rest) =
     if is_ended stage then (if length line == 0 && length rest == 0 then Ok plan else Err (at_line_number number Rest)) else
     (if length rest == 0 then Err (at_line_number number EarlyEnd) else
-    go_on number (line_at p stage (fields_of line)) (λ said. pieces_at p (number + 1) (next stage said) (taken plan said) rest))
+    go_on number (line_at p stage (exact_fields line)) (λ said. pieces_at p (number + 1) (next stage said) (taken plan said) rest))
 
 -- the plan that a text spells, or its first fault
 abbrev pub plan_at : Problem → List ℕ → Result Plan PlanFault

@@ -1,7 +1,7 @@
 //! A plan from its text in pieces of any length.
 
 ghost use Rattle.std.specs.Prelude.{◌≡◌, ◌<◌, ◌≤◌, ◌+◌, ◌∷◌, [], ◌++◌, ℕ, List, length, take, IfOk, IfErr};
-ghost use Rattle.tree_format.specs.Pieces.{fields_of};
+ghost use Rattle.text_rows.specs.Fields.{exact_fields};
 ghost use Rattle.tree_format.specs.Reading.{line_at, next};
 ghost use Rattle.tree_format.specs.FeedSteps.{moved, step_of, line_ended, byte_fed, IsNumbered};
 ghost use Rattle.tree_format.specs.Feeding.{HasRead, IfRead, Tells, IsDecided, IsItem, IsWhole, IsCutOff, IfMore, IfItem, IfFaulty, GoesOn};
@@ -46,7 +46,7 @@ impl Model for PlanFeed {
 
 /// What the line that was gathered says where this is due, or its first fault.
 fn judge(line: &GatheredLine, sc: &Scenario, stage: Stage) -> Result<PlanLine, PlanKind>
-    ensures said { result ≡ line_at sc.now stage (fields_of line.now.text) }
+    ensures said { result ≡ line_at sc.now stage (exact_fields line.now.text) }
     ensures numbered { IfOk result (λ said. (number : ℕ) → IsNumbered stage number → IsNumbered (next stage said) (number + 1)) }
 {
     let _cells = sc.cells();
@@ -96,8 +96,8 @@ impl PlanFeed {
 
     /// Takes the line feed of the line that is due.
     fn end_line(&mut self, sc: &Scenario) -> Step
-        ensures step { result ≡ (line_ended self.old (line_at sc.now self.old.stage (fields_of self.old.line.text))).step }
-        ensures stand { self.new ≡ (line_ended self.old (line_at sc.now self.old.stage (fields_of self.old.line.text))).stand }
+        ensures step { result ≡ (line_ended self.old (line_at sc.now self.old.stage (exact_fields self.old.line.text))).step }
+        ensures stand { self.new ≡ (line_ended self.old (line_at sc.now self.old.stage (exact_fields self.old.line.text))).stand }
     {
         match judge(&self.line, sc, self.stage) {
             Ok(said) => self.move_on(said),

@@ -4,7 +4,7 @@ ghost use Rattle.std.specs.Prelude.{◌≡◌, ◌↔◌, IsTrue, IfOk};
 ghost use Rattle.bound_tree.specs.declared.plan.Plan.{Plan as PlanLem};
 ghost use Rattle.tree_format.specs.declared.plan_line.Stage.TheVariants as due;
 ghost use Rattle.tree_format.specs.declared.kind.PlanFault.{PlanFault as FaultLem};
-ghost use Rattle.tree_format.specs.Pieces.{fields_of};
+ghost use Rattle.text_rows.specs.Fields.{exact_fields};
 ghost use Rattle.tree_format.specs.Faults.{IsFirstFault};
 ghost use Rattle.tree_format.specs.Gives.{TakesLine, Gives, ReadsPlan, Says, Tells, IfFault, plan_of};
 ghost use Rattle.tree_format.specs.Reading.{blank_plan, line_at, plan_at};
@@ -14,12 +14,13 @@ use crate::adding::add_line;
 use crate::draft::Draft;
 use crate::kind::{PlanFault, PlanKind};
 use crate::lines::read_line;
-use crate::pieces::{cut, first_fields};
+use crate::pieces::first_fields;
 use crate::plan_line::Stage;
 use crate::stop::PlanStop;
 use bound_tree::{BoundTree, Plan};
 use search_model::{Path, Scenario, Standing};
 use std::alloc::Global;
+use text_rows::cut;
 
 pub fn is_ended(stage: Stage) -> bool
     ensures { IsTrue result ↔ (stage ≡ Stage.Ended) }
@@ -42,7 +43,7 @@ fn blank_draft(alloc: Global) -> Draft
 
 /// Reads the line of this number.
 fn take_line(draft: &mut Draft, sc: &Scenario, number: u64, line: &[u8]) -> Result<(), PlanStop>
-    ensures { TakesLine number draft.old draft.new result (line_at sc.now draft.old.stage (fields_of line.now)) }
+    ensures { TakesLine number draft.old draft.new result (line_at sc.now draft.old.stage (exact_fields line.now)) }
 {
     let _cells = sc.cells();
     let fields = first_fields(line);

@@ -2,7 +2,7 @@
 
 ghost use Rattle.std.specs.Prelude.{◌≡◌, ◌++◌, ◌∷◌, [], map, OnOk, OnErr, All};
 ghost use Rattle.exact_parts.specs.Appending.{AppendsFront};
-ghost use Rattle.exact_parts.specs.Rows.{text_of, spaced};
+ghost use Rattle.text_rows.specs.Rows.{text_of, spaced};
 ghost use Rattle.tree_format.specs.PlanText.{numbers, record_row, IsNarrowKind};
 ghost use Rattle.tree_format.specs.RecordParts.{letter_of, bound_fields, reference_of};
 

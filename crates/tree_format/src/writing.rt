@@ -3,7 +3,7 @@
 ghost use Rattle.std.specs.Prelude.{◌≡◌, ◌++◌, ◌∷◌, [], ◌<◌, map, OnOk, OnErr};
 ghost use Rattle.std.specs.Fmt.{decimal};
 ghost use Rattle.exact_parts.specs.Appending.{AppendsFront};
-ghost use Rattle.exact_parts.specs.Rows.{spaced};
+ghost use Rattle.text_rows.specs.Rows.{spaced};
 ghost use Rattle.search_model.specs.Problem.{position_name};
 ghost use Rattle.tree_format.specs.PlanText.{numbers, ArePositions};
 

@@ -1,5 +1,5 @@
 use Rattle.std.proofs.Common.{◌≡◌, ◌++◌, map, take}
-use Rattle.exact_parts.specs.Rows.{spaced}
+use Rattle.text_rows.specs.Rows.{spaced}
 use Rattle.mission_report.specs.Lines.{field_text}
 use Rattle.mission_report.proofs.lines.push_line.Given as goal
 

@@ -1,5 +1,5 @@
 use Rattle.std.proofs.Common.{◌≡◌, ◌++◌, map, take}
-use Rattle.exact_parts.specs.Rows.{text_of}
+use Rattle.text_rows.specs.Rows.{text_of}
 use Rattle.mission_report.specs.Account.{all_cells}
 use Rattle.mission_report.proofs.RowSteps.{left_by}
 use Rattle.mission_report.proofs.report.push_masses.Given as goal

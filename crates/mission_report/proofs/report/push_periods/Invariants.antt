@@ -1,5 +1,5 @@
 use Rattle.std.proofs.Common.{◌≡◌, ◌++◌, map, take}
-use Rattle.exact_parts.specs.Rows.{text_of}
+use Rattle.text_rows.specs.Rows.{text_of}
 use Rattle.mission_report.specs.Account.{all_periods}
 use Rattle.mission_report.specs.Report.{period_of}
 use Rattle.mission_report.proofs.report.push_periods.Given as goal

@@ -5,20 +5,21 @@ use Rattle.std.proofs.lemmas.Result.{on_ok_weaker, on_err_weaker}
 use Rattle.search_model.specs.Problem.{cell_name}
 use Rattle.exact_parts.specs.Appending.{AppendsFront}
 use Rattle.scenario_text.specs.Printing.{first_text}
-use Rattle.scenario_text.proofs.Appending.{on_err, front_of_three-first, front_of_three-second, front_of_three-third, three_appended}
+use Rattle.scenario_text.proofs.Appending.{front_of_three-first, front_of_three-second, front_of_three-third, three_appended}
+use Rattle.exact_parts.proofs.AppendLemmas.{at_refusal}
 use Rattle.scenario_text.proofs.Printed.{chance_text-pieces}
 use Rattle.scenario_text.proofs.printing.print_chance.Goals as goal
 
 pub returns-in_err-push_all-clause-no_memory : goal.returns-in_err-push_all-clause-no_memory
 returns-in_err-push_all-clause-no_memory c =
     let h : AppendsFront c.args.out.now.items c.push_all.new.out.items (codes "start " ++ (cell_name c.args.sc.now c.args.sc.now.start ++ 10 ∷ codes "first")) = search rules in
-    on_err _ _ (front_of_three-first _ _ (chance_text-pieces c.args.sc.now) h)
+    at_refusal _ _ (front_of_three-first _ _ (chance_text-pieces c.args.sc.now) h)
 
 pub returns-in_err-push_first-clause-no_memory : goal.returns-in_err-push_first-clause-no_memory
 returns-in_err-push_first-clause-no_memory c =
     let e : c.push_all.new.out.items ≡ c.args.out.now.items ++ (codes "start " ++ (cell_name c.args.sc.now c.args.sc.now.start ++ 10 ∷ codes "first")) = search rules in
     let h : AppendsFront c.push_all.new.out.items c.push_first.new.out.items (flat_map (first_text c.args.sc.now) (range_with_len 0 c.args.sc.now.cells)) = search rules in
-    on_err _ _ (front_of_three-second _ _ _ (chance_text-pieces c.args.sc.now) e h)
+    at_refusal _ _ (front_of_three-second _ _ _ (chance_text-pieces c.args.sc.now) e h)
 
 pub returns-clause-ok : goal.returns-clause-ok
 returns-clause-ok c =

@@ -1,15 +1,16 @@
 use Rattle.std.proofs.lemmas.Result.{on_err_weaker}
-use Rattle.scenario_text.proofs.Appending.{on_err, front_of_three-first, front_of_three-second, front_of_three-third}
+use Rattle.scenario_text.proofs.Appending.{front_of_three-first, front_of_three-second, front_of_three-third}
+use Rattle.exact_parts.proofs.AppendLemmas.{at_refusal}
 use Rattle.scenario_text.proofs.Printed.{rows_text-pieces}
 use Rattle.scenario_text.proofs.printing.print_rows.Goals as goal
 
 pub returns-in_err-print_moves-clause-no_memory : goal.returns-in_err-print_moves-clause-no_memory
 returns-in_err-print_moves-clause-no_memory c =
-    on_err _ _ (front_of_three-first _ _ (rows_text-pieces c.args.sc.now) c.in_err-print_moves.ensures.no_memory)
+    at_refusal _ _ (front_of_three-first _ _ (rows_text-pieces c.args.sc.now) c.in_err-print_moves.ensures.no_memory)
 
 pub returns-in_err-print_drift-clause-no_memory : goal.returns-in_err-print_drift-clause-no_memory
 returns-in_err-print_drift-clause-no_memory c =
-    on_err _ _ (front_of_three-second _ _ _ (rows_text-pieces c.args.sc.now) c.in_ok-print_moves.ensures.ok c.in_err-print_drift.ensures.no_memory)
+    at_refusal _ _ (front_of_three-second _ _ _ (rows_text-pieces c.args.sc.now) c.in_ok-print_moves.ensures.ok c.in_err-print_drift.ensures.no_memory)
 
 pub returns-clause-no_memory : goal.returns-clause-no_memory
 returns-clause-no_memory c =

@@ -1,15 +1,16 @@
 use Rattle.std.proofs.lemmas.Result.{on_ok_weaker, on_err_weaker}
-use Rattle.scenario_text.proofs.Appending.{on_err, front_of_three-first, front_of_three-second, front_of_three-third, three_appended}
+use Rattle.scenario_text.proofs.Appending.{front_of_three-first, front_of_three-second, front_of_three-third, three_appended}
+use Rattle.exact_parts.proofs.AppendLemmas.{at_refusal}
 use Rattle.scenario_text.proofs.Printed.{canonical_text-pieces}
 use Rattle.scenario_text.proofs.printing.print_scenario.Goals as goal
 
 pub returns-in_err-print_front-clause-no_memory : goal.returns-in_err-print_front-clause-no_memory
 returns-in_err-print_front-clause-no_memory c =
-    on_err _ _ (front_of_three-first _ _ (canonical_text-pieces c.args.sc.now) c.in_err-print_front.ensures.no_memory)
+    at_refusal _ _ (front_of_three-first _ _ (canonical_text-pieces c.args.sc.now) c.in_err-print_front.ensures.no_memory)
 
 pub returns-in_err-print_rows-clause-no_memory : goal.returns-in_err-print_rows-clause-no_memory
 returns-in_err-print_rows-clause-no_memory c =
-    on_err _ _ (front_of_three-second _ _ _ (canonical_text-pieces c.args.sc.now) c.in_ok-print_front.ensures.ok c.in_err-print_rows.ensures.no_memory)
+    at_refusal _ _ (front_of_three-second _ _ _ (canonical_text-pieces c.args.sc.now) c.in_ok-print_front.ensures.ok c.in_err-print_rows.ensures.no_memory)
 
 pub returns-clause-ok : goal.returns-clause-ok
 returns-clause-ok c =

@@ -6,20 +6,21 @@ use Rattle.drift_chain.specs.DriftRows.{row_of}
 use Rattle.search_model.specs.Problem.{cell_name}
 use Rattle.exact_parts.specs.Appending.{AppendsFront}
 use Rattle.scenario_text.specs.Printing.{entry_text}
-use Rattle.scenario_text.proofs.Appending.{on_err, front_of_three-first, front_of_three-second, front_of_three-third, three_appended}
+use Rattle.scenario_text.proofs.Appending.{front_of_three-first, front_of_three-second, front_of_three-third, three_appended}
+use Rattle.exact_parts.proofs.AppendLemmas.{at_refusal}
 use Rattle.scenario_text.proofs.Printed.{drift_text-pieces}
 use Rattle.scenario_text.proofs.printing.push_drift.Goals as goal
 
 pub returns-in_err-push_all-clause-no_memory : goal.returns-in_err-push_all-clause-no_memory
 returns-in_err-push_all-clause-no_memory c =
     let h : AppendsFront c.args.out.now.items c.push_all.new.out.items (codes "drift " ++ (cell_name c.args.sc.now c.args.c ++ [])) = search rules in
-    on_err _ _ (front_of_three-first _ _ (drift_text-pieces c.args.sc.now c.args.c) h)
+    at_refusal _ _ (front_of_three-first _ _ (drift_text-pieces c.args.sc.now c.args.c) h)
 
 pub returns-in_err-push_entries-clause-no_memory : goal.returns-in_err-push_entries-clause-no_memory
 returns-in_err-push_entries-clause-no_memory c =
     let e : c.push_all.new.out.items ≡ c.args.out.now.items ++ (codes "drift " ++ (cell_name c.args.sc.now c.args.c ++ [])) = search rules in
     let h : AppendsFront c.push_all.new.out.items c.push_entries.new.out.items (flat_map (entry_text c.args.sc.now) (row_of c.args.sc.now.drift 1 c.args.c)) = search rules in
-    on_err _ _ (front_of_three-second _ _ _ (drift_text-pieces c.args.sc.now c.args.c) e h)
+    at_refusal _ _ (front_of_three-second _ _ _ (drift_text-pieces c.args.sc.now c.args.c) e h)
 
 pub returns-clause-ok : goal.returns-clause-ok
 returns-clause-ok c =

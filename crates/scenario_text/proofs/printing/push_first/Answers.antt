@@ -1,11 +1,12 @@
 use Rattle.std.proofs.Common.{arith}
 use Rattle.scenario_text.specs.Printing.{first_text}
-use Rattle.scenario_text.proofs.Appending.{on_err, front_in_range, one_in_range}
+use Rattle.scenario_text.proofs.Appending.{front_in_range, one_in_range}
+use Rattle.exact_parts.proofs.AppendLemmas.{at_refusal}
 use Rattle.scenario_text.proofs.printing.push_first.Goals as goal
 
 pub returns-in_err-push_first_of-clause-no_memory : goal.returns-in_err-push_first_of-clause-no_memory
 returns-in_err-push_first_of-clause-no_memory c =
-    on_err _ _ (front_in_range (first_text c.args.sc.now) _ _ _ _ _ (omega arith) c.loop-c.invariant c.in_err-push_first_of.ensures.no_memory)
+    at_refusal _ _ (front_in_range (first_text c.args.sc.now) _ _ _ _ _ (omega arith) c.loop-c.invariant c.in_err-push_first_of.ensures.no_memory)
 
 pub loop-c-preserved : goal.loop-c-preserved
 loop-c-preserved c = one_in_range (first_text c.args.sc.now) _ _ _ _ c.loop-c.invariant c.in_ok-push_first_of.ensures.ok

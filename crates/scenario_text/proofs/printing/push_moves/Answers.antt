@@ -6,20 +6,21 @@ use Rattle.search_grid.specs.Moves.{moves_from}
 use Rattle.search_model.specs.Problem.{cell_name}
 use Rattle.exact_parts.specs.Appending.{AppendsFront}
 use Rattle.scenario_text.specs.Printing.{name_text}
-use Rattle.scenario_text.proofs.Appending.{on_err, front_of_three-first, front_of_three-second, front_of_three-third, three_appended}
+use Rattle.scenario_text.proofs.Appending.{front_of_three-first, front_of_three-second, front_of_three-third, three_appended}
+use Rattle.exact_parts.proofs.AppendLemmas.{at_refusal}
 use Rattle.scenario_text.proofs.Printed.{moves_text-pieces}
 use Rattle.scenario_text.proofs.printing.push_moves.Goals as goal
 
 pub returns-in_err-push_all-clause-no_memory : goal.returns-in_err-push_all-clause-no_memory
 returns-in_err-push_all-clause-no_memory c =
     let h : AppendsFront c.args.out.now.items c.push_all.new.out.items (codes "moves " ++ (cell_name c.args.sc.now c.args.q ++ [])) = search rules in
-    on_err _ _ (front_of_three-first _ _ (moves_text-pieces c.args.sc.now c.args.q) h)
+    at_refusal _ _ (front_of_three-first _ _ (moves_text-pieces c.args.sc.now c.args.q) h)
 
 pub returns-in_err-push_names-clause-no_memory : goal.returns-in_err-push_names-clause-no_memory
 returns-in_err-push_names-clause-no_memory c =
     let e : c.push_all.new.out.items ≡ c.args.out.now.items ++ (codes "moves " ++ (cell_name c.args.sc.now c.args.q ++ [])) = search rules in
     let h : AppendsFront c.push_all.new.out.items c.push_names.new.out.items (flat_map (name_text c.args.sc.now) (moves_from c.args.sc.now.moves c.args.q)) = search rules in
-    on_err _ _ (front_of_three-second _ _ _ (moves_text-pieces c.args.sc.now c.args.q) e h)
+    at_refusal _ _ (front_of_three-second _ _ _ (moves_text-pieces c.args.sc.now c.args.q) e h)
 
 pub returns-clause-ok : goal.returns-clause-ok
 returns-clause-ok c =

@@ -1,5 +1,5 @@
 use Rattle.std.proofs.Common.{sym, ◌∙◌, rules}
-use Rattle.scenario_text.specs.Lines.{lines_of}
+use Rattle.text_rows.specs.Lines.{lines_of}
 use Rattle.scenario_text.proofs.Loop.{said_here}
 use Rattle.scenario_text.proofs.reading.first_said.Goals as goal
 

@@ -1,5 +1,5 @@
 use Rattle.std.proofs.Common.{◌≡◌, ◌+◌, ◌≤◌, length}
-use Rattle.scenario_text.specs.Lines.{lines_of}
+use Rattle.text_rows.specs.Lines.{lines_of}
 use Rattle.scenario_text.specs.Reading.{first_said}
 use Rattle.scenario_text.proofs.reading.first_said.Given as goal
 

@@ -1,9 +1,10 @@
 use Rattle.std.proofs.Common.{◌∙◌, sym, ap, arith, subst, true≢false}
-use Rattle.scenario_text.specs.Lines.{lines_of}
+use Rattle.text_rows.specs.Lines.{lines_of}
+use Rattle.text_rows.proofs.LineCuts.{after_none, after_next}
 use Rattle.scenario_text.specs.State.{State, state_of}
 use Rattle.scenario_text.specs.Sound.{IsSound}
 use Rattle.scenario_text.specs.Reading.{lines_at}
-use Rattle.scenario_text.proofs.Loop.{at_stop, at_line, at_last, after_none, after_next, after_going_on}
+use Rattle.scenario_text.proofs.Loop.{at_stop, at_line, at_last, after_going_on}
 use Rattle.scenario_text.proofs.Soundness.{blank_sound, line_sound}
 use Rattle.scenario_text.proofs.reading.read_draft.Goals as goal
 

@@ -1,5 +1,5 @@
 use Rattle.std.proofs.Common.{◌≡◌, ◌+◌, ◌-◌, ◌≤◌, length}
-use Rattle.scenario_text.specs.Lines.{lines_of, after_lines}
+use Rattle.text_rows.specs.Lines.{lines_of, after_lines}
 use Rattle.scenario_text.specs.State.{state_of, blank_state}
 use Rattle.scenario_text.specs.Sound.{IsSound}
 use Rattle.scenario_text.specs.Reading.{lines_at}

@@ -1,6 +1,7 @@
 use Rattle.std.proofs.Common.{◌≡◌, Ok, Err, refl, arith}
 use Rattle.std.proofs.lemmas.Grind.{common_steps}
-use Rattle.scenario_text.proofs.FrontLines.{front_ended, after_short, IsFront-read}
+use Rattle.text_rows.proofs.LineCuts.{after_short}
+use Rattle.scenario_text.proofs.FrontLines.{front_ended, IsFront-read}
 use Rattle.scenario_text.proofs.Answered.{stop_front, front_spelled, front_first, front_faulty, front_never_rest}
 use Rattle.scenario_text.proofs.scenarios.read_scenario.Goals as goal
 

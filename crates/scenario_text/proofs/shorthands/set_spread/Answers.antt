@@ -1,5 +1,5 @@
 use Rattle.std.proofs.Common.{rules}
-use Rattle.scenario_text.proofs.Columns.{list_any-map}
+use Rattle.list_laws.proofs.Mapped.{list_any-map}
 use Rattle.scenario_text.proofs.shorthands.set_spread.Goals as goal
 
 pub returns-then-any_parts : goal.returns-then-any_parts

@@ -1,5 +1,5 @@
 use Rattle.std.proofs.Common.{rules}
-use Rattle.scenario_text.proofs.Columns.{list_any-map}
+use Rattle.list_laws.proofs.Mapped.{list_any-map}
 use Rattle.scenario_text.proofs.taking_line.lacks_row.Goals as goal
 
 pub returns-then-any_no_parts : goal.returns-then-any_no_parts

@@ -1,5 +1,5 @@
 use Rattle.std.proofs.Common.{map}
-use Rattle.scenario_text.specs.Lines.{fields_of}
+use Rattle.text_rows.specs.Fields.{fields_of}
 use Rattle.scenario_text.specs.State.{state_of}
 use Rattle.scenario_text.proofs.FirstFields.{at_version, at_horizon, at_parts, at_cells, at_start}
 use Rattle.scenario_text.proofs.taking_line.take_fields.Goals as goal

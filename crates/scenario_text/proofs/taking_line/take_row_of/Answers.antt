@@ -1,5 +1,5 @@
 use Rattle.std.proofs.Common.{◌≡◌, ◌∷◌, sym, map, subst, rules}
-use Rattle.scenario_text.specs.Lines.{fields_of}
+use Rattle.text_rows.specs.Fields.{fields_of}
 use Rattle.scenario_text.specs.Gives.{TakesLine}
 use Rattle.scenario_text.specs.State.{state_of}
 use Rattle.scenario_text.specs.Reading.{row_line, moves_line, overlook_line, spread_line, rate_line, end_line}

@@ -1,5 +1,5 @@
 use Rattle.std.proofs.Common.{ℕ, List, ap, ◌∙◌}
-use Rattle.tree_format.specs.Pieces.{fields_of}
+use Rattle.text_rows.specs.Fields.{exact_fields}
 use Rattle.tree_format.specs.Reading.{line_at}
 use Rattle.tree_format.proofs.LineNumbers.{said_numbered}
 use Rattle.tree_format.proofs.Summaries.{summary_decides}
@@ -9,7 +9,7 @@ pub returns-clause-said : goal.returns-clause-said
 returns-clause-said c =
     let sc = c.args.sc.now in
     let stage = c.args.stage in
-    c.read_line.ensures ∙ ap (line_at sc stage) c.first_fields-fields.ensures.value ∙ summary_decides sc stage _ c.cells-cells.ensures.sound ∙ ap (λ (t : List ℕ). line_at sc stage (fields_of t)) c.text.ensures
+    c.read_line.ensures ∙ ap (line_at sc stage) c.first_fields-fields.ensures.value ∙ summary_decides sc stage _ c.cells-cells.ensures.sound ∙ ap (λ (t : List ℕ). line_at sc stage (exact_fields t)) c.text.ensures
 
 pub returns-clause-numbered : goal.returns-clause-numbered
 returns-clause-numbered c = said_numbered c.args.sc.now c.cells-cells.ensures.sound c.args.stage _ c.read_line.result c.read_line.ensures

@@ -1,5 +1,5 @@
 use Rattle.std.proofs.Common.{[], sym, arith}
-use Rattle.tree_format.proofs.FieldSteps.{position-none}
+use Rattle.list_laws.proofs.Firsts.{position-none}
 use Rattle.tree_format.proofs.fields.position_named.Goals as goal
 
 pub returns : goal.returns

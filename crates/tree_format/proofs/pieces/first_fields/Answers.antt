@@ -1,6 +1,6 @@
 use Rattle.std.proofs.Common.{arith, ◌∙◌}
 use Rattle.std.proofs.lemmas.List.{length-set}
-use Rattle.tree_format.specs.Pieces.{fields_of}
+use Rattle.text_rows.specs.Fields.{exact_fields}
 use Rattle.tree_format.proofs.FirstFields.{field_added}
 use Rattle.tree_format.proofs.pieces.first_fields.Goals as goal
 
@@ -10,7 +10,7 @@ loop-fields-preserved c =
     let n = c.loop-fields.fields.len in
     let b = c.front-in-loop-fields.result in
     record {
-      so_far = field_added items n b (fields_of c.loop-fields.rest.now) (fields_of c.in-Some.after.now) _ c.in-Some.field.now c.loop-fields-test.true c.loop-fields.invariant.room c.front-in-loop-fields.ensures c.in-Some.ensures.found c.loop-fields.invariant.so_far;
+      so_far = field_added items n b (exact_fields c.loop-fields.rest.now) (exact_fields c.in-Some.after.now) _ c.in-Some.field.now c.loop-fields-test.true c.loop-fields.invariant.room c.front-in-loop-fields.ensures c.in-Some.ensures.pieces c.loop-fields.invariant.so_far;
       few = omega (arith, c.loop-fields-test.true);
       room = length-set items n b ∙ c.loop-fields.invariant.room;
     }

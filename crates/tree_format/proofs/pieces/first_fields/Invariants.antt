@@ -1,10 +1,10 @@
 use Rattle.std.proofs.Common.{◌≡◌, ◌-◌, ◌≤◌, ◌++◌, map, take, length}
-use Rattle.tree_format.specs.Pieces.{fields_of}
+use Rattle.text_rows.specs.Fields.{exact_fields}
 use Rattle.tree_format.proofs.pieces.first_fields.Given as goal
 
 abbrev pub invariant-loop-fields : goal.invariant-loop-fields
 invariant-loop-fields l = record {
-  so_far : map (λ f. f.now) (take l.fields.len l.fields.items) ++ map (λ f. take 40 f) (take (70 - l.fields.len) (fields_of l.rest)) ≡ map (λ f. take 40 f) (take 70 (fields_of l.line));
+  so_far : map (λ f. f.now) (take l.fields.len l.fields.items) ++ map (λ f. take 40 f) (take (70 - l.fields.len) (exact_fields l.rest)) ≡ map (λ f. take 40 f) (take 70 (exact_fields l.line));
   few : l.fields.len ≤ 70;
   room : length l.fields.items ≡ 70;
 }

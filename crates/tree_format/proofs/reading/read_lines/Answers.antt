@@ -10,13 +10,13 @@ returns-in_err-take_line c =
     let is : c.from_residual.result ≡ Err stop = grind (arith, common_steps, c.from_residual.ensures.0, c.from_residual.ensures.1) in
     let old = c.lines.draft in
     let goes = goes_on c.is_ended.result old.stage c.is_ended.ensures.1 c.lines-test.true in
-    rw is (at_stop c.args.sc.now c.lines.number old.stage (plan_of old) old c.take_line.new.draft stop c.lines.rest.now c.in-Some.line.now c.in-Some.after.now _ goes c.in-Some.ensures.found c.in_err-take_line.ensures c.lines.invariant.so_far)
+    rw is (at_stop c.args.sc.now c.lines.number old.stage (plan_of old) old c.take_line.new.draft stop c.lines.rest.now c.in-Some.line.now c.in-Some.after.now _ goes c.in-Some.ensures.pieces c.in_err-take_line.ensures c.lines.invariant.so_far)
 
 pub lines-preserved : goal.lines-preserved
 lines-preserved c =
     let old = c.lines.draft in
     let goes = goes_on c.is_ended.result old.stage c.is_ended.ensures.1 c.lines-test.true in
     record {
-      so_far = at_added c.args.sc.now c.lines.number old c.take_line.new.draft c.lines.rest.now c.in-Some.line.now c.in-Some.after.now _ goes c.in-Some.ensures.found c.in_ok-take_line.ensures c.lines.invariant.so_far;
+      so_far = at_added c.args.sc.now c.lines.number old c.take_line.new.draft c.lines.rest.now c.in-Some.line.now c.in-Some.after.now _ goes c.in-Some.ensures.pieces c.in_ok-take_line.ensures c.lines.invariant.so_far;
       short = omega (arith, c.in-Some.ensures.shorter, c.lines.invariant.short);
     }

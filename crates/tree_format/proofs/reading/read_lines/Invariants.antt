@@ -1,5 +1,5 @@
 use Rattle.std.proofs.Common.{◌≡◌, ◌+◌, ◌≤◌, length}
-use Rattle.tree_format.specs.Pieces.{pieces_of}
+use Rattle.text_rows.specs.Lines.{pieces_of}
 use Rattle.tree_format.specs.Gives.{plan_of}
 use Rattle.tree_format.specs.Reading.{pieces_at, plan_at}
 use Rattle.tree_format.proofs.reading.read_lines.Given as goal

@@ -1,9 +1,9 @@
 use Rattle.std.proofs.Common.{◌≡◌, ◌++◌, ◌∷◌, [], ◌∙◌, ap, sym, subst, List, ℕ}
 use Rattle.std.proofs.lemmas.List.Elements.{All-more}
 use Rattle.exact_parts.specs.Appending.{AppendsFront}
-use Rattle.exact_parts.specs.Rows.{text_of}
+use Rattle.text_rows.specs.Rows.{text_of}
+use Rattle.text_rows.proofs.RowLemmas.{stands_at_row, text_of-more}
 use Rattle.exact_parts.proofs.AppendLemmas.{stands_stopped, then_more, at_refusal}
-use Rattle.exact_parts.proofs.RowLemmas.{stands_at_row, text_of-more}
 use Rattle.bound_tree.specs.declared.node.TreeNode.{TreeNode}
 use Rattle.tree_format.specs.PlanText.{record_row, IsNarrowKind}
 use Rattle.tree_format.proofs.records.push_records.Goals as goal

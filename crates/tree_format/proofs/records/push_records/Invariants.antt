@@ -1,6 +1,6 @@
 use Rattle.std.proofs.Common.{◌≡◌, ◌++◌, take, map}
 use Rattle.std.specs.Prelude.{All}
-use Rattle.exact_parts.specs.Rows.{text_of}
+use Rattle.text_rows.specs.Rows.{text_of}
 use Rattle.tree_format.specs.PlanText.{record_row, IsNarrowKind}
 use Rattle.tree_format.proofs.records.push_records.Given as goal
 

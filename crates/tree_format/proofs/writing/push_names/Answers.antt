@@ -1,7 +1,7 @@
 use Rattle.std.proofs.Common.{◌≡◌, ◌∷◌, List, ℕ, get_or, ◌∙◌, subst}
 use Rattle.exact_parts.specs.Appending.{AppendsFront}
 use Rattle.exact_parts.proofs.AppendLemmas.{stands_stopped, at_refusal}
-use Rattle.exact_parts.proofs.RowLemmas.{stands_at_field}
+use Rattle.text_rows.proofs.RowLemmas.{stands_at_field}
 use Rattle.search_model.specs.Problem.{position_name}
 use Rattle.tree_format.proofs.writing.push_names.Goals as goal
 

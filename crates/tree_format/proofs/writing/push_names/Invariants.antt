@@ -1,5 +1,5 @@
 use Rattle.std.proofs.Common.{◌≡◌, ◌++◌, take, map}
-use Rattle.exact_parts.specs.Rows.{spaced}
+use Rattle.text_rows.specs.Rows.{spaced}
 use Rattle.search_model.specs.Problem.{position_name}
 use Rattle.tree_format.proofs.writing.push_names.Given as goal
 

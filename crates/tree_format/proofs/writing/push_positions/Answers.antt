@@ -1,6 +1,6 @@
 use Rattle.std.specs.Fmt.{decimal}
 use Rattle.exact_parts.proofs.AppendLemmas.{stands_stopped, at_refusal}
-use Rattle.exact_parts.proofs.RowLemmas.{stands_at_field}
+use Rattle.text_rows.proofs.RowLemmas.{stands_at_field}
 use Rattle.tree_format.proofs.writing.push_positions.Goals as goal
 
 pub returns-in_err-push_number-clause-err : goal.returns-in_err-push_number-clause-err

@@ -1,5 +1,5 @@
 use Rattle.std.proofs.Common.{◌≡◌, ◌++◌, take}
-use Rattle.exact_parts.specs.Rows.{spaced}
+use Rattle.text_rows.specs.Rows.{spaced}
 use Rattle.tree_format.specs.PlanText.{numbers}
 use Rattle.tree_format.proofs.writing.push_positions.Given as goal
 

@@ -1,34 +1,12 @@
-//! Text as lines, and a line as fields.
+//! A line as fields, between which any number of blanks stands.
 
-ghost use Rattle.std.specs.Prelude.{◌≡◌, true, false, [], ◌∷◌, ◌<◌, ◌≤◌, drop, take, map, length, IfOk, All};
-ghost use Rattle.scenario_text.specs.Lines.{lines_of, after_lines, is_blank as is_blank_lem, ends_field, fields_of as fields_lem};
+ghost use Rattle.std.specs.Prelude.{◌≡◌, true, false, ◌∷◌, [], ◌<◌, ◌≤◌, drop, take, map, length, IfOk, All};
+ghost use Rattle.text_rows.specs.Fields.{is_blank as is_blank_lem, ends_field, fields_of as fields_lem};
 
+use crate::lines::rest_from;
 use std::alloc::{AllocError, Global};
 
-/// What follows the first `at` bytes.
-fn rest_from(text: &[u8], at: usize) -> &[u8]
-    requires { at ≤ length text.now }
-    ensures { result.now ≡ drop at text.now }
-{
-    &text[at..]
-}
-
-/// The first line, and what follows its line feed.
-#[tactic(auto, using(crate::proofs::Cuts::cut_steps))]
-pub fn cut_line(text: &[u8]) -> (&[u8], &[u8])
-    requires { 0 < length text.now }
-    ensures lines { lines_of text.now ≡ result.0.now ∷ lines_of result.1.now }
-    ensures rest { result.1.now ≡ after_lines 1 text.now }
-    ensures shorter { length result.1.now < length text.now }
-{
-    for (i, c) in text.iter().enumerate() {
-        if *c == b'\n' {
-            return (&text[..i], rest_from(text, i + 1));
-        }
-    }
-    (text, rest_from(text, text.len()))
-}
-
+/// A blank, a tab or a carriage return.
 pub fn is_blank(c: u8) -> bool
     ensures { result ≡ is_blank_lem c }
 {
@@ -36,7 +14,7 @@ pub fn is_blank(c: u8) -> bool
 }
 
 /// What follows the blanks at the front.
-#[tactic(auto, using(crate::proofs::Words::skip_steps))]
+#[tactic(auto, using(crate::proofs::FieldCuts::skip_steps))]
 pub fn skip_blanks(line: &[u8]) -> &[u8]
     ensures fields { fields_lem line.now ≡ fields_lem result.now }
     ensures starts { ends_field result.now ≡ true → result.now ≡ [] }
@@ -51,7 +29,7 @@ pub fn skip_blanks(line: &[u8]) -> &[u8]
 }
 
 /// The field at the front, and what follows it.
-#[tactic(auto, using(crate::proofs::Words::word_steps))]
+#[tactic(auto, using(crate::proofs::FieldCuts::word_steps))]
 pub fn cut_field(line: &[u8]) -> (&[u8], &[u8])
     requires { ends_field line.now ≡ false }
     ensures fields { fields_lem line.now ≡ result.0.now ∷ fields_lem result.1.now }
@@ -66,7 +44,7 @@ pub fn cut_field(line: &[u8]) -> (&[u8], &[u8])
 }
 
 /// The first fields of a line, so many at most.
-#[tactic(auto, using(crate::proofs::Words::field_steps))]
+#[tactic(auto, using(crate::proofs::FieldCuts::field_steps))]
 pub fn first_fields(alloc: Global, line: &[u8], most: usize) -> Result<Vec<&[u8]>, AllocError>
     ensures value { IfOk result (λ v. map (λ f. f.now) v.items ≡ take most (fields_lem line.now)) }
     ensures some { IfOk result (λ v. All (λ f. 1 ≤ length f.now) v.items) }

@@ -1,6 +1,8 @@
--- The first field of a line.
+-- The fields of a line, cut off one after the other.
 use Rattle.std.proofs.Common.{◌≡◌, ℕ, zero, suc, ◌≤◌, ◌<◌, Bool, true, false, cond, List, [], ◌∷◌, ◌++◌, length, get_or, take, drop, refl, sym, ap, ◌∙◌, arith, map, Bor, subst}
-use Rattle.scenario_text.specs.Lines.{onto_first, is_blank, ends_field, fields_of}
+use Rattle.std.specs.List.{onto_first}
+use Rattle.std.proofs.lemmas.Bool.{false_from_ne_true}
+use Rattle.text_rows.specs.Fields.{is_blank, ends_field, fields_of}
 use Rattle.std.proofs.lemmas.List.{drop_all, append-nil, length-map}
 use Rattle.std.proofs.Math.ListN.{get_or-map}
 use Rattle.std.specs.Prelude.{All}
@@ -14,9 +16,9 @@ skip_more line zero le blanks = refl
 skip_more [] (suc i) le blanks = absurd (omega arith)
 skip_more (c ∷ cs) (suc i) le blanks = rw (blanks 0 (omega arith)) (skip_more cs i (omega arith) (λ k lt. blanks (suc k) (omega arith)))
 
-nothing : fields_of [] ≡ []
+pub fields_of-nil : fields_of [] ≡ []
 unfolding fields_of
-nothing = refl
+fields_of-nil = refl
 
 pub skip_to : (line : List ℕ) (i : ℕ) → i < length line → ((k : ℕ) → k < i → is_blank (get_or line k 0) ≡ true) → fields_of line ≡ fields_of (drop i line)
 skip_to line i lt blanks = skip_more line i (omega arith) blanks
@@ -64,20 +66,16 @@ word_all (c ∷ cs) starts word =
     let one = word_more (c ∷ cs) (length cs) (omega arith) word (ap ends_field gone) in
     rw whole at one
 
-test_false : (b : Bool) → (b ≡ true → ⊥) → b ≡ false
-test_false true h = absurd (h refl)
-test_false false h = refl
-
 -- what is not at its end starts a field
 pub starts_field : (line : List ℕ) → (ends_field line ≡ true → line ≡ []) → 0 < length line → ends_field line ≡ false
-starts_field line h long = test_false (ends_field line) (λ e. absurd (let none : length line ≡ 0 = ap length (h e) in omega arith))
+starts_field line h long = false_from_ne_true (ends_field line) (λ e. absurd (let none : length line ≡ 0 = ap length (h e) in omega arith))
 
 pub ruleset skip_steps = (skip_to, skip_all, starts_at)
 
 pub ruleset word_steps = (word_to, word_all, field_goes_on, field_is_some)
 
 pub fields_gone : (rest : List ℕ) → length rest ≡ 0 → fields_of rest ≡ []
-fields_gone [] e = nothing
+fields_gone [] e = fields_of-nil
 fields_gone (c ∷ cs) e = absurd (omega arith)
 
 pub fields_done : (done : List (List ℕ)) (rest : List ℕ) (fs : List (List ℕ)) → length rest ≡ 0 → done ++ fields_of rest ≡ fs → done ≡ fs

@@ -5,7 +5,7 @@ use Rattle.std.proofs.lemmas.List.{append-nil, map-append, take-append-drop}
 use Rattle.std.proofs.Math.Seq.{take-suc}
 use Rattle.std.proofs.lemmas.List.Concat.{flat_map-append}
 use Rattle.exact_parts.proofs.AppendLemmas.{Stands}
-use Rattle.exact_parts.specs.Rows.{text_of, spaced}
+use Rattle.text_rows.specs.Rows.{text_of, spaced}
 
 -- a row begins with its first field, and each other field has a blank before it
 pub join-fields : (f : List ℕ) (fs : List (List ℕ)) → join_with_byte 32 (f ∷ fs) ≡ f ++ spaced fs

@@ -1,9 +1,9 @@
 use Rattle.std.proofs.Common.{◌≡◌, map, length, Bor, List, ℕ, arith, sym, ◌∙◌}
 use Rattle.std.proofs.lemmas.List.{length-map}
 use Rattle.std.proofs.lemmas.Bool.{eqb-true}
-use Rattle.scenario_text.proofs.Words.{first_all, first_most, mapped_some}
-use Rattle.scenario_text.proofs.lines.first_fields.Goals.{then-loop-fields-test+else-len-most, else-loop-fields-test}
-use Rattle.scenario_text.proofs.lines.first_fields.Goals as goal
+use Rattle.text_rows.proofs.FieldCuts.{first_all, first_most, mapped_some}
+use Rattle.text_rows.proofs.fields.first_fields.Goals.{then-loop-fields-test+else-len-most, else-loop-fields-test}
+use Rattle.text_rows.proofs.fields.first_fields.Goals as goal
 
 pub returns-clause-value : goal.returns-clause-value
 returns-clause-value c =

@@ -1,0 +1,6 @@
+pub mod RowLemmas
+pub mod Splits
+pub mod LineCuts
+pub mod FieldCuts
+pub mod RowTexts
+pub mod Results

@@ -1,0 +1,10 @@
+//! Text as lines and fields, which texts of scenarios, plans and reports share.
+#![tactic(auto)]
+
+mod fields;
+mod lines;
+#[cfg(test)]
+mod tests;
+
+pub use fields::{after_field, cut_field, first_fields, is_blank, skip_blanks};
+pub use lines::{cut, cut_line};
