@@ -1,9 +1,13 @@
 pub mod Ascending
+pub mod Changed
+pub mod Exchanges
 pub mod Firsts
 pub mod Halves
 pub mod Mapped
+pub mod Matched
 pub mod Members
 pub mod Pairs
 pub mod Parts
 pub mod Ranges
 pub mod Sums
+pub mod Wholes
