@@ -1,11 +1,10 @@
 -- The passes of all seats, joined, know the whole history.
-use Rattle.std.proofs.Common.{◌≡◌, ℕ, ◌<◌, false, List, [], ◌∷◌, ◌++◌, length, drop, sym, refl, ap, ◌∙◌, subst, append_assoc, arith, All, Contains, IsPermutation}
+use Rattle.std.proofs.Common.{◌≡◌, ℕ, ◌<◌, false, List, [], ◌∷◌, ◌++◌, length, drop, get_or, sym, refl, ap, ◌∙◌, subst, append_assoc, arith, All, Contains, IsPermutation}
 use Rattle.std.specs.List.{flat_map}
 use Rattle.std.proofs.lemmas.List.{append-nil}
 use Rattle.std.proofs.lemmas.List.Sums.{sum_by-append, sum_by-cons}
 use Rattle.std.proofs.lemmas.List.Elements.{All-nil, All-cons, All-append, All-head, All-tail}
 use Rattle.std.proofs.lemmas.List.Sorted.{IsPermutation-trans, IsPermutation-append_right, IsPermutation-append_comm, Contains-permutation}
-use Rattle.std.proofs.lemmas.Grind.{flat_map-append}
 use mathlib.Core.List.{IsPrefix}
 use Rattle.atomic_table.specs.Seated.{TableId}
 use Rattle.search_model.specs.declared.standing.Standing.{Standing}
@@ -18,15 +17,14 @@ use Rattle.incumbent_board.specs.Words.{told_by}
 use Rattle.incumbent_board.specs.Boards.{BoardView, SeatView, offers_of, AreAllSeats, EndsWith}
 use Rattle.incumbent_board.specs.Rule.{ALL, cell_of, Closes, joined}
 use Rattle.incumbent_board.specs.Joins.{IsOfSeat, Gathers}
-use Rattle.incumbent_board.proofs.Views.{same_items}
 use Rattle.incumbent_board.proofs.Histories.{first_seen, some_seen}
 use Rattle.incumbent_board.proofs.Shown.{told_last}
+use Rattle.list_laws.proofs.Changed.{flat_map-push}
+use Rattle.list_laws.proofs.Exchanges.{IsPermutation-same}
 use Rattle.list_laws.proofs.Halves.{All-front, All-back}
+use Rattle.list_laws.proofs.Wholes.{All-joined, All-parts}
 
-module _ {X A : Type 0} where
-  flat_map_last : (f : X → List A) (xs : List X) (x : X) → flat_map f (xs ++ x ∷ []) ≡ flat_map f xs ++ f x
-  flat_map_last f xs x = flat_map-append f xs (x ∷ []) ∙ ap (λ (l : List A). flat_map f xs ++ l) (append-nil (f x))
-
+-- no seat
 pub joins_none : (v : Sight) → Gathers v [] v
 joins_none v = record {
   seats = omega arith;
@@ -54,7 +52,7 @@ joins_more v w u done s k is = record {
   where
     longer_list : (f : SeatView → List Standing) (a b c : List Standing) → b ≡ a ++ flat_map f done → c ≡ f s → b ++ c ≡ a ++ flat_map f (done ++ s ∷ [])
     longer_list f a b c e g =
-        ap (λ (l : List Standing). l ++ c) e ∙ append_assoc a (flat_map f done) c ∙ ap (λ (l : List Standing). a ++ (flat_map f done ++ l)) g ∙ ap (λ (l : List Standing). a ++ l) (sym (flat_map_last f done s))
+        ap (λ (l : List Standing). l ++ c) e ∙ append_assoc a (flat_map f done) c ∙ ap (λ (l : List Standing). a ++ (flat_map f done ++ l)) g ∙ ap (λ (l : List Standing). a ++ l) (sym (flat_map-push f done s))
 
 -- no earlier standing is better than the last
 first_not_better : (a : Standing) (later : List Standing) → Rises a later → better a (last_from a later) ≡ false
@@ -67,13 +65,9 @@ last_there a (b ∷ later) = Contains-tail a (last_from b later) (b ∷ later) (
 
 -- offers are placed or behind
 all_offers : (P : Standing → Type 0) (seats : List SeatView) → All P (flat_map (λ s. s.placed) seats) → All P (flat_map (λ s. s.behind) seats) → All P (flat_map (λ s. offers_of s) seats)
-all_offers P [] placed behind = All-nil P
-all_offers P (s ∷ seats) placed behind =
-    let later = flat_map (λ (y : SeatView). y.placed) seats in
-    let others = flat_map (λ (y : SeatView). y.behind) seats in
-    All-append P (s.placed ++ s.behind) (flat_map (λ y. offers_of y) seats)
-    (All-append P s.placed s.behind (All-front P s.placed later placed) (All-front P s.behind others behind))
-    (all_offers P seats (All-back P s.placed later placed) (All-back P s.behind others behind))
+all_offers P seats placed behind = All-joined P (λ s. offers_of s) seats (λ k d here.
+    let s = get_or seats k d in
+    All-append P s.placed s.behind (All-parts P (λ (s : SeatView). s.placed) seats placed k d here) (All-parts P (λ (s : SeatView). s.behind) seats behind k d here))
 
 -- what the last load of a pass that knows what all seats know tells
 pub record Ended (b : BoardView) (seats : List SeatView) (answer : Standing) : Type 0 where
@@ -89,7 +83,7 @@ cut_first (a ∷ later) begun = refl
 all_of_both : (P : Standing → Type 0) (f : SeatView → List Standing) (rest : List SeatView) (one : SeatView) (a c all : List Standing) → all ≡ c → c ≡ a ++ flat_map f rest → a ≡ f one → All P all → All P (flat_map f (rest ++ one ∷ []))
 all_of_both P f rest one a c all same e g each =
     let both : All P (a ++ flat_map f rest) = subst (All P) (same ∙ e) each in
-    subst (All P) (sym (flat_map_last f rest one)) (All-append P (flat_map f rest) (f one) (All-back P a (flat_map f rest) both) (subst (All P) g (All-front P a (flat_map f rest) both)))
+    subst (All P) (sym (flat_map-push f rest one)) (All-append P (flat_map f rest) (f one) (All-back P a (flat_map f rest) both) (subst (All P) g (All-front P a (flat_map f rest) both)))
 
 -- the joined pass stands for all seats
 sum_is : (b : BoardView) (rest : List SeatView) (one : SeatView) (v w : Sight) → AreAllSeats b (rest ++ one ∷ []) → IsOfSeat one v → Gathers v rest w → w.seats ≡ ALL
@@ -101,7 +95,7 @@ own_placed rest one v w later is k own =
     let f : SeatView → List Standing = λ y. y.placed in
     IsPermutation-trans _ _ _ (subst (IsPermutation later) k.placed own)
     (IsPermutation-trans _ _ _ (IsPermutation-append_comm v.placed (flat_map f rest))
-    (same_items _ _ (ap (λ (l : List Standing). flat_map f rest ++ l) is.placed ∙ sym (flat_map_last f rest one))))
+    (IsPermutation-same _ _ (ap (λ (l : List Standing). flat_map f rest ++ l) is.placed ∙ sym (flat_map-push f rest one))))
 
 pub ended : (b : BoardView) (rest : List SeatView) (one : SeatView) (v w u : Sight) (words : List ℕ) → AreAllSeats b (rest ++ one ∷ []) → IsOfSeat one v → Gathers v rest w → Closes w words words u → Ended b (rest ++ one ∷ []) (told_by b.first words)
 ended b rest one v w u words all is k (s, placed) =

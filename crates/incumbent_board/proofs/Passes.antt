@@ -17,9 +17,11 @@ use Rattle.incumbent_board.specs.declared.sight.Sight.{Sight}
 use Rattle.incumbent_board.specs.History.{last_of}
 use Rattle.incumbent_board.specs.Words.{blank}
 use Rattle.incumbent_board.specs.Rule.{ALL, sight, spent, cell_of, FitsWords, Knows, IsKept, Closes, joined}
-use Rattle.incumbent_board.proofs.Views.{set_there, sum_set, sum_else, Each, each_set, each_push, lists_same, lists_push, lists_moved, lists_handed, lists_one, same_items}
+use Rattle.incumbent_board.proofs.Views.{Each, each_set, each_push}
 use Rattle.incumbent_board.proofs.Histories.{prefix_self, prefix_none, longer_prefix, longer_whole}
 use Rattle.incumbent_board.proofs.Steps.{sees}
+use Rattle.list_laws.proofs.Changed.{set_there, sum_by-set_at, sum_by-else, flat_map-push, flat_map-beside, flat_map-out, flat_map-moved, flat_map-one}
+use Rattle.list_laws.proofs.Exchanges.{IsPermutation-same}
 use Rattle.list_laws.proofs.Halves.{All-front, All-back}
 
 -- one number is another, or it differs
@@ -72,12 +74,12 @@ knows_seen history seen n p some_seat = record {
 -- beside a pass that stands for all seats the others know nothing
 others_spent : (x : List ℕ) (views : List Sight) (port : ℕ) (v : Sight) → (h : IsKept x views) → get_elem? views port ≡ some v → v.seats ≡ ALL → (other : ℕ) (u : Sight) → get_elem? views other ≡ some u → other ≢ port → u ≡ spent
 others_spent x views port v h at whole other u there differ =
-    (h.each other u there).none (sum_else (λ (y : Sight). y.seats) views port other v u spent refl at there differ (h.all ∙ sym whole))
+    (h.each other u there).none (sum_by-else (λ (y : Sight). y.seats) views port other v u at there differ (h.all ∙ sym whole))
 
 -- all that was placed is what that pass placed
 all_placed : (x : List ℕ) (views : List Sight) (port : ℕ) (v : Sight) → (h : IsKept x views) → get_elem? views port ≡ some v → v.seats ≡ ALL → IsPermutation (drop 1 h.history) v.placed
 all_placed x views port v h at whole =
-    subst (IsPermutation (drop 1 h.history)) (lists_one (λ (y : Sight). y.placed) views port v at (λ other u there differ. ap (λ (y : Sight). y.placed) (others_spent x views port v h at whole other u there differ))) h.placed
+    subst (IsPermutation (drop 1 h.history)) (flat_map-one (λ (y : Sight). y.placed) views port v at (λ other u there differ. ap (λ (y : Sight). y.placed) (others_spent x views port v h at whole other u there differ))) h.placed
 
 -- the cell is blank by a history with no later entries
 cell_alone : (history : List Standing) → drop 1 history ≡ [] → cell_of history ≡ blank
@@ -95,9 +97,8 @@ starts s port v new x views h at =
     nil_from_length (drop 1 h.history) (sym (length_permutation _ _ (all_placed x views port v h at whole)) ∙ ap (λ (y : Sight). length y.placed) new) in
     let unplaced : (u : Sight) → u ≡ spent → u.placed ≡ [] = λ u e. ap (λ (y : Sight). y.placed) e in
     let all_none : flat_map (λ (y : Sight). y.placed) (vs ++ w ∷ []) ≡ [] =
-    lists_push (λ (y : Sight). y.placed) vs w refl
-    ∙ lists_same (λ (y : Sight). y.placed) views port v spent at (sym (ap (λ (y : Sight). y.placed) new))
-    ∙ lists_one (λ (y : Sight). y.placed) views port v at (λ other u there differ. unplaced u (others_spent x views port v h at whole other u there differ))
+    flat_map-beside (λ (y : Sight). y.placed) views port v spent w at (sym (ap (λ (y : Sight). y.placed) new)) refl
+    ∙ flat_map-one (λ (y : Sight). y.placed) views port v at (λ other u there differ. unplaced u (others_spent x views port v h at whole other u there differ))
     ∙ ap (λ (y : Sight). y.placed) new in
     let known : Each (Knows (s ∷ [])) views = λ other u there.
     ⊎_elim (λ (e : other ≡ port). subst (Knows (s ∷ [])) (sym new ∙ sym (same_view views port other v u e at there)) (knows_seen (s ∷ []) [] ALL (prefix_none (s ∷ [])) (omega arith)))
@@ -107,9 +108,9 @@ starts s port v new x views h at =
       rises = tt;
       fits = All-nil (FitsWords s);
       cell = h.cell ∙ cell_alone h.history none;
-      all = omega (arith, whole, h.all, sum_set (λ (y : Sight). y.seats) views port v spent at, sum_by-append (λ (y : Sight). y.seats) vs (w ∷ []));
+      all = omega (arith, whole, h.all, sum_by-set_at (λ (y : Sight). y.seats) views port v spent at, sum_by-append (λ (y : Sight). y.seats) vs (w ∷ []));
       whole = (length vs, w, last_there vs w, refl);
-      placed = same_items [] (flat_map (λ (y : Sight). y.placed) (vs ++ w ∷ [])) (sym all_none);
+      placed = IsPermutation-same [] (flat_map (λ (y : Sight). y.placed) (vs ++ w ∷ [])) (sym all_none);
       each = each_push (Knows (s ∷ [])) vs w (knows_seen (s ∷ []) (s ∷ []) ALL (prefix_self (s ∷ [])) (omega arith)) (each_set (Knows (s ∷ [])) views port spent (knows_spent (s ∷ [])) known);
     }
 
@@ -125,9 +126,9 @@ deals port v two x views h at =
       rises = h.rises;
       fits = h.fits;
       cell = h.cell;
-      all = omega (arith, two, h.all, sum_set (λ (y : Sight). y.seats) views port v l at, sum_by-append (λ (y : Sight). y.seats) vs (r ∷ []));
+      all = omega (arith, two, h.all, sum_by-set_at (λ (y : Sight). y.seats) views port v l at, sum_by-append (λ (y : Sight). y.seats) vs (r ∷ []));
       whole = seen_push vs r h.history (seen_set views port v l h.history at refl h.whole);
-      placed = subst (IsPermutation (drop 1 h.history)) (sym (lists_push (λ (y : Sight). y.placed) vs r refl ∙ lists_same (λ (y : Sight). y.placed) views port v l at refl)) h.placed;
+      placed = subst (IsPermutation (drop 1 h.history)) (sym (flat_map-beside (λ (y : Sight). y.placed) views port v l r at refl refl)) h.placed;
       each = each_push (Knows h.history) vs r (knows_seen h.history v.seen 1 mine.seen (omega arith)) (each_set (Knows h.history) views port l (record {
         seen = mine.seen;
         told = mine.told;
@@ -145,9 +146,9 @@ cuts port v x views h at =
       rises = h.rises;
       fits = h.fits;
       cell = h.cell;
-      all = omega (arith, h.all, sum_set (λ (y : Sight). y.seats) views port v spent at, sum_by-append (λ (y : Sight). y.seats) vs (v ∷ []), sum_by-cons (λ (y : Sight). y.seats) v []);
+      all = omega (arith, h.all, sum_by-set_at (λ (y : Sight). y.seats) views port v spent at, sum_by-append (λ (y : Sight). y.seats) vs (v ∷ []), sum_by-cons (λ (y : Sight). y.seats) v []);
       whole = seen_handed views port v h.history at h.whole;
-      placed = IsPermutation-trans _ _ _ h.placed (lists_handed (λ (y : Sight). y.placed) views port v spent at refl);
+      placed = IsPermutation-trans _ _ _ h.placed (IsPermutation-trans _ _ _ (flat_map-out (λ (y : Sight). y.placed) views port v spent at refl) (IsPermutation-same _ _ (sym (flat_map-push (λ (y : Sight). y.placed) vs v))));
       each = each_push (Knows h.history) vs v (h.each port v at) (each_set (Knows h.history) views port spent (knows_spent h.history) h.each);
     }
 
@@ -184,9 +185,9 @@ merges port v other w some_seat x views h at differ there =
       rises = h.rises;
       fits = h.fits;
       cell = h.cell;
-      all = omega (arith, h.all, sum_set (λ (y : Sight). y.seats) views port v both at, sum_set (λ (y : Sight). y.seats) vs other w spent there);
+      all = omega (arith, h.all, sum_by-set_at (λ (y : Sight). y.seats) views port v both at, sum_by-set_at (λ (y : Sight). y.seats) vs other w spent there);
       whole = kept h.whole;
-      placed = IsPermutation-trans _ _ _ h.placed (lists_moved (λ (y : Sight). y.placed) views port other v w both spent differ at was refl refl);
+      placed = IsPermutation-trans _ _ _ h.placed (flat_map-moved (λ (y : Sight). y.placed) views port other v w both spent differ (set_else views other port spent (λ e. differ (sym e)) ∙ at) was refl refl);
       each = each_set (Knows h.history) vs other spent (knows_spent h.history) (each_set (Knows h.history) views port both (knows_joined h.history v w some_seat a b) h.each);
     }
 

@@ -15,8 +15,9 @@ use Rattle.incumbent_board.specs.declared.sight.Sight.{Sight}
 use Rattle.incumbent_board.specs.History.{first_of, last_of, Rises, NoneBetter}
 use Rattle.incumbent_board.specs.Words.{words_of, blank}
 use Rattle.incumbent_board.specs.Rule.{ALL, sight, cell_of, FitsWords, Knows, IsKept, Sees, Looks, behind_with, Weighs, Places, Tries}
-use Rattle.incumbent_board.proofs.Views.{set_there, sum_set, each_set, lists_set, lists_same}
+use Rattle.incumbent_board.proofs.Views.{each_set}
 use Rattle.incumbent_board.proofs.Histories.{prefix_self, prefix_none, prefix_more, last_push, first_push, later_push, cell_push, rises_push, first_seen, some_seen, none_better_on, last_seen}
+use Rattle.list_laws.proofs.Changed.{set_there, sum_by-set_at, flat_map-grown, flat_map-stays}
 use Rattle.list_laws.proofs.Halves.{All-front, All-back}
 
 -- the first view, which stands for all seats
@@ -50,9 +51,9 @@ sees port v x views behind some_seat h at best = let w = sight v.seats h.history
     rises = h.rises;
     fits = h.fits;
     cell = h.cell;
-    all = omega (arith, sum_set (λ (y : Sight). y.seats) views port v w at, h.all);
+    all = omega (arith, sum_by-set_at (λ (y : Sight). y.seats) views port v w at, h.all);
     whole = (port, w, set_there views port v w at, refl);
-    placed = subst (λ (l : List Standing). IsPermutation (drop 1 h.history) l) (sym (lists_same (λ (y : Sight). y.placed) views port v w at refl)) h.placed;
+    placed = subst (λ (l : List Standing). IsPermutation (drop 1 h.history) l) (sym (flat_map-stays (λ (y : Sight). y.placed) views port v w at refl)) h.placed;
     each = each_set (Knows h.history) views port w (record {
       seen = prefix_self h.history;
       told = (h.each port v at).told;
@@ -114,10 +115,10 @@ replaces s port v x views some_seat h at begun fits up =
         rises = rises;
         fits = rw (first, later) (All-append (FitsWords (first_of h.history)) (drop 1 h.history) (s ∷ []) h.fits (All-cons (FitsWords (first_of h.history)) s [] fits (All-nil (FitsWords (first_of h.history)))));
         cell = sym (cell_push h.history s begun);
-        all = omega (arith, sum_set (λ (y : Sight). y.seats) views port v w at, h.all);
+        all = omega (arith, sum_by-set_at (λ (y : Sight). y.seats) views port v w at, h.all);
         whole = (port, w, set_there views port v w at, refl);
         placed = subst (λ (l : List Standing). IsPermutation l (flat_map (λ (y : Sight). y.placed) (set views port w))) (sym later)
-            (IsPermutation-trans _ _ _ (IsPermutation-append_left (s ∷ []) _ _ h.placed) (lists_set (λ (y : Sight). y.placed) views port v w (s ∷ []) at refl));
+            (IsPermutation-trans _ _ _ (IsPermutation-append_left (s ∷ []) _ _ h.placed) (flat_map-grown (λ (y : Sight). y.placed) views port v w (s ∷ []) at refl));
         each = each_set (Knows all) views port w (record {
           seen = prefix_self all;
           told = λ k d below. prefix_more _ h.history (s ∷ []) (mine.told k d below);

@@ -1,4 +1,4 @@
-//! What the definitions say together.
+//! Laws of boards: six words give their standing back, and seats stay seats.
 
 ghost use Rattle.incumbent_board.specs.Words.{WordsSpellStandings};
 ghost use Rattle.incumbent_board.specs.Boards.{SeatsStay};

@@ -1,12 +1,16 @@
 pub mod Agreeing
 pub mod Ascending
 pub mod Filtered
+pub mod Changed
+pub mod Exchanges
 pub mod Firsts
 pub mod Halves
 pub mod Mapped
+pub mod Matched
 pub mod Members
 pub mod Pairs
 pub mod Parts
 pub mod Ranges
 pub mod Rising
 pub mod Sums
+pub mod Wholes

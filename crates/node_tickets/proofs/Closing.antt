@@ -1,28 +1,24 @@
 -- Seats that come back, and what all of them drew.
-use Rattle.std.proofs.Common.{◌≡◌, ℕ, ◌+◌, ◌<◌, ◌≤◌, ◌↔◌, min, List, [], ◌∷◌, ◌++◌, sym, refl, ap, ◌∙◌, subst, append_assoc, arith, All, IsPermutation, cond, ltb}
+use Rattle.std.proofs.Common.{◌≡◌, ℕ, ◌+◌, ◌<◌, ◌≤◌, ◌↔◌, min, List, [], ◌∷◌, ◌++◌, get_or, sym, refl, ap, ◌∙◌, subst, append_assoc, arith, All, IsPermutation, cond, ltb}
 use Rattle.std.specs.List.{flat_map, range_with_len, sum_by}
-use Rattle.std.proofs.lemmas.Grind.{flat_map-append}
-use Rattle.std.proofs.lemmas.List.{append-nil}
-use Rattle.std.proofs.lemmas.List.Elements.{All-head, All-tail, All-nil, All-cons, All-append, All-weaker}
+use Rattle.std.proofs.lemmas.List.Elements.{All-head, All-tail, All-weaker}
 use Rattle.std.proofs.lemmas.List.FromFn.{length-range_with_len, get_or-range_with_len}
 use Rattle.std.proofs.lemmas.List.Sums.{sum_by-cons, sum_by-append}
 use Rattle.std.proofs.lemmas.List.Sorted.{IsPermutation-sym, IsPermutation-trans, IsPermutation-append_comm, sum_by-IsPermutation, All-permutation}
 use native.Mathlib.Decide.{dec_le}
 use mathlib.Core.Logic.{dite}
 use Rattle.node_tickets.specs.Seats.{TicketsView, SeatView, IsSeatOf, MayDraw, drawn_by, numbers_of}
-use Rattle.node_tickets.proofs.Views.{IsPermutation-same, IsPermutation-swap_last, All-left, All-right}
+use Rattle.list_laws.proofs.Changed.{flat_map-push}
+use Rattle.list_laws.proofs.Exchanges.{IsPermutation-same, IsPermutation-swap_last}
+use Rattle.list_laws.proofs.Wholes.{All-joined, All-parts}
 use Rattle.node_tickets.proofs.Numbers.{low_of, low_range}
 use Rattle.list_laws.proofs.Ranges.{range_below}
-
--- the last seat's numbers come last
-drawn_last : (rest : List SeatView) (seat : SeatView) → flat_map drawn_by (rest ++ seat ∷ []) ≡ flat_map drawn_by rest ++ seat.drawn
-drawn_last rest seat = flat_map-append drawn_by rest (seat ∷ []) ∙ ap (λ (l : List ℕ). flat_map drawn_by rest ++ l) (append-nil seat.drawn)
 
 -- a seat takes the last one of some others
 pub joined_more : (mine more all : List ℕ) (seats rest : List SeatView) (seat : SeatView) → seats ≡ rest ++ seat ∷ [] → more ≡ mine ++ seat.drawn →
     IsPermutation (mine ++ flat_map drawn_by seats) all → IsPermutation (more ++ flat_map drawn_by rest) all
 joined_more mine more all seats rest seat split takes h =
-    let whole : mine ++ (flat_map drawn_by rest ++ seat.drawn) ≡ mine ++ flat_map drawn_by seats = ap (λ (l : List ℕ). mine ++ l) (sym (drawn_last rest seat) ∙ ap (flat_map drawn_by) (sym split)) in
+    let whole : mine ++ (flat_map drawn_by rest ++ seat.drawn) ≡ mine ++ flat_map drawn_by seats = ap (λ (l : List ℕ). mine ++ l) (sym (flat_map-push drawn_by rest seat) ∙ ap (flat_map drawn_by) (sym split)) in
     subst (λ (l : List ℕ). IsPermutation (l ++ flat_map drawn_by rest) all) (sym takes)
     (IsPermutation-trans _ _ _ (IsPermutation-swap_last mine seat.drawn (flat_map drawn_by rest))
     (IsPermutation-trans _ _ _ (IsPermutation-same _ _ (append_assoc mine (flat_map drawn_by rest) seat.drawn ∙ whole)) h))
@@ -30,7 +26,7 @@ joined_more mine more all seats rest seat split takes h =
 -- the last seat took all the others
 pub joined_all : (all : List ℕ) (seats rest : List SeatView) (seat : SeatView) → seats ≡ rest ++ seat ∷ [] → IsPermutation all (seat.drawn ++ flat_map drawn_by rest) → IsPermutation (flat_map drawn_by seats) all
 joined_all all seats rest seat split h =
-    IsPermutation-trans _ _ _ (IsPermutation-same _ _ (ap (flat_map drawn_by) split ∙ drawn_last rest seat))
+    IsPermutation-trans _ _ _ (IsPermutation-same _ _ (ap (flat_map drawn_by) split ∙ flat_map-push drawn_by rest seat))
     (IsPermutation-trans _ _ _ (IsPermutation-append_comm (flat_map drawn_by rest) seat.drawn) (IsPermutation-sym _ _ h))
 
 -- the numbers below the limit that some seats drew
@@ -44,18 +40,10 @@ numbers_all t (s ∷ ss) each =
 
 -- are low where each seat's are
 all_low : (t : TicketsView) (seats : List SeatView) → All (IsSeatOf t) seats → All MayDraw seats → All (λ n. n < t.limit) (flat_map drawn_by seats)
-all_low t [] each may = All-nil (λ n. n < t.limit)
-all_low t (s ∷ ss) each may =
-    let its = All-head (IsSeatOf t) s ss each in
-    All-append (λ n. n < t.limit) s.drawn (flat_map drawn_by ss) (subst (λ (l : ℕ). All (λ n. n < l) s.drawn) its.1 (All-head MayDraw s ss may))
-    (all_low t ss (All-tail (IsSeatOf t) s ss each) (All-tail MayDraw s ss may))
+all_low t seats each may = All-joined (λ n. n < t.limit) drawn_by seats (λ k d here. subst (λ (l : ℕ). All (λ n. n < l) (get_or seats k d).drawn) (each k d here).1 (may k d here))
 
 each_low : (t : TicketsView) (seats : List SeatView) → All (IsSeatOf t) seats → All (λ n. n < t.limit) (flat_map drawn_by seats) → All MayDraw seats
-each_low t [] each low = All-nil MayDraw
-each_low t (s ∷ ss) each low =
-    let its = All-head (IsSeatOf t) s ss each in
-    All-cons MayDraw s ss (subst (λ (l : ℕ). All (λ n. n < l) s.drawn) (sym its.1) (All-left (λ n. n < t.limit) s.drawn (flat_map drawn_by ss) low))
-    (each_low t ss (All-tail (IsSeatOf t) s ss each) (All-right (λ n. n < t.limit) s.drawn (flat_map drawn_by ss) low))
+each_low t seats each low = λ k d here. subst (λ (l : ℕ). All (λ n. n < l) (get_or seats k d).drawn) (sym (each k d here).1) (All-parts (λ n. n < t.limit) drawn_by seats low k d here)
 
 -- a range is low where it ends at the limit or below it
 range_low : (limit n : ℕ) → All (λ x. x < limit) (range_with_len 0 n) → n ≤ limit

@@ -1,6 +1,5 @@
-pub mod Views
 pub mod Numbers
 pub mod Steps
 pub mod Tallies
 pub mod Closing
-pub mod Crews
+pub mod Kept

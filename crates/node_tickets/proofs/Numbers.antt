@@ -1,15 +1,14 @@
 -- How many of the numbers from 0 on are below a limit, and how many are at it or above it.
-use Rattle.std.proofs.Common.{◌≡◌, ℕ, zero, suc, ◌+◌, ◌<◌, ◌≤◌, min, List, [], ◌∷◌, ◌++◌, length, sym, refl, ap, ◌∙◌, arith, All, Bool, true, false, cond, ltb, leb}
+use Rattle.std.proofs.Common.{◌≡◌, ℕ, zero, suc, ◌+◌, ◌<◌, ◌≤◌, min, List, [], ◌∷◌, ◌++◌, length, refl, ap, ◌∙◌, arith, All, Bool, true, false, cond, ltb, leb}
 use Rattle.std.specs.List.{range_with_len, count_by}
 use Rattle.std.proofs.lemmas.Bool.{lt-ltb, le-ltb, le-leb, lt-leb}
-use Rattle.std.proofs.lemmas.List.{map-id}
 use Rattle.std.proofs.lemmas.List.Elements.{All-head, All-tail}
-use Rattle.std.proofs.lemmas.List.FromFn.{length-range_with_len, get_or-range_with_len, map-range_with_len_more}
+use Rattle.std.proofs.lemmas.List.FromFn.{length-range_with_len}
 use Rattle.std.proofs.lemmas.List.Sums.{sum_by-cons, sum_by-append, sum_by_push}
 use native.Mathlib.Decide.{dec_le}
 use mathlib.Core.Logic.{dite}
 use Rattle.node_tickets.specs.Rule.{high_of}
-use Rattle.list_laws.proofs.Ranges.{range_more, range_below}
+use Rattle.list_laws.proofs.Ranges.{range_more}
 
 -- how many of some numbers are below a limit
 abbrev pub low_of : ℕ → List ℕ → ℕ

@@ -5,8 +5,6 @@ use Rattle.std.proofs.Math.Nat.{mod-eq_of_lt}
 use Rattle.std.proofs.lemmas.List.Elements.{All-head, All-tail, All-nil, All-cons, All-set, All-push}
 use Rattle.std.proofs.lemmas.List.Sums.{sum_by_push, sum_by-cons}
 use Rattle.std.proofs.lemmas.List.Sorted.{IsPermutation-refl, IsPermutation-sym, IsPermutation-trans, IsPermutation-append_left, sum_by-IsPermutation, All-permutation}
-use Rattle.std.proofs.lemmas.Grind.{flat_map-append}
-use Rattle.std.proofs.lemmas.List.{append-nil}
 use mathlib.Core.Option.{some}
 use lib.ListN.{get_elem?}
 use Rattle.atomic_table.specs.Table.{State, Me, Allows, Splits, Joins, keeps, opening}
@@ -14,7 +12,8 @@ use Rattle.atomic_table.proofs.Lists.{set_else, set_again}
 use Rattle.node_tickets.specs.declared.hand.Hand.{Hand}
 use Rattle.node_tickets.specs.Rule.{hand, high_of, IsCounted}
 use Rattle.node_tickets.specs.Seats.{ALL_SEATS}
-use Rattle.node_tickets.proofs.Views.{IsPermutation-same, All-at, All-flat_map_at, sum_by-set_at, flat_map-grown, flat_map-stays, flat_map-moved, flat_map-whole}
+use Rattle.list_laws.proofs.Changed.{All-at, All-flat_map_at, sum_by-set_at, sum_by-else, flat_map-grown, flat_map-beside, flat_map-moved, flat_map-one}
+use Rattle.list_laws.proofs.Exchanges.{IsPermutation-same}
 use Rattle.node_tickets.proofs.Numbers.{high_append, high_push, high_none, range_length}
 use Rattle.list_laws.proofs.Ranges.{range_more, range_below}
 
@@ -87,8 +86,7 @@ forks limit id v two none s h at =
     let l : Hand = hand (v.stands_for - 1) v.limit v.drawn in
     let r : Hand = hand 1 v.limit [] in
     let vs : List Hand = set s.views id l in
-    let same : flat_map numbers (vs ++ r ∷ []) ≡ flat_map numbers s.views =
-    flat_map-append numbers vs (r ∷ []) ∙ append-nil (flat_map numbers vs) ∙ flat_map-stays numbers s.views id v l at refl in
+    let same = flat_map-beside numbers s.views id v l r at refl refl in
     record {
       one = h.one;
       all = omega (arith, sum_by-set_at weight s.views id v l at, sum_by_push weight vs r, h.all);
@@ -109,7 +107,7 @@ merges limit id v other u some_seat s h at differ at' =
     record {
       one = h.one;
       all = omega (arith, sum_by-set_at weight s.views id v both at, sum_by-set_at weight vs other u none at', h.all);
-      once = IsPermutation-trans _ _ _ (IsPermutation-sym _ _ (flat_map-moved numbers s.views id other v u both none differ at was refl refl)) h.once;
+      once = IsPermutation-trans _ _ _ (IsPermutation-sym _ _ (flat_map-moved numbers s.views id other v u both none differ (set_else s.views other id none (λ e. differ (sym e)) ∙ at) was refl refl)) h.once;
       high = All-set (IsFewHigh limit) vs other none (omega arith) (All-set (IsFewHigh limit) s.views id both few h.high);
       spent = All-set IsSpent vs other none (λ _. refl) (All-set IsSpent s.views id both (λ no. absurd (omega arith)) h.spent);
     }
@@ -130,6 +128,6 @@ closes limit slots id me its s h homes at small =
       (
         refl,
         omega (arith, word_most limit s h),
-        λ all. subst (λ (l : List ℕ). IsPermutation l (range_with_len 0 n)) (flat_map-whole weight numbers s.views id v h.spent at (h.all ∙ sym all)) h.once,
+        λ all. subst (λ (l : List ℕ). IsPermutation l (range_with_len 0 n)) (flat_map-one numbers s.views id v at (λ j u there differ. All-at IsSpent s.views j u there h.spent (sum_by-else weight s.views id j v u at there differ (h.all ∙ sym all)))) h.once,
       ),
     )

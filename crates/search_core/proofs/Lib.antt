@@ -1,6 +1,7 @@
 pub mod Counts
 pub mod FromBounds
 pub mod Children
+pub mod Order
 pub mod Reached
 pub mod Preorder
 pub mod Kept

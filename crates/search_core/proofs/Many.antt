@@ -1,8 +1,8 @@
 -- Distinct live prefixes in ascending order.
-use Rattle.std.proofs.Common.{◌≡◌, ◌≢◌, ℕ, suc, true, List, [], ◌∷◌, inl, inr, sym, refl, subst, arith, Contains, All, AllPairs, IsPermutation}
+use Rattle.std.proofs.Common.{◌≢◌, ℕ, List, [], ◌∷◌, inl, inr, sym, refl, subst, arith, Contains, IsPermutation}
 use Rattle.std.proofs.lemmas.Bool.{cases_Bool}
 use Rattle.std.proofs.lemmas.List.Elements.{All-nil, All-cons, All-weaker}
-use Rattle.std.proofs.lemmas.List.Kept.{AllPairs-cons}
+use Rattle.list_laws.proofs.Pairs.{AllPairs-nil, AllPairs-cons, AllPairs-head, AllPairs-tail}
 use Rattle.std.proofs.lemmas.List.Sorted.{IsPermutation-refl, IsPermutation-sym, IsPermutation-cons, IsPermutation-middle, IsPermutation-trans, All-permutation, Contains-permutation, length_permutation}
 use Rattle.search_model.specs.Order.{smaller}
 use Rattle.list_laws.proofs.Members.{Contains-head, Contains-tail}
@@ -10,19 +10,8 @@ use Rattle.search_model.proofs.Orders.{smaller_total, smaller_trans}
 use Rattle.bound_tree.specs.Close.{IsLive}
 use Rattle.search_core.specs.Balance.{AreDistinct}
 use Rattle.search_core.specs.Laws.{DistinctLiveAreMany}
+use Rattle.search_core.proofs.Order.{IsAbove, Ascends}
 use Rattle.search_core.proofs.Counts.{counted, count_of_here}
-
-abbrev pub IsAbove : List ℕ → List ℕ → Type 0
-IsAbove q r = smaller q r ≡ true
-
-abbrev Ascends : List (List ℕ) → Type 0
-Ascends qs = AllPairs IsAbove qs
-
-above_all : (q : List ℕ) (qs : List (List ℕ)) → Ascends (q ∷ qs) → All (IsAbove q) qs
-above_all q qs up = λ k d l. up 0 (suc k) d (omega arith) (omega (arith, l))
-
-ascends-tail : (q : List ℕ) (qs : List (List ℕ)) → Ascends (q ∷ qs) → Ascends qs
-ascends-tail q qs up i j d before inside = up (suc i) (suc j) d (omega arith) (omega (arith, inside))
 
 -- a prefix goes to its place among ascending ones
 placed : (q : List ℕ) (rs : List (List ℕ)) → Ascends rs → (Contains rs q → ⊥) → (qs : List (List ℕ)) × Ascends qs × IsPermutation (q ∷ rs) qs
@@ -31,23 +20,23 @@ placed q (r ∷ rs) up new = elim (cases_Bool (smaller q r)) [
   | inl less ↦ (
     q ∷ r ∷ rs,
     AllPairs-cons IsAbove q (r ∷ rs)
-        (All-cons (IsAbove q) r rs less (All-weaker (IsAbove r) (IsAbove q) (λ z h. smaller_trans q r z less h) rs (above_all r rs up)))
+        (All-cons (IsAbove q) r rs less (All-weaker (IsAbove r) (IsAbove q) (λ z h. smaller_trans q r z less h) rs (AllPairs-head IsAbove r rs up)))
         up,
     IsPermutation-refl (q ∷ r ∷ rs),
   )
   | inr not ↦
-      let rest = placed q rs (ascends-tail r rs up) (λ h. new (Contains-tail r q rs h)) in
+      let rest = placed q rs (AllPairs-tail IsAbove r rs up) (λ h. new (Contains-tail r q rs h)) in
       let differ : r ≢ q = λ e. new (subst (λ z. Contains (z ∷ rs) q) (sym e) (Contains-head q rs)) in
       let less : IsAbove r q = smaller_total r q differ not in (
         r ∷ rest.0,
-        AllPairs-cons IsAbove r rest.0 (All-permutation (IsAbove r) (q ∷ rs) rest.0 rest.2 (All-cons (IsAbove r) q rs less (above_all r rs up))) rest.1,
+        AllPairs-cons IsAbove r rest.0 (All-permutation (IsAbove r) (q ∷ rs) rest.0 rest.2 (All-cons (IsAbove r) q rs less (AllPairs-head IsAbove r rs up))) rest.1,
         IsPermutation-trans (q ∷ r ∷ rs) (r ∷ q ∷ rs) (r ∷ rest.0) (IsPermutation-middle (q ∷ []) r rs) (IsPermutation-cons r (q ∷ rs) rest.0 rest.2),
       )
 ]
 
 -- distinct prefixes can be put in ascending order
 in_order : (qs : List (List ℕ)) → AreDistinct qs → (rs : List (List ℕ)) × Ascends rs × IsPermutation qs rs
-in_order [] once = ([], (λ i j d before inside. absurd (omega (arith, inside))), IsPermutation-refl [])
+in_order [] once = ([], AllPairs-nil IsAbove, IsPermutation-refl [])
 in_order (q ∷ qs) once =
     let rest = in_order qs (λ r. let one = once r in omega (arith, one)) in
     let new : Contains rest.0 q → ⊥ = λ h.

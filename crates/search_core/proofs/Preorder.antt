@@ -1,8 +1,8 @@
 -- Balanced records in preorder are eaten whole.
-use Rattle.std.proofs.Common.{◌≡◌, ℕ, suc, ◌+◌, ◌<◌, true, false, List, [], ◌∷◌, ◌++◌, map, inl, inr, sym, refl, ap, ◌∙◌, subst, arith, Contains, All, append_assoc, append-nil}
+use Rattle.std.proofs.Common.{◌≡◌, ℕ, ◌+◌, ◌<◌, true, false, List, [], ◌∷◌, ◌++◌, map, inl, inr, sym, refl, ap, ◌∙◌, subst, arith, get_or, Contains, All, AllPairs, append_assoc, append-nil}
 use Rattle.std.proofs.lemmas.Bool.{cases_lt, true≢false}
-use Rattle.std.proofs.lemmas.List.Elements.{All-nil, All-cons, All-head, All-tail, All-append, All-contains, All-map, All-weaker}
-use Rattle.list_laws.proofs.Ascending.{Ascends-head, Ascends-tail}
+use Rattle.std.proofs.lemmas.List.Elements.{All-nil, All-head, All-tail, All-contains, All-map, All-weaker}
+use Rattle.list_laws.proofs.Pairs.{AllPairs-nil, AllPairs-cons, AllPairs-head, AllPairs-tail, AllPairs-append, AllPairs-map}
 use Rattle.search_model.specs.declared.standing.Standing.{Standing}
 use Rattle.search_model.specs.Problem.{Problem, IsProblem}
 use Rattle.search_model.specs.Legal.{moves_after}
@@ -18,6 +18,7 @@ use Rattle.search_core.specs.Counts.{count_of}
 use Rattle.search_core.specs.Balance.{expected_of}
 use Rattle.search_core.specs.Laws.{IsPreorder, BalancedIsAccepted}
 use Rattle.search_core.proofs.Counts.{count_of-append, count_of_here, Contains-counted}
+use Rattle.search_core.proofs.Order.{IsAbove}
 use Rattle.search_core.proofs.Children.{Rises, moves_rise, expected_cases}
 
 -- all that begins with q is smaller than r
@@ -26,8 +27,7 @@ Before q r = (y : List ℕ) → smaller (q ++ y) r ≡ true
 
 -- each prefix, with all that begins with it, is smaller than the later ones
 abbrev AreOrdered : List (List ℕ) → Type 0
-AreOrdered [] = Unit {0}
-AreOrdered (q ∷ qs) = All (λ r. Before q r) qs × AreOrdered qs
+AreOrdered qs = AllPairs Before qs
 
 siblings : (q : List ℕ) (d e : ℕ) → d < e → Before (q ++ d ∷ []) (q ++ e ∷ [])
 siblings q d e less y = rw (append_assoc q (d ∷ []) y) (smaller_at q d e y [] less)
@@ -36,26 +36,11 @@ before_child : (q r : List ℕ) (d : ℕ) → Before q r → Before (q ++ d ∷ 
 before_child q r d h y = rw (append_assoc q (d ∷ []) y) (h (d ∷ y))
 
 children_ordered : (q ds : List ℕ) → Rises ds → AreOrdered (map (λ d. q ++ d ∷ []) ds)
-children_ordered q [] up = tt
-children_ordered q (d ∷ ds) up = (
-  All-map (λ r. Before (q ++ d ∷ []) r) (λ e. q ++ e ∷ []) ds
-      (All-weaker (λ e. d < e) (λ e. Before (q ++ d ∷ []) (q ++ e ∷ [])) (λ e l. siblings q d e l) ds (Ascends-head (λ (d : ℕ). d) d ds up)),
-  children_ordered q ds (Ascends-tail (λ (d : ℕ). d) d ds up),
-)
+children_ordered q ds up = AllPairs-map Before (λ d. q ++ d ∷ []) ds (λ i j x before inside. siblings q (get_or ds i x) (get_or ds j x) (up i j x before inside))
 
-ordered-append : (qs rs : List (List ℕ)) → AreOrdered qs → AreOrdered rs → All (λ q. All (λ r. Before q r) rs) qs → AreOrdered (qs ++ rs)
-ordered-append [] rs a b h = b
-ordered-append (q ∷ qs) rs a b h = (
-  All-append (λ r. Before q r) qs rs a.0 (All-head (λ q. All (λ r. Before q r) rs) q qs h),
-  ordered-append qs rs a.1 b (All-tail (λ q. All (λ r. Before q r) rs) q qs h),
-)
-
-children_before : (q ds : List ℕ) (rs : List (List ℕ)) → All (λ r. Before q r) rs → All (λ c. All (λ r. Before c r) rs) (map (λ d. q ++ d ∷ []) ds)
-children_before q [] rs h = All-nil (λ c. All (λ r. Before c r) rs)
-children_before q (d ∷ ds) rs h =
-    All-cons (λ c. All (λ r. Before c r) rs) (q ++ d ∷ []) (map (λ d. q ++ d ∷ []) ds)
-    (All-weaker (λ r. Before q r) (λ r. Before (q ++ d ∷ []) r) (λ r. before_child q r d) rs h)
-    (children_before q ds rs h)
+children_before : (q ds : List ℕ) (rs : List (List ℕ)) → All (Before q) rs → All (λ c. All (Before c) rs) (map (λ d. q ++ d ∷ []) ds)
+children_before q ds rs h =
+    All-map (λ c. All (Before c) rs) (λ d. q ++ d ∷ []) ds (λ k x inside. let d = get_or ds k x in All-weaker (Before q) (Before (q ++ d ∷ [])) (λ r. before_child q r d) rs h)
 
 -- the prefixes of later records aren't smaller than that of the first
 abbrev FirstIsLeast : TreeNode → List TreeNode → Type 0
@@ -65,21 +50,17 @@ first_is_least : (r : TreeNode) (rs : List TreeNode) → IsPreorder (r ∷ rs) �
 first_is_least r rs pre s h = elim (Contains-cons_cases r s rs h) [
   | inl e ↦ ap (λ (z : TreeNode). smaller z.prefix r.prefix) (sym e) ∙ smaller_irreflexive r.prefix
   | inr later ↦
-      let above : All (λ q. smaller r.prefix q ≡ true) (prefixes_of rs) = λ k d l. pre 0 (suc k) d (omega arith) (omega (arith, l)) in
-      smaller_one_way r.prefix s.prefix (All-contains (λ q. smaller r.prefix q ≡ true) (prefixes_of rs) s.prefix above (Contains-map (λ (z : TreeNode). z.prefix) rs s later))
+      smaller_one_way r.prefix s.prefix (All-contains (IsAbove r.prefix) (prefixes_of rs) s.prefix (AllPairs-head IsAbove r.prefix (prefixes_of rs) pre) (Contains-map (λ (z : TreeNode). z.prefix) rs s later))
 ]
-
-preorder-tail : (r : TreeNode) (rs : List TreeNode) → IsPreorder (r ∷ rs) → IsPreorder rs
-preorder-tail r rs pre i j d before inside = pre (suc i) (suc j) d (omega arith) (omega (arith, inside))
 
 module _ (p : Problem) (sound : IsProblem p) where
   expected_ordered : (q : List ℕ) (kind : Kind) (qs : List (List ℕ)) → AreOrdered (q ∷ qs) → AreOrdered (expected_by p q kind ++ qs)
   expected_ordered q Branch qs h =
-      ordered-append (children_of p q) qs (children_ordered q (moves_after p q) (moves_rise p q sound)) h.1
-      (children_before q (moves_after p q) qs h.0)
-  expected_ordered q (Whole n) qs h = h.1
-  expected_ordered q (Mean b) qs h = h.1
-  expected_ordered q (Tangent b whole) qs h = h.1
+      AllPairs-append Before (children_of p q) qs (children_ordered q (moves_after p q) (moves_rise p q sound)) (AllPairs-tail Before q qs h)
+      (children_before q (moves_after p q) qs (AllPairs-head Before q qs h))
+  expected_ordered q (Whole n) qs h = AllPairs-tail Before q qs h
+  expected_ordered q (Mean b) qs h = AllPairs-tail Before q qs h
+  expected_ordered q (Tangent b whole) qs h = AllPairs-tail Before q qs h
 
   -- the first of a preorder is no one's child
   first_is_no_child : (r : TreeNode) (rs : List TreeNode) → FirstIsLeast r rs → Contains (expected_of p (r ∷ rs)) r.prefix → ⊥
@@ -107,7 +88,7 @@ module _ (p : Problem) (sound : IsProblem p) where
         let on_stack : 0 < count_of r.prefix (q ∷ qs) = omega (arith, even r.prefix, no_child, count_of_here r.prefix r.prefix refl) in
         elim (Contains-cons_cases q r.prefix qs (Contains-counted r.prefix (q ∷ qs) on_stack)) [
           | inl e ↦ sym e
-          | inr k ↦ absurd (true≢false (sym (rw append-nil at (All-contains (λ r. Before q r) qs r.prefix ord.0 k [])) ∙ not_below))
+          | inr k ↦ absurd (true≢false (sym (rw append-nil at (All-contains (Before q) qs r.prefix (AllPairs-head Before q qs ord) k [])) ∙ not_below))
         ]
 
     eaten : (qs : List (List ℕ)) (rs : List TreeNode) → AreOrdered qs → AreEven qs rs → All (IsGood p s) rs → IsPreorder rs → AreEaten p s qs rs
@@ -126,7 +107,7 @@ module _ (p : Problem) (sound : IsProblem p) where
               (λ z. let a = even z in let b = count_of-append z below qs in let c = count_of-append z below (expected_of p rs) in
               let e : count_of z (r.prefix ∷ []) ≡ count_of z (q ∷ []) = ap (λ y. count_of z (y ∷ [])) same in omega (arith, a, b, c, e))
               (All-tail (IsGood p s) r rs good)
-              (preorder-tail r rs pre),
+              (AllPairs-tail IsAbove r.prefix (prefixes_of rs) pre),
         )
 
 pub balanced_is_accepted : BalancedIsAccepted
@@ -134,5 +115,5 @@ balanced_is_accepted p s rs sound exact equation good pre = record {
   path = exact.path;
   value = exact.value;
   weight = refl;
-  tree = eaten p sound s ([] ∷ []) rs (All-nil (λ r. Before [] r), tt) (λ q. omega (arith, equation q)) good pre;
+  tree = eaten p sound s ([] ∷ []) rs (AllPairs-cons Before [] [] (All-nil (Before [])) (AllPairs-nil Before)) (λ q. omega (arith, equation q)) good pre;
 }

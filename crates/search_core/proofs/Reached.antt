@@ -1,4 +1,4 @@
--- What Balance's equation says of all that stands somewhere.
+-- What the balance equation says of all that stands somewhere.
 use Rattle.std.proofs.Common.{◌≡◌, ℕ, zero, suc, ◌+◌, ◌≤◌, ◌<◌, List, [], ◌∷◌, ◌++◌, length, get_or, sym, ap, subst, arith, Contains, All, length-append}
 use Rattle.std.proofs.lemmas.List.{same_from_push}
 use Rattle.std.proofs.lemmas.List.Elements.{All-contains_itself, Contains-append_right}

@@ -25,7 +25,7 @@ expected_of p records = flat_map (λ r. expected_by p r.prefix r.kind) records
 abbrev pub standing_in : List (List ℕ) → List (List ℕ) → List TreeNode → List (List ℕ)
 standing_in pool hands records = pool ++ hands ++ prefixes_of records
 
--- Balance's equation: the empty prefix and the legal children of all Branch records are, up to order, the pool, the hands
+-- the balance equation: the empty prefix and the legal children of all Branch records are, up to order, the pool, the hands
 -- and the records' prefixes together
 abbrev pub MeetsEquation : Problem → List (List ℕ) → List (List ℕ) → List TreeNode → Type 0
 MeetsEquation p pool hands records = SameItems ([] ∷ expected_of p records) (standing_in pool hands records)

@@ -1,4 +1,4 @@
--- What the definitions say together.
+-- Laws of the machine: the balance over any list of events, and what balanced records show.
 use Rattle.std.specs.Prelude.{ℕ, ◌<◌, List, [], length, All, AllPairs, IsTrue}
 use Rattle.search_model.specs.declared.standing.Standing.{Standing}
 use Rattle.search_model.specs.Problem.{Problem, IsProblem}
@@ -36,14 +36,14 @@ RunsAreGood = (p : Problem) (s : Standing) (events : List CoreEvent) (c : Core) 
 abbrev pub IsPreorder : List TreeNode → Type 0
 IsPreorder records = AllPairs (λ q r. IsTrue (smaller q r)) (prefixes_of records)
 
--- records that meet Balance's equation with nothing pooled and nothing held, and are each good in themselves under an
+-- records that meet the balance equation with nothing pooled and nothing held, and are each good in themselves under an
 -- exact standing, are in preorder the tree of an accepted plan of that standing
 abbrev pub BalancedIsAccepted : Type 0
 BalancedIsAccepted = (p : Problem) (s : Standing) (records : List TreeNode) →
     IsProblem p → IsExact p s → MeetsEquation p [] [] records → All (IsGood p s) records → IsPreorder records →
     Accepts p (record { standing = s; weight = whole_weight p; tree = records })
 
--- where a standing lets the Branch records branch, Balance's equation makes all that stands somewhere distinct and live
+-- where a standing lets the Branch records branch, the balance equation makes all that stands somewhere distinct and live
 abbrev pub BalancedIsLive : Type 0
 BalancedIsLive = (p : Problem) (s : Standing) (pool hands : List (List ℕ)) (records : List TreeNode) →
     IsProblem p → MeetsEquation p pool hands records → LetsBranch p s records →

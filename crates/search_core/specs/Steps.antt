@@ -68,7 +68,7 @@ pub record HasNoFault (c : Core) (e : CoreEvent) : Type 0 where
   pub hands : (q : List ℕ) → ¬ MissesHands c e q
   pub standing : (j : ℕ) → ¬ MissesStanding c e j
 
--- why an event is refused: a fault of its own, or with none a want of memory
+-- why an event is refused: a fault of its own, or with none of them, that memory ran out
 abbrev pub IsCause : Core → CoreEvent → CoreFault → Type 0
 IsCause c e (NotPooled q) = MissesPool c e q
 IsCause c e (NotHeld q) = MissesHands c e q

@@ -29,7 +29,7 @@ pub enum CoreFault {
     NotHeld(Path),
     /// The prefix of a `Close` is held, and its place isn't among the standings.
     NoStanding(usize),
-    /// No memory was found.
+    /// Memory ran out.
     NoMemory,
 }
 

@@ -1,4 +1,4 @@
-//! What the definitions say together.
+//! Laws of the machine: the balance over any list of events, and what balanced records show.
 
 ghost use Rattle.search_core.specs.Laws.{StartIsBalanced, EventsKeepBalance, RunsAreBalanced, RunsAreGood, BalancedIsAccepted, BalancedIsLive, RunsAreLive, DistinctLiveAreMany};
 

@@ -42,7 +42,7 @@ pub(crate) fn push_prefix(list: &mut Vec<Path>, prefix: Path)
 }
 
 /// A prefix with one position more.
-fn extended(prefix: &Path, d: u8) -> Path
+pub fn extended(prefix: &Path, d: u8) -> Path
     requires { length prefix.now < 32 }
     ensures { result ≡ prefix.now ++ d ∷ [] }
 {

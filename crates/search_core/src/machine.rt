@@ -192,7 +192,7 @@ impl CoreState {
     /// has a path of the scenario with its exact value. Where an event is refused nothing changes: `NotPooled` exactly where
     /// the prefix of a `Take` isn't pooled, `NotHeld` exactly where the prefix of a `Put` or a `Close` isn't held,
     /// `NoStanding` exactly where the prefix of a `Close` is held and its place isn't among the standings, and `NoMemory`
-    /// where memory is wanting.
+    /// where memory ran out.
     pub fn step(&mut self, sc: &Scenario, event: CoreEvent) -> Result<(), CoreFault>
         requires balanced { IsBalanced sc.now self.old }
         requires allowed { IsAllowed sc.now self.old event }

@@ -10,7 +10,7 @@ use Rattle.steal_pool.specs.declared.theft.Theft.TheVariants.{Got, Empty, Beaten
 use Rattle.steal_pool.specs.Rule.{hand, with_task, takes_of, IsLeft, HeldAtOneMoment, FirstAtOneMoment, EmptyAtOneMoment}
 use Rattle.steal_pool.specs.Kits.{DequeId, KitView, hand_at, TookOne}
 use Rattle.steal_pool.specs.Thefts.{MatchTheft, RobsAt, Steals, misses_after}
-use Rattle.steal_pool.proofs.Exchanges.{IsPermutation-same, IsPermutation-swap_last}
+use Rattle.list_laws.proofs.Exchanges.{IsPermutation-same, IsPermutation-swap_last}
 use Rattle.steal_pool.proofs.Balance.{whole}
 use Rattle.steal_pool.proofs.Left.{left_many}
 

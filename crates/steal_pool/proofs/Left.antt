@@ -1,9 +1,10 @@
 -- What is left of a list of tasks.
-use Rattle.std.proofs.Common.{◌≡◌, ℕ, ◌+◌, List, [], ◌∷◌, ◌++◌, length, refl, sym, ap, ◌∙◌, arith, IsPermutation, length-append, slice_get, Some}
+use Rattle.std.proofs.Common.{◌≡◌, ℕ, ◌+◌, List, [], ◌∷◌, ◌++◌, length, sym, ap, ◌∙◌, arith, IsPermutation, length-append, slice_get, Some}
 use Rattle.std.proofs.lemmas.List.Sorted.{IsPermutation-trans, length_permutation}
 use Rattle.std.proofs.lemmas.List.{append-nil}
 use Rattle.steal_pool.specs.Rule.{IsLeft}
-use Rattle.steal_pool.proofs.Exchanges.{IsPermutation-same}
+use Rattle.list_laws.proofs.Exchanges.{IsPermutation-same}
+use Rattle.steal_pool.proofs.Places.{slice_get_at}
 
 module _ {T : Type 0} where
   -- as many are gone as were taken
@@ -23,8 +24,4 @@ module _ {T : Type 0} where
   left_first put taken later x h =
       ap (λ (l : List T). slice_get l (length taken)) h.order
       ∙ ap (λ (n : ℕ). slice_get (h.gone ++ x ∷ later) n) (sym (gone_many put taken (x ∷ later) h))
-      ∙ at_middle h.gone later x
-    where
-      at_middle : (xs ys : List T) (y : T) → slice_get (xs ++ y ∷ ys) (length xs) ≡ Some y
-      at_middle [] ys y = refl
-      at_middle (z ∷ xs) ys y = at_middle xs ys y
+      ∙ slice_get_at h.gone later x

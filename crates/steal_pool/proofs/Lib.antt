@@ -1,4 +1,3 @@
-pub mod Exchanges
 pub mod Balance
 pub mod Left
 pub mod Places

@@ -1,7 +1,6 @@
 -- For how many passes the hands of some deques stand, and the victims of a kit.
 use Rattle.std.proofs.Common.{◌≡◌, ◌≢◌, ℕ, zero, suc, ◌+◌, ◌<◌, List, [], ◌∷◌, ◌++◌, length, map, set, get_or, sym, refl, ap, ◌∙◌, arith, IsPermutation, get_or-set_same, get_or-set_other, length-take-le, length-drop, append_assoc, slice_get, zero-add}
 use Rattle.std.specs.declared.alloc.Global.{Global}
-use Rattle.std.proofs.lemmas.Grind.{flat_map-append}
 use Rattle.std.proofs.lemmas.List.{append-nil, length-map, map-set, map_push, nil_from_length, get_or_append_left, get_or_push}
 use Rattle.std.proofs.lemmas.List.Sorted.{IsPermutation-trans, IsPermutation-append_left}
 use Rattle.crossbeam_deque.specs.declared.handles.Worker.{Worker}
@@ -12,7 +11,8 @@ use Rattle.steal_pool.specs.declared.victim.Rest.{Rest}
 use Rattle.steal_pool.specs.Rule.{hand, puts_of, takes_of}
 use Rattle.steal_pool.specs.Kits.{DequeId}
 use Rattle.steal_pool.specs.Pools.{passes_at, with_pass, IsRest}
-use Rattle.steal_pool.proofs.Exchanges.{IsPermutation-same, IsPermutation-swap_last}
+use Rattle.list_laws.proofs.Changed.{flat_map-push}
+use Rattle.list_laws.proofs.Exchanges.{IsPermutation-same, IsPermutation-swap_last}
 use Rattle.steal_pool.proofs.KitSteps.{flat_map-set}
 use Rattle.steal_pool.proofs.Places.{map_read, slice_get-take, slice_get-drop}
 
@@ -108,7 +108,7 @@ module _ {T : Type 0} where
   takes_of-with_pass hs vs at x here =
       let u = get_or hs at (hand 0 [] []) in
       let grown = flat_map-set (λ (h : Hand T). h.taken) hs at (hand 0 [] []) (hand (u.passes + 1) u.put (u.taken ++ x.taken)) x.taken here refl in
-      let last : takes_of (vs ++ x ∷ []) ≡ takes_of vs ++ x.taken = flat_map-append (λ (h : Hand T). h.taken) vs (x ∷ []) ∙ ap (λ (l : List T). takes_of vs ++ l) (append-nil x.taken) in
+      let last : takes_of (vs ++ x ∷ []) ≡ takes_of vs ++ x.taken = flat_map-push (λ (h : Hand T). h.taken) vs x in
       IsPermutation-trans _ _ _ (IsPermutation-append_left (takes_of vs) _ _ grown)
       (IsPermutation-trans _ _ _ (IsPermutation-swap_last (takes_of hs) x.taken (takes_of vs))
       (IsPermutation-same _ _ (append_assoc (takes_of hs) (takes_of vs) x.taken ∙ ap (λ (l : List T). takes_of hs ++ l) (sym last))))

@@ -1,9 +1,10 @@
 -- Elements by their places, in lists that grow, shrink or are written to.
-use Rattle.std.proofs.Common.{◌≡◌, ℕ, zero, suc, ◌+◌, ◌-◌, ◌<◌, List, [], ◌∷◌, ◌++◌, length, map, take, drop, reverse, set, get_or, sym, refl, ap, ◌∙◌, subst, arith, Some, slice_get, All, length-append}
+use Rattle.std.proofs.Common.{◌≡◌, ℕ, zero, suc, ◌+◌, ◌-◌, ◌<◌, List, [], ◌∷◌, ◌++◌, length, map, take, drop, reverse, set, get_or, sym, refl, ap, ◌∙◌, subst, arith, append_assoc, Some, slice_get, All, length-append}
 use Rattle.std.specs.Option.{option_map}
-use Rattle.std.proofs.lemmas.List.{get_or-map, get_or_at, get_or_append_left, get_or-reverse, length-reverse, map-set, set-get_or}
-use Rattle.std.proofs.lemmas.List.Elements.{All-get_or}
+use Rattle.std.proofs.lemmas.List.{get_or-map, get_or-reverse, length-reverse, map-set, set-get_or, take_at, take_more, take-append-drop, take-take}
+use Rattle.std.proofs.lemmas.List.Elements.{All-head}
 use Rattle.std.proofs.lemmas.Option.{slice_get-map, slice_get_read, slice_get_within, slice_get-get_or, get_or_from_slice_get, same_Some}
+use Rattle.list_laws.proofs.Halves.{All-back}
 use Rattle.steal_pool.specs.Pools.{EachAt}
 
 -- what is kept of an element that was read
@@ -43,25 +44,17 @@ slice_get-drop [] (suc n) i = refl
 slice_get-drop (x ∷ xs) (suc n) i = let e : suc n + i ≡ suc (n + i) = omega arith in slice_get-drop xs n i ∙ ap (λ m. slice_get (x ∷ xs) m) (sym e)
 
 -- one element more of the front
-pub take_one_more : {A : Type 0} (xs : List A) (n : ℕ) (a : A) → slice_get xs n ≡ Some a → take (suc n) xs ≡ take n xs ++ a ∷ []
-take_one_more [] n a e = absurd (cc e)
-take_one_more (x ∷ xs) zero a e = ap (λ y. y ∷ []) (same_Some x a e)
-take_one_more (x ∷ xs) (suc n) a e = ap (λ l. x ∷ l) (take_one_more xs n a e)
+pub take_one_more : {A : Type 0} (xs : List A) (n : ℕ) (a : A) → slice_get xs n ≡ Some a → take (n + 1) xs ≡ take n xs ++ a ∷ []
+take_one_more xs n a e = take_more xs n a (slice_get_within xs n a e) ∙ ap (λ b. take n xs ++ b ∷ []) (get_or_from_slice_get xs n a a e)
 
 -- a list is its front, an element and the rest
 pub put_together : {A : Type 0} (xs : List A) (n : ℕ) (a : A) → slice_get xs n ≡ Some a → take n xs ++ a ∷ drop (n + 1) xs ≡ xs
-put_together xs n a e = let more : n + 1 ≡ suc n = omega arith in ap (λ k. take n xs ++ a ∷ drop k xs) more ∙ parts xs n a e
-  where
-    parts : {A : Type 0} (xs : List A) (n : ℕ) (a : A) → slice_get xs n ≡ Some a → take n xs ++ a ∷ drop (suc n) xs ≡ xs
-    parts [] n a e = absurd (cc e)
-    parts (x ∷ xs) zero a e = ap (λ y. y ∷ xs) (sym (same_Some x a e))
-    parts (x ∷ xs) (suc n) a e = ap (λ l. x ∷ l) (parts xs n a e)
+put_together xs n a e =
+    sym (append_assoc (take n xs) (a ∷ []) (drop (n + 1) xs)) ∙ ap (λ l. l ++ drop (n + 1) xs) (sym (take_one_more xs n a e)) ∙ take-append-drop (n + 1) xs
 
 -- what holds of all elements holds of the one in the middle
-pub All-at : {A : Type 0} (P : A → Type 0) (all xs ys : List A) (a : A) → all ≡ xs ++ a ∷ ys → All P all → P a
-All-at P all xs ys a is each =
-    let e : get_or all (length xs) a ≡ a = ap (λ l. get_or l (length xs) a) is ∙ get_or_at xs a ys a (length xs) refl in
-    subst P e (All-get_or P all (length xs) a (omega (arith, ap length is, length-append xs (a ∷ ys))) each)
+pub All-middle : {A : Type 0} (P : A → Type 0) (all xs ys : List A) (a : A) → all ≡ xs ++ a ∷ ys → All P all → P a
+All-middle P all xs ys a is each = All-head P a ys (All-back P xs (a ∷ ys) (subst (All P) is each))
 
 -- what holds of each element and its place: with one more, and without the last
 pub EachAt-nil : {A : Type 0} (P : ℕ → A → Type 0) → EachAt [] P
@@ -89,19 +82,10 @@ popped all rest last e = record {
 
 -- the front of a front, and its last element
 pub take_front : {A : Type 0} (xs all : List A) (a : A) (n : ℕ) → length xs ≡ n → xs ++ a ∷ [] ≡ take (n + 1) all → (xs ≡ take n all) × (slice_get all n ≡ Some a)
-take_front xs all a n long e = let more : n + 1 ≡ suc n = omega arith in parts xs all a n long (e ∙ ap (λ k. take k all) more)
-  where
-    parts : {A : Type 0} (xs all : List A) (a : A) (n : ℕ) → length xs ≡ n → xs ++ a ∷ [] ≡ take (suc n) all → (xs ≡ take n all) × (slice_get all n ≡ Some a)
-    parts [] [] a n long e = absurd (cc e)
-    parts [] (b ∷ all) a zero long e = let same : a ≡ b = cc e in (refl, ap Some (sym same))
-    parts [] (b ∷ all) a (suc n) long e = absurd (omega arith)
-    parts (x ∷ xs) [] a n long e = absurd (cc e)
-    parts (x ∷ xs) (b ∷ all) a zero long e = absurd (omega arith)
-    parts (x ∷ xs) (b ∷ all) a (suc n) long e =
-        let first : x ≡ b = cc e in
-        let rest : xs ++ a ∷ [] ≡ take (suc n) all = cc e in
-        let found = parts xs all a n (omega arith) rest in
-        (ap (λ y. y ∷ xs) first ∙ ap (λ l. b ∷ l) found.0, found.1)
+take_front xs all a n long e = (
+  sym (take_at xs (a ∷ []) n long) ∙ ap (take n) e ∙ take-take n (n + 1) all (omega arith),
+  sym (slice_get-take all (n + 1) n (omega arith)) ∙ ap (λ l. slice_get l n) (sym e) ∙ ap (slice_get (xs ++ a ∷ [])) (sym long) ∙ slice_get_at xs [] a,
+)
 
 -- an element of a list that is turned round
 pub slice_get-reverse : {A : Type 0} (xs : List A) (i : ℕ) (a : A) → slice_get (reverse xs) i ≡ Some a → (i < length xs) × (slice_get xs (length xs - 1 - i) ≡ Some a)
@@ -110,9 +94,3 @@ slice_get-reverse xs i a e =
     let here : i < length xs = omega (arith, within, length-reverse xs) in
     let same : get_or (reverse xs) i a ≡ a = get_or_from_slice_get (reverse xs) i a a e in
     (here, slice_get-get_or xs (length xs - 1 - i) a (omega arith) ∙ ap Some (sym (get_or-reverse xs i a here) ∙ same))
-
--- what holds of all elements holds of those of the front
-pub All-front : {A : Type 0} (P : A → Type 0) (all xs ys : List A) → all ≡ xs ++ ys → All P all → All P xs
-All-front P all xs ys is each = λ i d here.
-    let e : get_or all i d ≡ get_or xs i d = ap (λ l. get_or l i d) is ∙ get_or_append_left xs ys d i here in
-    subst P e (each i d (omega (arith, here, ap length is, length-append xs ys)))

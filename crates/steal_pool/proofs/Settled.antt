@@ -1,10 +1,10 @@
 -- What all owners know, as passes come back and deques are emptied.
-use Rattle.std.proofs.Common.{◌≡◌, ℕ, suc, ◌+◌, ◌<◌, ◌≤◌, List, [], ◌∷◌, ◌++◌, length, map, take, drop, get_or, inl, inr, sym, refl, ap, ◌∙◌, subst, arith, append_assoc, IsPermutation, length-append, slice_get, Some, All}
+use Rattle.std.proofs.Common.{◌≡◌, ℕ, ◌+◌, ◌<◌, ◌≤◌, List, [], ◌∷◌, ◌++◌, length, map, take, drop, get_or, inl, inr, sym, refl, ap, ◌∙◌, subst, arith, append_assoc, IsPermutation, length-append, slice_get, Some, All}
 use Rattle.std.specs.declared.alloc.Global.{Global}
 use Rattle.std.specs.List.{flat_map}
 use Rattle.std.proofs.lemmas.Bool.{cases_lt}
 use Rattle.std.proofs.lemmas.Grind.{flat_map-append}
-use Rattle.std.proofs.lemmas.List.{append-nil, length-map, map_push, get_or_at, take_at, drop_at}
+use Rattle.std.proofs.lemmas.List.{length-map, map_push, get_or_at, take_at, drop_at}
 use Rattle.std.proofs.lemmas.List.Elements.{All-nil, All-push}
 use Rattle.std.proofs.lemmas.List.Sorted.{IsPermutation-refl, IsPermutation-trans, IsPermutation-append, IsPermutation-append_left, IsPermutation-append_right, IsPermutation-append_comm}
 use Rattle.crossbeam_deque.specs.declared.handles.Worker.{Worker}
@@ -15,26 +15,20 @@ use Rattle.steal_pool.specs.declared.victim.Rest.{Rest}
 use Rattle.steal_pool.specs.Rule.{hand, puts_of, takes_of}
 use Rattle.steal_pool.specs.Kits.{DequeId, KitView, put_of, taken_of}
 use Rattle.steal_pool.specs.Pools.{EachAt, IsWhole, IsOwner, IsRest, pool_of, passes_at, rest_taken}
-use Rattle.steal_pool.proofs.Exchanges.{IsPermutation-same, IsPermutation-swap_last, IsPermutation-swap_inner}
+use Rattle.list_laws.proofs.Changed.{flat_map-push}
+use Rattle.list_laws.proofs.Exchanges.{IsPermutation-same, IsPermutation-swap_last, IsPermutation-swap_inner}
 use Rattle.steal_pool.proofs.Places.{EachAt-nil, EachAt-push, slice_get_at, take_one_more}
 use Rattle.steal_pool.proofs.Passes.{passes_at-last, passes_at-front}
 
 module _ {T : Type 0} where
-  -- what some hands and one more put and took
-  puts_of-push : (hs : List (Hand T)) (h : Hand T) → puts_of (hs ++ h ∷ []) ≡ puts_of hs ++ h.put
-  puts_of-push hs h = flat_map-append (λ (v : Hand T). v.put) hs (h ∷ []) ∙ ap (λ (l : List T). puts_of hs ++ l) (append-nil h.put)
-
-  takes_of-push : (hs : List (Hand T)) (h : Hand T) → takes_of (hs ++ h ∷ []) ≡ takes_of hs ++ h.taken
-  takes_of-push hs h = flat_map-append (λ (v : Hand T). v.taken) hs (h ∷ []) ∙ ap (λ (l : List T). takes_of hs ++ l) (append-nil h.taken)
-
   -- one deque more is empty
   pub drained_more : (hs : List (Hand T)) (h : Hand T) (out out' : List T) → IsPermutation (puts_of hs) (takes_of hs ++ out) → IsPermutation (h.put ++ out) (h.taken ++ out') → IsPermutation (puts_of (hs ++ h ∷ [])) (takes_of (hs ++ h ∷ []) ++ out')
   drained_more hs h out out' so_far more =
-      IsPermutation-trans _ _ _ (IsPermutation-same _ _ (puts_of-push hs h))
+      IsPermutation-trans _ _ _ (IsPermutation-same _ _ (flat_map-push (λ (v : Hand T). v.put) hs h))
       (IsPermutation-trans _ _ _ (IsPermutation-append_left h.put _ _ so_far)
       (IsPermutation-trans _ _ _ (IsPermutation-same _ _ (append_assoc (takes_of hs) out h.put))
       (IsPermutation-trans _ _ _ (IsPermutation-append_right (takes_of hs) _ _ (IsPermutation-trans _ _ _ (IsPermutation-append_comm out h.put) more))
-      (IsPermutation-same _ _ (sym (append_assoc (takes_of hs) h.taken out') ∙ ap (λ (l : List T). l ++ out') (sym (takes_of-push hs h)))))))
+      (IsPermutation-same _ _ (sym (append_assoc (takes_of hs) h.taken out') ∙ ap (λ (l : List T). l ++ out') (sym (flat_map-push (λ (v : Hand T). v.taken) hs h)))))))
 
   -- the passes of one kit more are back: those before its place, and those after it
   pub given_more : (taken taken1 taken2 before after rests all : List T) → IsPermutation taken1 (taken ++ before) → IsPermutation taken2 (taken1 ++ after) → IsPermutation (taken ++ (rests ++ (before ++ after))) all → IsPermutation (taken2 ++ rests) all
@@ -43,10 +37,6 @@ module _ {T : Type 0} where
       (IsPermutation-trans _ _ _ (IsPermutation-same _ _ (ap (λ (l : List T). l ++ rests) (append_assoc taken before after)))
       (IsPermutation-trans _ _ _ (IsPermutation-swap_last taken (before ++ after) rests)
       (IsPermutation-trans _ _ _ (IsPermutation-same _ _ (append_assoc taken rests (before ++ after))) so_far)))
-
-  -- what the others' deques gave to some kits and one more
-  pub rests-push : (rests : List (Rest T)) (r : Rest T) → flat_map rest_taken (rests ++ r ∷ []) ≡ flat_map rest_taken rests ++ rest_taken r
-  rests-push rests r = flat_map-append rest_taken rests (r ∷ []) ∙ ap (λ (l : List T). flat_map rest_taken rests ++ l) (append-nil (rest_taken r))
 
   -- a kit, taken apart
   pub record Parts (k : KitView T) (own : Worker T Global (Hand T) NoneLost) (r : Rest T) : Type 0 where
@@ -111,7 +101,7 @@ module _ {T : Type 0} where
         map_push (λ w. worker_deque w) owns own
         ∙ ap (λ (l : List DequeId). l ++ worker_deque own ∷ []) so_far.deques
         ∙ sym (take_one_more ids n (worker_deque own) at)
-        ∙ ap (λ (m : ℕ). take m ids) (let more : suc n ≡ length (done ++ k ∷ []) = omega (arith, longer) in more);
+        ∙ ap (λ (m : ℕ). take m ids) (sym longer);
     owner = All-push IsOwner owns own so_far.owner parts.owner;
     passes = λ i within. ap (λ (l : List (Hand T)). passes_at l i + length kits) (map_push (λ w. worker_view w) owns own) ∙ (elim (cases_lt i n) [
       | inl earlier ↦ ap (λ (m : ℕ). m + length kits) (passes_at-front hands (worker_view own) i (omega (arith, earlier, wide, so_far.owns_many))) ∙ so_far.passes i earlier
@@ -120,18 +110,18 @@ module _ {T : Type 0} where
     few = λ _. omega (arith, all, parts.few);
     each = EachAt-push (IsRest ids) rests r so_far.each (subst (λ (m : ℕ). IsRest ids m r) (sym so_far.rests_many) rest);
     put =
-        flat_map-append put_of done (k ∷ [])
-        ∙ ap (λ (l : List T). flat_map put_of done ++ l) (append-nil (put_of k) ∙ parts_put k own r parts)
+        flat_map-push put_of done k
+        ∙ ap (λ (l : List T). flat_map put_of done ++ l) (parts_put k own r parts)
         ∙ ap (λ (l : List T). l ++ (worker_view own).put) so_far.put
-        ∙ sym (puts_of-push hands (worker_view own))
+        ∙ sym (flat_map-push (λ (v : Hand T). v.put) hands (worker_view own))
         ∙ ap puts_of (sym (map_push (λ w. worker_view w) owns own));
     taken =
-        IsPermutation-trans _ _ _ (IsPermutation-same _ _ (flat_map-append taken_of done (k ∷ []) ∙ ap (λ (l : List T). flat_map taken_of done ++ l) (append-nil (taken_of k))))
+        IsPermutation-trans _ _ _ (IsPermutation-same _ _ (flat_map-push taken_of done k))
         (IsPermutation-trans _ _ _ (IsPermutation-append (flat_map taken_of done) (takes_of hands ++ flat_map rest_taken rests) (taken_of k) ((worker_view own).taken ++ rest_taken r) so_far.taken (parts_taken k own r parts))
         (IsPermutation-trans _ _ _ (IsPermutation-swap_inner (takes_of hands) (flat_map rest_taken rests) (worker_view own).taken (rest_taken r))
         (IsPermutation-same _ _ (
-        ap (λ (l : List T). l ++ (flat_map rest_taken rests ++ rest_taken r)) (sym (takes_of-push hands (worker_view own)) ∙ ap takes_of (sym (map_push (λ w. worker_view w) owns own)))
-        ∙ ap (λ (l : List T). takes_of (map (λ w. worker_view w) (owns ++ own ∷ [])) ++ l) (sym (rests-push rests r))
+        ap (λ (l : List T). l ++ (flat_map rest_taken rests ++ rest_taken r)) (sym (flat_map-push (λ (v : Hand T). v.taken) hands (worker_view own)) ∙ ap takes_of (sym (map_push (λ w. worker_view w) owns own)))
+        ∙ ap (λ (l : List T). takes_of (map (λ w. worker_view w) (owns ++ own ∷ [])) ++ l) (sym (flat_map-push rest_taken rests r))
         ))));
   }
     where

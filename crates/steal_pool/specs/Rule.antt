@@ -1,7 +1,7 @@
 -- The rule of one deque: its owner alone puts tasks, last, and the tasks that are gone from its front are those that the
 -- owner and the thieves took.
-use Rattle.std.specs.Prelude.{◌≡◌, ◌≢◌, ℕ, ◌+◌, List, [], ◌∷◌, ◌++◌, IsPermutation}
-use Rattle.std.specs.List.{flat_map}
+use Rattle.std.specs.Prelude.{◌≡◌, ◌≢◌, ℕ, List, [], ◌∷◌, ◌++◌, IsPermutation}
+use Rattle.std.specs.List.{flat_map, sum_by}
 use mathlib.Core.Option.{some}
 use lib.ListN.{get_elem?}
 use Rattle.steal_pool.specs.declared.hand.Hand.{Hand}
@@ -20,8 +20,7 @@ with_task v x = hand v.passes v.put (v.taken ++ x ∷ [])
 
 -- for how many passes some views stand together
 abbrev pub passes_of : {T : Type 0} → List (Hand T) → ℕ
-passes_of [] = 0
-passes_of (v ∷ vs) = v.passes + passes_of vs
+passes_of vs = sum_by (λ v. v.passes) vs
 
 -- what some views put
 abbrev pub puts_of : {T : Type 0} → List (Hand T) → List T

@@ -1,12 +1,13 @@
 -- What all hauls of a search show together.
 use Rattle.std.proofs.Common.{◌≡◌, ℕ, List, [], ◌∷◌, ◌++◌, length, subst, arith, All, length-append}
 use Rattle.std.proofs.lemmas.List.{length-map}
-use Rattle.std.proofs.lemmas.List.Elements.{All-nil, All-cons, All-append, All-head, All-tail, All-weaker, All-contains}
+use Rattle.std.proofs.lemmas.List.Elements.{All-nil, All-cons, All-head, All-tail, All-weaker, All-contains}
 use Rattle.std.proofs.lemmas.List.Sorted.{All-permutation}
 use Rattle.search_model.specs.declared.standing.Standing.{Standing}
 use Rattle.search_model.specs.Problem.{Problem, IsProblem}
 use Rattle.search_model.specs.Tracks.{whole_weight}
 use Rattle.list_laws.proofs.Members.{Contains-map_cases}
+use Rattle.list_laws.proofs.Wholes.{All-joined}
 use Rattle.bound_tree.specs.declared.node.Kind.TheVariants.{Branch}
 use Rattle.bound_tree.specs.declared.node.TreeNode.{TreeNode}
 use Rattle.bound_tree.specs.declared.plan.Plan.{Plan}
@@ -20,18 +21,12 @@ use Rattle.tree_gather.specs.Hauls.{Haul, IsHaulSound, records_of, waiting_of, l
 use Rattle.tree_gather.specs.Laws.{EvenHaulsAreJoined, JoinedAreLive, WaitingHaveMore, DoneAreAccepted}
 use Rattle.tree_gather.proofs.Sorted.{gathered_is_accepted}
 
--- what holds of each haul's records holds of all records
-all_records : (P : TreeNode → Type 0) (hauls : List Haul) → All (λ h. All P h.records) hauls → All P (records_of hauls)
-all_records P [] each = All-nil P
-all_records P (h ∷ hs) each =
-    let Q : Haul → Type 0 = λ h. All P h.records in
-    All-append P h.records (records_of hs) (All-head Q h hs each) (all_records P hs (All-tail Q h hs each))
-
+-- hauls branch only where the first standing does
 lets_branch : (p : Problem) (first : Standing) (hauls : List Haul) → All (IsHaulSound p first) hauls → LetsBranch p first (records_of hauls)
 lets_branch p first hauls sound =
     let P : TreeNode → Type 0 = λ r. r.kind ≡ Branch → IsClosed p first r.prefix Branch in
     let Q : Haul → Type 0 = λ h. All P h.records in
-    all_records P hauls (All-weaker (IsHaulSound p first) Q (λ h s. s.branches) hauls sound)
+    All-joined P (λ h. h.records) hauls (All-weaker (IsHaulSound p first) Q (λ h s. s.branches) hauls sound)
 
 -- the best of the last standings is exact, and no worse than the first one
 pub best_is_sound : (p : Problem) (first best : Standing) (hauls : List Haul) → All (IsHaulSound p first) hauls → IsBestOf (lasts_of hauls) best → IsExact p best × IsAtLeast best first
@@ -58,7 +53,7 @@ even_hauls_are_joined p first best hauls sound even each b =
       even = even;
       exact = last.0;
       up = last.1;
-      good = all_records (IsGood p best) hauls (good_under_best p first best hauls sound each b.best);
+      good = All-joined (IsGood p best) (λ h. h.records) hauls (good_under_best p first best hauls sound each b.best);
       branches = lets_branch p first hauls each;
     }
 

@@ -1,9 +1,9 @@
 -- Sorted records of a whole tree are its preorder.
-use Rattle.std.proofs.Common.{◌≡◌, ◌≢◌, ℕ, suc, ◌+◌, ◌<◌, true, false, List, [], ◌∷◌, length, get_or, sym, refl, arith, All, AllPairs, IsPermutation, sum_by}
+use Rattle.std.proofs.Common.{◌≡◌, ◌≢◌, ℕ, suc, ◌+◌, ◌<◌, true, false, List, [], ◌∷◌, length, get_or, sym, refl, arith, All, IsPermutation, sum_by}
 use Rattle.std.specs.List.Sorted.{IsSortedBy}
 use Rattle.std.proofs.lemmas.List.{length-map, get_or-map}
 use Rattle.std.proofs.lemmas.List.Elements.{All-nil, All-cons, All-weaker}
-use Rattle.std.proofs.lemmas.List.Kept.{AllPairs-cons}
+use Rattle.list_laws.proofs.Pairs.{AllPairs-nil, AllPairs-cons, AllPairs-head}
 use Rattle.std.proofs.lemmas.List.Recursion.{is_sum_by}
 use Rattle.std.proofs.lemmas.List.Sorted.{sum_by-IsPermutation, IsPermutation-map, All-permutation}
 use Rattle.search_model.specs.Problem.{Problem, IsProblem}
@@ -18,24 +18,23 @@ use Rattle.search_core.proofs.Counts.{count_of-append, count_of_here, SameItems-
 use Rattle.search_core.proofs.Reached.{distinct}
 use Rattle.search_core.proofs.Preorder.{balanced_is_accepted}
 use Rattle.tree_gather.specs.Gathered.{IsGathered, IsAcceptedWhereGood}
-use Rattle.search_core.proofs.Many.{IsAbove}
+use Rattle.search_core.proofs.Order.{IsAbove, Ascends}
 
 -- no prefix is smaller than the one before it
 abbrev NeverFalls : List (List ℕ) → Type 0
 NeverFalls qs = (k : ℕ) (d : List ℕ) → k + 1 < length qs → smaller (get_or qs (k + 1) d) (get_or qs k d) ≡ false
 
 -- the first of distinct prefixes that never fall is smaller than the second, and so than all
-first_below : (q : List ℕ) (qs : List (List ℕ)) → NeverFalls (q ∷ qs) → AreDistinct (q ∷ qs) → AllPairs IsAbove qs → All (IsAbove q) qs
+first_below : (q : List ℕ) (qs : List (List ℕ)) → NeverFalls (q ∷ qs) → AreDistinct (q ∷ qs) → Ascends qs → All (IsAbove q) qs
 first_below q [] up once above = All-nil (IsAbove q)
 first_below q (r ∷ rs) up once above =
     let differ : q ≢ r = λ e. (let one = once q in let here = count_of_here q q refl in let there = count_of_here q r (sym e) in omega (arith, one, here, there)) in
     let next : smaller q r ≡ true = smaller_total q r differ (up 0 [] (omega arith)) in
-    let later : All (IsAbove r) rs = λ k d l. above 0 (suc k) d (omega arith) (omega (arith, l)) in
-    All-cons (IsAbove q) r rs next (All-weaker (IsAbove r) (IsAbove q) (λ z h. smaller_trans q r z next h) rs later)
+    All-cons (IsAbove q) r rs next (All-weaker (IsAbove r) (IsAbove q) (λ z h. smaller_trans q r z next h) rs (AllPairs-head IsAbove r rs above))
 
 -- distinct prefixes that never fall ascend
-ascending : (qs : List (List ℕ)) → NeverFalls qs → AreDistinct qs → AllPairs IsAbove qs
-ascending [] up once = λ i j d before inside. absurd (omega (arith, inside))
+ascending : (qs : List (List ℕ)) → NeverFalls qs → AreDistinct qs → Ascends qs
+ascending [] up once = AllPairs-nil IsAbove
 ascending (q ∷ qs) up once =
     let rest = ascending qs (λ k d l. let step : suc k + 1 ≡ suc (k + 1) = omega arith in rw step at (up (suc k) d (omega (arith, l)))) (λ r. let one = once r in omega (arith, one)) in
     AllPairs-cons IsAbove q qs (first_below q qs up once rest) rest

@@ -54,7 +54,7 @@ pub record AreAllHauls (p : Problem) (left : List (List ℕ)) (hauls : List Haul
 abbrev pub idle_haul : Standing → List (List ℕ) → Haul
 idle_haul last tasks = record { began = tasks; records = []; waiting = tasks; put = []; taken = []; last = last }
 
--- hauls meet Balance's equation together: nothing is pooled, and what waits is held
+-- hauls meet the balance equation together: nothing is pooled, and what waits is held
 abbrev pub AreEven : Problem → List Haul → Type 0
 AreEven p hauls = MeetsEquation p [] (waiting_of hauls) (records_of hauls)
 
@@ -63,7 +63,7 @@ pub record IsBestOf (standings : List Standing) (s : Standing) : Type 0 where
   pub known : Contains standings s
   pub best : All (IsAtLeast s) standings
 
--- what the hauls of a search come to together: Balance's equation holds with nothing pooled and what waits held, the best
+-- what the hauls of a search come to together: the balance equation holds with nothing pooled and what waits held, the best
 -- standing is exact and no worse than the first, the records are good in themselves under it, and none branches where the
 -- first one closes its prefix by a bound
 pub record AreJoined (p : Problem) (first best : Standing) (waiting : List (List ℕ)) (closed : List TreeNode) : Type 0 where

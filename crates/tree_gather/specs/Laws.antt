@@ -1,4 +1,4 @@
--- What the definitions say together.
+-- Laws of hauls: what those of a whole search come to, and what a whole tree shows.
 use Rattle.std.specs.Prelude.{ℕ, ◌<◌, List, [], ◌++◌, length, All}
 use Rattle.search_model.specs.declared.standing.Standing.{Standing}
 use Rattle.search_model.specs.Problem.{Problem, IsProblem}
@@ -11,7 +11,7 @@ use Rattle.search_core.specs.Balance.{AreDistinct}
 use Rattle.tree_gather.specs.Gathered.{IsGathered}
 use Rattle.tree_gather.specs.Hauls.{Haul, IsHaulSound, records_of, waiting_of, lasts_of, AreAllHauls, AreEven, IsBestOf, AreJoined}
 
--- all hauls of a search meet Balance's equation together
+-- all hauls of a search meet the balance equation together
 abbrev pub AllHaulsAreEven : Type 0
 AllHaulsAreEven = (p : Problem) (left : List (List ℕ)) (hauls : List Haul) → AreAllHauls p left hauls → AreEven p hauls
 

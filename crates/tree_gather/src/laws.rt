@@ -1,8 +1,8 @@
-//! What the definitions say together.
+//! Laws of hauls: what those of a whole search come to, and what a whole tree shows.
 
 ghost use Rattle.tree_gather.specs.Laws.{AllHaulsAreEven, EvenHaulsAreJoined, JoinedAreLive, WaitingHaveMore, DoneAreAccepted};
 
-/// What all hauls of a search bring back meets Balance's equation, with nothing pooled, and is joined.
+/// What all hauls of a search bring back meets the balance equation, with nothing pooled, and is joined.
 pub fn all_hauls_are_joined()
     ensures even { AllHaulsAreEven }
     ensures joined { EvenHaulsAreJoined }

@@ -1,16 +1,17 @@
-use Rattle.std.proofs.Common.{◌≡◌, ◌+◌, ◌<◌, ℕ, List, [], ◌∷◌, ◌++◌, length, map, take, arith, ap, sym, ◌∙◌, subst, length-append}
+use Rattle.std.proofs.Common.{◌≡◌, ◌+◌, ◌<◌, ℕ, List, [], ◌∷◌, ◌++◌, length, map, take, arith, ap, sym, ◌∙◌, subst, length-append, All}
 use Rattle.std.proofs.lemmas.List.{length-map, map_push}
 use Rattle.crossbeam_deque.specs.Handles.{view, worker_view, worker_deque, stealer_deque}
 use Rattle.steal_pool.specs.declared.victim.Rest.{Rest}
 use Rattle.steal_pool.specs.News.{IsNewOwn, IsFresh}
 use Rattle.steal_pool.specs.Pools.{EachAt, IsRest, rest_taken}
-use Rattle.steal_pool.proofs.Places.{EachAt-push, EachAt-front, All-at, All-front, popped, put_together, take_front}
+use Rattle.list_laws.proofs.Halves.{All-front}
+use Rattle.steal_pool.proofs.Places.{EachAt-push, EachAt-front, All-middle, popped, put_together, take_front}
 use Rattle.steal_pool.proofs.Passes.{passes_at-popped, passes_at-unpopped, before_many, after_many}
 use Rattle.steal_pool.proofs.NewKits.{fresh_kit}
 use Rattle.steal_pool.proofs.making.assemble_all.Goals as goal
 
 pub assemble-requires-clause-new : goal.assemble-requires-clause-new
-assemble-requires-clause-new g c = All-at IsNewOwn _ c.pop.new.self.items [] c.in-Some.own c.in-Some.ensures.items c.loop-own.invariant.new
+assemble-requires-clause-new g c = All-middle IsNewOwn _ c.pop.new.self.items [] c.in-Some.own c.in-Some.ensures.items c.loop-own.invariant.new
 
 pub assemble-requires-clause-passes : goal.assemble-requires-clause-passes
 assemble-requires-clause-passes g c =
@@ -61,12 +62,12 @@ loop-own-preserved g c =
     ∙ ap (λ l. l ++ worker_deque own ∷ map (λ v. stealer_deque v.thief) rest.after.items) fits.before
     ∙ ap (λ l. take m ids ++ worker_deque own ∷ l) fits.after
     ∙ put_together ids m (worker_deque own) split.1 in
-    let fresh_own : IsNewOwn own = All-at IsNewOwn _ owns [] own c.in-Some.ensures.items inv.new in
+    let fresh_own : IsNewOwn own = All-middle IsNewOwn _ owns [] own c.in-Some.ensures.items inv.new in
     let fresh : IsFresh kit = fresh_kit kit (map (λ v. view v.pass) rest.before.items) (map (λ v. view v.pass) rest.after.items) (worker_view own) made.hands (made.place ∙ sym (length-map rest.before.items (λ v. view v.pass))) fresh_own.put fresh_own.taken known.1 made.misses in
     let place = made.place ∙ before_many ids m rest here fits in
     record {
       deques = split.0;
-      new = All-front IsNewOwn _ owns (own ∷ []) c.in-Some.ensures.items inv.new;
+      new = All-front IsNewOwn owns (own ∷ []) (subst (All IsNewOwn) c.in-Some.ensures.items inv.new);
       passes = λ i within. omega (arith, inv.passes i (omega (arith, own_is.longer)), passes_at-unpopped c.loop-own.owns.items owns own i c.in-Some.ensures.items within);
       many = as_many;
       rests = EachAt-front (λ i r. IsRest ids i r × (rest_taken r ≡ [])) rests (rest ∷ []) (subst (λ (l : List (Rest _)). EachAt l (λ i r. IsRest ids i r × (rest_taken r ≡ []))) c.in-Some-pop.ensures.items inv.rests);

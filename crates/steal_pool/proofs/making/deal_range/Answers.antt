@@ -1,4 +1,4 @@
-use Rattle.std.proofs.Common.{◌≡◌, ◌≢◌, ◌+◌, ◌-◌, ◌<◌, ⊎_elim, inl, inr, ℕ, suc, [], ◌∷◌, ◌++◌, length, map, take, drop, set, slice_get, Some, arith, ap, sym, ◌∙◌, subst}
+use Rattle.std.proofs.Common.{◌≡◌, ◌≢◌, ◌+◌, ◌-◌, ◌<◌, ⊎_elim, inl, inr, ℕ, [], ◌∷◌, ◌++◌, length, map, take, drop, set, slice_get, Some, arith, ap, sym, ◌∙◌, subst}
 use Rattle.std.proofs.lemmas.Bool.{cases_lt}
 use Rattle.std.proofs.lemmas.List.{map_push}
 use Rattle.std.proofs.lemmas.List.Elements.{All-get_or, All-set}
@@ -38,7 +38,7 @@ loop-at-preserved g c =
     let there = λ (i : ℕ) (differ : i ≢ at). passes_at-unwritten ws at i new differ in
     let here : slice_get ids at ≡ Some (worker_deque read) = ap (λ l. slice_get l at) (sym inv.same) ∙ slice_get_map_read (λ w. worker_deque w) ws at read below c.index_mut-own.ensures.value in
     let back : from + (at - from) ≡ at = omega arith in
-    let more : suc (at - from) ≡ at + 1 - from = omega arith in
+    let more : at - from + 1 ≡ at + 1 - from = omega arith in
     let next : slice_get (drop from ids) (at - from) ≡ Some (stealer_deque victim.thief) = slice_get-drop ids from (at - from) ∙ ap (λ n. slice_get ids n) back ∙ here ∙ ap Some (sym c.in_ok-deal_one.ensures.victim) in
     record {
       low = omega arith;

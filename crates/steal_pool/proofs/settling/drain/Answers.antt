@@ -1,7 +1,7 @@
 use Rattle.std.proofs.Common.{[], ◌∷◌, ◌++◌, length, IsPermutation, ap, sym, ◌∙◌, arith, append_assoc, length-append}
 use Rattle.std.proofs.lemmas.List.Sorted.{IsPermutation-trans, IsPermutation-append_left}
 use Rattle.crossbeam_deque.specs.Handles.{worker_view}
-use Rattle.steal_pool.proofs.Exchanges.{IsPermutation-same, IsPermutation-swap_last}
+use Rattle.list_laws.proofs.Exchanges.{IsPermutation-same, IsPermutation-swap_last}
 use Rattle.steal_pool.proofs.Balance.{whole}
 use Rattle.steal_pool.proofs.Left.{left_many, left_none}
 use Rattle.steal_pool.proofs.settling.drain.Goals as goal

@@ -3,14 +3,14 @@ use Rattle.std.proofs.lemmas.List.{map_push, get_or_at, map-append, length-map}
 use Rattle.crossbeam_deque.specs.Handles.{worker_view}
 use Rattle.steal_pool.specs.Rule.{hand}
 use Rattle.steal_pool.specs.Pools.{IsOwner, passes_at}
-use Rattle.steal_pool.proofs.Places.{All-at}
+use Rattle.steal_pool.proofs.Places.{All-middle}
 use Rattle.steal_pool.proofs.Settled.{drained_more}
 use Rattle.steal_pool.proofs.settling.drain_all.Goals as goal
 
 pub drain-requires-clause-fifo : goal.drain-requires-clause-fifo
 drain-requires-clause-fifo g c =
     let split = c.loop-own.invariant.split ∙ ap (λ l. c.loop-own.yielded ++ l) c.in-Some.ensures.steps.0 in
-    (All-at IsOwner c.args.owns.items c.loop-own.yielded c.next.new.self.rest.items c.in-Some.own split c.requires.owner).fifo
+    (All-middle IsOwner c.args.owns.items c.loop-own.yielded c.next.new.self.rest.items c.in-Some.own split c.requires.owner).fifo
 
 pub drain-requires-clause-passes : goal.drain-requires-clause-passes
 drain-requires-clause-passes g c =

@@ -7,8 +7,9 @@ use Rattle.steal_pool.specs.declared.victim.Rest.{Rest}
 use Rattle.steal_pool.specs.Rule.{takes_of}
 use Rattle.steal_pool.specs.Pools.{EachAt, IsRest, rest_taken}
 use Rattle.steal_pool.proofs.Places.{EachAt-front, popped}
+use Rattle.list_laws.proofs.Changed.{flat_map-push}
 use Rattle.steal_pool.proofs.Passes.{victims_of}
-use Rattle.steal_pool.proofs.Settled.{rests-push, given_more}
+use Rattle.steal_pool.proofs.Settled.{given_more}
 use Rattle.steal_pool.proofs.settling.give_all.Goals as goal
 
 pub give_range-requires-clause-room : goal.give_range-requires-clause-room
@@ -96,7 +97,7 @@ loop-rest-preserved g c =
       ];
       put = a.put ∙ b.put ∙ inv.put;
       taken =
-          (let all : flat_map rest_taken c.loop-rest.rests.items ≡ flat_map rest_taken rests ++ rest_taken rest = ap (λ l. flat_map rest_taken l) c.in-Some.ensures.items ∙ rests-push rests rest in
+          (let all : flat_map rest_taken c.loop-rest.rests.items ≡ flat_map rest_taken rests ++ rest_taken rest = ap (λ l. flat_map rest_taken l) c.in-Some.ensures.items ∙ flat_map-push rest_taken rests rest in
           given_more (takes_of (map (λ w. worker_view w) owns)) (takes_of (map (λ w. worker_view w) owns1)) (takes_of (map (λ w. worker_view w) owns2))
           (takes_of (map (λ v. view v.pass) rest.before.items)) (takes_of (map (λ v. view v.pass) rest.after.items)) (flat_map rest_taken rests) _
           b.taken a.taken (rw all at inv.taken));

@@ -3,7 +3,7 @@ use Rattle.std.proofs.lemmas.List.{length-map}
 use Rattle.std.proofs.lemmas.List.Sorted.{IsPermutation-sym, IsPermutation-trans, IsPermutation-append_left}
 use Rattle.crossbeam_deque.specs.Handles.{worker_deque}
 use Rattle.steal_pool.specs.Pools.{IsRest}
-use Rattle.steal_pool.proofs.Exchanges.{IsPermutation-same}
+use Rattle.list_laws.proofs.Exchanges.{IsPermutation-same}
 use Rattle.steal_pool.proofs.settling.settle.Goals as goal
 
 pub give_all-requires-clause-each : goal.give_all-requires-clause-each

@@ -3,7 +3,7 @@ use Rattle.std.specs.List.{sum_by, range_with_len}
 use Rattle.std.proofs.lemmas.List.Sums.{sum_by_push}
 use Rattle.std.proofs.lemmas.List.Sorted.{IsPermutation-trans}
 use Rattle.node_tickets.specs.Seats.{ALL_SEATS, SeatView}
-use Rattle.node_tickets.proofs.Crews.{IsSeatOf-same}
+use Rattle.node_tickets.proofs.Kept.{IsSeatOf-same}
 use Rattle.node_tickets.proofs.Steps.{closes}
 use Rattle.node_tickets.proofs.Closing.{joined_all, all_numbers, all_may}
 use Rattle.node_tickets.proofs.tickets.Tickets.close.Goals as goal

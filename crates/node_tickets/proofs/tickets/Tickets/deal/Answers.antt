@@ -1,6 +1,6 @@
 use Rattle.std.proofs.Common.{ap, ◌∙◌, arith}
 use Rattle.node_tickets.specs.Seats.{SeatView}
-use Rattle.node_tickets.proofs.Crews.{IsSeatOf-same}
+use Rattle.node_tickets.proofs.Kept.{IsSeatOf-same}
 use Rattle.node_tickets.proofs.Steps.{forks}
 use Rattle.node_tickets.proofs.tickets.Tickets.deal.Goals as goal
 

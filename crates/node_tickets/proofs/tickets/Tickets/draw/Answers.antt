@@ -1,7 +1,7 @@
 use Rattle.std.proofs.Common.{◌≡◌, ◌+◌, ◌<◌, ℕ, sym, ap, ◌∙◌, subst, arith, All}
 use Rattle.node_tickets.specs.Draws.{IfNumber, IfFull}
 use Rattle.node_tickets.specs.Seats.{SeatView, MayDraw, numbers_of}
-use Rattle.node_tickets.proofs.Crews.{IsSeatOf-same}
+use Rattle.node_tickets.proofs.Kept.{IsSeatOf-same}
 use Rattle.node_tickets.proofs.Steps.{draws}
 use Rattle.node_tickets.proofs.Tallies.{low_by, number_counts, full_counts}
 use Rattle.node_tickets.proofs.tickets.Tickets.draw.Goals as goal

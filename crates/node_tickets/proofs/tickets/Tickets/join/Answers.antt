@@ -1,5 +1,5 @@
 use Rattle.std.proofs.Common.{arith}
-use Rattle.node_tickets.proofs.Crews.{IsSeatOf-same}
+use Rattle.node_tickets.proofs.Kept.{IsSeatOf-same}
 use Rattle.node_tickets.proofs.Steps.{merges}
 use Rattle.node_tickets.proofs.tickets.Tickets.join.Goals as goal
 

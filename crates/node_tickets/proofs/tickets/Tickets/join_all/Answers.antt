@@ -2,7 +2,7 @@ use Rattle.std.proofs.Common.{◌∷◌, [], arith, ap, ◌∙◌, subst, All}
 use Rattle.std.specs.List.{sum_by}
 use Rattle.std.proofs.lemmas.List.Sums.{sum_by_push}
 use Rattle.node_tickets.specs.Seats.{SeatView, IsSeatOf}
-use Rattle.node_tickets.proofs.Views.{All-left}
+use Rattle.list_laws.proofs.Halves.{All-front}
 use Rattle.node_tickets.proofs.Closing.{joined_more}
 use Rattle.node_tickets.proofs.tickets.Tickets.join_all.Goals as goal
 
@@ -17,7 +17,7 @@ loop-seat-preserved c =
     let stands = λ (s : SeatView). s.stands_for in
     record {
       whole = (ap (λ (s : SeatView). s.tickets) joined ∙ inv.whole.0, ap (λ (s : SeatView). s.limit) joined ∙ inv.whole.1);
-      seats = All-left its rest (seat ∷ []) (subst (All its) split inv.seats);
+      seats = All-front its rest (seat ∷ []) (subst (All its) split inv.seats);
       stands = omega (arith, ap stands joined, inv.stands, ap (sum_by stands) split, sum_by_push stands rest seat);
       drawn = joined_more c.loop-seat.whole.drawn _ _ c.loop-seat.seats.items rest seat split (ap (λ (s : SeatView). s.drawn) joined) inv.drawn;
     }
