@@ -8,12 +8,7 @@ use Rattle.drift_chain.specs.DriftRows.{drift_over, drift_cells}
 use Rattle.sweep_table.specs.LookParts.{parts_over, IsSweep}
 use Rattle.sweep_table.proofs.Factors.{IsSweep-from_parts}
 use Rattle.search_grid.proofs.Beside.{IsGrid-from_sides}
-use Rattle.search_model.specs.declared.scenario.Parts.{Parts}
-use Rattle.search_model.specs.declared.scenario.ModelFault.{ModelFault}
 use Rattle.search_model.specs.Problem.{Problem, IsProblem}
-use Rattle.search_model.specs.Parts.{problem_of}
-use Rattle.search_model.specs.Faults.{HasFault}
-use Rattle.search_model.proofs.FaultLemmas
 use Rattle.scenario_maker.specs.Generator.{next, state_after}
 use Rattle.search_model.specs.Grids.{grid_names, spread_rows}
 use Rattle.scenario_maker.specs.Made.{start_of, part_cells, spread_of, overlook_of, counts_of, made_problem}
@@ -72,17 +67,6 @@ made_is_problem number = record {
   sweep_cells = length-replicate 25 (overlook_of number);
   fits = omega arith;
 }
-
--- parts that make a problem have no fault
-pub no_fault : (parts : Parts) → IsProblem (problem_of parts) → (fault : ModelFault) → ¬ HasFault parts fault
-no_fault parts right =
-    FaultLemmas.no_fault parts
-    (record { horizon = right.horizon; total = right.total })
-    (record { names = right.names_length; first = right.first_length; grid = right.positions; positions = right.sweep_positions ∙ right.positions; cells = right.sweep_cells })
-    (λ past. omega (arith, past, right.start))
-    right.first_total
-    right.names_differ
-    right.fits
 
 -- a problem of these parts is the one that is made
 pub is_made : (number : ℕ) (p : Problem) → p.names ≡ grid_names 5 5 → p.cells ≡ drift_cells p.drift → p.positions ≡ length p.moves → p.horizon ≡ 8 → p.start ≡ start_of number → p.total ≡ 60 →

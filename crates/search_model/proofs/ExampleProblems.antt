@@ -19,13 +19,13 @@ below_one P p = below_more P 0 (λ d less. absurd (omega (arith, less))) p
 below_two : (P : ℕ → Type 0) → P 0 → P 1 → (d : ℕ) → d < 2 → P d
 below_two P p q = below_more P 1 (below_one P p) q
 
-below_three : (P : ℕ → Type 0) → P 0 → P 1 → P 2 → (d : ℕ) → d < 3 → P d
+pub below_three : (P : ℕ → Type 0) → P 0 → P 1 → P 2 → (d : ℕ) → d < 3 → P d
 below_three P p q r = below_more P 2 (below_two P p q) r
 
 one_move : (n a : ℕ) → a < n → IsMoveRow n (a ∷ [])
 one_move n a here = record { some = omega arith; few = omega arith; ascending = λ k less. absurd (omega (arith, less)); within = All-from_recursion (λ q. q < n) (a ∷ []) (here, tt) }
 
-two_moves : (n a b : ℕ) → a < b → b < n → IsMoveRow n (a ∷ b ∷ [])
+pub two_moves : (n a b : ℕ) → a < b → b < n → IsMoveRow n (a ∷ b ∷ [])
 two_moves n a b up here = record {
   some = omega arith;
   few = omega arith;
@@ -41,7 +41,7 @@ three_moves = record {
   within = All-from_recursion (λ q. q < 3) (0 ∷ 1 ∷ 2 ∷ []) (omega arith, (omega arith, (omega arith, tt)));
 }
 
-one_step : (denominator n c : ℕ) → c < n → 1 ≤ denominator → IsDriftRow denominator n (goes_to c denominator ∷ [])
+pub one_step : (denominator n c : ℕ) → c < n → 1 ≤ denominator → IsDriftRow denominator n (goes_to c denominator ∷ [])
 one_step denominator n c here some = record {
   within = All-from_recursion (λ entry. entry.cell < n) (goes_to c denominator ∷ []) (here, tt);
   positive = All-from_recursion (λ entry. 1 ≤ entry.part) (goes_to c denominator ∷ []) (some, tt);
@@ -57,17 +57,17 @@ two_steps = record {
   total = refl;
 }
 
-letters : (b : ℕ) → is_name_byte b ≡ true → IsName (b ∷ [])
+pub letters : (b : ℕ) → is_name_byte b ≡ true → IsName (b ∷ [])
 letters b test = record { some = omega arith; short = omega arith; bytes = and_from (is_name_byte b) true test refl }
 
-apart : (a b : ℕ) (names : List (List ℕ)) → a < b → ¬ Contains names (b ∷ []) → ¬ Contains ((a ∷ []) ∷ names) (b ∷ [])
+pub apart : (a b : ℕ) (names : List (List ℕ)) → a < b → ¬ Contains names (b ∷ []) → ¬ Contains ((a ∷ []) ∷ names) (b ∷ [])
 apart a b names less rest has = elim (Contains-cons_cases (a ∷ []) (b ∷ []) names has) [
   | inl e ↦ omega (arith, less, ap (λ xs. slice_index xs 0) e)
   | inr k ↦ rest k
 ]
 
 -- the last of the names is not among the earlier ones
-abbrev NotBefore : List (List ℕ) → ℕ → Type 0
+abbrev pub NotBefore : List (List ℕ) → ℕ → Type 0
 NotBefore names c = ¬ Contains (take c names) (name_in names c)
 
 pub one_cell_sound : IsProblem one_cell

@@ -1,10 +1,12 @@
 -- The first fault of parts.
-use Rattle.std.proofs.Common.{ℕ, ◌≡◌, ◌<◌, ◌≤◌, length, sum, inl, inr, arith}
+use Rattle.std.proofs.Common.{ℕ, ◌≡◌, ◌<◌, ◌≤◌, length, sum, inl, inr, ◌∙◌, arith}
 use Rattle.exact_parts.specs.Width.{Fits}
 use Rattle.search_model.specs.declared.scenario.Parts.{Parts}
 use Rattle.search_model.specs.declared.scenario.ModelFault.{ModelFault}
 use Rattle.search_model.specs.declared.scenario.ModelFault.TheVariants.{OutOfLimits, SizesDiffer, StartOutOfRange, WrongFirstSum, DoubleName, TooWide}
 use Rattle.search_model.specs.Names.{IsRepeated}
+use Rattle.search_model.specs.Problem.{IsProblem}
+use Rattle.search_model.specs.Parts.{problem_of}
 use Rattle.search_model.specs.Faults.{WithinLimits, SizesAgree, HasFault, GoesBefore, IsFirstFault}
 
 module _ (s : Parts) (limits : WithinLimits s) (sizes : SizesAgree s) (start : length s.grid ≤ s.start → ⊥) (total : sum s.first.items ≡ s.total) where
@@ -40,3 +42,14 @@ module _ (s : Parts) (limits : WithinLimits s) (sizes : SizesAgree s) (start : l
   no_fault differ fits WrongFirstSum has = has total
   no_fault differ fits (DoubleName d) has = differ d has
   no_fault differ fits TooWide has = has fits
+
+-- parts that make a problem have no fault
+pub faultless : (parts : Parts) → IsProblem (problem_of parts) → (fault : ModelFault) → ¬ HasFault parts fault
+faultless parts right =
+    no_fault parts
+    (record { horizon = right.horizon; total = right.total })
+    (record { names = right.names_length; first = right.first_length; grid = right.positions; positions = right.sweep_positions ∙ right.positions; cells = right.sweep_cells })
+    (λ past. omega (arith, past, right.start))
+    right.first_total
+    right.names_differ
+    right.fits

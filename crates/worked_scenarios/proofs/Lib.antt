@@ -1,0 +1,2 @@
+pub mod FourCells
+pub mod TwoRates

@@ -1,0 +1,5 @@
+use Rattle.worked_scenarios.proofs.TwoRates.{two_rates_sound}
+use Rattle.worked_scenarios.proofs.problems.two_rates.Goals as goal
+
+pub waiting-requires : goal.waiting-requires
+waiting-requires c = two_rates_sound

@@ -1,0 +1,7 @@
+//! Small search problems whose values are worked by hand, for the tests of other crates.
+#![tactic(auto)]
+
+mod lists;
+mod problems;
+
+pub use problems::{four_cells, one_cell, two_cells, two_rates, waiting_longer, waiting_target};
