@@ -45,6 +45,9 @@ at_lines (line ∷ lines) s number front is =
 pub front_ended : (text : List ℕ) (front : Front) → front_of text ≡ Ok front → front.state.stage ≡ Ended
 front_ended text front is = (at_lines (lines_of text) _ 1 front is).0
 
+pub front_line : (text : List ℕ) (front : Front) → front_of text ≡ Ok front → front.line ≤ length (lines_of text)
+front_line text front is = let line = (at_lines (lines_of text) _ 1 front is).1 in omega (arith, line)
+
 -- Lines have bytes.
 one_shorter : (b : Bool) (most : ℕ) (xs ys : List ℕ) → length xs ≤ most → length ys ≤ most → length (if b then xs else ys) ≤ suc most
 one_shorter true most xs ys le le' = omega (arith, le)
@@ -73,9 +76,7 @@ room (suc n) [] le = absurd (omega arith)
 room (suc n) (c ∷ cs) le = one_line (c == 10) c n cs (room n cs) (room (suc n) cs) le
 
 pub front_room : (text : List ℕ) (front : Front) → front_of text ≡ Ok front → front.line + length (after_lines front.line text) ≤ length text
-front_room text front is =
-    let line = (at_lines (lines_of text) _ 1 front is).1 in
-    room front.line text (omega (arith, line))
+front_room text front is = room front.line text (front_line text front is)
 
 -- What was read is the scenario at the front, and of the whole text where nothing more is said.
 pub IsFront-read : (text rest : List ℕ) (front : Front) (p : Problem) (n : ℕ) → front_of text ≡ Ok front → rest ≡ after_lines front.line text → Says front.state p → n ≡ length text - length rest → IsFront text p n
