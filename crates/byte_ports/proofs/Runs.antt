@@ -1,37 +1,13 @@
 -- One more call at the end of a run, and the bytes that two runs in a row take or append.
-use Rattle.std.proofs.Common.{◌≡◌, ℕ, ◌+◌, ◌-◌, ◌<◌, ◌≤◌, List, [], ◌++◌, length, take, drop, refl, sym, ◌∙◌, ap, append_assoc, None, Some, Ok, arith, length-append, length-take, length-drop}
+use Rattle.std.proofs.Common.{◌≡◌, ℕ, ◌+◌, ◌-◌, ◌<◌, ◌≤◌, List, ◌++◌, length, take, drop, ap, Ok, arith, length-append, length-take, length-drop}
 use Rattle.std.proofs.Math.Seq.{take-add, take-length}
-use Rattle.std.proofs.lemmas.List.{append-nil}
+use Rattle.std.proofs.KnownBytes.{Appends-trans}
 use Rattle.std.specs.declared.option.Option.{Option}
 use Rattle.std.specs.declared.result.Result.{Result}
 use Rattle.std.specs.Io.KnownBytes.{Consumes, Appends}
 use Rattle.byte_ports.specs.declared.ports.Failed.{Failed}
 use Rattle.byte_ports.specs.declared.ports.SinkStop.{SinkStop}
 use Rattle.byte_ports.specs.Runs.{Gave, Took, ReadsCount, ReadsAtMostCount}
-
--- Nothing is taken where nothing is read.
-pub Consumes-nil : (a : Option (List ℕ)) → Consumes a a []
-Consumes-nil None = tt
-Consumes-nil (Some xs) = refl
-
--- What two runs of reads take is what the first takes, and then the second.
-pub Consumes-then : (a b c : Option (List ℕ)) (xs ys : List ℕ) → Consumes a b xs → Consumes b c ys → Consumes a c (xs ++ ys)
-Consumes-then None b c xs ys p q = tt
-Consumes-then (Some us) None c xs ys p q = absurd p
-Consumes-then (Some us) (Some bs) None xs ys p q = absurd q
-Consumes-then (Some us) (Some bs) (Some cs) xs ys p q = p ∙ ap (λ (t : List ℕ). xs ++ t) q ∙ sym (append_assoc xs ys cs)
-
--- Nothing is appended where nothing is written.
-pub Appends-nil : (a : Option (List ℕ)) → Appends a a []
-Appends-nil None = tt
-Appends-nil (Some xs) = sym (append-nil xs)
-
--- What two runs of writes append is what the first appends, and then the second.
-pub Appends-then : (a b c : Option (List ℕ)) (xs ys : List ℕ) → Appends a b xs → Appends b c ys → Appends a c (xs ++ ys)
-Appends-then None b c xs ys p q = tt
-Appends-then (Some us) None c xs ys p q = absurd p
-Appends-then (Some us) (Some bs) None xs ys p q = absurd q
-Appends-then (Some us) (Some bs) (Some cs) xs ys p q = q ∙ ap (λ (t : List ℕ). t ++ ys) p ∙ append_assoc us xs ys
 
 -- The range from a place to the end of a text is all that is left of it.
 pub rest_whole : (at : ℕ) (text : List ℕ) → take (length text - at) (drop at text) ≡ drop at text
@@ -41,7 +17,7 @@ rest_whole at text = rw (← length-drop at text) (take-length (drop at text))
 pub appends_more : (a b c : Option (List ℕ)) (text : List ℕ) (done n : ℕ) → Appends a b (take done text) → Appends b c (take n (take (length text - done) (drop done text))) → Appends a c (take (done + n) text)
 appends_more a b c text done n p q =
     let whole = rest_whole done text in
-    rw take-add (Appends-then a b c (take done text) (take n (drop done text)) p (rw whole at q))
+    rw take-add (Appends-trans a b c (take done text) (take n (drop done text)) p (rw whole at q))
 
 -- One more write of what is left goes on with a run of writes.
 pub took_more : {K : Type 0} (Gives : K → List ℕ → Result ℕ SinkStop → K → Type 0) (text : List ℕ) (old mid new : K) (done n : ℕ) → Took Gives text old done mid → Gives mid (take (length text - done) (drop done text)) (Ok n) new → 0 < n → Took Gives text old (done + n) new
@@ -62,3 +38,10 @@ reads_count Gives old new bytes most count (reads, few, gave) exactly room = rec
 -- A run of reads makes no more calls than the bytes that it gave, here bounded.
 pub reads_at_most : {S : Type 0} (Gives : S → List ℕ → Result ℕ Failed → S → Type 0) (old new : S) (bytes : List ℕ) (most limit : ℕ) → GaveBytes Gives old bytes new → length bytes ≤ limit → limit ≤ most → ReadsAtMostCount Gives most limit old new
 reads_at_most Gives old new bytes most limit (reads, few, gave) within room = record { reads = reads; bytes = bytes; gave = gave; few = omega arith; within = within }
+
+-- So many bytes were taken, and a receiver took them.
+pub record HasHandedOn {T : Type 0} (Took : List ℕ → T → Type 0) (count : ℕ) (left left' : Option (List ℕ)) (old new : T) : Type 0 where
+  pub bytes : List ℕ
+  pub taken : Consumes left left' bytes
+  pub exactly : length bytes ≡ count
+  pub received : (before : List ℕ) → Took before old → Took (before ++ bytes) new

@@ -45,10 +45,11 @@ at_lines (line ∷ lines) s number front is =
 pub front_ended : (text : List ℕ) (front : Front) → front_of text ≡ Ok front → front.state.stage ≡ Ended
 front_ended text front is = (at_lines (lines_of text) _ 1 front is).0
 
+pub front_line : (text : List ℕ) (front : Front) → front_of text ≡ Ok front → front.line ≤ length (lines_of text)
+front_line text front is = let line = (at_lines (lines_of text) _ 1 front is).1 in omega (arith, line)
+
 pub front_room : (text : List ℕ) (front : Front) → front_of text ≡ Ok front → front.line + length (after_lines front.line text) ≤ length text
-front_room text front is =
-    let line = (at_lines (lines_of text) _ 1 front is).1 in
-    lines_fit front.line text (omega (arith, line))
+front_room text front is = lines_fit front.line text (front_line text front is)
 
 -- What was read is the scenario at the front, and of the whole text where nothing more is said.
 pub IsFront-read : (text rest : List ℕ) (front : Front) (p : Problem) (n : ℕ) → front_of text ≡ Ok front → rest ≡ after_lines front.line text → Says front.state p → n ≡ length text - length rest → IsFront text p n

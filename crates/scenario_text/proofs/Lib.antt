@@ -31,6 +31,7 @@ pub mod Places
 pub mod Faultless
 pub mod Assembled
 pub mod FrontLines
+pub mod EndLines
 pub mod FirstFaults
 pub mod Tables
 pub mod Answered

@@ -1,6 +1,8 @@
 -- The canonical text reads back, and a text spells one scenario.
-use Rattle.std.specs.Prelude.{◌≡◌, ℕ, List, ◌++◌, length, Ok}
+use Rattle.std.specs.Prelude.{◌≡◌, ◌↔◌, ℕ, List, [], ◌∷◌, ◌++◌, length, Ok, codes}
 use Rattle.search_model.specs.Problem.{Problem, IsProblem}
+use Rattle.text_rows.specs.Lines.{lines_of}
+use Rattle.text_rows.specs.Fields.{fields_of}
 use Rattle.scenario_text.specs.Reading.{Front, front_of}
 use Rattle.scenario_text.specs.State.{State}
 use Rattle.scenario_text.specs.Canonical.{canonical_text, state_of_problem}
@@ -25,3 +27,15 @@ CanonicalReadsBack = (p : Problem) → IsProblem p → IsTextOf p (canonical_tex
 -- and so it is with all of its bytes, whatever follows it
 abbrev pub CanonicalFrontReadsBack : Type 0
 CanonicalFrontReadsBack = (p : Problem) (rest : List ℕ) → IsProblem p → IsFront (canonical_text p ++ rest) p (length (canonical_text p))
+
+-- the last line has the one word `end`, and its line feed
+pub record EndsWithEnd (text : List ℕ) : Type 0 where
+  pub before : List (List ℕ)
+  pub last : List ℕ
+  pub lines : lines_of text ≡ before ++ last ∷ []
+  pub word : fields_of last ≡ codes "end" ∷ []
+  pub feed : (start : List ℕ) × (text ≡ start ++ 10 ∷ [])
+
+-- whatever follows such a line, the same scenario of the same length stands at the front, or the same fault
+abbrev pub FrontIgnoresRest : Type 0
+FrontIgnoresRest = (front rest : List ℕ) → EndsWithEnd front → (front_of (front ++ rest) ≡ front_of front) × ((p : Problem) (n : ℕ) → IsFront front p n ↔ IsFront (front ++ rest) p n)

@@ -1,6 +1,6 @@
 //! What the definitions of the text say together.
 
-ghost use Rattle.scenario_text.specs.Laws.{OneProblem, EveryTextSpellsOne, CanonicalSays, CanonicalReadsBack, CanonicalFrontReadsBack};
+ghost use Rattle.scenario_text.specs.Laws.{OneProblem, EveryTextSpellsOne, CanonicalSays, CanonicalReadsBack, CanonicalFrontReadsBack, FrontIgnoresRest};
 ghost use Rattle.scenario_text.specs.InRows.{GridInRows, GridReadsOn, RateInRows, SpreadInRows};
 ghost use Rattle.scenario_text.specs.KindTable.{KindsByTable};
 ghost use Rattle.scenario_text.specs.ReadingLaws.{SilentLinesAddNothing, FirstFaultDecides, FirstFaultDecidesAlone};
@@ -81,4 +81,9 @@ pub fn every_text_spells_one()
 #[tactic(auto, using(crate::proofs::GridRows::grid_reads_on))]
 pub fn grid_reads_on()
     ensures { GridReadsOn }
+{}
+
+/// What follows a line with the one word `end` isn't looked at, whatever stands before it.
+pub fn front_ignores_rest()
+    ensures { FrontIgnoresRest }
 {}

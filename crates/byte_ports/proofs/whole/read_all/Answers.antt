@@ -1,7 +1,8 @@
 use Rattle.std.proofs.Common.{rules, arith, ◌++◌, take, drop, length-append, length-take}
 use Rattle.std.proofs.lemmas.List.{take-append-le}
 use Rattle.byte_ports.specs.Runs.{Gave}
-use Rattle.byte_ports.proofs.Runs.{Consumes-nil, Consumes-then, gave_more, reads_count, reads_at_most}
+use Rattle.std.proofs.KnownBytes.{Consumes-nil, Consumes-trans}
+use Rattle.byte_ports.proofs.Runs.{gave_more, reads_count, reads_at_most}
 use Rattle.byte_ports.proofs.whole.read_all.Goals as goal
 
 pub reads-init : goal.reads-init
@@ -21,7 +22,7 @@ reads-preserved g c =
     let grown = c.in_ok-extend_from_slice-in-Ok-2.ensures.items in
     record {
       within = grind (arith, length-take);
-      consumed = rw (grown, front) (Consumes-then _ _ _ _ _ before.consumed once.bytes.0);
+      consumed = rw (grown, front) (Consumes-trans _ _ _ _ _ before.consumed once.bytes.0);
       faults_kept = grind arith;
       gave = rw (grown, front) (gave_more _ _ _ _ _ _ _ before.gave once.once (omega arith) once.bound.0);
     }
@@ -30,7 +31,7 @@ pub returns-in-Ok-clause-too_long : goal.returns-in-Ok-clause-too_long
 returns-in-Ok-clause-too_long g c =
     λ _. (
       c.reads.bytes.items ++ take c.in-Ok.count c.read.new.to,
-      Consumes-then _ _ _ _ _ c.reads.invariant.consumed c.in-Ok.ensures.bytes.0,
+      Consumes-trans _ _ _ _ _ c.reads.invariant.consumed c.in-Ok.ensures.bytes.0,
       grind (arith, length-append, length-take),
     )
 
@@ -45,7 +46,7 @@ pub returns-in_err-extend_from_slice-in-Ok-2-clause-taken_no_memory : goal.retur
 returns-in_err-extend_from_slice-in-Ok-2-clause-taken_no_memory g c =
     λ _. (
       c.reads.bytes.items ++ take c.in-Ok.count c.read.new.to,
-      Consumes-then _ _ _ _ _ c.reads.invariant.consumed c.in-Ok.ensures.bytes.0,
+      Consumes-trans _ _ _ _ _ c.reads.invariant.consumed c.in-Ok.ensures.bytes.0,
       grind (arith, length-append, length-take),
     )
 

@@ -1,7 +1,8 @@
 use Rattle.std.proofs.Common.{rules, arith}
 use Rattle.std.proofs.lemmas.Grind.{common_steps}
 use Rattle.byte_ports.specs.Runs.{Took}
-use Rattle.byte_ports.proofs.Runs.{Appends-nil, appends_more, took_more}
+use Rattle.std.proofs.KnownBytes.{Appends-nil}
+use Rattle.byte_ports.proofs.Runs.{appends_more, took_more}
 use Rattle.byte_ports.proofs.whole.write_all.Goals as goal
 
 pub loop-done-init : goal.loop-done-init

@@ -1,6 +1,6 @@
 use Rattle.std.proofs.Common.{rules, [], ◌∷◌}
 use Rattle.steal_pool.specs.News.{IsFresh as IsFreshKit}
-use Rattle.steal_pool.proofs.Places.{All-front}
+use Rattle.list_laws.proofs.Halves.{All-front}
 use Rattle.node_tickets.specs.Seats.{IsFresh}
 use Rattle.incumbent_board.specs.Boards.{IsNewSeat}
 use Rattle.search_workers.specs.Workers.{IsReady}
