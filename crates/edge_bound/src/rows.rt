@@ -81,8 +81,8 @@ pub(crate) fn best_first(sc: &Scenario, prefix: &Path, masses: &[u128], sums: &[
     let moves = sc.moves_after(prefix);
     let mut best = 0;
     for b in moves {
-        let reward = found_first(sc, prefix, masses, *b) * parts;
-        best = (reward + sums[usize::from(*b)]).max(best);
+        let first = found_first(sc, prefix, masses, *b) * parts;
+        best = (first + sums[usize::from(*b)]).max(best);
     }
     best
 }

@@ -19,8 +19,8 @@ found_first-requires-clause-to c =
     let moves : c.moves_after-moves.result.now ≡ moves_from p.moves (last_of p.start q) = c.moves_after-moves.ensures in
     rw moves (move_there p sound q c.args.sums.now (last_of p.start q) c.loop-b.b-index here (rw moves at c.loop-b-test.true))
 
-pub overflow_mul-reward : goal.overflow_mul-reward
-overflow_mul-reward c =
+pub overflow_mul-first : goal.overflow_mul-first
+overflow_mul-first c =
     let p = c.args.sc.now in
     let q = c.args.prefix.now in
     let sound = c.cells-sound.ensures.sound in
@@ -38,8 +38,8 @@ bounds-sums-from c =
     let there = rw (← moves) at (move_there p sound q c.args.sums.now (last_of p.start q) c.loop-b.b-index here (rw moves at c.loop-b-test.true)) in
     omega (arith, there, c.from.ensures, c.requires.width)
 
-pub overflow_add-reward : goal.overflow_add-reward
-overflow_add-reward c =
+pub overflow_add-first : goal.overflow_add-first
+overflow_add-first c =
     let p = c.args.sc.now in
     let q = c.args.prefix.now in
     let sound = c.cells-sound.ensures.sound in

@@ -1,0 +1,5 @@
+use Rattle.edge_bound.specs.Edges.{IsMadeFor}
+use Rattle.edge_bound.proofs.tests.have_bounds.Given as goal
+
+abbrev pub invariant-loop-cells : goal.invariant-loop-cells
+invariant-loop-cells l = IsMadeFor l.sc l.edge
