@@ -7,8 +7,7 @@ use Rattle.sweep_table.specs.LookParts.{factor_of, IsOneRate}
 use Rattle.search_model.specs.Problem.{Problem, IsProblem}
 use Rattle.search_model.specs.Bounds.{IsRate}
 use Rattle.list_laws.proofs.Members.{Contains-head, Contains-tail, Contains-nil, Contains-cons_cases, Contains-map, Contains-map_cases, Contains-flat_map, Contains-flat_map_cases, list_all-contains}
-use Rattle.search_model.proofs.Rates.{one_rate_is_rate}
-use Rattle.bound_tree.proofs.Tangents.{one_rate}
+use Rattle.search_model.proofs.Rates.{one_rate_is_rate, one_rate}
 use Rattle.tree_checker.specs.Rate.{factors_of, is_rate_of, one_rate_of}
 use Rattle.tree_checker.specs.Laws.{FindsOneRate}
 use Rattle.list_laws.proofs.Ranges.{Contains-range, Contains-range_cases}
