@@ -17,7 +17,7 @@ use Rattle.belief_update.proofs.Looks.{length-looks_to}
 use Rattle.belief_update.proofs.Missed.{sum_tracks-masses}
 
 -- the factors of a prefix are those of its looks
-factors_along-looked : (p : Problem) (t : ℕ) (q x : List ℕ) → factors_along p t q x ≡ looked_along p t (map Some q) x
+pub factors_along-looked : (p : Problem) (t : ℕ) (q x : List ℕ) → factors_along p t q x ≡ looked_along p t (map Some q) x
 unfolding factors_along looked_along
 factors_along-looked p t [] x = refl
 factors_along-looked p t (a ∷ q) [] = refl
