@@ -1,16 +1,23 @@
 -- What the steps of a belief need, and what they make.
-use Rattle.std.proofs.Common.{ℕ, zero, suc, ◌+◌, ◌*◌, ◌-◌, ◌^◌, ◌<◌, ◌≤◌, ◌≡◌, List, [], ◌∷◌, ◌++◌, Option, Some, None, length, slice_index, refl, sym, ap, ◌∙◌, arith, sum, sum_by, subst, length-append}
+use Rattle.std.proofs.Common.{ℕ, zero, suc, ◌+◌, ◌*◌, ◌-◌, ◌^◌, ◌<◌, ◌≤◌, ◌≡◌, true, false, List, [], ◌∷◌, ◌++◌, Option, Some, None, is_some, length, slice_index, refl, sym, ap, ◌∙◌, arith, sum, sum_by, subst, length-append, true≢false}
 use Rattle.std.specs.List.{range_with_len}
 use Rattle.std.proofs.lemmas.List.Sums.{sum-map}
 use Rattle.std.proofs.lemmas.List.FromFn.{fill_by_all, get_or-map-range_with_len}
+use Rattle.std.proofs.Math.Seq.{get_or-append_seam}
 use Rattle.drift_chain.specs.DriftRows.{part_of}
 use Rattle.sweep_table.specs.LookParts.{factor_of}
 use Rattle.search_model.specs.Problem.{Problem, IsProblem, first_of}
 use Rattle.list_laws.proofs.Sums.{sum_by-range-part, sum_by-range-same}
 use Rattle.belief_update.specs.Masses.{mass_of, masses_of}
-use Rattle.belief_update.specs.Belief.{BeliefState, IsBelief}
+use Rattle.belief_update.specs.Belief.{BeliefState, IsBelief, IsUnlooked, is_looked}
 use Rattle.belief_update.proofs.MassSteps.{mass_of-look, mass_of-drift, mass_of-start}
 use Rattle.belief_update.proofs.MassTotals.{total_after-is, total_after-fits, split_last}
+
+-- whether a last period is looked at
+pub is_looked-last : (looks : List (Option ℕ)) (look : Option ℕ) → is_looked (looks ++ look ∷ []) ≡ is_some look
+is_looked-last looks look =
+    let place : length (looks ++ look ∷ []) - 1 ≡ length looks = omega (arith, length-append looks (look ∷ [])) in
+    rw place (ap is_some (get_or-append_seam looks look [] None))
 
 -- a mass of a belief
 pub mass_at : (p : Problem) (looks : List (Option ℕ)) (b : BeliefState) → IsBelief p looks b → (c : ℕ) → c < p.cells → slice_index b.masses c ≡ mass_of p looks c
@@ -20,11 +27,24 @@ mass_at p looks b belief c here = rw belief.masses (get_or-map-range_with_len (m
 masses_are : (p : Problem) (looks : List (Option ℕ)) (xs : List ℕ) → length xs ≡ p.cells → ((c : ℕ) → c < p.cells → slice_index xs c ≡ mass_of p looks c) → xs ≡ masses_of p looks
 masses_are p looks xs size each = fill_by_all (mass_of p looks) xs p.cells 0 size each
 
+-- no look
+none_is : (o : Option ℕ) → is_some o ≡ false → o ≡ None
+none_is None is = refl
+none_is (Some a) is = absurd (true≢false is)
+
 -- the looks of the earlier periods, and that of a belief's own
 last_look : (p : Problem) (looks : List (Option ℕ)) (b : BeliefState) → IsBelief p looks b → (front : List (Option ℕ)) × (look : Option ℕ) × (length front + 1 ≡ b.period) × (looks ≡ front ++ look ∷ [])
 last_look p looks b belief =
     let parts = split_last (b.period - 1) looks (omega (arith, belief.periods, belief.first)) in
     (parts.0, parts.1, omega (arith, parts.2, belief.first), parts.3)
+
+-- a belief whose period isn't looked at has no last look
+pub unlooked_is : (p : Problem) (looks : List (Option ℕ)) (b : BeliefState) → IsBelief p looks b → b.looked ≡ false → IsUnlooked p b
+unlooked_is p looks b belief none =
+    let parts = last_look p looks b belief in
+    let is : is_some parts.1 ≡ false = sym (is_looked-last parts.0 parts.1) ∙ ap is_looked (sym parts.3) ∙ sym belief.looked ∙ none in
+    let last : parts.1 ≡ None = none_is parts.1 is in
+    (parts.0, subst (λ (made : List (Option ℕ)). IsBelief p made b) (parts.3 ∙ ap (λ (o : Option ℕ). parts.0 ++ o ∷ []) last) belief)
 
 -- the masses after a step, by those before it
 pub drift_mass_at : (p : Problem) (looks : List (Option ℕ)) (t d : ℕ) → length looks ≡ t → 1 ≤ t →
@@ -39,11 +59,12 @@ drift_mass_at p looks (suc n) d long some =
 
 module _ (p : Problem) (sound : IsProblem p) where
   -- the first parts are the masses at the start
-  pub start_is : (xs : List ℕ) → length xs ≡ p.cells → ((c : ℕ) → c < p.cells → slice_index xs c ≡ first_of p c) → IsBelief p (None ∷ []) (record { period = 1; masses = xs })
+  pub start_is : (xs : List ℕ) → length xs ≡ p.cells → ((c : ℕ) → c < p.cells → slice_index xs c ≡ first_of p c) → IsBelief p (None ∷ []) (record { period = 1; looked = false; masses = xs })
   start_is xs size each = record {
     first = omega arith;
     last = omega (arith, sound.horizon);
     periods = refl;
+    looked = refl;
     cells = size;
     masses = masses_are p (None ∷ []) xs size (λ c here. each c here ∙ sym (mass_of-start p c));
   }
@@ -59,7 +80,7 @@ module _ (p : Problem) (sound : IsProblem p) where
   -- after a look the masses, each times its factor, are the belief
   pub look_is : (looks : List (Option ℕ)) (b : BeliefState) (a : ℕ) (ys : List ℕ) → IsBelief p (looks ++ None ∷ []) b → length ys ≡ length b.masses →
       ((c : ℕ) → c < length b.masses → slice_index ys c ≡ slice_index b.masses c * factor_of p.sweep b.period a c) →
-      IsBelief p (looks ++ Some a ∷ []) (record { period = b.period; masses = ys })
+      IsBelief p (looks ++ Some a ∷ []) (record { period = b.period; looked = true; masses = ys })
   look_is looks b a ys belief size each =
       let long : length (looks ++ None ∷ []) ≡ length looks + 1 = length-append looks (None ∷ []) in
       let period : b.period ≡ length looks + 1 = omega (arith, belief.periods, long) in
@@ -67,6 +88,7 @@ module _ (p : Problem) (sound : IsProblem p) where
         first = belief.first;
         last = belief.last;
         periods = omega (arith, length-append looks (Some a ∷ []), period);
+        looked = sym (is_looked-last looks (Some a));
         cells = size ∙ belief.cells;
         masses = masses_are p (looks ++ Some a ∷ []) ys (size ∙ belief.cells) (λ c here.
             each c (omega (arith, belief.cells, here)) ∙ rw (period, mass_at p (looks ++ None ∷ []) b belief c here) (sym (mass_of-look p looks a c)));
@@ -94,11 +116,12 @@ module _ (p : Problem) (sound : IsProblem p) where
   -- after a step the sums of what the masses send on are the belief
   pub drift_is : (looks : List (Option ℕ)) (b : BeliefState) (ys : List ℕ) → IsBelief p looks b → b.period < p.horizon → length ys ≡ length b.masses →
       ((d : ℕ) → d < length b.masses → slice_index ys d ≡ sum_by (λ c. slice_index b.masses c * part_of p.drift b.period c d) (range_with_len 0 (length b.masses))) →
-      IsBelief p (looks ++ None ∷ []) (record { period = b.period + 1; masses = ys })
+      IsBelief p (looks ++ None ∷ []) (record { period = b.period + 1; looked = false; masses = ys })
   drift_is looks b ys belief more size each = record {
     first = omega arith;
     last = omega (arith, more);
     periods = omega (arith, length-append looks (None ∷ []), belief.periods);
+    looked = sym (is_looked-last looks None);
     cells = size ∙ belief.cells;
     masses = masses_are p (looks ++ None ∷ []) ys (size ∙ belief.cells) (λ d here. each d (omega (arith, belief.cells, here)) ∙ drift_mass looks b belief d);
   }

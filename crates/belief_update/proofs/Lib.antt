@@ -9,3 +9,4 @@ pub mod RowSteps
 pub mod BeliefSteps
 pub mod Looks
 pub mod PrefixValues
+pub mod TrailSteps

@@ -1,4 +1,5 @@
 pub mod Masses
 pub mod Belief
+pub mod Trails
 pub mod Laws
 pub mod Worked

@@ -1,24 +1,27 @@
 //! Beliefs.
 
-ghost use Rattle.std.specs.Prelude.{◌≡◌, ◌<◌, ◌≤◌, ◌+◌, ◌++◌, ◌∷◌, [], ℕ, List, Option, Some, None, length, slice_index, sum, IfOk};
+ghost use Rattle.std.specs.Prelude.{◌≡◌, ◌<◌, ◌≤◌, ◌+◌, ◌++◌, ◌∷◌, [], ℕ, List, Option, Some, None, length, slice_index, sum, IfOk, IsTrue};
 ghost use Rattle.search_model.specs.Problem.{IsProblem, first_of};
-ghost use Rattle.belief_update.specs.Belief.{IsBelief, IsReached, IsUnlooked};
+ghost use Rattle.belief_update.specs.Belief.{IsBelief, IsReached, IsUnlooked, awaiting};
 
+use crate::count::Steps;
 use crate::steps;
 use exact_parts::NoMemory;
 use search_model::Scenario;
 use std::alloc::Global;
 use std::marker::Model;
+use std::sync::ledger::Ledger;
 
 /// How much of the target stands in each cell in a period, given what the looks so far missed: whole numbers, in parts
 /// of the total, of the drift for each step and of the look for each look. It is used with the scenario that it was
 /// started for.
 ///
-/// Contracts see the period and the masses. The looks, one option for each period up to the belief's own, are a variable
+/// Contracts see the period, whether it is looked at, and the masses. The looks, one option for each period up to the belief's own, are a variable
 /// of the contracts, so nothing of them is kept or copied.
 #[derive(Drop)]
 pub struct Belief {
     period: u32,
+    looked: bool,
     masses: Vec<u128>,
     next: Vec<u128>,
 }
@@ -29,7 +32,7 @@ impl Model for Belief {
 
     ghost Value = { BeliefState };
 
-    ghost view = { λ b. record { period = b.period; masses = b.masses.items } };
+    ghost view = { λ b. record { period = b.period; looked = b.looked; masses = b.masses.items } };
 
     ghost invariant = { λ b. record { spare : length b.next.items ≡ length b.masses.items; fits : sum b.masses.items < 2 ^ 127 } };
 }
@@ -56,6 +59,7 @@ impl Belief {
         first_masses(&mut masses, sc);
         Ok(Belief {
             period: 1,
+            looked: false,
             masses,
             next,
         })
@@ -68,6 +72,7 @@ impl Belief {
     {
         first_masses(&mut self.masses, sc);
         self.period = 1;
+        self.looked = false;
     }
 
     /// Looks from a position, in a period that isn't looked at yet.
@@ -79,6 +84,7 @@ impl Belief {
     {
         let _sound = sc.cells();
         steps::weaken(&mut self.masses, sc.sweep(), self.period, cell);
+        self.looked = true;
     }
 
     /// Goes on to the next period, before a look there.
@@ -92,6 +98,71 @@ impl Belief {
         steps::move_on(&mut self.next, &self.masses, sc.drift(), self.period);
         std::mem::swap(&mut self.masses, &mut self.next);
         self.period += 1;
+        self.looked = false;
+    }
+
+    /// Gets ready for the next look: goes on to the next period, where its own is looked at.
+    pub fn advance(&mut self, sc: &Scenario)
+        requires belief { IsReached sc.now self.old }
+        requires period { IsTrue self.old.looked → self.old.period < sc.now.horizon }
+        ensures belief { (looks : List (Option ℕ)) → IsBelief sc.now looks self.old → IsBelief sc.now (awaiting self.old looks) self.new }
+        ensures unlooked { IsUnlooked sc.now self.new }
+    {
+        if self.looked {
+            self.drift(sc);
+        }
+    }
+
+    /// Becomes another belief in the next period, before a look there.
+    pub fn drift_from(&mut self, sc: &Scenario, before: &Belief)
+        requires cells { length self.old.masses ≡ sc.now.cells }
+        requires belief { IsReached sc.now before.now }
+        requires period { before.now.period < sc.now.horizon }
+        ensures belief { (looks : List (Option ℕ)) → IsBelief sc.now looks before.now → IsBelief sc.now (looks ++ None ∷ []) self.new }
+        ensures period { self.new.period ≡ before.now.period + 1 }
+    {
+        let _sound = sc.cells();
+        steps::move_on(&mut self.masses, &before.masses, sc.drift(), before.period);
+        self.period = before.period + 1;
+        self.looked = false;
+    }
+
+    /// Becomes another belief, ready for the next look: a period on, where that one's own is looked at.
+    pub fn advance_from(&mut self, sc: &Scenario, before: &Belief)
+        requires cells { length self.old.masses ≡ sc.now.cells }
+        requires belief { IsReached sc.now before.now }
+        requires period { IsTrue before.now.looked → before.now.period < sc.now.horizon }
+        ensures belief { (looks : List (Option ℕ)) → IsBelief sc.now looks before.now → IsBelief sc.now (awaiting before.now looks) self.new }
+        ensures unlooked { IsUnlooked sc.now self.new }
+    {
+        if before.looked {
+            self.drift_from(sc, before);
+        } else {
+            self.copy_from(before);
+        }
+    }
+
+    /// Becomes another belief after one look more: from `cell`, in the period of that belief where it isn't looked at,
+    /// else in the next one. It counts one step.
+    pub fn step_from<L: Ledger>(
+        &mut self,
+        sc: &Scenario,
+        before: &Belief,
+        cell: u8,
+        steps: &mut Steps<L>,
+    )
+        requires cells { length self.old.masses ≡ sc.now.cells }
+        requires belief { IsReached sc.now before.now }
+        requires period { IsTrue before.now.looked → before.now.period < sc.now.horizon }
+        requires cell { cell < sc.now.positions }
+        ensures first { (looks : List (Option ℕ)) → IsBelief sc.now (looks ++ None ∷ []) before.now → IsBelief sc.now (looks ++ Some cell ∷ []) self.new }
+        ensures later { (looks : List (Option ℕ)) (a : ℕ) → IsBelief sc.now (looks ++ Some a ∷ []) before.now
+            → IsBelief sc.now (looks ++ Some a ∷ [] ++ Some cell ∷ []) self.new }
+        ensures counted { steps.new ≡ steps.old + 1 }
+    {
+        self.advance_from(sc, before);
+        self.look(sc, cell);
+        steps.tick();
     }
 
     /// Takes over what another belief of the scenario holds.
@@ -100,6 +171,7 @@ impl Belief {
         ensures { self.new ≡ other.now }
     {
         self.period = other.period;
+        self.looked = other.looked;
         self.masses.copy_from_slice(&other.masses);
     }
 
@@ -108,6 +180,13 @@ impl Belief {
         ensures { result ≡ self.now.period }
     {
         self.period
+    }
+
+    /// Whether its period is looked at.
+    pub fn looked(&self) -> bool
+        ensures { result ≡ self.now.looked }
+    {
+        self.looked
     }
 
     /// The mass of a cell.

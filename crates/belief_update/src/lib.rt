@@ -2,12 +2,16 @@
 #![tactic(auto)]
 
 mod belief;
+mod count;
 mod laws;
 mod steps;
 #[cfg(test)]
 mod tests;
+mod trail;
 mod values;
 
 pub use belief::Belief;
+pub use count::Steps;
 pub use laws::{masses_follow, missed_by_masses, rewards_by_masses, worked_masses};
-pub use values::{later_parts, prefix_value};
+pub use trail::Trail;
+pub use values::{follow, later_parts, prefix_value, value_by};

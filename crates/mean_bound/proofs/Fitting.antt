@@ -1,4 +1,4 @@
--- That the bound fits: what a prefix misses by the masses after it, no reward above the whole weight, and no sum of them
+-- That the bound fits: no reward above the whole weight, and no sum of them
 -- above so many whole weights.
 use Rattle.std.proofs.Common.{ℕ, suc, ◌+◌, ◌*◌, ◌-◌, ◌^◌, ◌<◌, ◌≤◌, ◌≡◌, List, length, sym, ap, ◌∙◌, arith, sum, sum_by}
 use Rattle.std.specs.List.{range_with_len}
@@ -30,13 +30,6 @@ scaled_within found most masses g drifts looks le is =
     omega (arith, scaled)
 
 module _ (p : Problem) (sound : IsProblem p) (q : List ℕ) where
-  -- the masses of a belief after a prefix, times the parts of what is to come, are what the prefix misses
-  pub missed_is : (t : ℕ) (b : BeliefState) → 1 ≤ t → length q ≤ t → t ≤ p.horizon → IsBelief p (looks_to t q) b →
-      sum b.masses * (p.drift.denominator ^ (p.horizon - t) * p.sweep.denominator ^ (p.horizon - length q)) ≡ missed_weight p q
-  missed_is t b some short last belief =
-      let law = missed_by_masses_hold p sound q t some short last in
-      rw belief.masses (omega (arith, law))
-
   -- a look finds no more than is missed
   reward-le_missed : (t a : ℕ) → length q < t → t ≤ p.horizon → reward_of p q t a ≤ missed_weight p q
   reward-le_missed t a later last =

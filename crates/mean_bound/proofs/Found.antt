@@ -2,13 +2,13 @@
 use Rattle.std.proofs.Common.{ℕ, ◌+◌, ◌*◌, ◌-◌, ◌^◌, ◌<◌, ◌≤◌, ◌≡◌, ◌==◌, if◌then◌else◌, List, length, slice_index, refl, sym, ◌∙◌, arith, sum_by, inl, inr}
 use Rattle.std.specs.List.{range_with_len}
 use Rattle.std.proofs.lemmas.Bool.{cases_eq, eq-eqb, ne_eqb}
-use Rattle.std.proofs.lemmas.List.FromFn.{get_or-map-range_with_len}
 use Rattle.sweep_table.specs.LookParts.{LookParts, factor_of}
 use Rattle.search_model.specs.Problem.{Problem, IsProblem}
 use Rattle.search_model.specs.Bounds.{reward_of}
 use Rattle.list_laws.proofs.Sums.{sum_by-range-same, sum_by-range-pick}
 use Rattle.belief_update.specs.Masses.{mass_of, looks_to}
 use Rattle.belief_update.specs.Belief.{BeliefState, IsBelief}
+use Rattle.belief_update.proofs.BeliefSteps.{mass_at}
 use Rattle.belief_update.proofs.Looks.{length-looks_to}
 use Rattle.belief_update.proofs.Rewards.{rewards_by_masses_hold}
 use Rattle.mean_bound.specs.Rewards.{found_of}
@@ -25,12 +25,8 @@ found_elsewhere sweep t a c mass =
           rw (ne_eqb a c apart, none) (omega arith)
     ]
 
--- the mass of a cell
-mass_at : (p : Problem) (looks : List _) (b : BeliefState) → IsBelief p looks b → (c : ℕ) → c < p.cells → slice_index b.masses c ≡ mass_of p looks c
-mass_at p looks b belief c here = rw belief.masses (get_or-map-range_with_len (mass_of p looks) 0 p.cells c c 0 here (omega arith))
-
 -- the period of a belief after the looks of a prefix
-pub period_is : (p : Problem) (q : List ℕ) (t : ℕ) (b : BeliefState) → length q ≤ t → IsBelief p (looks_to t q) b → b.period ≡ t
+period_is : (p : Problem) (q : List ℕ) (t : ℕ) (b : BeliefState) → length q ≤ t → IsBelief p (looks_to t q) b → b.period ≡ t
 period_is p q t b short belief = sym belief.periods ∙ length-looks_to t q short
 
 -- what a look finds of the masses, times the parts of what is to come, is its reward

@@ -2,4 +2,3 @@ pub mod Found
 pub mod Fitting
 pub mod Rows
 pub mod Walked
-pub mod TrailSteps

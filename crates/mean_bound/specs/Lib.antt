@@ -1,3 +1,2 @@
-pub mod Trails
 pub mod Rewards
 pub mod Means

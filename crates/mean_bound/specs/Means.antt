@@ -3,19 +3,18 @@ use Rattle.std.specs.Prelude.{ℕ, ◌≡◌, ◌-◌, ◌*◌, ◌<◌, List, l
 use Rattle.search_model.specs.Problem.{Problem}
 use Rattle.search_model.specs.Legal.{last_of, IsLegal}
 use Rattle.longest_walk.specs.Tables.{Tables, IsFilled}
-use Rattle.mean_bound.specs.declared.trail.Trail.{Trail}
-use Rattle.mean_bound.specs.Trails.{IsTrailFor}
+use Rattle.belief_update.specs.Trails.{TrailState, IsTrailOf}
 use Rattle.mean_bound.specs.Rewards.{HasRewards}
 
 -- the beliefs along the last prefix, the rewards after the last one that was bounded, and the walks of these rewards
 pub record MeanState : Type 0 where
-  pub trail : Trail
+  pub trail : TrailState
   pub rewards : List ℕ
   pub walk : Tables
 
--- the tables were made for this scenario
+-- the tables are for this scenario, and the beliefs that they keep are right in it
 pub record IsMadeFor (p : Problem) (m : MeanState) : Type 0 where
-  pub trail_for : IsTrailFor p m.trail
+  pub trail : IsTrailOf p m.trail
   pub size : length m.rewards ≡ p.horizon * p.cells
   pub cells : m.walk.cells ≡ p.cells
   pub horizon : m.walk.horizon ≡ p.horizon

@@ -3,11 +3,8 @@
 #![tactic(auto)]
 
 mod mean;
-mod parts;
 mod rewards;
 #[cfg(test)]
 mod tests;
-mod trail;
-mod values;
 
 pub use mean::Mean;

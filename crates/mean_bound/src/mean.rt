@@ -1,13 +1,15 @@
 //! The tables of the mean bound.
 
-ghost use Rattle.std.specs.Prelude.{◌≡◌, ◌<◌, ℕ, List, length, IfOk};
+ghost use Rattle.std.specs.Prelude.{◌≡◌, ◌<◌, ◌≤◌, ◌+◌, ◌*◌, ℕ, List, length, IfOk};
 ghost use Rattle.search_model.specs.Legal.{IsLegal, last_of};
 ghost use Rattle.search_model.specs.Tracks.{value_of};
 ghost use Rattle.search_model.specs.Bounds.{mean_of};
+ghost use Rattle.longest_walk.specs.Tables.{IsFilled};
+ghost use Rattle.belief_update.specs.Trails.{IsPast};
+ghost use Rattle.mean_bound.specs.Rewards.{HasRewards};
 
 use crate::rewards::fill_rewards;
-use crate::trail::Trail;
-use crate::values::value_by;
+use belief_update::{Belief, Trail, value_by};
 use exact_parts::NoMemory;
 use longest_walk::Walk;
 use search_model::{Path, Scenario};
@@ -20,28 +22,67 @@ use std::marker::Model;
 /// what it finds after the looks of the prefix and no others. So it is no less than the value of each path that begins
 /// with the prefix (Martins 1993).
 ///
-/// The tables keep the beliefs along the last prefix, and the next one uses those of the part that it has in common with
-/// it: prefixes are best asked in order, as a search in depth meets them.
+/// For `bound` and `value` the tables keep the beliefs along the last prefix, and the next one uses those of the part
+/// that it has in common with it: prefixes are best asked in order, as a search in depth meets them. `bound_after` is for
+/// who keeps these beliefs already.
 #[derive(Drop)]
 pub struct Mean {
     trail: Trail,
+    onward: Belief,
     rewards: Vec<u128>,
     walk: Walk,
 }
 
 impl Model for Mean {
+    ghost use Rattle.std.specs.Prelude.{◌≡◌, length};
     ghost use Rattle.mean_bound.specs.Means.{MeanState};
 
     ghost Value = { MeanState };
 
     ghost view = { λ m. record { trail = m.trail; rewards = m.rewards.items; walk = m.walk } };
+
+    ghost invariant = { λ m. length m.onward.masses ≡ m.walk.cells };
 }
 
 /// The last position of a prefix, or the start.
+#[tactic(auto, using(search_model::proofs::LegalLemmas::last_or_start))]
 fn last_or_start(sc: &Scenario, prefix: &Path) -> u8
     ensures { result ≡ last_of sc.now.start prefix.now }
 {
     prefix.cells().last().copied().unwrap_or(sc.start())
+}
+
+/// The mean bound of a prefix, by a belief after it. Fills in the rewards after the prefix, and their walks.
+fn bound_by(
+    onward: &mut Belief,
+    rewards: &mut [u128],
+    walk: &mut Walk,
+    sc: &Scenario,
+    row: &Belief,
+    prefix: &Path,
+) -> u128
+    requires onward { length onward.old.masses ≡ sc.now.cells }
+    requires size { length rewards.old ≡ sc.now.horizon * sc.now.cells }
+    requires cells { walk.old.cells ≡ sc.now.cells }
+    requires horizon { walk.old.horizon ≡ sc.now.horizon }
+    requires legal { IsLegal sc.now prefix.now }
+    requires short { length prefix.now < sc.now.horizon }
+    requires row { IsPast sc.now prefix.now row.now }
+    requires near { row.now.period ≤ length prefix.now + 1 }
+    ensures bound { result ≡ mean_of sc.now prefix.now }
+    ensures onward { length onward.new.masses ≡ sc.now.cells }
+    ensures rewards { HasRewards sc.now prefix.now rewards.new }
+    ensures walked { IsFilled walk.new sc.now.moves rewards.new (last_of sc.now.start prefix.now) (length prefix.now) }
+    ensures cells { walk.new.cells ≡ sc.now.cells }
+    ensures horizon { walk.new.horizon ≡ sc.now.horizon }
+{
+    let _sound = sc.cells();
+    onward.advance_from(sc, row);
+    let value = value_by(sc, onward, prefix);
+    fill_rewards(rewards, sc, onward, prefix);
+    let from = last_or_start(sc, prefix);
+    walk.fill(sc.grid(), rewards, from, prefix.len() as u32);
+    value + walk.greatest()
 }
 
 impl Mean {
@@ -56,6 +97,7 @@ impl Mean {
         let horizon = sc.horizon();
         Ok(Mean {
             trail: Trail::tables(alloc, sc)?,
+            onward: Belief::start(alloc, sc)?,
             rewards: vec![in alloc; 0; horizon as usize * usize::from(cells)]?,
             walk: Walk::tables(alloc, cells, horizon)?,
         })
@@ -71,14 +113,36 @@ impl Mean {
         ensures made { IsMadeFor sc.now self.new }
         ensures filled { IsFilledFor sc.now prefix.now self.new }
     {
-        let _sound = sc.cells();
-        self.trail.follow(sc, prefix);
-        let value = value_by(sc, &self.trail.onward, prefix);
-        fill_rewards(&mut self.rewards, sc, &mut self.trail.onward, prefix);
-        let from = last_or_start(sc, prefix);
-        self.walk
-            .fill(sc.grid(), &self.rewards, from, prefix.len() as u32);
-        value + self.walk.greatest()
+        self.trail.go_to(sc, prefix);
+        bound_by(
+            &mut self.onward,
+            &mut self.rewards,
+            &mut self.walk,
+            sc,
+            self.trail.ahead(prefix.len()),
+            prefix,
+        )
+    }
+
+    /// The same bound by a belief after the prefix, in the period of its last look or in the next one. Takes no memory.
+    pub fn bound_after(&mut self, sc: &Scenario, row: &Belief, prefix: &Path) -> u128
+        requires made { IsMadeFor sc.now self.old }
+        requires legal { IsLegal sc.now prefix.now }
+        requires short { length prefix.now < sc.now.horizon }
+        requires row { IsPast sc.now prefix.now row.now }
+        requires near { row.now.period ≤ length prefix.now + 1 }
+        ensures bound { result ≡ mean_of sc.now prefix.now }
+        ensures made { IsMadeFor sc.now self.new }
+        ensures filled { IsFilledFor sc.now prefix.now self.new }
+    {
+        bound_by(
+            &mut self.onward,
+            &mut self.rewards,
+            &mut self.walk,
+            sc,
+            row,
+            prefix,
+        )
     }
 
     /// The value of a legal prefix, in parts of the whole weight. The rewards stay those of the last prefix that was
@@ -90,8 +154,8 @@ impl Mean {
         ensures made { IsMadeFor sc.now self.new }
         ensures filled { (q : List ℕ) → IsFilledFor sc.now q self.old → IsFilledFor sc.now q self.new }
     {
-        self.trail.look_last(sc, prefix);
-        value_by(sc, &self.trail.onward, prefix)
+        self.trail.go_to(sc, prefix);
+        value_by(sc, self.trail.row(prefix.len()), prefix)
     }
 
     /// Adds to the last prefix that was bounded the least of its continuations that reach the greatest sum of rewards.

@@ -1,11 +1,10 @@
 //! The rewards of looks after a prefix.
 
 ghost use Rattle.std.specs.Prelude.{◌≡◌, ◌<◌, ◌≤◌, ◌+◌, ◌*◌, ◌^◌, ℕ, List, length, slice_index};
-ghost use Rattle.mean_bound.specs.Trails.{IsAfter};
+ghost use Rattle.belief_update.specs.Trails.{IsAhead};
 ghost use Rattle.mean_bound.specs.Rewards.{HasRewards, found_of};
 
-use crate::parts::later_parts;
-use belief_update::Belief;
+use belief_update::{Belief, later_parts};
 use search_model::{Path, Scenario};
 
 /// Writes the rewards of one period, which begin at place `row`: what a look from each cell finds of the masses, times
@@ -27,11 +26,12 @@ fn fill_period(rewards: &mut [u128], sc: &Scenario, belief: &Belief, row: usize,
     }
 }
 
-/// Fills in the rewards of all periods after a prefix, by the belief after its looks, which drifts on without looks.
+/// Fills in the rewards of all periods after a prefix, by the belief ahead of its next look, which drifts on without
+/// looks.
 pub(crate) fn fill_rewards(rewards: &mut [u128], sc: &Scenario, onward: &mut Belief, prefix: &Path)
     requires short { length prefix.now < sc.now.horizon }
     requires size { length rewards.old ≡ sc.now.horizon * sc.now.cells }
-    requires belief { IsAfter sc.now prefix.now onward.old }
+    requires belief { IsAhead sc.now prefix.now onward.old }
     ensures rewards { HasRewards sc.now prefix.now rewards.new }
     ensures cells { length onward.new.masses ≡ sc.now.cells }
 {

@@ -8,7 +8,7 @@ ghost use Rattle.belief_update.specs.Masses.{masses_of};
 ghost use Rattle.belief_update.specs.Belief.{IsBelief, IsUnlooked};
 ghost use Rattle.opening_path.specs.Greedy.{LeavesLeast, IsOpened};
 
-use belief_update::{Belief, prefix_value};
+use belief_update::{Belief, value_by};
 use exact_parts::NoMemory;
 use search_model::{Path, Scenario, Standing};
 use std::alloc::Global;
@@ -84,6 +84,6 @@ pub fn opening(alloc: Global, sc: &Scenario) -> Result<Standing, NoMemory>
         here.drift(sc);
         go_on(sc, &mut here, &mut trial, &mut path);
     }
-    let value = prefix_value(sc, &mut here, &path);
+    let value = value_by(sc, &here, &path);
     Ok(Standing { path, value })
 }

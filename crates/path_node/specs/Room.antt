@@ -2,11 +2,13 @@
 use Rattle.std.specs.Prelude.{ℕ, Bool, true, false}
 use Rattle.search_model.specs.Problem.{Problem}
 use Rattle.search_model.specs.Bounds.{IsRate}
+use Rattle.belief_update.specs.Trails.{TrailState, IsTrailOf}
 use Rattle.mean_bound.specs.Means.{MeanState, IsMadeFor as IsMeanFor}
 use Rattle.tangent_bound.specs.Room.{TangentRoom, IsMadeFor as IsTangentFor}
 
--- the tables of both bounds, and whether the looks have one rate
+-- the beliefs along the prefix that was closed last, the tables of both bounds, and whether the looks have one rate
 pub record NodeTables : Type 0 where
+  pub trail : TrailState
   pub mean : MeanState
   pub tangent : TangentRoom
   pub has_rate : Bool
@@ -16,8 +18,9 @@ abbrev pub TellsRate : Problem → Bool → Type 0
 TellsRate p true = (rate : ℕ) × IsRate p rate
 TellsRate p false = (rate : ℕ) → ¬ IsRate p rate
 
--- the tables were made for this scenario
+-- the tables are for this scenario, and the beliefs that they keep are right in it
 pub record IsMadeFor (p : Problem) (s : NodeTables) : Type 0 where
+  pub trail : IsTrailOf p s.trail
   pub mean : IsMeanFor p s.mean
   pub tangent : IsTangentFor p s.tangent
   pub rate : TellsRate p s.has_rate

@@ -1,13 +1,14 @@
 //! Closing a prefix.
 
-ghost use Rattle.std.specs.Prelude.{◌≡◌, ◌<◌, ℕ, length, IfOk, IsFalse};
+ghost use Rattle.std.specs.Prelude.{◌≡◌, ◌<◌, ◌≤◌, ◌+◌, ℕ, length, IfOk, IsFalse};
 ghost use Rattle.search_model.specs.Legal.{IsLegal, moves_after};
 ghost use Rattle.search_model.specs.Bounds.{IsRate, mean_of};
 ghost use Rattle.bound_tree.specs.Close.{IsClosed, IsExact};
 ghost use Rattle.bound_tree.specs.Cut.{is_cut};
-ghost use Rattle.mean_bound.specs.Means.{IsMadeFor as IsMeanFor, IsFilledFor};
+ghost use Rattle.mean_bound.specs.Means.{IsFilledFor};
 ghost use Rattle.path_node.specs.Room.{IsMadeFor, TellsRate};
 
+use belief_update::{Trail, value_by};
 use bound_tree::{Kind, TreeNode, cuts, in_parts};
 use exact_parts::NoMemory;
 use mean_bound::Mean;
@@ -16,9 +17,11 @@ use std::alloc::Global;
 use std::marker::Model;
 use tangent_bound::Tangent;
 
-/// Tables with which prefixes of one scenario are closed.
+/// Tables with which prefixes of one scenario are closed: the beliefs along the prefix that is closed, by which both
+/// bounds and values go, and the tables of both bounds.
 #[derive(Drop)]
 pub struct Scratch {
+    trail: Trail,
     mean: Mean,
     tangent: Tangent,
     has_rate: bool,
@@ -29,7 +32,7 @@ impl Model for Scratch {
 
     ghost Value = { NodeTables };
 
-    ghost view = { λ s. record { mean = s.mean; tangent = s.tangent; has_rate = s.has_rate } };
+    ghost view = { λ s. record { trail = s.trail; mean = s.mean; tangent = s.tangent; has_rate = s.has_rate } };
 }
 
 /// Whether the looks of a scenario have one rate.
@@ -46,6 +49,7 @@ impl Scratch {
         ensures { IfOk result (IsMadeFor sc.now) }
     {
         Ok(Scratch {
+            trail: Trail::tables(alloc, sc)?,
             mean: Mean::tables(alloc, sc)?,
             tangent: Tangent::tables(alloc, sc)?,
             has_rate: has_rate(sc),
@@ -63,6 +67,7 @@ fn close_by_tangent(
 ) -> Kind
     requires made { IsMadeFor sc.now scratch.old }
     requires filled { IsFilledFor sc.now prefix.now scratch.old.mean }
+    requires there { scratch.old.trail.prefix ≡ prefix.now }
     requires rate { (rate : ℕ) × IsRate sc.now rate }
     requires legal { IsLegal sc.now prefix.now }
     requires shorter { length prefix.now < sc.now.horizon }
@@ -74,7 +79,8 @@ fn close_by_tangent(
     let _sound = sc.cells();
     let mut reference = *prefix;
     scratch.mean.reference(sc, &mut reference);
-    let bound = scratch.tangent.bound(sc, prefix, &reference);
+    let row = scratch.trail.ahead(prefix.len());
+    let bound = scratch.tangent.bound_after(sc, row, prefix, &reference);
     let finer = in_parts(standing, sc.sweep().denominator());
     if cuts(&finer, bound, prefix) {
         Kind::Tangent(bound, reference)
@@ -83,16 +89,18 @@ fn close_by_tangent(
     }
 }
 
-/// Closes a prefix that is shorter than the horizon.
+/// Closes a prefix that is shorter than the horizon, where the trail is along it.
 fn close_shorter(scratch: &mut Scratch, sc: &Scenario, prefix: &Path, standing: &Standing) -> Kind
     requires made { IsMadeFor sc.now scratch.old }
+    requires there { scratch.old.trail.prefix ≡ prefix.now }
     requires legal { IsLegal sc.now prefix.now }
     requires shorter { length prefix.now < sc.now.horizon }
     requires exact { IsExact sc.now standing.now }
     ensures closed { IsClosed sc.now standing.now prefix.now result }
     ensures made { IsMadeFor sc.now scratch.new }
 {
-    let bound = scratch.mean.bound(sc, prefix);
+    let row = scratch.trail.ahead(prefix.len());
+    let bound = scratch.mean.bound_after(sc, row, prefix);
     if cuts(standing, bound, prefix) {
         return Kind::Mean(bound);
     }
@@ -114,8 +122,9 @@ pub fn close(scratch: &mut Scratch, sc: &Scenario, prefix: &Path, standing: &Sta
     ensures closed { IsClosed sc.now standing.now prefix.now result.kind }
     ensures made { IsMadeFor sc.now scratch.new }
 {
+    scratch.trail.go_to(sc, prefix);
     let kind = if prefix.len() == sc.horizon() as usize {
-        Kind::Whole(scratch.mean.value(sc, prefix))
+        Kind::Whole(value_by(sc, scratch.trail.row(prefix.len()), prefix))
     } else {
         close_shorter(scratch, sc, prefix, standing)
     };

@@ -9,21 +9,15 @@ use Rattle.list_laws.proofs.Sums.{sum_by-same}
 use Rattle.belief_update.specs.Masses.{looked_along, mass_of}
 use Rattle.belief_update.specs.Belief.{BeliefState}
 use Rattle.belief_update.proofs.Looks.{looks_to-some}
+use Rattle.belief_update.proofs.Rewards.{factors_along-looked}
 use Rattle.backward_mass.specs.Masses.{forward_of}
-use Rattle.tangent_bound.specs.Gains.{IsAfter}
-
--- the factors of a list of positions are those of its looks
-factors_along-looked : (p : Problem) (t : ℕ) (looks x : List ℕ) → looked_along p t (map Some looks) x ≡ factors_along p t looks x
-unfolding factors_along looked_along
-factors_along-looked p t [] x = refl
-factors_along-looked p t (a ∷ looks) [] = refl
-factors_along-looked p t (a ∷ looks) (c ∷ x) = rw (factors_along-looked p (t + 1) looks x) refl
+use Rattle.belief_update.specs.Trails.{IsAfter}
 
 -- a mass after looks in each period is the forward mass of these looks
 pub mass_of-looks : (p : Problem) (looks : List ℕ) (c : ℕ) → mass_of p (map Some looks) c ≡ forward_of p looks (length looks) c
 unfolding mass_of
 mass_of-looks p looks c =
-    rw (length-map looks Some) (sum_by-same _ _ (tracks p.cells (length looks - 1)) (λ x. rw (factors_along-looked p 1 looks (x ++ c ∷ [])) refl))
+    rw (length-map looks Some) (sum_by-same _ _ (tracks p.cells (length looks - 1)) (λ x. rw (← factors_along-looked p 1 looks (x ++ c ∷ [])) refl))
 
 -- so each mass of the belief after some looks is the forward mass of its cell
 pub mass_after : (p : Problem) (looks : List ℕ) (b : BeliefState) → IsAfter p looks b → 1 ≤ length looks → (c : ℕ) → c < p.cells →

@@ -12,7 +12,7 @@ use Rattle.search_model.proofs.Totals.{nothing_is_cut_off}
 use Rattle.belief_update.specs.Belief.{BeliefState}
 use Rattle.backward_mass.specs.Masses.{forward_of, backward_of}
 use Rattle.backward_mass.proofs.Meeting.{missed_in_each_period, gain_by_cell}
-use Rattle.tangent_bound.specs.Gains.{IsAfter}
+use Rattle.belief_update.specs.Trails.{IsAfter}
 use Rattle.tangent_bound.proofs.ForwardMasses.{mass_after}
 use Rattle.tangent_bound.proofs.OwnCell.{covers, sum_covered, covers-some, covers-none, covers-le}
 use Rattle.tangent_bound.proofs.Sizes.{most_of}

@@ -1,16 +1,12 @@
 -- The gains of one more look, along a reference path: forward masses meet backward masses.
-use Rattle.std.specs.Prelude.{ℕ, ◌≡◌, ◌<◌, ◌≤◌, List, length, take, max}
+use Rattle.std.specs.Prelude.{ℕ, ◌≡◌, ◌<◌, ◌≤◌, List, length, take}
 use Rattle.search_model.specs.Problem.{Problem}
 use Rattle.search_model.specs.Legal.{IsPath}
 use Rattle.search_model.specs.Bounds.{gain_of}
-use Rattle.belief_update.specs.Masses.{looks_to}
-use Rattle.belief_update.specs.Belief.{BeliefState, IsBelief}
+use Rattle.belief_update.specs.Belief.{BeliefState}
+use Rattle.belief_update.specs.Trails.{IsAfter}
 use Rattle.backward_mass.specs.Table.{BackwardTable, IsFilledFrom}
 use Rattle.longest_walk.specs.Sums.{entry_at}
-
--- the belief after some looks, one a period from period 1 on; where there are none, in period 1 before a look
-abbrev pub IsAfter : Problem → List ℕ → BeliefState → Type 0
-IsAfter p looks b = IsBelief p (looks_to (max 1 (length looks)) looks) b
 
 -- the belief after the looks of a path up to period t, and the backward masses of the same path from then on
 pub record IsMet (p : Problem) (x : List ℕ) (t : ℕ) (b : BeliefState) (w : BackwardTable) : Type 0 where

@@ -1,12 +1,13 @@
 //! The gains of one more look, over a flat table: period after period, and in each position after position.
 
 ghost use Rattle.std.specs.Prelude.{◌≡◌, ◌<◌, ◌≤◌, ◌+◌, ◌-◌, ◌*◌, ◌^◌, ℕ, List, length, slice_index, take, drop, All};
-ghost use Rattle.search_model.specs.Legal.{IsLegal, IsPath};
+ghost use Rattle.search_model.specs.Legal.{IsPath};
 ghost use Rattle.search_model.specs.Bounds.{gain_of, sum_along};
 ghost use Rattle.belief_update.specs.Belief.{BeliefState};
+ghost use Rattle.belief_update.specs.Trails.{IsPast};
 ghost use Rattle.backward_mass.specs.Table.{IsMadeFor, IsFilledFrom};
 ghost use Rattle.longest_walk.specs.Sums.{entry_at};
-ghost use Rattle.tangent_bound.specs.Gains.{IsAfter, IsMet, IsGainRow, AreGains};
+ghost use Rattle.tangent_bound.specs.Gains.{IsMet, IsGainRow, AreGains};
 
 use crate::steps::look_on;
 use backward_mass::Backward;
@@ -58,8 +59,8 @@ fn fill_row(
     }
 }
 
-/// Writes the gains of the periods after `k`, where the belief is after the first `k` looks of the reference, and leaves
-/// the belief after all its looks.
+/// Writes the gains of the periods after `k`, where the belief is past the first `k` looks of the reference and not past
+/// the next period, and leaves the belief after all its looks.
 fn fill_rows(
     gains: &mut [u128],
     sc: &Scenario,
@@ -73,10 +74,11 @@ fn fill_rows(
     requires rate { rate ≤ sc.now.sweep.denominator }
     requires path { IsPath sc.now reference.now }
     requires backward { IsFilledFrom sc.now reference.now (k + 1) backward.now }
-    requires belief { IsAfter sc.now (take k reference.now) belief.old }
+    requires belief { IsPast sc.now (take k reference.now) belief.old }
+    requires near { belief.old.period ≤ k + 1 }
     requires period { k ≤ sc.now.horizon }
     ensures gains { AreGains sc.now rate reference.now k sc.now.horizon gains.new }
-    ensures belief { IsAfter sc.now reference.now belief.new }
+    ensures belief { IsPast sc.now reference.now belief.new }
 {
     for n in k..sc.horizon() {
         look_on(sc, belief, reference, n);
@@ -85,12 +87,11 @@ fn fill_rows(
 }
 
 /// Writes the gains of the periods after a prefix of the reference, and leaves the belief after the reference's looks.
-/// It begins with the belief after the prefix.
+/// The belief begins after the prefix, in the period of its last look or in the next one.
 pub(crate) fn fill_after(
     gains: &mut [u128],
     sc: &Scenario,
     rate: u32,
-    front: &Belief,
     belief: &mut Belief,
     backward: &mut Backward,
     prefix: &Path,
@@ -98,20 +99,18 @@ pub(crate) fn fill_after(
 )
     requires size { length gains.old ≡ sc.now.horizon * sc.now.cells }
     requires rate { rate ≤ sc.now.sweep.denominator }
-    requires front { IsAfter sc.now prefix.now front.now }
-    requires cells { length belief.old.masses ≡ sc.now.cells }
+    requires belief { IsPast sc.now prefix.now belief.old }
+    requires near { belief.old.period ≤ length prefix.now + 1 }
     requires made { IsMadeFor sc.now backward.old }
-    requires prefix { IsLegal sc.now prefix.now }
     requires shorter { length prefix.now < sc.now.horizon }
     requires path { IsPath sc.now reference.now }
     requires begins { take (length prefix.now) reference.now ≡ prefix.now }
     ensures gains { AreGains sc.now rate reference.now (length prefix.now) sc.now.horizon gains.new }
-    ensures belief { IsAfter sc.now reference.now belief.new }
+    ensures belief { IsPast sc.now reference.now belief.new }
     ensures made { IsMadeFor sc.now backward.new }
 {
     let k = prefix.len() as u32;
     backward.fill_from(sc, reference, k + 1);
-    belief.copy_from(front);
     fill_rows(gains, sc, rate, belief, backward, reference, k);
 }
 

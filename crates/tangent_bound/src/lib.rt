@@ -1,7 +1,6 @@
 //! The tangent bound: how much the paths below a prefix find at most, by convexity at a reference path.
 #![tactic(auto)]
 
-mod front;
 mod gains;
 mod steps;
 mod tangent;

@@ -1,15 +1,16 @@
 //! The bound.
 
-ghost use Rattle.std.specs.Prelude.{◌≡◌, ℕ, ◌<◌, length, take, IfOk};
+ghost use Rattle.std.specs.Prelude.{◌≡◌, ℕ, ◌<◌, ◌≤◌, ◌+◌, ◌*◌, length, take, IfOk};
 ghost use Rattle.search_model.specs.Legal.{IsLegal, IsPath};
 ghost use Rattle.search_model.specs.Bounds.{IsRate, tangent_of};
+ghost use Rattle.belief_update.specs.Trails.{IsPast};
+ghost use Rattle.backward_mass.specs.Table.{IsMadeFor as IsBackwardFor};
 ghost use Rattle.tangent_bound.specs.Room.{IsMadeFor};
 
-use crate::front::Front;
 use crate::gains::{fill_after, sum_after};
-use crate::steps::{last_position, rate_of, whole_value};
+use crate::steps::{last_position, rate_of};
 use backward_mass::Backward;
-use belief_update::Belief;
+use belief_update::{Belief, follow, value_by};
 use exact_parts::NoMemory;
 use longest_walk::Walk;
 use search_model::{Path, Scenario};
@@ -24,8 +25,7 @@ use std::marker::Model;
 /// what the reference misses, and the gains add up.
 #[derive(Drop)]
 pub struct Tangent {
-    // The belief after the last prefix that was asked, and the one that goes along its reference.
-    front: Front,
+    // The belief that goes along the reference.
     belief: Belief,
     backward: Backward,
     // Per period and position, what one more look finds of what the reference misses. Only the periods after the last
@@ -40,7 +40,7 @@ impl Model for Tangent {
 
     ghost Value = { TangentRoom };
 
-    ghost view = { λ w. record { cells = w.walk.cells; horizon = w.walk.horizon; front = w.front } };
+    ghost view = { λ w. record { cells = w.walk.cells; horizon = w.walk.horizon } };
 
     ghost invariant = { λ w. record {
       belief : length w.belief.masses ≡ w.walk.cells;
@@ -50,6 +50,44 @@ impl Model for Tangent {
     } };
 }
 
+/// The bound, by a belief after the prefix, in the period of its last look or in the next one. It goes along the
+/// reference.
+fn bound_by(
+    belief: &mut Belief,
+    backward: &mut Backward,
+    gains: &mut [u128],
+    walk: &mut Walk,
+    sc: &Scenario,
+    prefix: &Path,
+    reference: &Path,
+) -> u128
+    requires belief { IsPast sc.now prefix.now belief.old }
+    requires near { belief.old.period ≤ length prefix.now + 1 }
+    requires backward { IsBackwardFor sc.now backward.old }
+    requires size { length gains.old ≡ sc.now.horizon * sc.now.cells }
+    requires cells { walk.old.cells ≡ sc.now.cells }
+    requires horizon { walk.old.horizon ≡ sc.now.horizon }
+    requires rate { (rate : ℕ) × IsRate sc.now rate }
+    requires prefix { IsLegal sc.now prefix.now }
+    requires open { length prefix.now < sc.now.horizon }
+    requires path { IsPath sc.now reference.now }
+    requires begins { take (length prefix.now) reference.now ≡ prefix.now }
+    ensures value { (rate : ℕ) → IsRate sc.now rate → result ≡ tangent_of sc.now rate prefix.now reference.now }
+    ensures belief { length belief.new.masses ≡ sc.now.cells }
+    ensures backward { IsBackwardFor sc.now backward.new }
+    ensures cells { walk.new.cells ≡ sc.now.cells }
+    ensures horizon { walk.new.horizon ≡ sc.now.horizon }
+{
+    let cells = sc.cells();
+    let rate = rate_of(sc);
+    fill_after(gains, sc, rate, belief, backward, prefix, reference);
+    let k = prefix.len() as u32;
+    walk.fill(sc.grid(), gains, last_position(sc, prefix), k);
+    let own = sum_after(gains, cells, reference.cells(), k);
+    let value = value_by(sc, belief, reference);
+    u128::from(sc.sweep().denominator()) * value + walk.greatest() - own
+}
+
 impl Tangent {
     /// The tables of a scenario: one number for each cell of each period, and a belief. Only this call takes memory.
     pub fn tables(alloc: Global, sc: &Scenario) -> Result<Tangent, NoMemory>
@@ -57,43 +95,11 @@ impl Tangent {
     {
         let size = sc.horizon() as usize * usize::from(sc.cells());
         Ok(Tangent {
-            front: Front::start(alloc, sc)?,
             belief: Belief::start(alloc, sc)?,
             backward: Backward::tables(alloc, sc)?,
             gains: vec![in alloc; 0; size]?,
             walk: Walk::tables(alloc, sc.cells(), sc.horizon())?,
         })
-    }
-
-    /// The bound, at a rate that is known.
-    fn bound_at(&mut self, sc: &Scenario, rate: u32, prefix: &Path, reference: &Path) -> u128
-        requires made { IsMadeFor sc.now self.old }
-        requires rate { IsRate sc.now rate }
-        requires prefix { IsLegal sc.now prefix.now }
-        requires open { length prefix.now < sc.now.horizon }
-        requires path { IsPath sc.now reference.now }
-        requires begins { take (length prefix.now) reference.now ≡ prefix.now }
-        ensures value { result ≡ tangent_of sc.now rate prefix.now reference.now }
-        ensures made { IsMadeFor sc.now self.new }
-    {
-        let cells = sc.cells();
-        self.front.go_to(sc, prefix);
-        fill_after(
-            &mut self.gains,
-            sc,
-            rate,
-            &self.front.belief,
-            &mut self.belief,
-            &mut self.backward,
-            prefix,
-            reference,
-        );
-        let k = prefix.len() as u32;
-        self.walk
-            .fill(sc.grid(), &self.gains, last_position(sc, prefix), k);
-        let own = sum_after(&self.gains, cells, reference.cells(), k);
-        let value = whole_value(sc, &self.belief);
-        u128::from(sc.sweep().denominator()) * value + self.walk.greatest() - own
     }
 
     /// The tangent bound of a prefix at a reference path that begins with it, in parts of the looks' denominator times
@@ -112,6 +118,46 @@ impl Tangent {
         ensures value { (rate : ℕ) → IsRate sc.now rate → result ≡ tangent_of sc.now rate prefix.now reference.now }
         ensures made { IsMadeFor sc.now self.new }
     {
-        self.bound_at(sc, rate_of(sc), prefix, reference)
+        follow(sc, &mut self.belief, prefix);
+        bound_by(
+            &mut self.belief,
+            &mut self.backward,
+            &mut self.gains,
+            &mut self.walk,
+            sc,
+            prefix,
+            reference,
+        )
+    }
+
+    /// The same bound by a belief after the prefix, in the period of its last look or in the next one. Takes no memory.
+    pub fn bound_after(
+        &mut self,
+        sc: &Scenario,
+        row: &Belief,
+        prefix: &Path,
+        reference: &Path,
+    ) -> u128
+        requires made { IsMadeFor sc.now self.old }
+        requires row { IsPast sc.now prefix.now row.now }
+        requires near { row.now.period ≤ length prefix.now + 1 }
+        requires rate { (rate : ℕ) × IsRate sc.now rate }
+        requires prefix { IsLegal sc.now prefix.now }
+        requires open { length prefix.now < sc.now.horizon }
+        requires path { IsPath sc.now reference.now }
+        requires begins { take (length prefix.now) reference.now ≡ prefix.now }
+        ensures value { (rate : ℕ) → IsRate sc.now rate → result ≡ tangent_of sc.now rate prefix.now reference.now }
+        ensures made { IsMadeFor sc.now self.new }
+    {
+        self.belief.copy_from(row);
+        bound_by(
+            &mut self.belief,
+            &mut self.backward,
+            &mut self.gains,
+            &mut self.walk,
+            sc,
+            prefix,
+            reference,
+        )
     }
 }

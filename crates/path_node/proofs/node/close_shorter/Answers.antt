@@ -8,4 +8,4 @@ returns-else-scratch-clause-closed c =
     let p = c.args.sc.now in
     let q = c.args.prefix.now in
     let none = subst (TellsRate p) c.if-scratch.false (rw (← c.scratch.view_is) at c.requires.made.rate) in
-    (c.requires.shorter, rw c.bound-bound.ensures.bound at (sym c.cuts.ensures ∙ c.if-cuts.false), (λ b whole tangent. absurd (tangent_needs_rate p q b whole none tangent)))
+    (c.requires.shorter, rw c.bound_after-bound.ensures.bound at (sym c.cuts.ensures ∙ c.if-cuts.false), (λ b whole tangent. absurd (tangent_needs_rate p q b whole none tangent)))

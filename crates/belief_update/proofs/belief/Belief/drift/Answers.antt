@@ -1,4 +1,4 @@
-use Rattle.std.proofs.Common.{ℕ, ◌+◌, ◌*◌, ◌<◌, ◌≡◌, List, [], ◌∷◌, ◌++◌, Option, None, length, slice_index, sym, ap, ◌∙◌, sum_by}
+use Rattle.std.proofs.Common.{false, ℕ, ◌+◌, ◌*◌, ◌<◌, ◌≡◌, List, [], ◌∷◌, ◌++◌, Option, None, length, slice_index, sym, ap, ◌∙◌, sum_by}
 use Rattle.std.specs.List.{range_with_len}
 use Rattle.std.proofs.lemmas.List.{with_items_is}
 use Rattle.drift_chain.specs.DriftRows.{part_of}
@@ -10,18 +10,18 @@ pub move_on-requires-clause-fits : goal.move_on-requires-clause-fits
 move_on-requires-clause-fits c =
     let p = c.args.sc.now in
     let looks = c.requires.belief.0 in
-    let before : IsBelief p looks (record { period = c.self.inside.period; masses = c.self.inside.masses.items }) = rw c.self.view_is c.requires.belief.1 in
+    let before : IsBelief p looks (record { period = c.self.inside.period; looked = c.self.inside.looked; masses = c.self.inside.masses.items }) = rw c.self.view_is c.requires.belief.1 in
     let more : c.self.inside.period < p.horizon = rw (ap (λ b. b.period) c.self.view_is) c.requires.period in
     rw (c.deref.ensures.value, c.drift.ensures) (drift_fits p c.cells-sound.ensures.sound looks _ before more)
 
 -- what was moved on is the belief in the next period
-made : (c : goal.After-self-2-1) (looks : List (Option ℕ)) → IsBelief c.args.sc.now looks c.args.self.now →
-    IsBelief c.args.sc.now (looks ++ None ∷ []) (record { period = c.self.inside.period + 1; masses = c.move_on.new.next })
+made : (c : goal.After-self-3-1) (looks : List (Option ℕ)) → IsBelief c.args.sc.now looks c.args.self.now →
+    IsBelief c.args.sc.now (looks ++ None ∷ []) (record { period = c.self.inside.period + 1; looked = false; masses = c.move_on.new.next })
 made c looks given =
     let p = c.args.sc.now in
     let old = c.self.inside.masses.items in
     let new = c.move_on.new.next in
-    let before : IsBelief p looks (record { period = c.self.inside.period; masses = old }) = rw c.self.view_is given in
+    let before : IsBelief p looks (record { period = c.self.inside.period; looked = c.self.inside.looked; masses = old }) = rw c.self.view_is given in
     let more : c.self.inside.period < p.horizon = rw (ap (λ b. b.period) c.self.view_is) c.requires.period in
     let each : (d : ℕ) → d < length old → slice_index new d ≡ sum_by (λ x. slice_index old x * part_of p.drift c.self.inside.period x d) (range_with_len 0 (length old)) = rw (← c.deref.ensures.value, ← c.drift.ensures) c.move_on.ensures.each in
     drift_is p c.cells-sound.ensures.sound looks _ new before more (c.move_on.auto.next ∙ ap length c.deref_mut.ensures.value ∙ c.self.invariant.spare) each

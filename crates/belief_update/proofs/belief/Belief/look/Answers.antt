@@ -1,4 +1,4 @@
-use Rattle.std.proofs.Common.{ℕ, ◌*◌, ◌<◌, ◌≡◌, List, [], ◌∷◌, ◌++◌, Option, Some, None, length, slice_index, sym, ap, ◌∙◌}
+use Rattle.std.proofs.Common.{ℕ, ◌*◌, ◌<◌, ◌≡◌, true, List, [], ◌∷◌, ◌++◌, Option, Some, None, length, slice_index, sym, ap, ◌∙◌}
 use Rattle.std.proofs.lemmas.List.{with_items_is}
 use Rattle.sweep_table.specs.LookParts.{factor_of}
 use Rattle.belief_update.specs.Belief.{IsBelief}
@@ -9,17 +9,17 @@ pub weaken-requires-clause-fits : goal.weaken-requires-clause-fits
 weaken-requires-clause-fits c =
     let p = c.args.sc.now in
     let looks = c.requires.belief.0 in
-    let before : IsBelief p (looks ++ None ∷ []) (record { period = c.self.inside.period; masses = c.self.inside.masses.items }) = rw c.self.view_is c.requires.belief.1 in
+    let before : IsBelief p (looks ++ None ∷ []) (record { period = c.self.inside.period; looked = c.self.inside.looked; masses = c.self.inside.masses.items }) = rw c.self.view_is c.requires.belief.1 in
     rw (c.deref_mut.ensures.value, c.sweep.ensures) (look_fits p c.cells-sound.ensures.sound looks _ before c.args.cell)
 
 -- the weakened masses are the belief after the look
-made : (c : goal.After-self-1) (looks : List (Option ℕ)) → IsBelief c.args.sc.now (looks ++ None ∷ []) c.args.self.now →
-    IsBelief c.args.sc.now (looks ++ Some c.args.cell ∷ []) (record { period = c.self.inside.period; masses = c.weaken.new.masses })
+made : (c : goal.After-self-2-1) (looks : List (Option ℕ)) → IsBelief c.args.sc.now (looks ++ None ∷ []) c.args.self.now →
+    IsBelief c.args.sc.now (looks ++ Some c.args.cell ∷ []) (record { period = c.self.inside.period; looked = true; masses = c.weaken.new.masses })
 made c looks given =
     let p = c.args.sc.now in
     let old = c.self.inside.masses.items in
     let new = c.weaken.new.masses in
-    let before : IsBelief p (looks ++ None ∷ []) (record { period = c.self.inside.period; masses = old }) = rw c.self.view_is given in
+    let before : IsBelief p (looks ++ None ∷ []) (record { period = c.self.inside.period; looked = c.self.inside.looked; masses = old }) = rw c.self.view_is given in
     let each : (x : ℕ) → x < length old → slice_index new x ≡ slice_index old x * factor_of p.sweep c.self.inside.period c.args.cell x = rw (← c.deref_mut.ensures.value, ← c.sweep.ensures) c.weaken.ensures.each in
     look_is p c.cells-sound.ensures.sound looks _ c.args.cell new before (c.weaken.auto.masses ∙ ap length c.deref_mut.ensures.value) each
 

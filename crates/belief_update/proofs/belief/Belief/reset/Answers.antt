@@ -1,11 +1,11 @@
-use Rattle.std.proofs.Common.{◌≡◌, [], ◌∷◌, None, length, sym, ap, ◌∙◌}
+use Rattle.std.proofs.Common.{false, ◌≡◌, [], ◌∷◌, None, length, sym, ap, ◌∙◌}
 use Rattle.std.proofs.lemmas.List.{with_items_is}
 use Rattle.belief_update.specs.Belief.{IsBelief}
 use Rattle.belief_update.proofs.BeliefSteps.{start_is, belief_fits}
 use Rattle.belief_update.proofs.belief.Belief.reset.Goals as goal
 
 -- the first masses are the belief at the start
-made : (c : goal.After-self-2-1) → IsBelief c.args.sc.now (None ∷ []) (record { period = 1; masses = c.first_masses.new.masses })
+made : (c : goal.After-self-3-1) → IsBelief c.args.sc.now (None ∷ []) (record { period = 1; looked = false; masses = c.first_masses.new.masses })
 made c =
     let size : length c.first_masses.new.masses ≡ c.args.sc.now.cells = c.first_masses.auto.masses ∙ ap length c.deref_mut.ensures.value ∙ ap (λ b. length b.masses) c.self.view_is ∙ c.requires in
     start_is c.args.sc.now c.first_masses.ensures.sound c.first_masses.new.masses size c.first_masses.ensures.each

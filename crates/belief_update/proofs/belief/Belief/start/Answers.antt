@@ -1,4 +1,4 @@
-use Rattle.std.proofs.Common.{◌≡◌, [], ◌∷◌, None, length, sym, ◌∙◌}
+use Rattle.std.proofs.Common.{false, ◌≡◌, [], ◌∷◌, None, length, sym, ◌∙◌}
 use Rattle.std.proofs.lemmas.List.{with_items_is}
 use Rattle.belief_update.specs.Belief.{IsBelief}
 use Rattle.belief_update.proofs.BeliefSteps.{start_is, belief_fits}
@@ -9,7 +9,7 @@ size : (c : goal.After-masses-3-1) → length c.first_masses.new.masses ≡ c.ce
 size c = c.first_masses.auto.masses ∙ c.deref_mut.ensures.len ∙ c.in_ok-masses.ensures.len
 
 -- the first masses are the belief at the start
-made : (c : goal.After-masses-3-1) → IsBelief c.args.sc.now (None ∷ []) (record { period = 1; masses = c.first_masses.new.masses })
+made : (c : goal.After-masses-3-1) → IsBelief c.args.sc.now (None ∷ []) (record { period = 1; looked = false; masses = c.first_masses.new.masses })
 made c = start_is c.args.sc.now c.first_masses.ensures.sound c.first_masses.new.masses (size c ∙ c.cells-cells.ensures.value) c.first_masses.ensures.each
 
 pub invariant_of-result : goal.invariant_of-result
