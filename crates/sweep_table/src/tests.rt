@@ -29,14 +29,10 @@ fn the_least_cell_over_is_named(rt: HostRuntime) -> Result<(), Fail> {
 
 #[test]
 fn one_rate_is_the_least_part_or_none(rt: HostRuntime) -> Result<(), Fail> {
-    let cases: [(&[u32], Option<u32>); 7] = [
+    let cases: [(&[u32], Option<u32>); 3] = [
         (&[1, 2, 1], Some(1)),
-        (&[0, 1, 1], None),
-        (&[2, 2, 1], Some(1)),
         (&[1, 0, 2], None),
-        (&[1, 1, 1], Some(1)),
         (&[2, 2, 2], Some(2)),
-        (&[0, 2, 0], Some(0)),
     ];
     for (parts, rate) in cases {
         let Ok(sweep) = Sweep::new(2, parts.to_vec(rt.alloc())?) else {
