@@ -13,7 +13,6 @@ use Rattle.search_model.proofs.WalkLemmas.{continuations_are}
 use Rattle.search_model.proofs.Best.{unbeaten}
 use Rattle.search_model.proofs.Rates.{one_rate, one_rate_is_rate}
 use Rattle.search_model.proofs.LeastBest.{one_least_best}
-use Rattle.longest_walk.proofs.LeastWalks.{one_least_best}
 use Rattle.bound_tree.specs.Accepts.{Extends}
 use Rattle.bound_tree.specs.Close.{IsTangent}
 use Rattle.search_model.specs.Reference.{IsReference}

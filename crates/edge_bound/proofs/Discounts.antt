@@ -16,6 +16,7 @@ use Rattle.belief_update.proofs.MassSteps.{mass_of-look, mass_of-drift}
 use Rattle.belief_update.proofs.Looks.{length-looks_to, looks_to-drift}
 use Rattle.belief_update.proofs.Rewards.{factors_along-looked, found_by_masses, rewards_by_masses_hold}
 use Rattle.edge_bound.specs.Onward.{mass_after_look}
+use Rattle.sweep_table.proofs.Factors.{found_elsewhere}
 
 -- one more look along a track that goes on
 looked_along-at : (p : Problem) (t : ℕ) (looks : List (Option ℕ)) (a : ℕ) (x : List ℕ) → length looks < length x →
@@ -29,18 +30,6 @@ looked_along-at p t (None ∷ looks) a (c ∷ x) h =
 looked_along-at p t (Some b ∷ looks) a (c ∷ x) h =
     let later : t + 1 + length looks ≡ t + suc (length looks) = omega arith in
     rw (looked_along-at p (t + 1) looks a x (omega (arith, h)), later) (omega arith)
-
--- a look finds nothing of a target in another cell
-found_elsewhere : (sweep : LookParts) (t a c mass : ℕ) →
-    mass * (sweep.denominator - factor_of sweep t a c) ≡ (if a == c then sweep.denominator - factor_of sweep t a a else 0) * mass
-unfolding factor_of
-found_elsewhere sweep t a c mass =
-    elim (cases_eq a c) [
-      | inl same ↦ rw (← same, eq-eqb a a refl) (omega arith)
-      | inr apart ↦
-          let none : sweep.denominator - sweep.denominator ≡ 0 = omega arith in
-          rw (ne_eqb a c apart, none) (omega arith)
-    ]
 
 -- what a look finds of some masses is what it finds of its own cell's
 pub found_here : (p : Problem) (t a : ℕ) (mass : ℕ → ℕ) → a < p.cells →

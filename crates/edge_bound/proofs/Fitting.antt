@@ -21,13 +21,6 @@ use Rattle.belief_update.proofs.Missed.{missed_by_masses_hold}
 use Rattle.edge_bound.specs.Moves.{greatest_moves}
 use Rattle.edge_bound.proofs.Walking.{greatest_moves-zero}
 
--- there are some parts to come
-pub some_parts : (p : Problem) → IsProblem p → (i j : ℕ) → 1 ≤ p.drift.denominator ^ i * p.sweep.denominator ^ j
-some_parts p sound i j =
-    let drifts = one-le-pow i p.drift.denominator (omega (arith, sound.drift.denominator)) in
-    let looks = one-le-pow j p.sweep.denominator (omega (arith, sound.sweep.denominator)) in
-    one-le-mul drifts looks
-
 -- what bounds each sum of a walk bounds the greatest
 greatest-within : (f : List ℕ → ℕ) (most : ℕ) (ys : List (List ℕ)) → ((y : List ℕ) → Contains ys y → f y ≤ most) → greatest (map f ys) ≤ most
 greatest-within f most ys each = greatest_below most (map f ys) (All-map (λ v. v ≤ most) f ys (All-weaker (Contains ys) (λ y. f y ≤ most) each ys (All-contains_itself ys)))

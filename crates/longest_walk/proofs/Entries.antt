@@ -13,7 +13,7 @@ pub entries_none : (cells : ℕ) (f : ℕ → ℕ → ℕ) (k : ℕ) (numbers : 
 entries_none cells f k numbers t a later last here = absurd (omega (arith, later, last))
 
 -- a place of an earlier row is before a row
-earlier_place : (cells t u a : ℕ) → a < cells → 1 ≤ u → u ≤ t → (u - 1) * cells + a < t * cells
+pub earlier_place : (cells t u a : ℕ) → a < cells → 1 ≤ u → u ≤ t → (u - 1) * cells + a < t * cells
 earlier_place cells t u a here some le =
     let rows : (u - 1 + 1) * cells ≤ t * cells = mul-le-mul_right cells (omega (arith, some, le)) in
     omega (arith, rows, here)

@@ -78,10 +78,3 @@ module _ (p : Problem) (sound : IsProblem p) (q : List ℕ) where
       found_of p b (p.drift.denominator ^ (p.horizon - t) * p.sweep.denominator ^ (p.horizon - (length q + 1))) a < 2 ^ 127
   found_fits t a b later last here belief =
       omega (arith, found_is p sound q t a b later last here belief, reward-le t a later last, whole_weight-fits p sound)
-
--- there are some parts to come
-pub some_parts : (p : Problem) → IsProblem p → (i j : ℕ) → 1 ≤ p.drift.denominator ^ i * p.sweep.denominator ^ j
-some_parts p sound i j =
-    let drifts = one-le-pow i p.drift.denominator (omega (arith, sound.drift.denominator)) in
-    let looks = one-le-pow j p.sweep.denominator (omega (arith, sound.sweep.denominator)) in
-    one-le-mul drifts looks

@@ -12,18 +12,7 @@ use Rattle.belief_update.proofs.BeliefSteps.{mass_at}
 use Rattle.belief_update.proofs.Looks.{length-looks_to}
 use Rattle.belief_update.proofs.Rewards.{rewards_by_masses_hold}
 use Rattle.mean_bound.specs.Rewards.{found_of}
-
--- a look finds nothing of a target in another cell
-found_elsewhere : (sweep : LookParts) (t a c mass : ℕ) →
-    mass * (sweep.denominator - factor_of sweep t a c) ≡ (if a == c then sweep.denominator - factor_of sweep t a a else 0) * mass
-unfolding factor_of
-found_elsewhere sweep t a c mass =
-    elim (cases_eq a c) [
-      | inl same ↦ rw (← same, eq-eqb a a refl) (omega arith)
-      | inr apart ↦
-          let none : sweep.denominator - sweep.denominator ≡ 0 = omega arith in
-          rw (ne_eqb a c apart, none) (omega arith)
-    ]
+use Rattle.sweep_table.proofs.Factors.{found_elsewhere}
 
 -- the period of a belief after the looks of a prefix
 period_is : (p : Problem) (q : List ℕ) (t : ℕ) (b : BeliefState) → length q ≤ t → IsBelief p (looks_to t q) b → b.period ≡ t

@@ -5,16 +5,11 @@ use Rattle.std.proofs.Math.Nat.{mul-le-mul_right}
 use Rattle.search_model.specs.Problem.{Problem}
 use Rattle.search_model.specs.Bounds.{reward_of}
 use Rattle.mean_bound.specs.Rewards.{HasRewardsTo}
+use Rattle.longest_walk.proofs.Entries.{earlier_place}
 
 -- up to the last look of the prefix there are no rewards
 pub rows_none : (p : Problem) (q rewards : List ℕ) → HasRewardsTo p q (length q) rewards
 rows_none p q rewards t a later last here = absurd (omega (arith, later, last))
-
--- a place of an earlier row is before a row
-earlier_place : (cells t u a : ℕ) → a < cells → 1 ≤ u → u ≤ t → (u - 1) * cells + a < t * cells
-earlier_place cells t u a here some le =
-    let rows : (u - 1 + 1) * cells ≤ t * cells = mul-le-mul_right cells (omega (arith, some, le)) in
-    omega (arith, rows, here)
 
 -- one row more, with the rows before it as they were
 pub rows_more : (p : Problem) (q old new : List ℕ) (t : ℕ) → HasRewardsTo p q t old →

@@ -2,7 +2,7 @@
 use Rattle.std.proofs.Common.{ℕ, zero, suc, ◌+◌, ◌*◌, ◌-◌, ◌^◌, ◌<◌, ◌≤◌, ◌≡◌, List, drop, take, refl, sym, ap, ◌∙◌, arith, sum_by}
 use Rattle.std.specs.List.{range_with_len}
 use Rattle.std.proofs.lemmas.List.Sums.{sum_by-take-le}
-use Rattle.std.proofs.Math.Nat.{pow-zero, pow-suc, le_refl}
+use Rattle.std.proofs.Math.Nat.{pow-zero, pow-suc, le_refl, one-le-pow, one-le-mul}
 use Rattle.drift_chain.specs.DriftRows.{row_of, part_of}
 use Rattle.exact_parts.proofs.Widths.{le-times, part_fits, weight_fits}
 use Rattle.search_model.specs.Problem.{Problem, first_of, IsProblem}
@@ -85,3 +85,11 @@ missed_cells-fit p sound q k few = omega (arith, missed_part-le p sound q k few,
 -- what a prefix misses fits
 pub missed_weight-fits : (p : Problem) → IsProblem p → (q : List ℕ) → missed_weight p q < 2 ^ 127
 missed_weight-fits p sound q = omega (arith, nothing_is_cut_off p q sound, whole_weight-fits p sound)
+
+-- there are some parts to come
+pub some_parts : (p : Problem) → IsProblem p → (i j : ℕ) → 1 ≤ p.drift.denominator ^ i * p.sweep.denominator ^ j
+some_parts p sound i j =
+    let drifts = one-le-pow i p.drift.denominator (omega (arith, sound.drift.denominator)) in
+    let looks = one-le-pow j p.sweep.denominator (omega (arith, sound.sweep.denominator)) in
+    one-le-mul drifts looks
+

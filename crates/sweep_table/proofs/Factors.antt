@@ -1,8 +1,8 @@
 -- What the overlook parts say of the factors.
-use Rattle.std.proofs.Common.{ℕ, ◌≡◌, ◌<◌, ◌≤◌, List, length, slice_index, refl, inl, inr, arith}
+use Rattle.std.proofs.Common.{ℕ, ◌≡◌, ◌==◌, ◌<◌, ◌≤◌, ◌*◌, ◌-◌, if◌then◌else◌, List, length, slice_index, refl, inl, inr, arith}
 use Rattle.std.proofs.lemmas.Bool.{cases_eq, cases_lt, eq-eqb, ne_eqb}
 use Rattle.std.proofs.lemmas.List.{get_or_past}
-use Rattle.sweep_table.specs.LookParts.{factor_of, parts_over, IsSweep}
+use Rattle.sweep_table.specs.LookParts.{LookParts, factor_of, parts_over, IsSweep}
 
 -- a look at the target's own cell misses that cell's part
 pub factor_of-own : (g : ℕ) (overlook : List ℕ) (t p : ℕ) → factor_of (parts_over g overlook) t p p ≡ slice_index overlook p
@@ -35,3 +35,15 @@ IsSweep-from_parts g overlook denominator count within =
 -- a sweep's parts are within its denominator
 pub part-le : (g : ℕ) (overlook : List ℕ) → IsSweep (parts_over g overlook) → (k : ℕ) → slice_index overlook k ≤ g
 part-le g overlook sweep k = let own = sweep.within 1 k k in rw factor_of-own at own
+
+-- a look finds nothing of a target in another cell
+pub found_elsewhere : (sweep : LookParts) (t a c mass : ℕ) →
+    mass * (sweep.denominator - factor_of sweep t a c) ≡ (if a == c then sweep.denominator - factor_of sweep t a a else 0) * mass
+unfolding factor_of
+found_elsewhere sweep t a c mass =
+    elim (cases_eq a c) [
+      | inl same ↦ rw (← same, eq-eqb a a refl) (omega arith)
+      | inr apart ↦
+          let none : sweep.denominator - sweep.denominator ≡ 0 = omega arith in
+          rw (ne_eqb a c apart, none) (omega arith)
+    ]

@@ -9,22 +9,12 @@ use Rattle.search_model.proofs.LegalLemmas.{last_within}
 use Rattle.search_model.proofs.WalkLemmas.{walk_listed, follows-append}
 use Rattle.longest_walk.specs.Sums.{entry_at, highest_sum}
 use Rattle.search_model.specs.Reference.{greatest_sum}
-use Rattle.search_model.proofs.LeastBest.{sum_along-below}
+use Rattle.search_model.proofs.LeastBest.{sum_along-below, sum_along-agree}
 use Rattle.longest_walk.proofs.Highest.{same_rewards_same_sum, highest_above, highest_below}
 use Rattle.tangent_bound.specs.Gains.{AreGains}
 use Rattle.tangent_bound.proofs.Found.{gain-le}
 use Rattle.tangent_bound.proofs.Sizes.{most_of}
 use Rattle.tangent_bound.proofs.WholePath.{all_within}
-
--- numbers that agree along some positions have the same sum
-sum_along-agree : (cells : ℕ) (r s : ℕ → ℕ → ℕ) (t : ℕ) (y : List ℕ) → All (λ a. a < cells) y → ((u a : ℕ) → t ≤ u → u < t + length y → a < cells → r u a ≡ s u a) →
-    sum_along r t y ≡ sum_along s t y
-unfolding sum_along
-sum_along-agree cells r s t [] within agree = refl
-sum_along-agree cells r s t (b ∷ y) within agree =
-    let first : r t b ≡ s t b = agree t b (omega arith) (omega arith) (All-head (λ a. a < cells) b y within) in
-    let rest = sum_along-agree cells r s (t + 1) y (All-tail (λ a. a < cells) b y within) (λ u a from to here. agree u a (omega (arith, from)) (omega (arith, to)) here) in
-    omega (arith, first, rest)
 
 -- a prefix with periods left, a reference path that begins with it, and the gains of the periods after it
 pub record IsTable (p : Problem) (rate : ℕ) (q x gains : List ℕ) : Type 0 where

@@ -1,9 +1,9 @@
 use Rattle.std.proofs.Common.{◌≡◌, ◌+◌, ◌-◌, ◌*◌, ◌^◌, length, arith}
 use Rattle.exact_parts.proofs.Widths.{le-times}
 use Rattle.search_model.specs.Edge.{edge_reward_of}
-use Rattle.search_model.proofs.Totals.{whole_weight-fits}
+use Rattle.search_model.proofs.Totals.{whole_weight-fits, some_parts}
 use Rattle.edge_bound.proofs.Discounts.{edge_reward_is}
-use Rattle.edge_bound.proofs.Fitting.{some_parts, edge_reward-within}
+use Rattle.edge_bound.proofs.Fitting.{edge_reward-within}
 use Rattle.edge_bound.proofs.moves.found_after.Goals as goal
 
 -- times the parts of what is to come it is the edge reward

@@ -2,7 +2,7 @@ use Rattle.std.proofs.Common.{◌≡◌, ◌<◌, ◌+◌, ◌-◌, ◌^◌, len
 use Rattle.search_model.specs.Legal.{last_of}
 use Rattle.search_model.specs.Bounds.{reward_of}
 use Rattle.search_model.proofs.LegalLemmas.{last_within}
-use Rattle.longest_walk.specs.Sums.{entry_at, highest_sum, greatest_sum}
+use Rattle.longest_walk.specs.Sums.{entry_at, highest_sum}
 use Rattle.search_model.specs.Reference.{greatest_sum}
 use Rattle.belief_update.proofs.PrefixValues.{past_ahead}
 use Rattle.belief_update.proofs.TrailSteps.{ready_ahead}

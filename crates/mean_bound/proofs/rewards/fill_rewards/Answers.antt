@@ -3,9 +3,10 @@ use Rattle.belief_update.specs.Masses.{looks_to}
 use Rattle.belief_update.specs.Belief.{IsBelief}
 use Rattle.belief_update.proofs.Looks.{looks_to-drift}
 use Rattle.mean_bound.proofs.Found.{found_is}
-use Rattle.mean_bound.proofs.Fitting.{found_fits, some_parts}
+use Rattle.mean_bound.proofs.Fitting.{found_fits}
 use Rattle.mean_bound.proofs.Rows.{rows_none, rows_more}
 use Rattle.mean_bound.proofs.rewards.fill_rewards.Goals as goal
+use Rattle.search_model.proofs.Totals.{some_parts}
 
 pub fill_period-requires-clause-parts : goal.fill_period-requires-clause-parts
 fill_period-requires-clause-parts c = rw c.later_parts.ensures (some_parts c.args.sc.now c.cells.ensures.sound _ _)

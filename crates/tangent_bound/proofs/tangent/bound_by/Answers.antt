@@ -2,7 +2,7 @@ use Rattle.std.proofs.Common.{ℕ, ◌≡◌, ◌*◌, ◌-◌, ◌+◌, length,
 use Rattle.search_model.specs.Legal.{last_of}
 use Rattle.search_model.specs.Tracks.{value_of}
 use Rattle.search_model.specs.Bounds.{sum_along, tangent_of}
-use Rattle.longest_walk.specs.Sums.{entry_at, greatest_sum}
+use Rattle.longest_walk.specs.Sums.{entry_at}
 use Rattle.search_model.specs.Reference.{greatest_sum}
 use Rattle.tangent_bound.specs.Room.{TangentRoom}
 use Rattle.tangent_bound.proofs.Continued.{IsTable, last_inside, rest_below, highest_bounded, greatest_bounded, greatest_is, rest_is}
