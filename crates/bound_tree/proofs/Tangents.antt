@@ -11,7 +11,7 @@ use Rattle.search_model.specs.Bounds.{reward_of, IsRate, tangent_of}
 use Rattle.search_model.proofs.LegalLemmas.{last_within}
 use Rattle.search_model.proofs.WalkLemmas.{continuations_are}
 use Rattle.search_model.proofs.Best.{unbeaten}
-use Rattle.search_model.proofs.Rates.{one_rate_is_rate, one_rate}
+use Rattle.search_model.proofs.Rates.{one_rate, one_rate_is_rate}
 use Rattle.search_model.proofs.LeastBest.{one_least_best}
 use Rattle.bound_tree.specs.Accepts.{Extends}
 use Rattle.bound_tree.specs.Close.{IsTangent}

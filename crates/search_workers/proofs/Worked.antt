@@ -26,7 +26,7 @@ use Rattle.search_workers.proofs.Balanced.{expects_nothing}
 use Rattle.search_workers.proofs.Disposed.{waits, room_wait, all_wait}
 use Rattle.search_workers.proofs.Limits.{few_records}
 use Rattle.search_workers.proofs.Ready.{order_with, legal_children, longer_children, last_legal, rest_legal, last_room, branch_short}
-use Rattle.search_workers.proofs.Rooms.{few_moves}
+use Rattle.search_model.proofs.Children.{few_moves}
 
 -- the balance of such work, counted
 abbrev IsEvenWork : Problem → List (List ℕ) → List (List ℕ) → List TreeNode → List (List ℕ) → List (List ℕ) → List ℕ → Type 0

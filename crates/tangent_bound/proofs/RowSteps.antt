@@ -7,6 +7,7 @@ use Rattle.search_model.specs.Bounds.{sum_along}
 use Rattle.longest_walk.specs.Sums.{entry_at}
 use Rattle.search_model.proofs.LeastBest.{sum_along-cons}
 use Rattle.tangent_bound.specs.Gains.{IsGainRow, AreGains}
+use Rattle.backward_mass.proofs.Tables.{place_within}
 
 -- one number more of a row
 pub row_more : (xs : List ℕ) (here n v : ℕ) (f : ℕ → ℕ) → here + n < length xs → ((k : ℕ) → k < n → slice_index xs (here + k) ≡ f k) → v ≡ f n →

@@ -53,7 +53,7 @@ fn push_children(stack: &mut Vec<Path>, prefix: &Path, moves: &[u8])
 }
 
 /// Puts on the stack what a record makes expected.
-#[tactic(auto, using(crate::proofs::Rooms::few_moves))]
+#[tactic(auto, using(search_model::proofs::Children::few_moves))]
 pub(crate) fn push_expected(stack: &mut Vec<Path>, sc: &Scenario, prefix: &Path, kind: &Kind)
     requires legal { IsLegal sc.now prefix.now }
     requires short { kind.now ≡ Kind.Branch → length prefix.now < sc.now.horizon }

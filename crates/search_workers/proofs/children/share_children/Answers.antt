@@ -1,6 +1,6 @@
 use Rattle.std.proofs.Common.{◌≡◌, ◌≤◌, ◌-◌, ℕ, ◌+◌, ◌∷◌, [], ◌++◌, ◌∙◌, List, map, drop, take, get_or, length, ap, sym, arith}
 use Rattle.std.proofs.lemmas.List.{length-map, take_all}
-use Rattle.search_workers.proofs.Rooms.{few_moves}
+use Rattle.search_model.proofs.Children.{few_moves}
 use Rattle.search_workers.proofs.Shared.{few_wait}
 use Rattle.search_workers.proofs.children.share_children.Goals as goal
 

@@ -1,7 +1,8 @@
 use Rattle.std.proofs.Common.{◌*◌, ◌-◌, ◌+◌, ◌<◌, ◌≡◌, length, ◌∙◌, arith}
 use Rattle.search_model.specs.Bounds.{gain_of}
-use Rattle.tangent_bound.proofs.RowSteps.{place_within, row_more, earlier_stays}
+use Rattle.tangent_bound.proofs.RowSteps.{row_more, earlier_stays}
 use Rattle.tangent_bound.proofs.gains.fill_row.Goals as goal
+use Rattle.backward_mass.proofs.Tables.{place_within}
 
 -- the place of the next gain is in the table
 inside : (c : goal.After-from-in-loop-a) → (c.args.t - 1) * c.from.result + c.loop-a.a < length c.loop-a.gains
