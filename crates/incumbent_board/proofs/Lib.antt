@@ -5,5 +5,5 @@ mod Steps
 mod Passes
 mod Shown
 mod Offering
-mod Ends
+pub mod Ends
 pub mod SameSeats

@@ -1,10 +1,12 @@
 -- What is brought in of all desks, desk by desk.
 use Rattle.std.proofs.Common.{◌≡◌, ℕ, List, [], ◌∷◌, ◌++◌, map, refl, sym, ap, ◌∙◌, subst, inr, flat_map, append_assoc, append-nil, if◌then◌else◌}
 use Rattle.std.proofs.lemmas.Bool.{cond_both}
+use Rattle.std.proofs.lemmas.List.{map_push}
 use Rattle.std.proofs.lemmas.List.Elements.{All-push, All-weaker, Contains-append_left, Contains-append_right}
 use Rattle.search_model.specs.declared.standing.Standing.{Standing}
 use Rattle.search_model.specs.Order.{better}
-use Rattle.list_laws.proofs.Members.{Contains-head}
+use Rattle.list_laws.proofs.Changed.{flat_map-push}
+use Rattle.list_laws.proofs.Wholes.{Contains-last}
 use Rattle.bound_tree.specs.Close.{IsAtLeast}
 use Rattle.bound_tree.proofs.Closing.{at_least_itself, at_least_trans, at_least_from}
 use Rattle.tree_gather.specs.Hauls.{IsBestOf}
@@ -13,21 +15,19 @@ use Rattle.search_workers.specs.Desks.{DeskView}
 use Rattle.search_workers.specs.Seen.{desk_view}
 use Rattle.search_workers.specs.Settled.{waiting_at, lasts_at}
 
+-- what all desks have, and one more
 pub flat_more : {X : Type 0} (f : DeskView → List X) (ds : List Desk) (d : Desk) → flat_map f (map desk_view (ds ++ d ∷ [])) ≡ flat_map f (map desk_view ds) ++ f (desk_view d)
-flat_more f [] d = append-nil (f (desk_view d))
-flat_more {X} f (e ∷ ds) d =
-    ap (λ (xs : List X). f (desk_view e) ++ xs) (flat_more f ds d) ∙ sym (append_assoc (f (desk_view e)) (flat_map f (map desk_view ds)) (f (desk_view d)))
+flat_more f ds d = ap (flat_map f) (map_push (λ (d : Desk). desk_view d) ds d) ∙ flat_map-push f (map desk_view ds) (desk_view d)
 
 pub map_more : {X : Type 0} (f : DeskView → X) (ds : List Desk) (d : Desk) → map f (map desk_view (ds ++ d ∷ [])) ≡ map f (map desk_view ds) ++ f (desk_view d) ∷ []
-map_more f [] d = refl
-map_more {X} f (e ∷ ds) d = ap (λ (xs : List X). f (desk_view e) ∷ xs) (map_more f ds d)
+map_more f ds d = ap (map f) (map_push (λ (d : Desk). desk_view d) ds d) ∙ map_push f (map desk_view ds) (desk_view d)
 
 -- of the best of some standings and one more the better is the best of all
 best_push : (ss : List Standing) (s t : Standing) → IsBestOf ss s → IsBestOf (ss ++ t ∷ []) (if better t s then t else s)
 best_push ss s t b =
     cond_both (better t s) t s (IsBestOf (ss ++ t ∷ []))
     (λ more. let above : IsAtLeast t s = inr more in record {
-      known = Contains-append_right ss (t ∷ []) t (Contains-head t []);
+      known = Contains-last ss t;
       best = All-push (IsAtLeast t) ss t (All-weaker (IsAtLeast s) (IsAtLeast t) (λ u h. at_least_trans t s u above h) ss b.best) (at_least_itself t);
     })
     (λ none. record {

@@ -25,7 +25,7 @@ use Rattle.search_workers.specs.Workers.{begun_by, haul_of, LeavesAs}
 use Rattle.search_workers.specs.Crew.{IsComplete, HasGone, LeaveTogether}
 use Rattle.search_workers.specs.Settled.{closed_at, waiting_at, IsSettled, LeaveDesks}
 use Rattle.search_workers.proofs.Settling.{all_legal}
-use Rattle.list_laws.proofs.Mapped.{map-map, flat_map-map}
+use Rattle.list_laws.proofs.Mapped.{map-map, flat_map-map, All-unmap}
 
 -- the workers at places from a later one on began with nothing
 others_began : (n : ℕ) (crew : List Member) → EachAt (map (λ m. m.worker.kit) crew) (λ i k. k.place ≡ suc (n + i)) → flat_map (λ m. begun_by m.worker.kit.place) crew ≡ []
@@ -50,7 +50,7 @@ module _ (p : Problem) (t : TicketsView) (b : BoardView) (crew : List Member) (t
   abbrev desks : List DeskView
   desks = map (λ m. m.worker.desk) crew
 
-  -- their hauls and the tasks left meet Balance's equation
+  -- their hauls and the tasks left meet the balance equation
   even_crew : 0 < length crew → IsPermutation (flat_map put_of (map (λ m. m.worker.kit) crew)) (flat_map taken_of (map (λ m. m.worker.kit) crew) ++ tasks) →
       MeetsEquation p [] (waiting_at tasks desks) (closed_at desks)
   even_crew some left =
@@ -90,12 +90,10 @@ idle_desk p first m gone idle legal =
 
 idle_desks : (p : Problem) (first : Standing) (crew : List Member) → All (HasGone p first) crew → All (λ m. m.left ≡ Idle) crew → All (λ d. All (IsLegal p) d.waiting) (map (λ m. m.worker.desk) crew) →
     All (λ d. MayDraw d.ticket × (d.waiting ≡ [])) (map (λ m. m.worker.desk) crew)
-idle_desks p first [] gone idle legal = All-nil (λ d. MayDraw d.ticket × (d.waiting ≡ []))
-idle_desks p first (m ∷ crew) gone idle legal =
-    let rest : List DeskView = map (λ (m : Member). m.worker.desk) crew in
-    All-cons (λ d. MayDraw d.ticket × (d.waiting ≡ [])) m.worker.desk rest
-    (idle_desk p first m (All-head (HasGone p first) m crew gone) (All-head (λ m. m.left ≡ Idle) m crew idle) (All-head (λ d. All (IsLegal p) d.waiting) m.worker.desk rest legal))
-    (idle_desks p first crew (All-tail (HasGone p first) m crew gone) (All-tail (λ m. m.left ≡ Idle) m crew idle) (All-tail (λ d. All (IsLegal p) d.waiting) m.worker.desk rest legal))
+idle_desks p first crew gone idle legal =
+    let desk : Member → DeskView = λ m. m.worker.desk in
+    All-map (λ d. MayDraw d.ticket × (d.waiting ≡ [])) desk crew (λ k m here.
+    idle_desk p first (get_or crew k m) (gone k m here) (idle k m here) (All-unmap (λ (d : DeskView). All (IsLegal p) d.waiting) desk crew legal k m here))
 
 -- and one that left full has
 full_desk : (p : Problem) (first : Standing) (crew : List Member) (k : ℕ) (m : Member) → All (HasGone p first) crew → k < length crew → get_or crew k m ≡ m → m.left ≡ Full →

@@ -1,7 +1,8 @@
 -- The workers of a new search, one for each kit.
-use Rattle.std.proofs.Common.{◌≡◌, ◌<◌, ◌^◌, List, [], ◌∷◌, ◌++◌, map, reverse, length, refl, sym, ap, ◌∙◌, subst, arith, All, append_assoc}
+use Rattle.std.proofs.Common.{◌≡◌, ◌<◌, ◌^◌, List, [], ◌∷◌, ◌++◌, map, reverse, length, get_or, refl, sym, ap, ◌∙◌, subst, arith, All, append_assoc}
 use Rattle.std.proofs.lemmas.List.{reverse-append, map-append}
-use Rattle.std.proofs.lemmas.List.Elements.{All-nil, All-cons, All-append, All-head, All-tail}
+use Rattle.std.proofs.lemmas.List.Elements.{All-nil, All-push}
+use Rattle.list_laws.proofs.Mapped.{All-unmap}
 use Rattle.search_model.specs.declared.standing.Standing.{Standing}
 use Rattle.search_model.specs.Problem.{Problem, IsProblem}
 use Rattle.search_model.proofs.Totals.{whole_weight-fits}
@@ -40,7 +41,7 @@ module _ {X : Type 0} (f : Member → X) where
 
 -- what holds of the workers so far, and of a new one
 pub one_more : (P : Member → Type 0) (crew more : List Member) (m : Member) → more ≡ crew ++ m ∷ [] → All P crew → P m → All P more
-one_more P crew more m made each here = subst (All P) (sym made) (All-append P crew (m ∷ []) each (All-cons P m [] here (All-nil P)))
+one_more P crew more m made each here = subst (All P) (sym made) (All-push P crew m each here)
 
 -- an exact value fits the board
 pub exact_fits : (p : Problem) (s : Standing) → IsProblem p → IsExact p s → s.value < 2 ^ 127
@@ -53,27 +54,13 @@ fresh_may_draw seat fresh = subst (All (λ n. n < seat.limit)) (sym fresh) (All-
 -- complete workers of fresh seats may go
 pub all_may_go : (p : Problem) (t : TicketsView) (b : BoardView) (crew : List Member) → IsComplete t b crew → All IsFresh (map (λ m. m.worker.desk.ticket) crew) →
     IsExact p b.first → All (λ m. IsReady p b.first m.worker) crew → All (λ m. MayGo p t b m.worker) crew
-all_may_go p t b crew complete fresh exact ready = each crew complete.tickets.each complete.seats.each fresh ready
-  where
-    ticket : Member → TicketView
-    ticket = λ m. m.worker.desk.ticket
-
-    seat : Member → SeatView
-    seat = λ m. m.worker.desk.seat
-
-    each : (ms : List Member) → All (IsTicketOf t) (map (λ m. m.worker.desk.ticket) ms) → All (IsSeatOf b) (map (λ m. m.worker.desk.seat) ms) →
-        All IsFresh (map (λ m. m.worker.desk.ticket) ms) → All (λ m. IsReady p b.first m.worker) ms → All (λ m. MayGo p t b m.worker) ms
-    each [] tickets seats fresh ready = All-nil (λ m. MayGo p t b m.worker)
-    each (m ∷ ms) tickets seats fresh ready =
-        All-cons (λ m. MayGo p t b m.worker) m ms
-        (record {
-          ticket = All-head (IsTicketOf t) m.worker.desk.ticket (map (λ (m : Member). m.worker.desk.ticket) ms) tickets;
-          may = fresh_may_draw m.worker.desk.ticket (All-head IsFresh m.worker.desk.ticket (map (λ (m : Member). m.worker.desk.ticket) ms) fresh);
-          first = exact;
-          seat = All-head (IsSeatOf b) m.worker.desk.seat (map (λ (m : Member). m.worker.desk.seat) ms) seats;
-          ready = All-head (λ m. IsReady p b.first m.worker) m ms ready;
-        })
-        (each ms (All-tail (IsTicketOf t) m.worker.desk.ticket (map (λ (m : Member). m.worker.desk.ticket) ms) tickets)
-        (All-tail (IsSeatOf b) m.worker.desk.seat (map (λ (m : Member). m.worker.desk.seat) ms) seats)
-        (All-tail IsFresh m.worker.desk.ticket (map (λ (m : Member). m.worker.desk.ticket) ms) fresh)
-        (All-tail (λ m. IsReady p b.first m.worker) m ms ready))
+all_may_go p t b crew complete fresh exact ready = λ k m here.
+    let ticket : Member → TicketView = λ m. m.worker.desk.ticket in
+    let seat : Member → SeatView = λ m. m.worker.desk.seat in
+    record {
+      ticket = All-unmap (IsTicketOf t) ticket crew complete.tickets.each k m here;
+      may = fresh_may_draw (ticket (get_or crew k m)) (All-unmap IsFresh ticket crew fresh k m here);
+      seat = All-unmap (IsSeatOf b) seat crew complete.seats.each k m here;
+      first = exact;
+      ready = ready k m here;
+    }

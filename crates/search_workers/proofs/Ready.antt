@@ -21,7 +21,7 @@ use Rattle.search_workers.specs.declared.left.Left.TheVariants.{Idle}
 use Rattle.search_workers.specs.Turns.{OnlyTook, HasWork, Turns}
 use Rattle.search_workers.specs.Workers.{begun_by, IsReady, IsSameWorker, Went}
 use Rattle.search_model.proofs.Children.{few_moves}
-use Rattle.search_workers.proofs.Told.{Contains-last}
+use Rattle.list_laws.proofs.Wholes.{Contains-last}
 use Rattle.search_workers.proofs.Balanced.{new_balanced, took_balanced, closed_balanced, expects_nothing}
 use Rattle.search_workers.proofs.Disposed.{waits, disposed_same, disposed_kit, all_wait, room_wait}
 use Rattle.search_model.proofs.Children.{child_is_legal}

@@ -21,7 +21,7 @@ use Rattle.search_workers.specs.Desks.{DeskView, IsMade, HasRoom, IsInOrder}
 use Rattle.search_workers.specs.declared.closing.Closing.{Closing}
 use Rattle.search_workers.specs.declared.closing.Closing.TheVariants.{Branches, Ends, Full, NoMemory}
 use Rattle.search_workers.specs.Steps.{Records, ClosesUnder, MakesRecord, Closes}
-use Rattle.search_workers.proofs.Told.{Contains-last}
+use Rattle.list_laws.proofs.Wholes.{Contains-last}
 use Rattle.search_workers.proofs.Standings.{after_is_up, after_unbeaten, after_is_exact}
 
 -- a number that is greater than all that were drawn keeps them ascending

@@ -27,23 +27,15 @@ use Rattle.search_workers.specs.Settled.{closed_at, waiting_at, IsSettled, Leave
 use Rattle.search_workers.proofs.Gone.{ticket_same, seat_same}
 use Rattle.search_workers.proofs.Worked.{even_from}
 use Rattle.list_laws.proofs.Halves.{All-front, All-back}
-
--- what holds of all parts of each holds of the whole
-pub all_at : {X : Type 0} (P : X → Type 0) (f : DeskView → List X) (desks : List DeskView) → All (λ d. All P (f d)) desks → All P (flat_map f desks)
-all_at P f [] each = All-nil P
-all_at P f (d ∷ ds) each = All-append P (f d) (flat_map f ds) (All-head (λ d. All P (f d)) d ds each) (all_at P f ds (All-tail (λ d. All P (f d)) d ds each))
-
--- and the other way round
-pub each_at : {X : Type 0} (P : X → Type 0) (f : DeskView → List X) (desks : List DeskView) → All P (flat_map f desks) → All (λ d. All P (f d)) desks
-each_at P f [] all = All-nil (λ d. All P (f d))
-each_at P f (d ∷ ds) all = All-cons (λ d. All P (f d)) d ds (All-front P (f d) (flat_map f ds) all) (each_at P f ds (All-back P (f d) (flat_map f ds) all))
+use Rattle.list_laws.proofs.Mapped.{All-unmap}
+use Rattle.list_laws.proofs.Wholes.{All-joined, All-parts}
 
 -- desks in order branch only where the first standing does
 pub lets_branch_at : (p : Problem) (first : Standing) (desks : List DeskView) → All (IsInOrder p first) desks → LetsBranch p first (closed_at desks)
 lets_branch_at p first desks order =
     let P : TreeNode → Type 0 = λ r. r.kind ≡ Branch → IsClosed p first r.prefix Branch in
     let Q : DeskView → Type 0 = λ d. All P d.records in
-    all_at P (λ d. d.records) desks (All-weaker (IsInOrder p first) Q (λ d o. (o.sound [] [] []).branches) desks order)
+    All-joined P (λ d. d.records) desks (All-weaker (IsInOrder p first) Q (λ d o. (o.sound [] [] []).branches) desks order)
 
 -- what waits at settled desks, or is left, is legal
 pub all_legal : (p : Problem) (first : Standing) (tasks : List (List ℕ)) (desks : List DeskView) → IsProblem p → All (IsInOrder p first) desks →
@@ -52,16 +44,12 @@ all_legal p first tasks desks sound order even =
     let live = (balanced_is_live p first [] (waiting_at tasks desks) (closed_at desks) sound even (lets_branch_at p first desks order)).1 in
     let waiting = All-front (IsLive p first) (waiting_at tasks desks) (prefixes_of (closed_at desks)) live in
     let legal = All-weaker (IsLive p first) (IsLegal p) (λ q l. l.legal) (waiting_at tasks desks) waiting in
-    (All-front (IsLegal p) tasks (flat_map (λ d. d.waiting) desks) legal, each_at (IsLegal p) (λ d. d.waiting) desks (All-back (IsLegal p) tasks (flat_map (λ d. d.waiting) desks) legal))
+    (All-front (IsLegal p) tasks (flat_map (λ d. d.waiting) desks) legal, All-parts (IsLegal p) (λ d. d.waiting) desks (All-back (IsLegal p) tasks (flat_map (λ d. d.waiting) desks) legal))
 
 -- the first desk
 first_of : (P : DeskView → Type 0) (desks : List Desk) (d : Desk) → 0 < length desks → d ≡ get_or desks 0 d → All P (map desk_view desks) → P (desk_view d)
 first_of P [] d some is all = absurd (omega (arith, some))
 first_of P (x ∷ desks) d some is all = subst (λ (z : Desk). P (desk_view z)) (sym is) (All-head P (desk_view x) (map desk_view desks) all)
-
-all_of_map : {X Y : Type 0} (P : Y → Type 0) (f : X → Y) (xs : List X) → All P (map f xs) → All (λ x. P (f x)) xs
-all_of_map P f [] all = All-nil (λ x. P (f x))
-all_of_map P f (x ∷ xs) all = All-cons (λ x. P (f x)) x xs (All-head P (f x) (map f xs) all) (all_of_map P f xs (All-tail P (f x) (map f xs) all))
 
 module _ (p : Problem) (t : TicketsView) (b : BoardView) (tasks : List (List ℕ)) (desks : List Desk) (d : Desk) (some : 0 < length desks) (is : d ≡ get_or desks 0 d)
     (settled : IsSettled p t b tasks (map desk_view desks)) (idle : LeaveDesks Idle (map desk_view desks)) where
@@ -73,9 +61,9 @@ module _ (p : Problem) (t : TicketsView) (b : BoardView) (tasks : List (List ℕ
 
   pub first_may : MayClose p t b (desk_view d)
   first_may = record {
-    ticket = first_of (λ d. IsTicketOf t d.ticket) desks d some is (all_of_map (IsTicketOf t) (λ (d : DeskView). d.ticket) views settled.tickets.each);
+    ticket = first_of (λ d. IsTicketOf t d.ticket) desks d some is (All-unmap (IsTicketOf t) (λ (d : DeskView). d.ticket) views settled.tickets.each);
     may = (first_of (λ d. MayDraw d.ticket × (d.waiting ≡ [])) desks d some is idle).0;
-    seat = first_of (λ d. IsSeatOf b d.seat) desks d some is (all_of_map (IsSeatOf b) (λ (d : DeskView). d.seat) views settled.seats.each);
+    seat = first_of (λ d. IsSeatOf b d.seat) desks d some is (All-unmap (IsSeatOf b) (λ (d : DeskView). d.seat) views settled.seats.each);
     order = first_of (IsInOrder p b.first) desks d some is settled.order;
     legal = subst (All (IsLegal p)) (sym first_empty) (All-nil (IsLegal p));
   }

@@ -2,7 +2,7 @@
 use Rattle.std.proofs.Common.{◌≡◌, List, [], ◌∷◌, ◌++◌, inl, inr, sym, subst, Contains}
 use Rattle.std.proofs.lemmas.List.Elements.{Contains-append_left, Contains-append_right, Contains-append_cases}
 use Rattle.search_model.specs.declared.standing.Standing.{Standing}
-use Rattle.list_laws.proofs.Members.{Contains-head, Contains-tail}
+use Rattle.list_laws.proofs.Wholes.{Contains-last}
 use Rattle.incumbent_board.specs.declared.offer.Offer.{Offer}
 use Rattle.incumbent_board.specs.declared.offer.Offer.TheVariants.{Placed, Behind}
 use Rattle.incumbent_board.specs.History.{last_of, last_from}
@@ -10,10 +10,6 @@ use Rattle.incumbent_board.specs.Boards.{SeatView, offers_of}
 use Rattle.incumbent_board.specs.Offers.{OnPlaced, IfBehind}
 use Rattle.search_workers.specs.Incumbents.{WasTold, Looked}
 use Rattle.incumbent_board.proofs.Ends.{last_there}
-
--- what was added last stands in a list
-pub Contains-last : {X : Type 0} (xs : List X) (x : X) → Contains (xs ++ x ∷ []) x
-Contains-last xs x = Contains-append_right xs (x ∷ []) x (Contains-head x [])
 
 -- a seat was told of what it offers
 pub told_by_offer : (s : Standing) (old new : SeatView) (answer : Offer) →

@@ -38,7 +38,7 @@ pub record HasGone (p : Problem) (first : Standing) (m : Member) : Type 0 where
 abbrev pub SomeLeft : List Member → Left → Type 0
 SomeLeft crew left = Any (λ m. m.left ≡ left) crew
 
--- how the workers left together: without memory where one found none, whatever the others met; else full where one drew a
+-- how the workers left together: without memory where it ran out for one, whatever the others met; else full where one drew a
 -- number that isn't below the limit; else idle
 abbrev pub LeaveTogether : List Member → Left → Type 0
 LeaveTogether crew Idle = All (λ m. m.left ≡ Idle) crew

@@ -19,7 +19,7 @@ abbrev pub waiting_at : List (List ℕ) → List DeskView → List (List ℕ)
 waiting_at tasks desks = tasks ++ flat_map (λ d. d.waiting) desks
 
 -- these are all desks of a search, and all that it has: they have all seats of the tickets and of the board, each is in
--- order, and Balance's equation holds with nothing pooled and what waits held
+-- order, and the balance equation holds with nothing pooled and what waits held
 pub record IsSettled (p : Problem) (t : TicketsView) (b : BoardView) (tasks : List (List ℕ)) (desks : List DeskView) : Type 0 where
   pub tickets : AreAllTickets t (map (λ d. d.ticket) desks)
   pub seats : AreAllSeats b (map (λ d. d.seat) desks)

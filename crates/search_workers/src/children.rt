@@ -8,18 +8,9 @@ ghost use Rattle.search_workers.specs.Children.{Puts, Shares, OnlyPut, Disposes}
 
 use crate::stack::Stack;
 use path_node::children;
+use search_core::extended;
 use search_model::{Path, Scenario};
 use steal_pool::Kit;
-
-// A prefix with one position more.
-fn extended(prefix: &Path, d: u8) -> Path
-    requires { length prefix.now < 32 }
-    ensures { result ≡ prefix.now ++ d ∷ [] }
-{
-    let mut child = *prefix;
-    child.push(d);
-    child
-}
 
 // Puts the children of a prefix by these moves on a private stack, so that the first is taken first.
 fn push_children(stack: &mut Stack, prefix: &Path, moves: &[u8])
@@ -33,7 +24,7 @@ fn push_children(stack: &mut Stack, prefix: &Path, moves: &[u8])
 }
 
 /// Puts all children of a prefix on a private stack, so that the least is taken first.
-#[tactic(auto, using(crate::proofs::Rooms::few_moves))]
+#[tactic(auto, using(search_model::proofs::Children::few_moves))]
 pub fn stack_children(stack: &mut Stack, sc: &Scenario, prefix: &Path)
     requires legal { IsLegal sc.now prefix.now }
     requires shorter { length prefix.now < sc.now.horizon }
@@ -61,7 +52,7 @@ fn put_children(kit: &mut Kit<Path>, stack: &mut Stack, prefix: &Path, moves: &[
 
 // Puts all children of a prefix but the least into the own deque, in ascending order, and then the least on the private
 // stack, where it is above those that the deque handed back.
-#[tactic(auto, using(crate::proofs::Rooms::few_moves, crate::proofs::Rooms::some_moves))]
+#[tactic(auto, using(search_model::proofs::Children::few_moves, search_model::proofs::Children::some_moves))]
 fn share_children(kit: &mut Kit<Path>, stack: &mut Stack, sc: &Scenario, prefix: &Path)
     requires legal { IsLegal sc.now prefix.now }
     requires shorter { length prefix.now < sc.now.horizon }

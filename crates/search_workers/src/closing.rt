@@ -25,7 +25,7 @@ pub enum Closing {
     Ends,
     /// It stays, since the number that was drawn for it isn't below the limit.
     Full,
-    /// It stays, since no memory was found for its record.
+    /// It stays, since memory ran out for its record.
     NoMemory,
 }
 

@@ -1,10 +1,12 @@
 //! The workers of a search together.
 
 ghost use Rattle.std.specs.Prelude.{◌≡◌, ℕ, ◌<◌, ◌≤◌, All, IfOk, length, map, slice_index_or};
+ghost use Rattle.std.specs.List.{AllZip};
 ghost use Rattle.std.specs.Thread.{IsSync};
 ghost use Rattle.bound_tree.specs.Close.{IsExact};
 ghost use Rattle.search_workers.specs.Workers.{Went};
 ghost use Rattle.search_workers.specs.Crew.{MayGo};
+ghost use Rattle.search_workers.specs.Runs.{Runs};
 
 use crate::gate::Gate;
 use crate::left::Left;
@@ -22,9 +24,6 @@ pub struct Member {
     pub worker: Worker,
     pub left: Left,
 }
-
-ghost use Rattle.std.specs.List.{AllZip};
-ghost use Rattle.search_workers.specs.Runs.{Runs};
 
 // A worker goes.
 fn go_once<R: Wait, G: Gate>(

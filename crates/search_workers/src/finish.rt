@@ -1,11 +1,12 @@
 //! What the calling thread does once all workers have left: it goes on over the tasks left, at the desk of worker 0.
 
-ghost use Rattle.std.specs.Prelude.{◌≡◌, ◌+◌, ◌<◌, [], length, All, MatchOption};
+ghost use Rattle.std.specs.Prelude.{◌≡◌, ◌+◌, ◌<◌, [], length, map, All, MatchOption};
 ghost use Rattle.search_model.specs.Legal.{IsLegal};
 ghost use Rattle.bound_tree.specs.Close.{IsExact};
 ghost use Rattle.search_workers.specs.Desks.{IsInOrder, IsSameDesk};
 ghost use Rattle.search_workers.specs.Seen.{desk_view};
 ghost use Rattle.search_workers.specs.Finish.{MayClose, WorksOff, EndsWork};
+ghost use Rattle.search_workers.specs.Settled.{IsSettled, LeaveDesks, EndsSearch};
 
 use crate::children::stack_children;
 use crate::closing::Closing;
@@ -97,9 +98,6 @@ pub fn take_up<R: Wait>(
     }
     Left::Idle
 }
-
-ghost use Rattle.std.specs.Prelude.{map};
-ghost use Rattle.search_workers.specs.Settled.{IsSettled, LeaveDesks, EndsSearch};
 
 // Takes the tasks left up at the desk of worker 0.
 fn take_up_first<R: Wait>(

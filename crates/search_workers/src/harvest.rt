@@ -4,6 +4,7 @@ ghost use Rattle.std.specs.Prelude.{◌≡◌, map, IfOk, OnOk, ◌++◌, ◌∷
 ghost use Rattle.tree_gather.specs.Hauls.{IsBestOf};
 ghost use Rattle.search_workers.specs.Seen.{desk_view};
 ghost use Rattle.search_workers.specs.Settled.{closed_at, waiting_at, lasts_at};
+ghost use Rattle.search_workers.specs.Harvests.{Adds};
 
 use crate::desk::Desk;
 use crate::incumbent::Incumbent;
@@ -23,8 +24,6 @@ pub struct Harvest {
     pub tickets: Vec<TicketSeat>,
     pub seats: Vec<BoardSeat>,
 }
-
-ghost use Rattle.search_workers.specs.Harvests.{Adds};
 
 // Adds what a desk has.
 fn add_desk(harvest: &mut Harvest, desk: Desk) -> Result<(), NoMemory>

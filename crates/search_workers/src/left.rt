@@ -8,6 +8,6 @@ pub enum Left {
     Idle,
     /// It drew a number at the limit or above it.
     Full,
-    /// No memory was found.
+    /// Memory ran out.
     NoMemory,
 }

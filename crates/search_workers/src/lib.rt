@@ -16,8 +16,6 @@ mod left;
 mod muster;
 mod rounds;
 mod run;
-#[cfg(test)]
-mod search_tests;
 mod searching;
 mod sending;
 mod stack;

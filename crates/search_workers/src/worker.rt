@@ -93,7 +93,7 @@ impl Worker {
         Ok(Worker { kit, desk })
     }
 
-    /// Closes prefixes until there is nothing to do, the limit is reached, or no memory is found. The gate is told of each
+    /// Closes prefixes until there is nothing to do, the limit is reached, or memory runs out. The gate is told of each
     /// prefix once its children are disposed of, and of each round that got no task. The search is one from the standing
     /// that the board was started with. Takes memory for the records alone. May wait; where its waits for the board and
     /// its tries of an offer end, it returns.

@@ -1,16 +1,18 @@
 -- What a step at one deque makes of what a kit knows of all.
-use Rattle.std.proofs.Common.{◌≡◌, inl, inr, ℕ, zero, suc, ◌+◌, ◌-◌, ◌<◌, List, [], ◌∷◌, ◌++◌, length, map, set, get_or, sym, refl, ap, ◌∙◌, subst, arith, append_assoc, IsPermutation, length-append, get_or-set_same, get_or-set_other}
+use Rattle.std.proofs.Common.{◌≡◌, inl, inr, ℕ, suc, ◌+◌, ◌-◌, ◌<◌, List, [], ◌∷◌, ◌++◌, length, map, set, get_or, sym, refl, ap, ◌∙◌, subst, arith, IsPermutation, length-append, get_or-set_same, get_or-set_other}
 use Rattle.std.specs.List.{flat_map}
 use Rattle.std.proofs.lemmas.Bool.{cases_order}
 use Rattle.std.proofs.lemmas.List.{append-nil, length-map, nil_from_length, set-get_or, set-append_left, set-append_right, get_or_append_left, get_or-append_right}
-use Rattle.std.proofs.lemmas.List.Sorted.{IsPermutation-trans, IsPermutation-append_right, length_permutation}
+use Rattle.std.proofs.lemmas.List.Sorted.{IsPermutation-sym, length_permutation}
+use Rattle.std.proofs.lemmas.Option.{slice_get-get_or, get_or_from_slice_get}
+use Rattle.crossbeam_deque.proofs.Lists.{at_index}
 use Rattle.steal_pool.specs.declared.hand.Hand.{Hand}
 use Rattle.steal_pool.specs.declared.theft.Theft.{Theft}
 use Rattle.steal_pool.specs.declared.theft.Theft.TheVariants.{Got, Empty, Beaten}
 use Rattle.steal_pool.specs.Rule.{hand, with_task, takes_of, IsLeft, HeldAtOneMoment, FirstAtOneMoment, EmptyAtOneMoment}
 use Rattle.steal_pool.specs.Kits.{DequeId, KitView, hand_at, TookOne}
 use Rattle.steal_pool.specs.Thefts.{MatchTheft, RobsAt, Steals, misses_after}
-use Rattle.list_laws.proofs.Exchanges.{IsPermutation-same, IsPermutation-swap_last}
+use Rattle.list_laws.proofs.Changed.{flat_map-grown}
 use Rattle.steal_pool.proofs.Balance.{whole}
 use Rattle.steal_pool.proofs.Left.{left_many}
 
@@ -21,11 +23,9 @@ module _ {T : Type 0} where
 
   -- the lists of all hands, after the list of one has grown
   pub flat_map-set : (f : Hand T → List T) (hs : List (Hand T)) (i : ℕ) (d w : Hand T) (xs : List T) → i < length hs → f w ≡ f (get_or hs i d) ++ xs → IsPermutation (flat_map f (set hs i w)) (flat_map f hs ++ xs)
-  flat_map-set f [] i d w xs here more = absurd (omega arith)
-  flat_map-set f (h ∷ hs) zero d w xs here more =
-      IsPermutation-trans _ _ _ (IsPermutation-same _ _ (ap (λ (l : List T). l ++ flat_map f hs) more)) (IsPermutation-swap_last (f h) xs (flat_map f hs))
-  flat_map-set f (h ∷ hs) (suc i) d w xs here more =
-      IsPermutation-trans _ _ _ (IsPermutation-append_right (f h) _ _ (flat_map-set f hs i d w xs (omega arith) more)) (IsPermutation-same _ _ (sym (append_assoc (f h) (flat_map f hs) xs)))
+  flat_map-set f hs i d w xs here more =
+      let is : get_or hs i (get_or hs i d) ≡ get_or hs i d = get_or_from_slice_get hs i (get_or hs i d) (get_or hs i d) (slice_get-get_or hs i d here) in
+      IsPermutation-sym _ _ (flat_map-grown f hs i (get_or hs i d) w xs (at_index hs i (get_or hs i d) here (sym is)) more)
 
   -- a take changes nothing that was put
   put_kept : (hs : List (Hand T)) (at place : ℕ) (x : T) → at < length hs → (get_or (set hs at (with_task (get_or hs at none) x)) place none).put ≡ (get_or hs place none).put

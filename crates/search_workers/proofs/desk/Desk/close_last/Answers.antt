@@ -1,7 +1,7 @@
 use Rattle.std.proofs.Common.{[], refl, sym, ap, subst, ◌∙◌, arith, Contains}
 use Rattle.search_workers.specs.Desks.{DeskView}
 use Rattle.search_workers.specs.Seen.{desk_view}
-use Rattle.search_workers.proofs.Told.{Contains-last}
+use Rattle.list_laws.proofs.Wholes.{Contains-last}
 use Rattle.search_workers.proofs.Recorded.{still_in_order, closed_in_order, closes_from}
 use Rattle.search_workers.proofs.desk.Desk.close_last.Goals as goal
 
