@@ -2,70 +2,12 @@ ghost use Rattle.std.specs.Prelude.{◌≡◌};
 ghost use Rattle.mean_bound.specs.Means.{IsMadeFor};
 
 use super::*;
-use drift_chain::{Drift, DriftPart};
-use search_grid::Grid;
-use search_model::{Name, Parts, Path, Scenario};
-use std::alloc::{AllocError, Global};
+use search_model::{Path, Scenario};
 use std::test::Fail;
-use sweep_table::Sweep;
+use worked_scenarios::{two_cells, waiting_longer};
 
 // Holds of what may be shared between threads and moved to one.
 fn crosses_threads<T: Send + Sync + Drop>(_value: T) {}
-
-// A drift row: the cells that a target goes to, each with its part.
-fn row_of(alloc: Global, entries: &[DriftPart]) -> Result<Vec<DriftPart>, AllocError> {
-    entries.to_vec(alloc)
-}
-
-// Three cells in a row, and a target that stays in the last one: the searcher starts in the middle, a look misses 1 of 2,
-// and there are three periods.
-fn waiting_longer(alloc: Global) -> Result<Scenario, Fail> {
-    let a = Name::new(b"a").ok_or("no name")?;
-    let b = Name::new(b"b").ok_or("no name")?;
-    let c = Name::new(b"c").ok_or("no name")?;
-    let moves = vec![in alloc;
-        vec![in alloc; 0, 1]?,
-        vec![in alloc; 0, 1, 2]?,
-        vec![in alloc; 1, 2]?,
-    ]?;
-    let drifts = vec![in alloc;
-        row_of(alloc, &[DriftPart { cell: 0, part: 1 }])?,
-        row_of(alloc, &[DriftPart { cell: 1, part: 1 }])?,
-        row_of(alloc, &[DriftPart { cell: 2, part: 1 }])?,
-    ]?;
-    Ok(Scenario::new(Parts {
-        names: vec![in alloc; a, b, c]?,
-        horizon: 3,
-        start: 1,
-        total: 1,
-        first: vec![in alloc; 0, 0, 1]?,
-        grid: Grid::new(moves)?,
-        drift: Drift::new(1, drifts)?,
-        sweep: Sweep::new(2, vec![in alloc; 1, 1, 1]?)?,
-    })?)
-}
-
-// Two cells and two periods; the target moves as it likes, and no look at its cell misses.
-fn two_cells(alloc: Global) -> Result<Scenario, Fail> {
-    let a = Name::new(b"a").ok_or("no name")?;
-    let b = Name::new(b"b").ok_or("no name")?;
-    let moves = vec![in alloc; vec![in alloc; 0, 1]?, vec![in alloc; 0, 1]?]?;
-    let either = [
-        DriftPart { cell: 0, part: 1 },
-        DriftPart { cell: 1, part: 1 },
-    ];
-    let drifts = vec![in alloc; row_of(alloc, &either)?, row_of(alloc, &either)?]?;
-    Ok(Scenario::new(Parts {
-        names: vec![in alloc; a, b]?,
-        horizon: 2,
-        start: 0,
-        total: 2,
-        first: vec![in alloc; 1, 1]?,
-        grid: Grid::new(moves)?,
-        drift: Drift::new(2, drifts)?,
-        sweep: Sweep::new(2, vec![in alloc; 0, 0]?)?,
-    })?)
-}
 
 // Whether a prefix may be bounded, and has this bound and this path of the greatest sum.
 fn has_bound(sc: &Scenario, mean: &mut Mean, cells: &[u8], bound: u128, reference: &[u8]) -> bool
