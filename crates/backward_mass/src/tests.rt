@@ -9,33 +9,6 @@ use sweep_table::Sweep;
 // Holds of what may be shared between threads and moved to one.
 fn crosses_threads<T: Send + Sync + Drop>(_value: T) {}
 
-// The even chance of either of two cells.
-fn either(alloc: Global) -> Result<Vec<DriftPart>, AllocError> {
-    [
-        DriftPart { cell: 0, part: 1 },
-        DriftPart { cell: 1, part: 1 },
-    ]
-    .to_vec(alloc)
-}
-
-// Two cells and two periods; each step goes to either cell alike, and no look at the target's cell misses.
-fn two_cells(alloc: Global) -> Result<Scenario, Fail> {
-    let a = Name::new(b"a").ok_or("no name")?;
-    let b = Name::new(b"b").ok_or("no name")?;
-    let moves = vec![in alloc; vec![in alloc; 0, 1]?, vec![in alloc; 0, 1]?]?;
-    let drifts = vec![in alloc; either(alloc)?, either(alloc)?]?;
-    Ok(Scenario::new(Parts {
-        names: vec![in alloc; a, b]?,
-        horizon: 2,
-        start: 0,
-        total: 2,
-        first: vec![in alloc; 1, 1]?,
-        grid: Grid::new(moves)?,
-        drift: Drift::new(2, drifts)?,
-        sweep: Sweep::new(2, vec![in alloc; 0, 0]?)?,
-    })?)
-}
-
 // The row of a cell that keeps all of a target.
 fn stays(alloc: Global, cell: u8) -> Result<Vec<DriftPart>, AllocError> {
     [DriftPart { cell, part: 1 }].to_vec(alloc)
@@ -46,9 +19,6 @@ fn waiting_longer(alloc: Global) -> Result<Scenario, Fail> {
     let a = Name::new(b"a").ok_or("no name")?;
     let b = Name::new(b"b").ok_or("no name")?;
     let c = Name::new(b"c").ok_or("no name")?;
-    let ends = [0, 1].to_vec(alloc)?;
-    let middle = [0, 1, 2].to_vec(alloc)?;
-    let moves = vec![in alloc; ends, middle, [1, 2].to_vec(alloc)?]?;
     let drifts = vec![in alloc; stays(alloc, 0)?, stays(alloc, 1)?, stays(alloc, 2)?]?;
     Ok(Scenario::new(Parts {
         names: vec![in alloc; a, b, c]?,
@@ -56,26 +26,10 @@ fn waiting_longer(alloc: Global) -> Result<Scenario, Fail> {
         start: 1,
         total: 1,
         first: vec![in alloc; 0, 0, 1]?,
-        grid: Grid::new(moves)?,
+        grid: Grid::four_neighbour(alloc, 1, 3)?,
         drift: Drift::new(1, drifts)?,
         sweep: Sweep::new(2, vec![in alloc; 1, 1, 1]?)?,
     })?)
-}
-
-#[test]
-fn two_cells_have_these_masses(rt: HostRuntime) -> Result<(), Fail> {
-    let sc = two_cells(rt.alloc())?;
-    let mut backward = Backward::tables(rt.alloc(), &sc)?;
-    let path = Path::of(&[0, 0]).ok_or("no path")?;
-    assert!(rt; path.len() == sc.horizon() as usize && sc.is_legal(&path));
-    backward.fill(&sc, &path);
-    let masses: [(u32, u8, u128); 4] = [(1, 0, 2), (1, 1, 2), (2, 0, 1), (2, 1, 1)];
-    for (t, c, mass) in masses {
-        assert!(rt; t >= 1 && t <= sc.horizon() && c < sc.cells());
-        assert_eq!(rt; backward.at(t, c), mass);
-    }
-    crosses_threads(backward);
-    Ok(())
 }
 
 #[test]
@@ -93,5 +47,9 @@ fn a_table_is_filled_again(rt: HostRuntime) -> Result<(), Fail> {
         assert!(rt; t >= 1 && t <= sc.horizon() && c < sc.cells());
         assert_eq!(rt; backward.at(t, c), mass);
     }
+    assert!(rt; sc.horizon() == 3 && sc.cells() == 3);
+    backward.fill_from(&sc, &other, 2);
+    assert_eq!(rt; backward.at(2, 2), 2);
+    crosses_threads(backward);
     Ok(())
 }

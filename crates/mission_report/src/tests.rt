@@ -1,74 +1,8 @@
 use super::*;
-use drift_chain::{Drift, DriftPart};
-use search_grid::Grid;
-use search_model::{Name, Parts, Path, Scenario};
-use std::alloc::{AllocError, Global};
+use search_model::{Path, Scenario};
+use std::alloc::Global;
 use std::test::Fail;
-use sweep_table::Sweep;
-
-fn names(alloc: Global, letters: &[u8]) -> Result<Vec<Name>, Fail> {
-    let mut names = Vec::new(alloc);
-    for letter in letters {
-        names.push(Name::new(&[*letter]).ok_or("no name")?)?;
-    }
-    Ok(names)
-}
-
-// The even chance of either of two cells.
-fn either(alloc: Global) -> Result<Vec<DriftPart>, AllocError> {
-    [
-        DriftPart { cell: 0, part: 1 },
-        DriftPart { cell: 1, part: 1 },
-    ]
-    .to_vec(alloc)
-}
-
-// Two cells and two periods; the target moves as it likes, and no look misses.
-fn two_cells(alloc: Global) -> Result<Scenario, Fail> {
-    let moves = vec![in alloc; vec![in alloc; 0, 1]?, vec![in alloc; 0, 1]?]?;
-    let drifts = vec![in alloc; either(alloc)?, either(alloc)?]?;
-    Ok(Scenario::new(Parts {
-        names: names(alloc, b"ab")?,
-        horizon: 2,
-        start: 0,
-        total: 2,
-        first: vec![in alloc; 1, 1]?,
-        grid: Grid::new(moves)?,
-        drift: Drift::new(2, drifts)?,
-        sweep: Sweep::new(2, vec![in alloc; 0, 0]?)?,
-    })?)
-}
-
-// A row of the drift of a target that stays.
-fn stays(alloc: Global, cell: u8) -> Result<Vec<DriftPart>, AllocError> {
-    [DriftPart { cell, part: 1 }].to_vec(alloc)
-}
-
-// Four cells and two periods; the target stays, and no look misses.
-fn four_cells(alloc: Global) -> Result<Scenario, Fail> {
-    let moves = vec![in alloc;
-        vec![in alloc; 0, 1]?,
-        vec![in alloc; 0, 2]?,
-        vec![in alloc; 2, 3]?,
-        vec![in alloc; 2, 3]?,
-    ]?;
-    let drifts = vec![in alloc;
-        stays(alloc, 0)?,
-        stays(alloc, 1)?,
-        stays(alloc, 2)?,
-        stays(alloc, 3)?,
-    ]?;
-    Ok(Scenario::new(Parts {
-        names: names(alloc, b"abcd")?,
-        horizon: 2,
-        start: 1,
-        total: 9,
-        first: vec![in alloc; 3, 0, 2, 4]?,
-        grid: Grid::new(moves)?,
-        drift: Drift::new(1, drifts)?,
-        sweep: Sweep::new(1, vec![in alloc; 0; 4]?)?,
-    })?)
-}
+use worked_scenarios::{four_cells, two_cells};
 
 #[derive(Clone, Copy)]
 enum Form {

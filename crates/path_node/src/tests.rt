@@ -2,41 +2,12 @@ ghost use Rattle.path_node.specs.Room.{IsMadeFor};
 
 use super::*;
 use bound_tree::{Kind, TreeNode};
-use drift_chain::{Drift, DriftPart};
-use search_grid::Grid;
-use search_model::{Name, Parts, Path, Scenario, Standing, value};
-use std::alloc::{AllocError, Global};
+use search_model::{Path, Scenario, Standing, value};
 use std::test::Fail;
-use sweep_table::Sweep;
+use worked_scenarios::{two_rates, waiting_longer};
 
 // Holds of what may be shared between threads and moved to one.
 fn crosses_threads<T: Send + Sync + Drop>(_value: T) {}
-
-// The row of a cell that keeps all of a target.
-fn stays(alloc: Global, cell: u8) -> Result<Vec<DriftPart>, AllocError> {
-    [DriftPart { cell, part: 1 }].to_vec(alloc)
-}
-
-// Three cells in a row and three periods; the target waits in the last cell, and looks miss these parts of 2.
-fn waiting(alloc: Global, overlook: &[u32]) -> Result<Scenario, Fail> {
-    let a = Name::new(b"a").ok_or("no name")?;
-    let b = Name::new(b"b").ok_or("no name")?;
-    let c = Name::new(b"c").ok_or("no name")?;
-    let ends = [0, 1].to_vec(alloc)?;
-    let middle = [0, 1, 2].to_vec(alloc)?;
-    let moves = vec![in alloc; ends, middle, [1, 2].to_vec(alloc)?]?;
-    let drifts = vec![in alloc; stays(alloc, 0)?, stays(alloc, 1)?, stays(alloc, 2)?]?;
-    Ok(Scenario::new(Parts {
-        names: vec![in alloc; a, b, c]?,
-        horizon: 3,
-        start: 1,
-        total: 1,
-        first: vec![in alloc; 0, 0, 1]?,
-        grid: Grid::new(moves)?,
-        drift: Drift::new(1, drifts)?,
-        sweep: Sweep::new(2, overlook.to_vec(alloc)?)?,
-    })?)
-}
 
 // The record of a prefix under a path's standing, where both are legal.
 fn closed(sc: &Scenario, scratch: &mut Scratch, prefix: &[u8], best: &[u8]) -> Option<TreeNode>
@@ -84,7 +55,7 @@ fn is_whole(node: &TreeNode, value: u128) -> bool {
 // Prefixes under the path that waits with the target, which finds 7 of 8.
 #[test]
 fn prefixes_are_closed_by_each_kind(rt: HostRuntime) -> Result<(), Fail> {
-    let sc = waiting(rt.alloc(), &[1, 1, 1])?;
+    let sc = waiting_longer(rt.alloc())?;
     let mut scratch = Scratch::tables(rt.alloc(), &sc)?;
     let best = &[2, 2, 2];
     let away = closed(&sc, &mut scratch, &[0], best).ok_or("not legal")?;
@@ -100,7 +71,7 @@ fn prefixes_are_closed_by_each_kind(rt: HostRuntime) -> Result<(), Fail> {
 
 #[test]
 fn looks_of_two_rates_have_no_tangent(rt: HostRuntime) -> Result<(), Fail> {
-    let sc = waiting(rt.alloc(), &[1, 0, 1])?;
+    let sc = two_rates(rt.alloc())?;
     let mut scratch = Scratch::tables(rt.alloc(), &sc)?;
     let near = closed(&sc, &mut scratch, &[1], &[2, 2, 2]).ok_or("not legal")?;
     assert!(rt; is_branch(&near));

@@ -77,25 +77,13 @@ fn numbers_give_what_is_drawn_for_them(rt: HostRuntime) -> Result<(), Fail> {
         let scenario = make(rt.alloc(), row.number)?;
         starts_as(&rt, &scenario, &row);
         assert_eq!(rt; scenario.cells(), 25);
+        // 60 * 12 ^ 7 * 6 ^ 8
+        assert_eq!(rt; scenario.weight(), 3_611_020_681_543_680);
         assert_eq!(rt; scenario.start(), row.start);
         assert_eq!(rt; scenario.drift().part(1, 12, 7), row.spread);
         assert_eq!(rt; scenario.drift().part(1, 12, 12), row.middle);
         assert_eq!(rt; scenario.drift().part(1, 24, 24), row.corner);
         assert_eq!(rt; scenario.sweep().one_rate(), Some(row.overlook));
-    }
-    Ok(())
-}
-
-#[test]
-fn all_are_of_one_size(rt: HostRuntime) -> Result<(), Fail> {
-    for row in ROWS {
-        let scenario = make(rt.alloc(), row.number)?;
-        assert_eq!(rt; scenario.cells(), 25);
-        assert_eq!(rt; scenario.positions(), 25);
-        assert_eq!(rt; scenario.horizon(), 8);
-        assert_eq!(rt; scenario.total(), 60);
-        // 60 * 12 ^ 7 * 6 ^ 8
-        assert_eq!(rt; scenario.weight(), 3_611_020_681_543_680);
     }
     Ok(())
 }

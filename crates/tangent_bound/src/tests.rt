@@ -1,68 +1,12 @@
 ghost use Rattle.tangent_bound.specs.Room.{IsMadeFor};
 
 use super::*;
-use drift_chain::{Drift, DriftPart};
-use search_grid::Grid;
-use search_model::{Name, Parts, Path, Scenario};
-use std::alloc::{AllocError, Global};
+use search_model::{Path, Scenario};
 use std::test::Fail;
-use sweep_table::Sweep;
+use worked_scenarios::{two_cells, waiting_longer};
 
 // Holds of what may be shared between threads and moved to one.
 fn crosses_threads<T: Send + Sync + Drop>(_value: T) {}
-
-// The even chance of either of two cells.
-fn either(alloc: Global) -> Result<Vec<DriftPart>, AllocError> {
-    [
-        DriftPart { cell: 0, part: 1 },
-        DriftPart { cell: 1, part: 1 },
-    ]
-    .to_vec(alloc)
-}
-
-// Two cells and two periods; each step goes to either cell alike, and no look at the target's cell misses.
-fn two_cells(alloc: Global) -> Result<Scenario, Fail> {
-    let a = Name::new(b"a").ok_or("no name")?;
-    let b = Name::new(b"b").ok_or("no name")?;
-    let moves = vec![in alloc; vec![in alloc; 0, 1]?, vec![in alloc; 0, 1]?]?;
-    let drifts = vec![in alloc; either(alloc)?, either(alloc)?]?;
-    Ok(Scenario::new(Parts {
-        names: vec![in alloc; a, b]?,
-        horizon: 2,
-        start: 0,
-        total: 2,
-        first: vec![in alloc; 1, 1]?,
-        grid: Grid::new(moves)?,
-        drift: Drift::new(2, drifts)?,
-        sweep: Sweep::new(2, vec![in alloc; 0, 0]?)?,
-    })?)
-}
-
-// The row of a cell that keeps all of a target.
-fn stays(alloc: Global, cell: u8) -> Result<Vec<DriftPart>, AllocError> {
-    [DriftPart { cell, part: 1 }].to_vec(alloc)
-}
-
-// Three cells in a row and three periods; the target waits in the last cell, and a look there misses 1 of 2.
-fn waiting_longer(alloc: Global) -> Result<Scenario, Fail> {
-    let a = Name::new(b"a").ok_or("no name")?;
-    let b = Name::new(b"b").ok_or("no name")?;
-    let c = Name::new(b"c").ok_or("no name")?;
-    let ends = [0, 1].to_vec(alloc)?;
-    let middle = [0, 1, 2].to_vec(alloc)?;
-    let moves = vec![in alloc; ends, middle, [1, 2].to_vec(alloc)?]?;
-    let drifts = vec![in alloc; stays(alloc, 0)?, stays(alloc, 1)?, stays(alloc, 2)?]?;
-    Ok(Scenario::new(Parts {
-        names: vec![in alloc; a, b, c]?,
-        horizon: 3,
-        start: 1,
-        total: 1,
-        first: vec![in alloc; 0, 0, 1]?,
-        grid: Grid::new(moves)?,
-        drift: Drift::new(1, drifts)?,
-        sweep: Sweep::new(2, vec![in alloc; 1, 1, 1]?)?,
-    })?)
-}
 
 // The bound of a prefix at a reference, where they are within its conditions.
 fn bound_of(sc: &Scenario, tangent: &mut Tangent, prefix: &[u8], reference: &[u8]) -> Option<u128>

@@ -4,79 +4,10 @@ use drift_chain::{Drift, DriftPart};
 use exact_parts::NoMemory;
 use search_grid::Grid;
 use search_model::{Name, Parts, Path, Scenario, Standing};
-use std::alloc::{AllocError, Global};
+use std::alloc::Global;
 use std::test::Fail;
 use sweep_table::Sweep;
-
-// One cell, where the target stands and stays; half of the looks miss.
-fn one_cell(alloc: Global) -> Result<Scenario, Fail> {
-    let name = Name::new(b"a").ok_or("no name")?;
-    let stays = vec![in alloc; DriftPart { cell: 0, part: 1 }]?;
-    Ok(Scenario::new(Parts {
-        names: vec![in alloc; name]?,
-        horizon: 1,
-        start: 0,
-        total: 1,
-        first: vec![in alloc; 1]?,
-        grid: Grid::new(vec![in alloc; vec![in alloc; 0]?]?)?,
-        drift: Drift::new(1, vec![in alloc; stays]?)?,
-        sweep: Sweep::new(2, vec![in alloc; 1]?)?,
-    })?)
-}
-
-// The even chance of either of two cells.
-fn either(alloc: Global) -> Result<Vec<DriftPart>, AllocError> {
-    [
-        DriftPart { cell: 0, part: 1 },
-        DriftPart { cell: 1, part: 1 },
-    ]
-    .to_vec(alloc)
-}
-
-// Two cells and two periods; the target moves as it likes, and no look misses.
-fn two_cells(alloc: Global) -> Result<Scenario, Fail> {
-    let a = Name::new(b"a").ok_or("no name")?;
-    let b = Name::new(b"b").ok_or("no name")?;
-    let moves = vec![in alloc; vec![in alloc; 0, 1]?, vec![in alloc; 0, 1]?]?;
-    let drifts = vec![in alloc; either(alloc)?, either(alloc)?]?;
-    Ok(Scenario::new(Parts {
-        names: vec![in alloc; a, b]?,
-        horizon: 2,
-        start: 0,
-        total: 2,
-        first: vec![in alloc; 1, 1]?,
-        grid: Grid::new(moves)?,
-        drift: Drift::new(2, drifts)?,
-        sweep: Sweep::new(2, vec![in alloc; 0, 0]?)?,
-    })?)
-}
-
-// Three cells in a row, and a target that stays in the last one: the searcher starts in the middle.
-fn three_cells(alloc: Global, horizon: u32, overlook: Vec<u32>) -> Result<Scenario, Fail> {
-    let a = Name::new(b"a").ok_or("no name")?;
-    let b = Name::new(b"b").ok_or("no name")?;
-    let c = Name::new(b"c").ok_or("no name")?;
-    let moves = vec![in alloc;
-        vec![in alloc; 0, 1]?,
-        vec![in alloc; 0, 1, 2]?,
-        vec![in alloc; 1, 2]?,
-    ]?;
-    let drifts = vec![in alloc;
-        vec![in alloc; DriftPart { cell: 0, part: 1 }]?,
-        vec![in alloc; DriftPart { cell: 1, part: 1 }]?,
-        vec![in alloc; DriftPart { cell: 2, part: 1 }]?,
-    ]?;
-    Ok(Scenario::new(Parts {
-        names: vec![in alloc; a, b, c]?,
-        horizon,
-        start: 1,
-        total: 1,
-        first: vec![in alloc; 0, 0, 1]?,
-        grid: Grid::new(moves)?,
-        drift: Drift::new(1, drifts)?,
-        sweep: Sweep::new(2, overlook)?,
-    })?)
-}
+use worked_scenarios::{one_cell, two_cells, two_rates, waiting_longer, waiting_target};
 
 // A row of the drift over nine cells: of ten parts two stay in cell `c`, and one goes to each other cell.
 fn spread_from(alloc: Global, c: u8) -> Result<Vec<DriftPart>, Fail> {
@@ -371,7 +302,7 @@ fn said_of_equals(alloc: Global, path: &[u8]) -> Result<Verdict, Fail> {
 
 // What is said of a plan of three cells and two periods whose third record, of prefix 1, has this mean bound.
 fn said_of_mean(alloc: Global, bound: u128) -> Result<Verdict, Fail> {
-    let sc = three_cells(alloc, 2, vec![in alloc; 1, 1, 1]?)?;
+    let sc = waiting_target(alloc)?;
     let nodes = vec![in alloc;
         node_of(&[], Kind::Branch),
         node_of(&[0], Kind::Mean(0)),
@@ -418,7 +349,7 @@ fn plans_with_mean_bounds(rt: HostRuntime) -> Result<(), Fail> {
 #[test]
 fn plans_with_tangent_bounds(rt: HostRuntime) -> Result<(), Fail> {
     let alloc = rt.alloc();
-    let sc = three_cells(alloc, 3, vec![in alloc; 1, 1, 1]?)?;
+    let sc = waiting_longer(alloc)?;
     let right = tangent_at(12, &[1, 2, 2]);
     let rows = [
         (right, 6, Verdict::Accepted),
@@ -445,7 +376,7 @@ fn plans_with_tangent_bounds(rt: HostRuntime) -> Result<(), Fail> {
 #[test]
 fn tangents_need_one_rate(rt: HostRuntime) -> Result<(), Fail> {
     let alloc = rt.alloc();
-    let sc = three_cells(alloc, 3, vec![in alloc; 1, 0, 1]?)?;
+    let sc = two_rates(alloc)?;
     assert_eq!(rt;
         said_of_third(alloc, &sc, tangent_at(12, &[1, 2, 2]), 6)?,
         rejected(7, Why::NoOneRate)
