@@ -11,7 +11,7 @@ use Rattle.search_model.specs.Legal.{walks, continuations, last_of}
 use Rattle.search_model.specs.Tracks.{whole_weight}
 use Rattle.search_model.specs.Bounds.{greatest}
 use Rattle.search_model.specs.Edge.{edge_reward_of, sum_moves, edge_sum}
-use Rattle.search_model.proofs.Totals.{nothing_is_cut_off}
+use Rattle.search_model.proofs.Totals.{nothing_is_cut_off, some_parts}
 use Rattle.search_model.proofs.EdgeRewards.{edge_reward-le, reward-within}
 use Rattle.search_model.proofs.WalkLemmas.{listed_walk}
 use Rattle.list_laws.proofs.Sums.{sum_by-range-part}
