@@ -92,4 +92,3 @@ some_parts p sound i j =
     let drifts = one-le-pow i p.drift.denominator (omega (arith, sound.drift.denominator)) in
     let looks = one-le-pow j p.sweep.denominator (omega (arith, sound.sweep.denominator)) in
     one-le-mul drifts looks
-
