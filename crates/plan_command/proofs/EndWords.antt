@@ -4,12 +4,12 @@ use Rattle.std.specs.Prelude.{codes, nat_eq, MatchOption}
 use Rattle.std.specs.Cmp.Lexicographic.{pointwise}
 use Rattle.std.proofs.lemmas.Bool.Decides.{Decides-eqb}
 use Rattle.std.proofs.lemmas.Slice.Eq.{strip_suffix_is}
-use Rattle.std.specs.List.{list_all}
-use Rattle.std.proofs.lemmas.Bool.{and_parts, eqb-true}
+use Rattle.std.specs.List.{list_all, onto_first}
+use Rattle.std.proofs.lemmas.Bool.{and_parts, ne_eqb}
 use Rattle.std.proofs.lemmas.List.{drop_more, drop_all, take-append-drop}
-use Rattle.scenario_text.specs.Lines.{onto_first, lines_of, is_blank, ends_field, fields_of}
+use Rattle.text_rows.specs.Lines.{lines_of}
+use Rattle.text_rows.specs.Fields.{is_blank, ends_field, fields_of}
 use Rattle.scenario_text.specs.Laws.{EndsWithEnd}
-use Rattle.scenario_text.proofs.Cuts.{is_other}
 use Rattle.scenario_text.proofs.EndLines.{lines_join}
 use Rattle.plan_command.specs.Ends.{EndsInBlanks, BeginsLine}
 
@@ -48,7 +48,7 @@ unfolding lines_of
 blanks_line [] rest piece only e = e
 blanks_line (c ∷ cs) rest piece only e =
     let parts = and_parts (is_blank c) (list_all is_blank cs) only in
-    is_other c _ _ (not_feed c parts.0) ∙ ap (onto_first c) (blanks_line cs rest piece parts.1 e)
+    rw (ne_eqb c 10 (not_feed c parts.0)) (ap (onto_first c) (blanks_line cs rest piece parts.1 e))
 
 feed_line : lines_of (10 ∷ []) ≡ [] ∷ []
 unfolding lines_of

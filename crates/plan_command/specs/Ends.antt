@@ -1,7 +1,7 @@
 -- A text from its end on.
 use Rattle.std.specs.Prelude.{◌≡◌, ◌⊎◌, ◌++◌, ◌∷◌, [], ℕ, List, IsTrue}
 use Rattle.std.specs.List.{list_all}
-use Rattle.scenario_text.specs.Lines.{is_blank}
+use Rattle.text_rows.specs.Fields.{is_blank}
 
 -- the text is a front of it, and then blanks
 pub record EndsInBlanks (text front : List ℕ) : Type 0 where

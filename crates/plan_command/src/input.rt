@@ -1,6 +1,6 @@
 //! What each request makes of its input, which is read as it is needed.
 
-ghost use Rattle.std.specs.Prelude.{◌≤◌, ◌<◌, ◌^◌, ℕ, List, Some};
+ghost use Rattle.std.specs.Prelude.{◌≡◌, ◌≤◌, ◌<◌, ◌^◌, ℕ, List, Some};
 ghost use Rattle.plan_command.specs.Inputs.{InputOf, ReadsAnd};
 ghost use Rattle.plan_command.specs.Intakes.{Judges};
 ghost use Rattle.plan_command.specs.Makes.{MakesOf, IsAsked};
@@ -41,6 +41,17 @@ fn read_input<S: Source>(alloc: Global, source: &mut S, limit: usize) -> Result<
     }
 }
 
+/// What stops a run whose input wasn't read to its end.
+fn unread(stop: InputStop) -> Stop
+    ensures fault { stop ≡ InputStop.Fault → result ≡ Stop.ReadFault }
+    ensures too_long { stop ≡ InputStop.TooLong → result ≡ Stop.TooLong }
+{
+    match stop {
+        InputStop::Fault => Stop::ReadFault,
+        InputStop::TooLong => Stop::TooLong,
+    }
+}
+
 /// The verdict on the plan behind the scenario in the input. Of both only the scenario is kept.
 fn judge_input<S: Source>(alloc: Global, source: &mut S) -> Result<Judgement, Stop>
     ensures { ReadsAnd (Some 336592896) (record { left = S.left source.old; faults = S.faults source.old })
@@ -50,8 +61,7 @@ fn judge_input<S: Source>(alloc: Global, source: &mut S) -> Result<Judgement, St
     let mut intake = Intake::new(alloc);
     match read_pieces(source, &mut piece, MOST_JUDGED, &mut intake) {
         Ok(()) => intake.finish(),
-        Err(InputStop::Fault) => Err(Stop::ReadFault),
-        Err(InputStop::TooLong) => Err(Stop::TooLong),
+        Err(stop) => Err(unread(stop)),
     }
 }
 

@@ -13,6 +13,7 @@ mod laws;
 mod line;
 mod request;
 mod scenario_end;
+mod serving;
 mod spaces;
 mod status;
 #[cfg(test)]

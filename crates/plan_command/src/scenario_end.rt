@@ -1,7 +1,7 @@
 //! Where the text of a scenario ends.
 
 ghost use Rattle.std.specs.Prelude.{◌≡◌, ◌++◌, IsTrue, IfSome};
-ghost use Rattle.scenario_text.specs.Lines.{is_blank as is_blank_lem};
+ghost use Rattle.text_rows.specs.Fields.{is_blank as is_blank_lem};
 ghost use Rattle.scenario_text.specs.Laws.{EndsWithEnd};
 ghost use Rattle.plan_command.specs.Ends.{EndsInBlanks, BeginsLine};
 

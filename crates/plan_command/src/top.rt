@@ -26,11 +26,11 @@ ghost use Rattle.plan_command.specs.Commands.{IsInput, IsRejected, report_of, Is
 ghost use Rattle.plan_command.specs.Run.{shown, seen, Ends, Ending, ending_of, status_at, line_at, Says, IsCutOff, IsRefusal};
 ghost use Rattle.plan_command.specs.Complete.{IsHeard, IsUndisturbed, IsWithin, IsLonger, IsJudge, IsUnlessNoMemory, IsStopDue, IsDue, IsByText};
 
-use crate::input::answer_for;
 use crate::line::say;
+use crate::serving::serve;
 use crate::status::{Status, Stop};
 use crate::words::read_words;
-use byte_ports::{Sink, Source, WriteStop, write_all};
+use byte_ports::{Sink, Source};
 use search_workers::Gate;
 use std::sync::Wait;
 use std::thread::Threads;
@@ -48,15 +48,9 @@ fn work<R: AllocGlobal + Threads + Wait + Sync, S: Source, K: Sink, G: Gate>(
         (shown S.left S.faults K.wrote K.faults source.new out.new) (ending_of result) }
     ensures untouched { IsErrOf result Stop.Usage → source.new ≡ source.old }
 {
-    let request = match read_words(words) {
-        None => return Err(Stop::Usage),
-        Some(request) => request,
-    };
-    let answer = answer_for(rt, request, source, gate)?;
-    match write_all(out, &answer.text) {
-        Ok(()) => Ok(answer.status),
-        Err(WriteStop::Fault) => Err(Stop::WriteFault),
-        Err(WriteStop::NoMemory) => Err(Stop::NoMemory),
+    match read_words(words) {
+        None => Err(Stop::Usage),
+        Some(request) => serve(rt, request, source, out, gate),
     }
 }
 

@@ -1,6 +1,6 @@
 use Rattle.std.proofs.Common.{◌≡◌, ◌≤◌, true, length, drop}
 use Rattle.std.specs.List.{list_all}
-use Rattle.scenario_text.specs.Lines.{is_blank}
+use Rattle.text_rows.specs.Fields.{is_blank}
 use Rattle.plan_command.proofs.scenario_end.before_blanks.Given as goal
 
 abbrev pub invariant-loop-len : goal.invariant-loop-len
