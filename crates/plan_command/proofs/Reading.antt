@@ -1,40 +1,29 @@
 -- A scenario and a plan on one input.
-use Rattle.std.proofs.Common.{ℕ, ◌≡◌, false, List, drop, Result, Ok, Err, refl, sym, subst, ◌∙◌}
+use Rattle.std.proofs.Common.{ℕ, ◌≡◌, false, List, Result, Ok, Err, refl, sym, subst, ◌∙◌}
 use Rattle.search_model.specs.Problem.{Problem, IsProblem}
-use Rattle.scenario_text.specs.Scenarios.{IsFront}
 use Rattle.bound_tree.specs.declared.plan.Plan.{Plan}
 use Rattle.tree_format.specs.declared.kind.PlanFault.{PlanFault}
-use Rattle.tree_format.specs.declared.stop.PlanStop.{PlanStop}
-use Rattle.tree_format.specs.declared.stop.PlanStop.TheVariants.{Fault, NoMemory}
 use Rattle.tree_format.specs.PlanText.{plan_text, IsPlanText}
 use Rattle.tree_format.specs.Reading.{plan_at}
-use Rattle.tree_format.specs.Gives.{ReadsPlan}
 use Rattle.tree_format.proofs.ReadsBack.{plan_text_reads_back, one_plan_a_text}
 use Rattle.tree_format.proofs.Spelled.{one_text_a_plan}
-use Rattle.plan_command.specs.Plans.{BeginsWith, IsPlanRest, HasFault}
+use Rattle.plan_command.specs.Plans.{IsPlanRest, HasFault}
 use Rattle.plan_command.specs.Spaces.{starts_with_space, SkipsSpaces}
-use Rattle.plan_command.specs.Checks.{ReadsRest}
 use Rattle.plan_command.proofs.SpaceLemmas.{skipped_alike}
 
 -- a plan text begins with no blank
 plan_text_starts : (p : Problem) (plan : Plan) → starts_with_space (plan_text p plan) ≡ false
 plan_text_starts p plan = refl
 
--- the plan behind the blanks that are skipped is the plan of the rest
-pub rest_read : (p : Problem) (rest tail : List ℕ) (result : Result Plan PlanStop) → IsProblem p → SkipsSpaces rest tail → ReadsPlan p tail result → ReadsRest p rest result
-rest_read p rest tail (Ok plan) sound skips reads = record {
+-- the plan of the text behind the blanks that are skipped is the plan of the rest
+pub plan_behind : (p : Problem) (rest text : List ℕ) (plan : Plan) → IsProblem p → SkipsSpaces rest text → plan_at p text ≡ Ok plan → IsPlanRest p rest plan
+plan_behind p rest text plan sound skips reads = record {
   blanks = skips.blanks;
   only = skips.only;
-  text = tail;
-  spelled = one_text_a_plan p plan tail sound reads;
+  text = text;
+  spelled = one_text_a_plan p plan text sound reads;
   whole = skips.whole;
 }
-rest_read p rest tail (Err (Fault fault)) sound skips reads = record { text = tail; skips = skips; read = reads }
-rest_read p rest tail (Err NoMemory) sound skips reads = tt
-
--- what follows the front is the rest
-pub front_read : (p : Problem) (input : List ℕ) (n : ℕ) → IsFront input p n → BeginsWith p input (drop n input)
-front_read p input n front = record { bytes = n; front = front; follows = refl }
 
 -- a rest reads in one way
 read_or_not : (read : Result Plan PlanFault) (plan : Plan) (fault : PlanFault) → read ≡ Ok plan → read ≡ Err fault → ⊥

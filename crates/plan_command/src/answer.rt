@@ -1,11 +1,9 @@
 //! What each request makes of its input.
 
 ghost use Rattle.std.specs.Prelude.{◌≡◌, ◌≤◌};
-ghost use Rattle.plan_command.specs.Makes.{MakesOf, IsAsked};
+ghost use Rattle.plan_command.specs.Makes.{MakesOf};
 ghost use Rattle.plan_command.specs.Words.{IsCrew};
 
-use crate::checking::{answer_check, answer_report};
-use crate::drilling::{answer_drill, answer_make};
 use crate::request::Request;
 use crate::status::{Status, Stop};
 use bound_tree::Plan;
@@ -81,7 +79,7 @@ pub fn plan_from_opening<R: AllocGlobal + Threads + Wait + Sync, G: Gate>(
 }
 
 /// The scenario's best path with its exact value, and the tree that shows why no path is better.
-fn answer_plan<R: AllocGlobal + Threads + Wait + Sync, G: Gate>(
+pub fn answer_plan<R: AllocGlobal + Threads + Wait + Sync, G: Gate>(
     rt: &R,
     workers: u32,
     nodes: u64,
@@ -104,23 +102,4 @@ fn answer_plan<R: AllocGlobal + Threads + Wait + Sync, G: Gate>(
         status: Status::Done,
         text,
     })
-}
-
-/// What the request makes of the input.
-pub fn answer_for<R: AllocGlobal + Threads + Wait + Sync, G: Gate>(
-    rt: &R,
-    request: Request,
-    input: &[u8],
-    gate: &G,
-) -> Result<Answer, Stop>
-    requires { IsAsked request }
-    ensures { MakesOf request input.now result }
-{
-    match request {
-        Request::Plan { workers, nodes } => answer_plan(rt, workers, nodes, input, gate),
-        Request::Check => answer_check(rt.alloc(), input),
-        Request::Report { json } => answer_report(rt.alloc(), json, input),
-        Request::Make { number } => answer_make(rt.alloc(), number),
-        Request::Drill { number, workers } => answer_drill(rt, number, workers, gate),
-    }
 }

@@ -1,48 +1,24 @@
 //! The commands `check` and `report`.
 
-ghost use Rattle.std.specs.Prelude.{◌≡◌, ◌++◌, [], drop, IfOk, OnOk};
+ghost use Rattle.std.specs.Prelude.{◌≡◌, ◌++◌, [], ℕ, List, drop, IfOk, OnOk, Ok};
+ghost use Rattle.search_model.specs.Problem.{Problem};
 ghost use Rattle.search_model.specs.Legal.{IsPath};
-ghost use Rattle.plan_command.specs.Checks.{ReadsRest, ReadsBoth, TellsVerdict, TellsReport};
+ghost use Rattle.bound_tree.specs.declared.plan.Plan.{Plan};
+ghost use Rattle.plan_command.specs.Checks.{TellsVerdict};
+ghost use Rattle.plan_command.specs.Intakes.{IsVerdictOn, Judges};
 ghost use Rattle.plan_command.specs.Commands.{report_of};
 ghost use Rattle.plan_command.specs.Lines.{rejection_of};
 ghost use Rattle.plan_command.specs.Makes.{MakesOf};
 
 use crate::answer::Answer;
+use crate::intake::Judgement;
 use crate::request::Request;
-use crate::spaces::{rest_from, skip_spaces};
 use crate::status::{Status, Stop};
-use bound_tree::Plan;
 use exact_parts::{NoMemory, push_u128};
 use mission_report::{push_report, push_report_json};
-use scenario_text::{TextStop, read_scenario};
 use search_model::{Path, Scenario};
 use std::alloc::Global;
-use tree_checker::{RejectAt, Verdict, check, why_name};
-use tree_format::{PlanStop, read_plan};
-
-/// The plan behind the blanks and line feeds at the front.
-fn read_rest(alloc: Global, sc: &Scenario, rest: &[u8]) -> Result<Plan, PlanStop>
-    ensures { ReadsRest sc.now rest.now result }
-{
-    let _sound = sc.cells();
-    read_plan(alloc, sc, skip_spaces(rest))
-}
-
-/// The scenario that the input begins with, and the plan that follows.
-fn read_both(alloc: Global, input: &[u8]) -> Result<(Scenario, Plan), Stop>
-    ensures { ReadsBoth input.now result }
-{
-    let (sc, len) = match read_scenario(alloc, input) {
-        Ok(front) => front,
-        Err(TextStop::Fault(fault)) => return Err(Stop::BadScenario(fault)),
-        Err(TextStop::NoMemory) => return Err(Stop::NoMemory),
-    };
-    match read_rest(alloc, &sc, rest_from(input, len)) {
-        Ok(plan) => Ok((sc, plan)),
-        Err(PlanStop::Fault(fault)) => Err(Stop::BadPlan(fault)),
-        Err(PlanStop::NoMemory) => Err(Stop::NoMemory),
-    }
-}
+use tree_checker::{RejectAt, Verdict, why_name};
 
 /// The line of a rejection.
 fn rejection(alloc: Global, at: RejectAt) -> Result<Vec<u8>, NoMemory>
@@ -57,10 +33,10 @@ fn rejection(alloc: Global, at: RejectAt) -> Result<Vec<u8>, NoMemory>
 }
 
 /// Whether the plan is accepted, or the first reason against it.
-fn tell_verdict(alloc: Global, sc: &Scenario, plan: &Plan) -> Result<Answer, Stop>
-    ensures { TellsVerdict sc.now plan.now result }
+fn tell_verdict(alloc: Global, verdict: Verdict) -> Result<Answer, Stop>
+    ensures { (p : Problem) (plan : Plan) → IsVerdictOn p plan verdict → TellsVerdict p plan result }
 {
-    match check(alloc, sc, plan)? {
+    match verdict {
         Verdict::Accepted => Ok(Answer {
             status: Status::Done,
             text: Vec::from_slice(alloc, b"accepted\n")?,
@@ -73,11 +49,10 @@ fn tell_verdict(alloc: Global, sc: &Scenario, plan: &Plan) -> Result<Answer, Sto
 }
 
 /// The verdict on the plan that follows the scenario in the input.
-pub fn answer_check(alloc: Global, input: &[u8]) -> Result<Answer, Stop>
-    ensures { MakesOf Request.Check input.now result }
+pub fn answer_check(alloc: Global, judgement: Judgement) -> Result<Answer, Stop>
+    ensures { (input : List ℕ) → Judges input (Ok judgement) → MakesOf Request.Check input result }
 {
-    let (sc, plan) = read_both(alloc, input)?;
-    tell_verdict(alloc, &sc, &plan)
+    tell_verdict(alloc, judgement.verdict)
 }
 
 /// Appends the report of a path.
@@ -92,27 +67,26 @@ fn push_report_of(json: bool, out: &mut Vec<u8>, sc: &Scenario, path: &Path) -> 
     }
 }
 
-/// The report of an accepted plan, or the first reason against the plan.
-fn tell_report(alloc: Global, json: bool, sc: &Scenario, plan: &Plan) -> Result<Answer, Stop>
-    ensures { TellsReport json sc.now plan.now result }
+/// The report of a path.
+fn report(alloc: Global, json: bool, sc: &Scenario, path: &Path) -> Result<Vec<u8>, NoMemory>
+    requires { IsPath sc.now path.now }
+    ensures { IfOk result (λ text. text.items ≡ report_of json sc.now path.now) }
 {
-    match check(alloc, sc, plan)? {
-        Verdict::Accepted => {
-            let mut text = Vec::new(alloc);
-            push_report_of(json, &mut text, sc, &plan.standing.path)?;
-            Ok(Answer {
-                status: Status::Done,
-                text,
-            })
-        }
-        Verdict::Rejected(at) => Err(Stop::Rejected(at)),
-    }
+    let mut text = Vec::new(alloc);
+    push_report_of(json, &mut text, sc, path)?;
+    Ok(text)
 }
 
-/// The report of the accepted plan that follows the scenario in the input.
-pub fn answer_report(alloc: Global, json: bool, input: &[u8]) -> Result<Answer, Stop>
-    ensures { MakesOf (Request.Report json) input.now result }
+/// The report of an accepted plan, or the first reason against the plan.
+pub fn answer_report(alloc: Global, json: bool, judgement: Judgement) -> Result<Answer, Stop>
+    requires { (input : List ℕ) × Judges input (Ok judgement) }
+    ensures { (input : List ℕ) → Judges input (Ok judgement) → MakesOf (Request.Report json) input result }
 {
-    let (sc, plan) = read_both(alloc, input)?;
-    tell_report(alloc, json, &sc, &plan)
+    match judgement.verdict {
+        Verdict::Accepted => Ok(Answer {
+            status: Status::Done,
+            text: report(alloc, json, &judgement.sc, &judgement.path)?,
+        }),
+        Verdict::Rejected(at) => Err(Stop::Rejected(at)),
+    }
 }

@@ -4,9 +4,16 @@
 mod answer;
 mod checking;
 mod drilling;
+#[cfg(test)]
+mod hostile_tests;
+mod input;
+mod intake;
+mod judge;
 mod laws;
 mod line;
 mod request;
+mod scenario_end;
+mod serving;
 mod spaces;
 mod status;
 #[cfg(test)]

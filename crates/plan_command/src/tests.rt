@@ -12,10 +12,10 @@ const ONE_CELL: &str =
 
 const ONE_CELL_PLAN: &str = "plan 1\npath a\nchance 1 2\nnodes 2\nB\nW 1 0\nend\n";
 
-const TWO_CELLS: &str =
+pub const TWO_CELLS: &str =
     "scenario 1\nhorizon 2\nparts 2 2 2\ncell a\ncell b\nstart a\nfirst a 1 b 1\nmoves a a b\nmoves b a b\ndrift a a 1 b 1\ndrift b a 1 b 1\noverlook a 0\noverlook b 0\nend\n";
 
-const TWO_CELLS_PLAN: &str =
+pub const TWO_CELLS_PLAN: &str =
     "plan 1\npath a a\nchance 12 16\nnodes 5\nB\nB 0\nW 12 0 0\nW 12 0 1\nM 12 1\nend\n";
 
 // Three cells in a row; the target waits in the last one, the searcher begins in the middle.
@@ -97,14 +97,14 @@ struct Row<'a> {
 
 /// How a run ended, and what it wrote.
 #[derive(Drop)]
-struct Outcome {
-    status: Status,
-    out: Vec<u8>,
-    err: Vec<u8>,
+pub struct Outcome {
+    pub status: Status,
+    pub out: Vec<u8>,
+    pub err: Vec<u8>,
 }
 
 /// The words of a command line.
-fn words_of(alloc: Global, line: &str) -> Result<Vec<String>, Fail> {
+pub fn words_of(alloc: Global, line: &str) -> Result<Vec<String>, Fail> {
     let mut words = Vec::new(alloc);
     for word in line.split(' ') {
         if !word.is_empty() {
@@ -115,7 +115,7 @@ fn words_of(alloc: Global, line: &str) -> Result<Vec<String>, Fail> {
 }
 
 /// Runs a command over memory, `most` bytes a read and a write.
-fn ended<R: AllocGlobal + Threads + Wait + Sync>(
+pub fn ended<R: AllocGlobal + Threads + Wait + Sync>(
     rt: &R,
     line: &str,
     input: Vec<u8>,

@@ -23,36 +23,17 @@ ghost use Rattle.plan_command.specs.Words.{Spells, SpellNone, limit_of};
 ghost use Rattle.plan_command.specs.Lines.{rejection_of};
 ghost use Rattle.plan_command.specs.Plans.{IsCertified};
 ghost use Rattle.plan_command.specs.Commands.{IsInput, IsRejected, report_of, IsDrilled, Refuses};
-ghost use Rattle.plan_command.specs.Inputs.{InputOf};
 ghost use Rattle.plan_command.specs.Run.{shown, seen, Ends, Ending, ending_of, status_at, line_at, Says, IsCutOff, IsRefusal};
 ghost use Rattle.plan_command.specs.Complete.{IsHeard, IsUndisturbed, IsWithin, IsLonger, IsJudge, IsUnlessNoMemory, IsStopDue, IsDue, IsByText};
 
-use crate::answer::answer_for;
 use crate::line::say;
-use crate::request::Request;
+use crate::serving::serve;
 use crate::status::{Status, Stop};
-use crate::words::{limit_of_request, read_words};
-use byte_ports::{ReadStop, Sink, Source, WriteStop, read_all, write_all};
+use crate::words::read_words;
+use byte_ports::{Sink, Source};
 use search_workers::Gate;
-use std::alloc::Global;
 use std::sync::Wait;
 use std::thread::Threads;
-
-/// The input of a request: read to its end, where the request reads any.
-fn read_input<S: Source>(alloc: Global, request: Request, source: &mut S) -> Result<Vec<u8>, Stop>
-    ensures { InputOf (λ v. v.items) (limit_of request) (record { left = S.left source.old; faults = S.faults source.old })
-        (record { left = S.left source.new; faults = S.faults source.new }) result }
-{
-    let Some(limit) = limit_of_request(request) else {
-        return Ok(Vec::new(alloc));
-    };
-    match read_all(alloc, source, limit) {
-        Ok(input) => Ok(input),
-        Err(ReadStop::Fault) => Err(Stop::ReadFault),
-        Err(ReadStop::TooLong) => Err(Stop::TooLong),
-        Err(ReadStop::NoMemory) => Err(Stop::NoMemory),
-    }
-}
 
 /// All but the line on `err`.
 fn work<R: AllocGlobal + Threads + Wait + Sync, S: Source, K: Sink, G: Gate>(
@@ -67,16 +48,9 @@ fn work<R: AllocGlobal + Threads + Wait + Sync, S: Source, K: Sink, G: Gate>(
         (shown S.left S.faults K.wrote K.faults source.new out.new) (ending_of result) }
     ensures untouched { IsErrOf result Stop.Usage → source.new ≡ source.old }
 {
-    let request = match read_words(words) {
-        None => return Err(Stop::Usage),
-        Some(request) => request,
-    };
-    let input = read_input(rt.alloc(), request, source)?;
-    let answer = answer_for(rt, request, &input, gate)?;
-    match write_all(out, &answer.text) {
-        Ok(()) => Ok(answer.status),
-        Err(WriteStop::Fault) => Err(Stop::WriteFault),
-        Err(WriteStop::NoMemory) => Err(Stop::NoMemory),
+    match read_words(words) {
+        None => Err(Stop::Usage),
+        Some(request) => serve(rt, request, source, out, gate),
     }
 }
 

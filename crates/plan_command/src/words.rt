@@ -2,7 +2,7 @@
 
 ghost use Rattle.std.specs.Prelude.{◌≡◌, ◌≤◌, [], ◌∷◌, map, codes, IfSome, IfNone, string_bytes};
 ghost use Rattle.std.specs.Str.{bytes_eq};
-ghost use Rattle.plan_command.specs.Words.{Spells, SpellNone, limit_of};
+ghost use Rattle.plan_command.specs.Words.{Spells, SpellNone};
 ghost use Rattle.plan_command.specs.WordReading.{number_within, workers_in, nodes_in, number_in, plan_with_one, plan_with_two, plan_at, check_at, report_at, make_at, drill_at, request_at};
 
 use crate::request::{MOST_NODES, MOST_WORKERS, Request, WORKERS};
@@ -220,15 +220,4 @@ pub fn read_words(words: &[String]) -> Option<Request>
     ensures none { IfNone result (SpellNone (map string_bytes words.now)) }
 {
     read_each(words)
-}
-
-/// How many bytes of input a request may have, where it reads any.
-pub fn limit_of_request(request: Request) -> Option<usize>
-    ensures { result ≡ limit_of request }
-{
-    match request {
-        Request::Plan { .. } => Some(1_048_576),
-        Request::Check | Request::Report { .. } => Some(336_592_896),
-        Request::Make { .. } | Request::Drill { .. } => None,
-    }
 }

@@ -1,0 +1,148 @@
+-- What a checker heard of a plan, item by item.
+use Rattle.std.proofs.Common.{ℕ, ◌≡◌, ◌+◌, ◌<◌, ◌≤◌, ◌^◌, ◌⊎◌, inl, inr, List, [], ◌∷◌, ◌++◌, map, length, refl, sym, ap, ◌∙◌, subst, arith, append_assoc, append-nil, length-append, Ok}
+use Rattle.search_model.specs.declared.standing.Standing.{Standing}
+use Rattle.search_model.specs.Problem.{Problem, IsProblem}
+use Rattle.bound_tree.specs.declared.node.TreeNode.{TreeNode}
+use Rattle.bound_tree.specs.declared.plan.Plan.{Plan}
+use Rattle.tree_format.specs.declared.plan_item.PlanItem.{PlanItem}
+use Rattle.tree_format.specs.declared.plan_item.PlanItem.TheVariants.{Head, Node, End}
+use Rattle.tree_format.specs.Feeding.{items_of, HasRead, Tells}
+use Rattle.tree_format.specs.FeedSteps.{Stand}
+use Rattle.tree_format.specs.FeedLaws.{AreInOrder}
+use Rattle.tree_format.proofs.FedLaws.{items_in_order}
+use Rattle.tree_checker.specs.declared.tables.BoundTables.{BoundTables}
+use Rattle.tree_checker.specs.Reasons.{first_reason}
+use Rattle.tree_checker.specs.Progress.{Progress, at_start, after_head, reason_if, reason_at_end, IsUnderWay, IsMadeFor}
+use Rattle.plan_command.specs.Intakes.{nodes_in, LeadsToReason, HasHeard, IsNextItem}
+
+-- The records among items.
+
+nodes_in-append : (xs ys : List PlanItem) → nodes_in (xs ++ ys) ≡ nodes_in xs ++ nodes_in ys
+nodes_in-append [] ys = refl
+nodes_in-append (Head s w n ∷ xs) ys = nodes_in-append xs ys
+nodes_in-append (Node r ∷ xs) ys = ap (λ (rs : List TreeNode). r ∷ rs) (nodes_in-append xs ys)
+nodes_in-append (End ∷ xs) ys = nodes_in-append xs ys
+
+nodes_in-nodes : (rs : List TreeNode) → nodes_in (map (λ r. Node r) rs) ≡ rs
+nodes_in-nodes [] = refl
+nodes_in-nodes (r ∷ rs) = ap (λ (more : List TreeNode). r ∷ more) (nodes_in-nodes rs)
+
+nodes_in-plan : (rs : List TreeNode) → nodes_in (map (λ r. Node r) rs ++ End ∷ []) ≡ rs
+nodes_in-plan rs = nodes_in-append (map (λ r. Node r) rs) (End ∷ []) ∙ append-nil _ ∙ nodes_in-nodes rs
+
+-- One item more.
+
+pub none_heard : (p : Problem) (path : List ℕ) (tables : BoundTables) (checker : Progress) → checker ≡ at_start tables → IsUnderWay p checker → IsMadeFor p checker → HasHeard p [] path checker
+none_heard p path tables checker is under_way made = record {
+  under_way = under_way;
+  made_for = made;
+  line = let line : checker.line ≡ 5 = ap (λ (g : Progress). g.line) is in omega (arith, line);
+  reason = tt;
+}
+
+pub head_heard : (p : Problem) (told : List PlanItem) (s : Standing) (w n : ℕ) (tables : BoundTables) (checker : Progress) → told ≡ [] → checker ≡ after_head p tables s w → IsUnderWay p checker → IsMadeFor p checker →
+    HasHeard p (told ++ Head s w n ∷ []) s.path checker
+head_heard p told s w n tables checker first is under_way made =
+    subst (λ (items : List PlanItem). HasHeard p (items ++ Head s w n ∷ []) s.path checker) (sym first) (record {
+      under_way = under_way;
+      made_for = made;
+      line = let line : checker.line ≡ 5 = ap (λ (g : Progress). g.line) is in omega (arith, line);
+      reason = (refl, λ later. ap (λ (g : Progress). reason_if p g later) is);
+    })
+
+leads_on : (p : Problem) (told : List PlanItem) (r : TreeNode) (path : List ℕ) (old new : Progress) → ((rs : List TreeNode) → reason_if p new rs ≡ reason_if p old (r ∷ rs)) → LeadsToReason p told path old → LeadsToReason p (told ++ Node r ∷ []) path new
+leads_on p [] r path old new next leads = tt
+leads_on p (Head s w n ∷ more) r path old new next leads = (
+  leads.0,
+  λ later.
+      let nodes : nodes_in more ++ r ∷ later ≡ nodes_in (more ++ Node r ∷ []) ++ later =
+      sym (append_assoc (nodes_in more) (r ∷ []) later) ∙ ap (λ (rs : List TreeNode). rs ++ later) (sym (nodes_in-append more (Node r ∷ []))) in
+      next later ∙ leads.1 (r ∷ later) ∙ ap (λ (rs : List TreeNode). first_reason p (record { standing = s; weight = w; tree = rs })) nodes,
+)
+leads_on p (Node q ∷ more) r path old new next leads = tt
+leads_on p (End ∷ more) r path old new next leads = tt
+
+pub node_heard : (p : Problem) (told : List PlanItem) (r : TreeNode) (path : List ℕ) (old new : Progress) → HasHeard p told path old →
+    ((rs : List TreeNode) → reason_if p new rs ≡ reason_if p old (r ∷ rs)) → IsUnderWay p new → new.line ≤ old.line + 1 → IsMadeFor p new → HasHeard p (told ++ Node r ∷ []) path new
+node_heard p told r path old new heard next under_way line made = record {
+  under_way = under_way;
+  made_for = made;
+  line = let count : length (nodes_in (told ++ Node r ∷ [])) ≡ length (nodes_in told) + 1 = ap (λ (rs : List TreeNode). length rs) (nodes_in-append told (Node r ∷ [])) ∙ length-append (nodes_in told) (r ∷ []) in omega (arith, count, line, heard.line);
+  reason = leads_on p told r path old new next heard.reason;
+}
+
+leads_still : (p : Problem) (told : List PlanItem) (path : List ℕ) (checker : Progress) → LeadsToReason p told path checker → LeadsToReason p (told ++ End ∷ []) path checker
+leads_still p [] path checker leads = tt
+leads_still p (Head s w n ∷ more) path checker leads = (
+  leads.0,
+  λ later.
+      let nodes : nodes_in more ++ later ≡ nodes_in (more ++ End ∷ []) ++ later = ap (λ (rs : List TreeNode). rs ++ later) (sym (nodes_in-append more (End ∷ []) ∙ append-nil (nodes_in more))) in
+      leads.1 later ∙ ap (λ (rs : List TreeNode). first_reason p (record { standing = s; weight = w; tree = rs })) nodes,
+)
+leads_still p (Node q ∷ more) path checker leads = tt
+leads_still p (End ∷ more) path checker leads = tt
+
+pub end_heard : (p : Problem) (told : List PlanItem) (path : List ℕ) (checker : Progress) → HasHeard p told path checker → HasHeard p (told ++ End ∷ []) path checker
+end_heard p told path checker heard = record {
+  under_way = heard.under_way;
+  made_for = heard.made_for;
+  line = let count : length (nodes_in (told ++ End ∷ [])) ≡ length (nodes_in told) = ap (λ (rs : List TreeNode). length rs) (nodes_in-append told (End ∷ []) ∙ append-nil (nodes_in told)) in omega (arith, count, heard.line);
+  reason = leads_still p told path checker heard.reason;
+}
+
+-- Items are told in their order: one head first, and few records.
+
+abbrev heads_in : List PlanItem → ℕ
+heads_in [] = 0
+heads_in (Head s w n ∷ more) = heads_in more + 1
+heads_in (Node r ∷ more) = heads_in more
+heads_in (End ∷ more) = heads_in more
+
+heads_in-append : (xs ys : List PlanItem) → heads_in (xs ++ ys) ≡ heads_in xs + heads_in ys
+heads_in-append [] ys = omega arith
+heads_in-append (Head s w n ∷ xs) ys = let more = heads_in-append xs ys in omega (arith, more)
+heads_in-append (Node r ∷ xs) ys = heads_in-append xs ys
+heads_in-append (End ∷ xs) ys = heads_in-append xs ys
+
+heads_in-nodes : (rs : List TreeNode) → heads_in (map (λ r. Node r) rs) ≡ 0
+heads_in-nodes [] = refl
+heads_in-nodes (r ∷ rs) = heads_in-nodes rs
+
+one_head : (told more : List PlanItem) (u : PlanItem) (s : Standing) (w n : ℕ) → heads_in more ≡ 0 → told ++ Head s w n ∷ [] ≡ u ∷ more → told ≡ []
+one_head [] more u s w n none e = refl
+one_head (t ∷ told) more u s w n none e =
+    let rest : told ++ Head s w n ∷ [] ≡ more = cc in
+    absurd (omega (arith, none, ap heads_in rest, heads_in-append told (Head s w n ∷ [])))
+
+pub head_first : (p : Problem) (text : List ℕ) (told : List PlanItem) (s : Standing) (w n : ℕ) → IsProblem p → Tells p text (told ++ Head s w n ∷ []) → told ≡ []
+head_first p text told s w n sound tells = elim (items_in_order p text (told ++ Head s w n ∷ []) sound tells) [
+  | inl none ↦ let rest : length (told ++ Head s w n ∷ []) ≡ 0 = ap (λ (xs : List PlanItem). length xs) none in absurd (omega (arith, rest, length-append told (Head s w n ∷ [])))
+  | inr order ↦ elim order.order [
+    | inl going ↦ one_head told _ _ s w n (heads_in-nodes order.records) going
+    | inr (_, whole) ↦ one_head told _ _ s w n (let sum = heads_in-append (map (λ r. Node r) order.records) (End ∷ []) in omega (arith, sum, heads_in-nodes order.records)) whole
+  ]
+]
+
+pub few_nodes : (p : Problem) (text : List ℕ) (told : List PlanItem) → IsProblem p → Tells p text told → length (nodes_in told) ≤ 1048576
+few_nodes p text told sound tells = elim (items_in_order p text told sound tells) [
+  | inl none ↦ let count : length (nodes_in told) ≡ 0 = ap (λ (xs : List PlanItem). length (nodes_in xs)) none in omega (arith, count)
+  | inr order ↦ elim order.order [
+    | inl going ↦ let count : length (nodes_in told) ≡ length order.records = ap (λ (xs : List PlanItem). length (nodes_in xs)) going ∙ ap (λ (rs : List TreeNode). length rs) (nodes_in-nodes order.records) in omega (arith, count, order.few, order.within)
+    | inr (_, whole) ↦ let count : length (nodes_in told) ≡ length order.records = ap (λ (xs : List PlanItem). length (nodes_in xs)) whole ∙ ap (λ (rs : List TreeNode). length rs) (nodes_in-plan order.records) in omega (arith, count, order.few, order.within)
+  ]
+]
+
+-- so the next item is one that may come
+pub is_next : (p : Problem) (text : List ℕ) (told : List PlanItem) (item : PlanItem) → IsProblem p → Tells p text (told ++ item ∷ []) → IsNextItem told item
+is_next p text told (Head s w n) sound tells = head_first p text told s w n sound tells
+is_next p text told (Node r) sound tells = tt
+is_next p text told End sound tells = tt
+
+-- The reason against a whole plan.
+
+pub plan_reason : (p : Problem) (plan : Plan) (told : List PlanItem) (path : List ℕ) (checker : Progress) → told ≡ items_of plan → HasHeard p told path checker → (path ≡ plan.standing.path) × (reason_at_end checker ≡ first_reason p plan)
+plan_reason p plan told path checker whole heard =
+    let leads = subst (λ (items : List PlanItem). LeadsToReason p items path checker) whole heard.reason in (
+      leads.0,
+      leads.1 [] ∙ ap (λ (rs : List TreeNode). first_reason p (record { standing = plan.standing; weight = plan.weight; tree = rs })) (append-nil _ ∙ nodes_in-plan plan.tree),
+    )

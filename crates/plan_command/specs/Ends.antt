@@ -1,0 +1,14 @@
+-- A text from its end on.
+use Rattle.std.specs.Prelude.{◌≡◌, ◌⊎◌, ◌++◌, ◌∷◌, [], ℕ, List, IsTrue}
+use Rattle.std.specs.List.{list_all}
+use Rattle.text_rows.specs.Fields.{is_blank}
+
+-- the text is a front of it, and then blanks
+pub record EndsInBlanks (text front : List ℕ) : Type 0 where
+  pub blanks : List ℕ
+  pub only : IsTrue (list_all is_blank blanks)
+  pub whole : text ≡ front ++ blanks
+
+-- the text is empty, or ends with a line feed
+abbrev pub BeginsLine : List ℕ → Type 0
+BeginsLine text = (text ≡ []) ⊎ ((front : List ℕ) × (text ≡ front ++ 10 ∷ []))

@@ -1,0 +1,127 @@
+//! What each request makes of its input, which is read as it is needed.
+
+ghost use Rattle.std.specs.Prelude.{◌≡◌, ◌≤◌, ◌<◌, ◌^◌, ℕ, List, Some};
+ghost use Rattle.plan_command.specs.Inputs.{InputOf, ReadsAnd};
+ghost use Rattle.plan_command.specs.Intakes.{Judges};
+ghost use Rattle.plan_command.specs.Makes.{MakesOf, IsAsked};
+ghost use Rattle.plan_command.specs.Words.{IsCrew, limit_of};
+
+use crate::answer::{Answer, answer_plan};
+use crate::checking::{answer_check, answer_report};
+use crate::drilling::{answer_drill, answer_make};
+use crate::intake::{Intake, Judgement};
+use crate::request::Request;
+use crate::status::Stop;
+use byte_ports::{InputStop, ReadStop, Source, read_all, read_pieces};
+use search_workers::Gate;
+use std::alloc::Global;
+use std::sync::Wait;
+use std::thread::Threads;
+
+/// How many bytes of an input are read at once, at most.
+const PIECE_LEN: usize = 65_536;
+
+/// How many bytes the scenario of `plan` may have.
+const MOST_SCENARIO: usize = 1_048_576;
+
+/// How many bytes a scenario and the plan behind it may have.
+const MOST_JUDGED: usize = 336_592_896;
+
+/// The whole input, which isn't longer than the limit.
+fn read_input<S: Source>(alloc: Global, source: &mut S, limit: usize) -> Result<Vec<u8>, Stop>
+    requires { limit < 2 ^ 30 }
+    ensures { InputOf (λ v. v.items) (Some limit) (record { left = S.left source.old; faults = S.faults source.old })
+        (record { left = S.left source.new; faults = S.faults source.new }) result }
+{
+    match read_all(alloc, source, limit) {
+        Ok(input) => Ok(input),
+        Err(ReadStop::Fault) => Err(Stop::ReadFault),
+        Err(ReadStop::TooLong) => Err(Stop::TooLong),
+        Err(ReadStop::NoMemory) => Err(Stop::NoMemory),
+    }
+}
+
+/// What stops a run whose input wasn't read to its end.
+fn unread(stop: InputStop) -> Stop
+    ensures fault { stop ≡ InputStop.Fault → result ≡ Stop.ReadFault }
+    ensures too_long { stop ≡ InputStop.TooLong → result ≡ Stop.TooLong }
+{
+    match stop {
+        InputStop::Fault => Stop::ReadFault,
+        InputStop::TooLong => Stop::TooLong,
+    }
+}
+
+/// The verdict on the plan behind the scenario in the input. Of both only the scenario is kept.
+fn judge_input<S: Source>(alloc: Global, source: &mut S) -> Result<Judgement, Stop>
+    ensures { ReadsAnd (Some 336592896) (record { left = S.left source.old; faults = S.faults source.old })
+        (record { left = S.left source.new; faults = S.faults source.new }) Judges result }
+{
+    let mut piece = vec![in alloc; 0; PIECE_LEN]?;
+    let mut intake = Intake::new(alloc);
+    match read_pieces(source, &mut piece, MOST_JUDGED, &mut intake) {
+        Ok(()) => intake.finish(),
+        Err(stop) => Err(unread(stop)),
+    }
+}
+
+/// What `check` makes of its input.
+fn check_input<S: Source>(alloc: Global, source: &mut S) -> Result<Answer, Stop>
+    ensures { ReadsAnd (Some 336592896) (record { left = S.left source.old; faults = S.faults source.old })
+        (record { left = S.left source.new; faults = S.faults source.new }) (MakesOf Request.Check) result }
+{
+    match judge_input(alloc, source) {
+        Ok(judgement) => answer_check(alloc, judgement),
+        Err(stop) => Err(stop),
+    }
+}
+
+/// What `report` makes of its input.
+fn report_input<S: Source>(alloc: Global, json: bool, source: &mut S) -> Result<Answer, Stop>
+    ensures { ReadsAnd (Some 336592896) (record { left = S.left source.old; faults = S.faults source.old })
+        (record { left = S.left source.new; faults = S.faults source.new }) (MakesOf (Request.Report json)) result }
+{
+    match judge_input(alloc, source) {
+        Ok(judgement) => answer_report(alloc, json, judgement),
+        Err(stop) => Err(stop),
+    }
+}
+
+/// What `plan` makes of its input.
+fn plan_input<R: AllocGlobal + Threads + Wait + Sync, S: Source, G: Gate>(
+    rt: &R,
+    workers: u32,
+    nodes: u64,
+    source: &mut S,
+    gate: &G,
+) -> Result<Answer, Stop>
+    requires crew { IsCrew workers }
+    requires nodes { (1 ≤ nodes) × (nodes ≤ 1048576) }
+    ensures { ReadsAnd (Some 1048576) (record { left = S.left source.old; faults = S.faults source.old })
+        (record { left = S.left source.new; faults = S.faults source.new }) (MakesOf (Request.Plan workers nodes)) result }
+{
+    match read_input(rt.alloc(), source, MOST_SCENARIO) {
+        Ok(input) => answer_plan(rt, workers, nodes, &input, gate),
+        Err(stop) => Err(stop),
+    }
+}
+
+/// What the request makes of its input.
+pub fn answer_for<R: AllocGlobal + Threads + Wait + Sync, S: Source, G: Gate>(
+    rt: &R,
+    request: Request,
+    source: &mut S,
+    gate: &G,
+) -> Result<Answer, Stop>
+    requires { IsAsked request }
+    ensures { ReadsAnd (limit_of request) (record { left = S.left source.old; faults = S.faults source.old })
+        (record { left = S.left source.new; faults = S.faults source.new }) (MakesOf request) result }
+{
+    match request {
+        Request::Plan { workers, nodes } => plan_input(rt, workers, nodes, source, gate),
+        Request::Check => check_input(rt.alloc(), source),
+        Request::Report { json } => report_input(rt.alloc(), json, source),
+        Request::Make { number } => answer_make(rt.alloc(), number),
+        Request::Drill { number, workers } => answer_drill(rt, number, workers, gate),
+    }
+}

@@ -1,0 +1,51 @@
+//! A request, from the bytes that it reads to those that it writes.
+
+ghost use Rattle.std.specs.Prelude.{◌≡◌, ◌⊎◌, ℕ, List, IfOk, IfErr, OnErr, IsErrOf};
+ghost use Rattle.std.specs.Io.KnownBytes.{Appends};
+ghost use Rattle.byte_ports.specs.Causes.{Rose};
+ghost use Rattle.byte_ports.specs.Taken.{AppendsPrefix};
+ghost use Rattle.plan_command.specs.Words.{Spells};
+ghost use Rattle.plan_command.specs.Makes.{IsAsked};
+ghost use Rattle.plan_command.specs.Run.{shown, Ends, ending_of};
+
+use crate::answer::Answer;
+use crate::input::answer_for;
+use crate::request::Request;
+use crate::status::{Status, Stop};
+use byte_ports::{Sink, Source, WriteStop, write_all};
+use search_workers::Gate;
+use std::sync::Wait;
+use std::thread::Threads;
+
+/// Writes an answer.
+fn deliver<K: Sink>(out: &mut K, answer: &Answer) -> Result<Status, Stop>
+    ensures whole { IfOk result (λ status. (status ≡ answer.now.status) × Appends (K.wrote out.old) (K.wrote out.new) answer.now.text.items) }
+    ensures front { OnErr result (AppendsPrefix (K.wrote out.old) (K.wrote out.new) answer.now.text.items) }
+    ensures cause { IfErr result (λ stop. ((stop ≡ Stop.WriteFault) × Rose (K.faults out.old) (K.faults out.new)) ⊎ (stop ≡ Stop.NoMemory)) }
+{
+    match write_all(out, &answer.text) {
+        Ok(()) => Ok(answer.status),
+        Err(WriteStop::Fault) => Err(Stop::WriteFault),
+        Err(WriteStop::NoMemory) => Err(Stop::NoMemory),
+    }
+}
+
+/// Answers a request, and writes the answer.
+pub fn serve<R: AllocGlobal + Threads + Wait + Sync, S: Source, K: Sink, G: Gate>(
+    rt: &R,
+    request: Request,
+    source: &mut S,
+    out: &mut K,
+    gate: &G,
+) -> Result<Status, Stop>
+    requires asked { IsAsked request }
+    ensures ends { (words : List (List ℕ)) → Spells words request → Ends words
+        (shown S.left S.faults K.wrote K.faults source.old out.old)
+        (shown S.left S.faults K.wrote K.faults source.new out.new) (ending_of result) }
+    ensures used { IsErrOf result Stop.Usage → ⊥ }
+{
+    match answer_for(rt, request, source, gate) {
+        Ok(answer) => deliver(out, &answer),
+        Err(stop) => Err(stop),
+    }
+}
