@@ -1,5 +1,7 @@
 //! Hostile plan texts, and each read and write failing in its turn.
 
+ghost use Rattle.std.specs.Prelude.{◌≤◌};
+
 use crate::tests::{Outcome, TWO_CELLS, TWO_CELLS_PLAN, ended, words_of};
 use crate::*;
 use byte_ports::{MemSink, MemSource, Source};
