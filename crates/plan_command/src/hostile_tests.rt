@@ -124,7 +124,7 @@ fn plans_cut_short(rt: HostRuntime) -> Result<(), Fail> {
     }
     // A record is wrong, too: what the text lacks goes first.
     let wrong = changed(rt.alloc(), 7, b"W 11 0 0")?;
-    let cut = &wrong[..wrong.len() - 4];
+    let cut = wrong.strip_suffix(b"end\n".as_slice()).ok_or("no end")?;
     assert!(rt; says(&rt, cut, b"bad plan: line 10 EarlyEnd\n")?);
     Ok(())
 }
@@ -157,7 +157,8 @@ fn each_write_fails(rt: HostRuntime) -> Result<(), Fail> {
         let input = TWO_CELLS.as_bytes().to_vec(alloc)?;
         let end = ended(&rt, "plan --workers 1", input, 16, &[], &[write])?;
         assert_eq!(rt; end.status, Status::WriteFault);
-        assert_eq!(rt; end.out.as_slice(), &TWO_CELLS_PLAN.as_bytes()[..written]);
+        assert_eq!(rt; end.out.len(), written);
+        assert!(rt; TWO_CELLS_PLAN.as_bytes().starts_with(&end.out));
         assert_eq!(rt; end.err.as_slice(), b"write fault\n".as_slice());
     }
     Ok(())
