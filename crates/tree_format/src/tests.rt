@@ -3,10 +3,62 @@
 use super::*;
 use crate::feed_tests::tells_as_read;
 use bound_tree::{Kind, TreeNode};
-use search_model::Scenario;
+use drift_chain::{Drift, DriftPart};
+use search_grid::Grid;
+use search_model::{Name, Parts, Scenario};
 use std::alloc::Global;
 use std::test::Fail;
-use worked_scenarios::{four_cells, one_cell, two_cells, waiting_longer, waiting_target};
+use sweep_table::Sweep;
+
+// Cells of these names, each a move of each, from each of which the target goes to each with the same part.
+fn even_scenario(alloc: Global, names: &[&[u8]], horizon: u32) -> Result<Scenario, Fail> {
+    let mut parts_names = Vec::new(alloc);
+    let mut moves = Vec::new(alloc);
+    let mut rows = Vec::new(alloc);
+    let mut cells = Vec::new(alloc);
+    let mut row = Vec::new(alloc);
+    for cell in 0..names.len() {
+        let Ok(cell) = u8::try_from(cell) else {
+            return Err(Fail::from("too many cells"));
+        };
+        cells.push(cell)?;
+        row.push(DriftPart { cell, part: 1 })?;
+    }
+    for name in names {
+        let Some(name) = Name::new(name) else {
+            return Err(Fail::from("no name"));
+        };
+        parts_names.push(name)?;
+        moves.push(cells.clone()?)?;
+        rows.push(row.clone()?)?;
+    }
+    let Ok(total @ 1..=200) = u32::try_from(rows.len()) else {
+        return Err(Fail::from("too many cells"));
+    };
+    let Ok(grid) = Grid::new(moves) else {
+        return Err(Fail::from("no grid"));
+    };
+    let Ok(drift) = Drift::new(total, rows) else {
+        return Err(Fail::from("no drift"));
+    };
+    let Ok(sweep) = Sweep::new(2, vec![in alloc; 0; names.len()]?) else {
+        return Err(Fail::from("no sweep"));
+    };
+    let parts = Parts {
+        names: parts_names,
+        horizon,
+        start: 0,
+        total,
+        first: vec![in alloc; 1; names.len()]?,
+        grid,
+        drift,
+        sweep,
+    };
+    match Scenario::new(parts) {
+        Ok(sc) => Ok(sc),
+        Err(_) => Err(Fail::from("no scenario")),
+    }
+}
 
 const TWO_CELLS: &[u8] =
     b"plan 1\npath a a\nchance 12 16\nnodes 5\nB\nB 0\nW 12 0 0\nW 12 0 1\nM 12 1\nend\n";
@@ -15,59 +67,66 @@ const THREE_PERIODS: &[u8] =
     b"plan 1\npath c c c\nchance 7 8\nnodes 8\nB\nM 4 0\nT 12 1 1 2 2\nB 2\nM 6 2 1\nB 2 2\nW 6 2 2 1\nW 7 2 2 2\nend\n";
 
 // Whether a text is a plan's, and the plan prints back to the same bytes behind what stood there.
-fn prints_back(alloc: Global, sc: &Scenario, text: &[u8]) -> Result<bool, Fail> {
+fn prints_back(alloc: Global, names: &[&[u8]], horizon: u32, text: &[u8]) -> Result<bool, Fail> {
+    let sc = even_scenario(alloc, names, horizon)?;
     let mut out = Vec::from_slice(alloc, b"!")?;
-    match read_plan(alloc, sc, text) {
-        Ok(plan) => print_plan(&mut out, sc, &plan)?,
+    match read_plan(alloc, &sc, text) {
+        Ok(plan) => print_plan(&mut out, &sc, &plan)?,
         Err(_) => return Ok(false),
     }
     Ok(
         out.starts_with(b"!")
             && out.ends_with(text)
             && out.len() == text.len() + 1
-            && tells_as_read(alloc, sc, text)?,
+            && tells_as_read(alloc, &sc, text)?,
     )
 }
 
 #[test]
 fn texts_of_plans_print_back(rt: HostRuntime) -> Result<(), Fail> {
     let alloc = rt.alloc();
-    let one = one_cell(alloc)?;
-    let two = two_cells(alloc)?;
-    let three = waiting_target(alloc)?;
-    let longer = waiting_longer(alloc)?;
-    let four = four_cells(alloc)?;
-    let rows: [(&Scenario, &[u8]); 9] = [
+    let one: [&[u8]; 1] = [b"a"];
+    let two: [&[u8]; 2] = [b"a", b"b"];
+    let three: [&[u8]; 3] = [b"a", b"b", b"c"];
+    let last: [&[u8]; 3] = [b"a", b"b", b"z"];
+    let four: [&[u8]; 4] = [b"a", b"b", b"c", b"d"];
+    let rows: [(&[&[u8]], u32, &[u8]); 9] = [
         (
             &one,
+            1,
             b"plan 1\npath a\nchance 1 2\nnodes 2\nB\nW 1 0\nend\n",
         ),
-        (&two, TWO_CELLS),
+        (&two, 2, TWO_CELLS),
         (
             &three,
+            2,
             b"plan 1\npath c c\nchance 3 4\nnodes 6\nB\nM 0 0\nM 2 1\nB 2\nW 2 2 1\nW 3 2 2\nend\n",
         ),
-        (&longer, THREE_PERIODS),
+        (&three, 3, THREE_PERIODS),
         (
             &four,
+            2,
             b"plan 1\npath c d\nchance 6 9\nnodes 7\nB\nB 0\nW 3 0 0\nW 3 0 1\nB 2\nW 2 2 2\nW 6 2 3\nend\n",
         ),
         (
             &four,
+            2,
             b"plan 1\npath c d\nchance 6 9\nnodes 5\nB\nM 3 0\nB 2\nW 2 2 2\nW 6 2 3\nend\n",
         ),
         (
-            &three,
+            &last,
+            2,
             b"plan 1\npath a a\nchance 0 4\nnodes 5\nB\nB 0\nW 0 0 0\nW 0 0 1\nM 0 1\nend\n",
         ),
-        (&two, b"plan 1\npath a\nchance 0 0\nnodes 0\nend\n"),
+        (&two, 2, b"plan 1\npath a\nchance 0 0\nnodes 0\nend\n"),
         (
             &two,
+            2,
             b"plan 1\npath a a a\nchance 0 340282366920938463463374607431768211455\nnodes 2\nT 12 0 0\nT 340282366920938463463374607431768211455 1 0 1 1\nend\n",
         ),
     ];
-    for (sc, text) in rows {
-        assert!(rt; prints_back(alloc, sc, text)?);
+    for (names, horizon, text) in rows {
+        assert!(rt; prints_back(alloc, names, horizon, text)?);
     }
     Ok(())
 }
@@ -91,7 +150,7 @@ fn is_mean(node: &TreeNode, prefix: &[u8], number: u128) -> bool {
 #[test]
 fn a_text_says_its_plan(rt: HostRuntime) -> Result<(), Fail> {
     let alloc = rt.alloc();
-    let sc = waiting_longer(alloc)?;
+    let sc = even_scenario(alloc, &[b"a", b"b", b"c"], 3)?;
     let Ok(plan) = read_plan(alloc, &sc, THREE_PERIODS) else {
         return Err(Fail::from("the text was not read"));
     };
@@ -111,7 +170,7 @@ fn a_text_says_its_plan(rt: HostRuntime) -> Result<(), Fail> {
 #[test]
 fn a_text_that_is_cut_off_ends_early(rt: HostRuntime) -> Result<(), Fail> {
     let alloc = rt.alloc();
-    let sc = two_cells(alloc)?;
+    let sc = even_scenario(alloc, &[b"a", b"b"], 2)?;
     for n in 0..TWO_CELLS.len() {
         let mut line = 1u64;
         for c in &TWO_CELLS[..n] {
@@ -155,7 +214,7 @@ fn with_line(alloc: Global, number: u64, bytes: &[u8]) -> Result<Vec<u8>, Fail> 
 
 fn has_fault(rt: &impl AllocGlobal, row: Row) -> Result<bool, Fail> {
     let (number, bytes, line, kind) = row;
-    let sc = two_cells(rt.alloc())?;
+    let sc = even_scenario(rt.alloc(), &[b"a", b"b"], 2)?;
     let text = with_line(rt.alloc(), number, bytes)?;
     let fault = PlanStop::Fault(PlanFault { line, kind });
     Ok(
@@ -279,7 +338,7 @@ fn long_lines(rt: HostRuntime) -> Result<(), Fail> {
 #[test]
 fn a_feed_stops_at_each_item(rt: HostRuntime) -> Result<(), Fail> {
     let alloc = rt.alloc();
-    let sc = two_cells(alloc)?;
+    let sc = even_scenario(alloc, &[b"a", b"b"], 2)?;
     let mut feed = PlanFeed::start(alloc, &sc)?;
     let mut rest = TWO_CELLS;
     for length in [37usize, 2, 4, 9, 9, 7, 4] {
