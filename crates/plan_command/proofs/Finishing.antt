@@ -1,5 +1,5 @@
 -- What is due to a scenario with few live prefixes, and to a plan that is accepted or isn't.
-use Rattle.std.proofs.Common.{ℕ, ◌≡◌, ◌≤◌, Bool, List, [], length, inl, inr, refl, sym, ap, subst, ◌∙◌}
+use Rattle.std.proofs.Common.{ℕ, ◌≡◌, Bool, List, [], inl, inr, refl, sym, ap, subst, ◌∙◌}
 use Rattle.search_model.specs.Problem.{Problem}
 use Rattle.search_model.specs.Order.{standing_of}
 use Rattle.search_model.specs.Opening.{IsOpening}
@@ -11,16 +11,15 @@ use Rattle.bound_tree.specs.Close.{HasMoreLive}
 use Rattle.tree_format.specs.PlanText.{IsPlanText}
 use Rattle.tree_checker.specs.declared.verdict.RejectAt.{RejectAt}
 use Rattle.plan_command.specs.declared.request.Request.{Request}
-use Rattle.plan_command.specs.declared.request.Request.TheVariants.{Plan, Check, Report}
+use Rattle.plan_command.specs.declared.request.Request.TheVariants.{Plan, Check, Report, Make, Drill}
 use Rattle.plan_command.specs.declared.status.Status.{Status}
 use Rattle.plan_command.specs.declared.status.Status.TheVariants as statuses
 use Rattle.plan_command.specs.declared.status.Stop.{Stop}
 use Rattle.plan_command.specs.declared.status.Stop.TheVariants as stops
-use Rattle.plan_command.specs.Words.{limit_of}
 use Rattle.plan_command.specs.Lines.{status_of}
 use Rattle.plan_command.specs.Plans.{IsPlanRest}
 use Rattle.plan_command.specs.Commands.{Refuses, IsTooLarge, IsInput, IsRejected, IsChecked, IsVerdict}
-use Rattle.plan_command.specs.Complete.{IsDue, IsJudge, IsWithin, IsUnlessNoMemory}
+use Rattle.plan_command.specs.Complete.{IsDue, IsFeasible, IsAcceptable, IsRejectable, IsUnlessNoMemory}
 use Rattle.plan_command.specs.Laws.{PlannedIsAccepted}
 use Rattle.plan_command.proofs.Apart.{same_scenario}
 use Rattle.plan_command.proofs.Exclusive.{read_or_not, read_alike, answers_or_refuses, not_rejected, no_front_fault, no_fault_behind}
@@ -48,10 +47,17 @@ refused_plan p input opening workers nodes stops.NoMemory text opens few refuses
 refused_plan p input opening workers nodes stops.TooLong text opens few refuses = refuses
 
 -- a plan is written, unless memory runs out
-pub plan_due : (p : Problem) (input opening : List ℕ) (workers nodes : ℕ) (status : Status) → IsTextOf p input → IsOpening p opening → (HasMoreLive p (standing_of p opening) nodes → ⊥) → IsDue (Plan workers nodes) input status → IsUnlessNoMemory statuses.Done status
+plan_due : (p : Problem) (input opening : List ℕ) (workers nodes : ℕ) (status : Status) → IsTextOf p input → IsOpening p opening → (HasMoreLive p (standing_of p opening) nodes → ⊥) → IsDue (Plan workers nodes) input status → IsUnlessNoMemory statuses.Done status
 plan_due p input opening workers nodes status text opens few (inl (out, answers)) = inl answers.0
 plan_due p input opening workers nodes status text opens few (inr (inl (stop, refuses, is))) = absurd (refused_plan p input opening workers nodes stop text opens few refuses)
 plan_due p input opening workers nodes status text opens few (inr (inr none)) = inr none
+
+pub feasible_due : (request : Request) (input : List ℕ) (status : Status) → IsFeasible request input → IsDue request input status → IsUnlessNoMemory statuses.Done status
+feasible_due (Plan workers nodes) input status (p, text, (opening, opens, few)) due = plan_due p input opening workers nodes status text opens few due
+feasible_due Check input status feasible due = absurd feasible
+feasible_due (Report json) input status feasible due = absurd feasible
+feasible_due (Make number) input status feasible due = absurd feasible
+feasible_due (Drill number workers) input status feasible due = absurd feasible
 
 -- the refusals of a check
 refused_check : (p : Problem) (input : List ℕ) (plan : APlan) (stop : Stop) → IsInput input p plan → Refuses Check input stop → ⊥
@@ -102,9 +108,9 @@ report_due p input json plan status is accepts (inr (inl (stop, refuses, same)))
     let turned = refused_report p input json plan stop is refuses in absurd (not_rejected input p plan turned.0 is accepts turned.2)
 report_due p input json plan status is accepts (inr (inr none)) = inr none
 
-pub judge_accepts : (request : Request) (p : Problem) (input : List ℕ) (plan : APlan) (status : Status) → IsJudge request → IsInput input p plan → Accepts p plan → IsDue request input status → IsUnlessNoMemory statuses.Done status
-judge_accepts request p input plan status (inl check) is accepts due = check_due p input plan status is accepts (subst (λ r. IsDue r input status) check due)
-judge_accepts request p input plan status (inr (json, report)) is accepts due = report_due p input json plan status is accepts (subst (λ r. IsDue r input status) report due)
+pub judge_accepts : (request : Request) (input : List ℕ) (status : Status) → IsAcceptable request input → IsDue request input status → IsUnlessNoMemory statuses.Done status
+judge_accepts request input status (inl check, (p, plan, is, accepts)) due = check_due p input plan status is accepts (subst (λ r. IsDue r input status) check due)
+judge_accepts request input status (inr (json, report), (p, plan, is, accepts)) due = report_due p input json plan status is accepts (subst (λ r. IsDue r input status) report due)
 
 -- a plan that isn't accepted is rejected, unless memory runs out
 check_rejects : (input : List ℕ) (at : RejectAt) (status : Status) → IsRejected input at → IsDue Check input status → IsUnlessNoMemory statuses.Rejected status
@@ -118,17 +124,9 @@ report_rejects input json at status (p, plan, is, turns, reason) (inr (inl (stop
     let turned = refused_report p input json plan stop is refuses in inl (same ∙ ap status_of turned.1)
 report_rejects input json at status rejected (inr (inr none)) = inr none
 
-pub judge_rejects : (request : Request) (input : List ℕ) (at : RejectAt) (status : Status) → IsJudge request → IsRejected input at → IsDue request input status → IsUnlessNoMemory statuses.Rejected status
-judge_rejects request input at status (inl check) rejected due = check_rejects input at status rejected (subst (λ r. IsDue r input status) check due)
-judge_rejects request input at status (inr (json, report)) rejected due = report_rejects input json at status rejected (subst (λ r. IsDue r input status) report due)
-
--- the limit of what judges a plan
-pub judge_within : (request : Request) (input : List ℕ) → IsJudge request → length input ≤ 336592896 → IsWithin request input
-judge_within request input (inl check) short = (336592896, ap limit_of check, short)
-judge_within request input (inr (json, report)) short = (336592896, ap limit_of report, short)
-
-pub plan_within : (input : List ℕ) (workers nodes : ℕ) → length input ≤ 1048576 → IsWithin (Plan workers nodes) input
-plan_within input workers nodes short = (1048576, refl, short)
+pub judge_rejects : (request : Request) (input : List ℕ) (status : Status) → IsRejectable request input → IsDue request input status → IsUnlessNoMemory statuses.Rejected status
+judge_rejects request input status (inl check, (at, rejected)) due = check_rejects input at status rejected (subst (λ r. IsDue r input status) check due)
+judge_rejects request input status (inr (json, report), (at, rejected)) due = report_rejects input json at status rejected (subst (λ r. IsDue r input status) report due)
 
 -- what is planned is accepted
 pub planned_is_accepted : PlannedIsAccepted

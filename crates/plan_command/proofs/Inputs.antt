@@ -1,5 +1,5 @@
 -- What is made of an input that is read.
-use Rattle.std.proofs.Common.{ℕ, ◌≡◌, ◌+◌, Bool, List, [], Result, Ok, Err, Some, None, inl, inr, refl, sym, subst, ◌⊎◌}
+use Rattle.std.proofs.Common.{ℕ, ◌≡◌, ◌+◌, Bool, List, [], Result, Ok, Err, Some, inl, inr, refl, sym, subst, ◌⊎◌}
 use Rattle.std.specs.Prelude.{IsErrOf, IfOk, IfErr, OnErr}
 use Rattle.std.specs.Io.KnownBytes.{Appends}
 use Rattle.std.specs.declared.option.Option.{Option}
@@ -20,7 +20,7 @@ use Rattle.plan_command.specs.Inputs.{Source, Reads, ReadsAnd, HasFailed, IsOver
 use Rattle.plan_command.specs.Commands.{Answers, Refuses}
 use Rattle.plan_command.specs.Makes.{MakesOf, IsAsked}
 use Rattle.plan_command.specs.Intakes.{Judges, HasTaken}
-use Rattle.plan_command.specs.Run.{Shown, CutOff, Ends, stopped, ending_of}
+use Rattle.plan_command.specs.Run.{Shown, Call, CutOff, Ends, stopped, ending_of}
 
 -- No request refuses its input for these.
 no_usage : (request : Request) (input : List ℕ) → Refuses request input stops.Usage → ⊥
@@ -121,7 +121,7 @@ report_stopped json limits before after (stops.TooManyNodes limit) read = read
 report_stopped json limits before after stops.TooLong read = read
 
 -- how a run ends that makes nothing
-pub ends_stopped : (words : List (List ℕ)) (request : Request) (before after : Shown) (stop : Stop) → Spells words request → ReadsAnd (limit_of request) before.source after.source (MakesOf request) (Err stop) → after.wrote ≡ before.wrote → Ends words before after (stopped stop)
+pub ends_stopped : (words : List (List ℕ)) (request : Request) (before after : Shown) (stop : Stop) → Spells words request → ReadsAnd (limit_of request) before.source after.source (MakesOf request) (Err stop) → after.wrote ≡ before.wrote → Ends (record { words = words; before = before; after = after }) (stopped stop)
 ends_stopped words request before after (stops.Rejected at) spelled (input, read, refuses) same = (request, spelled, record { input = input; read = read; refuses = refuses; unwritten = same })
 ends_stopped words request before after stops.Usage spelled (input, read, refuses) same = absurd (no_usage request input refuses)
 ends_stopped words request before after (stops.BadScenario fault) spelled (input, read, refuses) same = (request, spelled, record { input = input; read = read; refuses = refuses; unwritten = same })
@@ -145,12 +145,6 @@ check_answered limits before after judged made (input, read, is) makes = made_re
 pub report_answered : (json : Bool) (limits : Option ℕ) (before after : Source) (judged : Judgement) (made : Result Answer Stop) → ReadsAnd limits before after Judges (Ok judged) → ((input : List ℕ) → Judges input (Ok judged) → MakesOf (Report json) input made) → ReadsAnd limits before after (MakesOf (Report json)) made
 report_answered json limits before after judged made (input, read, is) makes = made_read (Report json) limits before after input made read (makes input is)
 
--- what a request makes that reads nothing
-pub made_unread : (request : Request) (source : Source) (made : Result Answer Stop) → limit_of request ≡ None → MakesOf request [] made → ReadsAnd (limit_of request) source source (MakesOf request) made
-made_unread request source made none makes =
-    let unread : Reads None source source [] = record { empty = refl; same = refl } in
-    made_read request (limit_of request) source source [] made (subst (λ (limits : Option ℕ). Reads limits source source []) (sym none) unread) makes
-
 -- the numbers of a request that words spell are within their limits
 pub spelled_asked : (words : List (List ℕ)) (request : Request) → Spells words request → IsAsked request
 spelled_asked words (Plan workers nodes) spelled = (spelled.0, spelled.1)
@@ -165,7 +159,7 @@ pub ends_served : (words : List (List ℕ)) (request : Request) (before after : 
     IfOk result (λ status. (status ≡ answer.status) × Appends before.wrote after.wrote answer.text.items) →
     OnErr result (AppendsPrefix before.wrote after.wrote answer.text.items) →
     IfErr result (λ stop. ((stop ≡ stops.WriteFault) × Rose before.write_faults after.write_faults) ⊎ (stop ≡ stops.NoMemory)) →
-    Ends words before after (ending_of result)
+    Ends (record { words = words; before = before; after = after }) (ending_of result)
 ends_served words request before after answer (Ok status) spelled (input, read, answers) (same, written) front cause = (
   request,
   spelled,
@@ -182,9 +176,12 @@ ends_served words request before after answer (Err stop) spelled (input, read, a
     cut : CutOff request before after
     cut = record { input = input; text = answer.text.items; status = answer.status; read = read; answers = answers; written = front }
 
-    told : ((stop ≡ stops.WriteFault) × Rose before.write_faults after.write_faults) ⊎ (stop ≡ stops.NoMemory) → Ends words before after (stopped stop)
-    told (inl (same, rose)) = subst (λ (s : Stop). Ends words before after (stopped s)) (sym same) (request, spelled, (rose, cut))
-    told (inr same) = subst (λ (s : Stop). Ends words before after (stopped s)) (sym same) (request, spelled, inr cut)
+    here : Call
+    here = record { words = words; before = before; after = after }
+
+    told : ((stop ≡ stops.WriteFault) × Rose before.write_faults after.write_faults) ⊎ (stop ≡ stops.NoMemory) → Ends here (stopped stop)
+    told (inl (same, rose)) = subst (λ (s : Stop). Ends here (stopped s)) (sym same) (request, spelled, (rose, cut))
+    told (inr same) = subst (λ (s : Stop). Ends here (stopped s)) (sym same) (request, spelled, inr cut)
 
 -- and it isn't for its words
 pub served_unused : (C : Type 0) (result : Result Status Stop) → IfErr result (λ stop. ((stop ≡ stops.WriteFault) × C) ⊎ (stop ≡ stops.NoMemory)) → result ≡ Err stops.Usage → ⊥

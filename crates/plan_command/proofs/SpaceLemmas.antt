@@ -1,21 +1,16 @@
 -- What stands before the plan text.
-use Rattle.std.proofs.Common.{ℕ, suc, zero, ◌≡◌, ◌<◌, ◌≤◌, ◌+◌, Bool, true, false, List, [], ◌∷◌, ◌++◌, length, get_or, take, drop, refl, sym, ap, ◌∙◌, arith}
+use Rattle.std.proofs.Common.{ℕ, suc, zero, ◌≡◌, ◌<◌, ◌≤◌, ◌+◌, true, false, List, [], ◌∷◌, ◌++◌, length, get_or, take, drop, refl, sym, ap, ◌∙◌, arith}
 use Rattle.std.specs.List.{list_all}
-use Rattle.std.specs.Prelude.{◌&&◌}
+use Rattle.std.proofs.lemmas.Bool.{and_parts}
 use Rattle.std.proofs.lemmas.List.{append-nil, take-append-drop, take_all}
 use Rattle.plan_command.specs.Spaces.{is_space, starts_with_space, SkipsSpaces}
-
-both : (a b : Bool) → (a && b) ≡ true → (a ≡ true) × (b ≡ true)
-both true true e = (refl, refl)
-both true false e = cc
-both false b e = cc
 
 -- one more blank
 pub spaces_more : (text : List ℕ) (i : ℕ) → i < length text → list_all is_space (take i text) ≡ true → is_space (get_or text i 0) ≡ true → list_all is_space (take (i + 1) text) ≡ true
 spaces_more [] i lt all here = absurd (omega (arith, lt))
 spaces_more (c ∷ cs) zero lt all here = rw here refl
 spaces_more (c ∷ cs) (suc i) lt all here =
-    let parts = both (is_space c) (list_all is_space (take i cs)) all in
+    let parts = and_parts (is_space c) (list_all is_space (take i cs)) all in
     let n : suc i + 1 ≡ suc (i + 1) = omega arith in
     rw n (rw (parts.0, spaces_more cs i (omega (arith, lt)) parts.1 here) refl)
 
@@ -41,10 +36,10 @@ skips_all text i le all = record { blanks = text; only = ap (list_all is_space) 
 pub skipped_alike : (xs ys rest more : List ℕ) → list_all is_space xs ≡ true → list_all is_space ys ≡ true → starts_with_space rest ≡ false → starts_with_space more ≡ false → xs ++ rest ≡ ys ++ more → rest ≡ more
 skipped_alike [] [] rest more hx hy sr sm e = e
 skipped_alike [] (y ∷ ys) rest more hx hy sr sm e =
-    let parts = both (is_space y) (list_all is_space ys) hy in
+    let parts = and_parts (is_space y) (list_all is_space ys) hy in
     let bad : true ≡ false = sym parts.0 ∙ ap starts_with_space (sym e) ∙ sr in cc
 skipped_alike (x ∷ xs) [] rest more hx hy sr sm e =
-    let parts = both (is_space x) (list_all is_space xs) hx in
+    let parts = and_parts (is_space x) (list_all is_space xs) hx in
     let bad : true ≡ false = sym parts.0 ∙ ap starts_with_space e ∙ sm in cc
 skipped_alike (x ∷ xs) (y ∷ ys) rest more hx hy sr sm e =
-    skipped_alike xs ys rest more (both (is_space x) (list_all is_space xs) hx).1 (both (is_space y) (list_all is_space ys) hy).1 sr sm (cc)
+    skipped_alike xs ys rest more (and_parts (is_space x) (list_all is_space xs) hx).1 (and_parts (is_space y) (list_all is_space ys) hy).1 sr sm (cc)

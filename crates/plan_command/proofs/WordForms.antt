@@ -3,7 +3,7 @@ use Rattle.std.proofs.Common.{ℕ, ◌≡◌, ◌≤◌, ◌<◌, ◌^◌, ◌�
 use Rattle.std.specs.Str.{bytes_eq}
 use Rattle.std.specs.Fmt.{decimal}
 use Rattle.std.specs.Prelude.{nat_le, ◌&&◌, if◌then◌else◌}
-use Rattle.std.proofs.lemmas.Bool.{cond_both}
+use Rattle.std.proofs.lemmas.Bool.{cond_both, and_parts}
 use Rattle.std.proofs.lemmas.Bool.Decides.{leb_tells}
 use Rattle.std.proofs.lemmas.Slice.Eq.{bytes_eq-Decides}
 use Rattle.exact_parts.specs.declared.number.Number.{Number}
@@ -24,11 +24,6 @@ none_of_some x e = let bad : ⊥ = cc in bad
 -- a word that passes the test is that word
 is_that : (w name : List ℕ) → bytes_eq w name ≡ true → w ≡ name
 is_that w name e = (bytes_eq-Decides w name).0 e
-
--- a test of two is of each
-both_hold : (a b : Bool) → (a && b) ≡ true → (a ≡ true) × (b ≡ true)
-both_hold true b e = (refl, e)
-both_hold false b e = let bad : ⊥ = cc in absurd bad
 
 -- the number within limits that a word spells
 pub record IsNumber (least most : ℕ) (word : List ℕ) (n : ℕ) : Type 0 where
@@ -121,7 +116,7 @@ two_told name value other number =
     let T = Told (codes "plan") words in
     cond_both (bytes_eq name (codes "--workers") && bytes_eq other (codes "--nodes")) _ _ T
     (λ is r e.
-    let names = both_hold _ _ is in
+    let names = and_parts _ _ is in
     let told = both_tell _ (workers_in value) (nodes_in number) r e in
     let crew = workers_tell told.0 value told.2 in
     let limit = nodes_tell told.1 number told.3 in
@@ -129,7 +124,7 @@ two_told name value other number =
     ((crew.low, crew.high), (limit.low, limit.high), (words, refl, inr (inr (inr (inl (four_words _ _ _ _ _ _ _ _ (is_that name _ names.0) crew.text (is_that other _ names.1) limit.text)))))))
     (λ neither. cond_both (bytes_eq name (codes "--nodes") && bytes_eq other (codes "--workers")) _ _ T
     (λ is r e.
-    let names = both_hold _ _ is in
+    let names = and_parts _ _ is in
     let told = both_tell _ (nodes_in value) (workers_in number) r e in
     let limit = nodes_tell told.0 value told.2 in
     let crew = workers_tell told.1 number told.3 in
@@ -155,7 +150,7 @@ report_told (a ∷ []) r e = absurd (none_of_some r e)
 report_told (a ∷ b ∷ []) r e =
     cond_both (bytes_eq a (codes "--json") && bytes_eq b (codes "yes")) _ _ (Told (codes "report") (a ∷ b ∷ []))
     (λ is r e.
-    let names = both_hold _ _ is in
+    let names = and_parts _ _ is in
     subst (Spells (codes "report" ∷ a ∷ b ∷ [])) (some_tells (Report true) r e) (ap (λ (ws : List (List ℕ)). codes "report" ∷ ws) (two_words _ _ _ _ (is_that a _ names.0) (is_that b _ names.1))))
     (λ other r e. absurd (none_of_some r e)) r e
 report_told (a ∷ b ∷ c ∷ words) r e = absurd (none_of_some r e)

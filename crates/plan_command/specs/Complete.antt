@@ -1,27 +1,24 @@
 -- When a run answers its input, or refuses it.
 use Rattle.std.specs.Prelude.{◌≡◌, ℕ, ◌<◌, ◌≤◌, ◌⊎◌, Bool, List, Some, length}
 use Rattle.byte_ports.specs.Causes.{Rose}
+use Rattle.search_model.specs.Problem.{Problem}
+use Rattle.search_model.specs.Order.{standing_of}
+use Rattle.search_model.specs.Opening.{IsOpening}
+use Rattle.scenario_text.specs.Scenarios.{IsTextOf}
+use Rattle.bound_tree.specs.declared.plan.Plan.{Plan as APlan}
+use Rattle.bound_tree.specs.Accepts.{Accepts}
+use Rattle.bound_tree.specs.Close.{HasMoreLive}
+use Rattle.tree_checker.specs.declared.verdict.RejectAt.{RejectAt}
 use Rattle.plan_command.specs.declared.request.Request.{Request}
-use Rattle.plan_command.specs.declared.request.Request.TheVariants.{Check, Report}
+use Rattle.plan_command.specs.declared.request.Request.TheVariants.{Plan, Check, Report}
 use Rattle.plan_command.specs.declared.status.Status.{Status}
 use Rattle.plan_command.specs.declared.status.Status.TheVariants.{NoMemory}
 use Rattle.plan_command.specs.declared.status.Stop.{Stop}
 use Rattle.plan_command.specs.declared.status.Stop.TheVariants as stops
 use Rattle.plan_command.specs.Words.{Spells, limit_of}
 use Rattle.plan_command.specs.Lines.{status_of}
-use Rattle.plan_command.specs.Commands.{Answers, Refuses}
-use Rattle.plan_command.specs.Run.{Seen}
-
--- words of a request, and a source that tells this input and doesn't fail
-pub record IsHeard (words : List (List ℕ)) (s : Seen) (request : Request) (input : List ℕ) : Type 0 where
-  pub spelled : Spells words request
-  pub told : s.before.source.left ≡ Some input
-  pub read : Rose s.before.source.faults s.after.source.faults → ⊥
-
--- the same, where the sink doesn't fail either
-pub record IsUndisturbed (words : List (List ℕ)) (s : Seen) (request : Request) (input : List ℕ) : Type 0 where
-  pub heard : IsHeard words s request input
-  pub write : Rose s.before.write_faults s.after.write_faults → ⊥
+use Rattle.plan_command.specs.Commands.{Answers, Refuses, IsInput, IsRejected}
+use Rattle.plan_command.specs.Run.{Call}
 
 -- the request reads an input, and this one is within its limit
 abbrev pub IsWithin : Request → List ℕ → Type 0
@@ -31,9 +28,35 @@ IsWithin request input = (limit : ℕ) × (limit_of request ≡ Some limit) × (
 abbrev pub IsLonger : Request → List ℕ → Type 0
 IsLonger request input = (limit : ℕ) × (limit_of request ≡ Some limit) × (limit < length input)
 
--- the request judges a plan: `check`, or `report`
+-- words of a request, and a source that tells this input and doesn't fail
+pub record IsHeard (c : Call) (request : Request) (input : List ℕ) : Type 0 where
+  pub spelled : Spells c.words request
+  pub told : c.before.source.left ≡ Some input
+  pub read : Rose c.before.source.faults c.after.source.faults → ⊥
+
+-- the same, where the input is within the limit and the sink doesn't fail either
+pub record IsUndisturbed (c : Call) (request : Request) (input : List ℕ) : Type 0 where
+  pub heard : IsHeard c request input
+  pub within : IsWithin request input
+  pub write : Rose c.before.write_faults c.after.write_faults → ⊥
+
+-- `plan` of the text of a scenario with no more live prefixes under its opening than the limit
+abbrev pub IsFeasible : Request → List ℕ → Type 0
+IsFeasible (Plan workers nodes) input =
+    (p : Problem) × IsTextOf p input × ((opening : List ℕ) × IsOpening p opening × (HasMoreLive p (standing_of p opening) nodes → ⊥))
+IsFeasible _ input = ⊥
+
+-- `check` or `report`
 abbrev pub IsJudge : Request → Type 0
 IsJudge request = (request ≡ Check) ⊎ ((json : Bool) × (request ≡ Report json))
+
+-- one of these of a scenario and a plan that is accepted
+abbrev pub IsAcceptable : Request → List ℕ → Type 0
+IsAcceptable request input = IsJudge request × ((p : Problem) × (plan : APlan) × IsInput input p plan × Accepts p plan)
+
+-- or that isn't accepted
+abbrev pub IsRejectable : Request → List ℕ → Type 0
+IsRejectable request input = IsJudge request × ((at : RejectAt) × IsRejected input at)
 
 -- this status, unless memory ran out
 abbrev pub IsUnlessNoMemory : Status → Status → Type 0

@@ -12,6 +12,10 @@ pub record Source : Type 0 where
   pub left : Option (List ℕ)
   pub faults : ℕ
 
+-- the same, by the meanings of a source
+abbrev pub source_view : {S : Type 0} → (S → Option (List ℕ)) → (S → ℕ) → S → Source
+source_view left faults source = record { left = left source; faults = faults source }
+
 -- The input was read whole, and it isn't longer than the limit.
 pub record ReadWhole (limit : ℕ) (before after : Source) (input : List ℕ) : Type 0 where
   pub taken : Consumes before.left after.left input

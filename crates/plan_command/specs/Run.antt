@@ -8,9 +8,9 @@ use Rattle.plan_command.specs.declared.request.Request.{Request}
 use Rattle.plan_command.specs.declared.status.Status.{Status}
 use Rattle.plan_command.specs.declared.status.Stop.{Stop}
 use Rattle.plan_command.specs.declared.status.Stop.TheVariants as stops
-use Rattle.plan_command.specs.Words.{Spells, limit_of}
+use Rattle.plan_command.specs.Words.{Spells, SpellNone, limit_of}
 use Rattle.plan_command.specs.Lines.{status_of, line_of}
-use Rattle.plan_command.specs.Inputs.{Source, Reads, IsOverLong, HasFailed}
+use Rattle.plan_command.specs.Inputs.{Source, source_view, Reads, IsOverLong, HasFailed}
 use Rattle.plan_command.specs.Commands.{Answers, Refuses}
 
 -- What the source and the sink `out` show at one moment.
@@ -19,19 +19,20 @@ pub record Shown : Type 0 where
   pub wrote : Option (List ℕ)
   pub write_faults : ℕ
 
--- What they show before a run and after it.
-pub record Seen : Type 0 where
+-- A call: its words, and what source and `out` show before it and after it.
+pub record Call : Type 0 where
+  pub words : List (List ℕ)
   pub before : Shown
   pub after : Shown
 
 -- the same, by the meanings of a source and a sink
 abbrev pub shown : {S K : Type 0} → (S → Option (List ℕ)) → (S → ℕ) → (K → Option (List ℕ)) → (K → ℕ) → S → K → Shown
 shown left read_faults wrote write_faults source out =
-    record { source = record { left = left source; faults = read_faults source }; wrote = wrote out; write_faults = write_faults out }
+    record { source = source_view left read_faults source; wrote = wrote out; write_faults = write_faults out }
 
-abbrev pub seen : {S K : Type 0} → (S → Option (List ℕ)) → (S → ℕ) → (K → Option (List ℕ)) → (K → ℕ) → S → S → K → K → Seen
-seen left read_faults wrote write_faults source source' out out' =
-    record { before = shown left read_faults wrote write_faults source out; after = shown left read_faults wrote write_faults source' out' }
+abbrev pub call : {S K : Type 0} → List (List ℕ) → (S → Option (List ℕ)) → (S → ℕ) → (K → Option (List ℕ)) → (K → ℕ) → S → S → K → K → Call
+call words left read_faults wrote write_faults source source' out out' =
+    record { words = words; before = shown left read_faults wrote write_faults source out; after = shown left read_faults wrote write_faults source' out' }
 
 -- The whole answer stands in `out`.
 pub record Delivered (request : Request) (before after : Shown) (status : Status) : Type 0 where
@@ -58,12 +59,12 @@ pub record Refused (request : Request) (before after : Shown) (stop : Stop) : Ty
   pub unwritten : after.wrote ≡ before.wrote
 
 -- Words of a request that refuses its input so.
-abbrev pub IsRefusal : List (List ℕ) → Seen → Stop → Type 0
-IsRefusal words s stop = (request : Request) × Spells words request × Refused request s.before s.after stop
+abbrev pub IsRefusal : Call → Stop → Type 0
+IsRefusal c stop = (request : Request) × Spells c.words request × Refused request c.before c.after stop
 
 -- Words of a request whose answer was cut off.
-abbrev pub IsCutOff : List (List ℕ) → Seen → Type 0
-IsCutOff words s = (request : Request) × Spells words request × CutOff request s.before s.after
+abbrev pub IsCutOff : Call → Type 0
+IsCutOff c = (request : Request) × Spells c.words request × CutOff request c.before c.after
 
 -- What a stop says of a request that was read from the words.
 abbrev pub Stopped : Request → Shown → Shown → Stop → Type 0
@@ -78,10 +79,10 @@ pub data Ending : Type 0 where
   delivered : Status → Ending
   stopped : Stop → Ending
 
-abbrev pub Ends : List (List ℕ) → Shown → Shown → Ending → Type 0
-Ends words before after (stopped stops.Usage) = ((r : Request) → Spells words r → ⊥) × (after ≡ before)
-Ends words before after (stopped stop) = (r : Request) × Spells words r × Stopped r before after stop
-Ends words before after (delivered status) = (r : Request) × Spells words r × Delivered r before after status
+abbrev pub Ends : Call → Ending → Type 0
+Ends c (stopped stops.Usage) = SpellNone c.words × (c.after ≡ c.before)
+Ends c (stopped stop) = (r : Request) × Spells c.words r × Stopped r c.before c.after stop
+Ends c (delivered status) = (r : Request) × Spells c.words r × Delivered r c.before c.after status
 
 abbrev pub status_at : Ending → Status
 status_at (delivered status) = status
@@ -92,10 +93,20 @@ abbrev pub line_at : Ending → List ℕ
 line_at (delivered status) = []
 line_at (stopped stop) = line_of stop
 
+-- What `err` shows at one moment: the bytes that it took, and the counts of its faults and of the memory that it lacked.
+pub record ErrView : Type 0 where
+  pub wrote : Option (List ℕ)
+  pub faults : ℕ
+  pub wants : ℕ
+
+-- the same, by the meanings of a sink
+abbrev pub err_view : {E : Type 0} → (E → Option (List ℕ)) → (E → ℕ) → (E → ℕ) → E → ErrView
+err_view wrote faults wants err = record { wrote = wrote err; faults = faults err; wants = wants err }
+
 -- A line on `err`: a front of it, and all of it where no count rose.
-pub record Says (before after : Option (List ℕ)) (faults faults' wants wants' : ℕ) (line : List ℕ) : Type 0 where
-  pub front : AppendsPrefix before after line
-  pub whole : (Rose faults faults' → ⊥) → (Rose wants wants' → ⊥) → Appends before after line
+pub record Says (before after : ErrView) (line : List ℕ) : Type 0 where
+  pub front : AppendsPrefix before.wrote after.wrote line
+  pub whole : (Rose before.faults after.faults → ⊥) → (Rose before.wants after.wants → ⊥) → Appends before.wrote after.wrote line
 
 -- the ending that a result stands for
 abbrev pub ending_of : Result Status Stop → Ending

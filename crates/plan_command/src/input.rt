@@ -1,7 +1,7 @@
 //! What each request makes of its input, which is read as it is needed.
 
 ghost use Rattle.std.specs.Prelude.{◌≡◌, ◌≤◌, ◌<◌, ◌^◌, ℕ, List, Some};
-ghost use Rattle.plan_command.specs.Inputs.{InputOf, ReadsAnd};
+ghost use Rattle.plan_command.specs.Inputs.{source_view, InputOf, ReadsAnd};
 ghost use Rattle.plan_command.specs.Intakes.{Judges};
 ghost use Rattle.plan_command.specs.Makes.{MakesOf, IsAsked};
 ghost use Rattle.plan_command.specs.Words.{IsCrew, limit_of};
@@ -30,8 +30,8 @@ const MOST_JUDGED: usize = 336_592_896;
 /// The whole input, which isn't longer than the limit.
 fn read_input<S: Source>(alloc: Global, source: &mut S, limit: usize) -> Result<Vec<u8>, Stop>
     requires { limit < 2 ^ 30 }
-    ensures { InputOf (λ v. v.items) (Some limit) (record { left = S.left source.old; faults = S.faults source.old })
-        (record { left = S.left source.new; faults = S.faults source.new }) result }
+    ensures { InputOf (λ v. v.items) (Some limit) (source_view S.left S.faults source.old)
+        (source_view S.left S.faults source.new) result }
 {
     match read_all(alloc, source, limit) {
         Ok(input) => Ok(input),
@@ -54,8 +54,8 @@ fn unread(stop: InputStop) -> Stop
 
 /// The verdict on the plan behind the scenario in the input. Of both only the scenario is kept.
 fn judge_input<S: Source>(alloc: Global, source: &mut S) -> Result<Judgement, Stop>
-    ensures { ReadsAnd (Some 336592896) (record { left = S.left source.old; faults = S.faults source.old })
-        (record { left = S.left source.new; faults = S.faults source.new }) Judges result }
+    ensures { ReadsAnd (Some 336592896) (source_view S.left S.faults source.old)
+        (source_view S.left S.faults source.new) Judges result }
 {
     let mut piece = vec![in alloc; 0; PIECE_LEN]?;
     let mut intake = Intake::new(alloc);
@@ -67,8 +67,8 @@ fn judge_input<S: Source>(alloc: Global, source: &mut S) -> Result<Judgement, St
 
 /// What `check` makes of its input.
 fn check_input<S: Source>(alloc: Global, source: &mut S) -> Result<Answer, Stop>
-    ensures { ReadsAnd (Some 336592896) (record { left = S.left source.old; faults = S.faults source.old })
-        (record { left = S.left source.new; faults = S.faults source.new }) (MakesOf Request.Check) result }
+    ensures { ReadsAnd (Some 336592896) (source_view S.left S.faults source.old)
+        (source_view S.left S.faults source.new) (MakesOf Request.Check) result }
 {
     match judge_input(alloc, source) {
         Ok(judgement) => answer_check(alloc, judgement),
@@ -78,8 +78,8 @@ fn check_input<S: Source>(alloc: Global, source: &mut S) -> Result<Answer, Stop>
 
 /// What `report` makes of its input.
 fn report_input<S: Source>(alloc: Global, json: bool, source: &mut S) -> Result<Answer, Stop>
-    ensures { ReadsAnd (Some 336592896) (record { left = S.left source.old; faults = S.faults source.old })
-        (record { left = S.left source.new; faults = S.faults source.new }) (MakesOf (Request.Report json)) result }
+    ensures { ReadsAnd (Some 336592896) (source_view S.left S.faults source.old)
+        (source_view S.left S.faults source.new) (MakesOf (Request.Report json)) result }
 {
     match judge_input(alloc, source) {
         Ok(judgement) => answer_report(alloc, json, judgement),
@@ -97,8 +97,8 @@ fn plan_input<R: AllocGlobal + Threads + Wait + Sync, S: Source, G: Gate>(
 ) -> Result<Answer, Stop>
     requires crew { IsCrew workers }
     requires nodes { (1 ≤ nodes) × (nodes ≤ 1048576) }
-    ensures { ReadsAnd (Some 1048576) (record { left = S.left source.old; faults = S.faults source.old })
-        (record { left = S.left source.new; faults = S.faults source.new }) (MakesOf (Request.Plan workers nodes)) result }
+    ensures { ReadsAnd (Some 1048576) (source_view S.left S.faults source.old)
+        (source_view S.left S.faults source.new) (MakesOf (Request.Plan workers nodes)) result }
 {
     match read_input(rt.alloc(), source, MOST_SCENARIO) {
         Ok(input) => answer_plan(rt, workers, nodes, &input, gate),
@@ -114,8 +114,8 @@ pub fn answer_for<R: AllocGlobal + Threads + Wait + Sync, S: Source, G: Gate>(
     gate: &G,
 ) -> Result<Answer, Stop>
     requires { IsAsked request }
-    ensures { ReadsAnd (limit_of request) (record { left = S.left source.old; faults = S.faults source.old })
-        (record { left = S.left source.new; faults = S.faults source.new }) (MakesOf request) result }
+    ensures { ReadsAnd (limit_of request) (source_view S.left S.faults source.old)
+        (source_view S.left S.faults source.new) (MakesOf request) result }
 {
     match request {
         Request::Plan { workers, nodes } => plan_input(rt, workers, nodes, source, gate),

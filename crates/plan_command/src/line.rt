@@ -1,7 +1,7 @@
 ghost use Rattle.std.specs.Prelude.{◌≡◌, ◌+◌, ◌++◌, ◌∷◌, ◌≤◌, [], take, length};
 ghost use Rattle.std.specs.Fmt.{decimal};
 ghost use Rattle.plan_command.specs.Lines.{line_of};
-ghost use Rattle.plan_command.specs.Run.{Says};
+ghost use Rattle.plan_command.specs.Run.{err_view, Says};
 
 use crate::status::Stop;
 use byte_ports::{Sink, write_all};
@@ -87,8 +87,7 @@ fn put_line(stop: Stop, to: &mut [u8; ROOM]) -> usize
 
 /// Says on `err` what stopped the run.
 pub fn say<E: Sink>(err: &mut E, stop: Stop)
-    ensures { Says (E.wrote err.old) (E.wrote err.new) (E.faults err.old) (E.faults err.new)
-        (E.wants err.old) (E.wants err.new) (line_of stop) }
+    ensures { Says (err_view E.wrote E.faults E.wants err.old) (err_view E.wrote E.faults E.wants err.new) (line_of stop) }
 {
     let mut line = [0u8; ROOM];
     let len = put_line(stop, &mut line);

@@ -6,7 +6,7 @@ ghost use Rattle.byte_ports.specs.Causes.{Rose};
 ghost use Rattle.byte_ports.specs.Taken.{AppendsPrefix};
 ghost use Rattle.plan_command.specs.Words.{Spells};
 ghost use Rattle.plan_command.specs.Makes.{IsAsked};
-ghost use Rattle.plan_command.specs.Run.{shown, Ends, ending_of};
+ghost use Rattle.plan_command.specs.Run.{call, Ends, ending_of};
 
 use crate::answer::Answer;
 use crate::input::answer_for;
@@ -39,9 +39,8 @@ pub fn serve<R: AllocGlobal + Threads + Wait + Sync, S: Source, K: Sink, G: Gate
     gate: &G,
 ) -> Result<Status, Stop>
     requires asked { IsAsked request }
-    ensures ends { (words : List (List ℕ)) → Spells words request → Ends words
-        (shown S.left S.faults K.wrote K.faults source.old out.old)
-        (shown S.left S.faults K.wrote K.faults source.new out.new) (ending_of result) }
+    ensures ends { (words : List (List ℕ)) → Spells words request → Ends
+        (call words S.left S.faults K.wrote K.faults source.old source.new out.old out.new) (ending_of result) }
     ensures used { IsErrOf result Stop.Usage → ⊥ }
 {
     match answer_for(rt, request, source, gate) {
