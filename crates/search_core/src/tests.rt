@@ -41,37 +41,22 @@ fn standing_of(sc: &Scenario, path: &Path) -> Option<Standing>
     })
 }
 
-// The number of a step's answer: 0 where it was taken, else that of the fault.
-fn number_of(core: &mut CoreState, sc: &Scenario, event: CoreEvent) -> u8
-    requires balanced { IsBalanced sc.now core.old }
-    requires allowed { IsAllowed sc.now core.old event }
-    ensures { IsBalanced sc.now core.new }
-{
-    match core.step(sc, event) {
-        Ok(()) => 0,
-        Err(CoreFault::NotPooled(_)) => 1,
-        Err(CoreFault::NotHeld(_)) => 2,
-        Err(CoreFault::NoStanding(_)) => 3,
-        Err(CoreFault::NoMemory) => 4,
-    }
-}
-
-fn put(core: &mut CoreState, sc: &Scenario, path: &Path) -> u8
+fn put(core: &mut CoreState, sc: &Scenario, path: &Path) -> Result<(), CoreFault>
     requires { IsBalanced sc.now core.old }
     ensures { IsBalanced sc.now core.new }
 {
-    number_of(core, sc, CoreEvent::Put(*path))
+    core.step(sc, CoreEvent::Put(*path))
 }
 
-fn take(core: &mut CoreState, sc: &Scenario, path: &Path) -> u8
+fn take(core: &mut CoreState, sc: &Scenario, path: &Path) -> Result<(), CoreFault>
     requires { IsBalanced sc.now core.old }
     ensures { IsBalanced sc.now core.new }
 {
-    number_of(core, sc, CoreEvent::Take(*path))
+    core.step(sc, CoreEvent::Take(*path))
 }
 
 // The empty prefix branches, whatever the standing.
-fn branch(core: &mut CoreState, sc: &Scenario) -> u8
+fn branch(core: &mut CoreState, sc: &Scenario) -> Result<(), CoreFault>
     requires { IsBalanced sc.now core.old }
     ensures { IsBalanced sc.now core.new }
 {
@@ -80,11 +65,16 @@ fn branch(core: &mut CoreState, sc: &Scenario) -> u8
         prefix: Path::empty(),
         kind: Kind::Branch,
     };
-    number_of(core, sc, CoreEvent::Close(node, 0))
+    core.step(sc, CoreEvent::Close(node, 0))
 }
 
 // A path is closed by its value.
-fn close_path(core: &mut CoreState, sc: &Scenario, whole: &Standing, j: usize) -> u8
+fn close_path(
+    core: &mut CoreState,
+    sc: &Scenario,
+    whole: &Standing,
+    j: usize,
+) -> Result<(), CoreFault>
     requires balanced { IsBalanced sc.now core.old }
     requires exact { IsExact sc.now whole.now }
     ensures { IsBalanced sc.now core.new }
@@ -93,41 +83,58 @@ fn close_path(core: &mut CoreState, sc: &Scenario, whole: &Standing, j: usize) -
         prefix: whole.path,
         kind: Kind::Whole(whole.value),
     };
-    number_of(core, sc, CoreEvent::Close(node, j))
+    core.step(sc, CoreEvent::Close(node, j))
 }
 
-// How many prefixes are pooled and held, and how many records there are.
-fn sizes(core: &CoreState) -> [usize; 3] {
-    [core.pool().len(), core.hands().len(), core.records().len()]
+fn is_not_pooled(answer: Result<(), CoreFault>, path: &Path) -> bool {
+    match &answer {
+        Err(CoreFault::NotPooled(prefix)) => prefix.cells() == path.cells(),
+        _ => false,
+    }
 }
 
-// The one path, closed from first to last: the numbers of the answers.
-fn closed_path(core: &mut CoreState, sc: &Scenario, whole: &Standing) -> [u8; 7]
-    requires balanced { IsBalanced sc.now core.old }
-    requires exact { IsExact sc.now whole.now }
-{
-    let early = take(core, sc, &whole.path);
-    let branched = branch(core, sc);
-    let given = put(core, sc, &whole.path);
-    let taken = take(core, sc, &whole.path);
-    let late = close_path(core, sc, whole, 1);
-    let closed = close_path(core, sc, whole, 0);
-    let again = close_path(core, sc, whole, 0);
-    [early, branched, given, taken, late, closed, again]
+fn is_not_held(answer: Result<(), CoreFault>, path: &Path) -> bool {
+    match &answer {
+        Err(CoreFault::NotHeld(prefix)) => prefix.cells() == path.cells(),
+        _ => false,
+    }
+}
+
+fn is_no_standing(answer: Result<(), CoreFault>, place: usize) -> bool {
+    match answer {
+        Err(CoreFault::NoStanding(j)) => j == place,
+        _ => false,
+    }
+}
+
+// Whether these prefixes are pooled and held, and how many records there are.
+fn shows(core: &CoreState, pool: &[Path], hands: &[Path], records: usize) -> bool {
+    core.pool() == pool && core.hands() == hands && core.records().len() == records
 }
 
 #[test]
 fn the_one_path_is_closed(rt: HostRuntime) -> Result<(), Fail> {
     let sc = one_cell(rt.alloc())?;
     let path = Path::of(&[0]).ok_or("no path")?;
-    let Some(first) = standing_of(&sc, &path) else {
+    let Some(whole) = standing_of(&sc, &path) else {
         return Err("no standing".into());
     };
-    assert_eq!(rt; first.value, 1);
-    let mut core = CoreState::start(rt.alloc(), &sc, first)?;
-    assert_eq!(rt; sizes(&core), [0, 1, 0]);
-    assert_eq!(rt; closed_path(&mut core, &sc, &first), [1, 0, 0, 0, 3, 0, 2]);
-    assert_eq!(rt; sizes(&core), [0, 0, 2]);
+    assert_eq!(rt; whole.value, 1);
+    let mut core = CoreState::start(rt.alloc(), &sc, whole)?;
+    assert!(rt; shows(&core, &[], &[Path::empty()], 0));
+    assert!(rt; is_not_pooled(take(&mut core, &sc, &path), &path));
+    assert!(rt; shows(&core, &[], &[Path::empty()], 0));
+    assert!(rt; branch(&mut core, &sc).is_ok());
+    assert!(rt; shows(&core, &[], &[path], 1));
+    assert!(rt; put(&mut core, &sc, &path).is_ok());
+    assert!(rt; shows(&core, &[path], &[], 1));
+    assert!(rt; take(&mut core, &sc, &path).is_ok());
+    assert!(rt; is_no_standing(close_path(&mut core, &sc, &whole, 1), 1));
+    assert!(rt; shows(&core, &[], &[path], 1));
+    assert!(rt; close_path(&mut core, &sc, &whole, 0).is_ok());
+    assert!(rt; shows(&core, &[], &[], 2));
+    assert!(rt; is_not_held(close_path(&mut core, &sc, &whole, 0), &path));
+    assert!(rt; shows(&core, &[], &[], 2));
     assert_eq!(rt; core.standings().len(), 1);
     Ok(())
 }

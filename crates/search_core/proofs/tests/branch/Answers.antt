@@ -6,8 +6,8 @@ use Rattle.search_core.proofs.FromBounds.{empty_branches}
 use Rattle.search_core.proofs.Answered.{Contains-place}
 use Rattle.search_core.proofs.tests.branch.Goals as goal
 
-pub number_of-requires-clause-allowed : goal.number_of-requires-clause-allowed
-number_of-requires-clause-allowed c = λ held s at.
+pub step-requires-clause-allowed : goal.step-requires-clause-allowed
+step-requires-clause-allowed c = λ held s at.
     let p = c.args.sc.now in
     let standings = c.args.core.now.standings in
     subst (λ q. IsClosed p s q Branch) (sym c.empty.ensures)
