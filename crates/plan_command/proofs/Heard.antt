@@ -1,14 +1,12 @@
 -- What a checker heard of a plan, item by item.
-use Rattle.std.proofs.Common.{ℕ, ◌≡◌, ◌+◌, ◌<◌, ◌≤◌, ◌^◌, ◌⊎◌, inl, inr, List, [], ◌∷◌, ◌++◌, map, length, refl, sym, ap, ◌∙◌, subst, arith, append_assoc, append-nil, length-append, Ok}
+use Rattle.std.proofs.Common.{ℕ, ◌≡◌, ◌+◌, ◌≤◌, inl, inr, List, [], ◌∷◌, ◌++◌, map, length, refl, sym, ap, ◌∙◌, subst, arith, append_assoc, append-nil, length-append}
 use Rattle.search_model.specs.declared.standing.Standing.{Standing}
 use Rattle.search_model.specs.Problem.{Problem, IsProblem}
 use Rattle.bound_tree.specs.declared.node.TreeNode.{TreeNode}
 use Rattle.bound_tree.specs.declared.plan.Plan.{Plan}
 use Rattle.tree_format.specs.declared.plan_item.PlanItem.{PlanItem}
 use Rattle.tree_format.specs.declared.plan_item.PlanItem.TheVariants.{Head, Node, End}
-use Rattle.tree_format.specs.Feeding.{items_of, HasRead, Tells}
-use Rattle.tree_format.specs.FeedSteps.{Stand}
-use Rattle.tree_format.specs.FeedLaws.{AreInOrder}
+use Rattle.tree_format.specs.Feeding.{items_of, Tells}
 use Rattle.tree_format.proofs.FedLaws.{items_in_order}
 use Rattle.tree_checker.specs.declared.tables.BoundTables.{BoundTables}
 use Rattle.tree_checker.specs.Reasons.{first_reason}

@@ -1,6 +1,5 @@
 -- What a judge took of the bytes behind a scenario.
-use Rattle.std.proofs.Common.{ℕ, suc, get_or, ◌≡◌, ◌+◌, ◌<◌, ◌≤◌, ◌^◌, true, false, Bool, List, [], ◌∷◌, ◌++◌, length, take, drop, Result, Ok, Err, refl, sym, ap, ◌∙◌, subst, arith, append_assoc, append-nil, length-append, OnOk, IfErr}
-use Rattle.std.specs.List.{list_all}
+use Rattle.std.proofs.Common.{ℕ, suc, get_or, ◌≡◌, ◌+◌, ◌<◌, ◌≤◌, ◌^◌, true, false, List, [], ◌∷◌, ◌++◌, length, take, drop, Result, Ok, Err, refl, sym, ap, ◌∙◌, subst, arith, append_assoc, append-nil, length-append, OnOk, IfErr}
 use Rattle.std.specs.Prelude.{◌==◌}
 use Rattle.std.proofs.Math.Seq.{take-add, take-suc}
 use Rattle.std.proofs.lemmas.List.{take-append-drop, take_all, drop-append-le}
@@ -16,7 +15,7 @@ use Rattle.tree_format.specs.declared.plan_item.PlanItem.{PlanItem}
 use Rattle.tree_format.specs.Reading.{plan_at}
 use Rattle.tree_format.specs.declared.plan_item.Step.{Step}
 use Rattle.tree_format.specs.declared.plan_item.Step.TheVariants.{More, Item, Fault}
-use Rattle.tree_format.specs.Feeding.{HasRead, IfRead, IfMore, IfItem, IfFaulty, IsDecided, IsWhole, IsCutOff, Tells}
+use Rattle.tree_format.specs.Feeding.{HasRead, IfRead, IfMore, IfItem, IfFaulty, IsDecided, IsWhole, IsCutOff}
 use Rattle.tree_format.specs.FeedSteps.{Stand}
 use Rattle.tree_checker.specs.declared.verdict.Verdict.{Verdict}
 use Rattle.tree_checker.specs.Reasons.{verdict_of, first_reason}
@@ -25,13 +24,12 @@ use Rattle.tree_checker.proofs.Reason.{accepted_verdict}
 use Rattle.plan_command.specs.declared.judge.Judge.{Judge}
 use Rattle.plan_command.specs.declared.intake.Intake.{Intake}
 use Rattle.plan_command.specs.declared.intake.Intake.TheVariants as intakes
-use Rattle.plan_command.specs.declared.intake.Judgement.{Judgement}
 use Rattle.plan_command.specs.declared.status.Stop.{Stop}
 use Rattle.plan_command.specs.declared.status.Stop.TheVariants as stops
 use Rattle.plan_command.specs.Spaces.{is_space, starts_with_space, SkipsSpaces}
-use Rattle.plan_command.specs.Plans.{BeginsWith, IsPlanRest, HasFault}
+use Rattle.plan_command.specs.Plans.{BeginsWith, HasFault}
 use Rattle.plan_command.specs.Commands.{HasBadPlan}
-use Rattle.plan_command.specs.Intakes.{IsNextItem, HasHeard, HasTakenText, HasTakenRest, IsVerdictOn, IsJudged, TellsRest, Judges, IsBehind, LacksPlan, JudgesRest, JudgesFront, Lacks, IsBehindAll, HasTaken, GoesOn}
+use Rattle.plan_command.specs.Intakes.{IsNextItem, HasHeard, HasTakenText, HasTakenRest, IsVerdictOn, TellsRest, Judges, IsBehind, JudgesRest, JudgesFront, Lacks, IsBehindAll, HasTaken, GoesOn}
 use Rattle.plan_command.proofs.Heard.{few_nodes, is_next, plan_reason}
 use Rattle.plan_command.proofs.Reading.{plan_behind}
 

@@ -1,5 +1,4 @@
 use Rattle.std.proofs.Common.{Some}
-use Rattle.plan_command.specs.Inputs.{Source}
 use Rattle.plan_command.proofs.Inputs.{check_answered, check_stopped}
 use Rattle.plan_command.proofs.input.check_input.Goals as goal
 

@@ -1,4 +1,3 @@
-use Rattle.std.proofs.Common.{Some}
 use Rattle.plan_command.specs.Inputs.{Source}
 use Rattle.plan_command.specs.Intakes.{Judges}
 use Rattle.plan_command.proofs.Inputs.{judged_read, stop_read}

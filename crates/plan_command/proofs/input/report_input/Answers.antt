@@ -1,5 +1,4 @@
 use Rattle.std.proofs.Common.{Some}
-use Rattle.plan_command.specs.Inputs.{Source}
 use Rattle.plan_command.proofs.Inputs.{report_answered, report_stopped}
 use Rattle.plan_command.proofs.input.report_input.Goals as goal
 

@@ -1,5 +1,4 @@
-use Rattle.std.proofs.Common.{[], ◌∙◌, subst}
-use Rattle.search_model.specs.Problem.{Problem}
+use Rattle.std.proofs.Common.{[], ◌∙◌}
 use Rattle.plan_command.proofs.Judging.{faulty_rest}
 use Rattle.plan_command.proofs.intake.judge_rest.Goals as goal
 

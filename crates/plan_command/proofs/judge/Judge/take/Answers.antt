@@ -1,4 +1,4 @@
-use Rattle.std.proofs.Common.{ℕ, List, [], length, sym, ◌∙◌, subst, arith}
+use Rattle.std.proofs.Common.{sym, ◌∙◌, subst}
 use Rattle.std.proofs.lemmas.Bool.{eqb-true}
 use Rattle.plan_command.specs.Spaces.{SkipsSpaces}
 use Rattle.plan_command.proofs.Judging.{more_blanks, text_begun, piece_more, piece_fault, first_more, first_wrong, no_text, some_text}
