@@ -1,21 +1,18 @@
 -- A text whose last line has the one word `end`.
-use Rattle.std.proofs.Common.{Bor, Option, Some, None, IfSome, ℕ, zero, suc, ◌≡◌, ◌+◌, ◌-◌, ◌<◌, ◌≤◌, inl, inr, true, false, List, [], ◌∷◌, ◌++◌, get_or, length, take, drop, refl, sym, ap, ◌∙◌, subst, arith, append_assoc, append-nil}
-use Rattle.std.specs.Prelude.{codes, nat_eq, MatchOption}
-use Rattle.std.specs.Cmp.Lexicographic.{pointwise}
-use Rattle.std.proofs.lemmas.Bool.Decides.{Decides-eqb}
-use Rattle.std.proofs.lemmas.Slice.Eq.{strip_suffix_is}
+use Rattle.std.proofs.Common.{ℕ, zero, suc, ◌≡◌, ◌+◌, ◌-◌, ◌<◌, ◌≤◌, inl, inr, true, false, List, [], ◌∷◌, ◌++◌, get_or, length, take, drop, refl, sym, ap, ◌∙◌, subst, arith, append_assoc, append-nil}
+use Rattle.std.specs.Prelude.{codes}
 use Rattle.std.specs.List.{list_all, onto_first}
 use Rattle.std.proofs.lemmas.Bool.{and_parts, ne_eqb}
-use Rattle.std.proofs.lemmas.List.{drop_more, drop_all, take-append-drop}
+use Rattle.std.proofs.lemmas.List.{drop_more, drop_all, take-append-drop, length-take-le, length-append, get_or-take, get_or_push}
 use Rattle.text_rows.specs.Lines.{lines_of}
 use Rattle.text_rows.specs.Fields.{is_blank, ends_field, fields_of}
 use Rattle.scenario_text.specs.Laws.{EndsWithEnd}
 use Rattle.scenario_text.proofs.EndLines.{lines_join}
-use Rattle.plan_command.specs.Ends.{EndsInBlanks, BeginsLine}
+use Rattle.plan_command.specs.Ends.{EndsInNoBlank, EndsInBlanks, BeginsLine}
 
 -- The fields of such a line.
 
-all_blank : (bs : List ℕ) → list_all is_blank bs ≡ true → ends_field bs ≡ true
+pub all_blank : (bs : List ℕ) → list_all is_blank bs ≡ true → ends_field bs ≡ true
 all_blank [] only = refl
 all_blank (c ∷ cs) only = (and_parts (is_blank c) (list_all is_blank cs) only).0
 
@@ -112,14 +109,20 @@ blanks_more text (suc n) some le only here =
     let rest : list_all is_blank (drop (n + 1) text) ≡ true = subst (λ (k : ℕ). list_all is_blank (drop k text) ≡ true) (sym more) only in
     ap (λ (k : ℕ). list_all is_blank (drop k text)) less ∙ ap (list_all is_blank) (drop_more text n 0 (omega (arith, le))) ∙ (rw this rest)
 
-pub blanks_cut : (text : List ℕ) (len : ℕ) → list_all is_blank (drop len text) ≡ true → EndsInBlanks text (take len text)
-blanks_cut text len only = record { blanks = drop len text; only = only; whole = sym (take-append-drop len text) }
+-- what is left ends in no blank
+blanks_all : (text : List ℕ) (len : ℕ) → len ≤ length text → (0 < len → is_blank (get_or text (len - 1) 0) ≡ false) → EndsInNoBlank (take len text)
+blanks_all text len le stops start last e =
+    let long : length (take len text) ≡ len = length-take-le len text le in
+    let size : len ≡ length start + 1 = omega (arith, long, ap length e, length-append start (last ∷ [])) in
+    let place : len - 1 ≡ length start = omega (arith, size) in
+    let this : get_or text (len - 1) 0 ≡ last =
+    ap (λ (k : ℕ). get_or text k 0) place
+    ∙ sym (get_or-take len text (length start) 0 (omega (arith, size)))
+    ∙ ap (λ (t : List ℕ). get_or t (length start) 0) e
+    ∙ get_or_push start last 0 (length start) refl in
+    subst (λ (c : ℕ). is_blank c ≡ false) this (stops (omega (arith, size)))
+
+pub blanks_cut : (text : List ℕ) (len : ℕ) → len ≤ length text → list_all is_blank (drop len text) ≡ true → (0 < len → is_blank (get_or text (len - 1) 0) ≡ false) → EndsInBlanks text (take len text)
+blanks_cut text len le only stops = record { blanks = drop len text; only = only; whole = sym (take-append-drop len text); all = blanks_all text len le stops }
 
 pub ruleset blank_steps = (blanks_none, blanks_more, blanks_cut)
-
--- What std says of a text that ends with some bytes.
-pub stripped : (text end : List ℕ) (r : Option (Bor (List ℕ))) →
-    MatchOption r (pointwise nat_eq (drop (length text - length end) text) end ≡ false) (λ x. (pointwise nat_eq (drop (length text - length end) text) end ≡ true) × (x.now ≡ take (length text - length end) text) × (length x.now + length end ≡ length text)) →
-    IfSome r (λ rest. text ≡ rest.now ++ end)
-stripped text end None m = tt
-stripped text end (Some x) m = strip_suffix_is Decides-eqb text end (Some x) m

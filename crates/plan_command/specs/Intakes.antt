@@ -24,10 +24,18 @@ use Rattle.plan_command.specs.Spaces.{SkipsSpaces}
 use Rattle.plan_command.specs.Plans.{BeginsWith, IsPlanRest, HasFault}
 use Rattle.plan_command.specs.Commands.{IsInput, HasBadPlan}
 
--- bytes were added to the lines of a scenario: all of a piece, or those up to the line `end`
+-- no front of the bytes ends with a line `end`
+abbrev pub HasNoEnd : List ℕ → Type 0
+HasNoEnd bytes = (n : ℕ) → n ≤ length bytes → EndsWithEnd (take n bytes) → ⊥
+
+-- behind the old bytes, no front of a piece with fewer bytes than so many, and one at least, ends with a line `end`
+abbrev pub HasNoEndBefore : List ℕ → List ℕ → ℕ → Type 0
+HasNoEndBefore old piece most = (n : ℕ) → n < most → 0 < n → EndsWithEnd (old ++ take n piece) → ⊥
+
+-- bytes were added to the lines of a scenario: all of a piece, in which no line `end` ends, or those up to the first that does
 abbrev pub HasGathered : List ℕ → List ℕ → Option ℕ → List ℕ → Type 0
-HasGathered old piece None new = new ≡ old ++ piece
-HasGathered old piece (Some used) new = (used ≤ length piece) × (new ≡ old ++ take used piece) × EndsWithEnd new
+HasGathered old piece None new = (new ≡ old ++ piece) × HasNoEndBefore old piece (length piece + 1)
+HasGathered old piece (Some used) new = (used ≤ length piece) × (new ≡ old ++ take used piece) × EndsWithEnd new × HasNoEndBefore old piece used
 
 -- the records among what was told
 abbrev pub nodes_in : List PlanItem → List TreeNode
@@ -133,9 +141,9 @@ pub record IsBehindAll (bytes : List ℕ) (judge : Judge) : Type 0 where
   pub begins : (more : List ℕ) → BeginsWith judge.sc (bytes ++ more) (rest ++ more)
   pub taken : HasTakenRest rest judge
 
--- the bytes that were taken are these
+-- these bytes were taken; they are kept only while none of their fronts ends with a line `end`, so never past the first
 abbrev pub HasTaken : List ℕ → Intake → Type 0
-HasTaken bytes (intakes.Scenario alloc text) = text.items ≡ bytes
+HasTaken bytes (intakes.Scenario alloc text) = (text.items ≡ bytes) × HasNoEnd bytes
 HasTaken bytes (intakes.Plan judge) = IsBehindAll bytes judge
 HasTaken bytes (intakes.Refused stop) = Lacks bytes stop
 
@@ -146,7 +154,7 @@ GoesOn judge piece (intakes.Plan new) = (new.sc ≡ judge.sc) × ((rest : List �
 GoesOn judge piece (intakes.Refused (stops.BadPlan fault)) = (rest more : List ℕ) → HasTakenRest rest judge → HasFault judge.sc (rest ++ piece ++ more) fault
 GoesOn judge piece (intakes.Refused _) = ⊥
 
--- a piece was added to the lines of a scenario, or it was taken where these ended
+-- a piece was added to the lines of a scenario, which didn't end, or it was taken where these ended
 abbrev pub GathersOn : List ℕ → List ℕ → List ℕ → Option Intake → Type 0
-GathersOn old piece new None = new ≡ old ++ piece
+GathersOn old piece new None = (new ≡ old ++ piece) × HasNoEndBefore old piece (length piece + 1)
 GathersOn old piece new (Some intake) = HasTaken (old ++ piece) intake

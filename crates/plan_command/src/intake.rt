@@ -1,6 +1,6 @@
 //! The input of a request that judges a plan, which comes in pieces.
 
-ghost use Rattle.std.specs.Prelude.{◌≡◌, ◌≤◌, ◌++◌, [], ℕ, List, length, take, IfOk};
+ghost use Rattle.std.specs.Prelude.{◌++◌, [], ℕ, List, IfOk};
 ghost use Rattle.scenario_text.specs.Laws.{EndsWithEnd};
 ghost use Rattle.plan_command.specs.Intakes.{HasGathered, GathersOn, HasTakenRest, GoesOn, IsBehind, JudgesRest, JudgesFront, Judges, HasTaken};
 
@@ -34,8 +34,8 @@ pub struct Judgement {
     pub verdict: Verdict,
 }
 
-/// Adds bytes to the scenario's lines up to the line `end`: how many, where that line came.
-#[tactic(auto, using(crate::proofs::Judging::gathered_byte))]
+/// Adds bytes to the scenario's lines up to the first line `end`: how many, where that line came.
+#[tactic(auto, using(crate::proofs::Gathering::gather_steps))]
 fn gather(text: &mut Vec<u8>, piece: &[u8]) -> Result<Option<usize>, NoMemory>
     ensures { IfOk result (λ used. HasGathered text.old.items piece.now used text.new.items) }
 {

@@ -556,6 +556,29 @@ fn many_workers_find_the_same_path(rt: HostRuntime) -> Result<(), Fail> {
     Ok(())
 }
 
+/// Whether each of so many plans of a scenario is accepted, and has this path and chance.
+fn are_planned<R: AllocGlobal + Threads + Wait + Sync>(
+    rt: &R,
+    words: &str,
+    scenario: &str,
+    expected: &str,
+    runs: u32,
+) -> Result<bool, Fail> {
+    for _ in 0..runs {
+        if checked_plan(rt, words, scenario)?.as_slice() != expected.as_bytes() {
+            return Ok(false);
+        }
+    }
+    Ok(true)
+}
+
+#[test]
+fn a_hundred_plans_by_two_workers(rt: HostRuntime) -> Result<(), Fail> {
+    let expected = "path c c c\nchance 7 8";
+    assert!(rt; are_planned(&rt, "plan --workers 2", WAITING_LONGER, expected, 100)?);
+    Ok(())
+}
+
 #[test]
 fn faults(rt: HostRuntime) -> Result<(), Fail> {
     let read = refused("plan", TWO_CELLS, "", Status::ReadFault, "read fault\n");

@@ -1,5 +1,6 @@
-use Rattle.plan_command.proofs.EndWords.{stripped}
+use Rattle.std.proofs.lemmas.Bool.Decides.{Decides-eqb}
+use Rattle.std.proofs.lemmas.Slice.Eq.{strip_suffix_is}
 use Rattle.plan_command.proofs.scenario_end.without.Goals as goal
 
 pub returns : goal.returns
-returns c = stripped _ _ c.strip_suffix.result c.strip_suffix.ensures.cases
+returns c = strip_suffix_is Decides-eqb c.args.text.now c.args.end.now c.strip_suffix.result c.strip_suffix.ensures.cases
