@@ -11,11 +11,14 @@ use Rattle.text_rows.specs.Lines.{lines_of, after_lines}
 use Rattle.text_rows.specs.Fields.{fields_of, is_text_byte}
 use Rattle.scenario_text.specs.Fields.{says_nothing}
 use Rattle.scenario_text.specs.State.{State, blank_state}
-use Rattle.scenario_text.specs.Reading.{Front, lacks_row, is_narrow, stage_line, line_at, lines_at, go_on, unless_ended, front_of}
+use Rattle.scenario_text.specs.Reading.{Front, line_at, lines_at, go_on, unless_ended, front_of}
+use Rattle.scenario_text.specs.KindTable.{lacks_row, is_narrow}
+use Rattle.scenario_text.specs.Mirror.{stage_line}
 use Rattle.scenario_text.specs.Laws.{EndsWithEnd, FrontIgnoresRest}
 use Rattle.scenario_text.proofs.SoundFields.{not_refused}
 use Rattle.text_rows.proofs.Results.{err_ok}
 use Rattle.scenario_text.proofs.FrontLines.{front_line}
+use Rattle.scenario_text.proofs.Tables.{line_mirrored}
 
 -- Such a line is the last one, or has a fault.
 
@@ -33,11 +36,10 @@ stage_ends Rows s t e = ended s t (not_refused (not (is_narrow s)) TooWide _ t (
 stage_ends Ended s t e = absurd (err_ok BadLine t e)
 
 line_ends : (s t : State) (line : List ℕ) → fields_of line ≡ codes "end" ∷ [] → line_at s line ≡ Ok t → t.stage ≡ Ended
-unfolding line_at
 line_ends s t line word e =
     let reads : List (List ℕ) → Type 0 =
     λ fields. (if says_nothing fields then Ok s else (if not (list_all is_text_byte line) then Err NotText else stage_line s.stage s fields)) ≡ Ok t in
-    stage_ends s.stage s t (not_refused (not (list_all is_text_byte line)) NotText _ t (subst reads word e)).1
+    stage_ends s.stage s t (not_refused (not (list_all is_text_byte line)) NotText _ t (subst reads word (sym (line_mirrored s line) ∙ e))).1
 
 -- What follows it isn't looked at.
 

@@ -12,7 +12,7 @@ use Rattle.scenario_text.specs.declared.stop.LineStop.{LineStop}
 use Rattle.text_rows.specs.Fields.{is_word}
 use Rattle.scenario_text.specs.Gives.{TakesLine}
 use Rattle.scenario_text.specs.State.{State}
-use Rattle.scenario_text.specs.Reading.{version_line, horizon_line, parts_line, cells_line, start_line, first_line, first_pairs, moves_line, drift_line, overlook_line, spread_line, rate_line, end_line, row_line, stage_line}
+use Rattle.scenario_text.specs.Mirror.{version_line, horizon_line, parts_line, cells_line, start_line, first_line, first_pairs, moves_line, drift_line, overlook_line, spread_line, rate_line, end_line, row_line, stage_line}
 
 -- Lists of which a front is known.
 

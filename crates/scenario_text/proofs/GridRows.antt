@@ -26,7 +26,10 @@ use Rattle.text_rows.proofs.Results.{err_ok, let_through, same_ok}
 use Rattle.scenario_text.specs.Fields.{says_nothing, is_bad, is_over, number_in, cell_named, has_double, are_pairs, pairs_of, pairs_fault, entries_of, total_of}
 use Rattle.search_model.specs.Grids.{grid_name, grid_names}
 use Rattle.scenario_text.specs.State.{State}
-use Rattle.scenario_text.specs.Reading.{with_cells, with_start, start_line, cells_line, unless_fault, with_first, first_line, has_moves, has_parts, has_overlook, with_moves, moves_line, unknown_after, with_parts_of, drift_line, with_overlook, overlook_line, spread_part, spread_line, rate_line, lacks_row, is_narrow, end_line, row_line, stage_line, line_at}
+use Rattle.scenario_text.specs.Reading.{line_at}
+use Rattle.scenario_text.specs.KindTable.{has_moves, has_parts, has_overlook, lacks_row, is_narrow}
+use Rattle.scenario_text.specs.Grammar.{with_cells}
+use Rattle.scenario_text.specs.Mirror.{with_start, start_line, cells_line, unless_fault, with_first, first_line, with_moves, moves_line, unknown_after, with_parts_of, drift_line, with_overlook, overlook_line, spread_part, spread_line, rate_line, end_line, row_line, stage_line}
 use Rattle.scenario_text.specs.Sound.{IsSound}
 use Rattle.scenario_text.specs.Faults.{AreTaken}
 use Rattle.scenario_text.specs.InRows.{line_text, for_each, GridInRows, GridReadsOn}
@@ -42,7 +45,7 @@ use Rattle.scenario_text.proofs.SoundFields.{not_refused}
 use Rattle.scenario_text.proofs.SoundHeads.{no_grid, no_fault}
 use Rattle.scenario_text.proofs.SoundNames.{IsName-grid, grid_count, All-grid_names, grid_differ}
 use Rattle.scenario_text.proofs.Soundness.{reached_sound}
-use Rattle.scenario_text.proofs.Tables.{apart}
+use Rattle.scenario_text.proofs.Tables.{apart, line_mirrored}
 
 -- lines behind others
 taken_behind : (lines more : List (List ℕ)) (s t u : State) → AreTaken s lines t → AreTaken t more u → AreTaken s (lines ++ more) u
@@ -122,16 +125,14 @@ failing false x y e = refl
 
 -- a line that says something is read by its fields
 line_of_fields : (a : State) (line : List ℕ) → says_nothing (fields_of line) ≡ false → list_all is_text_byte line ≡ true → line_at a line ≡ stage_line a.stage a (fields_of line)
-unfolding line_at
-line_of_fields a line speaks text = rw (speaks, text) refl
+line_of_fields a line speaks text = line_mirrored a line ∙ rw (speaks, text) refl
 
 read_fields : (a a' : State) (line : List ℕ) → line_at a line ≡ Ok a' → (a' ≡ a) ⊎ ((says_nothing (fields_of line) ≡ false) × (list_all is_text_byte line ≡ true) × (stage_line a.stage a (fields_of line) ≡ Ok a'))
-unfolding line_at
 read_fields a a' line e =
     let G : Result State TextKind → Type 0 = λ r. r ≡ Ok a' → (a' ≡ a) ⊎ ((says_nothing (fields_of line) ≡ false) × (list_all is_text_byte line ≡ true) × (stage_line a.stage a (fields_of line) ≡ Ok a')) in
     cond_both (says_nothing (fields_of line)) (Ok a) _ G
     (λ _ e'. inl (sym (same_ok a a' e')))
-    (λ speaks e'. let text = not_refused (not (list_all is_text_byte line)) NotText _ a' e' in inr (speaks, not_false (list_all is_text_byte line) text.0, text.1)) e
+    (λ speaks e'. let text = not_refused (not (list_all is_text_byte line)) NotText _ a' e' in inr (speaks, not_false (list_all is_text_byte line) text.0, text.1)) (sym (line_mirrored a line) ∙ e)
   where
     not_false : (b : Bool) → not b ≡ false → b ≡ true
     not_false true h = refl
@@ -411,8 +412,8 @@ module _ (s : State) where
       (kept_test (is_word key (codes "end")) (end_line s fields) (Err BadLine) (end_line marked fields) (Err BadLine) (kept_end fields) (kept_none BadLine (Err BadLine)))))))
 
 pub grid_reads_on : GridReadsOn
-unfolding line_at
 grid_reads_on s t line at without e =
+    line_mirrored (record s { gridded = true }) line ∙
     kept_test (says_nothing (fields_of line)) (Ok s) (cond (not (list_all is_text_byte line)) (Err NotText) (stage_line s.stage s (fields_of line))) (Ok (record s { gridded = true })) (cond (not (list_all is_text_byte line)) (Err NotText) (stage_line s.stage (record s { gridded = true }) (fields_of line))) (kept s)
     (kept_past (not (list_all is_text_byte line)) NotText (stage_line s.stage s (fields_of line)) (stage_line s.stage (record s { gridded = true }) (fields_of line))
-    (subst (λ (g : Stage). IsKept (stage_line g s (fields_of line)) (stage_line g (record s { gridded = true }) (fields_of line))) (sym at) (kept_row s (fields_of line) without))) t e
+    (subst (λ (g : Stage). IsKept (stage_line g s (fields_of line)) (stage_line g (record s { gridded = true }) (fields_of line))) (sym at) (kept_row s (fields_of line) without))) t (sym (line_mirrored s line) ∙ e)

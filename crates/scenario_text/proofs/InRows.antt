@@ -16,7 +16,7 @@ use Rattle.scenario_text.specs.declared.draft.Stage.TheVariants as due
 use Rattle.scenario_text.specs.Fields.{stands_in, has_double}
 use Rattle.search_model.specs.Grids.{spread_row, spread_rows}
 use Rattle.scenario_text.specs.State.{State}
-use Rattle.scenario_text.specs.Reading.{stage_line}
+use Rattle.scenario_text.specs.Mirror.{stage_line}
 use Rattle.scenario_text.specs.Sound.{AreEntries, AreMoves, IsSound}
 use Rattle.scenario_text.specs.Faults.{AreTaken}
 use Rattle.scenario_text.specs.InRows.{line_text, for_each, RateInRows, SpreadInRows}

@@ -34,6 +34,7 @@ pub mod FrontLines
 pub mod EndLines
 pub mod FirstFaults
 pub mod Tables
+pub mod KindOrder
 pub mod Answered
 pub mod InRows
 pub mod GridRows

@@ -8,8 +8,10 @@ use Rattle.text_rows.proofs.LineCuts.{after_none}
 use Rattle.scenario_text.specs.declared.draft.Stage.TheVariants.{Ended}
 use Rattle.scenario_text.specs.State.{State}
 use Rattle.scenario_text.specs.Fields.{says_nothing}
-use Rattle.scenario_text.specs.Reading.{stage_line, line_at, lines_at}
+use Rattle.scenario_text.specs.Reading.{line_at, lines_at}
+use Rattle.scenario_text.specs.Mirror.{stage_line}
 use Rattle.scenario_text.proofs.Loop.{at_line, at_last}
+use Rattle.scenario_text.proofs.Tables.{line_mirrored}
 
 -- a state takes a row of fields and becomes another
 pub record Takes (s : State) (row : List (List ℕ)) (t : State) : Type 0 where
@@ -24,8 +26,7 @@ pub record Reads (s : State) (rows : List (List (List ℕ))) (t : State) : Type 
 
 -- a row is read as its fields
 pub line_at-fields : (s : State) (row : List (List ℕ)) → AreFields row → says_nothing row ≡ false → line_at s (join_with_byte 32 row) ≡ stage_line s.stage s row
-unfolding line_at
-line_at-fields s row fields says = rw (fields_of-join row fields, says, row_is_text row fields) refl
+line_at-fields s row fields says = line_mirrored s (join_with_byte 32 row) ∙ rw (fields_of-join row fields, says, row_is_text row fields) refl
 
 pub line_at-row : (s t : State) (row : List (List ℕ)) → Takes s row t → line_at s (join_with_byte 32 row) ≡ Ok t
 line_at-row s t row h = line_at-fields s row h.fields h.says ∙ h.taken

@@ -1,5 +1,5 @@
 -- Each line keeps what holds of all that lines give.
-use Rattle.std.proofs.Common.{◌≡◌, ℕ, ◌≤◌, List, [], ◌∷◌, length, Ok, refl, subst, arith, ◌⊎◌}
+use Rattle.std.proofs.Common.{◌≡◌, ℕ, ◌≤◌, List, [], ◌∷◌, length, Ok, refl, sym, ◌∙◌, subst, arith, ◌⊎◌}
 use Rattle.std.specs.Prelude.{not, All, codes}
 use Rattle.std.specs.List.{list_all}
 use Rattle.std.proofs.lemmas.List.Elements.{All-nil}
@@ -12,11 +12,13 @@ use Rattle.text_rows.proofs.FieldCuts.{fields_some}
 use Rattle.text_rows.proofs.Results.{err_ok}
 use Rattle.scenario_text.specs.Fields.{says_nothing}
 use Rattle.scenario_text.specs.State.{State, blank_state}
-use Rattle.scenario_text.specs.Reading.{moves_line, drift_line, overlook_line, spread_line, rate_line, end_line, row_line, stage_line, line_at}
+use Rattle.scenario_text.specs.Reading.{line_at}
+use Rattle.scenario_text.specs.Mirror.{moves_line, drift_line, overlook_line, spread_line, rate_line, end_line, row_line, stage_line}
 use Rattle.scenario_text.specs.Sound.{AreEntries, AreMoves, IsPart, IsSound}
 use Rattle.scenario_text.specs.Faults.{AreTaken}
 use Rattle.scenario_text.specs.InRows.{IsReached}
 use Rattle.scenario_text.proofs.SoundFields.{not_refused}
+use Rattle.scenario_text.proofs.Tables.{line_mirrored}
 use Rattle.scenario_text.proofs.SoundHeads.{sound_ok, reached, by_word, version_sound, horizon_sound, parts_sound, cells_sound, start_sound, first_sound}
 use Rattle.scenario_text.proofs.SoundLines.{moves_sound, drift_sound, overlook_sound, spread_sound, rate_sound, end_sound}
 
@@ -63,10 +65,9 @@ stage_sound Rows s fields t at h some e = row_sound s fields t at h e
 stage_sound Ended s fields t at h some e = absurd (err_ok BadLine t e)
 
 pub line_sound : (s t : State) (line : List ℕ) → IsSound s → line_at s line ≡ Ok t → IsSound t
-unfolding line_at
 line_sound s t line h e =
     by_word (says_nothing (fields_of line)) (Ok s) _ t (λ same. sound_ok s t same h)
-    (λ e'. stage_sound s.stage s (fields_of line) t refl h (fields_some line) ((not_refused (not (list_all is_text_byte line)) NotText (stage_line s.stage s (fields_of line)) t e').1)) e
+    (λ e'. stage_sound s.stage s (fields_of line) t refl h (fields_some line) ((not_refused (not (list_all is_text_byte line)) NotText (stage_line s.stage s (fields_of line)) t e').1)) (sym (line_mirrored s line) ∙ e)
 
 -- and so what some right lines say
 pub taken_sound : (lines : List (List ℕ)) (s t : State) → IsSound s → AreTaken s lines t → IsSound t

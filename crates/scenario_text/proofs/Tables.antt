@@ -1,4 +1,4 @@
--- A line has the fault that the table of kinds gives.
+-- The code's own words for a line give what the table gives.
 use Rattle.std.specs.Str.{bytes_eq}
 use Rattle.std.proofs.Common.{◌≡◌, ℕ, zero, suc, ◌+◌, ◌*◌, ◌-◌, Bool, true, false, cond, List, [], ◌∷◌, length, map, Option, Some, None, Result, Ok, Err, refl, sym, ap, subst, ◌∙◌, arith, inl, inr, get_or}
 use Rattle.std.specs.Prelude.{not, ◌&&◌, ◌||◌, ◌==◌, nat_le, nat_lt, is_none, is_some, set, unwrap_or, sum_by, codes}
@@ -14,34 +14,43 @@ use Rattle.scenario_text.specs.declared.draft.Stage.{Stage}
 use Rattle.scenario_text.specs.declared.draft.Stage.TheVariants as due
 use Rattle.scenario_text.specs.declared.kind.TextKind.{TextKind}
 use Rattle.scenario_text.specs.declared.kind.TextKind.TheVariants.{NotText, BadLine, BadNumber, OverLimit, UnknownName, DoubleName, MissingRow, DoubleRow, WrongSum, PartOver, NoMove, TooWide}
-use Rattle.text_rows.specs.Fields.{fields_of, is_text_byte, is_word}
+use Rattle.text_rows.specs.Fields.{fields_of, is_text_byte, is_word, behind_first}
 use Rattle.exact_parts.specs.Decimal.{number_at}
 use Rattle.list_laws.proofs.Mapped.{list_any-map}
 use Rattle.list_laws.proofs.Sums.{sum_by-map}
 use Rattle.scenario_text.specs.Fields.{says_nothing, is_bad, is_over, number_in, cell_named, stands_in, has_double, are_pairs, pairs_of, total_of}
 use Rattle.scenario_text.specs.State.{State}
-use Rattle.scenario_text.specs.Reading.{version_line, horizon_line, parts_line, cell_line, with_grid, with_start, start_line, cells_line, unless_fault, first_pairs, first_line, has_moves, has_parts, has_overlook, with_moves, moves_line, unknown_after, drift_pairs, drift_line, overlook_part, overlook_line, spread_line, rate_line, lacks_row, is_narrow, end_line, row_line, stage_line, line_at}
-use Rattle.scenario_text.specs.KindTable.{Line, Scenario, Horizon, Parts, Cell, Grid, Start, First, Moves, Drift, Overlook, Spread, Rate, End, row_due, line_due, pair_names, pair_parts, stands_twice, holds_of, is_bad_line, tests, tests_of, KindsByTable}
-use Rattle.text_rows.specs.Kinds.{first_kind, fault_of}
+use Rattle.scenario_text.specs.declared.draft.Draft.{Draft}
+use Rattle.scenario_text.specs.declared.stop.LineStop.{LineStop}
+use Rattle.scenario_text.specs.Gives.{TakesLine}
+use Rattle.scenario_text.specs.Mirror.{version_line, horizon_line, parts_line, cell_line, with_grid, with_start, start_line, cells_line, unless_fault, first_pairs, first_line, with_moves, moves_line, unknown_after, drift_pairs, drift_line, overlook_part, overlook_line, spread_line, rate_line, end_line, row_line, stage_line, mirrored}
+use Rattle.scenario_text.specs.Reading.{line_at}
+use Rattle.scenario_text.specs.Grammar.{cell_of, entries_in, adds, added, unless_any}
+use Rattle.list_laws.proofs.Mapped.{map-map}
+use Rattle.scenario_text.specs.KindTable.{Line, Scenario, Horizon, Parts, Cell, Grid, Start, First, Moves, Drift, Overlook, Spread, Rate, End, row_due, line_due, pair_names, pair_parts, stands_twice, holds_of, is_bad_line, tests, line_of, has_moves, has_parts, has_overlook, lacks_row, is_narrow}
 
 -- the kinds in their order, by what the tests give
-abbrev table_of : Bool → Bool → Bool → Bool → Bool → Bool → Bool → Bool → Bool → Bool → Bool → Option TextKind
-table_of line number over unknown double missing row sum part move wide =
-    first_kind
-    ((line, BadLine) ∷ (number, BadNumber) ∷ (over, OverLimit) ∷ (unknown, UnknownName) ∷ (double, DoubleName) ∷ (missing, MissingRow) ∷ (row, DoubleRow) ∷ (sum, WrongSum) ∷ (part, PartOver) ∷ (move, NoMove) ∷ (wide, TooWide) ∷ [])
+abbrev table_of : Bool → Bool → Bool → Bool → Bool → Bool → Bool → Bool → Bool → Bool → Bool → State → Result State TextKind
+table_of line number over unknown double missing row sum part move wide t =
+    unless_any
+    ((line, BadLine) ∷ (number, BadNumber) ∷ (over, OverLimit) ∷ (unknown, UnknownName) ∷ (double, DoubleName) ∷ (missing, MissingRow) ∷ (row, DoubleRow) ∷ (sum, WrongSum) ∷ (part, PartOver) ∷ (move, NoMove) ∷ (wide, TooWide) ∷ []) t
+
+-- the row of the line that is due, if one is
+abbrev due_row : Option Line → State → List (List ℕ) → Result State TextKind
+due_row line s fields = unless_any (tests s line fields) (added line s fields)
 
 -- Each line, with the tests as they come out.
 
-version_by : (one : Bool) (s : State) → fault_of (cond one (Ok s) (Err BadLine)) ≡ table_of (not (one && true)) false false false false false false false false false false
+version_by : (one : Bool) (s : State) → cond one (Ok s) (Err BadLine) ≡ table_of (not (one && true)) false false false false false false false false false false s
 version_by true s = refl
 version_by false s = refl
 
-number_by : (bad over : Bool) (s : State) → fault_of (cond bad (Err BadNumber) (cond over (Err OverLimit) (Ok s))) ≡ table_of false (bad || false) ((over || false) || false) false false false false false false false false
+number_by : (bad over : Bool) (s : State) → cond bad (Err BadNumber) (cond over (Err OverLimit) (Ok s)) ≡ table_of false (bad || false) ((over || false) || false) false false false false false false false false s
 number_by true over s = refl
 number_by false true s = refl
 number_by false false s = refl
 
-parts_by : (b c d o p q : Bool) (s : State) → fault_of (cond (b || (c || d)) (Err BadNumber) (cond (o || (p || q)) (Err OverLimit) (Ok s))) ≡ table_of false (b || (c || (d || false))) ((o || (p || (q || false))) || false) false false false false false false false false
+parts_by : (b c d o p q : Bool) (s : State) → cond (b || (c || d)) (Err BadNumber) (cond (o || (p || q)) (Err OverLimit) (Ok s)) ≡ table_of false (b || (c || (d || false))) ((o || (p || (q || false))) || false) false false false false false false false false s
 parts_by true c d o p q s = refl
 parts_by false true d o p q s = refl
 parts_by false false true o p q s = refl
@@ -50,14 +59,14 @@ parts_by false false false false true q s = refl
 parts_by false false false false false true s = refl
 parts_by false false false false false false s = refl
 
-cell_by : (right long many known : Bool) (s : State) → fault_of (cond (not right) (Err BadLine) (cond (long || many) (Err OverLimit) (cond known (Err DoubleName) (Ok s)))) ≡ table_of (not (right && true)) false ((long || false) || many) false (known || false) false false false false false false
+cell_by : (right long many known : Bool) (s : State) → cond (not right) (Err BadLine) (cond (long || many) (Err OverLimit) (cond known (Err DoubleName) (Ok s))) ≡ table_of (not (right && true)) false ((long || false) || many) false (known || false) false false false false false false s
 cell_by false long many known s = refl
 cell_by true true many known s = refl
 cell_by true false true known s = refl
 cell_by true false false true s = refl
 cell_by true false false false s = refl
 
-grid_by : (b c o p big : Bool) (s : State) → fault_of (cond (b || c) (Err BadNumber) (cond ((o || p) || big) (Err OverLimit) (Ok s))) ≡ table_of false (b || (c || false)) ((o || (p || false)) || big) false false false false false false false false
+grid_by : (b c o p big : Bool) (s : State) → cond (b || c) (Err BadNumber) (cond ((o || p) || big) (Err OverLimit) (Ok s)) ≡ table_of false (b || (c || false)) ((o || (p || false)) || big) false false false false false false false false s
 grid_by true c o p big s = refl
 grid_by false true o p big s = refl
 grid_by false false true p big s = refl
@@ -65,13 +74,13 @@ grid_by false false false true big s = refl
 grid_by false false false false true s = refl
 grid_by false false false false false s = refl
 
-start_by : (s : State) (c : Option ℕ) → fault_of (with_start s c) ≡ table_of false false false (is_none c || false) false false false false false false false
+start_by : (s : State) (c : Option ℕ) → with_start s c ≡ table_of false false false (is_none c || false) false false false false false false false (record s { stage = due.First; start = unwrap_or c 0 })
 start_by s None = refl
 start_by s (Some c) = refl
 
 pairs_by : (form bad over unknown double whole : Bool) (s : State) →
-    fault_of (cond form (unless_fault (cond bad (Some BadNumber) (cond over (Some OverLimit) (cond unknown (Some UnknownName) (cond double (Some DoubleName) None)))) (cond (not whole) (Err WrongSum) (Ok s))) (Err BadLine))
-    ≡ table_of (not form || false) bad (over || false) unknown double false false (not whole) false false false
+    cond form (unless_fault (cond bad (Some BadNumber) (cond over (Some OverLimit) (cond unknown (Some UnknownName) (cond double (Some DoubleName) None)))) (cond (not whole) (Err WrongSum) (Ok s))) (Err BadLine)
+    ≡ table_of (not form || false) bad (over || false) unknown double false false (not whole) false false false s
 pairs_by false bad over unknown double whole s = refl
 pairs_by true true over unknown double whole s = refl
 pairs_by true false true unknown double whole s = refl
@@ -81,19 +90,19 @@ pairs_by true false false false false true s = refl
 pairs_by true false false false false false s = refl
 
 -- a row of drift, whose cell is unknown or has a row
-unknown_by : (form bad over unknown double : Bool) (row sum : Bool) →
-    fault_of {X = State} (cond form (Err (unknown_after (cond bad (Some BadNumber) (cond over (Some OverLimit) (cond unknown (Some UnknownName) (cond double (Some DoubleName) None)))))) (Err BadLine))
-    ≡ table_of (not form || false) bad (over || false) true double false row sum false false false
-unknown_by false bad over unknown double row sum = refl
-unknown_by true true over unknown double row sum = refl
-unknown_by true false true unknown double row sum = refl
-unknown_by true false false true double row sum = refl
-unknown_by true false false false true row sum = refl
-unknown_by true false false false false row sum = refl
+unknown_by : (form bad over unknown double : Bool) (row sum : Bool) (t : State) →
+    cond form (Err (unknown_after (cond bad (Some BadNumber) (cond over (Some OverLimit) (cond unknown (Some UnknownName) (cond double (Some DoubleName) None)))))) (Err BadLine)
+    ≡ table_of (not form || false) bad (over || false) true double false row sum false false false t
+unknown_by false bad over unknown double row sum t = refl
+unknown_by true true over unknown double row sum t = refl
+unknown_by true false true unknown double row sum t = refl
+unknown_by true false false true double row sum t = refl
+unknown_by true false false false true row sum t = refl
+unknown_by true false false false false row sum t = refl
 
 drift_by : (form bad over unknown double row whole : Bool) (s : State) →
-    fault_of (cond form (unless_fault (cond bad (Some BadNumber) (cond over (Some OverLimit) (cond unknown (Some UnknownName) (cond double (Some DoubleName) None)))) (cond row (Err DoubleRow) (cond (not whole) (Err WrongSum) (Ok s)))) (Err BadLine))
-    ≡ table_of (not form || false) bad (over || false) unknown double false row (not whole) false false false
+    cond form (unless_fault (cond bad (Some BadNumber) (cond over (Some OverLimit) (cond unknown (Some UnknownName) (cond double (Some DoubleName) None)))) (cond row (Err DoubleRow) (cond (not whole) (Err WrongSum) (Ok s)))) (Err BadLine)
+    ≡ table_of (not form || false) bad (over || false) unknown double false row (not whole) false false false s
 drift_by false bad over unknown double row whole s = refl
 drift_by true true over unknown double row whole s = refl
 drift_by true false true unknown double row whole s = refl
@@ -104,8 +113,8 @@ drift_by true false false false false false true s = refl
 drift_by true false false false false false false s = refl
 
 moves_by : (many unknown double row none : Bool) (s : State) →
-    fault_of (cond many (Err OverLimit) (cond unknown (Err UnknownName) (cond double (Err DoubleName) (cond row (Err DoubleRow) (cond none (Err NoMove) (Ok s))))))
-    ≡ table_of false false many unknown double false row false false none false
+    cond many (Err OverLimit) (cond unknown (Err UnknownName) (cond double (Err DoubleName) (cond row (Err DoubleRow) (cond none (Err NoMove) (Ok s)))))
+    ≡ table_of false false many unknown double false row false false none false s
 moves_by true unknown double row none s = refl
 moves_by false true double row none s = refl
 moves_by false false true row none s = refl
@@ -114,21 +123,21 @@ moves_by false false false false true s = refl
 moves_by false false false false false s = refl
 
 -- a row of moves, whose cell is unknown
-lost_by : (many : Bool) (unknown double row none : Bool) → fault_of {X = State} (cond many (Err OverLimit) (Err UnknownName)) ≡ table_of false false many true double false row false false none false
-lost_by true unknown double row none = refl
-lost_by false unknown double row none = refl
+lost_by : (many : Bool) (unknown double row none : Bool) (t : State) → cond many (Err OverLimit) (Err UnknownName) ≡ table_of false false many true double false row false false none false t
+lost_by true unknown double row none t = refl
+lost_by false unknown double row none t = refl
 
-overlook_by : (s : State) (c : Option ℕ) (n : Number) → fault_of (overlook_part s c n)
-    ≡ table_of false (is_bad 0 n || false) ((is_over n || false) || false) (is_none c || false) false false (holds_of c (has_overlook s)) false (nat_lt s.look (number_in n)) false false
-overlook_by s None n = by_bools (is_bad 0 n) (is_over n)
+overlook_by : (s : State) (c : Option ℕ) (n : Number) → overlook_part s c n
+    ≡ table_of false (is_bad 0 n || false) ((is_over n || false) || false) (is_none c || false) false false (holds_of c (has_overlook s)) false (nat_lt s.look (number_in n)) false false (record s { overlook = set s.overlook (unwrap_or c 0) (Some (number_in n)) })
+overlook_by s None n = by_bools (is_bad 0 n) (is_over n) (record s { overlook = set s.overlook 0 (Some (number_in n)) })
   where
-    by_bools : (bad over : Bool) → fault_of {X = State} (cond bad (Err BadNumber) (cond over (Err OverLimit) (Err UnknownName))) ≡ table_of false (bad || false) ((over || false) || false) true false false false false (nat_lt s.look (number_in n)) false false
-    by_bools true over = refl
-    by_bools false true = refl
-    by_bools false false = refl
+    by_bools : (bad over : Bool) (t : State) → cond bad (Err BadNumber) (cond over (Err OverLimit) (Err UnknownName)) ≡ table_of false (bad || false) ((over || false) || false) true false false false false (nat_lt s.look (number_in n)) false false t
+    by_bools true over t = refl
+    by_bools false true t = refl
+    by_bools false false t = refl
 overlook_by s (Some c) n = by_bools (is_bad 0 n) (is_over n) (has_overlook s c) (nat_lt s.look (number_in n)) _
   where
-    by_bools : (bad over row part : Bool) (t : State) → fault_of (cond bad (Err BadNumber) (cond over (Err OverLimit) (cond row (Err DoubleRow) (cond part (Err PartOver) (Ok t))))) ≡ table_of false (bad || false) ((over || false) || false) false false false row false part false false
+    by_bools : (bad over row part : Bool) (t : State) → cond bad (Err BadNumber) (cond over (Err OverLimit) (cond row (Err DoubleRow) (cond part (Err PartOver) (Ok t)))) ≡ table_of false (bad || false) ((over || false) || false) false false false row false part false false t
     by_bools true over row part t = refl
     by_bools false true row part t = refl
     by_bools false false true part t = refl
@@ -136,8 +145,8 @@ overlook_by s (Some c) n = by_bools (is_bad 0 n) (is_over n) (has_overlook s c) 
     by_bools false false false false t = refl
 
 spread_by : (gridded bad over row sum : Bool) (s : State) →
-    fault_of (cond gridded (cond bad (Err BadNumber) (cond over (Err OverLimit) (cond row (Err DoubleRow) (cond sum (Err WrongSum) (Ok s))))) (Err BadLine))
-    ≡ table_of (not gridded) (bad || false) ((over || false) || false) false false false row sum false false false
+    cond gridded (cond bad (Err BadNumber) (cond over (Err OverLimit) (cond row (Err DoubleRow) (cond sum (Err WrongSum) (Ok s))))) (Err BadLine)
+    ≡ table_of (not gridded) (bad || false) ((over || false) || false) false false false row sum false false false s
 spread_by false bad over row sum s = refl
 spread_by true true over row sum s = refl
 spread_by true false true row sum s = refl
@@ -145,14 +154,14 @@ spread_by true false false true sum s = refl
 spread_by true false false false true s = refl
 spread_by true false false false false s = refl
 
-rate_by : (bad over row part : Bool) (s : State) → fault_of (cond bad (Err BadNumber) (cond over (Err OverLimit) (cond row (Err DoubleRow) (cond part (Err PartOver) (Ok s))))) ≡ table_of false (bad || false) ((over || false) || false) false false false row false part false false
+rate_by : (bad over row part : Bool) (s : State) → cond bad (Err BadNumber) (cond over (Err OverLimit) (cond row (Err DoubleRow) (cond part (Err PartOver) (Ok s)))) ≡ table_of false (bad || false) ((over || false) || false) false false false row false part false false s
 rate_by true over row part s = refl
 rate_by false true row part s = refl
 rate_by false false true part s = refl
 rate_by false false false true s = refl
 rate_by false false false false s = refl
 
-end_by : (lacks narrow : Bool) (s : State) → fault_of (cond lacks (Err MissingRow) (cond (not narrow) (Err TooWide) (Ok s))) ≡ table_of false false false false false lacks false false false false (not narrow)
+end_by : (lacks narrow : Bool) (s : State) → cond lacks (Err MissingRow) (cond (not narrow) (Err TooWide) (Ok s)) ≡ table_of false false false false false lacks false false false false (not narrow) s
 end_by true narrow s = refl
 end_by false true s = refl
 end_by false false s = refl
@@ -186,7 +195,7 @@ module _ (names : List (List ℕ)) where
   whole_sum fields = sum_by-map (λ e. e.part) _ (pairs_of names fields) ∙ parts_sum fields
 
   -- what is told of pairs is told of their fields
-  told_alike : (told : Bool → Bool → Bool → List (Option ℕ) → ℕ → Option TextKind) (fields : List (List ℕ)) →
+  told_alike : (told : Bool → Bool → Bool → List (Option ℕ) → ℕ → Result State TextKind) (fields : List (List ℕ)) →
       told (list_any (λ x. is_bad 1 x.part) (pairs_of names fields)) (list_any (λ x. is_over x.part) (pairs_of names fields)) (list_any (λ x. is_none x.cell) (pairs_of names fields)) (map (λ x. x.cell) (pairs_of names fields)) (total_of (pairs_of names fields))
       ≡ told (list_any (λ f. is_bad 1 (number_at 1000000 f)) (pair_parts fields)) (list_any (λ f. is_over (number_at 1000000 f)) (pair_parts fields)) (list_any (λ f. is_none (cell_named names f)) (pair_names fields)) (map (cell_named names) (pair_names fields)) (sum_by (λ f. number_in (number_at 1000000 f)) (pair_parts fields))
   told_alike told fields = rw (parts_any (is_bad 1) fields, parts_any is_over fields, any_unknown fields, cells_named fields, whole_sum fields) refl
@@ -230,55 +239,54 @@ twice_alike names (name ∷ others) known =
     found_at (Some d) none = (d, refl)
 
 -- names are asked for doubles where each is known
-where_known : (line number over unknown double twice row sum move : Bool) → (unknown ≡ false → double ≡ twice) → table_of line number over unknown double false row sum false move false ≡ table_of line number over unknown twice false row sum false move false
-where_known line number over true double twice row sum move same = refl
-where_known line number over false double twice row sum move same = ap (λ (b : Bool). table_of line number over false b false row sum false move false) (same refl)
+where_known : (line number over unknown double twice row sum move : Bool) (t : State) → (unknown ≡ false → double ≡ twice) → table_of line number over unknown double false row sum false move false t ≡ table_of line number over unknown twice false row sum false move false t
+where_known line number over true double twice row sum move t same = refl
+where_known line number over false double twice row sum move t same = ap (λ (b : Bool). table_of line number over false b false row sum false move false t) (same refl)
 
 -- the table of pairs, told of their fields; with `lost` a name before them isn't a cell's
-pairs_told : (names : List (List ℕ)) (form lost row : Bool) (limit : ℕ) (fields : List (List ℕ)) →
-    table_of (not form || false) (list_any (λ x. is_bad 1 x.part) (pairs_of names fields)) (list_any (λ x. is_over x.part) (pairs_of names fields) || false) (lost || list_any (λ x. is_none x.cell) (pairs_of names fields)) (has_double (map (λ x. x.cell) (pairs_of names fields))) false row (not (total_of (pairs_of names fields) == limit)) false false false
-    ≡ table_of (not form || false) (list_any (λ f. is_bad 1 (number_at 1000000 f)) (pair_parts fields)) (list_any (λ f. is_over (number_at 1000000 f)) (pair_parts fields) || false) (lost || list_any (λ f. is_none (cell_named names f)) (pair_names fields)) (stands_twice (pair_names fields)) false row (not (sum_by (λ f. number_in (number_at 1000000 f)) (pair_parts fields) == limit)) false false false
-pairs_told names form lost row limit fields =
+pairs_told : (names : List (List ℕ)) (form lost row : Bool) (limit : ℕ) (t : State) (fields : List (List ℕ)) →
+    table_of (not form || false) (list_any (λ x. is_bad 1 x.part) (pairs_of names fields)) (list_any (λ x. is_over x.part) (pairs_of names fields) || false) (lost || list_any (λ x. is_none x.cell) (pairs_of names fields)) (has_double (map (λ x. x.cell) (pairs_of names fields))) false row (not (total_of (pairs_of names fields) == limit)) false false false t
+    ≡ table_of (not form || false) (list_any (λ f. is_bad 1 (number_at 1000000 f)) (pair_parts fields)) (list_any (λ f. is_over (number_at 1000000 f)) (pair_parts fields) || false) (lost || list_any (λ f. is_none (cell_named names f)) (pair_names fields)) (stands_twice (pair_names fields)) false row (not (sum_by (λ f. number_in (number_at 1000000 f)) (pair_parts fields) == limit)) false false false t
+pairs_told names form lost row limit t fields =
     let unknown = list_any (λ f. is_none (cell_named names f)) (pair_names fields) in
-    told_alike names (λ bad over lacks cells total. table_of (not form || false) bad (over || false) (lost || lacks) (has_double cells) false row (not (total == limit)) false false false) fields
-    ∙ where_known (not form || false) (list_any (λ f. is_bad 1 (number_at 1000000 f)) (pair_parts fields)) (list_any (λ f. is_over (number_at 1000000 f)) (pair_parts fields) || false) (lost || unknown) (has_double (map (cell_named names) (pair_names fields))) (stands_twice (pair_names fields)) row (not (sum_by (λ f. number_in (number_at 1000000 f)) (pair_parts fields) == limit)) false
+    told_alike names (λ bad over lacks cells total. table_of (not form || false) bad (over || false) (lost || lacks) (has_double cells) false row (not (total == limit)) false false false t) fields
+    ∙ where_known (not form || false) (list_any (λ f. is_bad 1 (number_at 1000000 f)) (pair_parts fields)) (list_any (λ f. is_over (number_at 1000000 f)) (pair_parts fields) || false) (lost || unknown) (has_double (map (cell_named names) (pair_names fields))) (stands_twice (pair_names fields)) row (not (sum_by (λ f. number_in (number_at 1000000 f)) (pair_parts fields) == limit)) false t
     (λ known. twice_alike names (pair_names fields) (or_parts lost unknown known).1)
 
 -- A line by its keyword.
 module _ (s : State) (fields : List (List ℕ)) where
   -- one line or the others
-  with_word : (b : Bool) (line : Line) (others : Option Line) (r more : Result State TextKind) → fault_of r ≡ first_kind (tests s (Some line) fields) → fault_of more ≡ first_kind (tests s others fields) →
-      fault_of (cond b r more) ≡ first_kind (tests s (cond b (Some line) others) fields)
+  with_word : (b : Bool) (line : Line) (others : Option Line) (r more : Result State TextKind) → r ≡ due_row (Some line) s fields → more ≡ due_row others s fields → cond b r more ≡ due_row (cond b (Some line) others) s fields
   with_word true line others r more here there = here
   with_word false line others r more here there = there
 
   -- the one line that is due
-  by_word : (b : Bool) (line : Line) (r : Result State TextKind) → fault_of r ≡ first_kind (tests s (Some line) fields) → fault_of (cond b r (Err BadLine)) ≡ first_kind (tests s (cond b (Some line) None) fields)
+  by_word : (b : Bool) (line : Line) (r : Result State TextKind) → r ≡ due_row (Some line) s fields → cond b r (Err BadLine) ≡ due_row (cond b (Some line) None) s fields
   by_word b line r here = with_word b line None r (Err BadLine) here refl
 
   -- whose fields are wrong in number
-  bad_count : (b : Bool) (line : Line) (others : Option Line) → is_bad_line s line fields ≡ true → Some BadLine ≡ first_kind (tests s others fields) → Some BadLine ≡ first_kind (tests s (cond b (Some line) others) fields)
+  bad_count : (b : Bool) (line : Line) (others : Option Line) → is_bad_line s line fields ≡ true → Err BadLine ≡ due_row others s fields → Err BadLine ≡ due_row (cond b (Some line) others) s fields
   bad_count true line others bad there = rw bad refl
   bad_count false line others bad there = there
 
 -- The lines above the rows.
-version_table : (s : State) (word : List ℕ) (fields : List (List ℕ)) → fault_of (version_line s (word ∷ fields)) ≡ first_kind (tests s (line_due due.Version (nat_lt 0 (length s.names)) word) fields)
+version_table : (s : State) (word : List ℕ) (fields : List (List ℕ)) → version_line s (word ∷ fields) ≡ due_row (line_due due.Version (nat_lt 0 (length s.names)) word) s fields
 unfolding stands_twice
 version_table s word [] = bad_count s [] (is_word word (codes "scenario")) Scenario None refl refl
 version_table s word (version ∷ []) = both (is_word word (codes "scenario")) (is_word version (codes "1")) refl
   where
-    both : (w one : Bool) → is_word version (codes "1") ≡ one → fault_of (cond (w && one) (Ok (record s { stage = due.Horizon })) (Err BadLine)) ≡ first_kind (tests s (cond w (Some Scenario) None) (version ∷ []))
-    both true one e = version_by one _ ∙ ap (λ (b : Bool). table_of (not (b && true)) false false false false false false false false false false) (sym e)
+    both : (w one : Bool) → is_word version (codes "1") ≡ one → cond (w && one) (Ok (record s { stage = due.Horizon })) (Err BadLine) ≡ due_row (cond w (Some Scenario) None) s (version ∷ [])
+    both true one e = version_by one _ ∙ ap (λ (b : Bool). table_of (not (b && true)) false false false false false false false false false false (record s { stage = due.Horizon })) (sym e)
     both false one e = refl
 version_table s word (version ∷ more ∷ rest) = bad_count s (version ∷ more ∷ rest) (is_word word (codes "scenario")) Scenario None refl refl
 
-horizon_table : (s : State) (word : List ℕ) (fields : List (List ℕ)) → fault_of (horizon_line s (word ∷ fields)) ≡ first_kind (tests s (line_due due.Horizon (nat_lt 0 (length s.names)) word) fields)
+horizon_table : (s : State) (word : List ℕ) (fields : List (List ℕ)) → horizon_line s (word ∷ fields) ≡ due_row (line_due due.Horizon (nat_lt 0 (length s.names)) word) s fields
 unfolding stands_twice
 horizon_table s word [] = bad_count s [] (is_word word (codes "horizon")) Horizon None refl refl
 horizon_table s word (t ∷ []) = by_word s (t ∷ []) (is_word word (codes "horizon")) Horizon _ (number_by (is_bad 1 (number_at 32 t)) (is_over (number_at 32 t)) _)
 horizon_table s word (t ∷ more ∷ rest) = bad_count s (t ∷ more ∷ rest) (is_word word (codes "horizon")) Horizon None refl refl
 
-parts_table : (s : State) (word : List ℕ) (fields : List (List ℕ)) → fault_of (parts_line s (word ∷ fields)) ≡ first_kind (tests s (line_due due.Parts (nat_lt 0 (length s.names)) word) fields)
+parts_table : (s : State) (word : List ℕ) (fields : List (List ℕ)) → parts_line s (word ∷ fields) ≡ due_row (line_due due.Parts (nat_lt 0 (length s.names)) word) s fields
 unfolding stands_twice
 parts_table s word [] = bad_count s [] (is_word word (codes "parts")) Parts None refl refl
 parts_table s word (a ∷ []) = bad_count s (a ∷ []) (is_word word (codes "parts")) Parts None refl refl
@@ -288,7 +296,7 @@ parts_table s word (a ∷ d ∷ g ∷ []) =
     (parts_by (is_bad 1 (number_at 1000000 a)) (is_bad 1 (number_at 1000000 d)) (is_bad 1 (number_at 1000000 g)) (is_over (number_at 1000000 a)) (is_over (number_at 1000000 d)) (is_over (number_at 1000000 g)) _)
 parts_table s word (a ∷ d ∷ g ∷ more ∷ rest) = bad_count s (a ∷ d ∷ g ∷ more ∷ rest) (is_word word (codes "parts")) Parts None refl refl
 
-start_table : (s : State) (word : List ℕ) (fields : List (List ℕ)) → fault_of (start_line s (word ∷ fields)) ≡ first_kind (tests s (line_due due.Start (nat_lt 0 (length s.names)) word) fields)
+start_table : (s : State) (word : List ℕ) (fields : List (List ℕ)) → start_line s (word ∷ fields) ≡ due_row (line_due due.Start (nat_lt 0 (length s.names)) word) s fields
 unfolding stands_twice
 start_table s word [] = bad_count s [] (is_word word (codes "start")) Start None refl refl
 start_table s word (name ∷ []) = by_word s (name ∷ []) (is_word word (codes "start")) Start _ (start_by s (cell_named s.names name))
@@ -303,90 +311,99 @@ none_named : (n : ℕ) → (n == 0) ≡ not (nat_lt 0 n)
 none_named zero = refl
 none_named (suc n) = rw (ne_eqb (suc n) 0 (λ e. omega arith), lt-ltb 0 (suc n) (omega arith)) refl
 
-cells_table : (s : State) (word : List ℕ) (fields : List (List ℕ)) → fault_of (cells_line s (word ∷ fields)) ≡ first_kind (tests s (line_due due.Cells (nat_lt 0 (length s.names)) word) fields)
+cells_table : (s : State) (word : List ℕ) (fields : List (List ℕ)) → cells_line s (word ∷ fields) ≡ due_row (line_due due.Cells (nat_lt 0 (length s.names)) word) s fields
 unfolding stands_twice
 cells_table s word [] = none_due (nat_lt 0 (length s.names))
   where
-    none_due : (named : Bool) → Some BadLine ≡ first_kind (tests s (line_due due.Cells named word) [])
+    none_due : (named : Bool) → Err BadLine ≡ due_row (line_due due.Cells named word) s []
     none_due true = bad_count s [] (is_word word (codes "cell")) Cell _ refl (bad_count s [] (is_word word (codes "start")) Start None refl refl)
     none_due false = bad_count s [] (is_word word (codes "cell")) Cell _ refl (bad_count s [] (is_word word (codes "grid")) Grid None refl refl)
 cells_table s word (name ∷ []) =
     with_word s (name ∷ []) (is_word word (codes "cell")) Cell _ (cell_line s name) _
     (cell_by (list_all is_name_byte name) (nat_lt 24 (length name)) (nat_le 200 (length s.names)) (is_some (cell_named s.names name)) _) (behind_cell (nat_lt 0 (length s.names)))
   where
-    behind_cell : (named : Bool) → fault_of (cond named (start_line s (word ∷ name ∷ [])) (Err BadLine)) ≡ first_kind (tests s (cond named (cond (is_word word (codes "start")) (Some Start) None) (cond (is_word word (codes "grid")) (Some Grid) None)) (name ∷ []))
+    behind_cell : (named : Bool) → cond named (start_line s (word ∷ name ∷ [])) (Err BadLine) ≡ due_row (cond named (cond (is_word word (codes "start")) (Some Start) None) (cond (is_word word (codes "grid")) (Some Grid) None)) s (name ∷ [])
     behind_cell true = start_table s word (name ∷ [])
     behind_cell false = bad_count s (name ∷ []) (is_word word (codes "grid")) Grid None refl refl
 cells_table s word (rows ∷ cols ∷ []) =
-    ap (λ (b : Bool). fault_of (cond (is_word word (codes "grid") && b) (with_grid s (number_at 200 rows) (number_at 200 cols)) (Err BadLine))) (none_named (length s.names))
+    ap (λ (b : Bool). cond (is_word word (codes "grid") && b) (with_grid s (number_at 200 rows) (number_at 200 cols)) (Err BadLine)) (none_named (length s.names))
     ∙ not_cell (is_word word (codes "cell")) refl (nat_lt 0 (length s.names))
   where
-    grid_due : (grid named : Bool) → fault_of (cond (grid && not named) (with_grid s (number_at 200 rows) (number_at 200 cols)) (Err BadLine)) ≡ first_kind (tests s (cond named (cond (is_word word (codes "start")) (Some Start) None) (cond grid (Some Grid) None)) (rows ∷ cols ∷ []))
+    grid_due : (grid named : Bool) → cond (grid && not named) (with_grid s (number_at 200 rows) (number_at 200 cols)) (Err BadLine) ≡ due_row (cond named (cond (is_word word (codes "start")) (Some Start) None) (cond grid (Some Grid) None)) s (rows ∷ cols ∷ [])
     grid_due true false =
         grid_by (is_bad 1 (number_at 200 rows)) (is_bad 1 (number_at 200 cols)) (is_over (number_at 200 rows)) (is_over (number_at 200 cols)) (nat_lt 200 (number_in (number_at 200 rows) * number_in (number_at 200 cols))) _
     grid_due false false = refl
     grid_due true true = bad_count s (rows ∷ cols ∷ []) (is_word word (codes "start")) Start None refl refl
     grid_due false true = bad_count s (rows ∷ cols ∷ []) (is_word word (codes "start")) Start None refl refl
 
-    not_cell : (cell : Bool) → is_word word (codes "cell") ≡ cell → (named : Bool) → fault_of (cond (is_word word (codes "grid") && not named) (with_grid s (number_at 200 rows) (number_at 200 cols)) (Err BadLine)) ≡ first_kind (tests s (cond cell (Some Cell) (cond named (cond (is_word word (codes "start")) (Some Start) None) (cond (is_word word (codes "grid")) (Some Grid) None))) (rows ∷ cols ∷ []))
+    not_cell : (cell : Bool) → is_word word (codes "cell") ≡ cell → (named : Bool) → cond (is_word word (codes "grid") && not named) (with_grid s (number_at 200 rows) (number_at 200 cols)) (Err BadLine) ≡ due_row (cond cell (Some Cell) (cond named (cond (is_word word (codes "start")) (Some Start) None) (cond (is_word word (codes "grid")) (Some Grid) None))) s (rows ∷ cols ∷ [])
     not_cell true is named = rw (apart word (codes "cell") (codes "grid") refl is) refl
     not_cell false is named = grid_due (is_word word (codes "grid")) named
 cells_table s word (one ∷ two ∷ three ∷ rest) = none_due (nat_lt 0 (length s.names))
   where
-    none_due : (named : Bool) → Some BadLine ≡ first_kind (tests s (line_due due.Cells named word) (one ∷ two ∷ three ∷ rest))
+    none_due : (named : Bool) → Err BadLine ≡ due_row (line_due due.Cells named word) s (one ∷ two ∷ three ∷ rest)
     none_due true = bad_count s (one ∷ two ∷ three ∷ rest) (is_word word (codes "cell")) Cell _ refl (bad_count s (one ∷ two ∷ three ∷ rest) (is_word word (codes "start")) Start None refl refl)
     none_due false = bad_count s (one ∷ two ∷ three ∷ rest) (is_word word (codes "cell")) Cell _ refl (bad_count s (one ∷ two ∷ three ∷ rest) (is_word word (codes "grid")) Grid None refl refl)
 
 -- the pairs of a line `first`
-pairs_table : (s : State) (fields : List (List ℕ)) → fault_of (first_pairs s fields) ≡ first_kind (tests s (Some First) fields)
+pairs_table : (s : State) (fields : List (List ℕ)) → first_pairs s fields ≡ due_row (Some First) s fields
 pairs_table s fields =
     let pairs = pairs_of s.names fields in
+    let made = adds First s fields in
     pairs_by (are_pairs fields) (list_any (λ x. is_bad 1 x.part) pairs) (list_any (λ x. is_over x.part) pairs) (list_any (λ x. is_none x.cell) pairs) (has_double (map (λ x. x.cell) pairs)) (total_of pairs == s.total) _
-    ∙ pairs_told s.names (are_pairs fields) false false s.total fields
+    ∙ pairs_told s.names (are_pairs fields) false false s.total made fields
 
-first_table : (s : State) (word : List ℕ) (fields : List (List ℕ)) → fault_of (first_line s (word ∷ fields)) ≡ first_kind (tests s (line_due due.First (nat_lt 0 (length s.names)) word) fields)
+first_table : (s : State) (word : List ℕ) (fields : List (List ℕ)) → first_line s (word ∷ fields) ≡ due_row (line_due due.First (nat_lt 0 (length s.names)) word) s fields
 first_table s word fields = by_word s fields (is_word word (codes "first")) First (first_pairs s fields) (pairs_table s fields)
 
 -- The rows and the end.
-moves_table : (s : State) (fields : List (List ℕ)) → fault_of (moves_line s fields) ≡ first_kind (tests s (Some Moves) fields)
+-- the row of moves of a cell was read
+abbrev moves_made : State → List (List ℕ) → Option ℕ → State
+moves_made s moves c = record s { moves = set s.moves (unwrap_or c 0) (map (cell_of s) moves) }
+
+moves_table : (s : State) (fields : List (List ℕ)) → moves_line s fields ≡ due_row (Some Moves) s fields
 moves_table s [] = refl
 moves_table s (name ∷ moves) = own (cell_named s.names name)
   where
-    own : (c : Option ℕ) → fault_of (cond (nat_lt 64 (length moves)) (Err OverLimit) (with_moves s c (map (cell_named s.names) moves)))
-        ≡ table_of false false (nat_lt 64 (length moves)) (is_none c || list_any (λ f. is_none (cell_named s.names f)) moves) (stands_twice moves) false (holds_of c (has_moves s)) false false (length moves == 0) false
-    own None = lost_by (nat_lt 64 (length moves)) (list_any (λ f. is_none (cell_named s.names f)) moves) (stands_twice moves) false (length moves == 0)
+    own : (c : Option ℕ) → cond (nat_lt 64 (length moves)) (Err OverLimit) (with_moves s c (map (cell_named s.names) moves))
+        ≡ table_of false false (nat_lt 64 (length moves)) (is_none c || list_any (λ f. is_none (cell_named s.names f)) moves) (stands_twice moves) false (holds_of c (has_moves s)) false false (length moves == 0) false (moves_made s moves c)
+    own None = lost_by (nat_lt 64 (length moves)) (list_any (λ f. is_none (cell_named s.names f)) moves) (stands_twice moves) false (length moves == 0) (moves_made s moves None)
     own (Some c) =
         let cells = map (cell_named s.names) moves in
-        moves_by (nat_lt 64 (length moves)) (list_any (λ m. is_none m) cells) (has_double cells) (has_moves s c) (length cells == 0) (record s { moves = set s.moves c (map (λ m. unwrap_or m 0) cells) })
-        ∙ ap (λ (b : Bool). table_of false false (nat_lt 64 (length moves)) b (has_double cells) false (has_moves s c) false false (length cells == 0) false) (list_any-map (λ m. is_none m) (cell_named s.names) moves)
-        ∙ ap (λ (n : ℕ). table_of false false (nat_lt 64 (length moves)) (list_any (λ f. is_none (cell_named s.names f)) moves) (has_double cells) false (has_moves s c) false false (n == 0) false) (length-map moves (cell_named s.names))
-        ∙ where_known false false (nat_lt 64 (length moves)) (list_any (λ f. is_none (cell_named s.names f)) moves) (has_double cells) (stands_twice moves) (has_moves s c) false (length moves == 0) (twice_alike s.names moves)
+        let t : State = record s { moves = set s.moves c (map (λ m. unwrap_or m 0) cells) } in
+        moves_by (nat_lt 64 (length moves)) (list_any (λ m. is_none m) cells) (has_double cells) (has_moves s c) (length cells == 0) t
+        ∙ ap (λ (b : Bool). table_of false false (nat_lt 64 (length moves)) b (has_double cells) false (has_moves s c) false false (length cells == 0) false t) (list_any-map (λ m. is_none m) (cell_named s.names) moves)
+        ∙ ap (λ (n : ℕ). table_of false false (nat_lt 64 (length moves)) (list_any (λ f. is_none (cell_named s.names f)) moves) (has_double cells) false (has_moves s c) false false (n == 0) false t) (length-map moves (cell_named s.names))
+        ∙ where_known false false (nat_lt 64 (length moves)) (list_any (λ f. is_none (cell_named s.names f)) moves) (has_double cells) (stands_twice moves) (has_moves s c) false (length moves == 0) t (twice_alike s.names moves)
+        ∙ ap (λ (row : List ℕ). table_of false false (nat_lt 64 (length moves)) (list_any (λ f. is_none (cell_named s.names f)) moves) (stands_twice moves) false (has_moves s c) false false (length moves == 0) false (record s { moves = set s.moves c row })) (map-map (λ m. unwrap_or m 0) (cell_named s.names) moves)
 
 -- the pairs of a row of drift, by its cell
-drift_pairs_table : (s : State) (c : Option ℕ) (fields : List (List ℕ)) → fault_of (drift_pairs s c fields)
+drift_pairs_table : (s : State) (c : Option ℕ) (fields : List (List ℕ)) → drift_pairs s c fields
     ≡ table_of (not (are_pairs fields) || false) (list_any (λ f. is_bad 1 (number_at 1000000 f)) (pair_parts fields)) (list_any (λ f. is_over (number_at 1000000 f)) (pair_parts fields) || false) (is_none c || list_any (λ f. is_none (cell_named s.names f)) (pair_names fields))
-    (stands_twice (pair_names fields)) false (holds_of c (has_parts s)) (not (sum_by (λ f. number_in (number_at 1000000 f)) (pair_parts fields) == s.drift)) false false false
+    (stands_twice (pair_names fields)) false (holds_of c (has_parts s)) (not (sum_by (λ f. number_in (number_at 1000000 f)) (pair_parts fields) == s.drift)) false false false (record s { parts = set s.parts (unwrap_or c 0) (entries_in s fields) })
 drift_pairs_table s None fields =
     let pairs = pairs_of s.names fields in
-    unknown_by (are_pairs fields) (list_any (λ x. is_bad 1 x.part) pairs) (list_any (λ x. is_over x.part) pairs) (list_any (λ x. is_none x.cell) pairs) (has_double (map (λ x. x.cell) pairs)) false (not (total_of pairs == s.drift))
-    ∙ pairs_told s.names (are_pairs fields) true false s.drift fields
+    let t : State = record s { parts = set s.parts 0 (entries_in s fields) } in
+    unknown_by (are_pairs fields) (list_any (λ x. is_bad 1 x.part) pairs) (list_any (λ x. is_over x.part) pairs) (list_any (λ x. is_none x.cell) pairs) (has_double (map (λ x. x.cell) pairs)) false (not (total_of pairs == s.drift)) t
+    ∙ pairs_told s.names (are_pairs fields) true false s.drift t fields
 drift_pairs_table s (Some c) fields =
     let pairs = pairs_of s.names fields in
-    drift_by (are_pairs fields) (list_any (λ x. is_bad 1 x.part) pairs) (list_any (λ x. is_over x.part) pairs) (list_any (λ x. is_none x.cell) pairs) (has_double (map (λ x. x.cell) pairs)) (has_parts s c) (total_of pairs == s.drift) _
-    ∙ pairs_told s.names (are_pairs fields) false (has_parts s c) s.drift fields
+    let t : State = record s { parts = set s.parts c (entries_in s fields) } in
+    drift_by (are_pairs fields) (list_any (λ x. is_bad 1 x.part) pairs) (list_any (λ x. is_over x.part) pairs) (list_any (λ x. is_none x.cell) pairs) (has_double (map (λ x. x.cell) pairs)) (has_parts s c) (total_of pairs == s.drift) t
+    ∙ pairs_told s.names (are_pairs fields) false (has_parts s c) s.drift t fields
 
-drift_table : (s : State) (fields : List (List ℕ)) → fault_of (drift_line s fields) ≡ first_kind (tests s (Some Drift) fields)
+drift_table : (s : State) (fields : List (List ℕ)) → drift_line s fields ≡ due_row (Some Drift) s fields
 drift_table s [] = refl
 drift_table s (name ∷ fields) = drift_pairs_table s (cell_named s.names name) fields
 
-overlook_table : (s : State) (fields : List (List ℕ)) → fault_of (overlook_line s fields) ≡ first_kind (tests s (Some Overlook) fields)
+overlook_table : (s : State) (fields : List (List ℕ)) → overlook_line s fields ≡ due_row (Some Overlook) s fields
 unfolding stands_twice
 overlook_table s [] = refl
 overlook_table s (name ∷ []) = refl
 overlook_table s (name ∷ part ∷ []) = overlook_by s (cell_named s.names name) (number_at 1000000 part)
 overlook_table s (name ∷ part ∷ more ∷ rest) = refl
 
-spread_table : (s : State) (fields : List (List ℕ)) → fault_of (spread_line s fields) ≡ first_kind (tests s (Some Spread) fields)
+spread_table : (s : State) (fields : List (List ℕ)) → spread_line s fields ≡ due_row (Some Spread) s fields
 unfolding stands_twice
 spread_table s [] = refl
 spread_table s (part ∷ []) =
@@ -394,7 +411,7 @@ spread_table s (part ∷ []) =
     spread_by s.gridded (is_bad 0 n) (is_over n) (list_any (λ row. nat_lt 0 (length row)) s.parts) (list_any (λ row. nat_lt s.drift (number_in n * (length row - 1))) s.moves) _
 spread_table s (part ∷ more ∷ rest) = refl
 
-rate_table : (s : State) (fields : List (List ℕ)) → fault_of (rate_line s fields) ≡ first_kind (tests s (Some Rate) fields)
+rate_table : (s : State) (fields : List (List ℕ)) → rate_line s fields ≡ due_row (Some Rate) s fields
 unfolding stands_twice
 rate_table s [] = refl
 rate_table s (part ∷ []) =
@@ -402,12 +419,12 @@ rate_table s (part ∷ []) =
     rate_by (is_bad 0 n) (is_over n) (list_any (λ o. is_some o) s.overlook) (nat_lt s.look (number_in n)) _
 rate_table s (part ∷ more ∷ rest) = refl
 
-end_table : (s : State) (fields : List (List ℕ)) → fault_of (end_line s fields) ≡ first_kind (tests s (Some End) fields)
+end_table : (s : State) (fields : List (List ℕ)) → end_line s fields ≡ due_row (Some End) s fields
 unfolding stands_twice
 end_table s [] = end_by (lacks_row s) (is_narrow s) _
 end_table s (more ∷ rest) = refl
 
-rows_table : (s : State) (word : List ℕ) (fields : List (List ℕ)) → fault_of (row_line s (word ∷ fields)) ≡ first_kind (tests s (row_due word) fields)
+rows_table : (s : State) (word : List ℕ) (fields : List (List ℕ)) → row_line s (word ∷ fields) ≡ due_row (row_due word) s fields
 rows_table s word fields =
     with_word s fields (is_word word (codes "moves")) Moves _ (moves_line s fields) _ (moves_table s fields)
     (with_word s fields (is_word word (codes "drift")) Drift _ (drift_line s fields) _ (drift_table s fields)
@@ -416,7 +433,12 @@ rows_table s word fields =
     (with_word s fields (is_word word (codes "rate")) Rate _ (rate_line s fields) _ (rate_table s fields)
     (by_word s fields (is_word word (codes "end")) End (end_line s fields) (end_table s fields))))))
 
-stage_table : (stage : Stage) (s : State) (fields : List (List ℕ)) → fault_of (stage_line stage s fields) ≡ first_kind (tests_of stage s fields)
+-- the line that the fields begin at this stage
+abbrev begun : Stage → State → List (List ℕ) → Option Line
+begun stage s [] = None
+begun stage s (word ∷ fields) = line_due stage (nat_lt 0 (length s.names)) word
+
+stage_table : (stage : Stage) (s : State) (fields : List (List ℕ)) → stage_line stage s fields ≡ due_row (begun stage s fields) s (behind_first fields)
 stage_table due.Version s [] = refl
 stage_table due.Horizon s [] = refl
 stage_table due.Parts s [] = refl
@@ -434,12 +456,23 @@ stage_table due.First s (word ∷ fields) = first_table s word fields
 stage_table due.Rows s (word ∷ fields) = rows_table s word fields
 stage_table due.Ended s (word ∷ fields) = refl
 
-by_bytes : (nothing text : Bool) (s : State) (r : Result State TextKind) (rows : List (Bool × TextKind)) → fault_of r ≡ first_kind rows →
-    fault_of (cond nothing (Ok s) (cond (not text) (Err NotText) r)) ≡ cond nothing None (first_kind ((not text, NotText) ∷ rows))
-by_bytes true text s r rows e = refl
-by_bytes false false s r rows e = refl
-by_bytes false true s r rows e = e
+of_line : (s : State) (fields : List (List ℕ)) → begun s.stage s fields ≡ line_of s fields
+of_line s [] = refl
+of_line s (word ∷ fields) = refl
 
-pub kinds_by_table : KindsByTable
+by_bytes : (nothing text : Bool) (s t : State) (r : Result State TextKind) (rows : List (Bool × TextKind)) → r ≡ unless_any rows t →
+    cond nothing (Ok s) (unless_any ((not text, NotText) ∷ rows) t) ≡ cond nothing (Ok s) (cond (not text) (Err NotText) r)
+by_bytes true text s t r rows e = refl
+by_bytes false false s t r rows e = refl
+by_bytes false true s t r rows e = sym e
+
+-- what a line gives, in the code's own words
+pub line_mirrored : (s : State) (line : List ℕ) → line_at s line ≡ mirrored s line
 unfolding line_at
-kinds_by_table s line = by_bytes (says_nothing (fields_of line)) (list_all is_text_byte line) s (stage_line s.stage s (fields_of line)) (tests_of s.stage s (fields_of line)) (stage_table s.stage s (fields_of line))
+line_mirrored s line =
+    let fields = fields_of line in
+    let row : stage_line s.stage s fields ≡ due_row (line_of s fields) s (behind_first fields) = stage_table s.stage s fields ∙ ap (λ (o : Option Line). due_row o s (behind_first fields)) (of_line s fields) in
+    by_bytes (says_nothing fields) (list_all is_text_byte line) s (added (line_of s fields) s (behind_first fields)) (stage_line s.stage s fields) (tests s (line_of s fields) (behind_first fields)) row
+
+pub line_taken : (new : Draft) (result : Result (Unit {0}) LineStop) (s : State) (line : List ℕ) → TakesLine new result (mirrored s line) → TakesLine new result (line_at s line)
+line_taken new result s line taken = subst (TakesLine new result) (sym (line_mirrored s line)) taken

@@ -7,7 +7,7 @@ ghost use Rattle.scenario_text.specs.Fields.{number_in as number_in_lem};
 ghost use Rattle.scenario_text.specs.State.{state_of};
 ghost use Rattle.scenario_text.specs.Sound.{IsSound};
 ghost use Rattle.scenario_text.specs.Gives.{TakesLine, AreScanned};
-ghost use Rattle.scenario_text.specs.Reading.{with_moves, moves_line, unknown_after as unknown_after_lem, with_parts_of, drift_pairs, drift_line, with_overlook, overlook_part, overlook_line};
+ghost use Rattle.scenario_text.specs.Mirror.{with_moves, moves_line, unknown_after as unknown_after_lem, with_parts_of, drift_pairs, drift_line, with_overlook, overlook_part, overlook_line};
 
 use crate::cell_names::cell_named;
 use crate::cells::{any_unknown, cells_named, has_double, numbers_of};

@@ -7,7 +7,8 @@ ghost use Rattle.search_model.specs.Grids.{grid_name as grid_name_lem, grid_name
 ghost use Rattle.scenario_text.specs.State.{state_of};
 ghost use Rattle.scenario_text.specs.Sound.{IsSound};
 ghost use Rattle.scenario_text.specs.Gives.{TakesLine};
-ghost use Rattle.scenario_text.specs.Reading.{with_cells, with_grid, with_spread, spread_part, spread_line, with_rate, rate_part, rate_line};
+ghost use Rattle.scenario_text.specs.Grammar.{with_cells};
+ghost use Rattle.scenario_text.specs.Mirror.{with_grid, with_spread, spread_part, spread_line, with_rate, rate_part, rate_line};
 
 use crate::digits::Digits;
 use crate::draft::{Draft, Stage};

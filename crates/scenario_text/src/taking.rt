@@ -7,7 +7,8 @@ ghost use Rattle.scenario_text.specs.State.{state_of};
 ghost use Rattle.scenario_text.specs.Sound.{IsSound};
 ghost use Rattle.scenario_text.specs.Gives.{TakesLine, AreScanned};
 ghost use Rattle.scenario_text.specs.Fields.{number_in as number_in_lem, cell_named as cell_named_lem};
-ghost use Rattle.scenario_text.specs.Reading.{version_line, with_horizon, horizon_line, with_parts, parts_line, with_name, cell_line, with_start, start_line, with_first, first_pairs, first_line};
+ghost use Rattle.scenario_text.specs.Grammar.{with_name};
+ghost use Rattle.scenario_text.specs.Mirror.{version_line, with_horizon, horizon_line, with_parts, parts_line, cell_line, with_start, start_line, with_first, first_pairs, first_line};
 
 use crate::cell_names::{are_name_bytes, cell_named};
 use crate::draft::{Draft, Stage};

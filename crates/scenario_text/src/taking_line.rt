@@ -7,7 +7,9 @@ ghost use Rattle.scenario_text.specs.Fields.{says_nothing as says_nothing_lem};
 ghost use Rattle.scenario_text.specs.State.{state_of};
 ghost use Rattle.scenario_text.specs.Sound.{IsSound};
 ghost use Rattle.scenario_text.specs.Gives.{TakesLine};
-ghost use Rattle.scenario_text.specs.Reading.{cells_line, end_line, lacks_row as lacks_row_lem, row_line, stage_line, line_at};
+ghost use Rattle.scenario_text.specs.Reading.{line_at};
+ghost use Rattle.scenario_text.specs.KindTable.{lacks_row as lacks_row_lem};
+ghost use Rattle.scenario_text.specs.Mirror.{cells_line, end_line, row_line, stage_line, mirrored};
 
 use crate::draft::{Draft, Stage};
 use crate::kind::TextKind;
@@ -205,11 +207,9 @@ fn take_fields(
     }
 }
 
-/// Takes a line, or says what is wrong with it.
-#[tactic(auto, unfolding(crate::specs::Reading::line_at))]
-pub fn take_line(alloc: Global, draft: &mut Draft, line: &[u8]) -> Result<(), LineStop>
+fn take_mirrored(alloc: Global, draft: &mut Draft, line: &[u8]) -> Result<(), LineStop>
     requires { IsSound (state_of draft.old) }
-    ensures { TakesLine draft.new result (line_at (state_of draft.old) line.now) }
+    ensures { TakesLine draft.new result (mirrored (state_of draft.old) line.now) }
 {
     let fields = first_fields(alloc, line, MOST_FIELDS)?;
     if says_nothing(&fields) {
@@ -219,4 +219,13 @@ pub fn take_line(alloc: Global, draft: &mut Draft, line: &[u8]) -> Result<(), Li
         return Err(LineStop::Fault(TextKind::NotText));
     }
     take_fields(alloc, draft, &fields, line)
+}
+
+/// Takes a line, or says what is wrong with it.
+#[tactic(auto, using(crate::proofs::Tables::line_taken))]
+pub fn take_line(alloc: Global, draft: &mut Draft, line: &[u8]) -> Result<(), LineStop>
+    requires { IsSound (state_of draft.old) }
+    ensures { TakesLine draft.new result (line_at (state_of draft.old) line.now) }
+{
+    take_mirrored(alloc, draft, line)
 }

@@ -2,7 +2,7 @@ use Rattle.std.proofs.Common.{◌≡◌, ◌∷◌, sym, map, subst, rules}
 use Rattle.text_rows.specs.Fields.{fields_of}
 use Rattle.scenario_text.specs.Gives.{TakesLine}
 use Rattle.scenario_text.specs.State.{state_of}
-use Rattle.scenario_text.specs.Reading.{row_line, moves_line, overlook_line, spread_line, rate_line, end_line}
+use Rattle.scenario_text.specs.Mirror.{row_line, moves_line, overlook_line, spread_line, rate_line, end_line}
 use Rattle.scenario_text.proofs.FirstFields.{moves_taken, overlook_taken, spread_taken, rate_taken, end_taken}
 use Rattle.scenario_text.proofs.taking_line.take_row_of.Goals as goal
 
