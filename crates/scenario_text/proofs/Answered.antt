@@ -14,7 +14,8 @@ use Rattle.text_rows.proofs.Results.{err_ok}
 use Rattle.scenario_text.specs.Fields.{says_nothing}
 use Rattle.scenario_text.specs.State.{State}
 use Rattle.scenario_text.specs.Reading.{Front, line_at, alone}
-use Rattle.scenario_text.specs.KindTable.{Line, line_of, tests, tests_of}
+use Rattle.scenario_text.specs.declared.line.Line.{Line}
+use Rattle.scenario_text.specs.KindTable.{line_of, tests, tests_of}
 use Rattle.scenario_text.specs.Grammar.{added, unless_any}
 use Rattle.scenario_text.specs.Faults.{IsFirstFault, IsRest, IsFirstFaultAlone}
 use Rattle.scenario_text.specs.Scenarios.{Says, IsFront, IsTextOf, ReadsFront, ReadsAlone}

@@ -29,7 +29,8 @@ use Rattle.scenario_text.specs.State.{State}
 use Rattle.scenario_text.specs.Reading.{line_at}
 use Rattle.scenario_text.specs.KindTable.{has_moves, has_parts, has_overlook, lacks_row, is_narrow}
 use Rattle.scenario_text.specs.Grammar.{with_cells}
-use Rattle.scenario_text.specs.Mirror.{with_start, start_line, cells_line, unless_fault, with_first, first_line, with_moves, moves_line, unknown_after, with_parts_of, drift_line, with_overlook, overlook_line, spread_part, spread_line, rate_line, end_line, row_line, stage_line}
+use Rattle.scenario_text.specs.Mirror.{with_start, start_line, cells_line, first_line, moves_line, drift_line, with_overlook, overlook_line, spread_part, spread_line, rate_line, end_line, row_line, stage_line}
+use Rattle.scenario_text.specs.ByCells.{unless_fault, with_first, with_moves, unknown_after, with_parts_of}
 use Rattle.scenario_text.specs.Sound.{IsSound}
 use Rattle.scenario_text.specs.Faults.{AreTaken}
 use Rattle.scenario_text.specs.InRows.{line_text, for_each, GridInRows, GridReadsOn}

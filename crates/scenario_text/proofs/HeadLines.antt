@@ -17,7 +17,8 @@ use Rattle.scenario_text.specs.declared.pair.Pair.{Pair}
 use Rattle.scenario_text.specs.State.{State, blank_state}
 use Rattle.scenario_text.specs.Fields.{cell_named}
 use Rattle.scenario_text.specs.Grammar.{with_name}
-use Rattle.scenario_text.specs.Mirror.{cell_line, with_first}
+use Rattle.scenario_text.specs.Mirror.{cell_line}
+use Rattle.scenario_text.specs.ByCells.{with_first}
 use Rattle.scenario_text.specs.Canonical.{first_entries, pair_fields}
 use Rattle.scenario_text.specs.RowFields.{cell_row}
 use Rattle.text_rows.proofs.RowTexts.{IsField-decimal, word}

@@ -5,7 +5,8 @@ use Rattle.std.specs.List.Sorted.{IsStrictlyIncreasing}
 use Rattle.std.proofs.lemmas.List.FromFn.{length-range_with_len, get_or-range_with_len}
 use Rattle.text_rows.specs.Fields.{fields_of, behind_first}
 use Rattle.scenario_text.specs.Kinds.{number_of}
-use Rattle.scenario_text.specs.KindTable.{Line, line_of, tests}
+use Rattle.scenario_text.specs.declared.line.Line.{Line}
+use Rattle.scenario_text.specs.KindTable.{line_of, tests}
 use Rattle.scenario_text.specs.ReadingLaws.{KindsInOrder}
 
 numbers_rise : (a n : ℕ) → IsStrictlyIncreasing (range_with_len a n)

@@ -21,6 +21,8 @@ pub mod Columns
 pub mod GridNames
 pub mod Spreads
 pub mod FirstFields
+pub mod ByCellNames
+pub mod Due
 pub mod SoundFields
 pub mod SoundNames
 pub mod SoundRows

@@ -16,7 +16,8 @@ use Rattle.scenario_text.specs.declared.draft.Stage.TheVariants.{Rows}
 use Rattle.scenario_text.specs.declared.pair.Pair.{Pair}
 use Rattle.scenario_text.specs.State.{State}
 use Rattle.scenario_text.specs.Fields.{cell_named}
-use Rattle.scenario_text.specs.Mirror.{with_moves, with_parts_of, with_overlook}
+use Rattle.scenario_text.specs.Mirror.{with_overlook}
+use Rattle.scenario_text.specs.ByCells.{with_moves, with_parts_of}
 use Rattle.scenario_text.specs.Canonical.{first_entries, moves_row, drift_row, overlook_row}
 use Rattle.scenario_text.proofs.Ascending.{has_double-rising}
 use Rattle.scenario_text.proofs.FieldTexts.{IsField-cell_name, AreFields-names, AreFields-pairs}

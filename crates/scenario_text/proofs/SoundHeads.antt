@@ -19,7 +19,8 @@ use Rattle.text_rows.proofs.Results.{err_ok, let_through}
 use Rattle.search_model.specs.Grids.{grid_names}
 use Rattle.scenario_text.specs.State.{State}
 use Rattle.scenario_text.specs.Grammar.{with_name, with_cells}
-use Rattle.scenario_text.specs.Mirror.{version_line, with_horizon, horizon_line, with_parts, parts_line, cell_line, with_grid, with_start, start_line, cells_line, unless_fault, with_first, first_pairs, first_line}
+use Rattle.scenario_text.specs.Mirror.{version_line, with_horizon, horizon_line, with_parts, parts_line, cell_line, with_grid, with_start, start_line, cells_line, first_pairs, first_line}
+use Rattle.scenario_text.specs.ByCells.{unless_fault, with_first}
 use Rattle.scenario_text.specs.Sound.{place_of, IsSettled, AreEntries, AreMoves, IsPart, IsSound}
 use Rattle.scenario_text.proofs.SoundFields.{not_refused, in_limits, named_within, not_there, AreEntries-from_pairs}
 use Rattle.scenario_text.proofs.SoundNames.{differ_more, grid_count, All-grid_names, grid_differ}

@@ -18,7 +18,8 @@ use Rattle.text_rows.proofs.Results.{err_ok, let_through}
 use Rattle.search_model.specs.Grids.{spread_rows}
 use Rattle.scenario_text.specs.State.{State}
 use Rattle.scenario_text.specs.KindTable.{has_moves, has_parts, has_overlook, lacks_row, is_narrow}
-use Rattle.scenario_text.specs.Mirror.{with_moves, moves_line, with_parts_of, drift_line, with_overlook, overlook_line, spread_part, spread_line, rate_line, end_line}
+use Rattle.scenario_text.specs.Mirror.{moves_line, drift_line, with_overlook, overlook_line, spread_part, spread_line, rate_line, end_line}
+use Rattle.scenario_text.specs.ByCells.{with_moves, with_parts_of}
 use Rattle.scenario_text.specs.Sound.{AreEntries, AreMoves, IsPart, IsSound}
 use Rattle.scenario_text.proofs.SoundFields.{not_refused, named_within, AreMoves-from_named, AreEntries-from_pairs}
 use Rattle.scenario_text.proofs.SoundRows.{length-spread_rows, All-spread_rows}

@@ -1,12 +1,8 @@
 -- The code's own words for a line give what the table gives.
-use Rattle.std.specs.Str.{bytes_eq}
-use Rattle.std.proofs.Common.{◌≡◌, ℕ, zero, suc, ◌+◌, ◌*◌, ◌-◌, Bool, true, false, cond, List, [], ◌∷◌, length, map, Option, Some, None, Result, Ok, Err, refl, sym, ap, subst, ◌∙◌, arith, inl, inr, get_or}
-use Rattle.std.specs.Prelude.{not, ◌&&◌, ◌||◌, ◌==◌, nat_le, nat_lt, is_none, is_some, set, unwrap_or, sum_by, codes}
+use Rattle.std.proofs.Common.{◌≡◌, ℕ, zero, suc, ◌*◌, ◌-◌, Bool, true, false, cond, List, [], ◌∷◌, length, Option, Some, None, Result, Ok, Err, refl, sym, ap, subst, ◌∙◌, arith}
+use Rattle.std.specs.Prelude.{not, ◌&&◌, ◌||◌, ◌==◌, nat_le, nat_lt, is_none, is_some, set, unwrap_or, codes}
 use Rattle.std.specs.List.{list_all, list_any}
-use Rattle.std.proofs.lemmas.Bool.{lt-ltb, eq-eqb, ne_eqb, cases_eq, or_parts, false_from_ne_true}
-use Rattle.std.proofs.lemmas.List.{length-map}
-use Rattle.std.proofs.lemmas.List.Quantifiers.{position-Some}
-use Rattle.std.proofs.lemmas.List.Sums.{sum_by-cons}
+use Rattle.std.proofs.lemmas.Bool.{lt-ltb, ne_eqb}
 use Rattle.std.proofs.lemmas.Slice.Eq.{bytes_eq-Decides}
 use Rattle.search_model.specs.Names.{is_name_byte}
 use Rattle.exact_parts.specs.declared.number.Number.{Number}
@@ -16,18 +12,15 @@ use Rattle.scenario_text.specs.declared.kind.TextKind.{TextKind}
 use Rattle.scenario_text.specs.declared.kind.TextKind.TheVariants.{NotText, BadLine, BadNumber, OverLimit, UnknownName, DoubleName, MissingRow, DoubleRow, WrongSum, PartOver, NoMove, TooWide}
 use Rattle.text_rows.specs.Fields.{fields_of, is_text_byte, is_word, behind_first}
 use Rattle.exact_parts.specs.Decimal.{number_at}
-use Rattle.list_laws.proofs.Mapped.{list_any-map}
-use Rattle.list_laws.proofs.Sums.{sum_by-map}
-use Rattle.scenario_text.specs.Fields.{says_nothing, is_bad, is_over, number_in, cell_named, stands_in, has_double, are_pairs, pairs_of, total_of}
+use Rattle.scenario_text.specs.Fields.{says_nothing, is_bad, is_over, number_in, cell_named}
 use Rattle.scenario_text.specs.State.{State}
-use Rattle.scenario_text.specs.declared.draft.Draft.{Draft}
-use Rattle.scenario_text.specs.declared.stop.LineStop.{LineStop}
-use Rattle.scenario_text.specs.Gives.{TakesLine}
-use Rattle.scenario_text.specs.Mirror.{version_line, horizon_line, parts_line, cell_line, with_grid, with_start, start_line, cells_line, unless_fault, first_pairs, first_line, with_moves, moves_line, unknown_after, drift_pairs, drift_line, overlook_part, overlook_line, spread_line, rate_line, end_line, row_line, stage_line, mirrored}
+use Rattle.scenario_text.specs.Mirror.{version_line, horizon_line, parts_line, cell_line, with_grid, with_start, start_line, cells_line, first_pairs, first_line, moves_line, drift_line, overlook_part, overlook_line, spread_line, rate_line, end_line, row_line, stage_line, mirrored}
 use Rattle.scenario_text.specs.Reading.{line_at}
-use Rattle.scenario_text.specs.Grammar.{cell_of, entries_in, adds, added, unless_any}
-use Rattle.list_laws.proofs.Mapped.{map-map}
-use Rattle.scenario_text.specs.KindTable.{Line, Scenario, Horizon, Parts, Cell, Grid, Start, First, Moves, Drift, Overlook, Spread, Rate, End, row_due, line_due, pair_names, pair_parts, stands_twice, holds_of, is_bad_line, tests, line_of, has_moves, has_parts, has_overlook, lacks_row, is_narrow}
+use Rattle.scenario_text.proofs.ByCellNames.{first_by_cells, moves_by_cells, drift_by_cells}
+use Rattle.scenario_text.specs.Grammar.{added, unless_any}
+use Rattle.scenario_text.specs.declared.line.Line.{Line}
+use Rattle.scenario_text.specs.declared.line.Line.TheVariants.{Scenario, Horizon, Parts, Cell, Grid, Start, First, Moves, Drift, Overlook, Spread, Rate, End}
+use Rattle.scenario_text.specs.KindTable.{row_due, line_due, stands_twice, holds_of, is_bad_line, tests, line_of, has_overlook, lacks_row, is_narrow}
 
 -- the kinds in their order, by what the tests give
 abbrev table_of : Bool → Bool → Bool → Bool → Bool → Bool → Bool → Bool → Bool → Bool → Bool → State → Result State TextKind
@@ -78,55 +71,6 @@ start_by : (s : State) (c : Option ℕ) → with_start s c ≡ table_of false fa
 start_by s None = refl
 start_by s (Some c) = refl
 
-pairs_by : (form bad over unknown double whole : Bool) (s : State) →
-    cond form (unless_fault (cond bad (Some BadNumber) (cond over (Some OverLimit) (cond unknown (Some UnknownName) (cond double (Some DoubleName) None)))) (cond (not whole) (Err WrongSum) (Ok s))) (Err BadLine)
-    ≡ table_of (not form || false) bad (over || false) unknown double false false (not whole) false false false s
-pairs_by false bad over unknown double whole s = refl
-pairs_by true true over unknown double whole s = refl
-pairs_by true false true unknown double whole s = refl
-pairs_by true false false true double whole s = refl
-pairs_by true false false false true whole s = refl
-pairs_by true false false false false true s = refl
-pairs_by true false false false false false s = refl
-
--- a row of drift, whose cell is unknown or has a row
-unknown_by : (form bad over unknown double : Bool) (row sum : Bool) (t : State) →
-    cond form (Err (unknown_after (cond bad (Some BadNumber) (cond over (Some OverLimit) (cond unknown (Some UnknownName) (cond double (Some DoubleName) None)))))) (Err BadLine)
-    ≡ table_of (not form || false) bad (over || false) true double false row sum false false false t
-unknown_by false bad over unknown double row sum t = refl
-unknown_by true true over unknown double row sum t = refl
-unknown_by true false true unknown double row sum t = refl
-unknown_by true false false true double row sum t = refl
-unknown_by true false false false true row sum t = refl
-unknown_by true false false false false row sum t = refl
-
-drift_by : (form bad over unknown double row whole : Bool) (s : State) →
-    cond form (unless_fault (cond bad (Some BadNumber) (cond over (Some OverLimit) (cond unknown (Some UnknownName) (cond double (Some DoubleName) None)))) (cond row (Err DoubleRow) (cond (not whole) (Err WrongSum) (Ok s)))) (Err BadLine)
-    ≡ table_of (not form || false) bad (over || false) unknown double false row (not whole) false false false s
-drift_by false bad over unknown double row whole s = refl
-drift_by true true over unknown double row whole s = refl
-drift_by true false true unknown double row whole s = refl
-drift_by true false false true double row whole s = refl
-drift_by true false false false true row whole s = refl
-drift_by true false false false false true whole s = refl
-drift_by true false false false false false true s = refl
-drift_by true false false false false false false s = refl
-
-moves_by : (many unknown double row none : Bool) (s : State) →
-    cond many (Err OverLimit) (cond unknown (Err UnknownName) (cond double (Err DoubleName) (cond row (Err DoubleRow) (cond none (Err NoMove) (Ok s)))))
-    ≡ table_of false false many unknown double false row false false none false s
-moves_by true unknown double row none s = refl
-moves_by false true double row none s = refl
-moves_by false false true row none s = refl
-moves_by false false false true none s = refl
-moves_by false false false false true s = refl
-moves_by false false false false false s = refl
-
--- a row of moves, whose cell is unknown
-lost_by : (many : Bool) (unknown double row none : Bool) (t : State) → cond many (Err OverLimit) (Err UnknownName) ≡ table_of false false many true double false row false false none false t
-lost_by true unknown double row none t = refl
-lost_by false unknown double row none t = refl
-
 overlook_by : (s : State) (c : Option ℕ) (n : Number) → overlook_part s c n
     ≡ table_of false (is_bad 0 n || false) ((is_over n || false) || false) (is_none c || false) false false (holds_of c (has_overlook s)) false (nat_lt s.look (number_in n)) false false (record s { overlook = set s.overlook (unwrap_or c 0) (Some (number_in n)) })
 overlook_by s None n = by_bools (is_bad 0 n) (is_over n) (record s { overlook = set s.overlook 0 (Some (number_in n)) })
@@ -165,93 +109,6 @@ end_by : (lacks narrow : Bool) (s : State) → cond lacks (Err MissingRow) (cond
 end_by true narrow s = refl
 end_by false true s = refl
 end_by false false s = refl
-
--- Pairs are the names and the parts of their fields.
-module _ (names : List (List ℕ)) where
-  parts_any : (test : Number → Bool) (fields : List (List ℕ)) → list_any (λ x. test x.part) (pairs_of names fields) ≡ list_any (λ f. test (number_at 1000000 f)) (pair_parts fields)
-  unfolding pairs_of pair_parts
-  parts_any test [] = refl
-  parts_any test (name ∷ []) = refl
-  parts_any test (name ∷ part ∷ fields) = ap (λ (b : Bool). test (number_at 1000000 part) || b) (parts_any test fields)
-
-  cells_named : (fields : List (List ℕ)) → map (λ x. x.cell) (pairs_of names fields) ≡ map (cell_named names) (pair_names fields)
-  unfolding pairs_of pair_names
-  cells_named [] = refl
-  cells_named (name ∷ []) = refl
-  cells_named (name ∷ part ∷ fields) = ap (λ (cs : List (Option ℕ)). cell_named names name ∷ cs) (cells_named fields)
-
-  any_unknown : (fields : List (List ℕ)) → list_any (λ x. is_none x.cell) (pairs_of names fields) ≡ list_any (λ f. is_none (cell_named names f)) (pair_names fields)
-  any_unknown fields =
-      sym (list_any-map (λ c. is_none c) (λ x. x.cell) (pairs_of names fields)) ∙ ap (list_any (λ c. is_none c)) (cells_named fields) ∙ list_any-map (λ c. is_none c) (cell_named names) (pair_names fields)
-
-  parts_sum : (fields : List (List ℕ)) → sum_by (λ x. number_in x.part) (pairs_of names fields) ≡ sum_by (λ f. number_in (number_at 1000000 f)) (pair_parts fields)
-  unfolding pairs_of pair_parts
-  parts_sum [] = refl
-  parts_sum (name ∷ []) = refl
-  parts_sum (name ∷ part ∷ fields) =
-      sum_by-cons (λ x. number_in x.part) (record { cell = cell_named names name; part = number_at 1000000 part }) (pairs_of names fields) ∙ ap (λ (n : ℕ). number_in (number_at 1000000 part) + n) (parts_sum fields) ∙ sym (sum_by-cons (λ f. number_in (number_at 1000000 f)) part (pair_parts fields))
-
-  whole_sum : (fields : List (List ℕ)) → total_of (pairs_of names fields) ≡ sum_by (λ f. number_in (number_at 1000000 f)) (pair_parts fields)
-  whole_sum fields = sum_by-map (λ e. e.part) _ (pairs_of names fields) ∙ parts_sum fields
-
-  -- what is told of pairs is told of their fields
-  told_alike : (told : Bool → Bool → Bool → List (Option ℕ) → ℕ → Result State TextKind) (fields : List (List ℕ)) →
-      told (list_any (λ x. is_bad 1 x.part) (pairs_of names fields)) (list_any (λ x. is_over x.part) (pairs_of names fields)) (list_any (λ x. is_none x.cell) (pairs_of names fields)) (map (λ x. x.cell) (pairs_of names fields)) (total_of (pairs_of names fields))
-      ≡ told (list_any (λ f. is_bad 1 (number_at 1000000 f)) (pair_parts fields)) (list_any (λ f. is_over (number_at 1000000 f)) (pair_parts fields)) (list_any (λ f. is_none (cell_named names f)) (pair_names fields)) (map (cell_named names) (pair_names fields)) (sum_by (λ f. number_in (number_at 1000000 f)) (pair_parts fields))
-  told_alike told fields = rw (parts_any (is_bad 1) fields, parts_any is_over fields, any_unknown fields, cells_named fields, whole_sum fields) refl
-
--- Names of cells stand twice where their cells do.
-same_cell : (names : List (List ℕ)) (a b : List ℕ) (c d : ℕ) → cell_named names a ≡ Some c → cell_named names b ≡ Some d → (d == c) ≡ is_word b a
-same_cell names a b c d e f = elim (cases_eq d c) [
-  | inl same ↦
-      let here = (bytes_eq-Decides a (get_or names c [])).0 (position-Some (bytes_eq a) names c [] e).1 in
-      let there = (bytes_eq-Decides b (get_or names d [])).0 (position-Some (bytes_eq b) names d [] f).1 in
-      let equal : b ≡ a = there ∙ ap (λ (k : ℕ). get_or names k []) same ∙ sym here in
-      eq-eqb d c same ∙ sym ((bytes_eq-Decides b a).1 equal)
-  | inr apart_cells ↦ ne_eqb d c apart_cells ∙ sym (false_from_ne_true (is_word b a) (λ is.
-      let both : Some d ≡ Some c = sym f ∙ ap (cell_named names) ((bytes_eq-Decides b a).0 is) ∙ e in
-      apart_cells (let equal : d ≡ c = cc in equal)))
-]
-
-same_places : (names : List (List ℕ)) (name : List ℕ) (c : ℕ) (others : List (List ℕ)) → cell_named names name ≡ Some c → list_any (λ f. is_none (cell_named names f)) others ≡ false → stands_in (Some c) (map (cell_named names) others) ≡ list_any (λ other. is_word other name) others
-same_places names name c [] e known = refl
-same_places names name c (other ∷ others) e known =
-    let parts = or_parts (is_none (cell_named names other)) (list_any (λ f. is_none (cell_named names f)) others) known in
-    let found = found_at (cell_named names other) parts.0 in
-    let here : (is_some (cell_named names other) && unwrap_or (cell_named names other) 0 == c) ≡ is_word other name = ap (λ (o : Option ℕ). is_some o && unwrap_or o 0 == c) found.1 ∙ same_cell names name other c found.0 e found.1 in
-    ap (λ (b : Bool). b || stands_in (Some c) (map (cell_named names) others)) here ∙ ap (λ (b : Bool). is_word other name || b) (same_places names name c others e parts.1)
-  where
-    found_at : (o : Option ℕ) → is_none o ≡ false → (d : ℕ) × (o ≡ Some d)
-    found_at None none = absurd (let bad : ⊥ = cc in bad)
-    found_at (Some d) none = (d, refl)
-
-twice_alike : (names fields : List (List ℕ)) → list_any (λ f. is_none (cell_named names f)) fields ≡ false → has_double (map (cell_named names) fields) ≡ stands_twice fields
-unfolding has_double stands_twice
-twice_alike names [] known = refl
-twice_alike names (name ∷ others) known =
-    let parts = or_parts (is_none (cell_named names name)) (list_any (λ f. is_none (cell_named names f)) others) known in
-    let found = found_at (cell_named names name) parts.0 in
-    let here : stands_in (cell_named names name) (map (cell_named names) others) ≡ list_any (λ other. is_word other name) others = ap (λ (o : Option ℕ). stands_in o (map (cell_named names) others)) found.1 ∙ same_places names name found.0 others found.1 parts.1 in
-    ap (λ (b : Bool). b || has_double (map (cell_named names) others)) here ∙ ap (λ (b : Bool). list_any (λ other. is_word other name) others || b) (twice_alike names others parts.1)
-  where
-    found_at : (o : Option ℕ) → is_none o ≡ false → (d : ℕ) × (o ≡ Some d)
-    found_at None none = absurd (let bad : ⊥ = cc in bad)
-    found_at (Some d) none = (d, refl)
-
--- names are asked for doubles where each is known
-where_known : (line number over unknown double twice row sum move : Bool) (t : State) → (unknown ≡ false → double ≡ twice) → table_of line number over unknown double false row sum false move false t ≡ table_of line number over unknown twice false row sum false move false t
-where_known line number over true double twice row sum move t same = refl
-where_known line number over false double twice row sum move t same = ap (λ (b : Bool). table_of line number over false b false row sum false move false t) (same refl)
-
--- the table of pairs, told of their fields; with `lost` a name before them isn't a cell's
-pairs_told : (names : List (List ℕ)) (form lost row : Bool) (limit : ℕ) (t : State) (fields : List (List ℕ)) →
-    table_of (not form || false) (list_any (λ x. is_bad 1 x.part) (pairs_of names fields)) (list_any (λ x. is_over x.part) (pairs_of names fields) || false) (lost || list_any (λ x. is_none x.cell) (pairs_of names fields)) (has_double (map (λ x. x.cell) (pairs_of names fields))) false row (not (total_of (pairs_of names fields) == limit)) false false false t
-    ≡ table_of (not form || false) (list_any (λ f. is_bad 1 (number_at 1000000 f)) (pair_parts fields)) (list_any (λ f. is_over (number_at 1000000 f)) (pair_parts fields) || false) (lost || list_any (λ f. is_none (cell_named names f)) (pair_names fields)) (stands_twice (pair_names fields)) false row (not (sum_by (λ f. number_in (number_at 1000000 f)) (pair_parts fields) == limit)) false false false t
-pairs_told names form lost row limit t fields =
-    let unknown = list_any (λ f. is_none (cell_named names f)) (pair_names fields) in
-    told_alike names (λ bad over lacks cells total. table_of (not form || false) bad (over || false) (lost || lacks) (has_double cells) false row (not (total == limit)) false false false t) fields
-    ∙ where_known (not form || false) (list_any (λ f. is_bad 1 (number_at 1000000 f)) (pair_parts fields)) (list_any (λ f. is_over (number_at 1000000 f)) (pair_parts fields) || false) (lost || unknown) (has_double (map (cell_named names) (pair_names fields))) (stands_twice (pair_names fields)) row (not (sum_by (λ f. number_in (number_at 1000000 f)) (pair_parts fields) == limit)) false t
-    (λ known. twice_alike names (pair_names fields) (or_parts lost unknown known).1)
 
 -- A line by its keyword.
 module _ (s : State) (fields : List (List ℕ)) where
@@ -345,56 +202,17 @@ cells_table s word (one ∷ two ∷ three ∷ rest) = none_due (nat_lt 0 (length
     none_due true = bad_count s (one ∷ two ∷ three ∷ rest) (is_word word (codes "cell")) Cell _ refl (bad_count s (one ∷ two ∷ three ∷ rest) (is_word word (codes "start")) Start None refl refl)
     none_due false = bad_count s (one ∷ two ∷ three ∷ rest) (is_word word (codes "cell")) Cell _ refl (bad_count s (one ∷ two ∷ three ∷ rest) (is_word word (codes "grid")) Grid None refl refl)
 
--- the pairs of a line `first`
-pairs_table : (s : State) (fields : List (List ℕ)) → first_pairs s fields ≡ due_row (Some First) s fields
-pairs_table s fields =
-    let pairs = pairs_of s.names fields in
-    let made = adds First s fields in
-    pairs_by (are_pairs fields) (list_any (λ x. is_bad 1 x.part) pairs) (list_any (λ x. is_over x.part) pairs) (list_any (λ x. is_none x.cell) pairs) (has_double (map (λ x. x.cell) pairs)) (total_of pairs == s.total) _
-    ∙ pairs_told s.names (are_pairs fields) false false s.total made fields
-
 first_table : (s : State) (word : List ℕ) (fields : List (List ℕ)) → first_line s (word ∷ fields) ≡ due_row (line_due due.First (nat_lt 0 (length s.names)) word) s fields
-first_table s word fields = by_word s fields (is_word word (codes "first")) First (first_pairs s fields) (pairs_table s fields)
+first_table s word fields = by_word s fields (is_word word (codes "first")) First (first_pairs s fields) (first_by_cells s fields)
 
 -- The rows and the end.
--- the row of moves of a cell was read
-abbrev moves_made : State → List (List ℕ) → Option ℕ → State
-moves_made s moves c = record s { moves = set s.moves (unwrap_or c 0) (map (cell_of s) moves) }
-
 moves_table : (s : State) (fields : List (List ℕ)) → moves_line s fields ≡ due_row (Some Moves) s fields
 moves_table s [] = refl
-moves_table s (name ∷ moves) = own (cell_named s.names name)
-  where
-    own : (c : Option ℕ) → cond (nat_lt 64 (length moves)) (Err OverLimit) (with_moves s c (map (cell_named s.names) moves))
-        ≡ table_of false false (nat_lt 64 (length moves)) (is_none c || list_any (λ f. is_none (cell_named s.names f)) moves) (stands_twice moves) false (holds_of c (has_moves s)) false false (length moves == 0) false (moves_made s moves c)
-    own None = lost_by (nat_lt 64 (length moves)) (list_any (λ f. is_none (cell_named s.names f)) moves) (stands_twice moves) false (length moves == 0) (moves_made s moves None)
-    own (Some c) =
-        let cells = map (cell_named s.names) moves in
-        let t : State = record s { moves = set s.moves c (map (λ m. unwrap_or m 0) cells) } in
-        moves_by (nat_lt 64 (length moves)) (list_any (λ m. is_none m) cells) (has_double cells) (has_moves s c) (length cells == 0) t
-        ∙ ap (λ (b : Bool). table_of false false (nat_lt 64 (length moves)) b (has_double cells) false (has_moves s c) false false (length cells == 0) false t) (list_any-map (λ m. is_none m) (cell_named s.names) moves)
-        ∙ ap (λ (n : ℕ). table_of false false (nat_lt 64 (length moves)) (list_any (λ f. is_none (cell_named s.names f)) moves) (has_double cells) false (has_moves s c) false false (n == 0) false t) (length-map moves (cell_named s.names))
-        ∙ where_known false false (nat_lt 64 (length moves)) (list_any (λ f. is_none (cell_named s.names f)) moves) (has_double cells) (stands_twice moves) (has_moves s c) false (length moves == 0) t (twice_alike s.names moves)
-        ∙ ap (λ (row : List ℕ). table_of false false (nat_lt 64 (length moves)) (list_any (λ f. is_none (cell_named s.names f)) moves) (stands_twice moves) false (has_moves s c) false false (length moves == 0) false (record s { moves = set s.moves c row })) (map-map (λ m. unwrap_or m 0) (cell_named s.names) moves)
-
--- the pairs of a row of drift, by its cell
-drift_pairs_table : (s : State) (c : Option ℕ) (fields : List (List ℕ)) → drift_pairs s c fields
-    ≡ table_of (not (are_pairs fields) || false) (list_any (λ f. is_bad 1 (number_at 1000000 f)) (pair_parts fields)) (list_any (λ f. is_over (number_at 1000000 f)) (pair_parts fields) || false) (is_none c || list_any (λ f. is_none (cell_named s.names f)) (pair_names fields))
-    (stands_twice (pair_names fields)) false (holds_of c (has_parts s)) (not (sum_by (λ f. number_in (number_at 1000000 f)) (pair_parts fields) == s.drift)) false false false (record s { parts = set s.parts (unwrap_or c 0) (entries_in s fields) })
-drift_pairs_table s None fields =
-    let pairs = pairs_of s.names fields in
-    let t : State = record s { parts = set s.parts 0 (entries_in s fields) } in
-    unknown_by (are_pairs fields) (list_any (λ x. is_bad 1 x.part) pairs) (list_any (λ x. is_over x.part) pairs) (list_any (λ x. is_none x.cell) pairs) (has_double (map (λ x. x.cell) pairs)) false (not (total_of pairs == s.drift)) t
-    ∙ pairs_told s.names (are_pairs fields) true false s.drift t fields
-drift_pairs_table s (Some c) fields =
-    let pairs = pairs_of s.names fields in
-    let t : State = record s { parts = set s.parts c (entries_in s fields) } in
-    drift_by (are_pairs fields) (list_any (λ x. is_bad 1 x.part) pairs) (list_any (λ x. is_over x.part) pairs) (list_any (λ x. is_none x.cell) pairs) (has_double (map (λ x. x.cell) pairs)) (has_parts s c) (total_of pairs == s.drift) t
-    ∙ pairs_told s.names (are_pairs fields) false (has_parts s c) s.drift t fields
+moves_table s (name ∷ moves) = moves_by_cells s moves (cell_named s.names name)
 
 drift_table : (s : State) (fields : List (List ℕ)) → drift_line s fields ≡ due_row (Some Drift) s fields
 drift_table s [] = refl
-drift_table s (name ∷ fields) = drift_pairs_table s (cell_named s.names name) fields
+drift_table s (name ∷ fields) = drift_by_cells s (cell_named s.names name) fields
 
 overlook_table : (s : State) (fields : List (List ℕ)) → overlook_line s fields ≡ due_row (Some Overlook) s fields
 unfolding stands_twice
@@ -473,6 +291,3 @@ line_mirrored s line =
     let fields = fields_of line in
     let row : stage_line s.stage s fields ≡ due_row (line_of s fields) s (behind_first fields) = stage_table s.stage s fields ∙ ap (λ (o : Option Line). due_row o s (behind_first fields)) (of_line s fields) in
     by_bytes (says_nothing fields) (list_all is_text_byte line) s (added (line_of s fields) s (behind_first fields)) (stage_line s.stage s fields) (tests s (line_of s fields) (behind_first fields)) row
-
-pub line_taken : (new : Draft) (result : Result (Unit {0}) LineStop) (s : State) (line : List ℕ) → TakesLine new result (mirrored s line) → TakesLine new result (line_at s line)
-line_taken new result s line taken = subst (TakesLine new result) (sym (line_mirrored s line)) taken

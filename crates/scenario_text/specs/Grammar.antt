@@ -5,9 +5,12 @@ use Rattle.drift_chain.specs.declared.part.DriftPart.{DriftPart}
 use Rattle.search_model.specs.Grids.{grid_names, spread_rows}
 use Rattle.scenario_text.specs.declared.draft.Stage.TheVariants as due
 use Rattle.scenario_text.specs.declared.kind.TextKind.{TextKind}
+use Rattle.text_rows.specs.Fields.{behind_first}
 use Rattle.scenario_text.specs.Fields.{cell_named, pairs_of, entries_of}
 use Rattle.scenario_text.specs.State.{State}
-use Rattle.scenario_text.specs.KindTable.{Line, Scenario, Horizon, Parts, Cell, Grid, Start, First, Moves, Drift, Overlook, Spread, Rate, End, value, tests}
+use Rattle.scenario_text.specs.declared.line.Line.{Line}
+use Rattle.scenario_text.specs.declared.line.Line.TheVariants.{Scenario, Horizon, Parts, Cell, Grid, Start, First, Moves, Drift, Overlook, Spread, Rate, End}
+use Rattle.scenario_text.specs.KindTable.{value, tests, line_of}
 
 -- the number of the cell that a name names
 abbrev pub cell_of : State → List ℕ → ℕ
@@ -63,3 +66,7 @@ unless_any (test ∷ tests) t = if test.0 then Err test.1 else unless_any tests 
 -- the row of a line: its first fault, or else what it adds
 abbrev pub row_at : Line → State → List (List ℕ) → Result State TextKind
 row_at line s fields = unless_any (tests s (Some line) fields) (adds line s fields)
+
+-- the row of the line that these fields begin, or a bad line where they begin none
+abbrev pub fields_at : State → List (List ℕ) → Result State TextKind
+fields_at s fields = unless_any (tests s (line_of s fields) (behind_first fields)) (added (line_of s fields) s (behind_first fields))

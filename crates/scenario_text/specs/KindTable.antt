@@ -4,6 +4,8 @@ use Rattle.std.specs.List.{list_all, list_any}
 use Rattle.search_model.specs.Names.{is_name_byte}
 use Rattle.scenario_text.specs.declared.draft.Stage.{Stage}
 use Rattle.scenario_text.specs.declared.draft.Stage.TheVariants as due
+use Rattle.scenario_text.specs.declared.line.Line.{Line}
+use Rattle.scenario_text.specs.declared.line.Line.TheVariants.{Scenario, Horizon, Parts, Cell, Grid, Start, First, Moves, Drift, Overlook, Spread, Rate, End}
 use Rattle.scenario_text.specs.declared.kind.TextKind.{TextKind}
 use Rattle.scenario_text.specs.declared.kind.TextKind.TheVariants.{NotText, BadLine, BadNumber, OverLimit, UnknownName, DoubleName, MissingRow, DoubleRow, WrongSum, PartOver, NoMove, TooWide}
 use Rattle.text_rows.specs.Fields.{fields_of, is_text_byte, is_word, behind_first, first_alone}
@@ -13,21 +15,6 @@ use Rattle.scenario_text.specs.State.{State}
 use Rattle.search_grid.specs.Moves.{moves_from}
 
 -- The lines.
-
-pub data Line : Type 0 where
-  Scenario : Line
-  Horizon : Line
-  Parts : Line
-  Cell : Line
-  Grid : Line
-  Start : Line
-  First : Line
-  Moves : Line
-  Drift : Line
-  Overlook : Line
-  Spread : Line
-  Rate : Line
-  End : Line
 
 -- a line with this keyword, or one of the others
 abbrev pub with_keyword : List ℕ → List ℕ → Line → Option Line → Option Line

@@ -4,6 +4,7 @@ pub mod Fields
 pub mod KindTable
 pub mod Grammar
 pub mod Reading
+pub mod ByCells
 pub mod Mirror
 pub mod Sound
 pub mod Faults

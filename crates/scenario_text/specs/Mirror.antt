@@ -1,20 +1,20 @@
 -- The code's own words for what each line gives, until all of it speaks of the rows of the table.
-use Rattle.std.specs.Prelude.{ℕ, ◌-◌, ◌*◌, not, ◌&&◌, ◌||◌, ◌==◌, nat_lt, nat_le, if◌then◌else◌, List, [], ◌∷◌, map, length, set, replicate, Option, Some, None, is_none, is_some, unwrap_or, Result, Ok, Err, codes}
+use Rattle.std.specs.Prelude.{ℕ, ◌-◌, ◌*◌, not, ◌&&◌, ◌||◌, ◌==◌, nat_lt, nat_le, if◌then◌else◌, List, [], ◌∷◌, map, length, set, replicate, Option, Some, None, is_some, Result, Ok, Err, codes}
 use Rattle.std.specs.List.{list_all, list_any}
 use Rattle.exact_parts.specs.declared.number.Number.{Number}
 use Rattle.search_model.specs.Names.{is_name_byte}
 use Rattle.scenario_text.specs.declared.draft.Stage.{Stage}
 use Rattle.scenario_text.specs.declared.draft.Stage.TheVariants.{Version, Horizon, Parts, Cells, Start, First, Rows, Ended}
 use Rattle.scenario_text.specs.declared.kind.TextKind.{TextKind}
-use Rattle.scenario_text.specs.declared.kind.TextKind.TheVariants.{NotText, BadLine, BadNumber, OverLimit, UnknownName, DoubleName, MissingRow, DoubleRow, WrongSum, PartOver, NoMove, TooWide}
-use Rattle.scenario_text.specs.declared.pair.Pair.{Pair}
+use Rattle.scenario_text.specs.declared.kind.TextKind.TheVariants.{NotText, BadLine, BadNumber, OverLimit, UnknownName, DoubleName, MissingRow, DoubleRow, WrongSum, PartOver, TooWide}
 use Rattle.text_rows.specs.Fields.{fields_of, is_text_byte, is_word}
 use Rattle.exact_parts.specs.Decimal.{number_at}
-use Rattle.scenario_text.specs.Fields.{says_nothing, is_bad, is_over, number_in, cell_named, has_double, pairs_of, are_pairs, entries_of, total_of, pairs_fault}
+use Rattle.scenario_text.specs.Fields.{says_nothing, is_bad, is_over, number_in, cell_named, pairs_of, are_pairs}
 use Rattle.search_model.specs.Grids.{spread_rows}
 use Rattle.scenario_text.specs.State.{State}
-use Rattle.scenario_text.specs.KindTable.{has_moves, has_parts, has_overlook, lacks_row, is_narrow}
+use Rattle.scenario_text.specs.KindTable.{has_overlook, lacks_row, is_narrow}
 use Rattle.scenario_text.specs.Grammar.{with_name, with_cells}
+use Rattle.scenario_text.specs.ByCells.{with_first, with_moves, drift_pairs}
 
 -- `scenario 1`
 abbrev pub version_line : State → List (List ℕ) → Result State TextKind
@@ -78,18 +78,7 @@ cells_line s (word ∷ rows ∷ cols ∷ []) =
     if is_word word (codes "grid") && length s.names == 0 then with_grid s (number_at 200 rows) (number_at 200 cols) else Err BadLine
 cells_line s _ = Err BadLine
 
--- a fault, or else what follows
-abbrev pub unless_fault : Option TextKind → Result State TextKind → Result State TextKind
-unless_fault (Some kind) more = Err kind
-unless_fault None more = more
-
 -- `first NAME PART NAME PART ..`
-abbrev pub with_first : State → List Pair → Result State TextKind
-with_first s pairs =
-    unless_fault (pairs_fault pairs)
-    (if not (total_of pairs == s.total) then Err WrongSum else
-    Ok (record s { stage = Rows; first = entries_of pairs }))
-
 abbrev pub first_pairs : State → List (List ℕ) → Result State TextKind
 first_pairs s fields = if are_pairs fields then with_first s (pairs_of s.names fields) else Err BadLine
 
@@ -98,38 +87,12 @@ first_line s (word ∷ fields) = if is_word word (codes "first") then first_pair
 first_line s _ = Err BadLine
 
 -- `moves NAME NAME NAME ..`
-abbrev pub with_moves : State → Option ℕ → List (Option ℕ) → Result State TextKind
-with_moves s None moves = Err UnknownName
-with_moves s (Some c) moves =
-    if list_any (λ m. is_none m) moves then Err UnknownName else
-    (if has_double moves then Err DoubleName else
-    (if has_moves s c then Err DoubleRow else
-    (if length moves == 0 then Err NoMove else
-    Ok (record s { moves = set s.moves c (map (λ m. unwrap_or m 0) moves) }))))
-
 abbrev pub moves_line : State → List (List ℕ) → Result State TextKind
 moves_line s (name ∷ moves) =
     if nat_lt 64 (length moves) then Err OverLimit else with_moves s (cell_named s.names name) (map (cell_named s.names) moves)
 moves_line s _ = Err BadLine
 
--- the fault of a row whose own cell is unknown: numbers go before names
-abbrev pub unknown_after : Option TextKind → TextKind
-unknown_after (Some BadNumber) = BadNumber
-unknown_after (Some OverLimit) = OverLimit
-unknown_after _ = UnknownName
-
 -- `drift NAME NAME PART NAME PART ..`
-abbrev pub with_parts_of : State → Option ℕ → List Pair → Result State TextKind
-with_parts_of s None pairs = Err (unknown_after (pairs_fault pairs))
-with_parts_of s (Some c) pairs =
-    unless_fault (pairs_fault pairs)
-    (if has_parts s c then Err DoubleRow else
-    (if not (total_of pairs == s.drift) then Err WrongSum else
-    Ok (record s { parts = set s.parts c (entries_of pairs) })))
-
-abbrev pub drift_pairs : State → Option ℕ → List (List ℕ) → Result State TextKind
-drift_pairs s c fields = if are_pairs fields then with_parts_of s c (pairs_of s.names fields) else Err BadLine
-
 abbrev pub drift_line : State → List (List ℕ) → Result State TextKind
 drift_line s (name ∷ fields) = drift_pairs s (cell_named s.names name) fields
 drift_line s _ = Err BadLine

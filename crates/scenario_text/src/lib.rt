@@ -8,6 +8,7 @@ mod digits;
 mod draft;
 mod kind;
 mod laws;
+mod line;
 mod number_field;
 mod pair;
 mod pairs;
