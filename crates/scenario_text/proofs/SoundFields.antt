@@ -42,7 +42,7 @@ none_pass p (x ∷ xs) e = let parts = or_parts (p x) (list_any p xs) e in All-c
 pub named_within : (names : List (List ℕ)) (name : List ℕ) (c : ℕ) → cell_named names name ≡ Some c → c < length names
 named_within names name c e = position_within (bytes_eq name) names c [] e
 
-found_within : (o : Option ℕ) (n : ℕ) → ((c : ℕ) → o ≡ Some c → c < n) → is_none o ≡ false → unwrap_or o 0 < n
+pub found_within : (o : Option ℕ) (n : ℕ) → ((c : ℕ) → o ≡ Some c → c < n) → is_none o ≡ false → unwrap_or o 0 < n
 found_within None n h e = absurd (true≢false e)
 found_within (Some c) n h e = h c refl
 
