@@ -23,6 +23,7 @@ pub mod Spreads
 pub mod FirstFields
 pub mod ByCellNames
 pub mod Due
+pub mod Passed
 pub mod SoundFields
 pub mod SoundNames
 pub mod SoundRows
@@ -35,7 +36,6 @@ pub mod Assembled
 pub mod FrontLines
 pub mod EndLines
 pub mod FirstFaults
-pub mod Tables
 pub mod KindOrder
 pub mod Answered
 pub mod InRows

@@ -5,7 +5,6 @@ pub mod KindTable
 pub mod Grammar
 pub mod Reading
 pub mod ByCells
-pub mod Mirror
 pub mod Sound
 pub mod Faults
 pub mod InRows
