@@ -9,23 +9,25 @@ use Rattle.std.proofs.lemmas.List.Quantifiers.{position-Some}
 use Rattle.std.proofs.lemmas.List.Sums.{sum_by-cons}
 use Rattle.std.proofs.lemmas.Slice.Eq.{bytes_eq-Decides}
 use Rattle.exact_parts.specs.declared.number.Number.{Number}
+use Rattle.scenario_text.specs.declared.draft.Stage.TheVariants as due
 use Rattle.scenario_text.specs.declared.kind.TextKind.{TextKind}
 use Rattle.scenario_text.specs.declared.kind.TextKind.TheVariants.{BadLine, BadNumber, OverLimit, UnknownName, DoubleName, MissingRow, DoubleRow, WrongSum, PartOver, NoMove, TooWide}
 use Rattle.text_rows.specs.Fields.{is_word}
 use Rattle.exact_parts.specs.Decimal.{number_at}
 use Rattle.list_laws.proofs.Mapped.{list_any-map}
 use Rattle.list_laws.proofs.Sums.{sum_by-map}
-use Rattle.scenario_text.specs.Fields.{is_bad, is_over, number_in, cell_named, stands_in, has_double, are_pairs, pairs_of, total_of}
+use Rattle.scenario_text.specs.Fields.{entries_in, is_bad, is_over, number_in, cell_named, are_pairs}
+use Rattle.scenario_text.specs.ByCells.{stands_in, has_double, pairs_of, total_of, unless_fault, with_first, with_moves, unknown_after, drift_pairs, entries_of}
+use Rattle.drift_chain.specs.declared.part.DriftPart.{DriftPart}
 use Rattle.scenario_text.specs.State.{State}
 use Rattle.scenario_text.specs.declared.draft.Draft.{Draft}
 use Rattle.scenario_text.specs.declared.stop.LineStop.{LineStop}
 use Rattle.scenario_text.specs.Gives.{TakesLine}
-use Rattle.scenario_text.specs.ByCells.{unless_fault, with_first, with_moves, unknown_after, drift_pairs}
 use Rattle.scenario_text.proofs.FirstFields.{front_none, front_some}
-use Rattle.scenario_text.specs.Grammar.{cell_of, entries_in, adds, unless_any, row_at}
+use Rattle.scenario_text.specs.Grammar.{cell_of, unless_any, row_at}
 use Rattle.list_laws.proofs.Mapped.{map-map}
 use Rattle.scenario_text.specs.declared.line.Line.TheVariants.{First, Moves, Drift}
-use Rattle.scenario_text.specs.KindTable.{pair_names, pair_parts, stands_twice, holds_of, has_moves, has_parts}
+use Rattle.scenario_text.specs.KindTable.{pair_names, pair_parts, stands_twice, holds_of, has_moves, has_parts, tests}
 
 -- the kinds in their order, by what the tests give
 abbrev table_of : Bool → Bool → Bool → Bool → Bool → Bool → Bool → Bool → Bool → Bool → Bool → State → Result State TextKind
@@ -172,12 +174,24 @@ pairs_told names form lost row limit t fields =
     (λ known. twice_alike names (pair_names fields) (or_parts lost unknown known).1)
 
 -- the pairs of a line `first`
+-- the entries of pairs are those of their fields
+entries_alike : (names fields : List (List ℕ)) → entries_of (pairs_of names fields) ≡ entries_in names fields
+unfolding pairs_of entries_in
+entries_alike names [] = refl
+entries_alike names (name ∷ []) = refl
+entries_alike names (name ∷ part ∷ fields) = ap (λ (es : List DriftPart). record { cell = unwrap_or (cell_named names name) 0; part = number_in (number_at 1000000 part) } ∷ es) (entries_alike names fields)
+
+-- the first parts were read
+abbrev first_made : State → List DriftPart → State
+first_made s entries = record s { stage = due.Rows; first = entries }
+
 pub first_by_cells : (s : State) (fields : List (List ℕ)) → cond (are_pairs fields) (with_first s (pairs_of s.names fields)) (Err BadLine) ≡ row_at First s fields
 first_by_cells s fields =
     let pairs = pairs_of s.names fields in
-    let made = adds First s fields in
-    pairs_by (are_pairs fields) (list_any (λ x. is_bad 1 x.part) pairs) (list_any (λ x. is_over x.part) pairs) (list_any (λ x. is_none x.cell) pairs) (has_double (map (λ x. x.cell) pairs)) (total_of pairs == s.total) _
+    let made = first_made s (entries_of pairs) in
+    pairs_by (are_pairs fields) (list_any (λ x. is_bad 1 x.part) pairs) (list_any (λ x. is_over x.part) pairs) (list_any (λ x. is_none x.cell) pairs) (has_double (map (λ x. x.cell) pairs)) (total_of pairs == s.total) made
     ∙ pairs_told s.names (are_pairs fields) false false s.total made fields
+    ∙ ap (λ (es : List DriftPart). unless_any (tests s (Some First) fields) (first_made s es)) (entries_alike s.names fields)
 
 -- Moves.
 
@@ -185,10 +199,10 @@ first_by_cells s fields =
 abbrev moves_made : State → List (List ℕ) → Option ℕ → State
 moves_made s moves c = record s { moves = set s.moves (unwrap_or c 0) (map (cell_of s) moves) }
 
-pub moves_by_cells : (s : State) (moves : List (List ℕ)) (c : Option ℕ) → cond (nat_lt 64 (length moves)) (Err OverLimit) (with_moves s c (map (cell_named s.names) moves))
+moves_of_cells : (s : State) (moves : List (List ℕ)) (c : Option ℕ) → cond (nat_lt 64 (length moves)) (Err OverLimit) (with_moves s c (map (cell_named s.names) moves))
     ≡ table_of false false (nat_lt 64 (length moves)) (is_none c || list_any (λ f. is_none (cell_named s.names f)) moves) (stands_twice moves) false (holds_of c (has_moves s)) false false (length moves == 0) false (moves_made s moves c)
-moves_by_cells s moves None = lost_by (nat_lt 64 (length moves)) (list_any (λ f. is_none (cell_named s.names f)) moves) (stands_twice moves) false (length moves == 0) (moves_made s moves None)
-moves_by_cells s moves (Some c) =
+moves_of_cells s moves None = lost_by (nat_lt 64 (length moves)) (list_any (λ f. is_none (cell_named s.names f)) moves) (stands_twice moves) false (length moves == 0) (moves_made s moves None)
+moves_of_cells s moves (Some c) =
     let cells = map (cell_named s.names) moves in
     let t : State = record s { moves = set s.moves c (map (λ m. unwrap_or m 0) cells) } in
     moves_by (nat_lt 64 (length moves)) (list_any (λ m. is_none m) cells) (has_double cells) (has_moves s c) (length cells == 0) t
@@ -198,19 +212,29 @@ moves_by_cells s moves (Some c) =
     ∙ ap (λ (row : List ℕ). table_of false false (nat_lt 64 (length moves)) (list_any (λ f. is_none (cell_named s.names f)) moves) (stands_twice moves) false (has_moves s c) false false (length moves == 0) false (record s { moves = set s.moves c row })) (map-map (λ m. unwrap_or m 0) (cell_named s.names) moves)
 
 -- the pairs of a row of drift, by its cell
-pub drift_by_cells : (s : State) (c : Option ℕ) (fields : List (List ℕ)) → drift_pairs s c fields
-    ≡ table_of (not (are_pairs fields) || false) (list_any (λ f. is_bad 1 (number_at 1000000 f)) (pair_parts fields)) (list_any (λ f. is_over (number_at 1000000 f)) (pair_parts fields) || false) (is_none c || list_any (λ f. is_none (cell_named s.names f)) (pair_names fields))
-    (stands_twice (pair_names fields)) false (holds_of c (has_parts s)) (not (sum_by (λ f. number_in (number_at 1000000 f)) (pair_parts fields) == s.drift)) false false false (record s { parts = set s.parts (unwrap_or c 0) (entries_in s fields) })
-drift_by_cells s None fields =
+pub moves_by_cells : (s : State) (name : List ℕ) (moves : List (List ℕ)) → cond (nat_lt 64 (length moves)) (Err OverLimit) (with_moves s (cell_named s.names name) (map (cell_named s.names) moves)) ≡ row_at Moves s (name ∷ moves)
+moves_by_cells s name moves = moves_of_cells s moves (cell_named s.names name)
+
+-- the pairs of a row of drift, by its cell
+abbrev drift_row : State → Option ℕ → List (List ℕ) → List DriftPart → Result State TextKind
+drift_row s c fields entries =
+    table_of (not (are_pairs fields) || false) (list_any (λ f. is_bad 1 (number_at 1000000 f)) (pair_parts fields)) (list_any (λ f. is_over (number_at 1000000 f)) (pair_parts fields) || false) (is_none c || list_any (λ f. is_none (cell_named s.names f)) (pair_names fields))
+    (stands_twice (pair_names fields)) false (holds_of c (has_parts s)) (not (sum_by (λ f. number_in (number_at 1000000 f)) (pair_parts fields) == s.drift)) false false false (record s { parts = set s.parts (unwrap_or c 0) entries })
+
+drift_of_pairs : (s : State) (c : Option ℕ) (fields : List (List ℕ)) → drift_pairs s c fields ≡ drift_row s c fields (entries_of (pairs_of s.names fields))
+drift_of_pairs s None fields =
     let pairs = pairs_of s.names fields in
-    let t : State = record s { parts = set s.parts 0 (entries_in s fields) } in
+    let t : State = record s { parts = set s.parts 0 (entries_of pairs) } in
     unknown_by (are_pairs fields) (list_any (λ x. is_bad 1 x.part) pairs) (list_any (λ x. is_over x.part) pairs) (list_any (λ x. is_none x.cell) pairs) (has_double (map (λ x. x.cell) pairs)) false (not (total_of pairs == s.drift)) t
     ∙ pairs_told s.names (are_pairs fields) true false s.drift t fields
-drift_by_cells s (Some c) fields =
+drift_of_pairs s (Some c) fields =
     let pairs = pairs_of s.names fields in
-    let t : State = record s { parts = set s.parts c (entries_in s fields) } in
+    let t : State = record s { parts = set s.parts c (entries_of pairs) } in
     drift_by (are_pairs fields) (list_any (λ x. is_bad 1 x.part) pairs) (list_any (λ x. is_over x.part) pairs) (list_any (λ x. is_none x.cell) pairs) (has_double (map (λ x. x.cell) pairs)) (has_parts s c) (total_of pairs == s.drift) t
     ∙ pairs_told s.names (are_pairs fields) false (has_parts s c) s.drift t fields
+
+pub drift_by_cells : (s : State) (name : List ℕ) (fields : List (List ℕ)) → drift_pairs s (cell_named s.names name) fields ≡ row_at Drift s (name ∷ fields)
+drift_by_cells s name fields = drift_of_pairs s (cell_named s.names name) fields ∙ ap (drift_row s (cell_named s.names name) fields) (entries_alike s.names fields)
 
 module _ (new : Draft) (result : Result (Unit {0}) LineStop) (s : State) where
   pub first_taken : (fields : List (List ℕ)) → are_pairs fields ≡ true → TakesLine new result (with_first s (pairs_of s.names fields)) → TakesLine new result (row_at First s fields)
@@ -222,7 +246,7 @@ module _ (new : Draft) (result : Result (Unit {0}) LineStop) (s : State) where
   moves_taken name moves cell cells le one all taken =
       let few = le-ltb 64 (length moves) le in
       let row : with_moves s (cell_named s.names name) (map (cell_named s.names) moves) ≡ cond (nat_lt 64 (length moves)) (Err OverLimit) (with_moves s (cell_named s.names name) (map (cell_named s.names) moves)) = rw few refl in
-      subst (TakesLine new result) (ap (λ (o : Option ℕ). with_moves s o cells) one ∙ ap (with_moves s (cell_named s.names name)) all ∙ row ∙ moves_by_cells s moves (cell_named s.names name)) taken
+      subst (TakesLine new result) (ap (λ (o : Option ℕ). with_moves s o cells) one ∙ ap (with_moves s (cell_named s.names name)) all ∙ row ∙ moves_by_cells s name moves) taken
 
   -- the first fields are given beside the text
   pub drift_taken : {X : Type 0} (view : X → List ℕ) (fields : List X) (d : X) (fs more : List (List ℕ)) → 1 ≤ length fields → map view fields ≡ take 66 fs → more ≡ drop 1 fs → TakesLine new result (drift_pairs s (cell_named s.names (view (get_or fields 0 d))) more) → TakesLine new result (row_at Drift s fs)
@@ -230,11 +254,7 @@ module _ (new : Draft) (result : Result (Unit {0}) LineStop) (s : State) where
   drift_taken view (f ∷ fields) d fs more some front behind taken =
       let name = view f in
       let whole : fs ≡ name ∷ more = front_some 65 name (map view fields) fs front ∙ ap (λ (x : List (List ℕ)). name ∷ x) (sym behind) in
-      subst (TakesLine new result) (drift_by_cells s (cell_named s.names name) more ∙ ap (row_at Drift s) (sym whole)) taken
+      subst (TakesLine new result) (drift_by_cells s name more ∙ ap (row_at Drift s) (sym whole)) taken
 
 pub no_drift : (s : State) (fs : List (List ℕ)) → [] ≡ take 66 fs → row_at Drift s fs ≡ Err BadLine
 no_drift s fs front = ap (row_at Drift s) (front_none 65 fs front)
-
-pub ruleset first_steps = (first_taken)
-
-pub ruleset drift_steps = (no_drift)

@@ -22,12 +22,12 @@ use Rattle.text_rows.specs.Fields.{fields_of, is_text_byte, is_word}
 use Rattle.text_rows.proofs.RowTexts.{IsField, AreFields, IsField-decimal, word}
 use Rattle.exact_parts.proofs.Decimals.{number_at-decimal}
 use Rattle.text_rows.proofs.Results.{err_ok, same_ok}
-use Rattle.scenario_text.specs.Fields.{says_nothing, cell_named}
+use Rattle.scenario_text.specs.Fields.{entries_in, says_nothing, cell_named}
 use Rattle.search_model.specs.Grids.{grid_name, grid_names}
 use Rattle.scenario_text.specs.State.{State}
 use Rattle.scenario_text.specs.Reading.{line_at}
 use Rattle.scenario_text.specs.KindTable.{row_due, line_due, tests}
-use Rattle.scenario_text.specs.Grammar.{cell_of, entries_in, with_cells, adds, added, unless_any, row_at, fields_at}
+use Rattle.scenario_text.specs.Grammar.{cell_of, with_cells, adds, added, unless_any, row_at, fields_at}
 use Rattle.scenario_text.specs.declared.line.Line.{Line}
 use Rattle.scenario_text.specs.declared.line.Line.TheVariants.{Scenario, Horizon, Parts, Cell, Grid, Start, First, Moves, Drift, Overlook, Spread, Rate, End}
 use Rattle.scenario_text.proofs.ByCellNames.{moves_by_cells}
@@ -180,7 +180,7 @@ first_fields a a' moves (key ∷ fields) at e =
     let is = only_read (is_word key (codes "first")) First a a' fields (begun due.First a a' key fields at e) in
     let made = passed (tests a (Some First) fields) (adds First a fields) a' (adds First b fields) is.1 in
     let here : line_due a.stage (nat_lt 0 (length a.names)) key ≡ Some First = ap (λ (g : Stage). line_due g (nat_lt 0 (length a.names)) key) at ∙ passing _ _ _ is.0 in
-    (entries_in a fields, sym made.0, begins b key fields First here ∙ made.1)
+    (entries_in a.names fields, sym made.0, begins b key fields First here ∙ made.1)
 
 first_alike : (a a' : State) (moves : List (List ℕ)) (line : List ℕ) → a.stage ≡ due.First → line_at a line ≡ Ok a' → (a' ≡ a) ⊎ ((es : List DriftPart) × (a' ≡ record a { stage = due.Rows; first = es }) × (line_at (record a { gridded = false; moves = moves }) line ≡ Ok (record a { gridded = false; moves = moves; stage = due.Rows; first = es })))
 first_alike a a' moves line at e = elim (read_fields a a' line e) [
@@ -224,7 +224,7 @@ moves_read s rows cols some_row some_col few =
     record {
       fields = (word (codes "moves") (omega arith) refl, (field k lt, AreFields-named names n field (of k) moves.within));
       says = refl;
-      taken = sym (moves_by_cells (after k) (map (name_in names) (of k)) (cell_named names (name_in names k))) ∙ rw (room, own, known) (with_moves-taken (after k) k n (of k) moves (filled-open of [] n k lt)
+      taken = sym (moves_by_cells (after k) (name_in names k) (map (name_in names) (of k))) ∙ rw (room, own, known) (with_moves-taken (after k) k n (of k) moves (filled-open of [] n k lt)
           ∙ ap (λ (xs : List (List ℕ)). Ok (rows_due s rows cols xs)) (filled-next of [] n k lt));
     } in
     subst (λ (u : State). AreTaken u (move_lines rows cols) (rows_due s rows cols (side_moves rows cols))) (sym first)

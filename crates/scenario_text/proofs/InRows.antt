@@ -13,7 +13,7 @@ use Rattle.search_grid.specs.Moves.{moves_from}
 use Rattle.search_model.specs.Names.{IsName, name_in}
 use Rattle.scenario_text.specs.declared.draft.Stage.{Stage}
 use Rattle.scenario_text.specs.declared.draft.Stage.TheVariants as due
-use Rattle.scenario_text.specs.Fields.{cell_named, stands_in, has_double}
+use Rattle.scenario_text.specs.ByCells.{stands_in, has_double}
 use Rattle.search_model.specs.Grids.{spread_row, spread_rows}
 use Rattle.scenario_text.specs.State.{State}
 use Rattle.scenario_text.specs.declared.line.Line.{Line}
@@ -200,7 +200,7 @@ spread_in_rows s t part came at few e =
       fields = (word (codes "drift") (omega arith) refl, (field_in s h k lt, AreFields-entries s.names n (field_in s h) (of k) are.within small));
       says = refl;
       taken = begins (after k) (codes "drift") _ Drift (row_begins (after k) (codes "drift") Drift at refl)
-          ∙ sym (drift_by_cells (after k) (cell_named s.names (name_in s.names k)) (entry_fields s.names (of k)))
+          ∙ sym (drift_by_cells (after k) (name_in s.names k) (entry_fields s.names (of k)))
           ∙ rw (even, found, pairs) (with_parts-taken (after k) k (map said (of k)) (of k) (entries_said n s.drift (of k) are) (filled-open of [] n k lt)
           ∙ ap (λ (xs : List (List DriftPart)). Ok (record s { parts = xs })) (filled-next of [] n k lt));
     } in

@@ -37,6 +37,7 @@ pub mod FrontLines
 pub mod EndLines
 pub mod FirstFaults
 pub mod KindOrder
+pub mod WorkedTexts
 pub mod Answered
 pub mod InRows
 pub mod GridRows

@@ -109,7 +109,7 @@ Takes-moves p h i j k lt =
     record {
       fields = (word (codes "moves") (omega arith) refl, (IsField-cell_name p h i lt, AreFields-names p h row moves.within));
       says = refl;
-      taken = sym (moves_by_cells s (map (position_name p) row) (cell_named p.names (cell_name p i))) ∙ rw (few, found, names_known p h row moves.within) (with_moves-taken s i p.cells row moves before ∙ ap (λ (xs : List (List ℕ)). Ok (record s { moves = xs })) (moved p i lt));
+      taken = sym (moves_by_cells s (cell_name p i) (map (position_name p) row)) ∙ rw (few, found, names_known p h row moves.within) (with_moves-taken s i p.cells row moves before ∙ ap (λ (xs : List (List ℕ)). Ok (record s { moves = xs })) (moved p i lt));
     }
 
 -- Drift rows.
@@ -140,7 +140,7 @@ Takes-drift p h i j k lt =
     record {
       fields = (word (codes "drift") (omega arith) refl, (IsField-cell_name p h j lt, AreFields-pairs p h es row.within small));
       says = refl;
-      taken = sym (drift_by_cells s (cell_named p.names (cell_name p j)) (pair_fields p es)) ∙ rw (even, found, pairs) (with_parts-taken s j (map said es) es (IsSaid-row p.drift.denominator p.cells es row) before ∙ ap (λ (xs : List (List DriftPart)). Ok (record s { parts = xs })) (drifted p j lt));
+      taken = sym (drift_by_cells s (cell_name p j) (pair_fields p es)) ∙ rw (even, found, pairs) (with_parts-taken s j (map said es) es (IsSaid-row p.drift.denominator p.cells es row) before ∙ ap (λ (xs : List (List DriftPart)). Ok (record s { parts = xs })) (drifted p j lt));
     }
 
 -- Overlook parts.

@@ -10,7 +10,8 @@ use Rattle.std.proofs.lemmas.List.Sums.{sum_by-cons, fails_before_first}
 use Rattle.std.proofs.lemmas.Slice.Eq.{bytes_eq-Decides}
 use Rattle.drift_chain.specs.declared.part.DriftPart.{DriftPart}
 use Rattle.scenario_text.specs.declared.pair.Pair.{Pair}
-use Rattle.scenario_text.specs.Fields.{is_bad, is_over, number_in, cell_named, stands_in, has_double, pairs_of, entries_of, total_of, pairs_fault}
+use Rattle.scenario_text.specs.Fields.{is_bad, is_over, number_in, cell_named}
+use Rattle.scenario_text.specs.ByCells.{stands_in, has_double, pairs_of, entries_of, total_of, pairs_fault}
 use Rattle.exact_parts.specs.Decimal.{number_at}
 use Rattle.scenario_text.specs.Sound.{AreEntries, AreMoves}
 use Rattle.scenario_text.proofs.Numbers.{number_at_within, least_met}

@@ -13,7 +13,8 @@ use Rattle.scenario_text.specs.declared.draft.Stage.{Stage}
 use Rattle.scenario_text.specs.declared.draft.Stage.TheVariants as due
 use Rattle.scenario_text.specs.declared.line.Line.TheVariants.{Moves, Drift, Overlook, Spread, Rate, End}
 use Rattle.scenario_text.specs.declared.kind.TextKind.TheVariants.{BadLine, OverLimit}
-use Rattle.scenario_text.specs.Fields.{is_bad, is_over, number_in, cell_named, has_double, pairs_of, are_pairs, pairs_fault, total_of}
+use Rattle.scenario_text.specs.Fields.{is_bad, is_over, number_in, cell_named, are_pairs}
+use Rattle.scenario_text.specs.ByCells.{has_double, pairs_of, pairs_fault, total_of, with_moves, with_parts_of}
 use Rattle.exact_parts.specs.Decimal.{number_at}
 use Rattle.text_rows.proofs.Results.{err_ok, let_through}
 use Rattle.search_model.specs.Grids.{spread_rows}
@@ -21,7 +22,6 @@ use Rattle.scenario_text.specs.State.{State}
 use Rattle.scenario_text.specs.KindTable.{holds_of, has_moves, has_parts, has_overlook, lacks_row, is_narrow}
 use Rattle.scenario_text.specs.Grammar.{row_at}
 use Rattle.scenario_text.proofs.ByCellNames.{moves_by_cells, drift_by_cells}
-use Rattle.scenario_text.specs.ByCells.{with_moves, with_parts_of}
 use Rattle.scenario_text.specs.Sound.{AreEntries, AreMoves, IsPart, IsSound}
 use Rattle.scenario_text.proofs.SoundFields.{not_refused, named_within, AreMoves-from_named, AreEntries-from_pairs}
 use Rattle.scenario_text.proofs.SoundRows.{length-spread_rows, All-spread_rows}
@@ -74,7 +74,7 @@ found_moves s (Some c) fields t at within few h e =
 pub moves_sound : (s : State) (fields : List (List ℕ)) (t : State) → s.stage ≡ due.Rows → IsSound s → row_at Moves s fields ≡ Ok t → IsSound t
 moves_sound s [] t at h e = absurd (err_ok BadLine t e)
 moves_sound s (name ∷ moves) t at h e =
-    let few = not_refused (nat_lt 64 (length moves)) OverLimit (with_moves s (cell_named s.names name) (map (cell_named s.names) moves)) t (moves_by_cells s moves (cell_named s.names name) ∙ e) in
+    let few = not_refused (nat_lt 64 (length moves)) OverLimit (with_moves s (cell_named s.names name) (map (cell_named s.names) moves)) t (moves_by_cells s name moves ∙ e) in
     found_moves s (cell_named s.names name) moves t at (named_within s.names name) (ltb-false 64 (length moves) few.0) h few.1
 
 -- `drift NAME NAME PART NAME PART ..`
@@ -112,7 +112,7 @@ found_parts s (Some c) fields t at h e =
 pub drift_sound : (s : State) (fields : List (List ℕ)) (t : State) → s.stage ≡ due.Rows → IsSound s → row_at Drift s fields ≡ Ok t → IsSound t
 drift_sound s [] t at h e = absurd (err_ok BadLine t e)
 drift_sound s (name ∷ fields) t at h e =
-    let paired = let_through (are_pairs fields) BadLine (with_parts_of s (cell_named s.names name) (pairs_of s.names fields)) t (drift_by_cells s (cell_named s.names name) fields ∙ e) in
+    let paired = let_through (are_pairs fields) BadLine (with_parts_of s (cell_named s.names name) (pairs_of s.names fields)) t (drift_by_cells s name fields ∙ e) in
     found_parts s (cell_named s.names name) fields t at h paired.1
 
 -- `overlook NAME PART`

@@ -1,12 +1,11 @@
 -- What a line without a fault adds to what was read.
 use Rattle.std.specs.Prelude.{ℕ, ◌*◌, Bool, true, if◌then◌else◌, List, [], ◌∷◌, ◌++◌, map, length, set, replicate, Option, Some, None, unwrap_or, Result, Ok, Err}
 use Rattle.search_grid.specs.Sides.{side_moves}
-use Rattle.drift_chain.specs.declared.part.DriftPart.{DriftPart}
 use Rattle.search_model.specs.Grids.{grid_names, spread_rows}
 use Rattle.scenario_text.specs.declared.draft.Stage.TheVariants as due
 use Rattle.scenario_text.specs.declared.kind.TextKind.{TextKind}
 use Rattle.text_rows.specs.Fields.{behind_first}
-use Rattle.scenario_text.specs.Fields.{cell_named, pairs_of, entries_of}
+use Rattle.scenario_text.specs.Fields.{cell_named, entries_in}
 use Rattle.scenario_text.specs.State.{State}
 use Rattle.scenario_text.specs.declared.line.Line.{Line}
 use Rattle.scenario_text.specs.declared.line.Line.TheVariants.{Scenario, Horizon, Parts, Cell, Grid, Start, First, Moves, Drift, Overlook, Spread, Rate, End}
@@ -15,10 +14,6 @@ use Rattle.scenario_text.specs.KindTable.{value, tests, line_of}
 -- the number of the cell that a name names
 abbrev pub cell_of : State → List ℕ → ℕ
 cell_of s name = unwrap_or (cell_named s.names name) 0
-
--- the entries of `NAME PART NAME PART ..`
-abbrev pub entries_in : State → List (List ℕ) → List DriftPart
-entries_in s fields = entries_of (pairs_of s.names fields)
 
 -- a cell more, that has no rows yet
 abbrev pub with_name : State → List ℕ → State
@@ -44,9 +39,9 @@ adds Parts s (a ∷ d ∷ g ∷ []) = record s { stage = due.Cells; total = valu
 adds Cell s (name ∷ []) = with_name s name
 adds Grid s (rows ∷ cols ∷ []) = with_cells s (value Grid rows) (value Grid cols)
 adds Start s (name ∷ []) = record s { stage = due.First; start = cell_of s name }
-adds First s fields = record s { stage = due.Rows; first = entries_in s fields }
+adds First s fields = record s { stage = due.Rows; first = entries_in s.names fields }
 adds Moves s (name ∷ moves) = record s { moves = set s.moves (cell_of s name) (map (cell_of s) moves) }
-adds Drift s (name ∷ fields) = record s { parts = set s.parts (cell_of s name) (entries_in s fields) }
+adds Drift s (name ∷ fields) = record s { parts = set s.parts (cell_of s name) (entries_in s.names fields) }
 adds Overlook s (name ∷ part ∷ []) = record s { overlook = set s.overlook (cell_of s name) (Some (value Overlook part)) }
 adds Spread s (part ∷ []) = record s { parts = spread_rows s.drift (value Spread part) s.moves }
 adds Rate s (part ∷ []) = record s { overlook = replicate (length s.names) (Some (value Rate part)) }

@@ -4,6 +4,7 @@ pub mod Fields
 pub mod KindTable
 pub mod Grammar
 pub mod Reading
+pub mod Worked
 pub mod ByCells
 pub mod Sound
 pub mod Faults

@@ -1,6 +1,7 @@
 //! What the definitions of the text say together.
 
 ghost use Rattle.scenario_text.specs.Laws.{OneProblem, EveryTextSpellsOne, CanonicalSays, CanonicalReadsBack, CanonicalFrontReadsBack, FrontIgnoresRest};
+ghost use Rattle.scenario_text.specs.Worked.{WorkedTexts};
 ghost use Rattle.scenario_text.specs.InRows.{GridInRows, GridReadsOn, RateInRows, SpreadInRows};
 ghost use Rattle.scenario_text.specs.ReadingLaws.{SilentLinesAddNothing, KindsInOrder, FirstFaultDecides, FirstFaultDecidesAlone};
 
@@ -50,6 +51,11 @@ pub fn first_fault_decides_alone()
 #[tactic(auto, using(crate::proofs::KindOrder::kinds_in_order))]
 pub fn kinds_in_order()
     ensures { KindsInOrder }
+{}
+
+/// Two texts with what they say, and a fault of each kind, worked by hand.
+pub fn worked_texts()
+    ensures { WorkedTexts }
 {}
 
 /// The line `rate` says what an `overlook` line for each cell says.

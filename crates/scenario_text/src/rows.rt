@@ -141,7 +141,7 @@ fn take_drift_pairs(
 }
 
 /// `drift NAME NAME PART NAME PART ..`: of its fields the first are given beside their text
-#[tactic(auto, using(crate::proofs::ByCellNames::drift_steps))]
+#[tactic(auto, using(crate::proofs::ByCellNames::no_drift))]
 pub fn take_drift(
     alloc: Global,
     draft: &mut Draft,

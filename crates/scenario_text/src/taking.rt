@@ -6,9 +6,9 @@ ghost use Rattle.text_rows.specs.Fields.{fields_of as fields_lem};
 ghost use Rattle.scenario_text.specs.State.{state_of};
 ghost use Rattle.scenario_text.specs.Sound.{IsSound};
 ghost use Rattle.scenario_text.specs.Gives.{TakesLine, AreScanned};
-ghost use Rattle.scenario_text.specs.Fields.{cell_named as cell_named_lem, pairs_of};
+ghost use Rattle.scenario_text.specs.Fields.{cell_named as cell_named_lem};
+ghost use Rattle.scenario_text.specs.ByCells.{pairs_of, with_first};
 ghost use Rattle.scenario_text.specs.Grammar.{row_at, with_name};
-ghost use Rattle.scenario_text.specs.ByCells.{with_first};
 
 use crate::cell_names::{are_name_bytes, cell_named};
 use crate::draft::{Draft, Stage};
@@ -167,7 +167,6 @@ fn set_first(draft: &mut Draft, pairs: Pairs) -> Result<(), LineStop>
 }
 
 /// `first NAME PART NAME PART ..`, of which the text behind the keyword is given
-#[tactic(auto, using(crate::proofs::ByCellNames::first_steps))]
 pub fn take_first(alloc: Global, draft: &mut Draft, text: &[u8]) -> Result<(), LineStop>
     requires { IsSound (state_of draft.old) }
     ensures { TakesLine draft.new result (row_at Line.First (state_of draft.old) (fields_lem text.now)) }

@@ -1,6 +1,6 @@
 use Rattle.text_rows.specs.Fields.{fields_of}
 use Rattle.scenario_text.specs.State.{state_of}
-use Rattle.scenario_text.specs.Fields.{pairs_of}
+use Rattle.scenario_text.specs.ByCells.{pairs_of}
 use Rattle.scenario_text.proofs.ByCellNames.{first_taken}
 use Rattle.scenario_text.proofs.taking.take_first.Goals as goal
 
