@@ -1,7 +1,7 @@
 -- Lines of many names give the rows of the table, once their cells were looked up.
 use Rattle.std.specs.Str.{bytes_eq}
 use Rattle.std.proofs.Common.{◌≤◌, take, drop, ◌≡◌, ℕ, ◌+◌, Bool, true, false, cond, List, [], ◌∷◌, length, map, Option, Some, None, Result, Ok, Err, refl, sym, ap, subst, ◌∙◌, arith, inl, inr, get_or}
-use Rattle.std.specs.Prelude.{not, ◌&&◌, ◌||◌, ◌==◌, nat_lt, is_none, is_some, set, unwrap_or, sum_by}
+use Rattle.std.specs.Prelude.{if◌then◌else◌, not, ◌&&◌, ◌||◌, ◌==◌, nat_lt, is_none, is_some, set, unwrap_or, sum_by}
 use Rattle.std.specs.List.{list_any}
 use Rattle.std.proofs.lemmas.Bool.{le-ltb, eq-eqb, ne_eqb, cases_eq, or_parts, false_from_ne_true}
 use Rattle.std.proofs.lemmas.List.{length-map}
@@ -17,17 +17,53 @@ use Rattle.exact_parts.specs.Decimal.{number_at}
 use Rattle.list_laws.proofs.Mapped.{list_any-map}
 use Rattle.list_laws.proofs.Sums.{sum_by-map}
 use Rattle.scenario_text.specs.Fields.{entries_in, is_bad, is_over, number_in, cell_named, are_pairs}
-use Rattle.scenario_text.specs.ByCells.{stands_in, has_double, pairs_of, total_of, unless_fault, with_first, with_moves, unknown_after, drift_pairs, entries_of}
+use Rattle.scenario_text.specs.ByCells.{stands_in, has_double, pairs_of, entries_of, total_of, pairs_fault, unknown_after}
 use Rattle.drift_chain.specs.declared.part.DriftPart.{DriftPart}
 use Rattle.scenario_text.specs.State.{State}
 use Rattle.scenario_text.specs.declared.draft.Draft.{Draft}
 use Rattle.scenario_text.specs.declared.stop.LineStop.{LineStop}
-use Rattle.scenario_text.specs.Gives.{TakesLine}
+use Rattle.scenario_text.specs.Gives.{TakesLine, AreScanned}
+use Rattle.scenario_text.specs.declared.pair.Pair.{Pair}
+use Rattle.scenario_text.specs.declared.pairs.Pairs.{Pairs}
 use Rattle.scenario_text.proofs.FirstFields.{front_none, front_some}
 use Rattle.scenario_text.specs.Grammar.{cell_of, unless_any, row_at}
 use Rattle.list_laws.proofs.Mapped.{map-map}
 use Rattle.scenario_text.specs.declared.line.Line.TheVariants.{First, Moves, Drift}
 use Rattle.scenario_text.specs.KindTable.{pair_names, pair_parts, stands_twice, holds_of, has_moves, has_parts, tests}
+
+-- a fault, or else what follows
+abbrev pub unless_fault : Option TextKind → Result State TextKind → Result State TextKind
+unless_fault (Some kind) more = Err kind
+unless_fault None more = more
+
+-- the row of first parts, by its pairs
+abbrev pub with_first : State → List Pair → Result State TextKind
+with_first s pairs =
+    unless_fault (pairs_fault pairs)
+    (if not (total_of pairs == s.total) then Err WrongSum else
+    Ok (record s { stage = due.Rows; first = entries_of pairs }))
+
+-- the row of moves, by its cells
+abbrev pub with_moves : State → Option ℕ → List (Option ℕ) → Result State TextKind
+with_moves s None moves = Err UnknownName
+with_moves s (Some c) moves =
+    if list_any (λ m. is_none m) moves then Err UnknownName else
+    (if has_double moves then Err DoubleName else
+    (if has_moves s c then Err DoubleRow else
+    (if length moves == 0 then Err NoMove else
+    Ok (record s { moves = set s.moves c (map (λ m. unwrap_or m 0) moves) }))))
+
+-- a row of drift, by its cell and its pairs
+abbrev pub with_parts_of : State → Option ℕ → List Pair → Result State TextKind
+with_parts_of s None pairs = Err (unknown_after (pairs_fault pairs))
+with_parts_of s (Some c) pairs =
+    unless_fault (pairs_fault pairs)
+    (if has_parts s c then Err DoubleRow else
+    (if not (total_of pairs == s.drift) then Err WrongSum else
+    Ok (record s { parts = set s.parts c (entries_of pairs) })))
+
+abbrev pub drift_pairs : State → Option ℕ → List (List ℕ) → Result State TextKind
+drift_pairs s c fields = if are_pairs fields then with_parts_of s c (pairs_of s.names fields) else Err BadLine
 
 -- the kinds in their order, by what the tests give
 abbrev table_of : Bool → Bool → Bool → Bool → Bool → Bool → Bool → Bool → Bool → Bool → Bool → State → Result State TextKind
@@ -36,17 +72,6 @@ table_of line number over unknown double missing row sum part move wide t =
     ((line, BadLine) ∷ (number, BadNumber) ∷ (over, OverLimit) ∷ (unknown, UnknownName) ∷ (double, DoubleName) ∷ (missing, MissingRow) ∷ (row, DoubleRow) ∷ (sum, WrongSum) ∷ (part, PartOver) ∷ (move, NoMove) ∷ (wide, TooWide) ∷ []) t
 
 -- Each row, with the tests as they come out.
-
-pairs_by : (form bad over unknown double whole : Bool) (s : State) →
-    cond form (unless_fault (cond bad (Some BadNumber) (cond over (Some OverLimit) (cond unknown (Some UnknownName) (cond double (Some DoubleName) None)))) (cond (not whole) (Err WrongSum) (Ok s))) (Err BadLine)
-    ≡ table_of (not form || false) bad (over || false) unknown double false false (not whole) false false false s
-pairs_by false bad over unknown double whole s = refl
-pairs_by true true over unknown double whole s = refl
-pairs_by true false true unknown double whole s = refl
-pairs_by true false false true double whole s = refl
-pairs_by true false false false true whole s = refl
-pairs_by true false false false false true s = refl
-pairs_by true false false false false false s = refl
 
 -- a row of drift, whose cell is unknown or has a row
 unknown_by : (form bad over unknown double : Bool) (row sum : Bool) (t : State) →
@@ -189,7 +214,7 @@ pub first_by_cells : (s : State) (fields : List (List ℕ)) → cond (are_pairs 
 first_by_cells s fields =
     let pairs = pairs_of s.names fields in
     let made = first_made s (entries_of pairs) in
-    pairs_by (are_pairs fields) (list_any (λ x. is_bad 1 x.part) pairs) (list_any (λ x. is_over x.part) pairs) (list_any (λ x. is_none x.cell) pairs) (has_double (map (λ x. x.cell) pairs)) (total_of pairs == s.total) made
+    drift_by (are_pairs fields) (list_any (λ x. is_bad 1 x.part) pairs) (list_any (λ x. is_over x.part) pairs) (list_any (λ x. is_none x.cell) pairs) (has_double (map (λ x. x.cell) pairs)) false (total_of pairs == s.total) made
     ∙ pairs_told s.names (are_pairs fields) false false s.total made fields
     ∙ ap (λ (es : List DriftPart). unless_any (tests s (Some First) fields) (first_made s es)) (entries_alike s.names fields)
 
@@ -236,25 +261,56 @@ drift_of_pairs s (Some c) fields =
 pub drift_by_cells : (s : State) (name : List ℕ) (fields : List (List ℕ)) → drift_pairs s (cell_named s.names name) fields ≡ row_at Drift s (name ∷ fields)
 drift_by_cells s name fields = drift_of_pairs s (cell_named s.names name) fields ∙ ap (drift_row s (cell_named s.names name) fields) (entries_alike s.names fields)
 
-module _ (new : Draft) (result : Result (Unit {0}) LineStop) (s : State) where
-  pub first_taken : (fields : List (List ℕ)) → are_pairs fields ≡ true → TakesLine new result (with_first s (pairs_of s.names fields)) → TakesLine new result (row_at First s fields)
-  first_taken fields form taken =
-      let row : with_first s (pairs_of s.names fields) ≡ cond (are_pairs fields) (with_first s (pairs_of s.names fields)) (Err BadLine) = rw form refl in
-      subst (TakesLine new result) (row ∙ first_by_cells s fields) taken
+-- What was taken by cells was taken of the line.
 
-  pub moves_taken : (name : List ℕ) (moves : List (List ℕ)) (cell : Option ℕ) (cells : List (Option ℕ)) → length moves ≤ 64 → cell ≡ cell_named s.names name → cells ≡ map (cell_named s.names) moves → TakesLine new result (with_moves s cell cells) → TakesLine new result (row_at Moves s (name ∷ moves))
-  moves_taken name moves cell cells le one all taken =
-      let few = le-ltb 64 (length moves) le in
-      let row : with_moves s (cell_named s.names name) (map (cell_named s.names) moves) ≡ cond (nat_lt 64 (length moves)) (Err OverLimit) (with_moves s (cell_named s.names name) (map (cell_named s.names) moves)) = rw few refl in
-      subst (TakesLine new result) (ap (λ (o : Option ℕ). with_moves s o cells) one ∙ ap (with_moves s (cell_named s.names name)) all ∙ row ∙ moves_by_cells s name moves) taken
+-- pairs that were scanned: what follows sees their entries where they have no fault
+scanned : (list : List Pair) (pairs : Pairs) (rest : List DriftPart → Result State TextKind) → AreScanned list pairs → unless_fault pairs.fault (rest pairs.entries.items) ≡ unless_fault (pairs_fault list) (rest (entries_of list))
+scanned list pairs rest h = ap (λ (o : Option TextKind). unless_fault o (rest pairs.entries.items)) h.fault ∙ by_fault (pairs_fault list) refl
+  where
+    by_fault : (o : Option TextKind) → pairs_fault list ≡ o → unless_fault o (rest pairs.entries.items) ≡ unless_fault o (rest (entries_of list))
+    by_fault (Some kind) e = refl
+    by_fault None e = ap rest (h.entries e)
 
-  -- the first fields are given beside the text
-  pub drift_taken : {X : Type 0} (view : X → List ℕ) (fields : List X) (d : X) (fs more : List (List ℕ)) → 1 ≤ length fields → map view fields ≡ take 66 fs → more ≡ drop 1 fs → TakesLine new result (drift_pairs s (cell_named s.names (view (get_or fields 0 d))) more) → TakesLine new result (row_at Drift s fs)
-  drift_taken view [] d fs more some front behind taken = absurd (omega (arith, some))
-  drift_taken view (f ∷ fields) d fs more some front behind taken =
-      let name = view f in
-      let whole : fs ≡ name ∷ more = front_some 65 name (map view fields) fs front ∙ ap (λ (x : List (List ℕ)). name ∷ x) (sym behind) in
-      subst (TakesLine new result) (drift_by_cells s name more ∙ ap (row_at Drift s) (sym whole)) taken
+-- the tests of a row of drift behind its pairs
+abbrev after_pairs : State → ℕ → List DriftPart → Result State TextKind
+after_pairs s c entries =
+    cond (has_parts s c) (Err DoubleRow) (cond (not (sum_by (λ e. e.part) entries == s.drift)) (Err WrongSum) (Ok (record s { parts = set s.parts c entries })))
+
+-- a row of drift, by its cell and what was scanned
+abbrev scanned_row : State → Option ℕ → Pairs → Result State TextKind
+scanned_row s None pairs = Err (unknown_after pairs.fault)
+scanned_row s (Some c) pairs = unless_fault pairs.fault (after_pairs s c pairs.entries.items)
+
+scanned_alike : (s : State) (cell : Option ℕ) (list : List Pair) (pairs : Pairs) → AreScanned list pairs → scanned_row s cell pairs ≡ with_parts_of s cell list
+scanned_alike s None list pairs h = ap (λ (o : Option TextKind). Err (unknown_after o)) h.fault
+scanned_alike s (Some c) list pairs h = scanned list pairs (after_pairs s c) h
+
+module _ (s : State) (fields : List (List ℕ)) where
+  pub first_scanned : (pairs : Pairs) → are_pairs fields ≡ true → AreScanned (pairs_of s.names fields) pairs →
+      row_at First s fields ≡ unless_fault pairs.fault (cond (not (sum_by (λ e. e.part) pairs.entries.items == s.total)) (Err WrongSum) (Ok (first_made s pairs.entries.items)))
+  first_scanned pairs form h =
+      let rest : List DriftPart → Result State TextKind = λ entries. cond (not (sum_by (λ e. e.part) entries == s.total)) (Err WrongSum) (Ok (first_made s entries)) in
+      let row : cond (are_pairs fields) (with_first s (pairs_of s.names fields)) (Err BadLine) ≡ with_first s (pairs_of s.names fields) = rw form refl in
+      sym (first_by_cells s fields) ∙ row ∙ sym (scanned (pairs_of s.names fields) pairs rest h)
+
+  pub drift_scanned : (name : List ℕ) (cell : Option ℕ) (pairs : Pairs) → cell ≡ cell_named s.names name → are_pairs fields ≡ true → AreScanned (pairs_of s.names fields) pairs → row_at Drift s (name ∷ fields) ≡ scanned_row s cell pairs
+  drift_scanned name cell pairs one form h =
+      let row : drift_pairs s (cell_named s.names name) fields ≡ with_parts_of s (cell_named s.names name) (pairs_of s.names fields) = rw form refl in
+      sym (drift_by_cells s name fields) ∙ row ∙ sym (scanned_alike s (cell_named s.names name) (pairs_of s.names fields) pairs h) ∙ ap (λ (o : Option ℕ). scanned_row s o pairs) (sym one)
+
+  pub moves_named : (name : List ℕ) (cell : Option ℕ) (cells : List (Option ℕ)) → length fields ≤ 64 → cell ≡ cell_named s.names name → cells ≡ map (cell_named s.names) fields → row_at Moves s (name ∷ fields) ≡ with_moves s cell cells
+  moves_named name cell cells le one all =
+      let few = le-ltb 64 (length fields) le in
+      let row : cond (nat_lt 64 (length fields)) (Err OverLimit) (with_moves s (cell_named s.names name) (map (cell_named s.names) fields)) ≡ with_moves s (cell_named s.names name) (map (cell_named s.names) fields) = rw few refl in
+      sym (moves_by_cells s name fields) ∙ row ∙ sym (ap (λ (o : Option ℕ). with_moves s o cells) one ∙ ap (with_moves s (cell_named s.names name)) all)
+
+-- the first fields are given beside the text
+module _ {X : Type 0} (view : X → List ℕ) (new : Draft) (result : Result (Unit {0}) LineStop) (s : State) where
+  pub drift_front : (fields : List X) (d : X) (fs more : List (List ℕ)) → 1 ≤ length fields → map view fields ≡ take 66 fs → more ≡ drop 1 fs → TakesLine new result (row_at Drift s (view (get_or fields 0 d) ∷ more)) → TakesLine new result (row_at Drift s fs)
+  drift_front [] d fs more some front behind taken = absurd (omega (arith, some))
+  drift_front (f ∷ fields) d fs more some front behind taken =
+      let whole : fs ≡ view f ∷ more = front_some 65 (view f) (map view fields) fs front ∙ ap (λ (x : List (List ℕ)). view f ∷ x) (sym behind) in
+      subst (TakesLine new result) (ap (row_at Drift s) (sym whole)) taken
 
 pub no_drift : (s : State) (fs : List (List ℕ)) → [] ≡ take 66 fs → row_at Drift s fs ≡ Err BadLine
 no_drift s fs front = ap (row_at Drift s) (front_none 65 fs front)

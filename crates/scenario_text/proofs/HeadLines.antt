@@ -18,8 +18,7 @@ use Rattle.scenario_text.specs.State.{State, blank_state}
 use Rattle.scenario_text.specs.Fields.{cell_named}
 use Rattle.scenario_text.specs.Grammar.{with_name, row_at}
 use Rattle.scenario_text.specs.declared.line.Line.TheVariants.{Cell}
-use Rattle.scenario_text.proofs.ByCellNames.{first_by_cells}
-use Rattle.scenario_text.specs.ByCells.{with_first}
+use Rattle.scenario_text.proofs.ByCellNames.{first_by_cells, with_first}
 use Rattle.scenario_text.specs.Canonical.{first_entries, pair_fields}
 use Rattle.scenario_text.specs.RowFields.{cell_row}
 use Rattle.text_rows.proofs.RowTexts.{IsField-decimal, word}

@@ -19,8 +19,7 @@ use Rattle.scenario_text.specs.Fields.{cell_named}
 use Rattle.std.specs.Fmt.{decimal}
 use Rattle.scenario_text.specs.declared.line.Line.TheVariants.{Overlook}
 use Rattle.scenario_text.specs.Grammar.{row_at}
-use Rattle.scenario_text.proofs.ByCellNames.{moves_by_cells, drift_by_cells}
-use Rattle.scenario_text.specs.ByCells.{with_moves, with_parts_of}
+use Rattle.scenario_text.proofs.ByCellNames.{moves_by_cells, drift_by_cells, with_moves, with_parts_of}
 use Rattle.scenario_text.specs.Canonical.{pair_fields, first_entries, moves_row, drift_row, overlook_row}
 use Rattle.scenario_text.proofs.Ascending.{has_double-rising}
 use Rattle.scenario_text.proofs.FieldTexts.{IsField-cell_name, AreFields-names, AreFields-pairs}

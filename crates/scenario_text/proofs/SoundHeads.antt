@@ -14,14 +14,14 @@ use Rattle.scenario_text.specs.declared.line.Line.TheVariants.{Scenario, Horizon
 use Rattle.scenario_text.specs.declared.kind.TextKind.{TextKind}
 use Rattle.scenario_text.specs.declared.kind.TextKind.TheVariants.{BadLine}
 use Rattle.scenario_text.specs.Fields.{is_bad, is_over, number_in, cell_named, are_pairs}
-use Rattle.scenario_text.specs.ByCells.{pairs_of, pairs_fault, total_of, unless_fault, with_first}
+use Rattle.scenario_text.specs.ByCells.{pairs_of, pairs_fault, total_of}
+use Rattle.scenario_text.proofs.ByCellNames.{unless_fault, with_first, first_by_cells}
 use Rattle.exact_parts.specs.Decimal.{number_at}
 use Rattle.text_rows.specs.Fields.{is_word}
 use Rattle.text_rows.proofs.Results.{err_ok, let_through}
 use Rattle.search_model.specs.Grids.{grid_names}
 use Rattle.scenario_text.specs.State.{State}
 use Rattle.scenario_text.specs.Grammar.{with_name, with_cells, row_at}
-use Rattle.scenario_text.proofs.ByCellNames.{first_by_cells}
 use Rattle.scenario_text.specs.Sound.{place_of, IsSettled, AreEntries, AreMoves, IsPart, IsSound}
 use Rattle.scenario_text.proofs.SoundFields.{not_refused, in_limits, named_within, found_within, not_there, AreEntries-from_pairs}
 use Rattle.scenario_text.proofs.SoundNames.{differ_more, grid_count, All-grid_names, grid_differ}

@@ -14,14 +14,14 @@ use Rattle.scenario_text.specs.declared.draft.Stage.TheVariants as due
 use Rattle.scenario_text.specs.declared.line.Line.TheVariants.{Moves, Drift, Overlook, Spread, Rate, End}
 use Rattle.scenario_text.specs.declared.kind.TextKind.TheVariants.{BadLine, OverLimit}
 use Rattle.scenario_text.specs.Fields.{is_bad, is_over, number_in, cell_named, are_pairs}
-use Rattle.scenario_text.specs.ByCells.{has_double, pairs_of, pairs_fault, total_of, with_moves, with_parts_of}
+use Rattle.scenario_text.specs.ByCells.{has_double, pairs_of, pairs_fault, total_of}
+use Rattle.scenario_text.proofs.ByCellNames.{with_moves, with_parts_of, moves_by_cells, drift_by_cells}
 use Rattle.exact_parts.specs.Decimal.{number_at}
 use Rattle.text_rows.proofs.Results.{err_ok, let_through}
 use Rattle.search_model.specs.Grids.{spread_rows}
 use Rattle.scenario_text.specs.State.{State}
 use Rattle.scenario_text.specs.KindTable.{holds_of, has_moves, has_parts, has_overlook, lacks_row, is_narrow}
 use Rattle.scenario_text.specs.Grammar.{row_at}
-use Rattle.scenario_text.proofs.ByCellNames.{moves_by_cells, drift_by_cells}
 use Rattle.scenario_text.specs.Sound.{AreEntries, AreMoves, IsPart, IsSound}
 use Rattle.scenario_text.proofs.SoundFields.{not_refused, named_within, AreMoves-from_named, AreEntries-from_pairs}
 use Rattle.scenario_text.proofs.SoundRows.{length-spread_rows, All-spread_rows}

@@ -1,13 +1,13 @@
 //! The rows of single cells: moves, drift and overlook part.
 
-ghost use Rattle.std.specs.Prelude.{◌≡◌, ◌∷◌, [], ◌<◌, ◌≤◌, List, map, take, slice_set, vec_len, IfSome};
-ghost use Rattle.scenario_text.specs.declared.pair.Pair.{Pair};
+ghost use Rattle.std.specs.Prelude.{◌≡◌, ◌∷◌, [], ◌<◌, ◌≤◌, ℕ, true, length, List, map, take, slice_set, vec_len, IfSome};
 ghost use Rattle.text_rows.specs.Fields.{fields_of as fields_lem};
 ghost use Rattle.scenario_text.specs.State.{state_of};
 ghost use Rattle.scenario_text.specs.Sound.{IsSound};
 ghost use Rattle.scenario_text.specs.Gives.{TakesLine, AreScanned};
 ghost use Rattle.scenario_text.specs.Grammar.{row_at};
-ghost use Rattle.scenario_text.specs.ByCells.{with_moves, unknown_after as unknown_after_lem, with_parts_of, drift_pairs};
+ghost use Rattle.scenario_text.specs.Fields.{are_pairs, cell_named as cell_named_lem};
+ghost use Rattle.scenario_text.specs.ByCells.{pairs_of, unknown_after as unknown_after_lem};
 
 use crate::cell_names::cell_named;
 use crate::cells::{any_unknown, cells_named, has_double, numbers_of};
@@ -36,7 +36,7 @@ fn set_moves(
     moves: &[Option<u8>],
 ) -> Result<(), LineStop>
     requires { IfSome cell (λ c. c < vec_len draft.old.moves) }
-    ensures { TakesLine draft.new result (with_moves (state_of draft.old) cell moves.now) }
+    ensures { (name : List ℕ) (fields : List (List ℕ)) → length fields ≤ 64 → cell ≡ cell_named_lem (state_of draft.old).names name → moves.now ≡ map (cell_named_lem (state_of draft.old).names) fields → TakesLine draft.new result (row_at Line.Moves (state_of draft.old) (name ∷ fields)) }
 {
     let Some(c) = cell else {
         return Err(LineStop::Fault(TextKind::UnknownName));
@@ -106,7 +106,7 @@ fn write_parts(rows: &mut Vec<Vec<DriftPart>>, c: u8, row: Vec<DriftPart>)
 
 fn set_parts_of(draft: &mut Draft, cell: Option<u8>, pairs: Pairs) -> Result<(), LineStop>
     requires { IfSome cell (λ c. c < vec_len draft.old.parts) }
-    ensures { (list : List Pair) → AreScanned list pairs → TakesLine draft.new result (with_parts_of (state_of draft.old) cell list) }
+    ensures { (name : List ℕ) (fields : List (List ℕ)) → cell ≡ cell_named_lem (state_of draft.old).names name → are_pairs fields ≡ true → AreScanned (pairs_of (state_of draft.old).names fields) pairs → TakesLine draft.new result (row_at Line.Drift (state_of draft.old) (name ∷ fields)) }
 {
     let Some(c) = cell else {
         return Err(LineStop::Fault(unknown_after(pairs.fault)));
@@ -127,13 +127,13 @@ fn set_parts_of(draft: &mut Draft, cell: Option<u8>, pairs: Pairs) -> Result<(),
 fn take_drift_pairs(
     alloc: Global,
     draft: &mut Draft,
-    cell: Option<u8>,
+    name: &[u8],
     text: &[u8],
 ) -> Result<(), LineStop>
-    requires sound { IsSound (state_of draft.old) }
-    requires cell { IfSome cell (λ c. c < vec_len draft.old.parts) }
-    ensures { TakesLine draft.new result (drift_pairs (state_of draft.old) cell (fields_lem text.now)) }
+    requires { IsSound (state_of draft.old) }
+    ensures { TakesLine draft.new result (row_at Line.Drift (state_of draft.old) (name.now ∷ fields_lem text.now)) }
 {
+    let cell = cell_named(&draft.names, name);
     match scan_pairs(alloc, &draft.names, text)? {
         None => Err(LineStop::Fault(TextKind::BadLine)),
         Some(pairs) => set_parts_of(draft, cell, pairs),
@@ -153,10 +153,7 @@ pub fn take_drift(
     ensures { TakesLine draft.new result (row_at Line.Drift (state_of draft.old) (fields_lem text.now)) }
 {
     match fields {
-        [name, ..] => {
-            let cell = cell_named(&draft.names, name);
-            take_drift_pairs(alloc, draft, cell, after_field(text))
-        }
+        [name, ..] => take_drift_pairs(alloc, draft, name, after_field(text)),
         [] => Err(LineStop::Fault(TextKind::BadLine)),
     }
 }

@@ -1,13 +1,12 @@
 //! The lines above the rows: each function takes a line by the fields behind its keyword.
 
-ghost use Rattle.std.specs.Prelude.{◌≡◌, ◌∷◌, [], List, None, Ok, map, true};
-ghost use Rattle.scenario_text.specs.declared.pair.Pair.{Pair};
+ghost use Rattle.std.specs.Prelude.{◌≡◌, ◌∷◌, [], ℕ, List, None, Ok, map, true};
 ghost use Rattle.text_rows.specs.Fields.{fields_of as fields_lem};
 ghost use Rattle.scenario_text.specs.State.{state_of};
 ghost use Rattle.scenario_text.specs.Sound.{IsSound};
 ghost use Rattle.scenario_text.specs.Gives.{TakesLine, AreScanned};
-ghost use Rattle.scenario_text.specs.Fields.{cell_named as cell_named_lem};
-ghost use Rattle.scenario_text.specs.ByCells.{pairs_of, with_first};
+ghost use Rattle.scenario_text.specs.Fields.{are_pairs, cell_named as cell_named_lem};
+ghost use Rattle.scenario_text.specs.ByCells.{pairs_of};
 ghost use Rattle.scenario_text.specs.Grammar.{row_at, with_name};
 
 use crate::cell_names::{are_name_bytes, cell_named};
@@ -153,7 +152,7 @@ pub fn take_start(draft: &mut Draft, fields: &[&[u8]]) -> Result<(), LineStop>
 }
 
 fn set_first(draft: &mut Draft, pairs: Pairs) -> Result<(), LineStop>
-    ensures { (list : List Pair) → AreScanned list pairs → TakesLine draft.new result (with_first (state_of draft.old) list) }
+    ensures { (fields : List (List ℕ)) → are_pairs fields ≡ true → AreScanned (pairs_of (state_of draft.old).names fields) pairs → TakesLine draft.new result (row_at Line.First (state_of draft.old) fields) }
 {
     if let Some(kind) = pairs.fault {
         return Err(LineStop::Fault(kind));
