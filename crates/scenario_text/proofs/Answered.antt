@@ -1,28 +1,26 @@
 -- What the answer of a reader says of the text.
 use Rattle.std.proofs.Common.{◌≡◌, ℕ, Bool, true, false, List, [], ◌∷◌, length, Option, Some, None, Result, Ok, Err, refl, sym, ap, subst, ◌∙◌, arith, ◌⊎◌, inl, inr, true≢false}
-use Rattle.std.specs.Prelude.{not, nat_lt}
-use Rattle.std.specs.List.{list_all, list_any}
+use Rattle.std.specs.List.{list_any}
 use Rattle.std.proofs.lemmas.Bool.{cond_both, or_parts}
 use Rattle.search_model.specs.Problem.{Problem}
-use Rattle.scenario_text.specs.declared.draft.Stage.{Stage}
 use Rattle.scenario_text.specs.declared.kind.TextKind.{TextKind}
 use Rattle.scenario_text.specs.declared.kind.TextKind.TheVariants.{NotText, BadLine, BadNumber, OverLimit, UnknownName, DoubleName, MissingRow, DoubleRow, WrongSum, PartOver, NoMove, TooWide, EarlyEnd, Rest}
 use Rattle.scenario_text.specs.declared.kind.TextFault.{TextFault}
 use Rattle.scenario_text.specs.declared.stop.TextStop.{TextStop}
 use Rattle.scenario_text.specs.declared.stop.TextStop.TheVariants.{Fault, NoMemory}
 use Rattle.text_rows.specs.Lines.{after_lines}
-use Rattle.text_rows.specs.Fields.{fields_of, is_text_byte}
+use Rattle.text_rows.specs.Fields.{fields_of, behind_first}
 use Rattle.text_rows.proofs.Results.{err_ok}
 use Rattle.scenario_text.specs.Fields.{says_nothing}
 use Rattle.scenario_text.specs.State.{State}
 use Rattle.scenario_text.specs.Reading.{Front, line_at, alone}
-use Rattle.scenario_text.specs.KindTable.{Line, line_due, tests, tests_of, kind_by_table}
-use Rattle.text_rows.specs.Kinds.{first_kind, fault_of}
+use Rattle.scenario_text.specs.declared.line.Line.{Line}
+use Rattle.scenario_text.specs.KindTable.{line_of, tests, tests_of}
+use Rattle.scenario_text.specs.Grammar.{added, unless_any}
 use Rattle.scenario_text.specs.Faults.{IsFirstFault, IsRest, IsFirstFaultAlone}
 use Rattle.scenario_text.specs.Scenarios.{Says, IsFront, IsTextOf, ReadsFront, ReadsAlone}
 use Rattle.scenario_text.specs.Gives.{ReadsDraft, Answers, Tells, IfFault}
 use Rattle.scenario_text.proofs.Determined.{one_problem}
-use Rattle.scenario_text.proofs.Tables.{kinds_by_table}
 use Rattle.scenario_text.proofs.FirstFaults.{first_fault_decides, first_fault_decides_alone}
 
 -- No line has the kind that only what follows the end has.
@@ -46,36 +44,30 @@ not_rest : (kind : TextKind) → is_rest kind ≡ false → kind ≡ Rest → �
 unfolding is_rest
 not_rest kind other same = let there : true ≡ false = subst (λ (k : TextKind). is_rest k ≡ false) same other in true≢false there
 
-kind_among : (rows : List (Bool × TextKind)) (kind : TextKind) → list_any (λ row. is_rest row.1) rows ≡ false → first_kind rows ≡ Some kind → is_rest kind ≡ false
-kind_among [] kind none e = absurd (let bad : ⊥ = cc in bad)
-kind_among (row ∷ rows) kind none e =
+kind_among : (rows : List (Bool × TextKind)) (t : State) (kind : TextKind) → list_any (λ row. is_rest row.1) rows ≡ false → unless_any rows t ≡ Err kind → is_rest kind ≡ false
+kind_among [] t kind none e = absurd (err_ok kind t (sym e))
+kind_among (row ∷ rows) t kind none e =
     let parts = or_parts (is_rest row.1) (list_any (λ r. is_rest r.1) rows) none in
-    cond_both row.0 (Some row.1) (first_kind rows) (λ (o : Option TextKind). o ≡ Some kind → is_rest kind ≡ false)
+    cond_both row.0 (Err row.1) (unless_any rows t) (λ (r : Result State TextKind). r ≡ Err kind → is_rest kind ≡ false)
     (λ _ e'. let same : row.1 ≡ kind = cc in subst (λ (k : TextKind). is_rest k ≡ false) same parts.0)
-    (λ _ e'. kind_among rows kind parts.1 e') e
+    (λ _ e'. kind_among rows t kind parts.1 e') e
 
 tests_free : (s : State) (o : Option Line) (fields : List (List ℕ)) → list_any (λ row. is_rest row.1) (tests s o fields) ≡ false
 unfolding is_rest
 tests_free s None fields = refl
 tests_free s (Some line) fields = refl
 
-line_free : (stage : Stage) (s : State) (fields : List (List ℕ)) → list_any (λ row. is_rest row.1) (tests_of stage s fields) ≡ false
+rows_free : (s : State) (line : List ℕ) → list_any (λ row. is_rest row.1) (tests_of s line) ≡ false
 unfolding is_rest
-line_free stage s [] = refl
-line_free stage s (word ∷ fields) = tests_free s (line_due stage (nat_lt 0 (length s.names)) word) fields
-
-rows_free : (s : State) (line : List ℕ) → list_any (λ row. is_rest row.1) ((not (list_all is_text_byte line), NotText) ∷ tests_of s.stage s (fields_of line)) ≡ false
-unfolding is_rest
-rows_free s line = line_free s.stage s (fields_of line)
+rows_free s line = tests_free s (line_of s (fields_of line)) (behind_first (fields_of line))
 
 kind_free : (s : State) (line : List ℕ) (kind : TextKind) → line_at s line ≡ Err kind → kind ≡ Rest → ⊥
+unfolding line_at
 kind_free s line kind e =
-    let rows : List (Bool × TextKind) = (not (list_all is_text_byte line), NotText) ∷ tests_of s.stage s (fields_of line) in
-    let told : kind_by_table s line ≡ Some kind = sym (kinds_by_table s line) ∙ ap fault_of e in
     not_rest kind
-    (cond_both (says_nothing (fields_of line)) None (first_kind rows) (λ (o : Option TextKind). o ≡ Some kind → is_rest kind ≡ false)
-    (λ _ e'. absurd (let bad : ⊥ = cc in bad))
-    (λ _ e'. kind_among rows kind (rows_free s line) e') told)
+    (cond_both (says_nothing (fields_of line)) (Ok s) (unless_any (tests_of s line) (added (line_of s (fields_of line)) s (behind_first (fields_of line)))) (λ (r : Result State TextKind). r ≡ Err kind → is_rest kind ≡ false)
+    (λ _ e'. absurd (err_ok kind s (sym e')))
+    (λ _ e'. kind_among (tests_of s line) _ kind (rows_free s line) e') e)
 
 pub first_free : (text : List ℕ) (fault : TextFault) → IsFirstFault text fault → fault.kind ≡ Rest → ⊥
 first_free text fault h = elim h.here [

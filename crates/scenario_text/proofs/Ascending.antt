@@ -5,7 +5,7 @@ use Rattle.std.specs.List.{list_any}
 use Rattle.std.proofs.lemmas.Bool.{ne_eqb}
 use Rattle.std.proofs.lemmas.List.Elements.{All-head, All-tail}
 use Rattle.list_laws.proofs.Ascending.{Ascends, Ascends-head, Ascends-tail}
-use Rattle.scenario_text.specs.Fields.{has_double}
+use Rattle.scenario_text.specs.ByCells.{has_double}
 
 not_among : (c : ℕ) (xs : List ℕ) → All (λ y. c < y) xs → list_any (λ d. is_some d && unwrap_or d 0 == c) (map Some xs) ≡ false
 not_among c [] above = refl

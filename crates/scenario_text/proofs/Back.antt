@@ -15,7 +15,8 @@ use Rattle.scenario_text.specs.declared.draft.Stage.TheVariants.{Rows}
 use Rattle.scenario_text.specs.State.{State, blank_state}
 use Rattle.text_rows.specs.Lines.{lines_of, after_lines}
 use Rattle.text_rows.proofs.RowTexts.{word}
-use Rattle.scenario_text.specs.Reading.{lacks_row, is_narrow, first_said, front_of}
+use Rattle.scenario_text.specs.Reading.{first_said, front_of}
+use Rattle.scenario_text.specs.KindTable.{lacks_row, is_narrow}
 use Rattle.scenario_text.specs.Canonical.{moves_row, drift_row, overlook_row, first_entries, canonical_text, scenario_rows, state_of_problem, front_of_problem, pair_fields}
 use Rattle.scenario_text.specs.RowFields.{cell_row}
 use Rattle.scenario_text.specs.Laws.{CanonicalFrontReadsBack, CanonicalReadsBack}

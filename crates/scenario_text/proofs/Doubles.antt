@@ -3,7 +3,7 @@ use Rattle.std.proofs.Common.{◌≡◌, ℕ, zero, suc, ◌≤◌, ◌<◌, ◌
 use Rattle.std.specs.Prelude.{◌||◌}
 use Rattle.std.proofs.Math.Seq.{drop-nil}
 use Rattle.std.proofs.lemmas.List.{take_all}
-use Rattle.scenario_text.specs.Fields.{stands_in, has_double}
+use Rattle.scenario_text.specs.ByCells.{stands_in, has_double}
 
 -- what follows a place is all that is left from there
 rest_is : {A : Type 0} (xs : List A) (n : ℕ) → take (length xs - n) (drop n xs) ≡ drop n xs

@@ -1,17 +1,21 @@
 -- Reading a scenario's front ignores what follows a line with the one word `end`.
-use Rattle.std.proofs.Common.{◌≡◌, ℕ, zero, suc, ◌+◌, ◌≤◌, Bool, true, false, List, [], ◌∷◌, ◌++◌, length, Result, Ok, Err, refl, sym, ap, ◌∙◌, subst, arith, append_assoc, length-append}
-use Rattle.std.specs.Prelude.{codes, not, ◌==◌, if◌then◌else◌}
+use Rattle.std.proofs.Common.{◌≡◌, ℕ, zero, suc, ◌+◌, ◌≤◌, Bool, true, false, List, [], ◌∷◌, ◌++◌, length, Some, None, Result, Ok, Err, refl, sym, ap, ◌∙◌, subst, arith, append_assoc, length-append}
+use Rattle.std.specs.Prelude.{codes, not, nat_lt, ◌==◌, if◌then◌else◌}
 use Rattle.std.specs.List.{list_all, onto_first}
 use Rattle.scenario_text.specs.declared.draft.Stage.{Stage}
-use Rattle.scenario_text.specs.declared.draft.Stage.TheVariants.{Version, Horizon, Parts, Cells, Start, First, Rows, Ended}
+use Rattle.scenario_text.specs.declared.draft.Stage.TheVariants as due
+use Rattle.scenario_text.specs.declared.line.Line.TheVariants.{End}
 use Rattle.scenario_text.specs.declared.kind.TextKind.{TextKind}
-use Rattle.scenario_text.specs.declared.kind.TextKind.TheVariants.{NotText, BadLine, MissingRow, TooWide}
+use Rattle.scenario_text.specs.declared.kind.TextKind.TheVariants.{NotText, BadLine}
 use Rattle.scenario_text.specs.declared.kind.TextFault.{TextFault}
 use Rattle.text_rows.specs.Lines.{lines_of, after_lines}
 use Rattle.text_rows.specs.Fields.{fields_of, is_text_byte}
 use Rattle.scenario_text.specs.Fields.{says_nothing}
 use Rattle.scenario_text.specs.State.{State, blank_state}
-use Rattle.scenario_text.specs.Reading.{Front, lacks_row, is_narrow, stage_line, line_at, lines_at, go_on, unless_ended, front_of}
+use Rattle.scenario_text.specs.Reading.{Front, line_at, lines_at, go_on, unless_ended, front_of}
+use Rattle.scenario_text.specs.KindTable.{line_due, tests}
+use Rattle.scenario_text.specs.Grammar.{added, unless_any, row_at, fields_at}
+use Rattle.scenario_text.proofs.Passed.{passed}
 use Rattle.scenario_text.specs.Laws.{EndsWithEnd, FrontIgnoresRest}
 use Rattle.scenario_text.proofs.SoundFields.{not_refused}
 use Rattle.text_rows.proofs.Results.{err_ok}
@@ -19,29 +23,33 @@ use Rattle.scenario_text.proofs.FrontLines.{front_line}
 
 -- Such a line is the last one, or has a fault.
 
-ended : (s t : State) → ◌≡◌ {A = Result State TextKind} (Ok (record s { stage = Ended })) (Ok t) → t.stage ≡ Ended
-ended s t e = let same : record s { stage = Ended } ≡ t = cc in ap (λ (u : State). u.stage) (sym same)
+ended : (s t : State) → row_at End s [] ≡ Ok t → t.stage ≡ due.Ended
+ended s t e = ap (λ (u : State). u.stage) (sym (passed (tests s (Some End) []) (record s { stage = due.Ended }) t s e).0)
 
-stage_ends : (stage : Stage) (s t : State) → stage_line stage s (codes "end" ∷ []) ≡ Ok t → t.stage ≡ Ended
-stage_ends Version s t e = absurd (err_ok BadLine t e)
-stage_ends Horizon s t e = absurd (err_ok BadLine t e)
-stage_ends Parts s t e = absurd (err_ok BadLine t e)
-stage_ends Cells s t e = absurd (err_ok BadLine t e)
-stage_ends Start s t e = absurd (err_ok BadLine t e)
-stage_ends First s t e = absurd (err_ok BadLine t e)
-stage_ends Rows s t e = ended s t (not_refused (not (is_narrow s)) TooWide _ t (not_refused (lacks_row s) MissingRow _ t e).1).1
-stage_ends Ended s t e = absurd (err_ok BadLine t e)
+no_end : (s t : State) → unless_any (tests s None []) s ≡ Ok t → t.stage ≡ due.Ended
+no_end s t e = absurd (err_ok BadLine t e)
 
-line_ends : (s t : State) (line : List ℕ) → fields_of line ≡ codes "end" ∷ [] → line_at s line ≡ Ok t → t.stage ≡ Ended
+stage_ends : (stage : Stage) (named : Bool) (s t : State) → unless_any (tests s (line_due stage named (codes "end")) []) (added (line_due stage named (codes "end")) s []) ≡ Ok t → t.stage ≡ due.Ended
+stage_ends due.Version named s t e = no_end s t e
+stage_ends due.Horizon named s t e = no_end s t e
+stage_ends due.Parts named s t e = no_end s t e
+stage_ends due.Cells true s t e = no_end s t e
+stage_ends due.Cells false s t e = no_end s t e
+stage_ends due.Start named s t e = no_end s t e
+stage_ends due.First named s t e = no_end s t e
+stage_ends due.Rows named s t e = ended s t e
+stage_ends due.Ended named s t e = no_end s t e
+
+line_ends : (s t : State) (line : List ℕ) → fields_of line ≡ codes "end" ∷ [] → line_at s line ≡ Ok t → t.stage ≡ due.Ended
 unfolding line_at
 line_ends s t line word e =
     let reads : List (List ℕ) → Type 0 =
-    λ fields. (if says_nothing fields then Ok s else (if not (list_all is_text_byte line) then Err NotText else stage_line s.stage s fields)) ≡ Ok t in
-    stage_ends s.stage s t (not_refused (not (list_all is_text_byte line)) NotText _ t (subst reads word e)).1
+    λ fields. (if says_nothing fields then Ok s else (if not (list_all is_text_byte line) then Err NotText else fields_at s fields)) ≡ Ok t in
+    stage_ends s.stage (nat_lt 0 (length s.names)) s t (not_refused (not (list_all is_text_byte line)) NotText _ t (subst reads word e)).1
 
 -- What follows it isn't looked at.
 
-last_goes : (r : Result State TextKind) (number : ℕ) (f g : State → Result Front TextFault) → ((t : State) → r ≡ Ok t → t.stage ≡ Ended) → go_on r number f ≡ go_on r number g
+last_goes : (r : Result State TextKind) (number : ℕ) (f g : State → Result Front TextFault) → ((t : State) → r ≡ Ok t → t.stage ≡ due.Ended) → go_on r number f ≡ go_on r number g
 last_goes (Err kind) number f g ends = refl
 last_goes (Ok t) number f g ends = rw (ends t refl) refl
 

@@ -1,9 +1,10 @@
 -- A grid says what lines of cells and of moves say.
 use Rattle.std.proofs.Common.{◌≡◌, ℕ, ◌+◌, ◌*◌, ◌<◌, ◌≤◌, Bool, true, false, cond, List, [], ◌∷◌, ◌++◌, map, length, set, replicate, Option, Some, None, Result, Ok, Err, refl, sym, ap, ◌∙◌, subst, arith, inl, inr, ◌⊎◌}
-use Rattle.std.specs.Prelude.{codes, not, ◌||◌, ◌==◌, nat_lt, is_none, is_some, unwrap_or}
+use Rattle.std.specs.Prelude.{codes, not, ◌||◌, nat_lt}
 use Rattle.std.specs.Fmt.{decimal}
-use Rattle.std.specs.List.{range_with_len, list_all, list_any}
-use Rattle.std.proofs.lemmas.Bool.{le-ltb, lt-ltb, ltb-false, or_parts, cond_both}
+use Rattle.std.specs.List.{range_with_len, list_all}
+use Rattle.std.proofs.lemmas.Slice.Eq.{bytes_eq-Decides}
+use Rattle.std.proofs.lemmas.Bool.{not-false, le-ltb, lt-ltb, ltb-false, or_parts, cond_both}
 use Rattle.std.proofs.lemmas.Nat.{mul-le}
 use Rattle.std.proofs.lemmas.List.{length-map, length-replicate, get_or-replicate}
 use Rattle.std.proofs.lemmas.List.Elements.{All-get_or}
@@ -16,17 +17,22 @@ use Rattle.search_model.specs.Names.{IsName, name_in}
 use Rattle.scenario_text.specs.declared.draft.Stage.{Stage}
 use Rattle.scenario_text.specs.declared.draft.Stage.TheVariants as due
 use Rattle.scenario_text.specs.declared.kind.TextKind.{TextKind}
-use Rattle.scenario_text.specs.declared.kind.TextKind.TheVariants.{NotText, BadLine, BadNumber, OverLimit, UnknownName, DoubleName, MissingRow, DoubleRow, WrongSum, PartOver, NoMove, TooWide}
-use Rattle.scenario_text.specs.declared.pair.Pair.{Pair}
+use Rattle.scenario_text.specs.declared.kind.TextKind.TheVariants.{NotText, BadLine}
 use Rattle.text_rows.specs.Fields.{fields_of, is_text_byte, is_word}
-use Rattle.exact_parts.specs.Decimal.{number_at}
 use Rattle.text_rows.proofs.RowTexts.{IsField, AreFields, IsField-decimal, word}
 use Rattle.exact_parts.proofs.Decimals.{number_at-decimal}
-use Rattle.text_rows.proofs.Results.{err_ok, let_through, same_ok}
-use Rattle.scenario_text.specs.Fields.{says_nothing, is_bad, is_over, number_in, cell_named, has_double, are_pairs, pairs_of, pairs_fault, entries_of, total_of}
+use Rattle.text_rows.proofs.Results.{err_ok, same_ok}
+use Rattle.scenario_text.specs.Fields.{entries_in, says_nothing, cell_named}
 use Rattle.search_model.specs.Grids.{grid_name, grid_names}
 use Rattle.scenario_text.specs.State.{State}
-use Rattle.scenario_text.specs.Reading.{with_cells, with_start, start_line, cells_line, unless_fault, with_first, first_line, has_moves, has_parts, has_overlook, with_moves, moves_line, unknown_after, with_parts_of, drift_line, with_overlook, overlook_line, spread_part, spread_line, rate_line, lacks_row, is_narrow, end_line, row_line, stage_line, line_at}
+use Rattle.scenario_text.specs.Reading.{line_at}
+use Rattle.scenario_text.specs.KindTable.{row_due, line_due, tests}
+use Rattle.scenario_text.specs.Grammar.{cell_of, with_cells, adds, added, unless_any, row_at, fields_at}
+use Rattle.scenario_text.specs.declared.line.Line.{Line}
+use Rattle.scenario_text.specs.declared.line.Line.TheVariants.{Scenario, Horizon, Parts, Cell, Grid, Start, First, Moves, Drift, Overlook, Spread, Rate, End}
+use Rattle.scenario_text.proofs.ByCellNames.{moves_by_cells}
+use Rattle.scenario_text.proofs.Passed.{passed, begins, only_read}
+use Rattle.scenario_text.proofs.Due.{IsPlace, place_due}
 use Rattle.scenario_text.specs.Sound.{IsSound}
 use Rattle.scenario_text.specs.Faults.{AreTaken}
 use Rattle.scenario_text.specs.InRows.{line_text, for_each, GridInRows, GridReadsOn}
@@ -39,10 +45,9 @@ use Rattle.scenario_text.proofs.NamesApart.{named_at}
 use Rattle.scenario_text.proofs.RowLines.{names_found, with_moves-taken}
 use Rattle.scenario_text.proofs.RowsRead.{Takes, line_at-fields}
 use Rattle.scenario_text.proofs.SoundFields.{not_refused}
-use Rattle.scenario_text.proofs.SoundHeads.{no_grid, no_fault}
+use Rattle.scenario_text.proofs.SoundHeads.{no_grid}
 use Rattle.scenario_text.proofs.SoundNames.{IsName-grid, grid_count, All-grid_names, grid_differ}
 use Rattle.scenario_text.proofs.Soundness.{reached_sound}
-use Rattle.scenario_text.proofs.Tables.{apart}
 
 -- lines behind others
 taken_behind : (lines more : List (List ℕ)) (s t u : State) → AreTaken s lines t → AreTaken t more u → AreTaken s (lines ++ more) u
@@ -111,6 +116,10 @@ cells_read s rows cols h at none some few =
 
 -- The lines of the start and of the first parts.
 
+-- two words aren't one
+apart : (word a b : List ℕ) → is_word a b ≡ false → is_word word a ≡ true → is_word word b ≡ false
+apart word a b differ is = subst (λ (w : List ℕ). is_word w b ≡ false) (sym ((bytes_eq-Decides word a).0 is)) differ
+
 -- a test that passes, and one that fails
 passing : {X : Type 0} (b : Bool) (x y : X) → b ≡ true → cond b x y ≡ x
 passing true x y e = refl
@@ -121,67 +130,64 @@ failing true x y e = absurd (let bad : ⊥ = cc in bad)
 failing false x y e = refl
 
 -- a line that says something is read by its fields
-line_of_fields : (a : State) (line : List ℕ) → says_nothing (fields_of line) ≡ false → list_all is_text_byte line ≡ true → line_at a line ≡ stage_line a.stage a (fields_of line)
+line_of_fields : (a : State) (line : List ℕ) → says_nothing (fields_of line) ≡ false → list_all is_text_byte line ≡ true → line_at a line ≡ fields_at a (fields_of line)
 unfolding line_at
 line_of_fields a line speaks text = rw (speaks, text) refl
 
-read_fields : (a a' : State) (line : List ℕ) → line_at a line ≡ Ok a' → (a' ≡ a) ⊎ ((says_nothing (fields_of line) ≡ false) × (list_all is_text_byte line ≡ true) × (stage_line a.stage a (fields_of line) ≡ Ok a'))
+read_fields : (a a' : State) (line : List ℕ) → line_at a line ≡ Ok a' → (a' ≡ a) ⊎ ((says_nothing (fields_of line) ≡ false) × (list_all is_text_byte line ≡ true) × (fields_at a (fields_of line) ≡ Ok a'))
 unfolding line_at
 read_fields a a' line e =
-    let G : Result State TextKind → Type 0 = λ r. r ≡ Ok a' → (a' ≡ a) ⊎ ((says_nothing (fields_of line) ≡ false) × (list_all is_text_byte line ≡ true) × (stage_line a.stage a (fields_of line) ≡ Ok a')) in
+    let G : Result State TextKind → Type 0 = λ r. r ≡ Ok a' → (a' ≡ a) ⊎ ((says_nothing (fields_of line) ≡ false) × (list_all is_text_byte line ≡ true) × (fields_at a (fields_of line) ≡ Ok a')) in
     cond_both (says_nothing (fields_of line)) (Ok a) _ G
     (λ _ e'. inl (sym (same_ok a a' e')))
-    (λ speaks e'. let text = not_refused (not (list_all is_text_byte line)) NotText _ a' e' in inr (speaks, not_false (list_all is_text_byte line) text.0, text.1)) e
-  where
-    not_false : (b : Bool) → not b ≡ false → b ≡ true
-    not_false true h = refl
-    not_false false h = absurd (let bad : ⊥ = cc in bad)
+    (λ speaks e'. let text = not_refused (not (list_all is_text_byte line)) NotText (fields_at a (fields_of line)) a' e' in inr (speaks, not-false (list_all is_text_byte line) text.0, text.1)) e
+
+-- fields that are read begin a line
+begun : (g : Stage) (a a' : State) (key : List ℕ) (fields : List (List ℕ)) → a.stage ≡ g → fields_at a (key ∷ fields) ≡ Ok a' → unless_any (tests a (line_due g (nat_lt 0 (length a.names)) key) fields) (added (line_due g (nat_lt 0 (length a.names)) key) a fields) ≡ Ok a'
+begun g a a' key fields at e = ap (λ (x : Stage). unless_any (tests a (line_due x (nat_lt 0 (length a.names)) key) fields) (added (line_due x (nat_lt 0 (length a.names)) key) a fields)) (sym at) ∙ e
 
 -- the start of a grid and that behind cells
-start_set : (a a' : State) (moves : List (List ℕ)) (c : Option ℕ) → with_start a c ≡ Ok a' → (n : ℕ) × (a' ≡ record a { stage = due.First; start = n }) × (with_start (plain a moves) c ≡ Ok (record (plain a moves) { stage = due.First; start = n }))
-start_set a a' moves None e = absurd (let bad : ⊥ = cc in bad)
-start_set a a' moves (Some n) e = (n, sym (same_ok _ a' e), refl)
+start_row : (a a' : State) (moves : List (List ℕ)) (fields : List (List ℕ)) → row_at Start a fields ≡ Ok a' → (n : ℕ) × (a' ≡ record a { stage = due.First; start = n }) × (row_at Start (plain a moves) fields ≡ Ok (record (plain a moves) { stage = due.First; start = n }))
+start_row a a' moves [] e = absurd (err_ok BadLine a' e)
+start_row a a' moves (name ∷ []) e =
+    let made = passed (tests a (Some Start) (name ∷ [])) (adds Start a (name ∷ [])) a' (adds Start (plain a moves) (name ∷ [])) e in
+    (cell_of a name, sym made.0, made.1)
+start_row a a' moves (name ∷ more ∷ rest) e = absurd (err_ok BadLine a' e)
 
-start_fields : (a a' : State) (moves : List (List ℕ)) (fields : List (List ℕ)) → 0 < length a.names → start_line a fields ≡ Ok a' → (n : ℕ) × (a' ≡ record a { stage = due.First; start = n }) × (cells_line (plain a moves) fields ≡ Ok (record (plain a moves) { stage = due.First; start = n }))
-start_fields a a' moves [] some e = absurd (err_ok BadLine a' e)
-start_fields a a' moves (key ∷ []) some e = absurd (err_ok BadLine a' e)
-start_fields a a' moves (key ∷ name ∷ []) some e =
-    let is = let_through (is_word key (codes "start")) BadLine (with_start a (cell_named a.names name)) a' e in
-    let set = start_set a a' moves (cell_named a.names name) is.1 in
+start_fields : (a a' : State) (moves : List (List ℕ)) (fields : List (List ℕ)) → a.stage ≡ due.Start → 0 < length a.names → fields_at a fields ≡ Ok a' → (n : ℕ) × (a' ≡ record a { stage = due.First; start = n }) × (fields_at (plain a moves) fields ≡ Ok (record (plain a moves) { stage = due.First; start = n }))
+start_fields a a' moves [] at some e = absurd (err_ok BadLine a' e)
+start_fields a a' moves (key ∷ fields) at some e =
+    let is = only_read (is_word key (codes "start")) Start a a' fields (begun due.Start a a' key fields at e) in
+    let set = start_row a a' moves fields is.1 in
     let no_cell = apart key (codes "start") (codes "cell") refl is.0 in
     let named = lt-ltb 0 (length a.names) some in
-    (set.0, set.1, failing _ _ _ no_cell ∙ passing _ _ _ named ∙ passing _ _ _ is.0 ∙ set.2)
-start_fields a a' moves (key ∷ name ∷ more ∷ rest) some e = absurd (err_ok BadLine a' e)
+    let here : line_due due.Cells (nat_lt 0 (length a.names)) key ≡ Some Start = failing _ _ _ no_cell ∙ passing _ _ _ named ∙ passing _ _ _ is.0 in
+    (set.0, set.1, begins (plain a moves) key fields Start here ∙ set.2)
 
 start_alike : (a a' : State) (moves : List (List ℕ)) (line : List ℕ) → a.stage ≡ due.Start → 0 < length a.names → line_at a line ≡ Ok a' → (a' ≡ a) ⊎ ((n : ℕ) × (a' ≡ record a { stage = due.First; start = n }) × (line_at (plain a moves) line ≡ Ok (record (plain a moves) { stage = due.First; start = n })))
 start_alike a a' moves line at some e = elim (read_fields a a' line e) [
   | inl silent ↦ inl silent
   | inr said ↦
-      let set = start_fields a a' moves (fields_of line) some (ap (λ (g : Stage). stage_line g a (fields_of line)) (sym at) ∙ said.2) in
+      let set = start_fields a a' moves (fields_of line) at some said.2 in
       inr (set.0, set.1, line_of_fields (plain a moves) line said.0 said.1 ∙ set.2)
 ]
 
 -- the first parts behind either
-first_set : (a a' : State) (moves : List (List ℕ)) (pairs : List Pair) → with_first a pairs ≡ Ok a' → (es : List DriftPart) × (a' ≡ record a { stage = due.Rows; first = es }) × (with_first (record a { gridded = false; moves = moves }) pairs ≡ Ok (record a { gridded = false; moves = moves; stage = due.Rows; first = es }))
-first_set a a' moves pairs e =
-    let faultless = no_fault (pairs_fault pairs) _ a' e in
-    let right = not_refused (not (total_of pairs == a.total)) _ _ a' faultless.1 in
-    (entries_of pairs, sym (same_ok _ a' right.1), rw (faultless.0, right.0) refl)
-
-first_fields : (a a' : State) (moves : List (List ℕ)) (fields : List (List ℕ)) → first_line a fields ≡ Ok a' → (es : List DriftPart) × (a' ≡ record a { stage = due.Rows; first = es }) × (first_line (record a { gridded = false; moves = moves }) fields ≡ Ok (record a { gridded = false; moves = moves; stage = due.Rows; first = es }))
-first_fields a a' moves [] e = absurd (err_ok BadLine a' e)
-first_fields a a' moves (key ∷ fields) e =
-    let is = let_through (is_word key (codes "first")) BadLine _ a' e in
-    let form = let_through (are_pairs fields) BadLine (with_first a (pairs_of a.names fields)) a' is.1 in
-    let set = first_set a a' moves (pairs_of a.names fields) form.1 in
-    (set.0, set.1, passing _ _ _ is.0 ∙ passing _ _ _ form.0 ∙ set.2)
+first_fields : (a a' : State) (moves : List (List ℕ)) (fields : List (List ℕ)) → a.stage ≡ due.First → fields_at a fields ≡ Ok a' → (es : List DriftPart) × (a' ≡ record a { stage = due.Rows; first = es }) × (fields_at (record a { gridded = false; moves = moves }) fields ≡ Ok (record a { gridded = false; moves = moves; stage = due.Rows; first = es }))
+first_fields a a' moves [] at e = absurd (err_ok BadLine a' e)
+first_fields a a' moves (key ∷ fields) at e =
+    let b = record a { gridded = false; moves = moves } in
+    let is = only_read (is_word key (codes "first")) First a a' fields (begun due.First a a' key fields at e) in
+    let made = passed (tests a (Some First) fields) (adds First a fields) a' (adds First b fields) is.1 in
+    let here : line_due a.stage (nat_lt 0 (length a.names)) key ≡ Some First = ap (λ (g : Stage). line_due g (nat_lt 0 (length a.names)) key) at ∙ passing _ _ _ is.0 in
+    (entries_in a.names fields, sym made.0, begins b key fields First here ∙ made.1)
 
 first_alike : (a a' : State) (moves : List (List ℕ)) (line : List ℕ) → a.stage ≡ due.First → line_at a line ≡ Ok a' → (a' ≡ a) ⊎ ((es : List DriftPart) × (a' ≡ record a { stage = due.Rows; first = es }) × (line_at (record a { gridded = false; moves = moves }) line ≡ Ok (record a { gridded = false; moves = moves; stage = due.Rows; first = es })))
 first_alike a a' moves line at e = elim (read_fields a a' line e) [
   | inl silent ↦ inl silent
   | inr said ↦
-      let set = first_fields a a' moves (fields_of line) (ap (λ (g : Stage). stage_line g a (fields_of line)) (sym at) ∙ said.2) in
-      inr (set.0, set.1, line_of_fields (record a { gridded = false; moves = moves }) line said.0 said.1 ∙ ap (λ (g : Stage). stage_line g (record a { gridded = false; moves = moves }) (fields_of line)) at ∙ set.2)
+      let set = first_fields a a' moves (fields_of line) at said.2 in
+      inr (set.0, set.1, line_of_fields (record a { gridded = false; moves = moves }) line said.0 said.1 ∙ set.2)
 ]
 
 -- The moves.
@@ -218,7 +224,7 @@ moves_read s rows cols some_row some_col few =
     record {
       fields = (word (codes "moves") (omega arith) refl, (field k lt, AreFields-named names n field (of k) moves.within));
       says = refl;
-      taken = rw (room, own, known) (with_moves-taken (after k) k n (of k) moves (filled-open of [] n k lt)
+      taken = sym (moves_by_cells (after k) (name_in names k) (map (name_in names) (of k))) ∙ rw (room, own, known) (with_moves-taken (after k) k n (of k) moves (filled-open of [] n k lt)
           ∙ ap (λ (xs : List (List ℕ)). Ok (rows_due s rows cols xs)) (filled-next of [] n k lt));
     } in
     subst (λ (u : State). AreTaken u (move_lines rows cols) (rows_due s rows cols (side_moves rows cols))) (sym first)
@@ -235,17 +241,17 @@ record IsGridOf (s t : State) (rows cols : ℕ) : Type 0 where
 grid_read : (s t : State) (rows cols : ℕ) → s.stage ≡ due.Cells → s.names ≡ [] → rows ≤ 200 → cols ≤ 200 → line_at s (line_text (codes "grid" ∷ decimal rows ∷ decimal cols ∷ [])) ≡ Ok t → IsGridOf s t rows cols
 grid_read s t rows cols at none few_rows few_cols e =
     let fields : AreFields (codes "grid" ∷ decimal rows ∷ decimal cols ∷ []) = (word (codes "grid") (omega arith) refl, (IsField-decimal rows (omega (arith, few_rows)), (IsField-decimal cols (omega (arith, few_cols)), tt))) in
-    let read : stage_line due.Cells s (codes "grid" ∷ decimal rows ∷ decimal cols ∷ []) ≡ Ok t = ap (λ (g : Stage). stage_line g s (codes "grid" ∷ decimal rows ∷ decimal cols ∷ [])) (sym at) ∙ sym (line_at-fields s (codes "grid" ∷ decimal rows ∷ decimal cols ∷ []) fields refl) ∙ e in
+    let here : line_due s.stage (nat_lt 0 (length s.names)) (codes "grid") ≡ Some Grid = ap (λ (g : Stage). line_due g (nat_lt 0 (length s.names)) (codes "grid")) at ∙ ap (λ (ns : List (List ℕ)). line_due due.Cells (nat_lt 0 (length ns)) (codes "grid")) none in
+    let read = sym (begins s (codes "grid") (decimal rows ∷ decimal cols ∷ []) Grid here) ∙ sym (line_at-fields s (codes "grid" ∷ decimal rows ∷ decimal cols ∷ []) fields refl) ∙ e in
     let number = number_at-decimal 200 rows few_rows (omega arith) in
     let number' = number_at-decimal 200 cols few_cols (omega arith) in
-    let empty : (length s.names == 0) ≡ true = ap (λ (ns : List (List ℕ)). length ns == 0) none in
-    let told = rw (empty, number, number') at read in
-    let good = not_refused (nat_lt rows 1 || nat_lt cols 1) _ _ t told in
-    let parts = or_parts (nat_lt rows 1) (nat_lt cols 1) good.0 in
+    let told = rw (number, number') at read in
+    let good = not_refused (nat_lt rows 1 || (nat_lt cols 1 || false)) _ _ t told in
+    let parts = or_parts (nat_lt rows 1) (nat_lt cols 1 || false) good.0 in
     let small = not_refused (nat_lt 200 (rows * cols)) _ _ t good.1 in
     record {
       some_row = ltb-false rows 1 parts.0;
-      some_col = ltb-false cols 1 parts.1;
+      some_col = ltb-false cols 1 (or_parts (nat_lt cols 1) false parts.1).0;
       few = ltb-false 200 (rows * cols) small.0;
       made = sym (same_ok _ t small.1);
     }
@@ -304,115 +310,59 @@ grid_in_rows s t rows cols start first came at none few_rows few_cols taken done
 
 -- Behind the moves the mark of a grid only lets `spread` in.
 
--- what is right without the mark is right with it
-abbrev IsKept : Result State TextKind → Result State TextKind → Type 0
-IsKept r marked = (t : State) → r ≡ Ok t → marked ≡ Ok (record t { gridded = true })
-
-kept : (s : State) → IsKept (Ok s) (Ok (record s { gridded = true }))
-kept s t e = ap (λ (u : State). Ok (record u { gridded = true })) (same_ok s t e)
-
-kept_none : (kind : TextKind) (marked : Result State TextKind) → IsKept (Err kind) marked
-kept_none kind marked t e = absurd (err_ok kind t e)
-
-kept_test : (b : Bool) (x y x' y' : Result State TextKind) → IsKept x x' → IsKept y y' → IsKept (cond b x y) (cond b x' y')
-kept_test true x y x' y' h k = h
-kept_test false x y x' y' h k = k
-
-kept_fault : (fault : Option TextKind) (r marked : Result State TextKind) → IsKept r marked → IsKept (unless_fault fault r) (unless_fault fault marked)
-kept_fault None r marked h = h
-kept_fault (Some kind) r marked h = kept_none kind (Err kind)
-
--- a test that refuses
-kept_past : (b : Bool) (kind : TextKind) (r marked : Result State TextKind) → IsKept r marked → IsKept (cond b (Err kind) r) (cond b (Err kind) marked)
-kept_past b kind r marked h = kept_test b (Err kind) r (Err kind) marked (kept_none kind (Err kind)) h
-
--- and several that refuse
-abbrev behind_tests : List (Bool × TextKind) → Result State TextKind → Result State TextKind
-behind_tests [] r = r
-behind_tests (test ∷ tests) r = cond test.0 (Err test.1) (behind_tests tests r)
-
-kept_behind : (tests : List (Bool × TextKind)) (s : State) → IsKept (behind_tests tests (Ok s)) (behind_tests tests (Ok (record s { gridded = true })))
-kept_behind [] s = kept s
-kept_behind (test ∷ tests) s = kept_past test.0 test.1 (behind_tests tests (Ok s)) (behind_tests tests (Ok (record s { gridded = true }))) (kept_behind tests s)
-
 module _ (s : State) where
   abbrev marked : State
   marked = record s { gridded = true }
 
-  moves_by : (c : Option ℕ) (moves : List (Option ℕ)) → IsKept (with_moves s c moves) (with_moves marked c moves)
-  moves_by None moves = kept_none UnknownName (Err UnknownName)
-  moves_by (Some c) moves =
-      kept_behind ((list_any (λ m. is_none m) moves, UnknownName) ∷ (has_double moves, DoubleName) ∷ (has_moves s c, DoubleRow) ∷ (length moves == 0, NoMove) ∷ []) (record s { moves = set s.moves c (map (λ m. unwrap_or m 0) moves) })
+  -- what is right without the mark is right with it
+  kept : (tests : List (Bool × TextKind)) (u t : State) → unless_any tests u ≡ Ok t → unless_any tests (record u { gridded = true }) ≡ Ok (record t { gridded = true })
+  kept tests u t e =
+      let made = passed tests u t (record u { gridded = true }) e in
+      made.1 ∙ ap (λ (x : State). Ok (record x { gridded = true })) made.0
 
-  kept_moves : (fields : List (List ℕ)) → IsKept (moves_line s fields) (moves_line marked fields)
-  kept_moves [] = kept_none BadLine (Err BadLine)
-  kept_moves (name ∷ moves) =
-      let c = cell_named s.names name in
-      let cells = map (cell_named s.names) moves in
-      kept_past (nat_lt 64 (length moves)) OverLimit (with_moves s c cells) (with_moves marked c cells) (moves_by c cells)
+  kept_row : (line : Line) (fields : List (List ℕ)) (t : State) → IsPlace line due.Rows → s.gridded ≡ false → row_at line s fields ≡ Ok t → row_at line marked fields ≡ Ok (record t { gridded = true })
+  kept_row Scenario fields t at without e = absurd (let bad : ⊥ = cc in bad)
+  kept_row Horizon fields t at without e = absurd (let bad : ⊥ = cc in bad)
+  kept_row Parts fields t at without e = absurd (let bad : ⊥ = cc in bad)
+  kept_row Cell fields t at without e = absurd (let bad : ⊥ = cc in bad)
+  kept_row Grid fields t at without e = absurd (let bad : ⊥ = cc in bad)
+  kept_row Start [] t at without e = absurd (err_ok BadLine t e)
+  kept_row Start (name ∷ []) t at without e = kept (tests s (Some Start) (name ∷ [])) (adds Start s (name ∷ [])) t e
+  kept_row Start (name ∷ more ∷ rest) t at without e = absurd (err_ok BadLine t e)
+  kept_row First fields t at without e = absurd (let bad : ⊥ = cc in bad)
+  kept_row Moves [] t at without e = absurd (err_ok BadLine t e)
+  kept_row Moves (name ∷ moves) t at without e = kept (tests s (Some Moves) (name ∷ moves)) (adds Moves s (name ∷ moves)) t e
+  kept_row Drift [] t at without e = absurd (err_ok BadLine t e)
+  kept_row Drift (name ∷ pairs) t at without e = kept (tests s (Some Drift) (name ∷ pairs)) (adds Drift s (name ∷ pairs)) t e
+  kept_row Overlook [] t at without e = absurd (err_ok BadLine t e)
+  kept_row Overlook (name ∷ []) t at without e = absurd (err_ok BadLine t e)
+  kept_row Overlook (name ∷ part ∷ []) t at without e = kept (tests s (Some Overlook) (name ∷ part ∷ [])) (adds Overlook s (name ∷ part ∷ [])) t e
+  kept_row Overlook (name ∷ part ∷ more ∷ rest) t at without e = absurd (err_ok BadLine t e)
+  kept_row Spread [] t at without e = absurd (err_ok BadLine t e)
+  kept_row Spread (part ∷ []) t at without e = absurd (let bad : true ≡ false = sym (not-false s.gridded (not_refused (not s.gridded) _ _ t e).0) ∙ without in let none : ⊥ = cc in none)
+  kept_row Spread (part ∷ more ∷ rest) t at without e = absurd (err_ok BadLine t e)
+  kept_row Rate [] t at without e = absurd (err_ok BadLine t e)
+  kept_row Rate (part ∷ []) t at without e = kept (tests s (Some Rate) (part ∷ [])) (adds Rate s (part ∷ [])) t e
+  kept_row Rate (part ∷ more ∷ rest) t at without e = absurd (err_ok BadLine t e)
+  kept_row End fields t at without e = kept (tests s (Some End) fields) (adds End s fields) t e
 
-  drift_by : (c : Option ℕ) (pairs : List Pair) → IsKept (with_parts_of s c pairs) (with_parts_of marked c pairs)
-  drift_by None pairs = kept_none (unknown_after (pairs_fault pairs)) (Err (unknown_after (pairs_fault pairs)))
-  drift_by (Some c) pairs =
-      let tests = (has_parts s c, DoubleRow) ∷ (not (total_of pairs == s.drift), WrongSum) ∷ [] in
-      let u = record s { parts = set s.parts c (entries_of pairs) } in
-      kept_fault (pairs_fault pairs) (behind_tests tests (Ok u)) (behind_tests tests (Ok (record u { gridded = true }))) (kept_behind tests u)
+  kept_due : (o : Option Line) (word : List ℕ) (fields : List (List ℕ)) (t : State) → row_due word ≡ o → s.gridded ≡ false → unless_any (tests s o fields) (added o s fields) ≡ Ok t → unless_any (tests marked o fields) (added o marked fields) ≡ Ok (record t { gridded = true })
+  kept_due None word fields t is without e = absurd (err_ok BadLine t e)
+  kept_due (Some line) word fields t is without e = kept_row line fields t (place_due due.Rows true word line is) without e
 
-  kept_drift : (fields : List (List ℕ)) → IsKept (drift_line s fields) (drift_line marked fields)
-  kept_drift [] = kept_none BadLine (Err BadLine)
-  kept_drift (name ∷ fields) =
-      let c = cell_named s.names name in
-      let pairs = pairs_of s.names fields in
-      kept_test (are_pairs fields) (with_parts_of s c pairs) (Err BadLine) (with_parts_of marked c pairs) (Err BadLine) (drift_by c pairs) (kept_none BadLine (Err BadLine))
-
-  overlook_by : (c : Option ℕ) (n : ℕ) → IsKept (with_overlook s c n) (with_overlook marked c n)
-  overlook_by None n = kept_none UnknownName (Err UnknownName)
-  overlook_by (Some c) n = kept_behind ((has_overlook s c, DoubleRow) ∷ (nat_lt s.look n, PartOver) ∷ []) (record s { overlook = set s.overlook c (Some n) })
-
-  kept_overlook : (fields : List (List ℕ)) → IsKept (overlook_line s fields) (overlook_line marked fields)
-  kept_overlook [] = kept_none BadLine (Err BadLine)
-  kept_overlook (name ∷ []) = kept_none BadLine (Err BadLine)
-  kept_overlook (name ∷ part ∷ []) =
-      let n = number_at 1000000 part in
-      let c = cell_named s.names name in
-      kept_past (is_bad 0 n) BadNumber (cond (is_over n) (Err OverLimit) (with_overlook s c (number_in n))) (cond (is_over n) (Err OverLimit) (with_overlook marked c (number_in n)))
-      (kept_past (is_over n) OverLimit (with_overlook s c (number_in n)) (with_overlook marked c (number_in n)) (overlook_by c (number_in n)))
-  kept_overlook (name ∷ part ∷ more ∷ rest) = kept_none BadLine (Err BadLine)
-
-  kept_spread : (fields : List (List ℕ)) → s.gridded ≡ false → IsKept (spread_line s fields) (spread_line marked fields)
-  kept_spread [] without = kept_none BadLine (Err BadLine)
-  kept_spread (part ∷ []) without = λ t e. absurd (let bad : true ≡ false = sym (let_through s.gridded BadLine (spread_part s (number_at 1000000 part)) t e).0 ∙ without in let none : ⊥ = cc in none)
-  kept_spread (part ∷ more ∷ rest) without = kept_none BadLine (Err BadLine)
-
-  kept_rate : (fields : List (List ℕ)) → IsKept (rate_line s fields) (rate_line marked fields)
-  kept_rate [] = kept_none BadLine (Err BadLine)
-  kept_rate (part ∷ []) =
-      let n = number_at 1000000 part in
-      kept_behind ((is_bad 0 n, BadNumber) ∷ (is_over n, OverLimit) ∷ (list_any (λ o. is_some o) s.overlook, DoubleRow) ∷ (nat_lt s.look (number_in n), PartOver) ∷ []) (record s { overlook = replicate (length s.names) (Some (number_in n)) })
-  kept_rate (part ∷ more ∷ rest) = kept_none BadLine (Err BadLine)
-
-  kept_end : (fields : List (List ℕ)) → IsKept (end_line s fields) (end_line marked fields)
-  kept_end [] = kept_behind ((lacks_row s, MissingRow) ∷ (not (is_narrow s), TooWide) ∷ []) (record s { stage = due.Ended })
-  kept_end (more ∷ rest) = kept_none BadLine (Err BadLine)
-
-  kept_row : (fields : List (List ℕ)) → s.gridded ≡ false → IsKept (row_line s fields) (row_line marked fields)
-  kept_row [] without = kept_none BadLine (Err BadLine)
-  kept_row (key ∷ fields) without =
-      let ends : State → Result State TextKind = λ u. cond (is_word key (codes "end")) (end_line u fields) (Err BadLine) in
-      let rates : State → Result State TextKind = λ u. cond (is_word key (codes "rate")) (rate_line u fields) (ends u) in
-      let spreads : State → Result State TextKind = λ u. cond (is_word key (codes "spread")) (spread_line u fields) (rates u) in
-      let overlooks : State → Result State TextKind = λ u. cond (is_word key (codes "overlook")) (overlook_line u fields) (spreads u) in
-      let drifts : State → Result State TextKind = λ u. cond (is_word key (codes "drift")) (drift_line u fields) (overlooks u) in
-      kept_test (is_word key (codes "moves")) (moves_line s fields) (drifts s) (moves_line marked fields) (drifts marked) (kept_moves fields)
-      (kept_test (is_word key (codes "drift")) (drift_line s fields) (overlooks s) (drift_line marked fields) (overlooks marked) (kept_drift fields)
-      (kept_test (is_word key (codes "overlook")) (overlook_line s fields) (spreads s) (overlook_line marked fields) (spreads marked) (kept_overlook fields)
-      (kept_test (is_word key (codes "spread")) (spread_line s fields) (rates s) (spread_line marked fields) (rates marked) (kept_spread fields without)
-      (kept_test (is_word key (codes "rate")) (rate_line s fields) (ends s) (rate_line marked fields) (ends marked) (kept_rate fields)
-      (kept_test (is_word key (codes "end")) (end_line s fields) (Err BadLine) (end_line marked fields) (Err BadLine) (kept_end fields) (kept_none BadLine (Err BadLine)))))))
+  kept_fields : (fields : List (List ℕ)) (t : State) → s.stage ≡ due.Rows → s.gridded ≡ false → fields_at s fields ≡ Ok t → fields_at marked fields ≡ Ok (record t { gridded = true })
+  kept_fields [] t at without e = absurd (err_ok BadLine t e)
+  kept_fields (key ∷ fields) t at without e =
+      let there : fields_at marked (key ∷ fields) ≡ unless_any (tests marked (row_due key) fields) (added (row_due key) marked fields) =
+      ap (λ (g : Stage). unless_any (tests marked (line_due g (nat_lt 0 (length s.names)) key) fields) (added (line_due g (nat_lt 0 (length s.names)) key) marked fields)) at in
+      there ∙ kept_due (row_due key) key fields t refl without (begun due.Rows s t key fields at e)
 
 pub grid_reads_on : GridReadsOn
 unfolding line_at
 grid_reads_on s t line at without e =
-    kept_test (says_nothing (fields_of line)) (Ok s) (cond (not (list_all is_text_byte line)) (Err NotText) (stage_line s.stage s (fields_of line))) (Ok (record s { gridded = true })) (cond (not (list_all is_text_byte line)) (Err NotText) (stage_line s.stage (record s { gridded = true }) (fields_of line))) (kept s)
-    (kept_past (not (list_all is_text_byte line)) NotText (stage_line s.stage s (fields_of line)) (stage_line s.stage (record s { gridded = true }) (fields_of line))
-    (subst (λ (g : Stage). IsKept (stage_line g s (fields_of line)) (stage_line g (record s { gridded = true }) (fields_of line))) (sym at) (kept_row s (fields_of line) without))) t e
+    both (says_nothing (fields_of line)) (not (list_all is_text_byte line)) e
+  where
+    both : (nothing bytes : Bool) → cond nothing (Ok s) (cond bytes (Err NotText) (fields_at s (fields_of line))) ≡ Ok t → cond nothing (Ok (record s { gridded = true })) (cond bytes (Err NotText) (fields_at (record s { gridded = true }) (fields_of line))) ≡ Ok (record t { gridded = true })
+    both true bytes e = ap (λ (x : State). Ok (record x { gridded = true })) (same_ok s t e)
+    both false true e = absurd (err_ok NotText t e)
+    both false false e = kept_fields s (fields_of line) t at without e

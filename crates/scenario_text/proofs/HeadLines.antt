@@ -16,7 +16,9 @@ use Rattle.scenario_text.specs.declared.draft.Stage.TheVariants.{Horizon, Parts,
 use Rattle.scenario_text.specs.declared.pair.Pair.{Pair}
 use Rattle.scenario_text.specs.State.{State, blank_state}
 use Rattle.scenario_text.specs.Fields.{cell_named}
-use Rattle.scenario_text.specs.Reading.{cell_line, with_name, with_first}
+use Rattle.scenario_text.specs.Grammar.{with_name, row_at}
+use Rattle.scenario_text.specs.declared.line.Line.TheVariants.{Cell}
+use Rattle.scenario_text.proofs.ByCellNames.{first_by_cells, with_first}
 use Rattle.scenario_text.specs.Canonical.{first_entries, pair_fields}
 use Rattle.scenario_text.specs.RowFields.{cell_row}
 use Rattle.text_rows.proofs.RowTexts.{IsField-decimal, word}
@@ -85,7 +87,7 @@ Takes-parts p h =
     }
 
 -- a new name behind those that were read
-pub cell_line-taken : (s : State) (name : List ℕ) → IsName name → length s.names < 200 → cell_named s.names name ≡ None → cell_line s name ≡ Ok (with_name s name)
+pub cell_line-taken : (s : State) (name : List ℕ) → IsName name → length s.names < 200 → cell_named s.names name ≡ None → row_at Cell s (name ∷ []) ≡ Ok (with_name s name)
 cell_line-taken s name h few new =
     let short = le-ltb 24 (length name) h.short in
     let room = lt-leb 200 (length s.names) few in
@@ -153,5 +155,5 @@ Takes-first p h =
     record {
       fields = (word (codes "first") (omega arith) refl, AreFields-pairs p h (first_entries p) row.within small);
       says = refl;
-      taken = rw (even, pairs) (with_first-taken (started p) (map said (first_entries p)) (first_entries p) (IsSaid-row p.total p.cells (first_entries p) row));
+      taken = sym (first_by_cells (started p) (pair_fields p (first_entries p))) ∙ rw (even, pairs) (with_first-taken (started p) (map said (first_entries p)) (first_entries p) (IsSaid-row p.total p.cells (first_entries p) row));
     }

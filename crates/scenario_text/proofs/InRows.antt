@@ -1,9 +1,9 @@
 -- The shorthands say what lines of rows say.
 use Rattle.std.proofs.Common.{◌≡◌, ℕ, zero, suc, ◌+◌, ◌-◌, ◌*◌, ◌<◌, ◌≤◌, true, false, cond, List, [], ◌∷◌, map, length, get_or, set, replicate, Option, Some, None, Ok, refl, sym, ap, ◌∙◌, subst, arith, inl, inr, ◌⊎◌}
-use Rattle.std.specs.Prelude.{All, codes, ◌==◌, nat_lt, is_some, count_by}
+use Rattle.std.specs.Prelude.{All, codes, not, ◌==◌, nat_lt, is_some, count_by}
 use Rattle.std.specs.Fmt.{decimal}
 use Rattle.std.specs.List.{range_with_len, list_any}
-use Rattle.std.proofs.lemmas.Bool.{le-ltb, lt-ltb, ltb-false, eq-eqb, ne_eqb, cases_eq, false_from_ne_true}
+use Rattle.std.proofs.lemmas.Bool.{le-ltb, lt-ltb, ltb-false, not-false, eq-eqb, ne_eqb, cases_eq, false_from_ne_true}
 use Rattle.std.proofs.lemmas.List.{length-replicate, get_or-replicate}
 use Rattle.std.proofs.lemmas.List.Elements.{All-get_or}
 use Rattle.std.proofs.lemmas.List.FromFn.{fill_by_all, get_or-map-range_with_len}
@@ -13,23 +13,26 @@ use Rattle.search_grid.specs.Moves.{moves_from}
 use Rattle.search_model.specs.Names.{IsName, name_in}
 use Rattle.scenario_text.specs.declared.draft.Stage.{Stage}
 use Rattle.scenario_text.specs.declared.draft.Stage.TheVariants as due
-use Rattle.scenario_text.specs.Fields.{stands_in, has_double}
+use Rattle.scenario_text.specs.ByCells.{stands_in, has_double}
 use Rattle.search_model.specs.Grids.{spread_row, spread_rows}
 use Rattle.scenario_text.specs.State.{State}
-use Rattle.scenario_text.specs.Reading.{stage_line}
+use Rattle.scenario_text.specs.declared.line.Line.{Line}
+use Rattle.scenario_text.specs.declared.line.Line.TheVariants.{Drift, Overlook, Spread, Rate}
+use Rattle.scenario_text.specs.KindTable.{row_due, line_due}
+use Rattle.scenario_text.proofs.Passed.{begins}
+use Rattle.scenario_text.proofs.ByCellNames.{drift_by_cells}
 use Rattle.scenario_text.specs.Sound.{AreEntries, AreMoves, IsSound}
 use Rattle.scenario_text.specs.Faults.{AreTaken}
 use Rattle.scenario_text.specs.InRows.{line_text, for_each, RateInRows, SpreadInRows}
-use Rattle.scenario_text.specs.RowFields.{drift_of, overlook_of}
+use Rattle.scenario_text.specs.RowFields.{entry_fields, drift_of, overlook_of}
 use Rattle.text_rows.proofs.RowTexts.{IsField, AreFields, IsField-decimal, word}
 use Rattle.exact_parts.proofs.Decimals.{number_at-decimal}
-use Rattle.text_rows.proofs.Results.{let_through}
 use Rattle.list_laws.proofs.Sums.{sum_by-map}
 use Rattle.scenario_text.proofs.FieldTexts.{IsField-name, AreFields-entries}
 use Rattle.scenario_text.proofs.NamesApart.{named_at}
 use Rattle.scenario_text.proofs.PairTexts.{said, pairs_of-named, are_pairs-named, IsSaid, IsSaid-by}
 use Rattle.scenario_text.proofs.Ranges.{map-range-same, set-map-range}
-use Rattle.scenario_text.proofs.RowLines.{among_more, with_overlook-taken, with_parts-taken}
+use Rattle.scenario_text.proofs.RowLines.{among_more, overlook-taken, with_parts-taken}
 use Rattle.scenario_text.proofs.RowsRead.{Takes, line_at-fields, line_at-row}
 use Rattle.scenario_text.proofs.SoundFields.{not_refused, none_pass}
 use Rattle.scenario_text.proofs.SoundHeads.{reached}
@@ -69,6 +72,10 @@ unended_rows stage at e = let bad : due.Rows ≡ due.Ended = sym at ∙ e in let
 field_in : (s : State) → IsSound s → (c : ℕ) → c < length s.names → IsField (name_in s.names c)
 field_in s h c lt = IsField-name (name_in s.names c) (All-get_or IsName s.names c [] lt h.names)
 
+-- a row, by its keyword
+pub row_begins : (s : State) (word : List ℕ) (line : Line) → s.stage ≡ due.Rows → row_due word ≡ Some line → line_due s.stage (nat_lt 0 (length s.names)) word ≡ Some line
+row_begins s word line at is = ap (λ (g : Stage). line_due g (nat_lt 0 (length s.names)) word) at ∙ is
+
 -- `rate PART`
 none_some : (os : List (Option ℕ)) → list_any (λ o. is_some o) os ≡ false → (k : ℕ) → k < length os → get_or os k None ≡ None
 none_some os none k lt = empty_of (get_or os k None) (none_pass (λ o. is_some o) os none k None lt)
@@ -84,7 +91,7 @@ rate_in_rows s t part came at few e =
     let number = number_at-decimal 1000000 part few (omega arith) in
     let least = le-ltb part 0 (omega arith) in
     let fields : AreFields (codes "rate" ∷ decimal part ∷ []) = (word (codes "rate") (omega arith) refl, (IsField-decimal part (omega (arith, few)), tt)) in
-    let read : stage_line due.Rows s (codes "rate" ∷ decimal part ∷ []) ≡ Ok t = ap (λ (g : Stage). stage_line g s (codes "rate" ∷ decimal part ∷ [])) (sym at) ∙ sym (line_at-fields s (codes "rate" ∷ decimal part ∷ []) fields refl) ∙ e in
+    let read = sym (begins s (codes "rate") (decimal part ∷ []) Rate (row_begins s (codes "rate") Rate at refl)) ∙ sym (line_at-fields s (codes "rate" ∷ decimal part ∷ []) fields refl) ∙ e in
     let told = rw (number, least) at read in
     let new = not_refused (list_any (λ o. is_some o) s.overlook) _ _ t told in
     let within = not_refused (nat_lt s.look part) _ _ t new.1 in
@@ -100,9 +107,9 @@ rate_in_rows s t part came at few e =
     record {
       fields = (word (codes "overlook") (omega arith) refl, (field_in s h k lt, (IsField-decimal part (omega (arith, few)), tt)));
       says = refl;
-      taken = ap (λ (g : Stage). stage_line g (after k) (row k)) at
-          ∙ rw (number, found, least) (with_overlook-taken (after k) k part le (filled-open (λ c. Some part) None n k lt)
-          ∙ ap (λ (xs : List (Option ℕ)). Ok (record s { overlook = xs })) (filled-next (λ c. Some part) None n k lt));
+      taken = begins (after k) (codes "overlook") _ Overlook (row_begins (after k) (codes "overlook") Overlook at refl)
+          ∙ overlook-taken (after k) (name_in s.names k) k part found few le (filled-open (λ c. Some part) None n k lt)
+          ∙ ap (λ (xs : List (Option ℕ)). Ok (record s { overlook = xs })) (filled-next (λ c. Some part) None n k lt);
     } in
     subst (λ (u : State). AreTaken u (for_each n row) t) (sym first)
     (subst (AreTaken (after 0) (for_each n row)) last (taken_range n 0 n row after (omega arith) takes (λ k. unended_rows s.stage at)))
@@ -171,9 +178,9 @@ spread_in_rows s t part came at few e =
     let least = le-ltb part 0 (omega arith) in
     let limits = h.settled.drift (reached s.stage due.Rows 3 at (omega arith)) in
     let fields : AreFields (codes "spread" ∷ decimal part ∷ []) = (word (codes "spread") (omega arith) refl, (IsField-decimal part (omega (arith, few)), tt)) in
-    let read : stage_line due.Rows s (codes "spread" ∷ decimal part ∷ []) ≡ Ok t = ap (λ (g : Stage). stage_line g s (codes "spread" ∷ decimal part ∷ [])) (sym at) ∙ sym (line_at-fields s (codes "spread" ∷ decimal part ∷ []) fields refl) ∙ e in
+    let read = sym (begins s (codes "spread") (decimal part ∷ []) Spread (row_begins s (codes "spread") Spread at refl)) ∙ sym (line_at-fields s (codes "spread" ∷ decimal part ∷ []) fields refl) ∙ e in
     let told = rw (number, least) at read in
-    let gridded = let_through s.gridded _ _ t told in
+    let gridded = not_refused (not s.gridded) _ _ t told in
     let new = not_refused (list_any (λ row. nat_lt 0 (length row)) s.parts) _ _ t gridded.1 in
     let narrow = not_refused (list_any (λ row. nat_lt s.drift (part * (length row - 1))) s.moves) _ _ t new.1 in
     let of : ℕ → List DriftPart = λ c. spread_row s.drift part c (moves_from s.moves c) in
@@ -185,14 +192,15 @@ spread_in_rows s t part came at few e =
     let last : after n ≡ t = ap (λ (xs : List (List DriftPart)). record s { parts = xs }) (sym long) ∙ made in
     let takes : (k : ℕ) → k < n → Takes (after k) (row k) (after (k + 1)) = λ k lt.
     let found = named_at s.names h.differ k lt in
-    let are = spread_entries s part h gridded.0 narrow.0 k lt in
+    let are = spread_entries s part h (not-false _ gridded.0) narrow.0 k lt in
     let small = small_of n s.drift 1000000 (of k) are limits.1 in
     let pairs = pairs_of-named s.names n (named_at s.names h.differ) (of k) are.within small in
     let even = are_pairs-named s.names (of k) (some_of n s.drift (of k) are limits.0) in
     record {
       fields = (word (codes "drift") (omega arith) refl, (field_in s h k lt, AreFields-entries s.names n (field_in s h) (of k) are.within small));
       says = refl;
-      taken = ap (λ (g : Stage). stage_line g (after k) (row k)) at
+      taken = begins (after k) (codes "drift") _ Drift (row_begins (after k) (codes "drift") Drift at refl)
+          ∙ sym (drift_by_cells (after k) (name_in s.names k) (entry_fields s.names (of k)))
           ∙ rw (even, found, pairs) (with_parts-taken (after k) k (map said (of k)) (of k) (entries_said n s.drift (of k) are) (filled-open of [] n k lt)
           ∙ ap (λ (xs : List (List DriftPart)). Ok (record s { parts = xs })) (filled-next of [] n k lt));
     } in

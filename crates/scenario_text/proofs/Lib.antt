@@ -21,6 +21,9 @@ pub mod Columns
 pub mod GridNames
 pub mod Spreads
 pub mod FirstFields
+pub mod ByCellNames
+pub mod Due
+pub mod Passed
 pub mod SoundFields
 pub mod SoundNames
 pub mod SoundRows
@@ -33,7 +36,8 @@ pub mod Assembled
 pub mod FrontLines
 pub mod EndLines
 pub mod FirstFaults
-pub mod Tables
+pub mod KindOrder
+pub mod WorkedTexts
 pub mod Answered
 pub mod InRows
 pub mod GridRows

@@ -12,7 +12,8 @@ use Rattle.scenario_text.specs.declared.pairs.Scan.{Scan}
 use Rattle.text_rows.specs.Fields.{ends_field, fields_of}
 use Rattle.exact_parts.specs.Decimal.{number_at}
 use Rattle.text_rows.proofs.FieldCuts.{fields_gone, starts_field}
-use Rattle.scenario_text.specs.Fields.{is_bad, is_over, number_in, cell_named, stands_in, has_double, entries_of, pairs_of, pairs_fault, are_pairs}
+use Rattle.scenario_text.specs.Fields.{is_bad, is_over, number_in, cell_named, are_pairs}
+use Rattle.scenario_text.specs.ByCells.{stands_in, has_double, entries_of, pairs_of, pairs_fault}
 use Rattle.scenario_text.specs.Scanning.{HasSeen, IsMarked, IsAdded}
 use Rattle.scenario_text.specs.Gives.{AreScanned}
 

@@ -12,7 +12,8 @@ use Rattle.drift_chain.specs.DriftRows.{IsDriftRow}
 use Rattle.search_model.specs.Names.{name_in}
 use Rattle.search_model.specs.Problem.{Problem, IsProblem}
 use Rattle.scenario_text.specs.declared.pair.Pair.{Pair}
-use Rattle.scenario_text.specs.Fields.{cell_named, pairs_of, pairs_fault, entries_of, total_of, are_pairs, has_double, is_bad, is_over}
+use Rattle.scenario_text.specs.Fields.{cell_named, are_pairs, is_bad, is_over}
+use Rattle.scenario_text.specs.ByCells.{pairs_of, pairs_fault, entries_of, total_of, has_double}
 use Rattle.scenario_text.specs.Canonical.{pair_fields}
 use Rattle.scenario_text.specs.RowFields.{entry_fields}
 use Rattle.scenario_text.proofs.Ascending.{has_double-rising}

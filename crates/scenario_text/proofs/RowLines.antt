@@ -16,8 +16,11 @@ use Rattle.scenario_text.specs.declared.draft.Stage.TheVariants.{Rows}
 use Rattle.scenario_text.specs.declared.pair.Pair.{Pair}
 use Rattle.scenario_text.specs.State.{State}
 use Rattle.scenario_text.specs.Fields.{cell_named}
-use Rattle.scenario_text.specs.Reading.{with_moves, with_parts_of, with_overlook}
-use Rattle.scenario_text.specs.Canonical.{first_entries, moves_row, drift_row, overlook_row}
+use Rattle.std.specs.Fmt.{decimal}
+use Rattle.scenario_text.specs.declared.line.Line.TheVariants.{Overlook}
+use Rattle.scenario_text.specs.Grammar.{row_at}
+use Rattle.scenario_text.proofs.ByCellNames.{moves_by_cells, drift_by_cells, with_moves, with_parts_of}
+use Rattle.scenario_text.specs.Canonical.{pair_fields, first_entries, moves_row, drift_row, overlook_row}
 use Rattle.scenario_text.proofs.Ascending.{has_double-rising}
 use Rattle.scenario_text.proofs.FieldTexts.{IsField-cell_name, AreFields-names, AreFields-pairs}
 use Rattle.text_rows.proofs.RowTexts.{IsField-decimal, word}
@@ -105,7 +108,7 @@ Takes-moves p h i j k lt =
     record {
       fields = (word (codes "moves") (omega arith) refl, (IsField-cell_name p h i lt, AreFields-names p h row moves.within));
       says = refl;
-      taken = rw (few, found, names_known p h row moves.within) (with_moves-taken s i p.cells row moves before ∙ ap (λ (xs : List (List ℕ)). Ok (record s { moves = xs })) (moved p i lt));
+      taken = sym (moves_by_cells s (cell_name p i) (map (position_name p) row)) ∙ rw (few, found, names_known p h row moves.within) (with_moves-taken s i p.cells row moves before ∙ ap (λ (xs : List (List ℕ)). Ok (record s { moves = xs })) (moved p i lt));
     }
 
 -- Drift rows.
@@ -136,15 +139,17 @@ Takes-drift p h i j k lt =
     record {
       fields = (word (codes "drift") (omega arith) refl, (IsField-cell_name p h j lt, AreFields-pairs p h es row.within small));
       says = refl;
-      taken = rw (even, found, pairs) (with_parts-taken s j (map said es) es (IsSaid-row p.drift.denominator p.cells es row) before ∙ ap (λ (xs : List (List DriftPart)). Ok (record s { parts = xs })) (drifted p j lt));
+      taken = sym (drift_by_cells s (cell_name p j) (pair_fields p es)) ∙ rw (even, found, pairs) (with_parts-taken s j (map said es) es (IsSaid-row p.drift.denominator p.cells es row) before ∙ ap (λ (xs : List (List DriftPart)). Ok (record s { parts = xs })) (drifted p j lt));
     }
 
 -- Overlook parts.
 
-pub with_overlook-taken : (s : State) (c part : ℕ) → part ≤ s.look → slice_index_or s.overlook c None ≡ None → with_overlook s (Some c) part ≡ Ok (record s { overlook = set s.overlook c (Some part) })
-with_overlook-taken s c part le before =
+pub overlook-taken : (s : State) (name : List ℕ) (c part : ℕ) → cell_named s.names name ≡ Some c → part ≤ 1000000 → part ≤ s.look → slice_index_or s.overlook c None ≡ None → row_at Overlook s (name ∷ decimal part ∷ []) ≡ Ok (record s { overlook = set s.overlook c (Some part) })
+overlook-taken s name c part found small le before =
+    let number = number_at-decimal 1000000 part small (omega arith) in
+    let least = le-ltb part 0 (omega arith) in
     let fits = le-ltb s.look part le in
-    rw (before, fits) refl
+    rw (number, least, found, before, fits) refl
 
 overlooked : (p : Problem) (k : ℕ) → k < p.cells → set (map (overlook_after p k) (range_with_len 0 p.cells)) k (Some (factor_of p.sweep 1 k k)) ≡ map (overlook_after p (k + 1)) (range_with_len 0 p.cells)
 overlooked p k lt =
@@ -158,13 +163,11 @@ Takes-overlook p h i j k lt =
     let s = after_rows p i j k in
     let part = factor_of p.sweep 1 k k in
     let within : part ≤ p.sweep.denominator = h.sweep.within 1 k k in
-    let number = number_at-decimal 1000000 part (omega (arith, within, h.sweep.denominator.1)) (omega arith) in
     let found = cell_named-at p h k lt in
-    let least = le-ltb part 0 (omega arith) in
     let among = le-ltb k k (omega arith) in
     let before : slice_index_or s.overlook k None ≡ None = get_or-map-range_with_len (overlook_after p k) 0 p.cells k k None lt (omega arith) ∙ rw among refl in
     record {
       fields = (word (codes "overlook") (omega arith) refl, (IsField-cell_name p h k lt, (IsField-decimal part (omega (arith, within, h.sweep.denominator.1)), tt)));
       says = refl;
-      taken = rw (number, found, least) (with_overlook-taken s k part within before ∙ ap (λ (xs : List (Option ℕ)). Ok (record s { overlook = xs })) (overlooked p k lt));
+      taken = overlook-taken s (position_name p k) k part found (omega (arith, within, h.sweep.denominator.1)) within before ∙ ap (λ (xs : List (Option ℕ)). Ok (record s { overlook = xs })) (overlooked p k lt);
     }

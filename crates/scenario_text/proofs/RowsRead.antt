@@ -8,14 +8,15 @@ use Rattle.text_rows.proofs.LineCuts.{after_none}
 use Rattle.scenario_text.specs.declared.draft.Stage.TheVariants.{Ended}
 use Rattle.scenario_text.specs.State.{State}
 use Rattle.scenario_text.specs.Fields.{says_nothing}
-use Rattle.scenario_text.specs.Reading.{stage_line, line_at, lines_at}
+use Rattle.scenario_text.specs.Reading.{line_at, lines_at}
+use Rattle.scenario_text.specs.Grammar.{fields_at}
 use Rattle.scenario_text.proofs.Loop.{at_line, at_last}
 
 -- a state takes a row of fields and becomes another
 pub record Takes (s : State) (row : List (List ℕ)) (t : State) : Type 0 where
   pub fields : AreFields row
   pub says : says_nothing row ≡ false
-  pub taken : stage_line s.stage s row ≡ Ok t
+  pub taken : fields_at s row ≡ Ok t
 
 -- from this state on the rows are read up to their end, which is the last line, and cut off, whatever follows them
 pub record Reads (s : State) (rows : List (List (List ℕ))) (t : State) : Type 0 where
@@ -23,7 +24,7 @@ pub record Reads (s : State) (rows : List (List (List ℕ))) (t : State) : Type 
   pub cut : (rest : List ℕ) → after_lines (length rows) (text_of rows ++ rest) ≡ rest
 
 -- a row is read as its fields
-pub line_at-fields : (s : State) (row : List (List ℕ)) → AreFields row → says_nothing row ≡ false → line_at s (join_with_byte 32 row) ≡ stage_line s.stage s row
+pub line_at-fields : (s : State) (row : List (List ℕ)) → AreFields row → says_nothing row ≡ false → line_at s (join_with_byte 32 row) ≡ fields_at s row
 unfolding line_at
 line_at-fields s row fields says = rw (fields_of-join row fields, says, row_is_text row fields) refl
 

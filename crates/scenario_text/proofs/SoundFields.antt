@@ -10,7 +10,8 @@ use Rattle.std.proofs.lemmas.List.Sums.{sum_by-cons, fails_before_first}
 use Rattle.std.proofs.lemmas.Slice.Eq.{bytes_eq-Decides}
 use Rattle.drift_chain.specs.declared.part.DriftPart.{DriftPart}
 use Rattle.scenario_text.specs.declared.pair.Pair.{Pair}
-use Rattle.scenario_text.specs.Fields.{is_bad, is_over, number_in, cell_named, stands_in, has_double, pairs_of, entries_of, total_of, pairs_fault}
+use Rattle.scenario_text.specs.Fields.{is_bad, is_over, number_in, cell_named}
+use Rattle.scenario_text.specs.ByCells.{stands_in, has_double, pairs_of, entries_of, total_of, pairs_fault}
 use Rattle.exact_parts.specs.Decimal.{number_at}
 use Rattle.scenario_text.specs.Sound.{AreEntries, AreMoves}
 use Rattle.scenario_text.proofs.Numbers.{number_at_within, least_met}
@@ -42,7 +43,7 @@ none_pass p (x ∷ xs) e = let parts = or_parts (p x) (list_any p xs) e in All-c
 pub named_within : (names : List (List ℕ)) (name : List ℕ) (c : ℕ) → cell_named names name ≡ Some c → c < length names
 named_within names name c e = position_within (bytes_eq name) names c [] e
 
-found_within : (o : Option ℕ) (n : ℕ) → ((c : ℕ) → o ≡ Some c → c < n) → is_none o ≡ false → unwrap_or o 0 < n
+pub found_within : (o : Option ℕ) (n : ℕ) → ((c : ℕ) → o ≡ Some c → c < n) → is_none o ≡ false → unwrap_or o 0 < n
 found_within None n h e = absurd (true≢false e)
 found_within (Some c) n h e = h c refl
 

@@ -1,23 +1,28 @@
 -- Each line keeps what holds of all that lines give.
-use Rattle.std.proofs.Common.{◌≡◌, ℕ, ◌≤◌, List, [], ◌∷◌, length, Ok, refl, subst, arith, ◌⊎◌}
-use Rattle.std.specs.Prelude.{not, All, codes}
+use Rattle.std.proofs.Common.{◌≡◌, ℕ, ◌≤◌, List, [], ◌∷◌, length, Option, Some, None, Result, Ok, refl, subst, arith, ◌⊎◌}
+use Rattle.std.specs.Prelude.{not, All, nat_lt}
+use Rattle.std.proofs.lemmas.Bool.{cond_both}
 use Rattle.std.specs.List.{list_all}
-use Rattle.std.proofs.lemmas.List.Elements.{All-nil}
+use Rattle.std.proofs.lemmas.List.Elements.{All-nil, All-tail}
 use Rattle.search_model.specs.Names.{IsName}
-use Rattle.scenario_text.specs.declared.draft.Stage.{Stage}
-use Rattle.scenario_text.specs.declared.draft.Stage.TheVariants.{Version, Horizon, Parts, Cells, Start, First, Rows, Ended}
 use Rattle.scenario_text.specs.declared.kind.TextKind.TheVariants.{BadLine, NotText}
-use Rattle.text_rows.specs.Fields.{fields_of, is_text_byte, is_word}
+use Rattle.text_rows.specs.Fields.{fields_of, is_text_byte, behind_first}
 use Rattle.text_rows.proofs.FieldCuts.{fields_some}
 use Rattle.text_rows.proofs.Results.{err_ok}
 use Rattle.scenario_text.specs.Fields.{says_nothing}
 use Rattle.scenario_text.specs.State.{State, blank_state}
-use Rattle.scenario_text.specs.Reading.{moves_line, drift_line, overlook_line, spread_line, rate_line, end_line, row_line, stage_line, line_at}
+use Rattle.scenario_text.specs.Reading.{line_at}
+use Rattle.scenario_text.specs.declared.line.Line.{Line}
+use Rattle.scenario_text.specs.declared.line.Line.TheVariants.{Scenario, Horizon, Parts, Cell, Grid, Start, First, Moves, Drift, Overlook, Spread, Rate, End}
+use Rattle.scenario_text.specs.declared.kind.TextKind.{TextKind}
+use Rattle.scenario_text.specs.KindTable.{line_due, line_of, tests, tests_of}
+use Rattle.scenario_text.specs.Grammar.{added, unless_any, row_at, fields_at}
+use Rattle.scenario_text.proofs.Due.{IsPlace, place_due}
 use Rattle.scenario_text.specs.Sound.{AreEntries, AreMoves, IsPart, IsSound}
 use Rattle.scenario_text.specs.Faults.{AreTaken}
 use Rattle.scenario_text.specs.InRows.{IsReached}
 use Rattle.scenario_text.proofs.SoundFields.{not_refused}
-use Rattle.scenario_text.proofs.SoundHeads.{sound_ok, reached, by_word, version_sound, horizon_sound, parts_sound, cells_sound, start_sound, first_sound}
+use Rattle.scenario_text.proofs.SoundHeads.{sound_ok, version_sound, horizon_sound, parts_sound, cell_sound, grid_sound, start_sound, first_sound}
 use Rattle.scenario_text.proofs.SoundLines.{moves_sound, drift_sound, overlook_sound, spread_sound, rate_sound, end_sound}
 
 -- what no line has given
@@ -42,31 +47,37 @@ blank_sound = record {
   fits = λ e. absurd (let bad : ⊥ = cc in bad);
 }
 
-row_sound : (s : State) (fields : List (List ℕ)) (t : State) → s.stage ≡ Rows → IsSound s → row_line s fields ≡ Ok t → IsSound t
-row_sound s [] t at h e = absurd (err_ok BadLine t e)
-row_sound s (word ∷ fields) t at h e =
-    by_word (is_word word (codes "moves")) (moves_line s fields) _ t (moves_sound s fields t at h)
-    (by_word (is_word word (codes "drift")) (drift_line s fields) _ t (drift_sound s fields t at h)
-    (by_word (is_word word (codes "overlook")) (overlook_line s fields) _ t (overlook_sound s fields t at h)
-    (by_word (is_word word (codes "spread")) (spread_line s fields) _ t (spread_sound s fields t at h)
-    (by_word (is_word word (codes "rate")) (rate_line s fields) _ t (rate_sound s fields t at h)
-    (by_word (is_word word (codes "end")) (end_line s fields) _ t (end_sound s fields t at h) (λ e'. absurd (err_ok BadLine t e'))))))) e
+-- the row of each line
+row_sound : (line : Line) (s : State) (fields : List (List ℕ)) (t : State) → IsPlace line s.stage → IsSound s → All (λ f. 1 ≤ length f) fields → row_at line s fields ≡ Ok t → IsSound t
+row_sound Scenario s fields t at h some e = version_sound s fields t at h e
+row_sound Horizon s fields t at h some e = horizon_sound s fields t at h e
+row_sound Parts s fields t at h some e = parts_sound s fields t at h e
+row_sound Cell s fields t at h some e = cell_sound s fields t at h some e
+row_sound Grid s fields t at h some e = grid_sound s fields t at h e
+row_sound Start s fields t at h some e = start_sound s fields t at h e
+row_sound First s fields t at h some e = first_sound s fields t at h e
+row_sound Moves s fields t at h some e = moves_sound s fields t at h e
+row_sound Drift s fields t at h some e = drift_sound s fields t at h e
+row_sound Overlook s fields t at h some e = overlook_sound s fields t at h e
+row_sound Spread s fields t at h some e = spread_sound s fields t at h e
+row_sound Rate s fields t at h some e = rate_sound s fields t at h e
+row_sound End s fields t at h some e = end_sound s fields t at h e
 
-stage_sound : (stage : Stage) (s : State) (fields : List (List ℕ)) (t : State) → s.stage ≡ stage → IsSound s → All (λ f. 1 ≤ length f) fields → stage_line stage s fields ≡ Ok t → IsSound t
-stage_sound Version s fields t at h some e = version_sound s fields t at h e
-stage_sound Horizon s fields t at h some e = horizon_sound s fields t at h e
-stage_sound Parts s fields t at h some e = parts_sound s fields t at h e
-stage_sound Cells s fields t at h some e = cells_sound s fields t at h some e
-stage_sound Start s fields t at h some e = start_sound s fields t (reached s.stage Start 3 at (omega arith)) h e
-stage_sound First s fields t at h some e = first_sound s fields t at h e
-stage_sound Rows s fields t at h some e = row_sound s fields t at h e
-stage_sound Ended s fields t at h some e = absurd (err_ok BadLine t e)
+-- of the line that is due
+due_sound : (o : Option Line) (s : State) (word : List ℕ) (fields : List (List ℕ)) (t : State) → line_due s.stage (nat_lt 0 (length s.names)) word ≡ o → IsSound s → All (λ f. 1 ≤ length f) fields → unless_any (tests s o fields) (added o s fields) ≡ Ok t → IsSound t
+due_sound None s word fields t is h some e = absurd (err_ok BadLine t e)
+due_sound (Some line) s word fields t is h some e = row_sound line s fields t (place_due s.stage (nat_lt 0 (length s.names)) word line is) h some e
+
+fields_sound : (s : State) (fields : List (List ℕ)) (t : State) → IsSound s → All (λ f. 1 ≤ length f) fields → fields_at s fields ≡ Ok t → IsSound t
+fields_sound s [] t h some e = absurd (err_ok BadLine t e)
+fields_sound s (word ∷ fields) t h some e = due_sound (line_due s.stage (nat_lt 0 (length s.names)) word) s word fields t refl h (All-tail (λ f. 1 ≤ length f) word fields some) e
 
 pub line_sound : (s t : State) (line : List ℕ) → IsSound s → line_at s line ≡ Ok t → IsSound t
 unfolding line_at
 line_sound s t line h e =
-    by_word (says_nothing (fields_of line)) (Ok s) _ t (λ same. sound_ok s t same h)
-    (λ e'. stage_sound s.stage s (fields_of line) t refl h (fields_some line) ((not_refused (not (list_all is_text_byte line)) NotText (stage_line s.stage s (fields_of line)) t e').1)) e
+    cond_both (says_nothing (fields_of line)) (Ok s) (unless_any (tests_of s line) (added (line_of s (fields_of line)) s (behind_first (fields_of line)))) (λ (r : Result State TextKind). r ≡ Ok t → IsSound t)
+    (λ _ same. sound_ok s t same h)
+    (λ _ e'. fields_sound s (fields_of line) t h (fields_some line) (not_refused (not (list_all is_text_byte line)) NotText (fields_at s (fields_of line)) t e').1) e
 
 -- and so what some right lines say
 pub taken_sound : (lines : List (List ℕ)) (s t : State) → IsSound s → AreTaken s lines t → IsSound t

@@ -11,7 +11,8 @@ use Rattle.scenario_text.specs.declared.stop.LineStop.TheVariants as line_stops
 use Rattle.scenario_text.specs.declared.stop.TextStop.{TextStop}
 use Rattle.scenario_text.specs.declared.stop.TextStop.TheVariants as text_stops
 use Rattle.text_rows.specs.Lines.{after_lines}
-use Rattle.scenario_text.specs.Fields.{are_pairs, pairs_of, pairs_fault, entries_of}
+use Rattle.scenario_text.specs.Fields.{are_pairs}
+use Rattle.scenario_text.specs.ByCells.{pairs_of, pairs_fault, entries_of}
 use Rattle.scenario_text.specs.Reading.{front_of}
 use Rattle.scenario_text.specs.State.{State, state_of}
 use Rattle.scenario_text.specs.Sound.{IsSound}

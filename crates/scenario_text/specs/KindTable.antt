@@ -1,34 +1,20 @@
--- Where a line has each kind of fault, as a table: the first kind whose test holds decides.
-use Rattle.std.specs.Prelude.{ℕ, ◌≡◌, ◌-◌, ◌*◌, Bool, true, false, not, ◌&&◌, ◌||◌, ◌==◌, nat_lt, nat_le, if◌then◌else◌, List, [], ◌∷◌, ◌++◌, length, Option, Some, None, is_none, is_some, sum_by, codes}
+-- The lines of the format, and the faults of each as a table: the first kind whose test holds decides.
+use Rattle.std.specs.Prelude.{ℕ, ◌-◌, ◌*◌, Bool, true, false, not, ◌&&◌, ◌||◌, ◌==◌, nat_lt, nat_le, if◌then◌else◌, List, [], ◌∷◌, ◌++◌, length, Option, Some, None, is_none, is_some, sum_by, codes, ◌+◌, ◌^◌, slice_index_or}
 use Rattle.std.specs.List.{list_all, list_any}
 use Rattle.search_model.specs.Names.{is_name_byte}
 use Rattle.scenario_text.specs.declared.draft.Stage.{Stage}
 use Rattle.scenario_text.specs.declared.draft.Stage.TheVariants as due
+use Rattle.scenario_text.specs.declared.line.Line.{Line}
+use Rattle.scenario_text.specs.declared.line.Line.TheVariants.{Scenario, Horizon, Parts, Cell, Grid, Start, First, Moves, Drift, Overlook, Spread, Rate, End}
 use Rattle.scenario_text.specs.declared.kind.TextKind.{TextKind}
 use Rattle.scenario_text.specs.declared.kind.TextKind.TheVariants.{NotText, BadLine, BadNumber, OverLimit, UnknownName, DoubleName, MissingRow, DoubleRow, WrongSum, PartOver, NoMove, TooWide}
 use Rattle.text_rows.specs.Fields.{fields_of, is_text_byte, is_word, behind_first, first_alone}
 use Rattle.exact_parts.specs.Decimal.{number_at}
-use Rattle.scenario_text.specs.Fields.{says_nothing, is_bad, is_over, number_in, cell_named, are_pairs}
+use Rattle.scenario_text.specs.Fields.{is_bad, is_over, number_in, cell_named, are_pairs}
 use Rattle.scenario_text.specs.State.{State}
-use Rattle.scenario_text.specs.Reading.{has_moves, has_parts, has_overlook, lacks_row, is_narrow, line_at}
-use Rattle.text_rows.specs.Kinds.{first_kind, fault_of}
+use Rattle.search_grid.specs.Moves.{moves_from}
 
 -- The lines.
-
-pub data Line : Type 0 where
-  Scenario : Line
-  Horizon : Line
-  Parts : Line
-  Cell : Line
-  Grid : Line
-  Start : Line
-  First : Line
-  Moves : Line
-  Drift : Line
-  Overlook : Line
-  Spread : Line
-  Rate : Line
-  End : Line
 
 -- a line with this keyword, or one of the others
 abbrev pub with_keyword : List ℕ → List ℕ → Line → Option Line → Option Line
@@ -151,13 +137,6 @@ cell_names Drift fields = first_alone fields ++ pair_names (behind_first fields)
 cell_names Overlook fields = first_alone fields
 cell_names _ fields = []
 
--- those among which no name may stand twice
-abbrev pub names_once : Line → List (List ℕ) → List (List ℕ)
-names_once First fields = pair_names fields
-names_once Moves fields = behind_first fields
-names_once Drift fields = pair_names (behind_first fields)
-names_once _ fields = []
-
 -- a name stands twice
 unfoldable pub stands_twice : List (List ℕ) → Bool
 stands_twice [] = false
@@ -173,6 +152,24 @@ own_cell s [] test = false
 own_cell s (name ∷ fields) test = holds_of (cell_named s.names name) test
 
 -- The tests.
+
+-- a cell has a row of that sort
+abbrev pub has_moves : State → ℕ → Bool
+has_moves s c = nat_lt 0 (length (moves_from s.moves c))
+
+abbrev pub has_parts : State → ℕ → Bool
+has_parts s c = nat_lt 0 (length (slice_index_or s.parts c []))
+
+abbrev pub has_overlook : State → ℕ → Bool
+has_overlook s c = is_some (slice_index_or s.overlook c None)
+
+-- some cell lacks a row
+abbrev pub lacks_row : State → Bool
+lacks_row s = list_any (λ row. length row == 0) s.moves || (list_any (λ row. length row == 0) s.parts || list_any (λ o. is_none o) s.overlook)
+
+-- every number of the search stays below 2 ^ 127
+abbrev pub is_narrow : State → Bool
+is_narrow s = nat_lt ((s.horizon + 10) * s.total * s.drift ^ (s.horizon - 1) * s.look ^ (s.horizon + 1)) (2 ^ 127)
 
 -- the version isn't `1`, a cell's name holds a byte that names don't have, or `spread` stands without `grid`
 abbrev pub is_ill : State → Line → List (List ℕ) → Bool
@@ -207,7 +204,10 @@ has_unknown s line fields = list_any (λ f. is_none (cell_named s.names f)) (cel
 -- a `cell` line repeats a name, or one stands twice in a line where it may stand once
 abbrev pub has_double_name : State → Line → List (List ℕ) → Bool
 has_double_name s Cell fields = list_any (λ f. is_some (cell_named s.names f)) fields
-has_double_name s line fields = stands_twice (names_once line fields)
+has_double_name s First fields = stands_twice (pair_names fields)
+has_double_name s Moves fields = stands_twice (behind_first fields)
+has_double_name s Drift fields = stands_twice (pair_names (behind_first fields))
+has_double_name s _ fields = false
 
 -- at the end a cell lacks a row
 abbrev pub has_missing_row : State → Line → Bool
@@ -265,16 +265,11 @@ tests s (Some line) fields =
     ∷ (is_too_wide s line, TooWide)
     ∷ []
 
--- those of a line that says something, by what is due and whether cells were named
-abbrev pub tests_of : Stage → State → List (List ℕ) → List (Bool × TextKind)
-tests_of stage s [] = (true, BadLine) ∷ []
-tests_of stage s (word ∷ fields) = tests s (line_due stage (nat_lt 0 (length s.names)) word) fields
+-- the line that these fields begin
+abbrev pub line_of : State → List (List ℕ) → Option Line
+line_of s [] = None
+line_of s (word ∷ fields) = line_due s.stage (nat_lt 0 (length s.names)) word
 
--- a line that says nothing has no fault; a byte that text doesn't have goes before all others
-abbrev pub kind_by_table : State → List ℕ → Option TextKind
-kind_by_table s line =
-    if says_nothing (fields_of line) then None else first_kind ((not (list_all is_text_byte line), NotText) ∷ tests_of s.stage s (fields_of line))
-
--- a line has the fault that the table gives
-abbrev pub KindsByTable : Type 0
-KindsByTable = (s : State) (line : List ℕ) → fault_of (line_at s line) ≡ kind_by_table s line
+-- those of a line that says something: a byte that text doesn't have goes before all others
+abbrev pub tests_of : State → List ℕ → List (Bool × TextKind)
+tests_of s line = (not (list_all is_text_byte line), NotText) ∷ tests s (line_of s (fields_of line)) (behind_first (fields_of line))

@@ -1,10 +1,13 @@
 pub mod Kinds
 pub mod State
 pub mod Fields
+pub mod KindTable
+pub mod Grammar
 pub mod Reading
+pub mod Worked
+pub mod ByCells
 pub mod Sound
 pub mod Faults
-pub mod KindTable
 pub mod InRows
 pub mod ReadingLaws
 pub mod Scenarios

@@ -4,7 +4,8 @@ use Rattle.std.specs.List.{list_any}
 use Rattle.drift_chain.specs.declared.part.DriftPart.{DriftPart}
 use Rattle.scenario_text.specs.declared.pair.Pair.{Pair}
 use Rattle.scenario_text.specs.declared.pairs.Scan.{Scan}
-use Rattle.scenario_text.specs.Fields.{is_bad, is_over, has_double, entries_of}
+use Rattle.scenario_text.specs.Fields.{is_bad, is_over}
+use Rattle.scenario_text.specs.ByCells.{has_double, entries_of}
 
 -- the pairs so far: a double is told where nothing else is wrong, and the entries where nothing is
 pub record HasSeen (done : List Pair) (scan : Scan) : Type 0 where

@@ -6,7 +6,7 @@ use Rattle.search_grid.specs.Moves.{moves_from}
 use Rattle.search_model.specs.Names.{IsName, IsRepeated}
 use Rattle.scenario_text.specs.declared.draft.Stage.{Stage}
 use Rattle.scenario_text.specs.declared.draft.Stage.TheVariants.{Version, Horizon, Parts, Cells, Start, First, Rows, Ended}
-use Rattle.scenario_text.specs.Reading.{lacks_row}
+use Rattle.scenario_text.specs.KindTable.{lacks_row}
 use Rattle.scenario_text.specs.State.{State}
 
 -- the place of a stage in the order of the lines

@@ -2,7 +2,8 @@
 
 ghost use Rattle.std.specs.Prelude.{◌≡◌, ◌≤◌, ◌==◌, ◌&&◌, map, length, is_none, is_some, unwrap_or, IfOk};
 ghost use Rattle.std.specs.List.{list_any};
-ghost use Rattle.scenario_text.specs.Fields.{cell_named as cell_named_lem, stands_in as stands_lem, has_double as double_lem};
+ghost use Rattle.scenario_text.specs.Fields.{cell_named as cell_named_lem};
+ghost use Rattle.scenario_text.specs.ByCells.{stands_in as stands_lem, has_double as double_lem};
 
 use crate::cell_names::cell_named;
 use indexmap::IndexSet;

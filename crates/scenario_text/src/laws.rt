@@ -1,9 +1,9 @@
 //! What the definitions of the text say together.
 
 ghost use Rattle.scenario_text.specs.Laws.{OneProblem, EveryTextSpellsOne, CanonicalSays, CanonicalReadsBack, CanonicalFrontReadsBack, FrontIgnoresRest};
+ghost use Rattle.scenario_text.specs.Worked.{WorkedTexts};
 ghost use Rattle.scenario_text.specs.InRows.{GridInRows, GridReadsOn, RateInRows, SpreadInRows};
-ghost use Rattle.scenario_text.specs.KindTable.{KindsByTable};
-ghost use Rattle.scenario_text.specs.ReadingLaws.{SilentLinesAddNothing, FirstFaultDecides, FirstFaultDecidesAlone};
+ghost use Rattle.scenario_text.specs.ReadingLaws.{SilentLinesAddNothing, KindsInOrder, FirstFaultDecides, FirstFaultDecidesAlone};
 
 /// What was read is one problem: no text spells two.
 #[tactic(auto, using(crate::proofs::Determined::one_problem))]
@@ -47,10 +47,15 @@ pub fn first_fault_decides_alone()
     ensures { FirstFaultDecidesAlone }
 {}
 
-/// A line has the fault that the table of kinds gives: the first kind whose test holds.
-#[tactic(auto, using(crate::proofs::Tables::kinds_by_table))]
-pub fn kinds_by_table()
-    ensures { KindsByTable }
+/// The kinds of a line are asked in the order of the format: the first whose test holds has the least number.
+#[tactic(auto, using(crate::proofs::KindOrder::kinds_in_order))]
+pub fn kinds_in_order()
+    ensures { KindsInOrder }
+{}
+
+/// Two texts with what they say, and a fault of each kind, worked by hand.
+pub fn worked_texts()
+    ensures { WorkedTexts }
 {}
 
 /// The line `rate` says what an `overlook` line for each cell says.

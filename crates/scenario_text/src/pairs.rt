@@ -6,7 +6,8 @@ ghost use Rattle.std.specs.List.{list_any};
 ghost use Rattle.drift_chain.specs.declared.part.DriftPart.{DriftPart};
 ghost use Rattle.text_rows.specs.Fields.{fields_of as fields_lem};
 ghost use Rattle.scenario_text.specs.declared.pair.Pair.{Pair};
-ghost use Rattle.scenario_text.specs.Fields.{number_in as number_in_lem, pairs_fault};
+ghost use Rattle.scenario_text.specs.Fields.{number_in as number_in_lem};
+ghost use Rattle.scenario_text.specs.ByCells.{pairs_fault};
 ghost use Rattle.scenario_text.specs.Gives.{Scans};
 ghost use Rattle.scenario_text.specs.Scanning.{HasSeen, IsAdded, IsMarked};
 

@@ -1,23 +1,23 @@
 //! The rows of single cells: moves, drift and overlook part.
 
-ghost use Rattle.std.specs.Prelude.{◌≡◌, ◌<◌, ◌≤◌, List, map, take, slice_set, vec_len, IfSome};
-ghost use Rattle.scenario_text.specs.declared.pair.Pair.{Pair};
+ghost use Rattle.std.specs.Prelude.{◌≡◌, ◌∷◌, [], ◌<◌, ◌≤◌, ℕ, true, length, List, map, take, slice_set, vec_len, IfSome};
 ghost use Rattle.text_rows.specs.Fields.{fields_of as fields_lem};
-ghost use Rattle.scenario_text.specs.Fields.{number_in as number_in_lem};
 ghost use Rattle.scenario_text.specs.State.{state_of};
 ghost use Rattle.scenario_text.specs.Sound.{IsSound};
 ghost use Rattle.scenario_text.specs.Gives.{TakesLine, AreScanned};
-ghost use Rattle.scenario_text.specs.Reading.{with_moves, moves_line, unknown_after as unknown_after_lem, with_parts_of, drift_pairs, drift_line, with_overlook, overlook_part, overlook_line};
+ghost use Rattle.scenario_text.specs.Grammar.{row_at};
+ghost use Rattle.scenario_text.specs.Fields.{are_pairs, cell_named as cell_named_lem};
+ghost use Rattle.scenario_text.specs.ByCells.{pairs_of, unknown_after as unknown_after_lem};
 
 use crate::cell_names::cell_named;
 use crate::cells::{any_unknown, cells_named, has_double, numbers_of};
 use crate::draft::Draft;
 use crate::kind::TextKind;
+use crate::line::Line;
 use crate::number_field::{MOST_PART, is_bad, is_over, number_at, number_in};
 use crate::pairs::{Pairs, scan_pairs, total_of};
 use crate::stop::LineStop;
 use drift_chain::DriftPart;
-use exact_parts::Number;
 use std::alloc::Global;
 use text_rows::after_field;
 
@@ -36,7 +36,7 @@ fn set_moves(
     moves: &[Option<u8>],
 ) -> Result<(), LineStop>
     requires { IfSome cell (λ c. c < vec_len draft.old.moves) }
-    ensures { TakesLine draft.new result (with_moves (state_of draft.old) cell moves.now) }
+    ensures { (name : List ℕ) (fields : List (List ℕ)) → length fields ≤ 64 → cell ≡ cell_named_lem (state_of draft.old).names name → moves.now ≡ map (cell_named_lem (state_of draft.old).names) fields → TakesLine draft.new result (row_at Line.Moves (state_of draft.old) (name ∷ fields)) }
 {
     let Some(c) = cell else {
         return Err(LineStop::Fault(TextKind::UnknownName));
@@ -58,21 +58,31 @@ fn set_moves(
     Ok(())
 }
 
-/// `moves NAME NAME NAME ..`, behind its keyword
+fn take_moves_of(
+    alloc: Global,
+    draft: &mut Draft,
+    name: &[u8],
+    moves: &[&[u8]],
+) -> Result<(), LineStop>
+    requires { IsSound (state_of draft.old) }
+    ensures { TakesLine draft.new result (row_at Line.Moves (state_of draft.old) (name.now ∷ map (λ f. f.now) moves.now)) }
+{
+    if moves.len() > 64 {
+        return Err(LineStop::Fault(TextKind::OverLimit));
+    }
+    let cell = cell_named(&draft.names, name);
+    let moves = cells_named(alloc, &draft.names, moves)?;
+    set_moves(alloc, draft, cell, &moves)
+}
+
+/// `moves NAME NAME NAME ..`
 pub fn take_moves(alloc: Global, draft: &mut Draft, fields: &[&[u8]]) -> Result<(), LineStop>
     requires { IsSound (state_of draft.old) }
-    ensures { TakesLine draft.new result (moves_line (state_of draft.old) (map (λ f. f.now) fields.now)) }
+    ensures { TakesLine draft.new result (row_at Line.Moves (state_of draft.old) (map (λ f. f.now) fields.now)) }
 {
     match fields {
         [] => Err(LineStop::Fault(TextKind::BadLine)),
-        [name, moves @ ..] => {
-            if moves.len() > 64 {
-                return Err(LineStop::Fault(TextKind::OverLimit));
-            }
-            let cell = cell_named(&draft.names, name);
-            let moves = cells_named(alloc, &draft.names, moves)?;
-            set_moves(alloc, draft, cell, &moves)
-        }
+        [name, moves @ ..] => take_moves_of(alloc, draft, name, moves),
     }
 }
 
@@ -96,7 +106,7 @@ fn write_parts(rows: &mut Vec<Vec<DriftPart>>, c: u8, row: Vec<DriftPart>)
 
 fn set_parts_of(draft: &mut Draft, cell: Option<u8>, pairs: Pairs) -> Result<(), LineStop>
     requires { IfSome cell (λ c. c < vec_len draft.old.parts) }
-    ensures { (list : List Pair) → AreScanned list pairs → TakesLine draft.new result (with_parts_of (state_of draft.old) cell list) }
+    ensures { (name : List ℕ) (fields : List (List ℕ)) → cell ≡ cell_named_lem (state_of draft.old).names name → are_pairs fields ≡ true → AreScanned (pairs_of (state_of draft.old).names fields) pairs → TakesLine draft.new result (row_at Line.Drift (state_of draft.old) (name ∷ fields)) }
 {
     let Some(c) = cell else {
         return Err(LineStop::Fault(unknown_after(pairs.fault)));
@@ -117,20 +127,21 @@ fn set_parts_of(draft: &mut Draft, cell: Option<u8>, pairs: Pairs) -> Result<(),
 fn take_drift_pairs(
     alloc: Global,
     draft: &mut Draft,
-    cell: Option<u8>,
+    name: &[u8],
     text: &[u8],
 ) -> Result<(), LineStop>
-    requires sound { IsSound (state_of draft.old) }
-    requires cell { IfSome cell (λ c. c < vec_len draft.old.parts) }
-    ensures { TakesLine draft.new result (drift_pairs (state_of draft.old) cell (fields_lem text.now)) }
+    requires { IsSound (state_of draft.old) }
+    ensures { TakesLine draft.new result (row_at Line.Drift (state_of draft.old) (name.now ∷ fields_lem text.now)) }
 {
+    let cell = cell_named(&draft.names, name);
     match scan_pairs(alloc, &draft.names, text)? {
         None => Err(LineStop::Fault(TextKind::BadLine)),
         Some(pairs) => set_parts_of(draft, cell, pairs),
     }
 }
 
-/// `drift NAME NAME PART NAME PART ..`, behind its keyword: of its fields the first are given beside their text
+/// `drift NAME NAME PART NAME PART ..`: of its fields the first are given beside their text
+#[tactic(auto, using(crate::proofs::ByCellNames::no_drift))]
 pub fn take_drift(
     alloc: Global,
     draft: &mut Draft,
@@ -139,22 +150,27 @@ pub fn take_drift(
 ) -> Result<(), LineStop>
     requires sound { IsSound (state_of draft.old) }
     requires front { map (λ f. f.now) fields.now ≡ take 66 (fields_lem text.now) }
-    ensures { TakesLine draft.new result (drift_line (state_of draft.old) (fields_lem text.now)) }
+    ensures { TakesLine draft.new result (row_at Line.Drift (state_of draft.old) (fields_lem text.now)) }
 {
     match fields {
-        [name, ..] => {
-            let cell = cell_named(&draft.names, name);
-            take_drift_pairs(alloc, draft, cell, after_field(text))
-        }
+        [name, ..] => take_drift_pairs(alloc, draft, name, after_field(text)),
         [] => Err(LineStop::Fault(TextKind::BadLine)),
     }
 }
 
-fn set_overlook(draft: &mut Draft, cell: Option<u8>, part: u32) -> Result<(), LineStop>
-    requires { IfSome cell (λ c. c < vec_len draft.old.overlook) }
-    ensures { TakesLine draft.new result (with_overlook (state_of draft.old) cell part) }
+fn set_overlook(draft: &mut Draft, name: &[u8], field: &[u8]) -> Result<(), LineStop>
+    requires { IsSound (state_of draft.old) }
+    ensures { TakesLine draft.new result (row_at Line.Overlook (state_of draft.old) (name.now ∷ field.now ∷ [])) }
 {
-    let Some(c) = cell else {
+    let number = number_at(field, MOST_PART);
+    if is_bad(number, 0) {
+        return Err(LineStop::Fault(TextKind::BadNumber));
+    }
+    if is_over(number) {
+        return Err(LineStop::Fault(TextKind::OverLimit));
+    }
+    let part = number_in(number);
+    let Some(c) = cell_named(&draft.names, name) else {
         return Err(LineStop::Fault(TextKind::UnknownName));
     };
     if draft.overlook[c as usize].is_some() {
@@ -167,30 +183,13 @@ fn set_overlook(draft: &mut Draft, cell: Option<u8>, part: u32) -> Result<(), Li
     Ok(())
 }
 
-fn set_overlook_part(draft: &mut Draft, cell: Option<u8>, part: Number) -> Result<(), LineStop>
-    requires cell { IfSome cell (λ c. c < vec_len draft.old.overlook) }
-    requires within { number_in_lem part ≤ 1000000 }
-    ensures { TakesLine draft.new result (overlook_part (state_of draft.old) cell part) }
-{
-    if is_bad(part, 0) {
-        return Err(LineStop::Fault(TextKind::BadNumber));
-    }
-    if is_over(part) {
-        return Err(LineStop::Fault(TextKind::OverLimit));
-    }
-    set_overlook(draft, cell, number_in(part))
-}
-
-/// `overlook NAME PART`, behind its keyword
+/// `overlook NAME PART`
 pub fn take_overlook(draft: &mut Draft, fields: &[&[u8]]) -> Result<(), LineStop>
     requires { IsSound (state_of draft.old) }
-    ensures { TakesLine draft.new result (overlook_line (state_of draft.old) (map (λ f. f.now) fields.now)) }
+    ensures { TakesLine draft.new result (row_at Line.Overlook (state_of draft.old) (map (λ f. f.now) fields.now)) }
 {
     match fields {
-        [name, part] => {
-            let cell = cell_named(&draft.names, name);
-            set_overlook_part(draft, cell, number_at(part, MOST_PART))
-        }
+        [name, part] => set_overlook(draft, name, part),
         _ => Err(LineStop::Fault(TextKind::BadLine)),
     }
 }

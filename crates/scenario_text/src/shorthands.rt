@@ -1,27 +1,26 @@
 //! Lines that say something of all cells at once: `grid`, `spread` and `rate`.
 
-ghost use Rattle.std.specs.Prelude.{◌≡◌, ◌≤◌, ◌*◌, ◌-◌, ◌==◌, ◌++◌, ◌∷◌, [], nat_lt, if◌then◌else◌, map, filter, replicate, length, is_some, false, Ok, IfOk, OnOk};
+ghost use Rattle.std.specs.Prelude.{◌≡◌, ◌≤◌, ◌*◌, ◌-◌, ◌==◌, ◌++◌, ◌∷◌, [], nat_lt, if◌then◌else◌, map, filter, replicate, length, is_some, true, false, Ok, IfOk, OnOk};
 ghost use Rattle.std.specs.List.{list_any};
-ghost use Rattle.scenario_text.specs.Fields.{number_in as number_in_lem};
 ghost use Rattle.search_model.specs.Grids.{grid_name as grid_name_lem, grid_names as grid_names_lem, rest_of as rest_lem, spread_row as spread_row_lem, spread_rows as spread_rows_lem};
 ghost use Rattle.scenario_text.specs.State.{state_of};
 ghost use Rattle.scenario_text.specs.Sound.{IsSound};
 ghost use Rattle.scenario_text.specs.Gives.{TakesLine};
-ghost use Rattle.scenario_text.specs.Reading.{with_cells, with_grid, with_spread, spread_part, spread_line, with_rate, rate_part, rate_line};
+ghost use Rattle.scenario_text.specs.Grammar.{row_at, with_cells};
 
 use crate::digits::Digits;
 use crate::draft::{Draft, Stage};
 use crate::kind::TextKind;
+use crate::line::Line;
 use crate::number_field::{MOST_PART, is_bad, is_over, number_at, number_in};
 use crate::stop::LineStop;
 use drift_chain::DriftPart;
-use exact_parts::Number;
 use indexmap::IndexSet;
 use search_grid::Grid;
 use std::alloc::{AllocError, Global};
 
-/// The most cells.
-const MOST_CELLS: u128 = 200;
+/// The most rows, and columns, of a grid.
+const MOST_SIDE: u128 = 200;
 
 fn grid_name(alloc: Global, cols: u8, c: u8) -> Result<Vec<u8>, AllocError>
     requires { 1 ≤ cols }
@@ -90,17 +89,11 @@ fn set_cells(alloc: Global, draft: &mut Draft, rows: u8, cols: u8) -> Result<(),
     Ok(())
 }
 
-/// `grid R C`, by its numbers
-pub fn take_grid(
-    alloc: Global,
-    draft: &mut Draft,
-    rows: Number,
-    cols: Number,
-) -> Result<(), LineStop>
-    requires rows { number_in_lem rows ≤ 200 }
-    requires cols { number_in_lem cols ≤ 200 }
-    ensures { TakesLine draft.new result (with_grid (state_of draft.old) rows cols) }
+fn set_grid(alloc: Global, draft: &mut Draft, rows: &[u8], cols: &[u8]) -> Result<(), LineStop>
+    ensures { TakesLine draft.new result (row_at Line.Grid (state_of draft.old) (rows.now ∷ cols.now ∷ [])) }
 {
+    let rows = number_at(rows, MOST_SIDE);
+    let cols = number_at(cols, MOST_SIDE);
     if is_bad(rows, 1) || is_bad(cols, 1) {
         return Err(LineStop::Fault(TextKind::BadNumber));
     }
@@ -112,6 +105,16 @@ pub fn take_grid(
         return Err(LineStop::Fault(TextKind::OverLimit));
     }
     set_cells(alloc, draft, rows as u8, cols as u8)
+}
+
+/// `grid R C`
+pub fn take_grid(alloc: Global, draft: &mut Draft, fields: &[&[u8]]) -> Result<(), LineStop>
+    ensures { TakesLine draft.new result (row_at Line.Grid (state_of draft.old) (map (λ f. f.now) fields.now)) }
+{
+    match fields {
+        [rows, cols] => set_grid(alloc, draft, rows, cols),
+        _ => Err(LineStop::Fault(TextKind::BadLine)),
+    }
 }
 
 // Whether so many side neighbours take more than the denominator.
@@ -201,10 +204,19 @@ fn spread_rows(
     Ok(rows)
 }
 
-fn set_spread(alloc: Global, draft: &mut Draft, part: u32) -> Result<(), LineStop>
-    requires { IsSound (state_of draft.old) }
-    ensures { TakesLine draft.new result (with_spread (state_of draft.old) part) }
+fn set_spread(alloc: Global, draft: &mut Draft, field: &[u8]) -> Result<(), LineStop>
+    requires sound { IsSound (state_of draft.old) }
+    requires gridded { draft.old.gridded ≡ true }
+    ensures { TakesLine draft.new result (row_at Line.Spread (state_of draft.old) (field.now ∷ [])) }
 {
+    let number = number_at(field, MOST_PART);
+    if is_bad(number, 0) {
+        return Err(LineStop::Fault(TextKind::BadNumber));
+    }
+    if is_over(number) {
+        return Err(LineStop::Fault(TextKind::OverLimit));
+    }
+    let part = number_in(number);
     if any_parts(&draft.parts) {
         return Err(LineStop::Fault(TextKind::DoubleRow));
     }
@@ -215,27 +227,13 @@ fn set_spread(alloc: Global, draft: &mut Draft, part: u32) -> Result<(), LineSto
     Ok(())
 }
 
-fn set_spread_part(alloc: Global, draft: &mut Draft, part: Number) -> Result<(), LineStop>
-    requires sound { IsSound (state_of draft.old) }
-    requires within { number_in_lem part ≤ 1000000 }
-    ensures { TakesLine draft.new result (spread_part (state_of draft.old) part) }
-{
-    if is_bad(part, 0) {
-        return Err(LineStop::Fault(TextKind::BadNumber));
-    }
-    if is_over(part) {
-        return Err(LineStop::Fault(TextKind::OverLimit));
-    }
-    set_spread(alloc, draft, number_in(part))
-}
-
-/// `spread PART`, behind its keyword
+/// `spread PART`
 pub fn take_spread(alloc: Global, draft: &mut Draft, fields: &[&[u8]]) -> Result<(), LineStop>
     requires { IsSound (state_of draft.old) }
-    ensures { TakesLine draft.new result (spread_line (state_of draft.old) (map (λ f. f.now) fields.now)) }
+    ensures { TakesLine draft.new result (row_at Line.Spread (state_of draft.old) (map (λ f. f.now) fields.now)) }
 {
     match fields {
-        [part] if draft.gridded => set_spread_part(alloc, draft, number_at(part, MOST_PART)),
+        [part] if draft.gridded => set_spread(alloc, draft, part),
         _ => Err(LineStop::Fault(TextKind::BadLine)),
     }
 }
@@ -246,9 +244,17 @@ fn any_overlook(parts: &[Option<u32>]) -> bool
     parts.iter().any(|o| o.is_some())
 }
 
-fn set_rate(alloc: Global, draft: &mut Draft, part: u32) -> Result<(), LineStop>
-    ensures { TakesLine draft.new result (with_rate (state_of draft.old) part) }
+fn set_rate(alloc: Global, draft: &mut Draft, field: &[u8]) -> Result<(), LineStop>
+    ensures { TakesLine draft.new result (row_at Line.Rate (state_of draft.old) (field.now ∷ [])) }
 {
+    let number = number_at(field, MOST_PART);
+    if is_bad(number, 0) {
+        return Err(LineStop::Fault(TextKind::BadNumber));
+    }
+    if is_over(number) {
+        return Err(LineStop::Fault(TextKind::OverLimit));
+    }
+    let part = number_in(number);
     if any_overlook(&draft.overlook) {
         return Err(LineStop::Fault(TextKind::DoubleRow));
     }
@@ -259,25 +265,12 @@ fn set_rate(alloc: Global, draft: &mut Draft, part: u32) -> Result<(), LineStop>
     Ok(())
 }
 
-fn set_rate_part(alloc: Global, draft: &mut Draft, part: Number) -> Result<(), LineStop>
-    requires { number_in_lem part ≤ 1000000 }
-    ensures { TakesLine draft.new result (rate_part (state_of draft.old) part) }
-{
-    if is_bad(part, 0) {
-        return Err(LineStop::Fault(TextKind::BadNumber));
-    }
-    if is_over(part) {
-        return Err(LineStop::Fault(TextKind::OverLimit));
-    }
-    set_rate(alloc, draft, number_in(part))
-}
-
-/// `rate PART`, behind its keyword
+/// `rate PART`
 pub fn take_rate(alloc: Global, draft: &mut Draft, fields: &[&[u8]]) -> Result<(), LineStop>
-    ensures { TakesLine draft.new result (rate_line (state_of draft.old) (map (λ f. f.now) fields.now)) }
+    ensures { TakesLine draft.new result (row_at Line.Rate (state_of draft.old) (map (λ f. f.now) fields.now)) }
 {
     match fields {
-        [part] => set_rate_part(alloc, draft, number_at(part, MOST_PART)),
+        [part] => set_rate(alloc, draft, part),
         _ => Err(LineStop::Fault(TextKind::BadLine)),
     }
 }

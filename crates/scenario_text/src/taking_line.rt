@@ -1,17 +1,19 @@
-//! One line, by the stage of what was read.
+//! One line, by its keyword.
 
-ghost use Rattle.std.specs.Prelude.{◌≡◌, ◌==◌, ◌∷◌, [], map, take, length, is_none};
+ghost use Rattle.std.specs.Prelude.{◌≡◌, ◌==◌, ◌∷◌, [], map, take, length, nat_lt, is_none};
 ghost use Rattle.std.specs.List.{list_all, list_any};
 ghost use Rattle.text_rows.specs.Fields.{fields_of as fields_lem, is_text_byte as is_text_byte_lem};
 ghost use Rattle.scenario_text.specs.Fields.{says_nothing as says_nothing_lem};
 ghost use Rattle.scenario_text.specs.State.{state_of};
 ghost use Rattle.scenario_text.specs.Sound.{IsSound};
 ghost use Rattle.scenario_text.specs.Gives.{TakesLine};
-ghost use Rattle.scenario_text.specs.Reading.{cells_line, end_line, lacks_row as lacks_row_lem, row_line, stage_line, line_at};
+ghost use Rattle.scenario_text.specs.Reading.{line_at};
+ghost use Rattle.scenario_text.specs.KindTable.{lacks_row as lacks_row_lem};
+ghost use Rattle.scenario_text.specs.Grammar.{row_at, fields_at};
 
 use crate::draft::{Draft, Stage};
 use crate::kind::TextKind;
-use crate::number_field::number_at;
+use crate::line::{Line, line_due};
 use crate::rows::{take_drift, take_moves, take_overlook};
 use crate::shorthands::{take_grid, take_rate, take_spread};
 use crate::stop::LineStop;
@@ -45,57 +47,6 @@ fn says_nothing(fields: &[&[u8]]) -> bool
     }
 }
 
-/// `cell NAME` or `start NAME`, of which the fields are given beside the line's
-#[tactic(auto, using(crate::proofs::Columns::column_steps))]
-fn take_name(
-    alloc: Global,
-    draft: &mut Draft,
-    fields: &[&[u8]],
-    word: &[u8],
-    name: &[u8],
-) -> Result<(), LineStop>
-    requires sound { IsSound (state_of draft.old) }
-    requires whole { map (λ f. f.now) fields.now ≡ word.now ∷ name.now ∷ [] }
-    ensures { TakesLine draft.new result (cells_line (state_of draft.old) (word.now ∷ name.now ∷ [])) }
-{
-    if word == b"cell".as_slice() {
-        return take_cell(alloc, draft, name);
-    }
-    if draft.names.is_empty() {
-        return Err(LineStop::Fault(TextKind::BadLine));
-    }
-    take_start(draft, fields)
-}
-
-/// `grid R C`, before any cell
-#[tactic(auto, using(crate::proofs::Columns::column_steps))]
-fn take_size(
-    alloc: Global,
-    draft: &mut Draft,
-    word: &[u8],
-    rows: &[u8],
-    cols: &[u8],
-) -> Result<(), LineStop>
-    ensures { TakesLine draft.new result (cells_line (state_of draft.old) (word.now ∷ rows.now ∷ cols.now ∷ [])) }
-{
-    if word != b"grid".as_slice() || !draft.names.is_empty() {
-        return Err(LineStop::Fault(TextKind::BadLine));
-    }
-    take_grid(alloc, draft, number_at(rows, 200), number_at(cols, 200))
-}
-
-/// `cell NAME`, `grid R C` or `start NAME`
-fn take_cells(alloc: Global, draft: &mut Draft, fields: &[&[u8]]) -> Result<(), LineStop>
-    requires { IsSound (state_of draft.old) }
-    ensures { TakesLine draft.new result (cells_line (state_of draft.old) (map (λ f. f.now) fields.now)) }
-{
-    match fields {
-        [word, name] => take_name(alloc, draft, fields, word, name),
-        [word, rows, cols] => take_size(alloc, draft, word, rows, cols),
-        _ => Err(LineStop::Fault(TextKind::BadLine)),
-    }
-}
-
 fn any_no_moves(rows: &[Vec<u8>]) -> bool
     ensures { result ≡ list_any (λ row. length row.items == 0) rows.now }
 {
@@ -120,11 +71,11 @@ fn lacks_row(draft: &Draft) -> bool
     any_no_moves(&draft.moves) || any_no_parts(&draft.parts) || any_no_overlook(&draft.overlook)
 }
 
-/// `end`, behind its keyword
-fn take_end(draft: &mut Draft, fields: &[&[u8]]) -> Result<(), LineStop>
+/// `end`
+pub fn take_end(draft: &mut Draft, fields: &[&[u8]]) -> Result<(), LineStop>
     requires sound { IsSound (state_of draft.old) }
     requires due { draft.old.stage ≡ Stage.Rows }
-    ensures { TakesLine draft.new result (end_line (state_of draft.old) (map (λ f. f.now) fields.now)) }
+    ensures { TakesLine draft.new result (row_at Line.End (state_of draft.old) (map (λ f. f.now) fields.now)) }
 {
     if !fields.is_empty() {
         return Err(LineStop::Fault(TextKind::BadLine));
@@ -139,8 +90,46 @@ fn take_end(draft: &mut Draft, fields: &[&[u8]]) -> Result<(), LineStop>
     Ok(())
 }
 
-/// A row of a cell, a shorthand, or the end, by its keyword: of the fields behind it the first are given beside their text
-fn take_row_of(
+/// The line that is due, of which the first fields behind the keyword are given beside their text
+#[tactic(auto, using(crate::proofs::FirstFields::front_taken))]
+fn take_due(
+    alloc: Global,
+    draft: &mut Draft,
+    line: Line,
+    fields: &[&[u8]],
+    text: &[u8],
+) -> Result<(), LineStop>
+    requires sound { IsSound (state_of draft.old) }
+    requires due { line ≡ Line.End → draft.old.stage ≡ Stage.Rows }
+    requires front { map (λ f. f.now) fields.now ≡ take 66 (fields_lem text.now) }
+    ensures { TakesLine draft.new result (row_at line (state_of draft.old) (fields_lem text.now)) }
+{
+    match line {
+        Line::Scenario => take_version(draft, fields),
+        Line::Horizon => take_horizon(draft, fields),
+        Line::Parts => take_parts(draft, fields),
+        Line::Cell => take_cell(alloc, draft, fields),
+        Line::Grid => take_grid(alloc, draft, fields),
+        Line::Start => take_start(draft, fields),
+        Line::First => take_first(alloc, draft, text),
+        Line::Moves => take_moves(alloc, draft, fields),
+        Line::Drift => take_drift(alloc, draft, fields, text),
+        Line::Overlook => take_overlook(draft, fields),
+        Line::Spread => take_spread(alloc, draft, fields),
+        Line::Rate => take_rate(alloc, draft, fields),
+        Line::End => take_end(draft, fields),
+    }
+}
+
+fn has_cells(draft: &Draft) -> bool
+    ensures { result ≡ nat_lt 0 (length (state_of draft.now).names) }
+{
+    !draft.names.is_empty()
+}
+
+/// The line that a word begins, of which the first fields behind it are given beside their text
+#[tactic(auto, using(crate::proofs::Due::end_in_rows))]
+fn take_word(
     alloc: Global,
     draft: &mut Draft,
     word: &[u8],
@@ -148,41 +137,17 @@ fn take_row_of(
     text: &[u8],
 ) -> Result<(), LineStop>
     requires sound { IsSound (state_of draft.old) }
-    requires due { draft.old.stage ≡ Stage.Rows }
     requires front { map (λ f. f.now) fields.now ≡ take 66 (fields_lem text.now) }
-    ensures { TakesLine draft.new result (row_line (state_of draft.old) (word.now ∷ fields_lem text.now)) }
+    ensures { TakesLine draft.new result (fields_at (state_of draft.old) (word.now ∷ fields_lem text.now)) }
 {
-    if word == b"moves".as_slice() {
-        take_moves(alloc, draft, fields)
-    } else if word == b"drift".as_slice() {
-        take_drift(alloc, draft, fields, text)
-    } else if word == b"overlook".as_slice() {
-        take_overlook(draft, fields)
-    } else if word == b"spread".as_slice() {
-        take_spread(alloc, draft, fields)
-    } else if word == b"rate".as_slice() {
-        take_rate(alloc, draft, fields)
-    } else if word == b"end".as_slice() {
-        take_end(draft, fields)
-    } else {
-        Err(LineStop::Fault(TextKind::BadLine))
+    match line_due(draft.stage, has_cells(draft), word) {
+        Some(line) => take_due(alloc, draft, line, fields, text),
+        None => Err(LineStop::Fault(TextKind::BadLine)),
     }
 }
 
-/// A row of a cell, a shorthand, or the end, of which the first fields are given beside the line
-#[tactic(auto, using(crate::proofs::FirstFields::row_steps))]
-fn take_row(alloc: Global, draft: &mut Draft, fields: &[&[u8]], line: &[u8]) -> Result<(), LineStop>
-    requires sound { IsSound (state_of draft.old) }
-    requires due { draft.old.stage ≡ Stage.Rows }
-    requires front { map (λ f. f.now) fields.now ≡ take 67 (fields_lem line.now) }
-    ensures { TakesLine draft.new result (row_line (state_of draft.old) (fields_lem line.now)) }
-{
-    match fields {
-        [word, fields @ ..] => take_row_of(alloc, draft, word, fields, after_field(line)),
-        [] => Err(LineStop::Fault(TextKind::BadLine)),
-    }
-}
-
+/// The fields of a line, of which the first are given beside the line
+#[tactic(auto, using(crate::proofs::FirstFields::fields_steps))]
 fn take_fields(
     alloc: Global,
     draft: &mut Draft,
@@ -191,17 +156,11 @@ fn take_fields(
 ) -> Result<(), LineStop>
     requires sound { IsSound (state_of draft.old) }
     requires front { map (λ f. f.now) fields.now ≡ take 67 (fields_lem line.now) }
-    ensures { TakesLine draft.new result (stage_line draft.old.stage (state_of draft.old) (fields_lem line.now)) }
+    ensures { TakesLine draft.new result (fields_at (state_of draft.old) (fields_lem line.now)) }
 {
-    match draft.stage {
-        Stage::Version => take_version(draft, fields),
-        Stage::Horizon => take_horizon(draft, fields),
-        Stage::Parts => take_parts(draft, fields),
-        Stage::Cells => take_cells(alloc, draft, fields),
-        Stage::Start => take_start(draft, fields),
-        Stage::First => take_first(alloc, draft, fields, line),
-        Stage::Rows => take_row(alloc, draft, fields, line),
-        Stage::Ended => Err(LineStop::Fault(TextKind::BadLine)),
+    match fields {
+        [word, fields @ ..] => take_word(alloc, draft, word, fields, after_field(line)),
+        [] => Err(LineStop::Fault(TextKind::BadLine)),
     }
 }
 

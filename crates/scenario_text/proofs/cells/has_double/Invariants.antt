@@ -1,5 +1,5 @@
 use Rattle.std.proofs.Common.{◌≡◌, drop}
-use Rattle.scenario_text.specs.Fields.{has_double}
+use Rattle.scenario_text.specs.ByCells.{has_double}
 use Rattle.scenario_text.proofs.cells.has_double.Given as goal
 
 abbrev pub invariant-loop-i : goal.invariant-loop-i
