@@ -28,7 +28,6 @@ fn write_moves(rows: &mut Vec<Vec<u8>>, c: u8, row: Vec<u8>)
     rows[c as usize] = row;
 }
 
-#[tactic(auto, unfolding(search_grid::specs::Moves::moves_from))]
 fn set_moves(
     alloc: Global,
     draft: &mut Draft,
