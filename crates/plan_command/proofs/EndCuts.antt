@@ -81,10 +81,10 @@ byte_more c cs word (d ∷ before) behind goes blank_before blank_behind whole =
     absurd cc
 
 -- what one field more makes of the rest
-one_word_by : (b e : Bool) (c : ℕ) (cs word : List ℕ) (fs : List (List ℕ)) → is_blank c ≡ b → ends_field cs ≡ e → fields_of cs ≡ fs →
+word_between_by : (b e : Bool) (c : ℕ) (cs word : List ℕ) (fs : List (List ℕ)) → is_blank c ≡ b → ends_field cs ≡ e → fields_of cs ≡ fs →
     ((w : List ℕ) → fs ≡ w ∷ [] → OneWord cs w) → (if b then fs else (if e then (c ∷ []) ∷ fs else onto_first c fs)) ≡ word ∷ [] → OneWord (c ∷ cs) word
-one_word_by true e c cs word fs blank ends is goes h = blank_more c cs word blank (goes word h)
-one_word_by false true c cs word fs blank ends is goes h =
+word_between_by true e c cs word fs blank ends is goes h = blank_more c cs word blank (goes word h)
+word_between_by false true c cs word fs blank ends is goes h =
     let none : fs ≡ [] = cc in
     let this : c ∷ [] ≡ word = cc in
     record {
@@ -94,19 +94,19 @@ one_word_by false true c cs word fs blank ends is goes h =
       blank_behind = only_blanks cs (is ∙ none);
       whole = ap (λ (w : List ℕ). w ++ cs) this;
     }
-one_word_by false false c cs word [] blank ends is goes h =
+word_between_by false false c cs word [] blank ends is goes h =
     let bad : true ≡ false = sym (all_blank cs (only_blanks cs is)) ∙ ends in
     absurd cc
-one_word_by false false c cs word (f ∷ fs) blank ends is goes h =
+word_between_by false false c cs word (f ∷ fs) blank ends is goes h =
     let none : fs ≡ [] = cc in
     let this : c ∷ f ≡ word = cc in
     let rest = goes f (ap (λ (gs : List (List ℕ)). f ∷ gs) none) in
     subst (OneWord (c ∷ cs)) this (byte_more c cs f rest.before rest.behind ends rest.blank_before rest.blank_behind rest.whole)
 
-one_word : (line word : List ℕ) → fields_of line ≡ word ∷ [] → OneWord line word
+word_between : (line word : List ℕ) → fields_of line ≡ word ∷ [] → OneWord line word
 unfolding fields_of
-one_word [] word h = absurd cc
-one_word (c ∷ cs) word h = one_word_by (is_blank c) (ends_field cs) c cs word (fields_of cs) refl refl refl (one_word cs) h
+word_between [] word h = absurd cc
+word_between (c ∷ cs) word h = word_between_by (is_blank c) (ends_field cs) c cs word (fields_of cs) refl refl refl (word_between cs) h
 
 -- Where blanks are cut off.
 
@@ -169,7 +169,7 @@ record LastLine (line : List ℕ) : Type 0 where
 last_line : (text line : List ℕ) → text ≡ line ++ 10 ∷ [] → EndsWithEnd text → LastLine line
 last_line text line fed h =
     let start = lines_text h.before in
-    let word = one_word h.last (codes "end") h.word in
+    let word = word_between h.last (codes "end") h.word in
     let lines : text ≡ start ++ (h.last ++ 10 ∷ []) =
     fed
     ∙ sym (lines_whole line)
