@@ -9,3 +9,5 @@ pub mod TangentBound
 pub mod EatLemmas
 pub mod Accepted
 pub mod EdgeBound
+pub mod Rooms
+pub mod Placing

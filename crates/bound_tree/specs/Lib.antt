@@ -6,3 +6,5 @@ pub mod BoundLaws
 pub mod CutLaws
 pub mod Laws
 pub mod EdgeLaws
+pub mod Room
+pub mod Places

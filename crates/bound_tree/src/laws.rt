@@ -4,11 +4,18 @@ ghost use Rattle.bound_tree.specs.BoundLaws.{MeanIsAbove, LooksAreConvex, Tangen
 ghost use Rattle.bound_tree.specs.CutLaws.{CutStays, FinerCutStays, ClosedStays, MeanStays, BranchedBefore, ClosesOnce, ClosedIsGood};
 ghost use Rattle.bound_tree.specs.Eat.{EatenByEither};
 ghost use Rattle.bound_tree.specs.Laws.{AcceptedIsBest};
+ghost use Rattle.bound_tree.specs.Places.{EatenAreInPlace};
 
 /// Record by record, or by the list of expected prefixes: the same records are eaten whole.
 #[tactic(auto, using(crate::proofs::EatLemmas::eaten_either_way))]
 pub fn eaten_by_either()
     ensures { EatenByEither }
+{}
+
+/// Records that are eaten have the prefixes that are expected where a text leaves them out.
+#[tactic(auto, using(crate::proofs::Placing::eaten_are_in_place))]
+pub fn eaten_are_in_place()
+    ensures { EatenAreInPlace }
 {}
 
 /// The path of an accepted plan is the best.

@@ -10,7 +10,7 @@ use Rattle.bound_tree.specs.declared.node.Kind.TheVariants.{Branch, Whole, Mean,
 use Rattle.bound_tree.specs.declared.node.TreeNode.{TreeNode}
 use Rattle.bound_tree.specs.declared.plan.Plan.{Plan}
 use Rattle.bound_tree.specs.Accepts.{IsGoodKind, expected_by, AreEaten, Accepts}
-use Rattle.tree_checker.proofs.Rooms.{legal_expected}
+use Rattle.bound_tree.proofs.Rooms.{legal_expected}
 use Rattle.tree_format.specs.PlanText.{ArePositions, IsPrintableKind, IsPrintableRecord, IsPrintable}
 
 module _ (p : Problem) (sound : IsProblem p) (s : Standing) where

@@ -1,4 +1,3 @@
 pub mod Paths
 pub mod Rates
 pub mod Reason
-pub mod Rooms

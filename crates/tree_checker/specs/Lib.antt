@@ -4,4 +4,3 @@ pub mod Reasons
 pub mod Tables
 pub mod Progress
 pub mod Laws
-pub mod Room

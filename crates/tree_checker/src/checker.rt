@@ -6,14 +6,13 @@ ghost use Rattle.search_model.specs.Legal.{IsLegal};
 ghost use Rattle.bound_tree.specs.declared.node.TreeNode.{TreeNode};
 ghost use Rattle.bound_tree.specs.Close.{IsExact};
 ghost use Rattle.tree_checker.specs.Reasons.{tree_reason, verdict_of};
-ghost use Rattle.tree_checker.specs.Room.{HasRoom};
+ghost use Rattle.bound_tree.specs.Room.{HasRoom};
 ghost use Rattle.tree_checker.specs.Tables.{AreMadeFor};
 
 use crate::reasons::{head_reason, record_reason};
-use crate::stack::{pop_prefix, push_expected, push_prefix};
 use crate::tables::BoundTables;
 use crate::verdict::{RejectAt, Verdict, Why};
-use bound_tree::TreeNode;
+use bound_tree::{TreeNode, pop_prefix, push_expected, push_prefix};
 use exact_parts::NoMemory;
 use search_model::{Path, Scenario, Standing};
 use std::alloc::Global;
@@ -37,7 +36,7 @@ pub struct Checker {
 impl Model for Checker {
     ghost use Rattle.std.specs.Prelude.{◌≤◌, reverse, vec_capacity};
     ghost use Rattle.tree_checker.specs.Progress.{Progress};
-    ghost use Rattle.tree_checker.specs.Room.{HasRoom};
+    ghost use Rattle.bound_tree.specs.Room.{HasRoom};
 
     ghost Value = { Progress };
 

@@ -7,7 +7,6 @@ mod checking;
 mod laws;
 mod path_tests;
 mod reasons;
-mod stack;
 mod tables;
 #[cfg(test)]
 mod tests;

@@ -2,8 +2,8 @@ use Rattle.std.proofs.Common.{reverse, sym, subst, arith, All}
 use Rattle.std.proofs.lemmas.List.{length-reverse}
 use Rattle.std.proofs.lemmas.List.Elements.{All-append}
 use Rattle.search_model.specs.Legal.{IsLegal}
-use Rattle.tree_checker.specs.Room.{HasRoom}
-use Rattle.tree_checker.proofs.Rooms.{split_legal, legal_expected, room_left, room_expected}
+use Rattle.bound_tree.specs.Room.{HasRoom}
+use Rattle.bound_tree.proofs.Rooms.{split_legal, legal_expected, room_left, room_expected}
 use Rattle.tree_checker.proofs.Reason.{branch_is_short}
 use Rattle.tree_checker.proofs.checker.take_record.Goals as goal
 

@@ -4,11 +4,11 @@ ghost use Rattle.std.specs.Prelude.{◌≡◌, ◌+◌, ◌<◌, ◌≤◌, ◌+
 ghost use Rattle.search_model.specs.Legal.{IsLegal};
 ghost use Rattle.bound_tree.specs.Accepts.{expected_by};
 
-use bound_tree::Kind;
+use crate::node::Kind;
 use search_model::{Path, Scenario};
 
 /// Puts a prefix on a stack that has room.
-pub(crate) fn push_prefix(stack: &mut Vec<Path>, prefix: Path)
+pub fn push_prefix(stack: &mut Vec<Path>, prefix: Path)
     requires { vec_len stack.old < vec_capacity stack.old }
     ensures items { stack.new.items ≡ stack.old.items ++ prefix ∷ [] }
     ensures capacity { vec_capacity stack.old ≤ vec_capacity stack.new }
@@ -22,7 +22,7 @@ pub(crate) fn push_prefix(stack: &mut Vec<Path>, prefix: Path)
 
 /// Takes the prefix on top.
 #[tactic(auto, using(crate::proofs::Rooms::popped))]
-pub(crate) fn pop_prefix(stack: &mut Vec<Path>) -> Option<Path>
+pub fn pop_prefix(stack: &mut Vec<Path>) -> Option<Path>
     ensures some { IfSome result (λ q. reverse stack.old.items ≡ q ∷ reverse stack.new.items) }
     ensures none { IfNone result ((stack.old.items ≡ []) × (stack.new.items ≡ [])) }
     ensures capacity { vec_capacity stack.new ≡ vec_capacity stack.old }
@@ -54,7 +54,7 @@ fn push_children(stack: &mut Vec<Path>, prefix: &Path, moves: &[u8])
 
 /// Puts on the stack what a record makes expected.
 #[tactic(auto, using(search_model::proofs::Children::few_moves))]
-pub(crate) fn push_expected(stack: &mut Vec<Path>, sc: &Scenario, prefix: &Path, kind: &Kind)
+pub fn push_expected(stack: &mut Vec<Path>, sc: &Scenario, prefix: &Path, kind: &Kind)
     requires legal { IsLegal sc.now prefix.now }
     requires short { kind.now ≡ Kind.Branch → length prefix.now < sc.now.horizon }
     requires room { kind.now ≡ Kind.Branch → vec_len stack.old + 64 ≤ vec_capacity stack.old }

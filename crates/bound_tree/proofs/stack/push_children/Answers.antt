@@ -1,6 +1,6 @@
 use Rattle.std.proofs.Common.{◌≡◌, ℕ, ◌+◌, ◌-◌, ◌<◌, ◌∷◌, List, drop, get_or, length, arith, refl}
 use Rattle.std.proofs.lemmas.List.{reverse-append, drop_more}
-use Rattle.tree_checker.proofs.stack.push_children.Goals as goal
+use Rattle.bound_tree.proofs.stack.push_children.Goals as goal
 
 pub loop-i-preserved : goal.loop-i-preserved
 loop-i-preserved c =

@@ -1,5 +1,5 @@
 use Rattle.std.proofs.Common.{◌≡◌, ◌+◌, ◌≤◌, ◌++◌, ◌∷◌, [], map, reverse, drop, vec_len, vec_capacity}
-use Rattle.tree_checker.proofs.stack.push_children.Given as goal
+use Rattle.bound_tree.proofs.stack.push_children.Given as goal
 
 -- the moves from i on stand on the stack
 abbrev pub invariant-loop-i : goal.invariant-loop-i

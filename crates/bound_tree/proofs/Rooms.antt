@@ -9,7 +9,7 @@ use Rattle.search_model.proofs.WalkLemmas.{follows-append}
 use Rattle.bound_tree.specs.declared.node.Kind.{Kind}
 use Rattle.bound_tree.specs.declared.node.Kind.TheVariants.{Branch, Whole, Mean, Tangent}
 use Rattle.bound_tree.specs.Accepts.{expected_by}
-use Rattle.tree_checker.specs.Room.{HasRoom}
+use Rattle.bound_tree.specs.Room.{HasRoom}
 use Rattle.search_model.proofs.Children.{few_moves, child_is_legal}
 
 -- what a record at a legal prefix makes expected is legal

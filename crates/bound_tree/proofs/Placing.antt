@@ -1,0 +1,51 @@
+-- Which prefixes are expected where a text leaves them out.
+use Rattle.std.proofs.Common.{◌≡◌, ℕ, ◌<◌, List, [], ◌∷◌, ◌++◌, length, Bool, true, false, cond, refl, sym, subst, All}
+use Rattle.std.specs.Prelude.{nat_lt}
+use Rattle.std.proofs.lemmas.Bool.{cond_both, lt-ltb, ltb-true}
+use Rattle.std.proofs.lemmas.List.Elements.{All-nil}
+use Rattle.search_model.specs.declared.standing.Standing.{Standing}
+use Rattle.search_model.specs.Problem.{Problem, IsProblem}
+use Rattle.search_model.specs.Legal.{IsLegal}
+use Rattle.bound_tree.specs.declared.node.Kind.{Kind}
+use Rattle.bound_tree.specs.declared.node.Kind.TheVariants.{Branch, Whole, Mean, Tangent}
+use Rattle.bound_tree.specs.declared.node.TreeNode.{TreeNode}
+use Rattle.bound_tree.specs.Accepts.{IsGoodKind, expected_by, AreEaten}
+use Rattle.bound_tree.specs.Room.{HasRoom}
+use Rattle.bound_tree.specs.Places.{opened_by, AreInPlace, EatenAreInPlace}
+use Rattle.bound_tree.proofs.Rooms.{legal_expected, room_expected}
+
+nothing_either_way : (b : Bool) → ◌≡◌ {A = List (List ℕ)} (cond b [] []) []
+nothing_either_way true = refl
+nothing_either_way false = refl
+
+-- a good record makes the same expected whether its length is asked for or not
+opened_by_good : (p : Problem) (s : Standing) (q : List ℕ) (kind : Kind) → IsGoodKind p s q kind → opened_by p q kind ≡ expected_by p q kind
+opened_by_good p s q Branch good = rw (lt-ltb (length q) p.horizon good) refl
+opened_by_good p s q (Whole n) good = nothing_either_way (nat_lt (length q) p.horizon)
+opened_by_good p s q (Mean b) good = nothing_either_way (nat_lt (length q) p.horizon)
+opened_by_good p s q (Tangent b whole) good = nothing_either_way (nat_lt (length q) p.horizon)
+
+in_place : (p : Problem) (s : Standing) (rs : List TreeNode) (qs : List (List ℕ)) → AreEaten p s qs rs → AreInPlace p qs rs
+in_place p s [] [] eaten = tt
+in_place p s [] (q ∷ qs) eaten = absurd eaten
+in_place p s (r ∷ rs) [] eaten = absurd eaten
+in_place p s (r ∷ rs) (q ∷ qs) eaten =
+    let later = subst (λ (xs : List (List ℕ)). AreInPlace p (xs ++ qs) rs) (sym (opened_by_good p s r.prefix r.kind eaten.1)) (in_place p s rs (expected_by p r.prefix r.kind ++ qs) eaten.2) in
+    (eaten.0, subst (λ (x : List ℕ). AreInPlace p (opened_by p x r.kind ++ qs) rs) eaten.0 later)
+
+pub eaten_are_in_place : EatenAreInPlace
+eaten_are_in_place p s qs rs eaten = in_place p s rs qs eaten
+
+-- what a record at a legal prefix makes expected is legal
+pub legal_opened : (p : Problem) (q : List ℕ) (kind : Kind) → IsLegal p q → All (IsLegal p) (opened_by p q kind)
+legal_opened p q kind legal =
+    cond_both (nat_lt (length q) p.horizon) (expected_by p q kind) [] (All (IsLegal p))
+    (λ short. legal_expected p q kind legal (λ _. ltb-true (length q) p.horizon short))
+    (λ _. All-nil (IsLegal p))
+
+-- where there was room for the prefix, there is room for it
+pub room_opened : (p : Problem) (q : List ℕ) (kind : Kind) (qs : List (List ℕ)) → IsProblem p → IsLegal p q → HasRoom (q ∷ qs) → HasRoom (opened_by p q kind ++ qs)
+room_opened p q kind qs sound legal room =
+    cond_both (nat_lt (length q) p.horizon) (expected_by p q kind) [] (λ (xs : List (List ℕ)). HasRoom (xs ++ qs))
+    (λ _. room_expected p q kind qs sound legal room)
+    (λ _. room.1)
