@@ -134,5 +134,5 @@ planned_is_accepted p input text both status is (q, other, (plan, certified, spe
     let same : q ≡ p = same_scenario q p input other is in
     let P : Problem → Type 0 = λ z. Accepts z plan × IsPlanText z plan text in
     let here = subst P same (certified.accepted, spelled) in
-    let rest : IsPlanRest p text plan = record { blanks = []; only = refl; text = text; spelled = here.1; whole = refl } in
+    let rest : IsPlanRest p text plan = record { blanks = []; only = refl; text = text; spelled = inl here.1; whole = refl } in
     check_due p both plan status (text, begins, rest) here.0 due

@@ -1,19 +1,24 @@
 -- A scenario and a plan on one input.
-use Rattle.std.proofs.Common.{ℕ, ◌≡◌, false, List, Result, Ok, Err, refl, sym, subst, ◌∙◌}
+use Rattle.std.proofs.Common.{ℕ, ◌≡◌, false, List, Result, Ok, Err, refl, sym, subst, ◌∙◌, inl, inr}
 use Rattle.search_model.specs.Problem.{Problem, IsProblem}
 use Rattle.bound_tree.specs.declared.plan.Plan.{Plan}
 use Rattle.tree_format.specs.declared.kind.PlanFault.{PlanFault}
-use Rattle.tree_format.specs.PlanText.{plan_text, IsPlanText}
+use Rattle.tree_format.specs.PlanText.{plan_text, plan_text_2, IsTextOfPlan}
 use Rattle.tree_format.specs.Reading.{plan_at}
-use Rattle.tree_format.proofs.ReadsBack.{plan_text_reads_back, one_plan_a_text}
+use Rattle.tree_format.proofs.ReadsBack.{text_read, one_plan_a_text}
 use Rattle.tree_format.proofs.Spelled.{one_text_a_plan}
 use Rattle.plan_command.specs.Plans.{IsPlanRest, HasFault}
 use Rattle.plan_command.specs.Spaces.{starts_with_space, SkipsSpaces}
 use Rattle.plan_command.proofs.SpaceLemmas.{skipped_alike}
 
 -- a plan text begins with no blank
-plan_text_starts : (p : Problem) (plan : Plan) → starts_with_space (plan_text p plan) ≡ false
-plan_text_starts p plan = refl
+text_starts : (p : Problem) (plan : Plan) (text : List ℕ) → IsTextOfPlan p plan text → starts_with_space text ≡ false
+text_starts p plan text spelled =
+    let starts : (whole : List ℕ) → text ≡ whole → starts_with_space whole ≡ false → starts_with_space text ≡ false = λ whole is first. subst (λ t. starts_with_space t ≡ false) (sym is) first in
+    elim spelled [
+      | inl one ↦ starts (plan_text p plan) one.spelled refl
+      | inr two ↦ starts (plan_text_2 p plan) two.spelled refl
+    ]
 
 -- the plan of the text behind the blanks that are skipped is the plan of the rest
 pub plan_behind : (p : Problem) (rest text : List ℕ) (plan : Plan) → IsProblem p → SkipsSpaces rest text → plan_at p text ≡ Ok plan → IsPlanRest p rest plan
@@ -35,10 +40,9 @@ same_fault read a b h g = cc
 -- the rest is a plan's text or has a fault
 pub plan_or_fault : (p : Problem) (rest : List ℕ) (plan : Plan) (fault : PlanFault) → IsProblem p → IsPlanRest p rest plan → HasFault p rest fault → ⊥
 plan_or_fault p rest plan fault sound is has =
-    let starts = subst (λ t. starts_with_space t ≡ false) (sym is.spelled.spelled) (plan_text_starts p plan) in
+    let starts = text_starts p plan is.text is.spelled in
     let same = skipped_alike is.blanks has.skips.blanks is.text has.text is.only has.skips.only starts has.skips.stops (sym is.whole ∙ has.skips.whole) in
-    let reads : plan_at p is.text ≡ Ok plan = subst (λ t. plan_at p t ≡ Ok plan) (sym is.spelled.spelled) (plan_text_reads_back p plan sound is.spelled.printable is.spelled.narrow) in
-    read_or_not (plan_at p is.text) plan fault reads (subst (λ t. plan_at p t ≡ Err fault) (sym same) has.read)
+    read_or_not (plan_at p is.text) plan fault (text_read p sound plan is.text is.spelled) (subst (λ t. plan_at p t ≡ Err fault) (sym same) has.read)
 
 -- and one first fault
 pub one_plan_fault : (p : Problem) (rest : List ℕ) (a b : PlanFault) → HasFault p rest a → HasFault p rest b → a ≡ b
@@ -49,6 +53,5 @@ one_plan_fault p rest a b h g =
 -- and of one plan
 pub same_plan : (p : Problem) (rest : List ℕ) (a b : Plan) → IsProblem p → IsPlanRest p rest a → IsPlanRest p rest b → a ≡ b
 same_plan p rest a b sound h g =
-    let starts : (plan : Plan) (text : List ℕ) → text ≡ plan_text p plan → starts_with_space text ≡ false = λ plan text is. subst (λ t. starts_with_space t ≡ false) (sym is) (plan_text_starts p plan) in
-    let same = skipped_alike h.blanks g.blanks h.text g.text h.only g.only (starts a h.text h.spelled.spelled) (starts b g.text g.spelled.spelled) (sym h.whole ∙ g.whole) in
-    one_plan_a_text p a b h.text sound h.spelled (subst (λ t. IsPlanText p b t) (sym same) g.spelled)
+    let same = skipped_alike h.blanks g.blanks h.text g.text h.only g.only (text_starts p a h.text h.spelled) (text_starts p b g.text g.spelled) (sym h.whole ∙ g.whole) in
+    one_plan_a_text p a b h.text sound h.spelled (subst (λ t. IsTextOfPlan p b t) (sym same) g.spelled)

@@ -7,7 +7,7 @@ use Rattle.search_model.specs.Opening.{IsOpening}
 use Rattle.scenario_text.specs.Scenarios.{IsFront}
 use Rattle.bound_tree.specs.declared.plan.Plan.{Plan}
 use Rattle.bound_tree.specs.Accepts.{Accepts}
-use Rattle.tree_format.specs.PlanText.{IsPlanText}
+use Rattle.tree_format.specs.PlanText.{IsTextOfPlan}
 use Rattle.tree_format.specs.declared.kind.PlanFault.{PlanFault}
 use Rattle.tree_format.specs.Reading.{plan_at}
 use Rattle.plan_command.specs.Spaces.{is_space, SkipsSpaces}
@@ -28,12 +28,12 @@ pub record BeginsWith (p : Problem) (input rest : List ℕ) : Type 0 where
   pub front : IsFront input p bytes
   pub follows : rest ≡ drop bytes input
 
--- the rest is blanks and line feeds, and then the text of this plan
+-- the rest is blanks and line feeds, and then the text of this plan, of version 1 or of version 2
 pub record IsPlanRest (p : Problem) (rest : List ℕ) (plan : Plan) : Type 0 where
   pub blanks : List ℕ
   pub only : IsTrue (list_all is_space blanks)
   pub text : List ℕ
-  pub spelled : IsPlanText p plan text
+  pub spelled : IsTextOfPlan p plan text
   pub whole : rest ≡ blanks ++ text
 
 -- what follows the blanks and line feeds of the rest has this first fault

@@ -1,23 +1,26 @@
 -- What the answer to a reader says of the text.
-use Rattle.std.proofs.Common.{◌≡◌, ℕ, List, Result, Ok, Err, sym, ap, ◌∙◌}
+use Rattle.std.proofs.Common.{◌≡◌, ℕ, List, Result, Ok, Err, sym, ◌∙◌, inl, inr}
 use Rattle.search_model.specs.Problem.{Problem, IsProblem}
 use Rattle.bound_tree.specs.declared.plan.Plan.{Plan}
 use Rattle.tree_format.specs.declared.stop.PlanStop.{PlanStop}
 use Rattle.tree_format.specs.declared.stop.PlanStop.TheVariants.{Fault, NoMemory}
-use Rattle.tree_format.specs.PlanText.{IsPlanText}
+use Rattle.tree_format.specs.PlanText.{IsPrintable, IsTextOfPlan}
 use Rattle.tree_format.specs.declared.kind.PlanFault.{PlanFault}
 use Rattle.tree_format.specs.Faults.{IsFirstFault}
 use Rattle.tree_format.specs.Gives.{Gives, ReadsPlan, Says, Tells, IfFault}
 use Rattle.tree_format.specs.Reading.{plan_at}
-use Rattle.tree_format.proofs.ReadsBack.{plan_text_reads_back}
+use Rattle.tree_format.proofs.ReadsBack.{text_read}
 use Rattle.tree_format.proofs.FirstFaults.{first_fault_decides}
 
--- the text of a plan is read as that plan
-pub text_read : (p : Problem) → IsProblem p → (plan : Plan) (text : List ℕ) → IsPlanText p plan text → plan_at p text ≡ Ok plan
-text_read p h plan text k = ap (plan_at p) k.spelled ∙ plan_text_reads_back p plan h k.printable k.narrow
+-- what has a text can be printed
+pub printable_read : (p : Problem) (plan : Plan) (text : List ℕ) → IsTextOfPlan p plan text → IsPrintable p plan
+printable_read p plan text spelled = elim spelled [
+  | inl one ↦ one.printable
+  | inr two ↦ two.printable
+]
 
--- so the answer is that plan, unless memory ran out
-pub plan_said : (p : Problem) → IsProblem p → (plan : Plan) (text : List ℕ) (result : Result Plan PlanStop) → ReadsPlan p text result → IsPlanText p plan text → Says result plan
+-- the text of a plan is answered by that plan, unless memory ran out
+pub plan_said : (p : Problem) → IsProblem p → (plan : Plan) (text : List ℕ) (result : Result Plan PlanStop) → ReadsPlan p text result → IsTextOfPlan p plan text → Says result plan
 plan_said p h plan text (Ok read) reads k = let same : Ok read ≡ Ok plan = sym reads ∙ text_read p h plan text k in cc
 plan_said p h plan text (Err (Fault fault)) reads k = absurd (let both : Err fault ≡ Ok plan = sym reads ∙ text_read p h plan text k in let bad : ⊥ = cc in bad)
 plan_said p h plan text (Err NoMemory) reads k = tt

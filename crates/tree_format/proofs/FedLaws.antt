@@ -6,9 +6,11 @@ use Rattle.std.proofs.lemmas.List.Elements.{All-head, All-tail}
 use Rattle.search_model.specs.Problem.{Problem, IsProblem}
 use Rattle.bound_tree.specs.declared.plan.Plan.{Plan}
 use Rattle.tree_format.specs.declared.kind.PlanKind.{PlanKind}
-use Rattle.tree_format.specs.declared.kind.PlanKind.TheVariants.{BadLine, BadNumber, UnknownName, TooManyNodes, WrongCount, EarlyEnd}
+use Rattle.tree_format.specs.declared.kind.PlanKind.TheVariants.{BadLine, BadNumber, UnknownName, TooManyNodes, WrongCount, EarlyEnd, NoPlace, StillOpen}
 use Rattle.tree_format.specs.declared.kind.PlanFault.{PlanFault}
+use Rattle.tree_format.specs.declared.due.Due.{Due}
 use Rattle.tree_format.specs.declared.plan_line.Stage.{Stage}
+use Rattle.tree_format.specs.declared.plan_line.TextVersion.{TextVersion}
 use Rattle.tree_format.specs.declared.plan_line.Stage.TheVariants as due
 use Rattle.tree_format.specs.declared.plan_line.PlanLine.{PlanLine}
 use Rattle.tree_format.specs.declared.plan_item.PlanItem.{PlanItem}
@@ -19,14 +21,14 @@ use Rattle.text_rows.specs.Fields.{exact_fields}
 use Rattle.text_rows.proofs.Splits.{split_piece, split_whole, split_nothing}
 use Rattle.text_rows.proofs.Results.{same_ok}
 use Rattle.tree_format.specs.Faults.{AreSaid, due_behind}
-use Rattle.tree_format.specs.Reading.{line_at, blank_plan, next, taken, is_ended, at_line_number, pieces_at, plan_at}
+use Rattle.tree_format.specs.Reading.{line_at, at_start, blank_plan, next, taken, is_ended, at_line_number, pieces_at, plan_at}
 use Rattle.text_rows.specs.Kinds.{first_kind, fault_of}
 use Rattle.tree_format.specs.FeedSteps.{Stand, stand_at, byte_fed}
 use Rattle.tree_format.specs.Feeding.{items_of, told, plan_behind, HasRead, Tells, IsDecided, IsWhole, IsCutOff, GoesOn}
 use Rattle.tree_format.specs.FeedLaws.{CutAnywhere, ItemsOfThePlan, EachFaultIsMet, FaultIsLast, AreInOrder, ItemsInOrder, GatheredIsSummary}
 use Rattle.tree_format.proofs.Loop.{at_line, at_fault, at_early, at_end}
 use Rattle.tree_format.proofs.FirstFaults.{unended_stage}
-use Rattle.tree_format.proofs.Spelled.{IsRead, ended_stage}
+use Rattle.tree_format.proofs.Spelled.{IsReadAt, ended_stage}
 use Rattle.tree_format.proofs.Tables.{kinds_by_table}
 use Rattle.tree_format.proofs.Gatherings.{gathered_summary}
 use Rattle.tree_format.proofs.Feedings.{read_behind, text_behind}
@@ -56,43 +58,45 @@ ends_same {X = X} (a ∷ xs) (b ∷ ys) x y e =
     let rest = ends_same xs ys x y heads.1 in
     (ap (λ (c : X). c ∷ xs) heads.0 ∙ ap (λ (cs : List X). b ∷ cs) rest.0, rest.1)
 
-said_same : (p : Problem) (stage : Stage) (before : List (List ℕ)) (said other : List PlanLine) → AreSaid p stage before said → AreSaid p stage before other → said ≡ other
-said_same p stage [] [] [] right right' = refl
-said_same p stage [] [] (y ∷ ys) right right' = absurd right'
-said_same p stage [] (x ∷ xs) other right right' = absurd right
-said_same p stage (line ∷ before) [] other right right' = absurd right
-said_same p stage (line ∷ before) (x ∷ xs) [] right right' = absurd right'
-said_same p stage (line ∷ before) (x ∷ xs) (y ∷ ys) right right' =
+said_same : (p : Problem) (d : Due) (before : List (List ℕ)) (said other : List PlanLine) → AreSaid p d before said → AreSaid p d before other → said ≡ other
+said_same p d [] [] [] right right' = refl
+said_same p d [] [] (y ∷ ys) right right' = absurd right'
+said_same p d [] (x ∷ xs) other right right' = absurd right
+said_same p d (line ∷ before) [] other right right' = absurd right
+said_same p d (line ∷ before) (x ∷ xs) [] right right' = absurd right'
+said_same p d (line ∷ before) (x ∷ xs) (y ∷ ys) right right' =
     let same : x ≡ y = same_ok x y (sym right.0 ∙ right'.0) in
-    let later : AreSaid p (next stage x) before ys = subst (λ (z : PlanLine). AreSaid p (next stage z) before ys) (sym same) right'.1 in
-    ap (λ (z : PlanLine). z ∷ xs) same ∙ ap (λ (zs : List PlanLine). y ∷ zs) (said_same p (next stage x) before xs ys right.1 later)
+    let later : AreSaid p (next p d x) before ys = subst (λ (z : PlanLine). AreSaid p (next p d z) before ys) (sym same) right'.1 in
+    ap (λ (z : PlanLine). z ∷ xs) same ∙ ap (λ (zs : List PlanLine). y ∷ zs) (said_same p (next p d x) before xs ys right.1 later)
 
 pub cut_anywhere : CutAnywhere
 cut_anywhere p fed items others feed other a b =
     let text : lines_text a.before ++ a.begun ≡ lines_text b.before ++ b.begun = sym a.whole ∙ b.whole in
     let pieces = ends_same a.before b.before a.begun b.begun (sym (pieces_lines a.before a.begun a.feeds a.open_line) ∙ ap pieces_of text ∙ pieces_lines b.before b.begun b.feeds b.open_line) in
-    let said = said_same p due.Version b.before a.said b.said (subst (λ (lines : List (List ℕ)). AreSaid p due.Version lines a.said) pieces.0 a.right) b.right in (
-      a.tell ∙ ap (λ (ls : List PlanLine). told (due_behind due.Version ls) (plan_behind blank_plan ls)) said ∙ sym b.tell,
+    let said = said_same p at_start b.before a.said b.said (subst (λ (lines : List (List ℕ)). AreSaid p at_start lines a.said) pieces.0 a.right) b.right in (
+      a.tell ∙ ap (λ (ls : List PlanLine). told (due_behind p at_start ls).stage (plan_behind blank_plan ls)) said ∙ sym b.tell,
       a.stand
-          ∙ ap (λ (lines : List (List ℕ)). stand_at (1 + length lines) (due_behind due.Version a.said) (plan_behind blank_plan a.said) a.begun) pieces.0
-          ∙ ap (λ (line : List ℕ). stand_at (1 + length b.before) (due_behind due.Version a.said) (plan_behind blank_plan a.said) line) pieces.1
-          ∙ ap (λ (ls : List PlanLine). stand_at (1 + length b.before) (due_behind due.Version ls) (plan_behind blank_plan ls) b.begun) said
+          ∙ ap (λ (lines : List (List ℕ)). stand_at (1 + length lines) (due_behind p at_start a.said) (plan_behind blank_plan a.said) a.begun) pieces.0
+          ∙ ap (λ (line : List ℕ). stand_at (1 + length b.before) (due_behind p at_start a.said) (plan_behind blank_plan a.said) line) pieces.1
+          ∙ ap (λ (ls : List PlanLine). stand_at (1 + length b.before) (due_behind p at_start ls) (plan_behind blank_plan ls) b.begun) said
           ∙ sym b.stand,
     )
 
 -- No fault is decided where the lines are right so far.
 
-table_early : (a b c d e : Bool) → first_kind ((a, BadLine) ∷ (b, BadNumber) ∷ (c, UnknownName) ∷ (d, TooManyNodes) ∷ (e, WrongCount) ∷ []) ≡ Some EarlyEnd → ⊥
-table_early true b c d e is = let bad : ⊥ = cc in bad
-table_early false true c d e is = let bad : ⊥ = cc in bad
-table_early false false true d e is = let bad : ⊥ = cc in bad
-table_early false false false true e is = let bad : ⊥ = cc in bad
-table_early false false false false true is = let bad : ⊥ = cc in bad
-table_early false false false false false is = let bad : ⊥ = cc in bad
+table_early : (a b c d e f g : Bool) → first_kind ((a, BadLine) ∷ (b, BadNumber) ∷ (c, UnknownName) ∷ (d, TooManyNodes) ∷ (e, WrongCount) ∷ (f, NoPlace) ∷ (g, StillOpen) ∷ []) ≡ Some EarlyEnd → ⊥
+table_early true b c d e f g is = let bad : ⊥ = cc in bad
+table_early false true c d e f g is = let bad : ⊥ = cc in bad
+table_early false false true d e f g is = let bad : ⊥ = cc in bad
+table_early false false false true e f g is = let bad : ⊥ = cc in bad
+table_early false false false false true f g is = let bad : ⊥ = cc in bad
+table_early false false false false false true g is = let bad : ⊥ = cc in bad
+table_early false false false false false false true is = let bad : ⊥ = cc in bad
+table_early false false false false false false false is = let bad : ⊥ = cc in bad
 
 -- a whole line doesn't end early
-never_early : (p : Problem) (stage : Stage) (fields : List (List ℕ)) → line_at p stage fields ≡ Err EarlyEnd → ⊥
-never_early p stage fields e = table_early _ _ _ _ _ (sym (kinds_by_table p stage fields) ∙ ap fault_of e)
+never_early : (p : Problem) (d : Due) (fields : List (List ℕ)) → line_at p d fields ≡ Err EarlyEnd → ⊥
+never_early p d fields e = table_early _ _ _ _ _ _ _ (sym (kinds_by_table p d fields) ∙ ap fault_of e)
 
 by_test : (b : Bool) → (b ≡ true → ⊥) → (b ≡ false → ⊥) → ⊥
 by_test true t f = t refl
@@ -104,43 +108,43 @@ same_fault f g e = cc
 no_both : (plan : Plan) (f : PlanFault) → ◌≡◌ {A = Result Plan PlanFault} (Err f) (Ok plan) → ⊥
 no_both plan f e = let bad : ⊥ = cc in bad
 
-module _ (p : Problem) (number : ℕ) (stage : Stage) (plan : Plan) (begun : List ℕ) (goes : stage ≡ due.Ended → ⊥) (free : HasNoFeed begun) where
+module _ (p : Problem) (number : ℕ) (d : Due) (plan : Plan) (begun : List ℕ) (goes : d.stage ≡ due.Ended → ⊥) (free : HasNoFeed begun) where
   abbrev ends : Result Plan PlanFault
-  ends = pieces_at p number stage plan (pieces_of (begun ++ 10 ∷ []))
+  ends = pieces_at p number d plan (pieces_of (begun ++ 10 ∷ []))
 
   -- with its line feed the line has another fault, or none
-  fed_said : (said : PlanLine) → line_at p stage (exact_fields begun) ≡ Ok said → ends ≡ Err (at_line_number number EarlyEnd) → ⊥
+  fed_said : (said : PlanLine) → line_at p d (exact_fields begun) ≡ Ok said → ends ≡ Err (at_line_number number EarlyEnd) → ⊥
   fed_said said e early =
-      let later = at_line p number stage plan said (begun ++ 10 ∷ []) begun [] ends goes (split_piece 10 begun [] free) e refl in
-      by_test (is_ended (next stage said))
-      (λ ended. no_both _ _ (sym early ∙ at_end p (number + 1) (next stage said) (taken plan said) [] ends (ended_stage _ ended) refl later))
+      let later = at_line p number d plan said (begun ++ 10 ∷ []) begun [] ends goes (split_piece 10 begun [] free) e refl in
+      by_test (is_ended (next p d said).stage)
+      (λ ended. no_both _ _ (sym early ∙ at_end p (number + 1) (next p d said) (taken plan said) [] ends (ended_stage _ ended) refl later))
       (λ unended.
-      let again = same_fault _ _ (sym early ∙ at_early p (number + 1) (next stage said) (taken plan said) [] ends (unended_stage _ unended) (split_nothing 10) later) in
+      let again = same_fault _ _ (sym early ∙ at_early p (number + 1) (next p d said) (taken plan said) [] ends (unended_stage _ unended) (split_nothing 10) later) in
       let same = ap (λ (f : PlanFault). f.line) again in
       omega (arith, same))
 
-  line_fed : (r : Result PlanLine PlanKind) → line_at p stage (exact_fields begun) ≡ r → ends ≡ Err (at_line_number number EarlyEnd) → ⊥
+  line_fed : (r : Result PlanLine PlanKind) → line_at p d (exact_fields begun) ≡ r → ends ≡ Err (at_line_number number EarlyEnd) → ⊥
   line_fed (Ok said) e early = fed_said said e early
   line_fed (Err kind) e early =
-      let wrong = at_fault p number stage plan kind (begun ++ 10 ∷ []) begun [] ends goes (split_piece 10 begun [] free) e refl in
+      let wrong = at_fault p number d plan kind (begun ++ 10 ∷ []) begun [] ends goes (split_piece 10 begun [] free) e refl in
       let same = ap (λ (f : PlanFault). f.kind) (same_fault _ _ (sym wrong ∙ early)) in
-      never_early p stage (exact_fields begun) (e ∙ ap Err same)
+      never_early p d (exact_fields begun) (e ∙ ap Err same)
 
 pub fault_is_last : FaultIsLast
 fault_is_last p fed items fault (feed, read) decided =
     let at_once : plan_at p fed ≡ Err fault = ap (plan_at p) (sym (append-nil fed)) ∙ decided [] in
-    let stage = due_behind due.Version read.said in
+    let d = due_behind p at_start read.said in
     let number = 1 + length read.before in
-    let due_is : feed.stage ≡ stage = ap (λ (s : Stand). s.stage) read.stand in
-    by_test (is_ended stage)
-    (λ ended. let whole = read_whole p fed items feed read (due_is ∙ ended_stage stage ended) in no_both whole.plan fault (sym at_once ∙ whole.spelled))
+    let due_is : feed.due.stage ≡ d.stage = ap (λ (s : Stand). s.due.stage) read.stand in
+    by_test (is_ended d.stage)
+    (λ ended. let whole = read_whole p fed items feed read (due_is ∙ ended_stage d.stage ended) in no_both whole.plan fault (sym at_once ∙ whole.spelled))
     (λ unended.
-    let goes = unended_stage stage unended in
+    let goes = unended_stage d.stage unended in
     let early = read_early p fed items feed read (λ over. goes (sym due_is ∙ over)) in
     let same : fault ≡ at_line_number number EarlyEnd = same_fault _ _ (sym at_once ∙ early.first) ∙ ap (λ (s : Stand). at_line_number s.number EarlyEnd) read.stand in
     let with_feed : plan_at p (fed ++ 10 ∷ []) ≡ Err fault = ap (λ (t : List ℕ). plan_at p t) (sym (append-nil (fed ++ 10 ∷ []))) ∙ ap (plan_at p) (append_assoc fed (10 ∷ []) []) ∙ decided (10 ∷ []) in
     let ends = text_behind p fed items feed read 10 [] ∙ ap (plan_at p) (append-nil (fed ++ 10 ∷ [])) ∙ with_feed ∙ ap Err same in
-    line_fed p number stage (plan_behind blank_plan read.said) read.begun goes read.open_line _ refl ends)
+    line_fed p number d (plan_behind blank_plan read.said) read.begun goes read.open_line _ refl ends)
 
 -- A step is what the bytes decide.
 
@@ -212,7 +216,7 @@ run p h (c ∷ more) fed items feed read =
 
 -- bytes that are right so far are the text of a plan or end early
 whole_or_early : (p : Problem) (fed : List ℕ) (items : List PlanItem) (feed : Stand) → HasRead p fed items feed → IsWhole p fed items ⊎ ((fault : PlanFault) × IsCutOff p fed fault)
-whole_or_early p fed items feed read = by_end (is_ended feed.stage) (λ ended. read_whole p fed items feed read (ended_stage feed.stage ended)) (λ unended. read_early p fed items feed read (unended_stage feed.stage unended))
+whole_or_early p fed items feed read = by_end (is_ended feed.due.stage) (λ ended. read_whole p fed items feed read (ended_stage feed.due.stage ended)) (λ unended. read_early p fed items feed read (unended_stage feed.due.stage unended))
   where
     by_end : (b : Bool) → (b ≡ true → IsWhole p fed items) → (b ≡ false → IsCutOff p fed (at_line_number feed.number EarlyEnd)) → IsWhole p fed items ⊎ ((fault : PlanFault) × IsCutOff p fed fault)
     by_end true w e = inl (w refl)
@@ -234,7 +238,7 @@ items_of_the_plan p fed more items plan h (feed, read) e = elim (run p h more fe
 
 pub each_fault_is_met : EachFaultIsMet
 each_fault_is_met p text fault h e =
-    elim (run p h text [] [] _ (nothing_read p [] _ refl refl)) [
+    elim (run p h text [] [] _ (nothing_read p at_start [] _ refl refl refl)) [
       | inl found ↦
           let again = found.decided (drop found.count text) ∙ refl in
           let same = same_fault found.fault fault (sym again ∙ ap (plan_at p) (take-append-drop found.count text) ∙ e) in
@@ -245,12 +249,12 @@ each_fault_is_met p text fault h e =
       ]
     ]
 
-in_order : (p : Problem) (stage : Stage) (plan : Plan) → IsRead p stage plan → (told stage plan ≡ []) ⊎ AreInOrder (told stage plan)
-in_order p due.Version plan read = inl refl
-in_order p due.Path plan read = inl refl
-in_order p due.Chance plan read = inl refl
-in_order p due.Count plan read = inl refl
-in_order p (due.Records left) plan read = inr (record {
+in_order : (p : Problem) (v : TextVersion) (expected : List (List ℕ)) (stage : Stage) (plan : Plan) → IsReadAt p v expected stage plan → (told stage plan ≡ []) ⊎ AreInOrder (told stage plan)
+in_order p v expected due.Version plan read = inl refl
+in_order p v expected due.Path plan read = inl refl
+in_order p v expected due.Chance plan read = inl refl
+in_order p v expected due.Count plan read = inl refl
+in_order p v expected (due.Records left) plan read = inr (record {
   standing = plan.standing;
   weight = plan.weight;
   nodes = length plan.tree + left;
@@ -259,7 +263,7 @@ in_order p (due.Records left) plan read = inr (record {
   within = omega arith;
   order = inl refl;
 })
-in_order p due.Ended plan read = inr (record {
+in_order p v expected due.Ended plan read = inr (record {
   standing = plan.standing;
   weight = plan.weight;
   nodes = length plan.tree;
@@ -271,4 +275,4 @@ in_order p due.Ended plan read = inr (record {
 
 pub items_in_order : ItemsInOrder
 items_in_order p fed items h (feed, read) =
-    subst (λ (xs : List PlanItem). (xs ≡ []) ⊎ AreInOrder xs) (sym read.tell) (in_order p (due_behind due.Version read.said) (plan_behind blank_plan read.said) (read_behind p h due.Version blank_plan read.before read.said read.right refl))
+    subst (λ (xs : List PlanItem). (xs ≡ []) ⊎ AreInOrder xs) (sym read.tell) (in_order p _ _ (due_behind p at_start read.said).stage (plan_behind blank_plan read.said) (read_behind p h at_start blank_plan read.before read.said read.right (refl, refl)))

@@ -6,6 +6,7 @@ use Rattle.std.proofs.lemmas.List.Elements.{All-nil}
 use Rattle.search_model.specs.Problem.{Problem}
 use Rattle.bound_tree.specs.declared.plan.Plan.{Plan}
 use Rattle.tree_format.specs.declared.kind.PlanKind.TheVariants.{EarlyEnd}
+use Rattle.tree_format.specs.declared.due.Due.{Due}
 use Rattle.tree_format.specs.declared.plan_line.Stage.{Stage}
 use Rattle.tree_format.specs.declared.plan_line.Stage.TheVariants as due
 use Rattle.tree_format.specs.declared.plan_item.PlanItem.{PlanItem}
@@ -14,7 +15,7 @@ use Rattle.tree_format.specs.declared.plan_item.Step.TheVariants.{More}
 use Rattle.text_rows.specs.Lines.{pieces_of, HasNoFeed}
 use Rattle.text_rows.proofs.Splits.{split_whole}
 use Rattle.tree_format.specs.Faults.{due_behind}
-use Rattle.tree_format.specs.Reading.{blank_plan, at_line_number, pieces_at, plan_at}
+use Rattle.tree_format.specs.Reading.{at_start, blank_plan, at_line_number, pieces_at, plan_at}
 use Rattle.tree_format.specs.Gathering.{Gathered, nothing_gathered}
 use Rattle.tree_format.specs.FeedSteps.{Stand}
 use Rattle.tree_format.specs.Feeding.{told, plan_behind, HasRead, IfRead, Tells, IsWhole, IsCutOff, GoesOn}
@@ -23,8 +24,8 @@ use Rattle.tree_format.proofs.Gatherings.{gathered_nothing}
 use Rattle.tree_format.proofs.Feedings.{reads_on}
 
 -- a feed that was fed nothing
-pub nothing_read : (p : Problem) (path : List ℕ) (line : Gathered) → path ≡ [] → line ≡ nothing_gathered → HasRead p [] [] (record { number = 1; stage = due.Version; standing = record { path = path; value = 0 }; weight = 0; line = line })
-nothing_read p path line none nothing = record {
+pub nothing_read : (p : Problem) (d : Due) (path : List ℕ) (line : Gathered) → d ≡ at_start → path ≡ [] → line ≡ nothing_gathered → HasRead p [] [] (record { number = 1; due = d; standing = record { path = path; value = 0 }; weight = 0; line = line })
+nothing_read p d path line first none nothing = record {
   before = [];
   said = [];
   begun = [];
@@ -34,8 +35,9 @@ nothing_read p path line none nothing = record {
   right = tt;
   behind_end = λ _. refl;
   tell = refl;
-  stand = ap (λ (q : List ℕ). record { number = 1; stage = due.Version; standing = record { path = q; value = 0 }; weight = 0; line = line }) none
-      ∙ ap (λ (g : Gathered). record { number = 1; stage = due.Version; standing = record { path = []; value = 0 }; weight = 0; line = g }) (nothing ∙ sym (gathered_nothing nothing_gathered));
+  stand = ap (λ (x : Due). record { number = 1; due = x; standing = record { path = path; value = 0 }; weight = 0; line = line }) first
+      ∙ ap (λ (q : List ℕ). record { number = 1; due = at_start; standing = record { path = q; value = 0 }; weight = 0; line = line }) none
+      ∙ ap (λ (g : Gathered). record { number = 1; due = at_start; standing = record { path = []; value = 0 }; weight = 0; line = g }) (nothing ∙ sym (gathered_nothing nothing_gathered));
 }
 
 -- so many bytes of a piece were fed, and none of them completed an item or decided a fault
@@ -73,8 +75,8 @@ fed_more p fed items piece i old new to read = record { here = read; earlier = f
 
 -- The end of the bytes.
 module _ (p : Problem) (fed : List ℕ) (items : List PlanItem) (feed : Stand) (read : HasRead p fed items feed) where
-  abbrev stage : Stage
-  stage = due_behind due.Version read.said
+  abbrev d : Due
+  d = due_behind p at_start read.said
 
   abbrev plan : Plan
   plan = plan_behind blank_plan read.said
@@ -82,26 +84,26 @@ module _ (p : Problem) (fed : List ℕ) (items : List PlanItem) (feed : Stand) (
   abbrev number : ℕ
   number = 1 + length read.before
 
-  line_left : pieces_at p number stage plan (pieces_of read.begun) ≡ plan_at p fed
-  line_left = sym (ap (plan_at p) read.whole ∙ reads_on p read.before read.said due.Version blank_plan 1 read.begun read.feeds read.right)
+  line_left : pieces_at p number d plan (pieces_of read.begun) ≡ plan_at p fed
+  line_left = sym (ap (plan_at p) read.whole ∙ reads_on p read.before read.said at_start blank_plan 1 read.begun read.feeds read.right)
 
-  is_due : feed.stage ≡ stage
-  is_due = ap (λ (s : Stand). s.stage) read.stand
+  is_due : feed.due ≡ d
+  is_due = ap (λ (s : Stand). s.due) read.stand
 
   -- behind the end they are the text of a plan
-  pub read_whole : feed.stage ≡ due.Ended → IsWhole p fed items
+  pub read_whole : feed.due.stage ≡ due.Ended → IsWhole p fed items
   read_whole over =
-      let ended : stage ≡ due.Ended = sym is_due ∙ over in
+      let ended : d.stage ≡ due.Ended = sym (ap (λ (x : Due). x.stage) is_due) ∙ over in
       record {
         plan = plan;
-        spelled = at_end p number stage plan read.begun _ ended (ap length (read.behind_end ended)) line_left;
+        spelled = at_end p number d plan read.begun _ ended (ap length (read.behind_end ended)) line_left;
         tell = read.tell ∙ ap (λ (t : Stage). told t plan) ended;
       }
 
   -- before it a line feed is missing
-  pub read_early : (feed.stage ≡ due.Ended → ⊥) → IsCutOff p fed (at_line_number feed.number EarlyEnd)
+  pub read_early : (feed.due.stage ≡ due.Ended → ⊥) → IsCutOff p fed (at_line_number feed.number EarlyEnd)
   read_early goes =
-      let early = at_early p number stage plan read.begun _ (λ ended. goes (is_due ∙ ended)) (split_whole 10 read.begun read.open_line) line_left in
+      let early = at_early p number d plan read.begun _ (λ ended. goes (ap (λ (x : Due). x.stage) is_due ∙ ended)) (split_whole 10 read.begun read.open_line) line_left in
       record {
         first = early ∙ ap (λ (s : Stand). Err (at_line_number s.number EarlyEnd)) (sym read.stand);
         early = refl;

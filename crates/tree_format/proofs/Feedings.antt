@@ -4,15 +4,14 @@ use Rattle.std.specs.Prelude.{All}
 use Rattle.std.proofs.lemmas.List.Elements.{All-head, All-tail}
 use Rattle.search_model.specs.Problem.{Problem, IsProblem}
 use Rattle.bound_tree.specs.declared.plan.Plan.{Plan}
-use Rattle.tree_format.specs.declared.plan_line.Stage.{Stage}
-use Rattle.tree_format.specs.declared.plan_line.Stage.TheVariants as due
+use Rattle.tree_format.specs.declared.due.Due.{Due}
 use Rattle.tree_format.specs.declared.plan_line.PlanLine.{PlanLine}
 use Rattle.tree_format.specs.declared.plan_item.PlanItem.{PlanItem}
 use Rattle.text_rows.specs.Lines.{pieces_of, HasNoFeed, lines_text}
 use Rattle.text_rows.specs.Fields.{exact_fields}
 use Rattle.text_rows.proofs.Splits.{split_piece}
 use Rattle.tree_format.specs.Faults.{AreSaid, due_behind}
-use Rattle.tree_format.specs.Reading.{line_at, blank_plan, next, taken, pieces_at, plan_at}
+use Rattle.tree_format.specs.Reading.{line_at, at_start, blank_plan, next, taken, pieces_at, plan_at}
 use Rattle.tree_format.specs.FeedSteps.{Stand}
 use Rattle.tree_format.specs.Feeding.{plan_behind, HasRead}
 use Rattle.tree_format.proofs.Loop.{at_line}
@@ -26,46 +25,46 @@ lines_more [] line rest = simp append_assoc
 lines_more (first ∷ before) line rest =
     append_assoc (first ++ 10 ∷ []) (lines_text (before ++ line ∷ [])) rest ∙ ap (λ (x : List ℕ). (first ++ 10 ∷ []) ++ x) (lines_more before line rest) ∙ sym (append_assoc (first ++ 10 ∷ []) (lines_text before) (line ++ 10 ∷ rest))
 
-pub due_more : (stage : Stage) (said : List PlanLine) (x : PlanLine) → due_behind stage (said ++ x ∷ []) ≡ next (due_behind stage said) x
-due_more stage [] x = refl
-due_more stage (first ∷ said) x = due_more (next stage first) said x
+pub due_more : (p : Problem) (d : Due) (said : List PlanLine) (x : PlanLine) → due_behind p d (said ++ x ∷ []) ≡ next p (due_behind p d said) x
+due_more p d [] x = refl
+due_more p d (first ∷ said) x = due_more p (next p d first) said x
 
 pub plan_more : (plan : Plan) (said : List PlanLine) (x : PlanLine) → plan_behind plan (said ++ x ∷ []) ≡ taken (plan_behind plan said) x
 plan_more plan [] x = refl
 plan_more plan (first ∷ said) x = plan_more (taken plan first) said x
 
-pub said_more : (p : Problem) (stage : Stage) (before : List (List ℕ)) (said : List PlanLine) (line : List ℕ) (x : PlanLine) → AreSaid p stage before said → line_at p (due_behind stage said) (exact_fields line) ≡ Ok x → AreSaid p stage (before ++ line ∷ []) (said ++ x ∷ [])
-said_more p stage [] [] line x right e = (e, tt)
-said_more p stage [] (first ∷ said) line x right e = absurd right
-said_more p stage (l ∷ before) [] line x right e = absurd right
-said_more p stage (l ∷ before) (first ∷ said) line x right e = (right.0, said_more p (next stage first) before said line x right.1 e)
+pub said_more : (p : Problem) (d : Due) (before : List (List ℕ)) (said : List PlanLine) (line : List ℕ) (x : PlanLine) → AreSaid p d before said → line_at p (due_behind p d said) (exact_fields line) ≡ Ok x → AreSaid p d (before ++ line ∷ []) (said ++ x ∷ [])
+said_more p d [] [] line x right e = (e, tt)
+said_more p d [] (first ∷ said) line x right e = absurd right
+said_more p d (l ∷ before) [] line x right e = absurd right
+said_more p d (l ∷ before) (first ∷ said) line x right e = (right.0, said_more p (next p d first) before said line x right.1 e)
 
 -- what lines have settled that say this
-pub read_behind : (p : Problem) → IsProblem p → (stage : Stage) (plan : Plan) (before : List (List ℕ)) (said : List PlanLine) → AreSaid p stage before said → IsRead p stage plan → IsRead p (due_behind stage said) (plan_behind plan said)
-read_behind p h stage plan [] [] right read = read
-read_behind p h stage plan [] (first ∷ said) right read = absurd right
-read_behind p h stage plan (line ∷ before) [] right read = absurd right
-read_behind p h stage plan (line ∷ before) (first ∷ said) right read =
-    read_behind p h (next stage first) (taken plan first) before said right.1 (line_on p h stage plan (exact_fields line) first read right.0).read
+pub read_behind : (p : Problem) → IsProblem p → (d : Due) (plan : Plan) (before : List (List ℕ)) (said : List PlanLine) → AreSaid p d before said → IsRead p d plan → IsRead p (due_behind p d said) (plan_behind plan said)
+read_behind p h d plan [] [] right read = read
+read_behind p h d plan [] (first ∷ said) right read = absurd right
+read_behind p h d plan (line ∷ before) [] right read = absurd right
+read_behind p h d plan (line ∷ before) (first ∷ said) right read =
+    read_behind p h (next p d first) (taken plan first) before said right.1 (line_on p h d plan (exact_fields line) first read right.0).read
 
 -- reading goes on behind right lines
-pub reads_on : (p : Problem) (before : List (List ℕ)) (said : List PlanLine) (stage : Stage) (plan : Plan) (number : ℕ) (rest : List ℕ) → All HasNoFeed before → AreSaid p stage before said → pieces_at p number stage plan (pieces_of (lines_text before ++ rest)) ≡ pieces_at p (number + length before) (due_behind stage said) (plan_behind plan said) (pieces_of rest)
-reads_on p [] [] stage plan number rest feeds right = let same : number ≡ number + 0 = omega arith in ap (λ (n : ℕ). pieces_at p n stage plan (pieces_of rest)) same
-reads_on p [] (first ∷ said) stage plan number rest feeds right = absurd right
-reads_on p (line ∷ before) [] stage plan number rest feeds right = absurd right
-reads_on p (line ∷ before) (first ∷ said) stage plan number rest feeds right =
+pub reads_on : (p : Problem) (before : List (List ℕ)) (said : List PlanLine) (d : Due) (plan : Plan) (number : ℕ) (rest : List ℕ) → All HasNoFeed before → AreSaid p d before said → pieces_at p number d plan (pieces_of (lines_text before ++ rest)) ≡ pieces_at p (number + length before) (due_behind p d said) (plan_behind plan said) (pieces_of rest)
+reads_on p [] [] d plan number rest feeds right = let same : number ≡ number + 0 = omega arith in ap (λ (n : ℕ). pieces_at p n d plan (pieces_of rest)) same
+reads_on p [] (first ∷ said) d plan number rest feeds right = absurd right
+reads_on p (line ∷ before) [] d plan number rest feeds right = absurd right
+reads_on p (line ∷ before) (first ∷ said) d plan number rest feeds right =
     let left = lines_text before ++ rest in
     let text = lines_text (line ∷ before) ++ rest in
     let begins : text ≡ line ++ 10 ∷ left = simp append_assoc in
     let cut : pieces_of text ≡ line ∷ pieces_of left = ap pieces_of begins ∙ split_piece 10 line left (All-head HasNoFeed line before feeds) in
-    let goes = due_still p stage (exact_fields line) first right.0 in
+    let goes = due_still p d (exact_fields line) first right.0 in
     let later : number + 1 + length before ≡ number + suc (length before) = omega arith in
-    sym (at_line p number stage plan first text line left _ goes cut right.0 refl)
-    ∙ reads_on p before said (next stage first) (taken plan first) (number + 1) rest (All-tail HasNoFeed line before feeds) right.1
-    ∙ ap (λ (n : ℕ). pieces_at p n (due_behind (next stage first) said) (plan_behind (taken plan first) said) (pieces_of rest)) later
+    sym (at_line p number d plan first text line left _ goes cut right.0 refl)
+    ∙ reads_on p before said (next p d first) (taken plan first) (number + 1) rest (All-tail HasNoFeed line before feeds) right.1
+    ∙ ap (λ (n : ℕ). pieces_at p n (due_behind p (next p d first) said) (plan_behind (taken plan first) said) (pieces_of rest)) later
 
 -- where a byte and more follows what a feed was fed
-pub text_behind : (p : Problem) (fed : List ℕ) (items : List PlanItem) (feed : Stand) (read : HasRead p fed items feed) (c : ℕ) (more : List ℕ) → pieces_at p (1 + length read.before) (due_behind due.Version read.said) (plan_behind blank_plan read.said) (pieces_of (read.begun ++ c ∷ more)) ≡ plan_at p ((fed ++ c ∷ []) ++ more)
+pub text_behind : (p : Problem) (fed : List ℕ) (items : List PlanItem) (feed : Stand) (read : HasRead p fed items feed) (c : ℕ) (more : List ℕ) → pieces_at p (1 + length read.before) (due_behind p at_start read.said) (plan_behind blank_plan read.said) (pieces_of (read.begun ++ c ∷ more)) ≡ plan_at p ((fed ++ c ∷ []) ++ more)
 text_behind p fed items feed read c more =
     let text : (fed ++ c ∷ []) ++ more ≡ lines_text read.before ++ (read.begun ++ c ∷ more) = ap (λ (t : List ℕ). (t ++ c ∷ []) ++ more) read.whole ∙ simp append_assoc in
-    sym (ap (plan_at p) text ∙ reads_on p read.before read.said due.Version blank_plan 1 (read.begun ++ c ∷ more) read.feeds read.right)
+    sym (ap (plan_at p) text ∙ reads_on p read.before read.said at_start blank_plan 1 (read.begun ++ c ∷ more) read.feeds read.right)

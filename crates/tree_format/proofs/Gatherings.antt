@@ -5,7 +5,7 @@ use Rattle.std.specs.List.{onto_first}
 use Rattle.std.proofs.lemmas.Bool.{cond_both, lt-ltb, ltb-true, ltb-false, eqb-true, eqb-false}
 use Rattle.std.proofs.lemmas.List.{append-nil, take_all}
 use Rattle.search_model.specs.Problem.{Problem, IsProblem}
-use Rattle.tree_format.specs.declared.plan_line.Stage.{Stage}
+use Rattle.tree_format.specs.declared.due.Due.{Due}
 use Rattle.text_rows.specs.Fields.{exact_fields}
 use Rattle.text_rows.proofs.Splits.{split_more, split_here, split_nothing, some_piece}
 use Rattle.tree_format.specs.Reading.{line_at, summary_of}
@@ -108,5 +108,5 @@ pub gathered_summary : (line : List ℕ) → exact_fields (gathered nothing_gath
 gathered_summary line = ap exact_fields (gathered_kept line [] 0 0 (omega arith)) ∙ kept_fields line 0 0 (omega arith) ∙ cut_summary (exact_fields line)
 
 -- so it is judged as the whole line is
-pub gathered_judged : (p : Problem) → IsProblem p → (stage : Stage) (line : List ℕ) → line_at p stage (exact_fields (gathered nothing_gathered line).text) ≡ line_at p stage (exact_fields line)
-gathered_judged p h stage line = ap (line_at p stage) (gathered_summary line) ∙ summary_decides p stage (exact_fields line) h
+pub gathered_judged : (p : Problem) → IsProblem p → (d : Due) (line : List ℕ) → line_at p d (exact_fields (gathered nothing_gathered line).text) ≡ line_at p d (exact_fields line)
+gathered_judged p h d line = ap (line_at p d) (gathered_summary line) ∙ summary_decides p d (exact_fields line) h

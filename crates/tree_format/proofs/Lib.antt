@@ -17,3 +17,5 @@ pub mod Feedings
 pub mod BytesFed
 pub mod FedPieces
 pub mod FedLaws
+pub mod Drafts
+pub mod Placements

@@ -11,15 +11,22 @@ use Rattle.bound_tree.specs.declared.node.Kind.{Kind}
 use Rattle.bound_tree.specs.declared.node.Kind.TheVariants.{Branch, Whole, Mean, Tangent}
 use Rattle.bound_tree.specs.declared.node.TreeNode.{TreeNode}
 use Rattle.bound_tree.specs.declared.plan.Plan.{Plan}
-use Rattle.tree_format.specs.PlanText.{numbers, kind_fields, record_row, path_rows, chance_row, count_row, plan_text}
+use Rattle.tree_format.specs.declared.plan_line.TextVersion.{TextVersion}
+use Rattle.tree_format.specs.declared.plan_line.TextVersion.TheVariants.{One, Two}
+use Rattle.tree_format.specs.PlanText.{numbers, kind_fields, written, record_row, first_words, path_rows, chance_row, count_row, text_in}
 use Rattle.tree_format.specs.RecordParts.{letter_of, bound_fields, reference_of}
 
--- `plan 1`, a line feed and `path`; then the names are left
-pub path_begun : (p : Problem) (q old now : List ℕ) → now ≡ old ++ (codes "plan 1" ++ 10 ∷ codes "path") → Stands old now (spaced (map (position_name p) q) ++ 10 ∷ []) (text_of (path_rows p q))
-path_begun p q old now e = record {
+-- `plan 1` or `plan 2`, a line feed and `path`; then the names are left
+pub path_begun : (v : TextVersion) (p : Problem) (q old now : List ℕ) → now ≡ old ++ first_words v → Stands old now (spaced (map (position_name p) q) ++ 10 ∷ []) (text_of (path_rows v p q))
+path_begun One p q old now e = record {
   done = codes "plan 1" ++ 10 ∷ codes "path";
   appended = e;
   whole = ap (λ (x : List ℕ). codes "plan 1" ++ 10 ∷ (x ++ 10 ∷ [])) (join-fields (codes "path") (map (position_name p) q));
+}
+path_begun Two p q old now e = record {
+  done = codes "plan 2" ++ 10 ∷ codes "path";
+  appended = e;
+  whole = ap (λ (x : List ℕ). codes "plan 2" ++ 10 ∷ (x ++ 10 ∷ [])) (join-fields (codes "path") (map (position_name p) q));
 }
 
 -- `chance`; then the value and the weight are left
@@ -43,20 +50,20 @@ kind_text q (Tangent bound reference) =
     ∙ simp (append_assoc, append-nil, flat_map-append)
 
 -- a record's letter; then what stands behind it is left
-pub record_begun : (r : TreeNode) (old now : List ℕ) → now ≡ old ++ letter_of r.kind ∷ [] → Stands old now (after_letter r.kind r.prefix) (text_of (record_row r ∷ []))
-record_begun r old now e = record { done = letter_of r.kind ∷ []; appended = e; whole = kind_text r.prefix r.kind }
+pub record_begun : (v : TextVersion) (r : TreeNode) (old now : List ℕ) → now ≡ old ++ letter_of r.kind ∷ [] → Stands old now (after_letter r.kind (written v r.prefix)) (text_of (record_row v r ∷ []))
+record_begun v r old now e = record { done = letter_of r.kind ∷ []; appended = e; whole = kind_text (written v r.prefix) r.kind }
 
 -- the parts of the whole text
-pub plan_parts : (p : Problem) (plan : Plan) → plan_text p plan
-    ≡ text_of (path_rows p plan.standing.path) ++ (text_of (chance_row plan.standing.value plan.weight ∷ []) ++ (text_of (count_row (length plan.tree) ∷ [])
-    ++ (text_of (map record_row plan.tree) ++ (codes "end" ++ 10 ∷ []))))
-plan_parts p plan =
+pub plan_parts : (v : TextVersion) (p : Problem) (plan : Plan) → text_in v p plan
+    ≡ text_of (path_rows v p plan.standing.path) ++ (text_of (chance_row plan.standing.value plan.weight ∷ []) ++ (text_of (count_row (length plan.tree) ∷ [])
+    ++ (text_of (map (record_row v) plan.tree) ++ (codes "end" ++ 10 ∷ []))))
+plan_parts v p plan =
     let chance = chance_row plan.standing.value plan.weight in
     let count = count_row (length plan.tree) in
-    let records = map record_row plan.tree in
+    let records = map (record_row v) plan.tree in
     let ending : List (List (List ℕ)) = (codes "end" ∷ []) ∷ [] in
-    text_of-append (path_rows p plan.standing.path) (chance ∷ count ∷ (records ++ ending))
-    ∙ ap (λ (x : List ℕ). text_of (path_rows p plan.standing.path) ++ x)
+    text_of-append (path_rows v p plan.standing.path) (chance ∷ count ∷ (records ++ ending))
+    ∙ ap (λ (x : List ℕ). text_of (path_rows v p plan.standing.path) ++ x)
     (text_of-append (chance ∷ []) (count ∷ (records ++ ending))
     ∙ ap (λ (x : List ℕ). text_of (chance ∷ []) ++ x)
     (text_of-append (count ∷ []) (records ++ ending) ∙ ap (λ (x : List ℕ). text_of (count ∷ []) ++ x) (text_of-append records ending)))

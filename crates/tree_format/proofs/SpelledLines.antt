@@ -1,33 +1,52 @@
 -- A line that says something is the row of what it says.
-use Rattle.std.proofs.Common.{◌≡◌, ℕ, zero, suc, ◌<◌, ◌≤◌, ◌+◌, ◌-◌, ◌*◌, ◌^◌, true, false, List, [], ◌∷◌, ◌++◌, map, length, take, drop, Option, Some, None, Result, Ok, Err, refl, sym, ap, subst, ◌∙◌, arith, length-drop, length-append, ◌⊎◌, inl, inr}
-use Rattle.std.specs.Prelude.{codes, nat_le, ◌&&◌, ◌==◌}
+use Rattle.std.proofs.Common.{◌≡◌, ℕ, zero, suc, ◌<◌, ◌≤◌, ◌+◌, ◌-◌, ◌^◌, true, false, List, [], ◌∷◌, ◌++◌, map, length, take, drop, Option, Some, None, Result, Ok, Err, refl, sym, ap, subst, ◌∙◌, arith, length-drop, length-append, ◌⊎◌, inl, inr}
+use Rattle.std.specs.Prelude.{All, codes, nat_le, ◌&&◌, ◌==◌}
 use Rattle.std.specs.Fmt.{decimal}
 use Rattle.std.proofs.lemmas.Bool.{cond_both, and_parts, leb-true, eqb-true, eqb-false}
 use Rattle.std.proofs.lemmas.List.{length-map, take-append-drop}
+use Rattle.std.proofs.lemmas.List.Elements.{All-head}
+use Rattle.search_model.specs.Legal.{IsLegal}
+use Rattle.search_model.proofs.PlainSteps.{positions_follow}
 use Rattle.search_model.specs.Problem.{Problem, IsProblem, position_name}
 use Rattle.bound_tree.specs.declared.node.Kind.{Kind}
 use Rattle.bound_tree.specs.declared.node.Kind.TheVariants.{Branch, Whole, Mean, Tangent}
 use Rattle.bound_tree.specs.declared.node.TreeNode.{TreeNode}
 use Rattle.tree_format.specs.declared.kind.PlanKind.{PlanKind}
-use Rattle.tree_format.specs.declared.kind.PlanKind.TheVariants.{BadLine, BadNumber, UnknownName, TooManyNodes, WrongCount}
+use Rattle.tree_format.specs.declared.kind.PlanKind.TheVariants.{BadLine, BadNumber, UnknownName, TooManyNodes, WrongCount, NoPlace, StillOpen}
+use Rattle.tree_format.specs.declared.plan_line.TextVersion.{TextVersion}
+use Rattle.tree_format.specs.declared.plan_line.TextVersion.TheVariants.{One, Two}
 use Rattle.tree_format.specs.declared.plan_line.PlanLine.{PlanLine}
 use Rattle.tree_format.specs.declared.plan_line.PlanLine.TheVariants.{Version, Path, Chance, Count, Node, End}
 use Rattle.tree_format.specs.declared.record_lines.Bounded.{Bounded}
-use Rattle.tree_format.specs.PlanText.{numbers, kind_fields, record_row, chance_row, count_row, ArePositions, IsPrintableKind, IsPrintableRecord, IsNarrowKind}
-use Rattle.tree_format.specs.Reading.{all_of, amount_in, place_in, position_named, version_line, path_said, path_line, chance_said, chance_line, count_said, count_line, branch_of, branch_line, bounded_of, bounded_line, node_of, tangent_of, tangent_line, node_line, node_said, is_end, end_said, record_line}
+use Rattle.tree_format.specs.PlanText.{numbers, kind_fields, record_row, version_word, version_row, chance_row, count_row, ArePositions, IsPrintableKind, IsPrintableRecord, IsNarrowKind}
+use Rattle.tree_format.specs.Reading.{all_of, amount_in, place_in, position_named, version_line, path_said, path_line, chance_said, chance_line, count_said, count_line, most_cells, branch_of, branch_line, bounded_of, bounded_line, node_of, tangent_of, tangent_line, node_line, placed, node_said, is_end, ending, end_said, record_line}
 use Rattle.text_rows.specs.Fields.{is_word}
 use Rattle.tree_format.proofs.Told.{word_told, amount_told, places_told, names_told}
 use Rattle.text_rows.proofs.Results.{err_ok, same_ok, let_through}
 
--- `plan 1`
-pub version_told : (fields : List (List ℕ)) (said : PlanLine) → version_line fields ≡ Ok said → (fields ≡ codes "plan" ∷ codes "1" ∷ []) × (said ≡ Version)
+-- `plan 1` or `plan 2`
+pub record IsVersionLine (fields : List (List ℕ)) (said : PlanLine) : Type 0 where
+  pub version : TextVersion
+  pub row : fields ≡ version_row version
+  pub is : said ≡ Version version
+
+version_made : (word number : List ℕ) (v : TextVersion) (said : PlanLine) → is_word word (codes "plan") ≡ true → is_word number (version_word v) ≡ true → ◌≡◌ {A = Result PlanLine PlanKind} (Ok (Version v)) (Ok said) → IsVersionLine (word ∷ number ∷ []) said
+version_made word number v said plan which e = record {
+  version = v;
+  row = rw (word_told word (codes "plan") plan, word_told number (version_word v) which) refl;
+  is = sym (same_ok (Version v) said e);
+}
+
+pub version_told : (fields : List (List ℕ)) (said : PlanLine) → version_line fields ≡ Ok said → IsVersionLine fields said
 version_told [] said e = absurd (err_ok BadLine said e)
 version_told (word ∷ []) said e = absurd (err_ok BadLine said e)
-version_told (word ∷ version ∷ []) said e =
-    let through = let_through (is_word word (codes "plan") && is_word version (codes "1")) BadLine (Ok Version) said e in
-    let words = and_parts (is_word word (codes "plan")) (is_word version (codes "1")) through.0 in
-    (rw (word_told word (codes "plan") words.0, word_told version (codes "1") words.1) refl, sym (same_ok Version said through.1))
-version_told (word ∷ version ∷ more ∷ rest) said e = absurd (err_ok BadLine said e)
+version_told (word ∷ number ∷ []) said e =
+    let G : Result PlanLine PlanKind → Type 0 = λ x. x ≡ Ok said → IsVersionLine (word ∷ number ∷ []) said in
+    cond_both (is_word word (codes "plan")) _ _ G
+    (λ plan. cond_both (is_word number (codes "1")) _ _ G (version_made word number One said plan)
+    (λ _. cond_both (is_word number (codes "2")) _ _ G (version_made word number Two said plan) (λ _ e'. absurd (err_ok BadLine said e'))))
+    (λ _ e'. absurd (err_ok BadLine said e')) e
+version_told (word ∷ number ∷ more ∷ rest) said e = absurd (err_ok BadLine said e)
 
 -- `path NAME ..`
 pub record IsPathLine (p : Problem) (fields : List (List ℕ)) (said : PlanLine) : Type 0 where
@@ -120,57 +139,59 @@ count_told (word ∷ n ∷ []) said e =
 count_told (word ∷ n ∷ more ∷ rest) said e = absurd (err_ok BadLine said e)
 
 -- Records.
-pub record IsNodeLine (p : Problem) (fields : List (List ℕ)) (r : TreeNode) : Type 0 where
-  pub row : fields ≡ record_row r
-  pub printable : IsPrintableRecord p r
+pub record IsNodeLine (p : Problem) (most : ℕ) (fields : List (List ℕ)) (r : TreeNode) : Type 0 where
+  pub row : fields ≡ kind_fields r.prefix r.kind
+  pub positions : ArePositions p r.prefix
+  pub short : length r.prefix ≤ most
+  pub kind : IsPrintableKind p r.kind
   pub narrow : IsNarrowKind r.kind
 
 -- a record of this kind, whose prefix the last fields spell
-node_made : (p : Problem) → IsProblem p → (fields : List (List ℕ)) (q : List ℕ) (kind : Kind) (r : TreeNode) → fields ≡ kind_fields q kind → ArePositions p q → length q ≤ p.horizon → IsPrintableKind p kind → IsNarrowKind kind → ◌≡◌ {A = Result TreeNode PlanKind} (Ok (record { prefix = q; kind = kind })) (Ok r) → IsNodeLine p fields r
-node_made p h fields q kind r row positions short k narrow e =
+node_made : (p : Problem) → IsProblem p → (most : ℕ) (fields : List (List ℕ)) (q : List ℕ) (kind : Kind) (r : TreeNode) → fields ≡ kind_fields q kind → ArePositions p q → length q ≤ most → IsPrintableKind p kind → IsNarrowKind kind → ◌≡◌ {A = Result TreeNode PlanKind} (Ok (record { prefix = q; kind = kind })) (Ok r) → IsNodeLine p most fields r
+node_made p h most fields q kind r row positions short k narrow e =
     let made : TreeNode = record { prefix = q; kind = kind } in
-    subst (IsNodeLine p fields) (same_ok made r e) (record { row = row; printable = record { positions = positions; short = short; kind = k }; narrow = narrow })
+    subst (IsNodeLine p most fields) (same_ok made r e) (record { row = row; positions = positions; short = short; kind = k; narrow = narrow })
 
 -- `B`
-branch_made : (p : Problem) → IsProblem p → (letter : List ℕ) (cells : List (List ℕ)) (o : Option (List ℕ)) (r : TreeNode) → letter ≡ codes "B" → length cells ≤ p.horizon → all_of (place_in p) cells ≡ o → branch_of o ≡ Ok r → IsNodeLine p (letter ∷ cells) r
-branch_made p h letter cells None r is short all e = absurd (err_ok BadNumber r e)
-branch_made p h letter cells (Some q) r is short all e =
+branch_made : (p : Problem) → IsProblem p → (most : ℕ) (letter : List ℕ) (cells : List (List ℕ)) (o : Option (List ℕ)) (r : TreeNode) → letter ≡ codes "B" → length cells ≤ most → all_of (place_in p) cells ≡ o → branch_of o ≡ Ok r → IsNodeLine p most (letter ∷ cells) r
+branch_made p h most letter cells None r is short all e = absurd (err_ok BadNumber r e)
+branch_made p h most letter cells (Some q) r is short all e =
     let told = places_told p h cells q all in
     let long : length cells ≡ length q = ap length told.0 ∙ length-map q decimal in
-    node_made p h (letter ∷ cells) q Branch r (rw is (ap (λ (x : List (List ℕ)). codes "B" ∷ x) told.0)) told.1 (omega (arith, long, short)) tt tt e
+    node_made p h most (letter ∷ cells) q Branch r (rw is (ap (λ (x : List (List ℕ)). codes "B" ∷ x) told.0)) told.1 (omega (arith, long, short)) tt tt e
 
-branch_told : (p : Problem) → IsProblem p → (letter : List ℕ) (cells : List (List ℕ)) (r : TreeNode) → letter ≡ codes "B" → branch_line p cells ≡ Ok r → IsNodeLine p (letter ∷ cells) r
-branch_told p h letter cells r is e =
-    let through = let_through (nat_le (length cells) p.horizon) BadLine (branch_of (all_of (place_in p) cells)) r e in
-    branch_made p h letter cells (all_of (place_in p) cells) r is (leb-true _ _ through.0) refl through.1
+branch_told : (p : Problem) → IsProblem p → (most : ℕ) (letter : List ℕ) (cells : List (List ℕ)) (r : TreeNode) → letter ≡ codes "B" → branch_line p most cells ≡ Ok r → IsNodeLine p most (letter ∷ cells) r
+branch_told p h most letter cells r is e =
+    let through = let_through (nat_le (length cells) most) BadLine (branch_of (all_of (place_in p) cells)) r e in
+    branch_made p h most letter cells (all_of (place_in p) cells) r is (leb-true _ _ through.0) refl through.1
 
 -- `W` and `M`
-record IsBounded (p : Problem) (fields : List (List ℕ)) (b : Bounded) : Type 0 where
+record IsBounded (p : Problem) (most : ℕ) (fields : List (List ℕ)) (b : Bounded) : Type 0 where
   row : fields ≡ decimal b.bound ∷ numbers b.prefix
   positions : ArePositions p b.prefix
-  short : length b.prefix ≤ p.horizon
+  short : length b.prefix ≤ most
   narrow : b.bound < 2 ^ 128
 
-bounded_made : (p : Problem) → IsProblem p → (bound : List ℕ) (cells : List (List ℕ)) (n : Option ℕ) (o : Option (List ℕ)) (b : Bounded) → length cells ≤ p.horizon → amount_in bound ≡ n → all_of (place_in p) cells ≡ o → bounded_of n o ≡ Ok b → IsBounded p (bound ∷ cells) b
-bounded_made p h bound cells None o b short a all e = absurd (err_ok BadNumber b e)
-bounded_made p h bound cells (Some n) None b short a all e = absurd (err_ok BadNumber b e)
-bounded_made p h bound cells (Some n) (Some q) b short a all e =
+bounded_made : (p : Problem) → IsProblem p → (most : ℕ) (bound : List ℕ) (cells : List (List ℕ)) (n : Option ℕ) (o : Option (List ℕ)) (b : Bounded) → length cells ≤ most → amount_in bound ≡ n → all_of (place_in p) cells ≡ o → bounded_of n o ≡ Ok b → IsBounded p most (bound ∷ cells) b
+bounded_made p h most bound cells None o b short a all e = absurd (err_ok BadNumber b e)
+bounded_made p h most bound cells (Some n) None b short a all e = absurd (err_ok BadNumber b e)
+bounded_made p h most bound cells (Some n) (Some q) b short a all e =
     let told = places_told p h cells q all in
     let number = amount_told bound n a in
     let long : length cells ≡ length q = ap length told.0 ∙ length-map q decimal in
     let made : Bounded = record { bound = n; prefix = q } in
-    subst (IsBounded p (bound ∷ cells)) (same_ok made b e) (record {
+    subst (IsBounded p most (bound ∷ cells)) (same_ok made b e) (record {
       row = ap (λ (x : List ℕ). x ∷ cells) number.0 ∙ ap (λ (x : List (List ℕ)). decimal n ∷ x) told.0;
       positions = told.1;
       short = omega (arith, long, short);
       narrow = number.1;
     })
 
-bounded_told : (p : Problem) → IsProblem p → (fields : List (List ℕ)) (b : Bounded) → bounded_line p fields ≡ Ok b → IsBounded p fields b
-bounded_told p h [] b e = absurd (err_ok BadLine b e)
-bounded_told p h (bound ∷ cells) b e =
-    let through = let_through (nat_le (length cells) p.horizon) BadLine (bounded_of (amount_in bound) (all_of (place_in p) cells)) b e in
-    bounded_made p h bound cells (amount_in bound) (all_of (place_in p) cells) b (leb-true _ _ through.0) refl refl through.1
+bounded_told : (p : Problem) → IsProblem p → (most : ℕ) (fields : List (List ℕ)) (b : Bounded) → bounded_line p most fields ≡ Ok b → IsBounded p most fields b
+bounded_told p h most [] b e = absurd (err_ok BadLine b e)
+bounded_told p h most (bound ∷ cells) b e =
+    let through = let_through (nat_le (length cells) most) BadLine (bounded_of (amount_in bound) (all_of (place_in p) cells)) b e in
+    bounded_made p h most bound cells (amount_in bound) (all_of (place_in p) cells) b (leb-true _ _ through.0) refl refl through.1
 
 -- a kind that has such a line behind its letter
 record HasLetter (p : Problem) (letter : List ℕ) (kind : ℕ → Kind) : Type 0 where
@@ -184,19 +205,19 @@ whole_letter p = record { fields = λ q n. refl; printable = λ n. tt; narrow = 
 mean_letter : (p : Problem) → HasLetter p (codes "M") (λ n. Mean n)
 mean_letter p = record { fields = λ q n. refl; printable = λ n. tt; narrow = λ n small. small }
 
-lettered : (p : Problem) → IsProblem p → (letter word : List ℕ) (fields : List (List ℕ)) (kind : ℕ → Kind) (o : Result Bounded PlanKind) (r : TreeNode) → HasLetter p word kind → letter ≡ word → bounded_line p fields ≡ o → node_of kind o ≡ Ok r → IsNodeLine p (letter ∷ fields) r
-lettered p h letter word fields kind (Err k) r has is line e = absurd (err_ok k r e)
-lettered p h letter word fields kind (Ok b) r has is line e =
-    let told = bounded_told p h fields b line in
-    node_made p h (letter ∷ fields) b.prefix (kind b.bound) r (ap (λ (x : List ℕ). x ∷ fields) is ∙ ap (λ (x : List (List ℕ)). word ∷ x) told.row ∙ sym (has.fields b.prefix b.bound))
+lettered : (p : Problem) → IsProblem p → (most : ℕ) (letter word : List ℕ) (fields : List (List ℕ)) (kind : ℕ → Kind) (o : Result Bounded PlanKind) (r : TreeNode) → HasLetter p word kind → letter ≡ word → bounded_line p most fields ≡ o → node_of kind o ≡ Ok r → IsNodeLine p most (letter ∷ fields) r
+lettered p h most letter word fields kind (Err k) r has is line e = absurd (err_ok k r e)
+lettered p h most letter word fields kind (Ok b) r has is line e =
+    let told = bounded_told p h most fields b line in
+    node_made p h most (letter ∷ fields) b.prefix (kind b.bound) r (ap (λ (x : List ℕ). x ∷ fields) is ∙ ap (λ (x : List (List ℕ)). word ∷ x) told.row ∙ sym (has.fields b.prefix b.bound))
     told.positions told.short (has.printable b.bound) (has.narrow b.bound told.narrow) e
 
 -- `T`
-tangent_made : (p : Problem) → IsProblem p → (letter bound : List ℕ) (cells : List (List ℕ)) (n : Option ℕ) (o u : Option (List ℕ)) (r : TreeNode) → letter ≡ codes "T" → p.horizon ≤ length cells → length cells ≤ 2 * p.horizon → amount_in bound ≡ n → all_of (place_in p) (take (length cells - p.horizon) cells) ≡ o → all_of (place_in p) (drop (length cells - p.horizon) cells) ≡ u → tangent_of n o u ≡ Ok r → IsNodeLine p (letter ∷ bound ∷ cells) r
-tangent_made p h letter bound cells None o u r is low high a front back e = absurd (err_ok BadNumber r e)
-tangent_made p h letter bound cells (Some n) None u r is low high a front back e = absurd (err_ok BadNumber r e)
-tangent_made p h letter bound cells (Some n) (Some q) None r is low high a front back e = absurd (err_ok BadNumber r e)
-tangent_made p h letter bound cells (Some n) (Some q) (Some x) r is low high a front back e =
+tangent_made : (p : Problem) → IsProblem p → (most : ℕ) (letter bound : List ℕ) (cells : List (List ℕ)) (n : Option ℕ) (o u : Option (List ℕ)) (r : TreeNode) → letter ≡ codes "T" → p.horizon ≤ length cells → length cells ≤ most + p.horizon → amount_in bound ≡ n → all_of (place_in p) (take (length cells - p.horizon) cells) ≡ o → all_of (place_in p) (drop (length cells - p.horizon) cells) ≡ u → tangent_of n o u ≡ Ok r → IsNodeLine p most (letter ∷ bound ∷ cells) r
+tangent_made p h most letter bound cells None o u r is low high a front back e = absurd (err_ok BadNumber r e)
+tangent_made p h most letter bound cells (Some n) None u r is low high a front back e = absurd (err_ok BadNumber r e)
+tangent_made p h most letter bound cells (Some n) (Some q) None r is low high a front back e = absurd (err_ok BadNumber r e)
+tangent_made p h most letter bound cells (Some n) (Some q) (Some x) r is low high a front back e =
     let k = length cells - p.horizon in
     let own = places_told p h (take k cells) q front in
     let reference = places_told p h (drop k cells) x back in
@@ -204,62 +225,127 @@ tangent_made p h letter bound cells (Some n) (Some q) (Some x) r is low high a f
     let whole : cells ≡ numbers q ++ numbers x = sym (take-append-drop k cells) ∙ ap (λ (y : List (List ℕ)). y ++ drop k cells) own.0 ∙ ap (λ (y : List (List ℕ)). numbers q ++ y) reference.0 in
     let behind : length x ≡ length cells - k = sym (length-map x decimal) ∙ sym (ap length reference.0) ∙ length-drop k cells in
     let both : length cells ≡ length q + length x = ap length whole ∙ simp (length-append, length-map) in
-    node_made p h (letter ∷ bound ∷ cells) q (Tangent n x) r
+    node_made p h most (letter ∷ bound ∷ cells) q (Tangent n x) r
     (ap (λ (y : List ℕ). y ∷ bound ∷ cells) is ∙ ap (λ (y : List ℕ). codes "T" ∷ y ∷ cells) number.0 ∙ ap (λ (y : List (List ℕ)). codes "T" ∷ decimal n ∷ y) whole)
     own.1 (omega (arith, behind, both, low, high)) (reference.1, omega (arith, behind, low)) number.1 e
 
-tangent_told : (p : Problem) → IsProblem p → (letter : List ℕ) (fields : List (List ℕ)) (r : TreeNode) → letter ≡ codes "T" → tangent_line p fields ≡ Ok r → IsNodeLine p (letter ∷ fields) r
-tangent_told p h letter [] r is e = absurd (err_ok BadLine r e)
-tangent_told p h letter (bound ∷ cells) r is e =
+tangent_told : (p : Problem) → IsProblem p → (most : ℕ) (letter : List ℕ) (fields : List (List ℕ)) (r : TreeNode) → letter ≡ codes "T" → tangent_line p most fields ≡ Ok r → IsNodeLine p most (letter ∷ fields) r
+tangent_told p h most letter [] r is e = absurd (err_ok BadLine r e)
+tangent_told p h most letter (bound ∷ cells) r is e =
     let k = length cells - p.horizon in
-    let through = let_through (nat_le p.horizon (length cells) && nat_le (length cells) (2 * p.horizon)) BadLine _ r e in
-    let within = and_parts (nat_le p.horizon (length cells)) (nat_le (length cells) (2 * p.horizon)) through.0 in
-    tangent_made p h letter bound cells (amount_in bound) (all_of (place_in p) (take k cells)) (all_of (place_in p) (drop k cells)) r is (leb-true _ _ within.0) (leb-true _ _ within.1) refl refl refl through.1
+    let through = let_through (nat_le p.horizon (length cells) && nat_le (length cells) (most + p.horizon)) BadLine _ r e in
+    let within = and_parts (nat_le p.horizon (length cells)) (nat_le (length cells) (most + p.horizon)) through.0 in
+    tangent_made p h most letter bound cells (amount_in bound) (all_of (place_in p) (take k cells)) (all_of (place_in p) (drop k cells)) r is (leb-true _ _ within.0) (leb-true _ _ within.1) refl refl refl through.1
 
-pub node_told : (p : Problem) → IsProblem p → (fields : List (List ℕ)) (r : TreeNode) → node_line p fields ≡ Ok r → IsNodeLine p fields r
-node_told p h [] r e = absurd (err_ok BadLine r e)
-node_told p h (letter ∷ fields) r e =
-    let G : Result TreeNode PlanKind → Type 0 = λ x. x ≡ Ok r → IsNodeLine p (letter ∷ fields) r in
-    cond_both (is_word letter (codes "B")) _ _ G (λ is. branch_told p h letter fields r (word_told letter (codes "B") is))
-    (λ _. cond_both (is_word letter (codes "W")) _ _ G (λ is. lettered p h letter (codes "W") fields (λ n. Whole n) (bounded_line p fields) r (whole_letter p) (word_told letter (codes "W") is) refl)
-    (λ _. cond_both (is_word letter (codes "M")) _ _ G (λ is. lettered p h letter (codes "M") fields (λ n. Mean n) (bounded_line p fields) r (mean_letter p) (word_told letter (codes "M") is) refl)
-    (λ _. cond_both (is_word letter (codes "T")) _ _ G (λ is. tangent_told p h letter fields r (word_told letter (codes "T") is)) (λ _ e'. absurd (err_ok BadLine r e'))))) e
+pub node_told : (p : Problem) → IsProblem p → (most : ℕ) (fields : List (List ℕ)) (r : TreeNode) → node_line p most fields ≡ Ok r → IsNodeLine p most fields r
+node_told p h most [] r e = absurd (err_ok BadLine r e)
+node_told p h most (letter ∷ fields) r e =
+    let G : Result TreeNode PlanKind → Type 0 = λ x. x ≡ Ok r → IsNodeLine p most (letter ∷ fields) r in
+    cond_both (is_word letter (codes "B")) _ _ G (λ is. branch_told p h most letter fields r (word_told letter (codes "B") is))
+    (λ _. cond_both (is_word letter (codes "W")) _ _ G (λ is. lettered p h most letter (codes "W") fields (λ n. Whole n) (bounded_line p most fields) r (whole_letter p) (word_told letter (codes "W") is) refl)
+    (λ _. cond_both (is_word letter (codes "M")) _ _ G (λ is. lettered p h most letter (codes "M") fields (λ n. Mean n) (bounded_line p most fields) r (mean_letter p) (word_told letter (codes "M") is) refl)
+    (λ _. cond_both (is_word letter (codes "T")) _ _ G (λ is. tangent_told p h most letter fields r (word_told letter (codes "T") is)) (λ _ e'. absurd (err_ok BadLine r e'))))) e
+
+-- a record has the prefix that is expected next, where the text leaves prefixes out
+abbrev pub HasPlace : TextVersion → List (List ℕ) → List ℕ → Type 0
+HasPlace One expected q = Unit {0}
+HasPlace Two [] q = ⊥
+HasPlace Two (x ∷ expected) q = q ≡ x
+
+-- where it has them, they are right in themselves
+abbrev pub IsWritten : TextVersion → Problem → List ℕ → Type 0
+IsWritten One p q = ArePositions p q × (length q ≤ p.horizon)
+IsWritten Two p q = Unit {0}
 
 -- a record where one is left
-pub record IsRecordLine (p : Problem) (left : ℕ) (fields : List (List ℕ)) (said : PlanLine) : Type 0 where
+pub record IsRecordLine (p : Problem) (v : TextVersion) (left : ℕ) (expected fields : List (List ℕ)) (said : PlanLine) : Type 0 where
   pub node : TreeNode
-  pub line : IsNodeLine p fields node
+  pub row : fields ≡ record_row v node
+  pub written : IsWritten v p node.prefix
+  pub place : HasPlace v expected node.prefix
+  pub kind : IsPrintableKind p node.kind
+  pub narrow : IsNarrowKind node.kind
   pub is : said ≡ Node node
   pub more : 1 ≤ left
 
+-- so it can be printed, where what is expected is legal
+pub record_printable : (p : Problem) → IsProblem p → (v : TextVersion) (left : ℕ) (expected fields : List (List ℕ)) (said : PlanLine) → All (IsLegal p) expected → (line : IsRecordLine p v left expected fields said) → IsPrintableRecord p line.node
+record_printable p h One left expected fields said legal line = record { positions = line.written.0; short = line.written.1; kind = line.kind }
+record_printable p h Two left [] fields said legal line = absurd line.place
+record_printable p h Two left (q ∷ expected) fields said legal line =
+    let first : IsLegal p q = All-head (IsLegal p) q expected legal in
+    let here : IsLegal p line.node.prefix = subst (IsLegal p) (sym line.place) first in
+    record {
+      positions = positions_follow p h p.start (omega (arith, h.start, h.grid_positions)) line.node.prefix here.follows;
+      short = here.short;
+      kind = line.kind;
+    }
+
 -- or `end` where none is
-pub record IsEndLine (left : ℕ) (fields : List (List ℕ)) (said : PlanLine) : Type 0 where
+pub record IsEndLine (v : TextVersion) (left : ℕ) (expected fields : List (List ℕ)) (said : PlanLine) : Type 0 where
   pub row : fields ≡ codes "end" ∷ []
   pub is : said ≡ End
   pub none : left ≡ 0
+  pub closed : v ≡ Two → expected ≡ []
 
 end_fields : (fields : List (List ℕ)) → is_end fields ≡ true → fields ≡ codes "end" ∷ []
 end_fields [] e = absurd (let bad : ⊥ = cc in bad)
 end_fields (word ∷ []) e = ap (λ (x : List ℕ). x ∷ []) (word_told word (codes "end") e)
 end_fields (word ∷ more ∷ rest) e = absurd (let bad : ⊥ = cc in bad)
 
-node_left : (p : Problem) → IsProblem p → (left : ℕ) (fields : List (List ℕ)) (o : Result TreeNode PlanKind) (said : PlanLine) → node_line p fields ≡ o → node_said left o ≡ Ok said → IsRecordLine p left fields said
-node_left p h left fields (Err kind) said line e = absurd (err_ok kind said e)
-node_left p h left fields (Ok r) said line e =
-    cond_both (left == 0) (Err WrongCount) (Ok (Node r)) (λ (x : Result PlanLine PlanKind). x ≡ Ok said → IsRecordLine p left fields said)
+positive : (n : ℕ) → (n == 0) ≡ false → 1 ≤ n
+positive zero none = absurd (eqb-false 0 0 none refl)
+positive (suc n) none = omega arith
+
+no_cells : (q : List ℕ) → length q ≤ 0 → q ≡ []
+no_cells [] short = refl
+no_cells (a ∷ q) short = absurd (omega (arith, short))
+
+-- a record of a line that has a place
+node_placed : (p : Problem) (v : TextVersion) (left : ℕ) (expected fields : List (List ℕ)) (r : TreeNode) (said : PlanLine) → IsNodeLine p (most_cells p v) fields r → 1 ≤ left → placed v expected r ≡ Ok said → IsRecordLine p v left expected fields said
+node_placed p One left expected fields r said line some e = record {
+  node = r;
+  row = line.row;
+  written = (line.positions, line.short);
+  place = tt;
+  kind = line.kind;
+  narrow = line.narrow;
+  is = sym (same_ok (Node r) said e);
+  more = some;
+}
+node_placed p Two left [] fields r said line some e = absurd (err_ok NoPlace said e)
+node_placed p Two left (q ∷ expected) fields r said line some e =
+    let here : TreeNode = record { prefix = q; kind = r.kind } in
+    record {
+      node = here;
+      row = line.row ∙ ap (λ (x : List ℕ). kind_fields x r.kind) (no_cells r.prefix line.short);
+      written = tt;
+      place = refl;
+      kind = line.kind;
+      narrow = line.narrow;
+      is = sym (same_ok (Node here) said e);
+      more = some;
+    }
+
+node_left : (p : Problem) → IsProblem p → (v : TextVersion) (left : ℕ) (expected fields : List (List ℕ)) (o : Result TreeNode PlanKind) (said : PlanLine) → node_line p (most_cells p v) fields ≡ o → node_said v left expected o ≡ Ok said → IsRecordLine p v left expected fields said
+node_left p h v left expected fields (Err kind) said line e = absurd (err_ok kind said e)
+node_left p h v left expected fields (Ok r) said line e =
+    cond_both (left == 0) (Err WrongCount) (placed v expected r) (λ (x : Result PlanLine PlanKind). x ≡ Ok said → IsRecordLine p v left expected fields said)
     (λ _ e'. absurd (err_ok WrongCount said e'))
-    (λ some e'. record { node = r; line = node_told p h fields r line; is = sym (same_ok (Node r) said e'); more = positive left some }) e
-  where
-    positive : (n : ℕ) → (n == 0) ≡ false → 1 ≤ n
-    positive zero none = absurd (eqb-false 0 0 none refl)
-    positive (suc n) none = omega arith
+    (λ some e'. node_placed p v left expected fields r said (node_told p h (most_cells p v) fields r line) (positive left some) e') e
 
-end_left : (left : ℕ) (fields : List (List ℕ)) (said : PlanLine) → is_end fields ≡ true → end_said left ≡ Ok said → IsEndLine left fields said
-end_left left fields said is e =
-    let through = let_through (left == 0) WrongCount (Ok End) said e in
-    record { row = end_fields fields is; is = sym (same_ok End said through.1); none = eqb-true left 0 through.0 }
+end_closed : (v : TextVersion) (expected : List (List ℕ)) (said : PlanLine) → ending v expected ≡ Ok said → (said ≡ End) × (v ≡ Two → expected ≡ [])
+end_closed One expected said e = (sym (same_ok End said e), λ two. absurd (let bad : ⊥ = cc in bad))
+end_closed Two [] said e = (sym (same_ok End said e), λ _. refl)
+end_closed Two (q ∷ expected) said e = absurd (err_ok StillOpen said e)
 
-pub record_told : (p : Problem) → IsProblem p → (left : ℕ) (fields : List (List ℕ)) (said : PlanLine) → record_line p left fields ≡ Ok said → IsRecordLine p left fields said ⊎ IsEndLine left fields said
-record_told p h left fields said e =
-    cond_both (is_end fields) (end_said left) (node_said left (node_line p fields)) (λ (x : Result PlanLine PlanKind). x ≡ Ok said → IsRecordLine p left fields said ⊎ IsEndLine left fields said)
-    (λ is e'. inr (end_left left fields said is e')) (λ _ e'. inl (node_left p h left fields (node_line p fields) said refl e')) e
+end_left : (v : TextVersion) (left : ℕ) (expected fields : List (List ℕ)) (said : PlanLine) → is_end fields ≡ true → end_said v left expected ≡ Ok said → IsEndLine v left expected fields said
+end_left v left expected fields said is e =
+    let through = let_through (left == 0) WrongCount (ending v expected) said e in
+    let closed = end_closed v expected said through.1 in
+    record { row = end_fields fields is; is = closed.0; none = eqb-true left 0 through.0; closed = closed.1 }
+
+pub record_told : (p : Problem) → IsProblem p → (v : TextVersion) (left : ℕ) (expected fields : List (List ℕ)) (said : PlanLine) → record_line p v left expected fields ≡ Ok said → IsRecordLine p v left expected fields said ⊎ IsEndLine v left expected fields said
+record_told p h v left expected fields said e =
+    cond_both (is_end fields) (end_said v left expected) (node_said v left expected (node_line p (most_cells p v) fields)) (λ (x : Result PlanLine PlanKind). x ≡ Ok said → IsRecordLine p v left expected fields said ⊎ IsEndLine v left expected fields said)
+    (λ is e'. inr (end_left v left expected fields said is e')) (λ _ e'. inl (node_left p h v left expected fields (node_line p (most_cells p v) fields) said refl e')) e

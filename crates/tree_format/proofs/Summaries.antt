@@ -1,5 +1,5 @@
 -- A line is judged by the first 40 bytes of each of its first 70 fields.
-use Rattle.std.proofs.Common.{◌≡◌, ℕ, ◌<◌, ◌≤◌, ◌-◌, ◌*◌, ◌^◌, Bool, true, false, cond, List, [], ◌∷◌, map, length, get_or, take, drop, Option, None, Result, Err, refl, sym, ap, subst, ◌∙◌, arith, inl, inr}
+use Rattle.std.proofs.Common.{◌≡◌, ℕ, ◌<◌, ◌≤◌, ◌-◌, ◌+◌, ◌^◌, Bool, true, false, cond, List, [], ◌∷◌, map, length, get_or, take, drop, Option, None, Result, Err, refl, sym, ap, subst, ◌∙◌, arith, inl, inr}
 use Rattle.std.specs.Prelude.{codes, nat_le, ◌==◌}
 use Rattle.std.specs.List.{list_any}
 use Rattle.std.specs.Str.{bytes_eq}
@@ -18,10 +18,13 @@ use Rattle.search_model.specs.Problem.{Problem, IsProblem}
 use Rattle.bound_tree.specs.declared.node.TreeNode.{TreeNode}
 use Rattle.tree_format.specs.declared.kind.PlanKind.{PlanKind}
 use Rattle.tree_format.specs.declared.kind.PlanKind.TheVariants.{BadLine}
+use Rattle.tree_format.specs.declared.due.Due.{Due}
+use Rattle.tree_format.specs.declared.plan_line.TextVersion.{TextVersion}
+use Rattle.tree_format.specs.declared.plan_line.TextVersion.TheVariants.{One, Two}
 use Rattle.tree_format.specs.declared.plan_line.Stage.{Stage}
 use Rattle.tree_format.specs.declared.plan_line.Stage.TheVariants as due
 use Rattle.tree_format.specs.declared.plan_line.PlanLine.{PlanLine}
-use Rattle.tree_format.specs.Reading.{said, amount_in, place_in, position_named, all_of, version_line, path_line, chance_line, count_line, branch_line, bounded_line, tangent_line, node_line, is_end, record_line, stage_line, line_at}
+use Rattle.tree_format.specs.Reading.{said, amount_in, place_in, position_named, all_of, version_line, path_line, chance_line, count_line, most_cells, branch_line, bounded_line, tangent_line, node_line, is_end, record_line, stage_line, line_at}
 use Rattle.text_rows.specs.Fields.{is_word}
 use Rattle.list_laws.proofs.Firsts.{position-none}
 use Rattle.tree_format.specs.ReadingLaws.{SummaryDecides}
@@ -85,7 +88,7 @@ module _ (p : Problem) (h : IsProblem p) where
   front_version : (fs : List (List ℕ)) → version_line (map front fs) ≡ version_line fs
   front_version [] = refl
   front_version (f ∷ []) = refl
-  front_version (f ∷ g ∷ []) = rw (front_word f (codes "plan") (omega arith), front_word g (codes "1") (omega arith)) refl
+  front_version (f ∷ g ∷ []) = rw (front_word f (codes "plan") (omega arith), front_word g (codes "1") (omega arith), front_word g (codes "2") (omega arith)) refl
   front_version (f ∷ g ∷ more ∷ rest) = refl
 
   front_path : (fs : List (List ℕ)) → path_line p (map front fs) ≡ path_line p fs
@@ -105,40 +108,40 @@ module _ (p : Problem) (h : IsProblem p) where
   front_count (f ∷ n ∷ []) = rw (front_word f (codes "nodes") (omega arith), front_amount n) refl
   front_count (f ∷ n ∷ more ∷ rest) = refl
 
-  front_branch : (fs : List (List ℕ)) → branch_line p (map front fs) ≡ branch_line p fs
-  front_branch fs = rw (length-map fs front, front_places fs) refl
+  front_branch : (most : ℕ) (fs : List (List ℕ)) → branch_line p most (map front fs) ≡ branch_line p most fs
+  front_branch most fs = rw (length-map fs front, front_places fs) refl
 
-  front_bounded : (fs : List (List ℕ)) → bounded_line p (map front fs) ≡ bounded_line p fs
-  front_bounded [] = refl
-  front_bounded (n ∷ fs) = rw (length-map fs front, front_amount n, front_places fs) refl
+  front_bounded : (most : ℕ) (fs : List (List ℕ)) → bounded_line p most (map front fs) ≡ bounded_line p most fs
+  front_bounded most [] = refl
+  front_bounded most (n ∷ fs) = rw (length-map fs front, front_amount n, front_places fs) refl
 
-  front_tangent : (fs : List (List ℕ)) → tangent_line p (map front fs) ≡ tangent_line p fs
-  front_tangent [] = refl
-  front_tangent (n ∷ fs) =
+  front_tangent : (most : ℕ) (fs : List (List ℕ)) → tangent_line p most (map front fs) ≡ tangent_line p most fs
+  front_tangent most [] = refl
+  front_tangent most (n ∷ fs) =
       let k = length fs - p.horizon in
       rw (length-map fs front, front_amount n, take-map front k fs, drop-map front k fs, front_places (take k fs), front_places (drop k fs)) refl
 
-  front_node : (fs : List (List ℕ)) → node_line p (map front fs) ≡ node_line p fs
-  front_node [] = refl
-  front_node (f ∷ fs) =
-      rw (front_word f (codes "B") (omega arith), front_word f (codes "W") (omega arith), front_word f (codes "M") (omega arith), front_word f (codes "T") (omega arith), front_branch fs, front_bounded fs, front_tangent fs) refl
+  front_node : (most : ℕ) (fs : List (List ℕ)) → node_line p most (map front fs) ≡ node_line p most fs
+  front_node most [] = refl
+  front_node most (f ∷ fs) =
+      rw (front_word f (codes "B") (omega arith), front_word f (codes "W") (omega arith), front_word f (codes "M") (omega arith), front_word f (codes "T") (omega arith), front_branch most fs, front_bounded most fs, front_tangent most fs) refl
 
   front_end : (fs : List (List ℕ)) → is_end (map front fs) ≡ is_end fs
   front_end [] = refl
   front_end (f ∷ []) = front_word f (codes "end") (omega arith)
   front_end (f ∷ more ∷ rest) = refl
 
-  front_stage : (stage : Stage) (fs : List (List ℕ)) → stage_line p stage (map front fs) ≡ stage_line p stage fs
-  front_stage due.Version fs = front_version fs
-  front_stage due.Path fs = front_path fs
-  front_stage due.Chance fs = front_chance fs
-  front_stage due.Count fs = front_count fs
-  front_stage (due.Records left) fs = rw (front_end fs, front_node fs) refl
-  front_stage due.Ended fs = refl
+  front_stage : (v : TextVersion) (stage : Stage) (expected fs : List (List ℕ)) → stage_line p v stage expected (map front fs) ≡ stage_line p v stage expected fs
+  front_stage v due.Version expected fs = front_version fs
+  front_stage v due.Path expected fs = front_path fs
+  front_stage v due.Chance expected fs = front_chance fs
+  front_stage v due.Count expected fs = front_count fs
+  front_stage v (due.Records left) expected fs = rw (front_end fs, front_node (most_cells p v) fs) refl
+  front_stage v due.Ended expected fs = refl
 
-  front_line : (stage : Stage) (fs : List (List ℕ)) → line_at p stage (map front fs) ≡ line_at p stage fs
+  front_line : (d : Due) (fs : List (List ℕ)) → line_at p d (map front fs) ≡ line_at p d fs
   unfolding line_at
-  front_line stage fs = rw (front_any fs, front_stage stage fs) refl
+  front_line d fs = rw (front_any fs, front_stage d.version d.stage d.expected fs) refl
 
   -- No line has so many fields.
   no_path : (fs : List (List ℕ)) → 67 ≤ length fs → path_line p fs ≡ Err BadLine
@@ -146,17 +149,17 @@ module _ (p : Problem) (h : IsProblem p) where
   no_path (f ∷ fs) long =
       rw (lt-leb (length fs) 32 (omega (arith, long)), and-false (nat_le 1 (length fs)), and-false (is_word f (codes "path"))) refl
 
-  no_branch : (fs : List (List ℕ)) → 66 ≤ length fs → branch_line p fs ≡ Err BadLine
-  no_branch fs long = rw (lt-leb (length fs) p.horizon (omega (arith, long, h.horizon.1))) refl
+  no_branch : (most : ℕ) → most ≤ 32 → (fs : List (List ℕ)) → 66 ≤ length fs → branch_line p most fs ≡ Err BadLine
+  no_branch most few fs long = rw (lt-leb (length fs) most (omega (arith, long, few))) refl
 
-  no_bounded : (fs : List (List ℕ)) → 66 ≤ length fs → bounded_line p fs ≡ Err BadLine
-  no_bounded [] long = absurd (omega arith)
-  no_bounded (n ∷ fs) long = rw (lt-leb (length fs) p.horizon (omega (arith, long, h.horizon.1))) refl
+  no_bounded : (most : ℕ) → most ≤ 32 → (fs : List (List ℕ)) → 66 ≤ length fs → bounded_line p most fs ≡ Err BadLine
+  no_bounded most few [] long = absurd (omega arith)
+  no_bounded most few (n ∷ fs) long = rw (lt-leb (length fs) most (omega (arith, long, few))) refl
 
-  no_tangent : (fs : List (List ℕ)) → 66 ≤ length fs → tangent_line p fs ≡ Err BadLine
-  no_tangent [] long = absurd (omega arith)
-  no_tangent (n ∷ fs) long =
-      rw (lt-leb (length fs) (2 * p.horizon) (omega (arith, long, h.horizon.1)), and-false (nat_le p.horizon (length fs))) refl
+  no_tangent : (most : ℕ) → most ≤ 32 → (fs : List (List ℕ)) → 66 ≤ length fs → tangent_line p most fs ≡ Err BadLine
+  no_tangent most few [] long = absurd (omega arith)
+  no_tangent most few (n ∷ fs) long =
+      rw (lt-leb (length fs) (most + p.horizon) (omega (arith, long, few, h.horizon.1)), and-false (nat_le p.horizon (length fs))) refl
 
   no_letter : (b w m t : Bool) → ◌≡◌ {A = Result TreeNode PlanKind} (cond b (Err BadLine) (cond w (Err BadLine) (cond m (Err BadLine) (cond t (Err BadLine) (Err BadLine))))) (Err BadLine)
   no_letter true w m t = refl
@@ -165,16 +168,20 @@ module _ (p : Problem) (h : IsProblem p) where
   no_letter false false false true = refl
   no_letter false false false false = refl
 
-  no_node : (fs : List (List ℕ)) → 67 ≤ length fs → node_line p fs ≡ Err BadLine
-  no_node [] long = absurd (omega arith)
-  no_node (f ∷ fs) long =
+  no_node : (most : ℕ) → most ≤ 32 → (fs : List (List ℕ)) → 67 ≤ length fs → node_line p most fs ≡ Err BadLine
+  no_node most few [] long = absurd (omega arith)
+  no_node most few (f ∷ fs) long =
       let more : 66 ≤ length fs = omega (arith, long) in
-      rw (no_branch fs more, no_bounded fs more, no_tangent fs more) (no_letter (is_word f (codes "B")) (is_word f (codes "W")) (is_word f (codes "M")) (is_word f (codes "T")))
+      rw (no_branch most few fs more, no_bounded most few fs more, no_tangent most few fs more) (no_letter (is_word f (codes "B")) (is_word f (codes "W")) (is_word f (codes "M")) (is_word f (codes "T")))
 
-  no_record : (left : ℕ) (fs : List (List ℕ)) → 67 ≤ length fs → record_line p left fs ≡ Err BadLine
-  no_record left [] long = absurd (omega arith)
-  no_record left (f ∷ []) long = absurd (omega arith)
-  no_record left (f ∷ g ∷ fs) long = rw (no_node (f ∷ g ∷ fs) long) refl
+  few_cells : (v : TextVersion) → most_cells p v ≤ 32
+  few_cells One = h.horizon.1
+  few_cells Two = omega arith
+
+  no_record : (v : TextVersion) (left : ℕ) (expected fs : List (List ℕ)) → 67 ≤ length fs → record_line p v left expected fs ≡ Err BadLine
+  no_record v left expected [] long = absurd (omega arith)
+  no_record v left expected (f ∷ []) long = absurd (omega arith)
+  no_record v left expected (f ∷ g ∷ fs) long = rw (no_node (most_cells p v) (few_cells v) (f ∷ g ∷ fs) long) refl
 
   no_version : (fs : List (List ℕ)) → 67 ≤ length fs → version_line fs ≡ Err BadLine
   no_version [] long = refl
@@ -195,24 +202,24 @@ module _ (p : Problem) (h : IsProblem p) where
   no_count (f ∷ n ∷ []) long = absurd (omega arith)
   no_count (f ∷ n ∷ more ∷ rest) long = refl
 
-  no_stage : (stage : Stage) (fs : List (List ℕ)) → 67 ≤ length fs → stage_line p stage fs ≡ Err BadLine
-  no_stage due.Version fs long = no_version fs long
-  no_stage due.Path fs long = no_path fs long
-  no_stage due.Chance fs long = no_chance fs long
-  no_stage due.Count fs long = no_count fs long
-  no_stage (due.Records left) fs long = no_record left fs long
-  no_stage due.Ended fs long = refl
+  no_stage : (v : TextVersion) (stage : Stage) (expected fs : List (List ℕ)) → 67 ≤ length fs → stage_line p v stage expected fs ≡ Err BadLine
+  no_stage v due.Version expected fs long = no_version fs long
+  no_stage v due.Path expected fs long = no_path fs long
+  no_stage v due.Chance expected fs long = no_chance fs long
+  no_stage v due.Count expected fs long = no_count fs long
+  no_stage v (due.Records left) expected fs long = no_record v left expected fs long
+  no_stage v due.Ended expected fs long = refl
 
-  no_line : (stage : Stage) (fs : List (List ℕ)) → 67 ≤ length fs → line_at p stage fs ≡ Err BadLine
+  no_line : (d : Due) (fs : List (List ℕ)) → 67 ≤ length fs → line_at p d fs ≡ Err BadLine
   unfolding line_at
-  no_line stage fs long =
-      cond_both (list_any (λ f. length f == 0) fs) (Err BadLine) (stage_line p stage fs) (λ (x : Result PlanLine PlanKind). x ≡ Err BadLine) (λ _. refl) (λ _. no_stage stage fs long)
+  no_line d fs long =
+      cond_both (list_any (λ f. length f == 0) fs) (Err BadLine) (stage_line p d.version d.stage d.expected fs) (λ (x : Result PlanLine PlanKind). x ≡ Err BadLine) (λ _. refl) (λ _. no_stage d.version d.stage d.expected fs long)
 
-  first_decide : (stage : Stage) (fs : List (List ℕ)) → line_at p stage (take 70 fs) ≡ line_at p stage fs
-  first_decide stage fs = elim (cases_lt 70 (length fs)) [
-    | inl lt ↦ no_line stage (take 70 fs) (omega (arith, length-take-le 70 fs (omega arith))) ∙ sym (no_line stage fs (omega arith))
-    | inr le ↦ ap (line_at p stage) (take_all 70 fs le)
+  first_decide : (d : Due) (fs : List (List ℕ)) → line_at p d (take 70 fs) ≡ line_at p d fs
+  first_decide d fs = elim (cases_lt 70 (length fs)) [
+    | inl lt ↦ no_line d (take 70 fs) (omega (arith, length-take-le 70 fs (omega arith))) ∙ sym (no_line d fs (omega arith))
+    | inr le ↦ ap (line_at p d) (take_all 70 fs le)
   ]
 
 pub summary_decides : SummaryDecides
-summary_decides p stage fields h = front_line p h stage (take 70 fields) ∙ first_decide p h stage fields
+summary_decides p d fields h = front_line p h d (take 70 fields) ∙ first_decide p h d fields

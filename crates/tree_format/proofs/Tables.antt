@@ -1,5 +1,5 @@
 -- A line has the fault that the table of kinds gives.
-use Rattle.std.proofs.Common.{◌≡◌, ℕ, ◌-◌, ◌*◌, Bool, true, false, cond, List, [], ◌∷◌, length, take, drop, Option, Some, None, Result, Ok, Err, refl, sym, ap, subst, ◌∙◌}
+use Rattle.std.proofs.Common.{◌≡◌, ℕ, ◌-◌, ◌+◌, Bool, true, false, cond, List, [], ◌∷◌, length, take, drop, Option, Some, None, Result, Ok, Err, refl, sym, ap, subst, ◌∙◌}
 use Rattle.std.specs.Prelude.{not, ◌&&◌, ◌||◌, ◌==◌, nat_le, is_none, unwrap_or, codes}
 use Rattle.std.specs.List.{list_any}
 use Rattle.std.proofs.lemmas.List.{take-append-drop}
@@ -9,15 +9,17 @@ use Rattle.bound_tree.specs.declared.node.Kind.{Kind}
 use Rattle.bound_tree.specs.declared.node.Kind.TheVariants.{Branch, Whole, Mean, Tangent}
 use Rattle.bound_tree.specs.declared.node.TreeNode.{TreeNode}
 use Rattle.tree_format.specs.declared.kind.PlanKind.{PlanKind}
-use Rattle.tree_format.specs.declared.kind.PlanKind.TheVariants.{BadLine, BadNumber, UnknownName, TooManyNodes, WrongCount}
+use Rattle.tree_format.specs.declared.kind.PlanKind.TheVariants.{BadLine, BadNumber, UnknownName, TooManyNodes, WrongCount, NoPlace, StillOpen}
+use Rattle.tree_format.specs.declared.plan_line.TextVersion.{TextVersion}
+use Rattle.tree_format.specs.declared.plan_line.TextVersion.TheVariants.{One, Two}
 use Rattle.tree_format.specs.declared.plan_line.Stage.{Stage}
 use Rattle.tree_format.specs.declared.plan_line.Stage.TheVariants as due
 use Rattle.tree_format.specs.declared.plan_line.PlanLine.{PlanLine}
-use Rattle.tree_format.specs.declared.plan_line.PlanLine.TheVariants.{Version, Count, Node, End}
+use Rattle.tree_format.specs.declared.plan_line.PlanLine.TheVariants.{Version, Count}
 use Rattle.tree_format.specs.declared.record_lines.Bounded.{Bounded}
-use Rattle.tree_format.specs.Reading.{amount_in, place_in, position_named, in_front, all_of, path_said, chance_said, count_said, branch_of, branch_line, bounded_of, bounded_line, node_of, tangent_of, tangent_line, node_line, node_said, is_end, end_said, stage_line, line_at}
+use Rattle.tree_format.specs.Reading.{amount_in, place_in, position_named, in_front, all_of, path_said, chance_said, count_said, most_cells, branch_of, branch_line, bounded_of, bounded_line, node_of, tangent_of, tangent_line, node_line, placed, node_said, is_end, ending, end_said, stage_line, line_at}
 use Rattle.text_rows.specs.Fields.{is_word, first_alone, behind_first}
-use Rattle.tree_format.specs.KindTable.{bounded_form, tangent_form, node_form, has_form, node_amounts, node_cells, is_bad_number, has_unknown, has_too_many, is_miscounted, KindsByTable}
+use Rattle.tree_format.specs.KindTable.{bounded_form, tangent_form, node_form, has_form, node_amounts, node_cells, is_bad_number, has_unknown, has_too_many, is_miscounted, lacks_place, awaits_record, has_no_place, is_still_open, KindsByTable}
 use Rattle.text_rows.specs.Kinds.{first_kind, fault_of}
 
 -- fields say something together where each does
@@ -35,10 +37,15 @@ all_none says (f ∷ fs) = front_none (says f) (all_of says fs) ∙ ap (λ (b : 
 
 -- the table of a line that has its form and a number of records that fits
 abbrev tail_of : Bool → Bool → Bool → Option PlanKind
-tail_of number unknown miscounted = first_kind ((number, BadNumber) ∷ (unknown, UnknownName) ∷ (false, TooManyNodes) ∷ (miscounted, WrongCount) ∷ [])
+tail_of number unknown miscounted = first_kind ((number, BadNumber) ∷ (unknown, UnknownName) ∷ (false, TooManyNodes) ∷ (miscounted, WrongCount) ∷ (false, NoPlace) ∷ (false, StillOpen) ∷ [])
 
 abbrev table_of : Bool → Bool → Bool → Bool → Option PlanKind
-table_of form number unknown miscounted = first_kind ((not form, BadLine) ∷ (number, BadNumber) ∷ (unknown, UnknownName) ∷ (false, TooManyNodes) ∷ (miscounted, WrongCount) ∷ [])
+table_of form number unknown miscounted = first_kind ((not form, BadLine) ∷ (number, BadNumber) ∷ (unknown, UnknownName) ∷ (false, TooManyNodes) ∷ (miscounted, WrongCount) ∷ (false, NoPlace) ∷ (false, StillOpen) ∷ [])
+
+-- and of a line among the records
+abbrev placed_table : Bool → Bool → Bool → Bool → Bool → Option PlanKind
+placed_table form number miscounted homeless open_still =
+    first_kind ((not form, BadLine) ∷ (number, BadNumber) ∷ (false, UnknownName) ∷ (false, TooManyNodes) ∷ (miscounted, WrongCount) ∷ (homeless, NoPlace) ∷ (open_still, StillOpen) ∷ [])
 
 by_form : (form : Bool) (r : Result PlanLine PlanKind) (number unknown miscounted : Bool) → fault_of r ≡ tail_of number unknown miscounted → fault_of (cond form r (Err BadLine)) ≡ table_of form number unknown miscounted
 by_form true r number unknown miscounted e = e
@@ -53,14 +60,31 @@ chance_table None w = refl
 chance_table (Some v) None = refl
 chance_table (Some v) (Some w) = refl
 
--- a record or the end, by how many are left
-left_table : (none : Bool) (r : TreeNode) → fault_of (cond none (Err WrongCount) (Ok (Node r))) ≡ tail_of false false none
-left_table true r = refl
-left_table false r = refl
+-- `plan 1` or `plan 2`
+version_table : (plan one two : Bool) → fault_of (cond plan (cond one (Ok (Version One)) (cond two (Ok (Version Two)) (Err BadLine))) (Err BadLine)) ≡ table_of (plan && (one || two)) false false false
+version_table false one two = refl
+version_table true true two = refl
+version_table true false true = refl
+version_table true false false = refl
 
-end_table : (none : Bool) → fault_of (cond none (Ok End) (Err WrongCount)) ≡ tail_of false false (not none)
-end_table true = refl
-end_table false = refl
+-- a record or the end, by how many are left and by what is expected
+place_table : (v : TextVersion) (expected : List (List ℕ)) (r : TreeNode) → fault_of (placed v expected r) ≡ placed_table true false false (lacks_place v expected) false
+place_table One expected r = refl
+place_table Two [] r = refl
+place_table Two (q ∷ expected) r = refl
+
+left_table : (none : Bool) (v : TextVersion) (expected : List (List ℕ)) (r : TreeNode) → fault_of (cond none (Err WrongCount) (placed v expected r)) ≡ placed_table true false none (lacks_place v expected) false
+left_table true v expected r = refl
+left_table false v expected r = place_table v expected r
+
+ending_table : (v : TextVersion) (expected : List (List ℕ)) → fault_of (ending v expected) ≡ placed_table true false false false (awaits_record v expected)
+ending_table One expected = refl
+ending_table Two [] = refl
+ending_table Two (q ∷ expected) = refl
+
+end_table : (none : Bool) (v : TextVersion) (expected : List (List ℕ)) → fault_of (cond none (ending v expected) (Err WrongCount)) ≡ placed_table true false (not none) false (awaits_record v expected)
+end_table true v expected = ending_table v expected
+end_table false v expected = refl
 
 -- what the fields of a record say, by whether one says nothing
 record IsSaid (r : Result TreeNode PlanKind) (number : Bool) : Type 0 where
@@ -109,41 +133,41 @@ by_letter : (b : Bool) (x y : Result TreeNode PlanKind) (form other : Bool) (num
 by_letter true x y form other number h k = h
 by_letter false x y form other number h k = k
 
-module _ (p : Problem) where
+module _ (p : Problem) (most : ℕ) where
   abbrev no_amount : List ℕ → Bool
   no_amount f = is_none (amount_in f)
 
   abbrev no_place : List ℕ → Bool
   no_place f = is_none (place_in p f)
 
-  branch_judged : (fields : List (List ℕ)) → IsJudged (branch_line p fields) (nat_le (length fields) p.horizon) (list_any no_place fields)
+  branch_judged : (fields : List (List ℕ)) → IsJudged (branch_line p most fields) (nat_le (length fields) most) (list_any no_place fields)
   branch_judged fields =
-      subst (IsJudged (branch_line p fields) (nat_le (length fields) p.horizon)) (all_none (place_in p) fields)
-      (judged (nat_le (length fields) p.horizon) (branch_of (all_of (place_in p) fields)) _ (branch_said (all_of (place_in p) fields)))
+      subst (IsJudged (branch_line p most fields) (nat_le (length fields) most)) (all_none (place_in p) fields)
+      (judged (nat_le (length fields) most) (branch_of (all_of (place_in p) fields)) _ (branch_said (all_of (place_in p) fields)))
 
-  bounded_judged : (kind : ℕ → Kind) (fields : List (List ℕ)) → IsJudged (node_of kind (bounded_line p fields)) (bounded_form p fields) (list_any no_amount (first_alone fields) || list_any no_place (behind_first fields))
+  bounded_judged : (kind : ℕ → Kind) (fields : List (List ℕ)) → IsJudged (node_of kind (bounded_line p most fields)) (bounded_form most fields) (list_any no_amount (first_alone fields) || list_any no_place (behind_first fields))
   bounded_judged kind [] = misformed false
   bounded_judged kind (n ∷ cells) =
-      let form = nat_le (length cells) p.horizon in
+      let form = nat_le (length cells) most in
       let o = all_of (place_in p) cells in
       let here = judged form (node_of kind (bounded_of (amount_in n) o)) _ (bounded_said kind (amount_in n) o) in
       subst (λ (r : Result TreeNode PlanKind). IsJudged r form ((no_amount n || false) || list_any no_place cells)) (sym (inside kind form (bounded_of (amount_in n) o)))
       (subst (λ (none : Bool). IsJudged (cond form (node_of kind (bounded_of (amount_in n) o)) (Err BadLine)) form ((no_amount n || false) || none)) (all_none (place_in p) cells) here)
 
-  tangent_judged : (fields : List (List ℕ)) → IsJudged (tangent_line p fields) (tangent_form p fields) (list_any no_amount (first_alone fields) || list_any no_place (behind_first fields))
+  tangent_judged : (fields : List (List ℕ)) → IsJudged (tangent_line p most fields) (tangent_form p most fields) (list_any no_amount (first_alone fields) || list_any no_place (behind_first fields))
   tangent_judged [] = misformed false
   tangent_judged (n ∷ cells) =
-      let form = nat_le p.horizon (length cells) && nat_le (length cells) (2 * p.horizon) in
+      let form = nat_le p.horizon (length cells) && nat_le (length cells) (most + p.horizon) in
       let k = length cells - p.horizon in
       let o = all_of (place_in p) (take k cells) in
       let u = all_of (place_in p) (drop k cells) in
       let both : (is_none o || is_none u) ≡ list_any no_place cells =
       ap (λ (b : Bool). b || is_none u) (all_none (place_in p) (take k cells)) ∙ ap (λ (b : Bool). list_any no_place (take k cells) || b) (all_none (place_in p) (drop k cells))
       ∙ sym (list_any-append no_place (take k cells) (drop k cells)) ∙ ap (list_any no_place) (take-append-drop k cells) in
-      subst (λ (none : Bool). IsJudged (tangent_line p (n ∷ cells)) form ((no_amount n || false) || none)) both
+      subst (λ (none : Bool). IsJudged (tangent_line p most (n ∷ cells)) form ((no_amount n || false) || none)) both
       (judged form (tangent_of (amount_in n) o u) _ (tangent_said (amount_in n) o u))
 
-  node_judged : (fields : List (List ℕ)) → IsJudged (node_line p fields) (node_form p fields) (list_any no_amount (node_amounts fields) || list_any no_place (node_cells fields))
+  node_judged : (fields : List (List ℕ)) → IsJudged (node_line p most fields) (node_form p most fields) (list_any no_amount (node_amounts fields) || list_any no_place (node_cells fields))
   node_judged [] = misformed false
   node_judged (letter ∷ fields) =
       by_letter (is_word letter (codes "B")) _ _ _ _ (λ (b : Bool). list_any no_amount (cond b [] (first_alone fields)) || list_any no_place (cond b fields (behind_first fields))) (branch_judged fields)
@@ -160,53 +184,58 @@ module _ (p : Problem) where
       none_there false = refl
   end_numbers (word ∷ more ∷ rest) e = absurd (let bad : ⊥ = cc in bad)
 
-said_table : (left : ℕ) (r : Result TreeNode PlanKind) (form number : Bool) → IsJudged r form number → fault_of (node_said left r) ≡ table_of form number false (left == 0)
-said_table left r false number h = ap (λ (x : Result TreeNode PlanKind). fault_of (node_said left x)) (h.bad refl)
-said_table left r true true h = ap (λ (x : Result TreeNode PlanKind). fault_of (node_said left x)) ((h.good refl).worse refl)
-said_table left r true false h = let x = (h.good refl).right refl in ap (λ (y : Result TreeNode PlanKind). fault_of (node_said left y)) x.1 ∙ left_table (left == 0) x.0
+said_table : (v : TextVersion) (left : ℕ) (expected : List (List ℕ)) (r : Result TreeNode PlanKind) (form number : Bool) → IsJudged r form number → fault_of (node_said v left expected r) ≡ placed_table form number (left == 0) (lacks_place v expected) false
+said_table v left expected r false number h = ap (λ (x : Result TreeNode PlanKind). fault_of (node_said v left expected x)) (h.bad refl)
+said_table v left expected r true true h = ap (λ (x : Result TreeNode PlanKind). fault_of (node_said v left expected x)) ((h.good refl).worse refl)
+said_table v left expected r true false h =
+    let x = (h.good refl).right refl in
+    ap (λ (y : Result TreeNode PlanKind). fault_of (node_said v left expected y)) x.1 ∙ left_table (left == 0) v expected x.0
 
-record_table : (e : Bool) (left : ℕ) (r : Result TreeNode PlanKind) (form number : Bool) → (e ≡ true → number ≡ false) → IsJudged r form number → fault_of (cond e (end_said left) (node_said left r)) ≡ table_of (e || form) number false (cond e (not (left == 0)) (left == 0))
-record_table true left r form number none h = end_table (left == 0) ∙ ap (λ (b : Bool). tail_of b false (not (left == 0))) (sym (none refl))
-record_table false left r form number none h = said_table left r form number h
+record_table : (e : Bool) (v : TextVersion) (left : ℕ) (expected : List (List ℕ)) (r : Result TreeNode PlanKind) (form number : Bool) → (e ≡ true → number ≡ false) → IsJudged r form number →
+    fault_of (cond e (end_said v left expected) (node_said v left expected r)) ≡ placed_table (e || form) number (cond e (not (left == 0)) (left == 0)) (not e && lacks_place v expected) (e && awaits_record v expected)
+record_table true v left expected r form number none h = end_table (left == 0) v expected ∙ ap (λ (b : Bool). placed_table true b (not (left == 0)) false (awaits_record v expected)) (sym (none refl))
+record_table false v left expected r form number none h = said_table v left expected r form number h
 
 -- `nodes N`
 many_table : (few : Bool) (n : ℕ) → fault_of (cond few (Ok (Count n)) (Err TooManyNodes)) ≡ cond (not few) (Some TooManyNodes) None
 many_table true n = refl
 many_table false n = refl
 
-count_table : (form : Bool) (n : Option ℕ) → fault_of (cond form (count_said n) (Err BadLine)) ≡ first_kind ((not form, BadLine) ∷ ((is_none n || false) || false, BadNumber) ∷ (false, UnknownName) ∷ (not (nat_le (unwrap_or n 0) 1048576), TooManyNodes) ∷ (false, WrongCount) ∷ [])
+count_table : (form : Bool) (n : Option ℕ) → fault_of (cond form (count_said n) (Err BadLine)) ≡ first_kind ((not form, BadLine) ∷ ((is_none n || false) || false, BadNumber) ∷ (false, UnknownName) ∷ (not (nat_le (unwrap_or n 0) 1048576), TooManyNodes) ∷ (false, WrongCount) ∷ (false, NoPlace) ∷ (false, StillOpen) ∷ [])
 count_table false n = refl
 count_table true None = refl
 count_table true (Some n) = many_table (nat_le n 1048576) n
 
-stage_table : (p : Problem) (stage : Stage) (fields : List (List ℕ)) → fault_of (stage_line p stage fields)
-    ≡ first_kind ((not (has_form p stage fields), BadLine) ∷ (is_bad_number p stage fields, BadNumber) ∷ (has_unknown p stage fields, UnknownName) ∷ (has_too_many stage fields, TooManyNodes) ∷ (is_miscounted stage fields, WrongCount) ∷ [])
-stage_table p due.Version [] = refl
-stage_table p due.Version (word ∷ []) = refl
-stage_table p due.Version (word ∷ version ∷ []) = by_form (is_word word (codes "plan") && is_word version (codes "1")) (Ok Version) false false false refl
-stage_table p due.Version (word ∷ version ∷ more ∷ rest) = refl
-stage_table p due.Path [] = refl
-stage_table p due.Path (word ∷ names) =
+stage_table : (p : Problem) (v : TextVersion) (stage : Stage) (expected fields : List (List ℕ)) → fault_of (stage_line p v stage expected fields)
+    ≡ first_kind ((not (has_form p v stage fields), BadLine) ∷ (is_bad_number p stage fields, BadNumber) ∷ (has_unknown p stage fields, UnknownName) ∷ (has_too_many stage fields, TooManyNodes) ∷ (is_miscounted stage fields, WrongCount) ∷ (has_no_place v stage expected fields, NoPlace) ∷ (is_still_open v stage expected fields, StillOpen) ∷ [])
+stage_table p v due.Version expected [] = refl
+stage_table p v due.Version expected (word ∷ []) = refl
+stage_table p v due.Version expected (word ∷ version ∷ []) = version_table (is_word word (codes "plan")) (is_word version (codes "1")) (is_word version (codes "2"))
+stage_table p v due.Version expected (word ∷ version ∷ more ∷ rest) = refl
+stage_table p v due.Path expected [] = refl
+stage_table p v due.Path expected (word ∷ names) =
     let o = all_of (position_named p) names in
     by_form (is_word word (codes "path") && (nat_le 1 (length names) && nat_le (length names) 32)) (path_said o) false _ false (path_table o _ (all_none (position_named p) names))
-stage_table p due.Chance [] = refl
-stage_table p due.Chance (word ∷ []) = refl
-stage_table p due.Chance (word ∷ value ∷ []) = refl
-stage_table p due.Chance (word ∷ value ∷ weight ∷ []) =
+stage_table p v due.Chance expected [] = refl
+stage_table p v due.Chance expected (word ∷ []) = refl
+stage_table p v due.Chance expected (word ∷ value ∷ []) = refl
+stage_table p v due.Chance expected (word ∷ value ∷ weight ∷ []) =
     by_form (is_word word (codes "chance")) (chance_said (amount_in value) (amount_in weight)) _ false false (chance_table (amount_in value) (amount_in weight))
-stage_table p due.Chance (word ∷ value ∷ weight ∷ more ∷ rest) = refl
-stage_table p due.Count [] = refl
-stage_table p due.Count (word ∷ []) = refl
-stage_table p due.Count (word ∷ n ∷ []) = count_table (is_word word (codes "nodes")) (amount_in n)
-stage_table p due.Count (word ∷ n ∷ more ∷ rest) = refl
-stage_table p (due.Records left) fields = record_table (is_end fields) left (node_line p fields) (node_form p fields) _ (end_numbers p fields) (node_judged p fields)
-stage_table p due.Ended fields = refl
+stage_table p v due.Chance expected (word ∷ value ∷ weight ∷ more ∷ rest) = refl
+stage_table p v due.Count expected [] = refl
+stage_table p v due.Count expected (word ∷ []) = refl
+stage_table p v due.Count expected (word ∷ n ∷ []) = count_table (is_word word (codes "nodes")) (amount_in n)
+stage_table p v due.Count expected (word ∷ n ∷ more ∷ rest) = refl
+stage_table p v (due.Records left) expected fields =
+    let most = most_cells p v in
+    record_table (is_end fields) v left expected (node_line p most fields) (node_form p most fields) _ (end_numbers p most fields) (node_judged p most fields)
+stage_table p v due.Ended expected fields = refl
 
-by_empty : (empty form number unknown many miscounted : Bool) (r : Result PlanLine PlanKind) → fault_of r ≡ first_kind ((not form, BadLine) ∷ (number, BadNumber) ∷ (unknown, UnknownName) ∷ (many, TooManyNodes) ∷ (miscounted, WrongCount) ∷ []) →
-    fault_of (cond empty (Err BadLine) r) ≡ first_kind ((empty || not form, BadLine) ∷ (number, BadNumber) ∷ (unknown, UnknownName) ∷ (many, TooManyNodes) ∷ (miscounted, WrongCount) ∷ [])
-by_empty true form number unknown many miscounted r e = refl
-by_empty false form number unknown many miscounted r e = e
+by_empty : (empty form number unknown many miscounted homeless open_still : Bool) (r : Result PlanLine PlanKind) → fault_of r ≡ first_kind ((not form, BadLine) ∷ (number, BadNumber) ∷ (unknown, UnknownName) ∷ (many, TooManyNodes) ∷ (miscounted, WrongCount) ∷ (homeless, NoPlace) ∷ (open_still, StillOpen) ∷ []) →
+    fault_of (cond empty (Err BadLine) r) ≡ first_kind ((empty || not form, BadLine) ∷ (number, BadNumber) ∷ (unknown, UnknownName) ∷ (many, TooManyNodes) ∷ (miscounted, WrongCount) ∷ (homeless, NoPlace) ∷ (open_still, StillOpen) ∷ [])
+by_empty true form number unknown many miscounted homeless open_still r e = refl
+by_empty false form number unknown many miscounted homeless open_still r e = e
 
 pub kinds_by_table : KindsByTable
 unfolding line_at
-kinds_by_table p stage fields = by_empty (list_any (λ f. length f == 0) fields) _ _ _ _ _ (stage_line p stage fields) (stage_table p stage fields)
+kinds_by_table p d fields = by_empty (list_any (λ f. length f == 0) fields) _ _ _ _ _ _ _ (stage_line p d.version d.stage d.expected fields) (stage_table p d.version d.stage d.expected fields)

@@ -5,6 +5,7 @@ use Rattle.search_model.specs.Problem.{Problem}
 use Rattle.bound_tree.specs.declared.plan.Plan.{Plan}
 use Rattle.tree_format.specs.declared.kind.PlanKind.{PlanKind}
 use Rattle.tree_format.specs.declared.kind.PlanKind.TheVariants.{Rest}
+use Rattle.tree_format.specs.declared.due.Due.{Due}
 use Rattle.tree_format.specs.declared.plan_line.Stage.{Stage}
 use Rattle.tree_format.specs.declared.plan_line.Stage.TheVariants as due
 use Rattle.tree_format.specs.declared.plan_line.PlanLine.{PlanLine}
@@ -19,24 +20,24 @@ use Rattle.tree_format.specs.Reading.{line_at, next, taken, is_ended, at_line_nu
 -- the line that is due and its number, the standing and the weight where their lines were read, and the front of the line
 pub record Stand : Type 0 where
   pub number : ℕ
-  pub stage : Stage
+  pub due : Due
   pub standing : Standing
   pub weight : ℕ
   pub line : Gathered
 
 -- where a plan was read up to this line, whose first bytes these are
-abbrev pub stand_at : ℕ → Stage → Plan → List ℕ → Stand
-stand_at number stage plan begun = record { number = number; stage = stage; standing = plan.standing; weight = plan.weight; line = gathered nothing_gathered begun }
+abbrev pub stand_at : ℕ → Due → Plan → List ℕ → Stand
+stand_at number d plan begun = record { number = number; due = d; standing = plan.standing; weight = plan.weight; line = gathered nothing_gathered begun }
 
 -- the head of a plan, as far as it was read
 abbrev pub head_of : Stand → Plan
 head_of s = record { standing = s.standing; weight = s.weight; tree = [] }
 
 -- at the end of a line that says this
-abbrev pub moved : Stand → PlanLine → Stand
-moved s said = record {
+abbrev pub moved : Problem → Stand → PlanLine → Stand
+moved p s said = record {
   number = s.number + 1;
-  stage = next s.stage said;
+  due = next p s.due said;
   standing = (taken (head_of s) said).standing;
   weight = (taken (head_of s) said).weight;
   line = nothing_gathered;
@@ -44,7 +45,7 @@ moved s said = record {
 
 -- what such a line tells
 abbrev pub step_of : Stand → PlanLine → Step
-step_of s Version = More
+step_of s (Version v) = More
 step_of s (Path q) = More
 step_of s (Chance v w) = More
 step_of s (Count n) = Item (item.Head s.standing s.weight n)
@@ -57,19 +58,19 @@ pub record Moved : Type 0 where
   pub stand : Stand
 
 -- at the end of a line, which was judged so
-abbrev pub line_ended : Stand → Result PlanLine PlanKind → Moved
-line_ended s (Ok said) = record { step = step_of s said; stand = moved s said }
-line_ended s (Err kind) = record { step = Fault (at_line_number s.number kind); stand = s }
+abbrev pub line_ended : Problem → Stand → Result PlanLine PlanKind → Moved
+line_ended p s (Ok said) = record { step = step_of s said; stand = moved p s said }
+line_ended p s (Err kind) = record { step = Fault (at_line_number s.number kind); stand = s }
 
 -- a byte of the line more
 abbrev pub line_begun : ℕ → Stand → Moved
-line_begun c s = record { step = More; stand = record { number = s.number; stage = s.stage; standing = s.standing; weight = s.weight; line = with_byte c s.line } }
+line_begun c s = record { step = More; stand = record { number = s.number; due = s.due; standing = s.standing; weight = s.weight; line = with_byte c s.line } }
 
 -- a byte more
 abbrev pub byte_fed : Problem → ℕ → Stand → Moved
 byte_fed p c s =
-    if is_ended s.stage then record { step = Fault (at_line_number s.number Rest); stand = s } else
-    (if c == 10 then line_ended s (line_at p s.stage (exact_fields s.line.text)) else line_begun c s)
+    if is_ended s.due.stage then record { step = Fault (at_line_number s.number Rest); stand = s } else
+    (if c == 10 then line_ended p s (line_at p s.due (exact_fields s.line.text)) else line_begun c s)
 
 -- the most lines that follow, of which the announced records are at most 1,048,576
 abbrev pub lines_left : Stage → ℕ

@@ -14,7 +14,7 @@ use Rattle.tree_format.specs.declared.plan_item.Step.TheVariants.{More, Item, Fa
 use Rattle.tree_format.specs.PlanText.{ArePositions, IsPrintableRecord}
 use Rattle.tree_format.specs.Faults.{AreSaid, due_behind}
 use Rattle.text_rows.specs.Lines.{HasNoFeed, lines_text}
-use Rattle.tree_format.specs.Reading.{blank_plan, taken, plan_at}
+use Rattle.tree_format.specs.Reading.{at_start, blank_plan, taken, plan_at}
 use Rattle.tree_format.specs.FeedSteps.{Stand, stand_at}
 
 -- the items of a plan: its head, its records in their order, and its end
@@ -44,10 +44,10 @@ pub record HasRead (p : Problem) (fed : List ℕ) (items : List PlanItem) (feed 
   pub whole : fed ≡ lines_text before ++ begun
   pub feeds : All HasNoFeed before
   pub open_line : HasNoFeed begun
-  pub right : AreSaid p due.Version before said
-  pub behind_end : due_behind due.Version said ≡ due.Ended → begun ≡ []
-  pub tell : items ≡ told (due_behind due.Version said) (plan_behind blank_plan said)
-  pub stand : feed ≡ stand_at (1 + length before) (due_behind due.Version said) (plan_behind blank_plan said) begun
+  pub right : AreSaid p at_start before said
+  pub behind_end : (due_behind p at_start said).stage ≡ due.Ended → begun ≡ []
+  pub tell : items ≡ told (due_behind p at_start said).stage (plan_behind blank_plan said)
+  pub stand : feed ≡ stand_at (1 + length before) (due_behind p at_start said) (plan_behind blank_plan said) begun
 
 -- this holds of any bytes and items that a feed has read
 abbrev pub IfRead : Problem → Stand → (List ℕ → List PlanItem → Type 0) → Type 0

@@ -15,15 +15,15 @@ abbrev pub plan_of : Draft → Plan
 plan_of d = record { standing = record { path = d.path; value = d.value }; weight = d.weight; tree = d.nodes.items }
 
 -- a line was added, unless memory ran out
-pub record Adds (old new : Draft) (line : PlanLine) : Type 0 where
-  pub stage : new.stage ≡ next old.stage line
+pub record Adds (p : Problem) (old new : Draft) (line : PlanLine) : Type 0 where
+  pub due : new.due ≡ next p old.due line
   pub plan : plan_of new ≡ taken (plan_of old) line
 
 -- the line of this number was added, or has that fault, unless memory ran out
-abbrev pub TakesLine : ℕ → Draft → Draft → Result (Unit {0}) PlanStop → Result PlanLine PlanKind → Type 0
-TakesLine number old new (Ok _) said = (line : PlanLine) × (said ≡ Ok line) × Adds old new line
-TakesLine number old new (Err (Fault fault)) said = (kind : PlanKind) × (said ≡ Err kind) × (fault ≡ at_line_number number kind)
-TakesLine number old new (Err NoMemory) said = Unit {0}
+abbrev pub TakesLine : Problem → ℕ → Draft → Draft → Result (Unit {0}) PlanStop → Result PlanLine PlanKind → Type 0
+TakesLine p number old new (Ok _) said = (line : PlanLine) × (said ≡ Ok line) × Adds p old new line
+TakesLine p number old new (Err (Fault fault)) said = (kind : PlanKind) × (said ≡ Err kind) × (fault ≡ at_line_number number kind)
+TakesLine p number old new (Err NoMemory) said = Unit {0}
 
 -- the text was read as its lines are, or has that fault, unless memory ran out
 abbrev pub Gives : Result Draft PlanStop → Result Plan PlanFault → Type 0

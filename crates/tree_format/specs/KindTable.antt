@@ -1,20 +1,24 @@
 -- Where a line has each kind of fault, as a table: the first kind whose test holds decides.
-use Rattle.std.specs.Prelude.{ℕ, ◌≡◌, ◌*◌, Bool, false, not, ◌&&◌, ◌||◌, ◌==◌, nat_le, if◌then◌else◌, List, [], ◌∷◌, length, Option, is_none, unwrap_or, codes}
+use Rattle.std.specs.Prelude.{ℕ, ◌≡◌, ◌+◌, Bool, false, not, ◌&&◌, ◌||◌, ◌==◌, nat_le, if◌then◌else◌, List, [], ◌∷◌, length, Option, is_none, unwrap_or, codes}
 use Rattle.std.specs.List.{list_any}
 use Rattle.search_model.specs.Problem.{Problem}
+use Rattle.bound_tree.specs.Places.{first_of}
+use Rattle.tree_format.specs.declared.due.Due.{Due}
+use Rattle.tree_format.specs.declared.plan_line.TextVersion.{TextVersion}
+use Rattle.tree_format.specs.declared.plan_line.TextVersion.TheVariants.{One, Two}
 use Rattle.tree_format.specs.declared.plan_line.Stage.{Stage}
 use Rattle.tree_format.specs.declared.plan_line.Stage.TheVariants as due
 use Rattle.tree_format.specs.declared.kind.PlanKind.{PlanKind}
-use Rattle.tree_format.specs.declared.kind.PlanKind.TheVariants.{BadLine, BadNumber, UnknownName, TooManyNodes, WrongCount}
-use Rattle.tree_format.specs.Reading.{amount_in, place_in, position_named, is_end, line_at}
+use Rattle.tree_format.specs.declared.kind.PlanKind.TheVariants.{BadLine, BadNumber, UnknownName, TooManyNodes, WrongCount, NoPlace, StillOpen}
+use Rattle.tree_format.specs.Reading.{amount_in, place_in, position_named, most_cells, is_end, line_at}
 use Rattle.text_rows.specs.Fields.{is_word, behind_first, first_alone}
 use Rattle.text_rows.specs.Kinds.{first_kind, fault_of}
 
 -- The keyword or letter and the number of fields.
 
--- `plan 1`
+-- `plan 1` or `plan 2`
 abbrev pub version_form : List (List ℕ) → Bool
-version_form (word ∷ version ∷ []) = is_word word (codes "plan") && is_word version (codes "1")
+version_form (word ∷ number ∷ []) = is_word word (codes "plan") && (is_word number (codes "1") || is_word number (codes "2"))
 version_form _ = false
 
 -- `path` and 1 to 32 names
@@ -32,33 +36,33 @@ abbrev pub count_form : List (List ℕ) → Bool
 count_form (word ∷ n ∷ []) = is_word word (codes "nodes")
 count_form _ = false
 
--- a number, and a prefix behind it
-abbrev pub bounded_form : Problem → List (List ℕ) → Bool
-bounded_form p [] = false
-bounded_form p (n ∷ cells) = nat_le (length cells) p.horizon
+-- a number, and a prefix of at most so many cells behind it
+abbrev pub bounded_form : ℕ → List (List ℕ) → Bool
+bounded_form most [] = false
+bounded_form most (n ∷ cells) = nat_le (length cells) most
 
 -- a number, and a prefix and a reference behind it
-abbrev pub tangent_form : Problem → List (List ℕ) → Bool
-tangent_form p [] = false
-tangent_form p (n ∷ cells) = nat_le p.horizon (length cells) && nat_le (length cells) (2 * p.horizon)
+abbrev pub tangent_form : Problem → ℕ → List (List ℕ) → Bool
+tangent_form p most [] = false
+tangent_form p most (n ∷ cells) = nat_le p.horizon (length cells) && nat_le (length cells) (most + p.horizon)
 
 -- a record, by its letter
-abbrev pub node_form : Problem → List (List ℕ) → Bool
-node_form p [] = false
-node_form p (letter ∷ fields) =
-    if is_word letter (codes "B") then nat_le (length fields) p.horizon else
-    (if is_word letter (codes "W") then bounded_form p fields else
-    (if is_word letter (codes "M") then bounded_form p fields else
-    (if is_word letter (codes "T") then tangent_form p fields else false)))
+abbrev pub node_form : Problem → ℕ → List (List ℕ) → Bool
+node_form p most [] = false
+node_form p most (letter ∷ fields) =
+    if is_word letter (codes "B") then nat_le (length fields) most else
+    (if is_word letter (codes "W") then bounded_form most fields else
+    (if is_word letter (codes "M") then bounded_form most fields else
+    (if is_word letter (codes "T") then tangent_form p most fields else false)))
 
 -- the form of a line that may stand where this is due
-abbrev pub has_form : Problem → Stage → List (List ℕ) → Bool
-has_form p due.Version fields = version_form fields
-has_form p due.Path fields = path_form fields
-has_form p due.Chance fields = chance_form fields
-has_form p due.Count fields = count_form fields
-has_form p (due.Records left) fields = is_end fields || node_form p fields
-has_form p due.Ended fields = false
+abbrev pub has_form : Problem → TextVersion → Stage → List (List ℕ) → Bool
+has_form p v due.Version fields = version_form fields
+has_form p v due.Path fields = path_form fields
+has_form p v due.Chance fields = chance_form fields
+has_form p v due.Count fields = count_form fields
+has_form p v (due.Records left) fields = is_end fields || node_form p (most_cells p v) fields
+has_form p v due.Ended fields = false
 
 -- The fields in the places of numbers, cells and names.
 
@@ -92,8 +96,8 @@ names _ fields = []
 -- The tests.
 
 -- a field is empty, or the form is wrong for this line
-abbrev pub is_bad_line : Problem → Stage → List (List ℕ) → Bool
-is_bad_line p stage fields = list_any (λ f. length f == 0) fields || not (has_form p stage fields)
+abbrev pub is_bad_line : Problem → TextVersion → Stage → List (List ℕ) → Bool
+is_bad_line p v stage fields = list_any (λ f. length f == 0) fields || not (has_form p v stage fields)
 
 -- a field in a number's place is no plain decimal below 2 to the power 128, or one in a cell's place is no cell's number
 abbrev pub is_bad_number : Problem → Stage → List (List ℕ) → Bool
@@ -119,17 +123,38 @@ abbrev pub is_miscounted : Stage → List (List ℕ) → Bool
 is_miscounted (due.Records left) fields = if is_end fields then not (left == 0) else left == 0
 is_miscounted _ fields = false
 
+-- no prefix is expected where the text leaves them out, or one is
+abbrev pub lacks_place : TextVersion → List (List ℕ) → Bool
+lacks_place One expected = false
+lacks_place Two expected = is_none (first_of expected)
+
+abbrev pub awaits_record : TextVersion → List (List ℕ) → Bool
+awaits_record One expected = false
+awaits_record Two expected = not (is_none (first_of expected))
+
+-- in version 2 a record where no prefix is expected
+abbrev pub has_no_place : TextVersion → Stage → List (List ℕ) → List (List ℕ) → Bool
+has_no_place v (due.Records left) expected fields = not (is_end fields) && lacks_place v expected
+has_no_place v _ expected fields = false
+
+-- in version 2 the end where one is
+abbrev pub is_still_open : TextVersion → Stage → List (List ℕ) → List (List ℕ) → Bool
+is_still_open v (due.Records left) expected fields = is_end fields && awaits_record v expected
+is_still_open v _ expected fields = false
+
 -- the kinds in their order
-abbrev pub kind_by_table : Problem → Stage → List (List ℕ) → Option PlanKind
-kind_by_table p stage fields =
+abbrev pub kind_by_table : Problem → Due → List (List ℕ) → Option PlanKind
+kind_by_table p d fields =
     first_kind
-    ((is_bad_line p stage fields, BadLine)
-    ∷ (is_bad_number p stage fields, BadNumber)
-    ∷ (has_unknown p stage fields, UnknownName)
-    ∷ (has_too_many stage fields, TooManyNodes)
-    ∷ (is_miscounted stage fields, WrongCount)
+    ((is_bad_line p d.version d.stage fields, BadLine)
+    ∷ (is_bad_number p d.stage fields, BadNumber)
+    ∷ (has_unknown p d.stage fields, UnknownName)
+    ∷ (has_too_many d.stage fields, TooManyNodes)
+    ∷ (is_miscounted d.stage fields, WrongCount)
+    ∷ (has_no_place d.version d.stage d.expected fields, NoPlace)
+    ∷ (is_still_open d.version d.stage d.expected fields, StillOpen)
     ∷ [])
 
 -- a line has the fault that the table gives
 abbrev pub KindsByTable : Type 0
-KindsByTable = (p : Problem) (stage : Stage) (fields : List (List ℕ)) → fault_of (line_at p stage fields) ≡ kind_by_table p stage fields
+KindsByTable = (p : Problem) (d : Due) (fields : List (List ℕ)) → fault_of (line_at p d fields) ≡ kind_by_table p d fields

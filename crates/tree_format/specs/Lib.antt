@@ -10,3 +10,4 @@ pub mod Gives
 pub mod Faults
 pub mod KindTable
 pub mod ReadingLaws
+pub mod Placing

@@ -1,5 +1,6 @@
--- The text of a plan: each plan has one spelling.
-use Rattle.std.specs.Prelude.{ℕ, ◌^◌, ◌≡◌, ◌<◌, ◌≤◌, List, [], ◌∷◌, ◌++◌, map, length, codes, All}
+-- The text of a plan: each plan has one spelling of version 1, and one of version 2 where its records have the prefixes that
+-- are expected.
+use Rattle.std.specs.Prelude.{ℕ, ◌^◌, ◌≡◌, ◌⊎◌, ◌<◌, ◌≤◌, List, [], ◌∷◌, ◌++◌, map, length, codes, All}
 use Rattle.std.specs.Fmt.{decimal}
 use Rattle.text_rows.specs.Rows.{text_of}
 use Rattle.search_model.specs.Problem.{Problem, position_name}
@@ -7,6 +8,9 @@ use Rattle.bound_tree.specs.declared.node.Kind.{Kind}
 use Rattle.bound_tree.specs.declared.node.Kind.TheVariants.{Branch, Whole, Mean, Tangent}
 use Rattle.bound_tree.specs.declared.node.TreeNode.{TreeNode}
 use Rattle.bound_tree.specs.declared.plan.Plan.{Plan}
+use Rattle.bound_tree.specs.Places.{AreInPlace}
+use Rattle.tree_format.specs.declared.plan_line.TextVersion.{TextVersion}
+use Rattle.tree_format.specs.declared.plan_line.TextVersion.TheVariants.{One, Two}
 
 -- position numbers as fields
 abbrev pub numbers : List ℕ → List (List ℕ)
@@ -19,12 +23,29 @@ kind_fields q (Whole value) = codes "W" ∷ decimal value ∷ numbers q
 kind_fields q (Mean bound) = codes "M" ∷ decimal bound ∷ numbers q
 kind_fields q (Tangent bound reference) = codes "T" ∷ decimal bound ∷ (numbers q ++ numbers reference)
 
-abbrev pub record_row : TreeNode → List (List ℕ)
-record_row r = kind_fields r.prefix r.kind
+-- the prefix of a record as its line has it, which version 2 leaves out
+abbrev pub written : TextVersion → List ℕ → List ℕ
+written One q = q
+written Two q = []
 
--- the rows of the lines, each as its fields: `plan 1`, `path NAME ..`, `chance V W`, `nodes N`
-abbrev pub path_rows : Problem → List ℕ → List (List (List ℕ))
-path_rows p q = (codes "plan" ∷ codes "1" ∷ []) ∷ (codes "path" ∷ map (position_name p) q) ∷ []
+abbrev pub record_row : TextVersion → TreeNode → List (List ℕ)
+record_row v r = kind_fields (written v r.prefix) r.kind
+
+-- the rows of the lines, each as its fields: `plan 1` or `plan 2`, `path NAME ..`, `chance V W`, `nodes N`
+abbrev pub version_word : TextVersion → List ℕ
+version_word One = codes "1"
+version_word Two = codes "2"
+
+abbrev pub version_row : TextVersion → List (List ℕ)
+version_row v = codes "plan" ∷ version_word v ∷ []
+
+abbrev pub path_rows : TextVersion → Problem → List ℕ → List (List (List ℕ))
+path_rows v p q = version_row v ∷ (codes "path" ∷ map (position_name p) q) ∷ []
+
+-- the line of the version with its line feed, and the word of the next line
+abbrev pub first_words : TextVersion → List ℕ
+first_words One = codes "plan 1" ++ 10 ∷ codes "path"
+first_words Two = codes "plan 2" ++ 10 ∷ codes "path"
 
 abbrev pub chance_row : ℕ → ℕ → List (List ℕ)
 chance_row value weight = codes "chance" ∷ decimal value ∷ decimal weight ∷ []
@@ -33,15 +54,22 @@ abbrev pub count_row : ℕ → List (List ℕ)
 count_row n = codes "nodes" ∷ decimal n ∷ []
 
 -- and then the records, and `end`
-abbrev pub plan_rows : Problem → Plan → List (List (List ℕ))
-plan_rows p plan =
-    path_rows p plan.standing.path
+abbrev pub plan_rows : TextVersion → Problem → Plan → List (List (List ℕ))
+plan_rows v p plan =
+    path_rows v p plan.standing.path
     ++ (chance_row plan.standing.value plan.weight
     ∷ count_row (length plan.tree)
-    ∷ (map record_row plan.tree ++ (codes "end" ∷ []) ∷ []))
+    ∷ (map (record_row v) plan.tree ++ (codes "end" ∷ []) ∷ []))
+
+-- the text of that version
+abbrev pub text_in : TextVersion → Problem → Plan → List ℕ
+text_in v p plan = text_of (plan_rows v p plan)
 
 abbrev pub plan_text : Problem → Plan → List ℕ
-plan_text p plan = text_of (plan_rows p plan)
+plan_text p plan = text_in One p plan
+
+abbrev pub plan_text_2 : Problem → Plan → List ℕ
+plan_text_2 p plan = text_in Two p plan
 
 -- all are positions of the problem
 abbrev pub ArePositions : Problem → List ℕ → Type 0
@@ -80,8 +108,19 @@ pub record IsNarrow (plan : Plan) : Type 0 where
   pub weight : plan.weight < 2 ^ 128
   pub records : All (λ r. IsNarrowKind r.kind) plan.tree
 
--- the bytes are the one text of this plan, which has one
+-- the bytes are the one text of version 1 of this plan, which has one
 pub record IsPlanText (p : Problem) (plan : Plan) (text : List ℕ) : Type 0 where
   pub printable : IsPrintable p plan
   pub narrow : IsNarrow plan
   pub spelled : text ≡ plan_text p plan
+
+-- they are the one text of version 2 of this plan, whose records have the prefixes that are expected
+pub record IsPlanText2 (p : Problem) (plan : Plan) (text : List ℕ) : Type 0 where
+  pub printable : IsPrintable p plan
+  pub narrow : IsNarrow plan
+  pub in_place : AreInPlace p ([] ∷ []) plan.tree
+  pub spelled : text ≡ plan_text_2 p plan
+
+-- they are the text of this plan in one of the versions
+abbrev pub IsTextOfPlan : Problem → Plan → List ℕ → Type 0
+IsTextOfPlan p plan text = IsPlanText p plan text ⊎ IsPlanText2 p plan text

@@ -1,5 +1,5 @@
 -- Reading line by line: what each line says, or its first fault.
-use Rattle.std.specs.Prelude.{ℕ, ◌+◌, ◌-◌, ◌*◌, Bool, true, false, ◌&&◌, ◌==◌, nat_le, if◌then◌else◌, List, [], ◌∷◌, ◌++◌, map, length, take, drop, Option, Some, None, position, Result, Ok, Err, codes}
+use Rattle.std.specs.Prelude.{ℕ, ◌+◌, ◌-◌, Bool, true, false, ◌&&◌, ◌==◌, nat_le, if◌then◌else◌, List, [], ◌∷◌, ◌++◌, map, length, take, drop, Option, Some, None, position, Result, Ok, Err, codes}
 use Rattle.std.specs.List.{list_any}
 use Rattle.std.specs.Str.{bytes_eq}
 use Rattle.exact_parts.specs.declared.number.Number.{Number}
@@ -10,12 +10,16 @@ use Rattle.bound_tree.specs.declared.node.Kind.{Kind}
 use Rattle.bound_tree.specs.declared.node.Kind.TheVariants.{Branch, Whole, Mean, Tangent}
 use Rattle.bound_tree.specs.declared.node.TreeNode.{TreeNode}
 use Rattle.bound_tree.specs.declared.plan.Plan.{Plan}
+use Rattle.bound_tree.specs.Places.{first_of, expected_behind}
+use Rattle.tree_format.specs.declared.plan_line.TextVersion.{TextVersion}
+use Rattle.tree_format.specs.declared.plan_line.TextVersion.TheVariants.{One, Two}
+use Rattle.tree_format.specs.declared.due.Due.{Due}
 use Rattle.tree_format.specs.declared.plan_line.Stage.{Stage}
 use Rattle.tree_format.specs.declared.plan_line.Stage.TheVariants as due
 use Rattle.tree_format.specs.declared.plan_line.PlanLine.{PlanLine}
 use Rattle.tree_format.specs.declared.plan_line.PlanLine.TheVariants.{Version, Path, Chance, Count, Node, End}
 use Rattle.tree_format.specs.declared.kind.PlanKind.{PlanKind}
-use Rattle.tree_format.specs.declared.kind.PlanKind.TheVariants.{BadLine, BadNumber, UnknownName, TooManyNodes, WrongCount, EarlyEnd, Rest}
+use Rattle.tree_format.specs.declared.kind.PlanKind.TheVariants.{BadLine, BadNumber, UnknownName, TooManyNodes, WrongCount, EarlyEnd, Rest, NoPlace, StillOpen}
 use Rattle.tree_format.specs.declared.kind.PlanFault.{PlanFault}
 use Rattle.tree_format.specs.declared.record_lines.Bounded.{Bounded}
 use Rattle.text_rows.specs.Lines.{pieces_of}
@@ -54,9 +58,12 @@ all_of says (field ∷ fields) = in_front (says field) (all_of says fields)
 
 -- The lines above the records.
 
--- `plan 1`
+-- `plan 1` or `plan 2`
+abbrev pub version_said : List ℕ → Result PlanLine PlanKind
+version_said number = if is_word number (codes "1") then Ok (Version One) else (if is_word number (codes "2") then Ok (Version Two) else Err BadLine)
+
 abbrev pub version_line : List (List ℕ) → Result PlanLine PlanKind
-version_line (word ∷ version ∷ []) = if is_word word (codes "plan") && is_word version (codes "1") then Ok Version else Err BadLine
+version_line (word ∷ number ∷ []) = if is_word word (codes "plan") then version_said number else Err BadLine
 version_line _ = Err BadLine
 
 -- `path NAME ..`
@@ -93,14 +100,19 @@ count_line _ = Err BadLine
 
 -- The records.
 
+-- the most cells that the prefix on a record's line may have: none in version 2, which leaves it out
+abbrev pub most_cells : Problem → TextVersion → ℕ
+most_cells p One = p.horizon
+most_cells p Two = 0
+
 -- `B`, behind its letter
 abbrev pub branch_of : Option (List ℕ) → Result TreeNode PlanKind
 branch_of None = Err BadNumber
 branch_of (Some q) = Ok (record { prefix = q; kind = Branch })
 
--- the number of cells goes before the cells
-abbrev pub branch_line : Problem → List (List ℕ) → Result TreeNode PlanKind
-branch_line p cells = if nat_le (length cells) p.horizon then branch_of (all_of (place_in p) cells) else Err BadLine
+-- at most so many cells, and their number goes before them
+abbrev pub branch_line : Problem → ℕ → List (List ℕ) → Result TreeNode PlanKind
+branch_line p most cells = if nat_le (length cells) most then branch_of (all_of (place_in p) cells) else Err BadLine
 
 -- `W` and `M`, behind their letters
 abbrev pub bounded_of : Option ℕ → Option (List ℕ) → Result Bounded PlanKind
@@ -108,10 +120,10 @@ bounded_of None q = Err BadNumber
 bounded_of (Some n) None = Err BadNumber
 bounded_of (Some n) (Some q) = Ok (record { bound = n; prefix = q })
 
--- at least the number, and at most as many cells as periods
-abbrev pub bounded_line : Problem → List (List ℕ) → Result Bounded PlanKind
-bounded_line p [] = Err BadLine
-bounded_line p (bound ∷ cells) = if nat_le (length cells) p.horizon then bounded_of (amount_in bound) (all_of (place_in p) cells) else Err BadLine
+-- at least the number, and at most so many cells
+abbrev pub bounded_line : Problem → ℕ → List (List ℕ) → Result Bounded PlanKind
+bounded_line p most [] = Err BadLine
+bounded_line p most (bound ∷ cells) = if nat_le (length cells) most then bounded_of (amount_in bound) (all_of (place_in p) cells) else Err BadLine
 
 -- a record of that kind
 abbrev pub node_of : (ℕ → Kind) → Result Bounded PlanKind → Result TreeNode PlanKind
@@ -125,73 +137,106 @@ tangent_of (Some n) None reference = Err BadNumber
 tangent_of (Some n) (Some q) None = Err BadNumber
 tangent_of (Some n) (Some q) (Some reference) = Ok (record { prefix = q; kind = Tangent n reference })
 
--- as many cells as periods, up to twice as many
-abbrev pub tangent_at : Problem → List ℕ → List (List ℕ) → Result TreeNode PlanKind
-tangent_at p bound cells =
-    if nat_le p.horizon (length cells) && nat_le (length cells) (2 * p.horizon)
+-- as many cells as periods, and at most so many more
+abbrev pub tangent_at : Problem → ℕ → List ℕ → List (List ℕ) → Result TreeNode PlanKind
+tangent_at p most bound cells =
+    if nat_le p.horizon (length cells) && nat_le (length cells) (most + p.horizon)
     then tangent_of (amount_in bound) (all_of (place_in p) (take (length cells - p.horizon) cells)) (all_of (place_in p) (drop (length cells - p.horizon) cells))
     else Err BadLine
 
 -- at least the number
-abbrev pub tangent_line : Problem → List (List ℕ) → Result TreeNode PlanKind
-tangent_line p [] = Err BadLine
-tangent_line p (bound ∷ cells) = tangent_at p bound cells
+abbrev pub tangent_line : Problem → ℕ → List (List ℕ) → Result TreeNode PlanKind
+tangent_line p most [] = Err BadLine
+tangent_line p most (bound ∷ cells) = tangent_at p most bound cells
 
 -- a record, by its letter
-abbrev pub node_line : Problem → List (List ℕ) → Result TreeNode PlanKind
-node_line p [] = Err BadLine
-node_line p (letter ∷ fields) =
-    if is_word letter (codes "B") then branch_line p fields else
-    (if is_word letter (codes "W") then node_of (λ n. Whole n) (bounded_line p fields) else
-    (if is_word letter (codes "M") then node_of (λ n. Mean n) (bounded_line p fields) else
-    (if is_word letter (codes "T") then tangent_line p fields else Err BadLine)))
+abbrev pub node_line : Problem → ℕ → List (List ℕ) → Result TreeNode PlanKind
+node_line p most [] = Err BadLine
+node_line p most (letter ∷ fields) =
+    if is_word letter (codes "B") then branch_line p most fields else
+    (if is_word letter (codes "W") then node_of (λ n. Whole n) (bounded_line p most fields) else
+    (if is_word letter (codes "M") then node_of (λ n. Mean n) (bounded_line p most fields) else
+    (if is_word letter (codes "T") then tangent_line p most fields else Err BadLine)))
+
+-- where this prefix is expected next, a record has it
+abbrev pub placed_at : Option (List ℕ) → TreeNode → Result PlanLine PlanKind
+placed_at None r = Err NoPlace
+placed_at (Some q) r = Ok (Node (record { prefix = q; kind = r.kind }))
+
+-- in version 2 a record has the prefix that is expected next
+abbrev pub placed : TextVersion → List (List ℕ) → TreeNode → Result PlanLine PlanKind
+placed One expected r = Ok (Node r)
+placed Two expected r = placed_at (first_of expected) r
 
 -- a record that is right in its form stands only where one is left
-abbrev pub node_said : ℕ → Result TreeNode PlanKind → Result PlanLine PlanKind
-node_said left (Err fault) = Err fault
-node_said left (Ok r) = if left == 0 then Err WrongCount else Ok (Node r)
+abbrev pub node_said : TextVersion → ℕ → List (List ℕ) → Result TreeNode PlanKind → Result PlanLine PlanKind
+node_said v left expected (Err fault) = Err fault
+node_said v left expected (Ok r) = if left == 0 then Err WrongCount else placed v expected r
 
 -- `end`
 abbrev pub is_end : List (List ℕ) → Bool
 is_end (word ∷ []) = is_word word (codes "end")
 is_end _ = false
 
--- it stands only where no record is left
-abbrev pub end_said : ℕ → Result PlanLine PlanKind
-end_said left = if left == 0 then Ok End else Err WrongCount
+-- where this prefix is expected next, no end stands
+abbrev pub ended_at : Option (List ℕ) → Result PlanLine PlanKind
+ended_at None = Ok End
+ended_at (Some q) = Err StillOpen
+
+-- in version 2 it stands only where no prefix is expected
+abbrev pub ending : TextVersion → List (List ℕ) → Result PlanLine PlanKind
+ending One expected = Ok End
+ending Two expected = ended_at (first_of expected)
+
+-- and in both only where no record is left
+abbrev pub end_said : TextVersion → ℕ → List (List ℕ) → Result PlanLine PlanKind
+end_said v left expected = if left == 0 then ending v expected else Err WrongCount
 
 -- a record or `end`
-abbrev pub record_line : Problem → ℕ → List (List ℕ) → Result PlanLine PlanKind
-record_line p left fields = if is_end fields then end_said left else node_said left (node_line p fields)
+abbrev pub record_line : Problem → TextVersion → ℕ → List (List ℕ) → List (List ℕ) → Result PlanLine PlanKind
+record_line p v left expected fields = if is_end fields then end_said v left expected else node_said v left expected (node_line p (most_cells p v) fields)
 
 -- All lines.
 
--- what a line says where it is due
-abbrev pub stage_line : Problem → Stage → List (List ℕ) → Result PlanLine PlanKind
-stage_line p due.Version fields = version_line fields
-stage_line p due.Path fields = path_line p fields
-stage_line p due.Chance fields = chance_line fields
-stage_line p due.Count fields = count_line fields
-stage_line p (due.Records left) fields = record_line p left fields
-stage_line p due.Ended fields = Err BadLine
+-- what a line says where this stage is due, of a text of this version, and where these prefixes are expected
+abbrev pub stage_line : Problem → TextVersion → Stage → List (List ℕ) → List (List ℕ) → Result PlanLine PlanKind
+stage_line p v due.Version expected fields = version_line fields
+stage_line p v due.Path expected fields = path_line p fields
+stage_line p v due.Chance expected fields = chance_line fields
+stage_line p v due.Count expected fields = count_line fields
+stage_line p v (due.Records left) expected fields = record_line p v left expected fields
+stage_line p v due.Ended expected fields = Err BadLine
 
--- what a line says, by its fields
-unfoldable pub line_at : Problem → Stage → List (List ℕ) → Result PlanLine PlanKind
-line_at p stage fields = if list_any (λ f. length f == 0) fields then Err BadLine else stage_line p stage fields
+-- what a line says where it is due, by its fields
+unfoldable pub line_at : Problem → Due → List (List ℕ) → Result PlanLine PlanKind
+line_at p d fields = if list_any (λ f. length f == 0) fields then Err BadLine else stage_line p d.version d.stage d.expected fields
 
 -- one record less is left
 abbrev pub one_less : Stage → Stage
 one_less (due.Records left) = due.Records (left - 1)
 one_less stage = stage
 
+-- the prefixes that are expected behind a record of this kind: in version 1 its line has its own
+abbrev pub places_behind : Problem → TextVersion → List (List ℕ) → Kind → List (List ℕ)
+places_behind p One expected kind = expected
+places_behind p Two expected kind = expected_behind p expected kind
+
+-- at this line
+abbrev pub with_stage : Stage → Due → Due
+with_stage stage d = record { version = d.version; stage = stage; expected = d.expected }
+
 -- what is due behind a line
-abbrev pub next : Stage → PlanLine → Stage
-next stage Version = due.Path
-next stage (Path q) = due.Chance
-next stage (Chance v w) = due.Count
-next stage (Count n) = due.Records n
-next stage (Node r) = one_less stage
-next stage End = due.Ended
+abbrev pub next : Problem → Due → PlanLine → Due
+next p d (Version v) = record { version = v; stage = due.Path; expected = d.expected }
+next p d (Path q) = with_stage due.Chance d
+next p d (Chance v w) = with_stage due.Count d
+next p d (Count n) = with_stage (due.Records n) d
+next p d (Node r) = record { version = d.version; stage = one_less d.stage; expected = places_behind p d.version d.expected r.kind }
+next p d End = with_stage due.Ended d
+
+-- the first line is due, and then a record would have the empty prefix
+abbrev pub at_start : Due
+at_start = record { version = One; stage = due.Version; expected = [] ∷ [] }
 
 -- nothing was read
 abbrev pub blank_plan : Plan
@@ -199,7 +244,7 @@ blank_plan = record { standing = record { path = []; value = 0 }; weight = 0; tr
 
 -- what was read, and a line more
 abbrev pub taken : Plan → PlanLine → Plan
-taken plan Version = plan
+taken plan (Version v) = plan
 taken plan (Path q) = record { standing = record { path = q; value = plan.standing.value }; weight = plan.weight; tree = plan.tree }
 taken plan (Chance v w) = record { standing = record { path = plan.standing.path; value = v }; weight = w; tree = plan.tree }
 taken plan (Count n) = plan
@@ -222,16 +267,16 @@ go_on number (Ok line) more = more line
 
 -- what the pieces of a text say, the first of them having this number: the lines up to `end`, and then nothing; the first
 -- line with a fault decides, and a line that is due and has no line feed has that fault before all others
-unfoldable pub pieces_at : Problem → ℕ → Stage → Plan → List (List ℕ) → Result Plan PlanFault
-pieces_at p number stage plan [] = Err (at_line_number number EarlyEnd)
-pieces_at p number stage plan (line ∷ rest) =
-    if is_ended stage then (if length line == 0 && length rest == 0 then Ok plan else Err (at_line_number number Rest)) else
+unfoldable pub pieces_at : Problem → ℕ → Due → Plan → List (List ℕ) → Result Plan PlanFault
+pieces_at p number d plan [] = Err (at_line_number number EarlyEnd)
+pieces_at p number d plan (line ∷ rest) =
+    if is_ended d.stage then (if length line == 0 && length rest == 0 then Ok plan else Err (at_line_number number Rest)) else
     (if length rest == 0 then Err (at_line_number number EarlyEnd) else
-    go_on number (line_at p stage (exact_fields line)) (λ said. pieces_at p (number + 1) (next stage said) (taken plan said) rest))
+    go_on number (line_at p d (exact_fields line)) (λ said. pieces_at p (number + 1) (next p d said) (taken plan said) rest))
 
 -- the plan that a text spells, or its first fault
 abbrev pub plan_at : Problem → List ℕ → Result Plan PlanFault
-plan_at p text = pieces_at p 1 due.Version blank_plan (pieces_of text)
+plan_at p text = pieces_at p 1 at_start blank_plan (pieces_of text)
 
 -- the first 40 bytes of each of the first 70 fields: the judge of a line needs no more of it
 abbrev pub summary_of : List (List ℕ) → List (List ℕ)

@@ -1,10 +1,11 @@
 -- What holds of reading the text of a plan.
-use Rattle.std.specs.Prelude.{ℕ, ◌≡◌, ◌↔◌, List, Ok, Err}
+use Rattle.std.specs.Prelude.{ℕ, ◌≡◌, ◌↔◌, List, [], ◌∷◌, Ok, Err}
 use Rattle.search_model.specs.Problem.{Problem, IsProblem}
 use Rattle.bound_tree.specs.declared.plan.Plan.{Plan}
+use Rattle.bound_tree.specs.Places.{AreInPlace}
 use Rattle.tree_format.specs.declared.kind.PlanFault.{PlanFault}
-use Rattle.tree_format.specs.declared.plan_line.Stage.{Stage}
-use Rattle.tree_format.specs.PlanText.{IsPrintable, IsNarrow, IsPlanText, plan_text}
+use Rattle.tree_format.specs.declared.due.Due.{Due}
+use Rattle.tree_format.specs.PlanText.{IsPrintable, IsNarrow, IsTextOfPlan, plan_text, plan_text_2}
 use Rattle.tree_format.specs.Reading.{line_at, plan_at, summary_of}
 use Rattle.tree_format.specs.Faults.{IsFirstFault}
 
@@ -12,17 +13,21 @@ use Rattle.tree_format.specs.Faults.{IsFirstFault}
 abbrev pub PlanTextReadsBack : Type 0
 PlanTextReadsBack = (p : Problem) (plan : Plan) → IsProblem p → IsPrintable p plan → IsNarrow plan → plan_at p (plan_text p plan) ≡ Ok plan
 
--- what is read as a plan is the text of that plan
+-- and so does the text of version 2, where the records have the prefixes that are expected
+abbrev pub PlanText2ReadsBack : Type 0
+PlanText2ReadsBack = (p : Problem) (plan : Plan) → IsProblem p → IsPrintable p plan → IsNarrow plan → AreInPlace p ([] ∷ []) plan.tree → plan_at p (plan_text_2 p plan) ≡ Ok plan
+
+-- what is read as a plan is the text of that plan in one of the versions
 abbrev pub OneTextAPlan : Type 0
-OneTextAPlan = (p : Problem) (plan : Plan) (text : List ℕ) → IsProblem p → plan_at p text ≡ Ok plan → IsPlanText p plan text
+OneTextAPlan = (p : Problem) (plan : Plan) (text : List ℕ) → IsProblem p → plan_at p text ≡ Ok plan → IsTextOfPlan p plan text
 
 -- two plans of one text are one plan
 abbrev pub OnePlanAText : Type 0
-OnePlanAText = (p : Problem) (a b : Plan) (text : List ℕ) → IsProblem p → IsPlanText p a text → IsPlanText p b text → a ≡ b
+OnePlanAText = (p : Problem) (a b : Plan) (text : List ℕ) → IsProblem p → IsTextOfPlan p a text → IsTextOfPlan p b text → a ≡ b
 
 -- a line is judged by the first 40 bytes of each of its first 70 fields
 abbrev pub SummaryDecides : Type 0
-SummaryDecides = (p : Problem) (stage : Stage) (fields : List (List ℕ)) → IsProblem p → line_at p stage (summary_of fields) ≡ line_at p stage fields
+SummaryDecides = (p : Problem) (d : Due) (fields : List (List ℕ)) → IsProblem p → line_at p d (summary_of fields) ≡ line_at p d fields
 
 -- the fault that reading gives is the first one
 abbrev pub FirstFaultDecides : Type 0

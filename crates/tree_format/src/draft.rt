@@ -1,11 +1,11 @@
-use crate::plan_line::Stage;
+use crate::due::Due;
 use bound_tree::TreeNode;
 use search_model::Path;
 
 /// What was read so far, and the line that is due.
 #[derive(Drop)]
 pub struct Draft {
-    pub stage: Stage,
+    pub due: Due,
     pub path: Path,
     pub value: u128,
     pub weight: u128,

@@ -1,6 +1,7 @@
 //! A plan from its text in pieces of any length.
 
-ghost use Rattle.std.specs.Prelude.{◌≡◌, ◌<◌, ◌≤◌, ◌+◌, ◌∷◌, [], ◌++◌, ℕ, List, length, take, IfOk, IfErr};
+ghost use Rattle.std.specs.Prelude.{◌≡◌, ◌<◌, ◌≤◌, ◌+◌, ◌∷◌, [], ◌++◌, ℕ, List, length, take, IfOk, IfErr, All};
+ghost use Rattle.search_model.specs.Legal.{IsLegal};
 ghost use Rattle.text_rows.specs.Fields.{exact_fields};
 ghost use Rattle.tree_format.specs.Reading.{line_at, next};
 ghost use Rattle.tree_format.specs.FeedSteps.{moved, step_of, line_ended, byte_fed, IsNumbered};
@@ -10,14 +11,14 @@ ghost use Rattle.tree_format.specs.declared.plan_item.Step.TheVariants as step;
 ghost use Rattle.tree_format.specs.declared.kind.PlanFault.{PlanFault as FaultLem};
 ghost use Rattle.search_model.specs.Problem.{Problem};
 
-use crate::adding::one_less;
+use crate::adding::pass_record;
+use crate::due::{Due, first_due, is_ended};
 use crate::gathered_line::GatheredLine;
 use crate::kind::{PlanFault, PlanKind};
 use crate::lines::read_line;
 use crate::pieces::first_fields;
 use crate::plan_item::{Fed, PlanItem, Step};
 use crate::plan_line::{PlanLine, Stage};
-use crate::reading::is_ended;
 use exact_parts::NoMemory;
 use search_model::{Path, Scenario, Standing};
 use std::alloc::Global;
@@ -28,7 +29,7 @@ use std::marker::Model;
 #[derive(Drop)]
 pub struct PlanFeed {
     number: u64,
-    stage: Stage,
+    due: Due,
     standing: Standing,
     weight: u128,
     line: GatheredLine,
@@ -39,56 +40,57 @@ impl Model for PlanFeed {
 
     ghost Value = { Stand };
 
-    ghost view = { λ f. record { number = f.number; stage = f.stage; standing = f.standing; weight = f.weight; line = f.line } };
+    ghost view = { λ f. record { number = f.number; due = f.due; standing = f.standing; weight = f.weight; line = f.line } };
 
-    ghost invariant = { λ f. IsNumbered f.stage f.number };
+    ghost invariant = { λ f. IsNumbered f.due.stage f.number };
 }
 
-/// What the line that was gathered says where this is due, or its first fault.
-fn judge(line: &GatheredLine, sc: &Scenario, stage: Stage) -> Result<PlanLine, PlanKind>
-    ensures said { result ≡ line_at sc.now stage (exact_fields line.now.text) }
-    ensures numbered { IfOk result (λ said. (number : ℕ) → IsNumbered stage number → IsNumbered (next stage said) (number + 1)) }
+/// What the line that was gathered says where it is due, or its first fault.
+fn judge(line: &GatheredLine, sc: &Scenario, due: &Due) -> Result<PlanLine, PlanKind>
+    ensures said { result ≡ line_at sc.now due.now (exact_fields line.now.text) }
+    ensures numbered { IfOk result (λ said. (number : ℕ) → IsNumbered due.now.stage number → IsNumbered (next sc.now due.now said).stage (number + 1)) }
 {
     let _cells = sc.cells();
     let fields = first_fields(line.text());
-    read_line(sc, stage, &fields.items[..fields.len])
+    read_line(sc, due, &fields.items[..fields.len])
 }
 
 impl PlanFeed {
     /// Goes on behind a line that says this.
-    fn move_on(&mut self, said: PlanLine) -> Step
-        requires { IsNumbered (next self.old.stage said) (self.old.number + 1) }
+    fn move_on(&mut self, sc: &Scenario, said: PlanLine) -> Step
+        requires { IsNumbered (next sc.now self.old.due said).stage (self.old.number + 1) }
         ensures step { result ≡ step_of self.old said }
-        ensures stand { self.new ≡ moved self.old said }
+        ensures stand { All (IsLegal sc.now) self.old.due.expected → self.new ≡ moved sc.now self.old said }
     {
         self.line.clear();
         self.number += 1;
         match said {
-            PlanLine::Version => {
-                self.stage = Stage::Path;
+            PlanLine::Version(version) => {
+                self.due.version = version;
+                self.due.stage = Stage::Path;
                 Step::More
             }
             PlanLine::Path(path) => {
-                self.stage = Stage::Chance;
+                self.due.stage = Stage::Chance;
                 self.standing.path = path;
                 Step::More
             }
             PlanLine::Chance(value, weight) => {
-                self.stage = Stage::Count;
+                self.due.stage = Stage::Count;
                 self.standing.value = value;
                 self.weight = weight;
                 Step::More
             }
             PlanLine::Count(count) => {
-                self.stage = Stage::Records(count);
+                self.due.stage = Stage::Records(count);
                 Step::Item(PlanItem::Head(self.standing, self.weight, count))
             }
             PlanLine::Node(node) => {
-                self.stage = one_less(self.stage);
+                pass_record(&mut self.due, sc, &node.kind);
                 Step::Item(PlanItem::Node(node))
             }
             PlanLine::End => {
-                self.stage = Stage::Ended;
+                self.due.stage = Stage::Ended;
                 Step::Item(PlanItem::End)
             }
         }
@@ -96,11 +98,11 @@ impl PlanFeed {
 
     /// Takes the line feed of the line that is due.
     fn end_line(&mut self, sc: &Scenario) -> Step
-        ensures step { result ≡ (line_ended self.old (line_at sc.now self.old.stage (exact_fields self.old.line.text))).step }
-        ensures stand { self.new ≡ (line_ended self.old (line_at sc.now self.old.stage (exact_fields self.old.line.text))).stand }
+        ensures step { result ≡ (line_ended sc.now self.old (line_at sc.now self.old.due (exact_fields self.old.line.text))).step }
+        ensures stand { All (IsLegal sc.now) self.old.due.expected → self.new ≡ (line_ended sc.now self.old (line_at sc.now self.old.due (exact_fields self.old.line.text))).stand }
     {
-        match judge(&self.line, sc, self.stage) {
-            Ok(said) => self.move_on(said),
+        match judge(&self.line, sc, &self.due) {
+            Ok(said) => self.move_on(sc, said),
             Err(kind) => Step::Fault(PlanFault {
                 line: self.number,
                 kind,
@@ -111,9 +113,9 @@ impl PlanFeed {
     /// Takes a byte: how the state changes.
     fn step(&mut self, sc: &Scenario, byte: u8) -> Step
         ensures step { result ≡ (byte_fed sc.now byte self.old).step }
-        ensures stand { self.new ≡ (byte_fed sc.now byte self.old).stand }
+        ensures stand { All (IsLegal sc.now) self.old.due.expected → self.new ≡ (byte_fed sc.now byte self.old).stand }
     {
-        if is_ended(self.stage) {
+        if is_ended(self.due.stage) {
             return Step::Fault(PlanFault {
                 line: self.number,
                 kind: PlanKind::Rest,
@@ -138,10 +140,11 @@ impl PlanFeed {
     pub fn start(alloc: Global, sc: &Scenario) -> Result<PlanFeed, NoMemory>
         ensures { IfOk result (λ feed. HasRead sc.now [] [] feed) }
     {
+        let due = first_due(alloc)?;
         let line = GatheredLine::empty(alloc)?;
         Ok(PlanFeed {
             number: 1,
-            stage: Stage::Version,
+            due,
             standing: Standing {
                 path: Path::empty(),
                 value: 0,
@@ -197,7 +200,7 @@ impl PlanFeed {
         ensures whole { (p : Problem) (fed : List ℕ) (items : List ItemLem) → HasRead p fed items self.now → IfOk result (λ _. IsWhole p fed items) }
         ensures early { (p : Problem) (fed : List ℕ) (items : List ItemLem) → HasRead p fed items self.now → IfErr result (λ fault. IsCutOff p fed fault) }
     {
-        if is_ended(self.stage) {
+        if is_ended(self.due.stage) {
             Ok(())
         } else {
             Err(PlanFault {

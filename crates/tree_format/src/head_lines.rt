@@ -1,24 +1,35 @@
 //! The lines above the records.
 
 ghost use Rattle.std.specs.Prelude.{◌≡◌, map};
-ghost use Rattle.tree_format.specs.Reading.{version_line, path_line, chance_line, count_said, count_line};
+ghost use Rattle.tree_format.specs.Reading.{version_said, version_line, path_line, chance_line, count_said, count_line};
 
 use crate::fields::{amount_in, positions_named};
 use crate::kind::PlanKind;
-use crate::plan_line::PlanLine;
+use crate::plan_line::{PlanLine, TextVersion};
 use search_model::Scenario;
 
 /// The most records of a plan.
 const MOST_NODES: u128 = 1_048_576;
 
-/// `plan 1`
+/// The version of this number.
+fn version_of(number: &[u8]) -> Result<PlanLine, PlanKind>
+    ensures { result ≡ version_said number.now }
+{
+    if number == b"1".as_slice() {
+        Ok(PlanLine::Version(TextVersion::One))
+    } else if number == b"2".as_slice() {
+        Ok(PlanLine::Version(TextVersion::Two))
+    } else {
+        Err(PlanKind::BadLine)
+    }
+}
+
+/// `plan 1` or `plan 2`
 pub fn read_version(fields: &[&[u8]]) -> Result<PlanLine, PlanKind>
     ensures { result ≡ version_line (map (λ f. f.now) fields.now) }
 {
     match fields {
-        [word, version] if *word == b"plan".as_slice() && *version == b"1".as_slice() => {
-            Ok(PlanLine::Version)
-        }
+        [word, number] if *word == b"plan".as_slice() => version_of(number),
         _ => Err(PlanKind::BadLine),
     }
 }

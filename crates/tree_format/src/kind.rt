@@ -18,6 +18,10 @@ pub enum PlanKind {
     EarlyEnd,
     /// A byte follows the last line.
     Rest,
+    /// In version 2 a record where no prefix is expected.
+    NoPlace,
+    /// In version 2 the end where a prefix is expected.
+    StillOpen,
 }
 
 /// The first line with a fault, counted from 1.
@@ -39,5 +43,7 @@ pub fn plan_kind_name(kind: PlanKind) -> &'static str
         PlanKind::WrongCount => "WrongCount",
         PlanKind::EarlyEnd => "EarlyEnd",
         PlanKind::Rest => "Rest",
+        PlanKind::NoPlace => "NoPlace",
+        PlanKind::StillOpen => "StillOpen",
     }
 }

@@ -1,7 +1,7 @@
 //! Laws over the definitions.
 
 ghost use Rattle.tree_format.specs.KindTable.{KindsByTable};
-ghost use Rattle.tree_format.specs.ReadingLaws.{PlanTextReadsBack, OneTextAPlan, OnePlanAText, FirstFaultDecides, SummaryDecides};
+ghost use Rattle.tree_format.specs.ReadingLaws.{PlanTextReadsBack, PlanText2ReadsBack, OneTextAPlan, OnePlanAText, FirstFaultDecides, SummaryDecides};
 
 /// The text of a plan reads back as that plan.
 #[tactic(auto, using(crate::proofs::ReadsBack::plan_text_reads_back))]
@@ -9,7 +9,13 @@ pub fn plan_text_reads_back()
     ensures { PlanTextReadsBack }
 {}
 
-/// What is read as a plan is the text of that plan: a plan has one.
+/// And so does the text of version 2.
+#[tactic(auto, using(crate::proofs::ReadsBack::plan_text_2_reads_back))]
+pub fn plan_text_2_reads_back()
+    ensures { PlanText2ReadsBack }
+{}
+
+/// What is read as a plan is the text of that plan in one of the versions: a plan has one in each.
 #[tactic(auto, using(crate::proofs::Spelled::one_text_a_plan))]
 pub fn one_text_a_plan()
     ensures { OneTextAPlan }

@@ -3,6 +3,7 @@
 
 mod adding;
 mod draft;
+mod due;
 mod feed;
 mod feed_laws;
 #[cfg(test)]
@@ -15,6 +16,8 @@ mod kind;
 mod laws;
 mod lines;
 mod pieces;
+mod places;
+mod placing;
 mod plan_item;
 mod plan_line;
 mod printing;
@@ -33,11 +36,12 @@ pub use feed_laws::{
 };
 pub use kind::{PlanFault, PlanKind, plan_kind_name};
 pub use laws::{
-    first_fault_decides, kinds_by_table, one_plan_a_text, one_text_a_plan, plan_text_reads_back,
-    summary_decides,
+    first_fault_decides, kinds_by_table, one_plan_a_text, one_text_a_plan, plan_text_2_reads_back,
+    plan_text_reads_back, summary_decides,
 };
+pub use placing::are_in_place;
 pub use plan_item::{Fed, PlanItem, Step};
-pub use printing::print_plan;
+pub use printing::{print_plan, print_plan_2};
 pub use reading::read_plan;
 pub use stop::PlanStop;
 pub use writing::{push_names, push_number};

@@ -2,14 +2,15 @@
 
 ghost use Rattle.std.specs.Prelude.{◌≡◌, ◌==◌, map, length};
 ghost use Rattle.std.specs.List.{list_any};
-ghost use Rattle.tree_format.specs.Reading.{is_end as is_end_lem, end_said, node_said, record_line, stage_line, line_at};
+ghost use Rattle.tree_format.specs.Reading.{is_end as is_end_lem, ended_at as ended_at_lem, end_said, placed_at as placed_at_lem, placed as placed_lem, node_said, record_line, stage_line, line_at};
 
+use crate::due::Due;
 use crate::head_lines::{read_chance, read_count, read_path, read_version};
 use crate::kind::PlanKind;
-use crate::plan_line::{PlanLine, Stage};
-use crate::record_lines::read_node;
+use crate::plan_line::{PlanLine, Stage, TextVersion};
+use crate::record_lines::{most_cells, read_node};
 use bound_tree::TreeNode;
-use search_model::Scenario;
+use search_model::{Path, Scenario};
 
 fn is_end(fields: &[&[u8]]) -> bool
     ensures { result ≡ is_end_lem (map (λ f. f.now) fields.now) }
@@ -20,46 +21,88 @@ fn is_end(fields: &[&[u8]]) -> bool
     }
 }
 
-fn ending(left: u64) -> Result<PlanLine, PlanKind>
-    ensures { result ≡ end_said left }
+/// The end, where this prefix is expected next.
+fn ended_at(next: Option<Path>) -> Result<PlanLine, PlanKind>
+    ensures { result ≡ ended_at_lem next }
 {
-    if left == 0 {
-        Ok(PlanLine::End)
-    } else {
-        Err(PlanKind::WrongCount)
+    match next {
+        None => Ok(PlanLine::End),
+        Some(_) => Err(PlanKind::StillOpen),
     }
 }
 
-fn record_among(left: u64, node: Result<TreeNode, PlanKind>) -> Result<PlanLine, PlanKind>
-    ensures { result ≡ node_said left node }
+fn ending(due: &Due, left: u64) -> Result<PlanLine, PlanKind>
+    ensures { result ≡ end_said due.now.version left due.now.expected }
+{
+    if left != 0 {
+        return Err(PlanKind::WrongCount);
+    }
+    match due.version {
+        TextVersion::One => Ok(PlanLine::End),
+        TextVersion::Two => ended_at(due.expected.first()),
+    }
+}
+
+/// A record, where this prefix is expected next.
+fn placed_at(next: Option<Path>, node: TreeNode) -> Result<PlanLine, PlanKind>
+    ensures { result ≡ placed_at_lem next node }
+{
+    match next {
+        None => Err(PlanKind::NoPlace),
+        Some(prefix) => Ok(PlanLine::Node(TreeNode {
+            prefix,
+            kind: node.kind,
+        })),
+    }
+}
+
+fn placed(due: &Due, node: TreeNode) -> Result<PlanLine, PlanKind>
+    ensures { result ≡ placed_lem due.now.version due.now.expected node }
+{
+    match due.version {
+        TextVersion::One => Ok(PlanLine::Node(node)),
+        TextVersion::Two => placed_at(due.expected.first(), node),
+    }
+}
+
+fn record_among(
+    due: &Due,
+    left: u64,
+    node: Result<TreeNode, PlanKind>,
+) -> Result<PlanLine, PlanKind>
+    ensures { result ≡ node_said due.now.version left due.now.expected node }
 {
     match node {
         Err(kind) => Err(kind),
         Ok(_) if left == 0 => Err(PlanKind::WrongCount),
-        Ok(node) => Ok(PlanLine::Node(node)),
+        Ok(node) => placed(due, node),
     }
 }
 
 /// A record, or `end`
-fn read_record(sc: &Scenario, left: u64, fields: &[&[u8]]) -> Result<PlanLine, PlanKind>
-    ensures { result ≡ record_line sc.now left (map (λ f. f.now) fields.now) }
+fn read_record(sc: &Scenario, due: &Due, left: u64, fields: &[&[u8]]) -> Result<PlanLine, PlanKind>
+    ensures { result ≡ record_line sc.now due.now.version left due.now.expected (map (λ f. f.now) fields.now) }
 {
     if is_end(fields) {
-        ending(left)
+        ending(due, left)
     } else {
-        record_among(left, read_node(sc, fields))
+        record_among(
+            due,
+            left,
+            read_node(sc, most_cells(sc, due.version), fields),
+        )
     }
 }
 
-fn read_stage(sc: &Scenario, stage: Stage, fields: &[&[u8]]) -> Result<PlanLine, PlanKind>
-    ensures { result ≡ stage_line sc.now stage (map (λ f. f.now) fields.now) }
+fn read_stage(sc: &Scenario, due: &Due, fields: &[&[u8]]) -> Result<PlanLine, PlanKind>
+    ensures { result ≡ stage_line sc.now due.now.version due.now.stage due.now.expected (map (λ f. f.now) fields.now) }
 {
-    match stage {
+    match due.stage {
         Stage::Version => read_version(fields),
         Stage::Path => read_path(sc, fields),
         Stage::Chance => read_chance(fields),
         Stage::Count => read_count(fields),
-        Stage::Records(left) => read_record(sc, left, fields),
+        Stage::Records(left) => read_record(sc, due, left, fields),
         Stage::Ended => Err(PlanKind::BadLine),
     }
 }
@@ -76,14 +119,14 @@ fn has_empty(fields: &[&[u8]]) -> bool
     false
 }
 
-/// What a line says by its fields where this stage is due, or its first fault. It takes no memory.
+/// What a line says by its fields where this is due, or its first fault. It takes no memory.
 #[tactic(auto, unfolding(crate::specs::Reading::line_at))]
-pub fn read_line(sc: &Scenario, stage: Stage, fields: &[&[u8]]) -> Result<PlanLine, PlanKind>
-    ensures { result ≡ line_at sc.now stage (map (λ f. f.now) fields.now) }
+pub fn read_line(sc: &Scenario, due: &Due, fields: &[&[u8]]) -> Result<PlanLine, PlanKind>
+    ensures { result ≡ line_at sc.now due.now (map (λ f. f.now) fields.now) }
 {
     if has_empty(fields) {
         Err(PlanKind::BadLine)
     } else {
-        read_stage(sc, stage, fields)
+        read_stage(sc, due, fields)
     }
 }

@@ -1,54 +1,50 @@
 //! Plans from their text.
 
-ghost use Rattle.std.specs.Prelude.{◌≡◌, ◌↔◌, IsTrue, IfOk};
+ghost use Rattle.std.specs.Prelude.{◌≡◌, ◌↔◌, IsTrue, IfOk, All};
+ghost use Rattle.search_model.specs.Legal.{IsLegal};
 ghost use Rattle.bound_tree.specs.declared.plan.Plan.{Plan as PlanLem};
-ghost use Rattle.tree_format.specs.declared.plan_line.Stage.TheVariants as due;
 ghost use Rattle.tree_format.specs.declared.kind.PlanFault.{PlanFault as FaultLem};
 ghost use Rattle.text_rows.specs.Fields.{exact_fields};
 ghost use Rattle.tree_format.specs.Faults.{IsFirstFault};
 ghost use Rattle.tree_format.specs.Gives.{TakesLine, Gives, ReadsPlan, Says, Tells, IfFault, plan_of};
-ghost use Rattle.tree_format.specs.Reading.{blank_plan, line_at, plan_at};
-ghost use Rattle.tree_format.specs.PlanText.{IsPlanText};
+ghost use Rattle.tree_format.specs.Reading.{at_start, blank_plan, line_at, plan_at};
+ghost use Rattle.tree_format.specs.PlanText.{IsPrintable, IsTextOfPlan};
 
 use crate::adding::add_line;
 use crate::draft::Draft;
+use crate::due::{first_due, is_ended};
 use crate::kind::{PlanFault, PlanKind};
 use crate::lines::read_line;
 use crate::pieces::first_fields;
-use crate::plan_line::Stage;
 use crate::stop::PlanStop;
 use bound_tree::{BoundTree, Plan};
+use exact_parts::NoMemory;
 use search_model::{Path, Scenario, Standing};
 use std::alloc::Global;
 use text_rows::cut;
 
-pub fn is_ended(stage: Stage) -> bool
-    ensures { IsTrue result ↔ (stage ≡ Stage.Ended) }
+fn blank_draft(alloc: Global) -> Result<Draft, NoMemory>
+    ensures due { IfOk result (λ draft. draft.due ≡ at_start) }
+    ensures plan { IfOk result (λ draft. plan_of draft ≡ blank_plan) }
 {
-    matches!(stage, Stage::Ended)
-}
-
-fn blank_draft(alloc: Global) -> Draft
-    ensures stage { result.stage ≡ due.Version }
-    ensures plan { plan_of result ≡ blank_plan }
-{
-    Draft {
-        stage: Stage::Version,
+    Ok(Draft {
+        due: first_due(alloc)?,
         path: Path::empty(),
         value: 0,
         weight: 0,
         nodes: Vec::new(alloc),
-    }
+    })
 }
 
 /// Reads the line of this number.
 fn take_line(draft: &mut Draft, sc: &Scenario, number: u64, line: &[u8]) -> Result<(), PlanStop>
-    ensures { TakesLine number draft.old draft.new result (line_at sc.now draft.old.stage (exact_fields line.now)) }
+    requires { All (IsLegal sc.now) draft.old.due.expected }
+    ensures { TakesLine sc.now number draft.old draft.new result (line_at sc.now draft.old.due (exact_fields line.now)) }
 {
     let _cells = sc.cells();
     let fields = first_fields(line);
-    match read_line(sc, draft.stage, &fields.items[..fields.len]) {
-        Ok(said) => Ok(add_line(draft, said)?),
+    match read_line(sc, &draft.due, &fields.items[..fields.len]) {
+        Ok(said) => Ok(add_line(draft, sc, said)?),
         Err(kind) => Err(PlanStop::Fault(PlanFault { line: number, kind })),
     }
 }
@@ -58,10 +54,11 @@ fn take_line(draft: &mut Draft, sc: &Scenario, number: u64, line: &[u8]) -> Resu
 fn read_lines(alloc: Global, sc: &Scenario, text: &[u8]) -> Result<Draft, PlanStop>
     ensures { Gives result (plan_at sc.now text.now) }
 {
-    let mut draft = blank_draft(alloc);
+    let _cells = sc.cells();
+    let mut draft = blank_draft(alloc)?;
     let mut rest = text;
     let mut number = 1u64;
-    'lines: while !is_ended(draft.stage) {
+    'lines: while !is_ended(draft.due.stage) {
         let Some((line, after)) = cut(rest, b'\n') else {
             return Err(PlanStop::Fault(PlanFault {
                 line: number,
@@ -95,7 +92,7 @@ fn plan_from(draft: Draft) -> Plan
     }
 }
 
-/// The plan whose text this is, to its last byte.
+/// The plan whose text this is, of either version and to its last byte.
 ///
 /// # Errors
 ///
@@ -103,8 +100,9 @@ fn plan_from(draft: Draft) -> Plan
 /// long it is, but for the record that it adds.
 pub fn read_plan(alloc: Global, sc: &Scenario, text: &[u8]) -> Result<Plan, PlanStop>
     ensures reads { ReadsPlan sc.now text.now result }
-    ensures spelled { IfOk result (λ plan. IsPlanText sc.now plan text.now) }
-    ensures exact { (plan : PlanLem) → IsPlanText sc.now plan text.now → Says result plan }
+    ensures spelled { IfOk result (λ plan. IsTextOfPlan sc.now plan text.now) }
+    ensures printable { IfOk result (λ plan. IsPrintable sc.now plan) }
+    ensures exact { (plan : PlanLem) → IsTextOfPlan sc.now plan text.now → Says result plan }
     ensures first { IfFault result (IsFirstFault sc.now text.now) }
     ensures faulty { (fault : FaultLem) → IsFirstFault sc.now text.now fault → Tells result fault }
 {

@@ -1,10 +1,11 @@
 //! The fields of a record's line.
 
-ghost use Rattle.std.specs.Prelude.{◌≡◌, ◌≤◌, ◌↔◌, map, length, IsTrue};
-ghost use Rattle.tree_format.specs.Reading.{branch_line, bounded_line, tangent_of as tangent_of_lem, tangent_at as tangent_at_lem, tangent_line, node_line};
+ghost use Rattle.std.specs.Prelude.{◌≡◌, ◌≤◌, map};
+ghost use Rattle.tree_format.specs.Reading.{most_cells as most_cells_lem, branch_line, bounded_line, tangent_of as tangent_of_lem, tangent_at as tangent_at_lem, tangent_line, node_line};
 
 use crate::fields::{amount_in, places_in};
 use crate::kind::PlanKind;
+use crate::plan_line::TextVersion;
 use bound_tree::{Kind, TreeNode};
 use search_model::{Path, Scenario};
 
@@ -15,18 +16,22 @@ pub struct Bounded {
     pub prefix: Path,
 }
 
-/// Whether there are no more cells than periods.
-fn fits_prefix(sc: &Scenario, cells: &[&[u8]]) -> bool
-    ensures value { IsTrue result ↔ (length cells.now ≤ sc.now.horizon) }
-    ensures few { IsTrue result → length cells.now ≤ 32 }
+/// The most cells that the prefix on a record's line may have.
+pub fn most_cells(sc: &Scenario, version: TextVersion) -> usize
+    ensures value { result ≡ most_cells_lem sc.now version }
+    ensures few { result ≤ 32 }
 {
-    cells.len() <= sc.horizon() as usize
+    match version {
+        TextVersion::One => sc.horizon() as usize,
+        TextVersion::Two => 0,
+    }
 }
 
-fn read_branch(sc: &Scenario, cells: &[&[u8]]) -> Result<TreeNode, PlanKind>
-    ensures { result ≡ branch_line sc.now (map (λ f. f.now) cells.now) }
+fn read_branch(sc: &Scenario, most: usize, cells: &[&[u8]]) -> Result<TreeNode, PlanKind>
+    requires { most ≤ 32 }
+    ensures { result ≡ branch_line sc.now most (map (λ f. f.now) cells.now) }
 {
-    if !fits_prefix(sc, cells) {
+    if cells.len() > most {
         return Err(PlanKind::BadLine);
     }
     match places_in(sc, cells) {
@@ -38,13 +43,14 @@ fn read_branch(sc: &Scenario, cells: &[&[u8]]) -> Result<TreeNode, PlanKind>
     }
 }
 
-fn read_bounded(sc: &Scenario, fields: &[&[u8]]) -> Result<Bounded, PlanKind>
-    ensures { result ≡ bounded_line sc.now (map (λ f. f.now) fields.now) }
+fn read_bounded(sc: &Scenario, most: usize, fields: &[&[u8]]) -> Result<Bounded, PlanKind>
+    requires { most ≤ 32 }
+    ensures { result ≡ bounded_line sc.now most (map (λ f. f.now) fields.now) }
 {
     match fields {
         [] => Err(PlanKind::BadLine),
         [bound, cells @ ..] => {
-            if !fits_prefix(sc, cells) {
+            if cells.len() > most {
                 return Err(PlanKind::BadLine);
             }
             match (amount_in(bound), places_in(sc, cells)) {
@@ -71,11 +77,17 @@ fn tangent_of(
     }
 }
 
-fn tangent_at(sc: &Scenario, bound: &[u8], cells: &[&[u8]]) -> Result<TreeNode, PlanKind>
-    ensures { result ≡ tangent_at_lem sc.now bound.now (map (λ f. f.now) cells.now) }
+fn tangent_at(
+    sc: &Scenario,
+    most: usize,
+    bound: &[u8],
+    cells: &[&[u8]],
+) -> Result<TreeNode, PlanKind>
+    requires { most ≤ 32 }
+    ensures { result ≡ tangent_at_lem sc.now most bound.now (map (λ f. f.now) cells.now) }
 {
     let horizon = sc.horizon() as usize;
-    if cells.len() < horizon || cells.len() > 2 * horizon {
+    if cells.len() < horizon || cells.len() > most + horizon {
         return Err(PlanKind::BadLine);
     }
     let own = cells.len() - horizon;
@@ -86,36 +98,38 @@ fn tangent_at(sc: &Scenario, bound: &[u8], cells: &[&[u8]]) -> Result<TreeNode, 
     )
 }
 
-fn read_tangent(sc: &Scenario, fields: &[&[u8]]) -> Result<TreeNode, PlanKind>
-    ensures { result ≡ tangent_line sc.now (map (λ f. f.now) fields.now) }
+fn read_tangent(sc: &Scenario, most: usize, fields: &[&[u8]]) -> Result<TreeNode, PlanKind>
+    requires { most ≤ 32 }
+    ensures { result ≡ tangent_line sc.now most (map (λ f. f.now) fields.now) }
 {
     match fields {
         [] => Err(PlanKind::BadLine),
-        [bound, cells @ ..] => tangent_at(sc, bound, cells),
+        [bound, cells @ ..] => tangent_at(sc, most, bound, cells),
     }
 }
 
-/// A record, from the fields of its line.
-pub fn read_node(sc: &Scenario, fields: &[&[u8]]) -> Result<TreeNode, PlanKind>
-    ensures { result ≡ node_line sc.now (map (λ f. f.now) fields.now) }
+/// A record, from the fields of its line, whose prefix has at most so many cells.
+pub fn read_node(sc: &Scenario, most: usize, fields: &[&[u8]]) -> Result<TreeNode, PlanKind>
+    requires { most ≤ 32 }
+    ensures { result ≡ node_line sc.now most (map (λ f. f.now) fields.now) }
 {
     match fields {
-        [letter, cells @ ..] if *letter == b"B".as_slice() => read_branch(sc, cells),
+        [letter, cells @ ..] if *letter == b"B".as_slice() => read_branch(sc, most, cells),
         [letter, fields @ ..] if *letter == b"W".as_slice() => {
-            let Bounded { bound, prefix } = read_bounded(sc, fields)?;
+            let Bounded { bound, prefix } = read_bounded(sc, most, fields)?;
             Ok(TreeNode {
                 prefix,
                 kind: Kind::Whole(bound),
             })
         }
         [letter, fields @ ..] if *letter == b"M".as_slice() => {
-            let Bounded { bound, prefix } = read_bounded(sc, fields)?;
+            let Bounded { bound, prefix } = read_bounded(sc, most, fields)?;
             Ok(TreeNode {
                 prefix,
                 kind: Kind::Mean(bound),
             })
         }
-        [letter, fields @ ..] if *letter == b"T".as_slice() => read_tangent(sc, fields),
+        [letter, fields @ ..] if *letter == b"T".as_slice() => read_tangent(sc, most, fields),
         _ => Err(PlanKind::BadLine),
     }
 }

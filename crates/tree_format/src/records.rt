@@ -3,12 +3,14 @@
 ghost use Rattle.std.specs.Prelude.{◌≡◌, ◌++◌, ◌∷◌, [], map, OnOk, OnErr, All};
 ghost use Rattle.exact_parts.specs.Appending.{AppendsFront};
 ghost use Rattle.text_rows.specs.Rows.{text_of, spaced};
-ghost use Rattle.tree_format.specs.PlanText.{numbers, record_row, IsNarrowKind};
+ghost use Rattle.tree_format.specs.PlanText.{numbers, written, record_row, IsNarrowKind};
 ghost use Rattle.tree_format.specs.RecordParts.{letter_of, bound_fields, reference_of};
 
+use crate::plan_line::TextVersion;
 use crate::writing::{push_number, push_positions};
 use bound_tree::{Kind, TreeNode};
 use exact_parts::NoMemory;
+use search_model::Path;
 
 /// The letter of a kind of record.
 fn letter(kind: &Kind) -> u8
@@ -45,28 +47,43 @@ fn push_reference(out: &mut Vec<u8>, kind: &Kind) -> Result<(), NoMemory>
     }
 }
 
+/// Appends the prefix of a record, where the text has it.
+fn push_prefix(out: &mut Vec<u8>, version: TextVersion, prefix: &Path) -> Result<(), NoMemory>
+    ensures ok { OnOk result (out.new.items ≡ out.old.items ++ spaced (numbers (written version prefix.now))) }
+    ensures err { OnErr result (AppendsFront out.old.items out.new.items (spaced (numbers (written version prefix.now)))) }
+{
+    match version {
+        TextVersion::One => push_positions(out, prefix.cells()),
+        TextVersion::Two => Ok(()),
+    }
+}
+
 /// Appends the line of a record.
-fn push_record(out: &mut Vec<u8>, node: &TreeNode) -> Result<(), NoMemory>
-    ensures ok { OnOk result (out.new.items ≡ out.old.items ++ text_of (record_row node.now ∷ [])) }
-    ensures err { OnErr result (AppendsFront out.old.items out.new.items (text_of (record_row node.now ∷ []))) }
+fn push_record(out: &mut Vec<u8>, version: TextVersion, node: &TreeNode) -> Result<(), NoMemory>
+    ensures ok { OnOk result (out.new.items ≡ out.old.items ++ text_of (record_row version node.now ∷ [])) }
+    ensures err { OnErr result (AppendsFront out.old.items out.new.items (text_of (record_row version node.now ∷ []))) }
     ensures narrow { OnOk result (IsNarrowKind node.now.kind) }
 {
     out.push(letter(&node.kind))?;
     push_bound(out, &node.kind)?;
-    push_positions(out, node.prefix.cells())?;
+    push_prefix(out, version, &node.prefix)?;
     push_reference(out, &node.kind)?;
     out.push(b'\n')?;
     Ok(())
 }
 
 /// Appends the lines of records.
-pub fn push_records(out: &mut Vec<u8>, records: &[TreeNode]) -> Result<(), NoMemory>
-    ensures ok { OnOk result (out.new.items ≡ out.old.items ++ text_of (map record_row records.now)) }
-    ensures err { OnErr result (AppendsFront out.old.items out.new.items (text_of (map record_row records.now))) }
+pub fn push_records(
+    out: &mut Vec<u8>,
+    version: TextVersion,
+    records: &[TreeNode],
+) -> Result<(), NoMemory>
+    ensures ok { OnOk result (out.new.items ≡ out.old.items ++ text_of (map (record_row version) records.now)) }
+    ensures err { OnErr result (AppendsFront out.old.items out.new.items (text_of (map (record_row version) records.now))) }
     ensures narrow { OnOk result (All (λ r. IsNarrowKind r.kind) records.now) }
 {
     for r in records {
-        push_record(out, r)?;
+        push_record(out, version, r)?;
     }
     Ok(())
 }

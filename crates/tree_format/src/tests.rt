@@ -66,6 +66,9 @@ const TWO_CELLS: &[u8] =
 const THREE_PERIODS: &[u8] =
     b"plan 1\npath c c c\nchance 7 8\nnodes 8\nB\nM 4 0\nT 12 1 1 2 2\nB 2\nM 6 2 1\nB 2 2\nW 6 2 2 1\nW 7 2 2 2\nend\n";
 
+const TWO_CELLS_2: &[u8] =
+    b"plan 2\npath a a\nchance 12 16\nnodes 5\nB\nB\nW 12\nW 12\nM 12\nend\n";
+
 // Whether a text is a plan's, and the plan prints back to the same bytes behind what stood there.
 fn prints_back(alloc: Global, names: &[&[u8]], horizon: u32, text: &[u8]) -> Result<bool, Fail> {
     let sc = even_scenario(alloc, names, horizon)?;
@@ -80,6 +83,80 @@ fn prints_back(alloc: Global, names: &[&[u8]], horizon: u32, text: &[u8]) -> Res
             && out.len() == text.len() + 1
             && tells_as_read(alloc, &sc, text)?,
     )
+}
+
+// The same of version 2.
+fn prints_back_2(alloc: Global, names: &[&[u8]], horizon: u32, text: &[u8]) -> Result<bool, Fail> {
+    let sc = even_scenario(alloc, names, horizon)?;
+    let mut out = Vec::from_slice(alloc, b"!")?;
+    match read_plan(alloc, &sc, text) {
+        Ok(plan) => {
+            if !are_in_place(alloc, &sc, &plan)? {
+                return Ok(false);
+            }
+            print_plan_2(&mut out, &sc, &plan)?;
+        }
+        Err(_) => return Ok(false),
+    }
+    Ok(
+        out.starts_with(b"!")
+            && out.ends_with(text)
+            && out.len() == text.len() + 1
+            && tells_as_read(alloc, &sc, text)?,
+    )
+}
+
+#[test]
+fn texts_of_version_2_print_back(rt: HostRuntime) -> Result<(), Fail> {
+    let alloc = rt.alloc();
+    let one: [&[u8]; 1] = [b"a"];
+    let two: [&[u8]; 2] = [b"a", b"b"];
+    let three: [&[u8]; 3] = [b"a", b"b", b"c"];
+    let rows: [(&[&[u8]], u32, &[u8]); 5] = [
+        (
+            &one,
+            1,
+            b"plan 2\npath a\nchance 1 2\nnodes 2\nB\nW 1\nend\n",
+        ),
+        (&two, 2, TWO_CELLS_2),
+        (
+            &three,
+            3,
+            b"plan 2\npath c c c\nchance 7 8\nnodes 10\nB\nM 4\nT 12 1 2 2\nB\nM 6\nM 6\nB\nW 6\nB\nW 7\nend\n",
+        ),
+        (
+            &two,
+            2,
+            b"plan 2\npath a a\nchance 12 16\nnodes 1\nM 12\nend\n",
+        ),
+        (
+            &two,
+            1,
+            b"plan 2\npath a\nchance 12 16\nnodes 3\nB\nB\nB\nend\n",
+        ),
+    ];
+    for (names, horizon, text) in rows {
+        assert!(rt; prints_back_2(alloc, names, horizon, text)?);
+    }
+    Ok(())
+}
+
+#[test]
+fn a_record_has_the_prefix_that_is_expected(rt: HostRuntime) -> Result<(), Fail> {
+    let alloc = rt.alloc();
+    let sc = even_scenario(alloc, &[b"a", b"b"], 2)?;
+    let Ok(plan) = read_plan(alloc, &sc, TWO_CELLS_2) else {
+        return Err(Fail::from("the text was not read"));
+    };
+    match plan.tree.nodes() {
+        [_, branch, _, whole, mean] => {
+            assert_eq!(rt; branch.prefix.cells(), [0].as_slice());
+            assert_eq!(rt; whole.prefix.cells(), [0, 1].as_slice());
+            assert!(rt; is_mean(mean, &[1], 12));
+        }
+        _ => return Err(Fail::from("other records")),
+    }
+    Ok(())
 }
 
 #[test]
@@ -194,11 +271,11 @@ fn a_text_that_is_cut_off_ends_early(rt: HostRuntime) -> Result<(), Fail> {
 /// A line of the text over two cells, what stands in its place, and the line and the kind of the first fault.
 type Row<'a> = (u64, &'a [u8], u64, PlanKind);
 
-// The text over two cells with other bytes in the place of a line.
-fn with_line(alloc: Global, number: u64, bytes: &[u8]) -> Result<Vec<u8>, Fail> {
+// A text with other bytes in the place of a line.
+fn with_line(alloc: Global, whole: &[u8], number: u64, bytes: &[u8]) -> Result<Vec<u8>, Fail> {
     let mut text = Vec::new(alloc);
     let mut line = 1u64;
-    for c in TWO_CELLS {
+    for c in whole {
         if line != number {
             text.push(*c)?;
         }
@@ -212,10 +289,10 @@ fn with_line(alloc: Global, number: u64, bytes: &[u8]) -> Result<Vec<u8>, Fail> 
     Ok(text)
 }
 
-fn has_fault(rt: &impl AllocGlobal, row: Row) -> Result<bool, Fail> {
+fn has_fault(rt: &impl AllocGlobal, whole: &[u8], row: Row) -> Result<bool, Fail> {
     let (number, bytes, line, kind) = row;
     let sc = even_scenario(rt.alloc(), &[b"a", b"b"], 2)?;
-    let text = with_line(rt.alloc(), number, bytes)?;
+    let text = with_line(rt.alloc(), whole, number, bytes)?;
     let fault = PlanStop::Fault(PlanFault { line, kind });
     Ok(
         read_plan(rt.alloc(), &sc, &text).err() == Some(fault)
@@ -225,12 +302,13 @@ fn has_fault(rt: &impl AllocGlobal, row: Row) -> Result<bool, Fail> {
 
 #[test]
 fn faults_of_the_lines_above_the_records(rt: HostRuntime) -> Result<(), Fail> {
-    let rows: [Row; 23] = [
+    let rows: [Row; 24] = [
         (1, b"plan 1\r\n", 1, PlanKind::BadLine),
         (1, b"plan  1\n", 1, PlanKind::BadLine),
         (1, b"plan 1 \n", 1, PlanKind::BadLine),
         (1, b" plan 1\n", 1, PlanKind::BadLine),
-        (1, b"plan 2\n", 1, PlanKind::BadLine),
+        (1, b"plan 2\n", 6, PlanKind::BadLine),
+        (1, b"plan 3\n", 1, PlanKind::BadLine),
         (1, b"\n", 1, PlanKind::BadLine),
         (2, b"path a x\n", 2, PlanKind::UnknownName),
         (2, b"path a a\r\n", 2, PlanKind::UnknownName),
@@ -271,7 +349,7 @@ fn faults_of_the_lines_above_the_records(rt: HostRuntime) -> Result<(), Fail> {
         (4, b"end\n", 4, PlanKind::BadLine),
     ];
     for row in rows {
-        assert!(rt; has_fault(&rt, row)?);
+        assert!(rt; has_fault(&rt, TWO_CELLS, row)?);
     }
     Ok(())
 }
@@ -314,8 +392,36 @@ fn faults_of_the_records_and_the_end(rt: HostRuntime) -> Result<(), Fail> {
         (10, b"end \nx", 10, PlanKind::BadLine),
     ];
     for row in rows {
-        assert!(rt; has_fault(&rt, row)?);
+        assert!(rt; has_fault(&rt, TWO_CELLS, row)?);
     }
+    Ok(())
+}
+
+// The text of version 2 over two cells. Of its nine lines the records are 5 to 9.
+#[test]
+fn faults_of_version_2(rt: HostRuntime) -> Result<(), Fail> {
+    let rows: [Row; 14] = [
+        (4, b"nodes 0\n", 5, PlanKind::WrongCount),
+        (4, b"nodes 4\n", 9, PlanKind::WrongCount),
+        (4, b"nodes 6\n", 10, PlanKind::WrongCount),
+        (4, b"nodes 0\nend\n", 5, PlanKind::StillOpen),
+        (4, b"nodes 6\nM 1\n", 6, PlanKind::NoPlace),
+        (6, b"B 0\n", 6, PlanKind::BadLine),
+        (6, b"M 12 0\n", 6, PlanKind::BadLine),
+        (6, b"M x\n", 6, PlanKind::BadNumber),
+        (6, b"T 12 0\n", 6, PlanKind::BadLine),
+        (6, b"T 12 0 2\n", 6, PlanKind::BadNumber),
+        (6, b"M 12\n", 8, PlanKind::NoPlace),
+        (9, b"B\n", 10, PlanKind::StillOpen),
+        (9, b"M 12\nM 12\n", 10, PlanKind::WrongCount),
+        (10, b"end\n\n", 11, PlanKind::Rest),
+    ];
+    for row in rows {
+        assert!(rt; has_fault(&rt, TWO_CELLS_2, row)?);
+    }
+    let more = with_line(rt.alloc(), TWO_CELLS_2, 4, b"nodes 6\n")?;
+    let last = with_line(rt.alloc(), &more, 9, b"M 12\nW 12\n")?;
+    assert!(rt; has_fault(&rt, &last, (10, b"W 12\n", 10, PlanKind::NoPlace))?);
     Ok(())
 }
 
@@ -326,11 +432,11 @@ fn long_lines(rt: HostRuntime) -> Result<(), Fail> {
     let mut digits = Vec::from_slice(alloc, b"W ")?;
     digits.extend_from_slice(&vec![in alloc; b'9'; 100_000]?)?;
     digits.extend_from_slice(b" 0 0\n")?;
-    assert!(rt; has_fault(&rt, (7, &digits, 7, PlanKind::BadNumber))?);
+    assert!(rt; has_fault(&rt, TWO_CELLS, (7, &digits, 7, PlanKind::BadNumber))?);
     let mut blanks = Vec::from_slice(alloc, b"W 12 0 0")?;
     blanks.extend_from_slice(&vec![in alloc; b' '; 100_000]?)?;
     blanks.push(b'\n')?;
-    assert!(rt; has_fault(&rt, (7, &blanks, 7, PlanKind::BadLine))?);
+    assert!(rt; has_fault(&rt, TWO_CELLS, (7, &blanks, 7, PlanKind::BadLine))?);
     Ok(())
 }
 

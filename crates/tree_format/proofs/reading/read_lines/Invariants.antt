@@ -1,12 +1,14 @@
 use Rattle.std.proofs.Common.{◌≡◌, ◌+◌, ◌≤◌, length}
 use Rattle.text_rows.specs.Lines.{pieces_of}
 use Rattle.tree_format.specs.Gives.{plan_of}
+use Rattle.tree_format.proofs.Spelled.{IsRead}
 use Rattle.tree_format.specs.Reading.{pieces_at, plan_at}
 use Rattle.tree_format.proofs.reading.read_lines.Given as goal
 
 abbrev pub invariant-lines : goal.invariant-lines
 invariant-lines l = record {
-  so_far : pieces_at l.sc l.number l.draft.stage (plan_of l.draft) (pieces_of l.rest) ≡ plan_at l.sc l.text;
+  so_far : pieces_at l.sc l.number l.draft.due (plan_of l.draft) (pieces_of l.rest) ≡ plan_at l.sc l.text;
+  read : IsRead l.sc l.draft.due (plan_of l.draft);
   short : l.number + length l.rest ≤ 1 + length l.text;
 }
 

@@ -1,7 +1,7 @@
 use Rattle.std.proofs.Common.{◌≡◌, Ok, Err, sym, ap, ◌∙◌, arith}
 use Rattle.std.proofs.lemmas.Grind.{common_steps}
 use Rattle.tree_format.proofs.Spelled.{one_text_a_plan}
-use Rattle.tree_format.proofs.Answered.{plan_said, stop_read, told_first, first_told}
+use Rattle.tree_format.proofs.Answered.{printable_read, plan_said, stop_read, told_first, first_told}
 use Rattle.tree_format.proofs.reading.read_plan.Goals as goal
 
 pub returns-in_err-draft-clause-exact : goal.returns-in_err-draft-clause-exact
@@ -13,6 +13,11 @@ returns-in_err-draft-clause-exact c = λ plan k.
 pub returns-clause-spelled : goal.returns-clause-spelled
 returns-clause-spelled c =
     one_text_a_plan c.args.sc.now c.plan_from.result c.args.text.now c.cells-cells.ensures.sound (c.in_ok-draft.ensures ∙ ap Ok (sym c.plan_from.ensures))
+
+pub returns-clause-printable : goal.returns-clause-printable
+returns-clause-printable c =
+    printable_read c.args.sc.now c.plan_from.result c.args.text.now
+    (one_text_a_plan c.args.sc.now c.plan_from.result c.args.text.now c.cells-cells.ensures.sound (c.in_ok-draft.ensures ∙ ap Ok (sym c.plan_from.ensures)))
 
 pub returns-clause-exact : goal.returns-clause-exact
 returns-clause-exact c = λ plan k.

@@ -6,6 +6,6 @@ use Rattle.tree_format.proofs.records.push_records.Given as goal
 
 abbrev pub invariant-loop-r : goal.invariant-loop-r
 invariant-loop-r l = record {
-  text : l.out.items ≡ l.fn.out.items ++ text_of (map record_row (take l.r-index l.records));
+  text : l.out.items ≡ l.fn.out.items ++ text_of (map (record_row l.version) (take l.r-index l.records));
   narrow : All (λ r. IsNarrowKind r.kind) (take l.r-index l.records);
 }

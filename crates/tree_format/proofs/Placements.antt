@@ -1,0 +1,66 @@
+-- Records that have the prefixes that are expected, one after the other.
+use Rattle.std.proofs.Common.{◌≡◌, ℕ, ◌≤◌, ◌<◌, ◌+◌, List, [], ◌∷◌, length, drop, get_or, Some, None, refl, sym, subst, ◌∙◌}
+use Rattle.std.specs.Prelude.{All, ◌↔◌}
+use Rattle.std.proofs.lemmas.List.{drop_all, drop_more}
+use Rattle.search_model.specs.Problem.{Problem}
+use Rattle.search_model.specs.Legal.{IsLegal}
+use Rattle.bound_tree.specs.declared.node.TreeNode.{TreeNode}
+use Rattle.bound_tree.specs.Places.{AreInPlace, first_of, expected_behind}
+use Rattle.tree_format.specs.Placing.{IsTaken, IsOutOfPlace}
+use Rattle.tree_format.proofs.Spelled.{empty_legal, legal_behind}
+
+-- a record that has the first of the prefixes
+pub taken : (p : Problem) (old new : List (List ℕ)) (q : List ℕ) (r : TreeNode) → first_of old ≡ Some q → q ≡ r.prefix → (All (IsLegal p) old → new ≡ expected_behind p old r.kind) → IsTaken p old r new
+taken p [] new q r first same next = absurd (let bad : ⊥ = cc in bad)
+taken p (x ∷ old) new q r first same next = record {
+  legal = λ legal. subst (All (IsLegal p)) (sym (next legal)) (legal_behind p (x ∷ old) r.kind legal);
+  left = λ legal rs. (
+    λ h. subst (λ (qs : List (List ℕ)). AreInPlace p qs rs) (sym (next legal)) h.1,
+    λ h. ((let here : x ≡ q = cc in sym same ∙ sym here), subst (λ (qs : List (List ℕ)). AreInPlace p qs rs) (next legal) h),
+  );
+}
+
+-- a record that hasn't, or where none is expected
+pub another_place : (p : Problem) (expected : List (List ℕ)) (q : List ℕ) (r : TreeNode) → first_of expected ≡ Some q → (q ≡ r.prefix → ⊥) → IsOutOfPlace p expected r
+another_place p [] q r first other = λ rs h. h
+another_place p (x ∷ expected) q r first other = λ rs h. let here : x ≡ q = cc in other (sym here ∙ sym h.0)
+
+pub no_place : (p : Problem) (expected : List (List ℕ)) (r : TreeNode) → first_of expected ≡ None → IsOutOfPlace p expected r
+no_place p [] r none = λ rs h. h
+no_place p (x ∷ expected) r none = absurd (let bad : ⊥ = cc in bad)
+
+-- behind so many records these prefixes are expected
+pub record AreLeft (p : Problem) (tree : List TreeNode) (i : ℕ) (expected : List (List ℕ)) : Type 0 where
+  pub legal : All (IsLegal p) expected
+  pub left : AreInPlace p ([] ∷ []) tree ↔ AreInPlace p expected (drop i tree)
+
+pub none_taken : (p : Problem) (tree : List TreeNode) (expected : List (List ℕ)) → expected ≡ [] ∷ [] → AreLeft p tree 0 expected
+none_taken p tree expected e = record {
+  legal = empty_legal p expected e;
+  left = subst (λ (qs : List (List ℕ)). AreInPlace p ([] ∷ []) tree ↔ AreInPlace p qs tree) (sym e) (λ h. h, λ h. h);
+}
+
+pub more_taken : (p : Problem) (tree : List TreeNode) (i : ℕ) (d : TreeNode) (old new : List (List ℕ)) → i < length tree → AreLeft p tree i old → IsTaken p old (get_or tree i d) new → AreLeft p tree (i + 1) new
+more_taken p tree i d old new lt before step =
+    let cut : drop i tree ≡ get_or tree i d ∷ drop (i + 1) tree = drop_more tree i d lt in
+    let here = subst (λ (rs : List TreeNode). AreInPlace p ([] ∷ []) tree ↔ AreInPlace p old rs) cut before.left in
+    let on = step.left before.legal (drop (i + 1) tree) in
+    record { legal = step.legal before.legal; left = (λ h. on.0 (here.0 h), λ h. here.1 (on.1 h)) }
+
+-- a record out of its place
+pub refused : (p : Problem) (tree : List TreeNode) (i : ℕ) (d : TreeNode) (old : List (List ℕ)) → i < length tree → AreLeft p tree i old → IsOutOfPlace p old (get_or tree i d) → AreInPlace p ([] ∷ []) tree → ⊥
+refused p tree i d old lt before out all =
+    let cut : drop i tree ≡ get_or tree i d ∷ drop (i + 1) tree = drop_more tree i d lt in
+    out (drop (i + 1) tree) (subst (AreInPlace p old) cut (before.left.0 all))
+
+-- behind all of them none may be expected
+all_taken : (p : Problem) (expected : List (List ℕ)) → AreInPlace p expected [] ↔ (first_of expected ≡ None)
+all_taken p [] = (λ _. refl, λ _. tt)
+all_taken p (q ∷ expected) = (λ h. absurd h, λ e. let bad : ⊥ = cc in bad)
+
+pub all_left : (p : Problem) (tree : List TreeNode) (i : ℕ) (expected : List (List ℕ)) → length tree ≤ i → AreLeft p tree i expected → AreInPlace p ([] ∷ []) tree ↔ (first_of expected ≡ None)
+all_left p tree i expected le before =
+    let nothing : drop i tree ≡ [] = drop_all i tree le in
+    let here = subst (λ (rs : List TreeNode). AreInPlace p ([] ∷ []) tree ↔ AreInPlace p expected rs) nothing before.left in
+    let last = all_taken p expected in
+    (λ h. last.0 (here.0 h), λ h. here.1 (last.1 h))
