@@ -248,10 +248,14 @@ class PlanReader:
         self.plan = Plan()
         self.plan.records = []
         self.ended = False
+        self.second = False
+        # In version 2, the prefixes that are expected, the next one last.
+        self.expected = [[]]
 
     def take(self, line, at):
         if at == 1:
-            need(line == b"plan 1", "BadLine")
+            need(line in (b"plan 1", b"plan 2"), "BadLine")
+            self.second = line == b"plan 2"
             return
         word, *fields = line.split(b" ")
         need(all(fields), "BadLine")
@@ -267,6 +271,7 @@ class PlanReader:
         elif word == b"end":
             need(not fields, "BadLine")
             need(len(self.plan.records) == self.plan.nodes, "WrongCount")
+            need(not (self.second and self.expected), "StillOpen")
             self.ended = True
         else:
             self.take_record(word, fields)
@@ -279,13 +284,32 @@ class PlanReader:
     def take_record(self, word, fields):
         need(word in self.RECORDS, "BadLine")
         count, least, most = self.RECORDS[word]
+        most = least if self.second else most
         need(count + least * self.sc.horizon <= len(fields) <= count + most * self.sc.horizon, "BadLine")
         bound = wide(fields[0]) if count else None
         need(all(it in self.cells for it in fields[count:]), "BadNumber")
         need(len(self.plan.records) < self.plan.nodes, "WrongCount")
+        need(not self.second or self.expected, "NoPlace")
         cells = [self.cells[it] for it in fields[count:]]
         ends = len(cells) - least * self.sc.horizon
-        self.plan.records.append((word, bound, cells[:ends], cells[ends:]))
+        prefix = self.place(word) if self.second else cells[:ends]
+        self.plan.records.append((word, bound, prefix, cells[ends:]))
+
+    def place(self, word):
+        """The prefix of a record of version 2: the one that is expected."""
+        prefix = self.expected.pop()
+        if word == b"B" and len(prefix) < self.sc.horizon:
+            self.expected += [[*prefix, it] for it in reversed(self.sc.moves[prefix[-1] if prefix else self.sc.start])]
+        return prefix
+
+
+def in_version_2(text, sc):
+    """The text of version 2 of a plan whose text of version 1 this is, where its records have the expected prefixes."""
+    lines = text.split(b"\n")
+    records = [line.split(b" ") for line in lines[4:-2]]
+    kept = {b"B": lambda it: it[:1], b"W": lambda it: it[:2], b"M": lambda it: it[:2], b"T": lambda it: it[:2] + it[-sc.horizon :]}
+    short = [b" ".join(kept[it[0]](it)) for it in records]
+    return b"\n".join([b"plan 2", *lines[1:4], *short, b"end", b""])
 
 
 def read_plan(text, sc):
