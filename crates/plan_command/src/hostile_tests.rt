@@ -114,6 +114,28 @@ fn plans_with_a_line_changed(rt: HostRuntime) -> Result<(), Fail> {
 }
 
 #[test]
+fn plans_of_version_2(rt: HostRuntime) -> Result<(), Fail> {
+    let rows: [(&[u8], &[u8]); 3] = [
+        (
+            b"plan 2\npath a a\nchance 12 16\nnodes 5\nB\nB\nW 12\nW 12\nM 12\nend\n",
+            b"accepted\n",
+        ),
+        (
+            b"plan 2\npath a a\nchance 12 16\nnodes 6\nB\nB\nW 12\nW 12\nM 12\nW 12\nend\n",
+            b"bad plan: line 10 NoPlace\n",
+        ),
+        (
+            b"plan 2\npath a a\nchance 12 16\nnodes 0\nend\n",
+            b"bad plan: line 5 StillOpen\n",
+        ),
+    ];
+    for (plan, said) in rows {
+        assert!(rt; says(&rt, plan, said)?);
+    }
+    Ok(())
+}
+
+#[test]
 fn plans_cut_short(rt: HostRuntime) -> Result<(), Fail> {
     let plan = TWO_CELLS_PLAN.as_bytes();
     for len in 0..plan.len() {
