@@ -20,11 +20,7 @@ taken p (x ∷ old) new q r first same next = record {
   );
 }
 
--- a record that hasn't, or where none is expected
-pub another_place : (p : Problem) (expected : List (List ℕ)) (q : List ℕ) (r : TreeNode) → first_of expected ≡ Some q → (q ≡ r.prefix → ⊥) → IsOutOfPlace p expected r
-another_place p [] q r first other = λ rs h. h
-another_place p (x ∷ expected) q r first other = λ rs h. let here : x ≡ q = cc in other (sym here ∙ sym h.0)
-
+-- a record where none is expected
 pub no_place : (p : Problem) (expected : List (List ℕ)) (r : TreeNode) → first_of expected ≡ None → IsOutOfPlace p expected r
 no_place p [] r none = λ rs h. h
 no_place p (x ∷ expected) r none = absurd (let bad : ⊥ = cc in bad)
