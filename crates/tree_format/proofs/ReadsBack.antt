@@ -27,7 +27,7 @@ use Rattle.tree_format.specs.declared.plan_line.Stage.TheVariants as due
 use Rattle.tree_format.specs.declared.plan_line.PlanLine.{PlanLine}
 use Rattle.tree_format.specs.declared.plan_line.PlanLine.TheVariants.{Version, Path, Chance, Count, Node, End}
 use Rattle.tree_format.specs.ReadingLaws.{PlanTextReadsBack, PlanText2ReadsBack, OnePlanAText}
-use Rattle.tree_format.specs.Reading.{is_end, all_of, place_in, position_named, most_cells, node_line, placed, stage_line, line_at, at_start, blank_plan, places_behind, next, taken, pieces_at, plan_at}
+use Rattle.tree_format.specs.Reading.{is_end, all_of, place_in, position_named, most_positions, node_line, placed, stage_line, line_at, at_start, blank_plan, places_behind, next, taken, pieces_at, plan_at}
 use Rattle.tree_format.proofs.Said.{amount_in-decimal, place_in-decimal, position_named-name, all_of-map}
 use Rattle.tree_format.proofs.Loop.{at_line, at_end}
 use Rattle.tree_format.proofs.SpelledLines.{HasPlace}
@@ -63,7 +63,7 @@ Takes-version p Two = record { fields = (word (codes "plan") (omega arith) refl,
 
 name_field : (p : Problem) → IsProblem p → (q : ℕ) → q < p.positions → IsField (position_name p q)
 name_field p h q lt =
-    let name = All-get_or IsName p.names q [] (omega (arith, h.names_length, h.positions)) h.names in
+    let name = All-get_or IsName p.position_names q [] (omega (arith, h.position_names.count)) h.position_names.each in
     field_by is_name_byte (λ c is. grind (arith, common_steps)) (position_name p q) (omega (arith, name.some)) name.bytes
 
 Takes-path : (p : Problem) → IsProblem p → (v : TextVersion) (expected : List (List ℕ)) (plan : Plan) → IsPrintable p plan → Takes p (at_stage v expected due.Path) (codes "path" ∷ map (position_name p) plan.standing.path) (Path plan.standing.path)
@@ -98,14 +98,14 @@ places-numbers : (p : Problem) → IsProblem p → (q : List ℕ) → ArePositio
 places-numbers p h q k = all_of-map (place_in p) decimal (λ a. a < p.positions) (place_in-decimal p h) q k
 
 number_fields : (p : Problem) → IsProblem p → (q : List ℕ) → ArePositions p q → AreFields (numbers q)
-number_fields p h q k = AreFields-map decimal (λ a. a < p.positions) (λ a lt. IsField-decimal a (omega (arith, h.positions, h.cells.1))) q k
+number_fields p h q k = AreFields-map decimal (λ a. a < p.positions) (λ a lt. IsField-decimal a (omega (arith, h.positions.1))) q k
 
-kind_line : (p : Problem) → IsProblem p → (v : TextVersion) (q : List ℕ) (kind : Kind) → ArePositions p q → length q ≤ most_cells p v → IsPrintableKind p kind → IsNarrowKind kind → IsLettered v kind → node_line p v (kind_fields q kind) ≡ Ok (record { prefix = q; kind = kind })
-kind_line p h v q Branch places short k narrow known = rw (length-map q decimal, le-leb (length q) (most_cells p v) short, places-numbers p h q places) refl
+kind_line : (p : Problem) → IsProblem p → (v : TextVersion) (q : List ℕ) (kind : Kind) → ArePositions p q → length q ≤ most_positions p v → IsPrintableKind p kind → IsNarrowKind kind → IsLettered v kind → node_line p v (kind_fields q kind) ≡ Ok (record { prefix = q; kind = kind })
+kind_line p h v q Branch places short k narrow known = rw (length-map q decimal, le-leb (length q) (most_positions p v) short, places-numbers p h q places) refl
 kind_line p h v q (Whole value) places short k narrow known =
-    rw (length-map q decimal, le-leb (length q) (most_cells p v) short, amount_in-decimal value narrow, places-numbers p h q places) refl
+    rw (length-map q decimal, le-leb (length q) (most_positions p v) short, amount_in-decimal value narrow, places-numbers p h q places) refl
 kind_line p h v q (Mean bound) places short k narrow known =
-    rw (length-map q decimal, le-leb (length q) (most_cells p v) short, amount_in-decimal bound narrow, places-numbers p h q places) refl
+    rw (length-map q decimal, le-leb (length q) (most_positions p v) short, amount_in-decimal bound narrow, places-numbers p h q places) refl
 kind_line p h v q (Tangent bound reference) places short k narrow known =
     let cells = numbers q ++ numbers reference in
     let own : length (numbers q) ≡ length q = length-map q decimal in
@@ -113,7 +113,7 @@ kind_line p h v q (Tangent bound reference) places short k narrow known =
     let cut : length q + p.horizon - p.horizon ≡ length q = omega arith in
     let front : take (length q) cells ≡ numbers q = rw (← own) (take-append_seam (numbers q) (numbers reference)) in
     let back : drop (length q) cells ≡ numbers reference = rw (← own) (drop-append_seam (numbers q) (numbers reference)) in
-    rw (long, le-leb p.horizon (length q + p.horizon) (omega arith), le-leb (length q + p.horizon) (most_cells p v + p.horizon) (omega (arith, short)), cut, front, back, amount_in-decimal bound narrow, places-numbers p h q places, places-numbers p h reference k.0) refl
+    rw (long, le-leb p.horizon (length q + p.horizon) (omega arith), le-leb (length q + p.horizon) (most_positions p v + p.horizon) (omega (arith, short)), cut, front, back, amount_in-decimal bound narrow, places-numbers p h q places, places-numbers p h reference k.0) refl
 kind_line p h One q (Edge bound) places short k narrow known = absurd known
 kind_line p h Two q (Edge bound) places short k narrow known =
     rw (length-map q decimal, le-leb (length q) 0 short, amount_in-decimal bound narrow, places-numbers p h q places) refl
@@ -141,7 +141,7 @@ kind_goes_on q (Tangent bound reference) = refl
 kind_goes_on q (Edge bound) = refl
 
 -- the prefix that a record's line has is right
-written_fits : (p : Problem) (v : TextVersion) (q : List ℕ) → ArePositions p q → length q ≤ p.horizon → ArePositions p (written v q) × (length (written v q) ≤ most_cells p v)
+written_fits : (p : Problem) (v : TextVersion) (q : List ℕ) → ArePositions p q → length q ≤ p.horizon → ArePositions p (written v q) × (length (written v q) ≤ most_positions p v)
 written_fits p One q positions short = (positions, short)
 written_fits p Two q positions short = (All-nil (λ (a : ℕ). a < p.positions), omega arith)
 

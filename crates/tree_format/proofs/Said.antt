@@ -16,13 +16,13 @@ pub amount_in-decimal : (n : ℕ) → n < 2 ^ 128 → amount_in (decimal n) ≡ 
 amount_in-decimal n small = ap said (number_at-decimal 340282366920938463463374607431768211455 n (omega arith) (omega arith))
 
 pub place_in-decimal : (p : Problem) → IsProblem p → (q : ℕ) → q < p.positions → place_in p (decimal q) ≡ Some q
-place_in-decimal p h q lt = ap said (number_at-decimal (p.positions - 1) q (omega arith) (omega (arith, h.cells.1, h.positions)))
+place_in-decimal p h q lt = ap said (number_at-decimal (p.positions - 1) q (omega arith) (omega (arith, h.positions.1)))
 
 pub position_named-name : (p : Problem) → IsProblem p → (q : ℕ) → q < p.positions → position_named p (position_name p q) ≡ Some q
 position_named-name p h q lt =
-    let within : q < length p.names = omega (arith, h.names_length, h.positions) in
-    position-first (λ n. bytes_eq n (position_name p q)) p.names q [] within
-    (λ k below. false_from_ne_true _ (λ e. names_apart p.names h.names_differ k q below within ((bytes_eq-Decides (position_name p k) (position_name p q)).0 e)))
+    let within : q < length p.position_names = omega (arith, h.position_names.count) in
+    position-first (λ n. bytes_eq n (position_name p q)) p.position_names q [] within
+    (λ k below. false_from_ne_true _ (λ e. names_apart p.position_names h.position_names.differ k q below within ((bytes_eq-Decides (position_name p k) (position_name p q)).0 e)))
     ((bytes_eq-Decides (position_name p q) (position_name p q)).1 refl)
 
 -- fields that say these numbers, one each

@@ -19,7 +19,7 @@ use Rattle.tree_format.specs.declared.plan_line.PlanLine.{PlanLine}
 use Rattle.tree_format.specs.declared.plan_line.PlanLine.TheVariants.{Version, Path, Chance, Count, Node, End}
 use Rattle.tree_format.specs.declared.record_lines.Bounded.{Bounded}
 use Rattle.tree_format.specs.PlanText.{numbers, kind_fields, record_row, version_word, version_row, chance_row, count_row, ArePositions, IsPrintableKind, IsPrintableRecord, IsNarrowKind, IsNoEdge, IsLettered}
-use Rattle.tree_format.specs.Reading.{all_of, amount_in, place_in, position_named, version_line, path_said, path_line, chance_said, chance_line, count_said, count_line, most_cells, has_edges, branch_of, branch_line, bounded_of, bounded_line, node_of, tangent_of, tangent_line, node_line, placed, node_said, is_end, ending, end_said, record_line}
+use Rattle.tree_format.specs.Reading.{all_of, amount_in, place_in, position_named, version_line, path_said, path_line, chance_said, chance_line, count_said, count_line, most_positions, has_edges, branch_of, branch_line, bounded_of, bounded_line, node_of, tangent_of, tangent_line, node_line, placed, node_said, is_end, ending, end_said, record_line}
 use Rattle.text_rows.specs.Fields.{is_word}
 use Rattle.tree_format.proofs.Told.{word_told, amount_told, places_told, names_told}
 use Rattle.text_rows.proofs.Results.{err_ok, same_ok, let_through}
@@ -142,7 +142,7 @@ count_told (word ∷ n ∷ more ∷ rest) said e = absurd (err_ok BadLine said e
 pub record IsNodeLine (p : Problem) (v : TextVersion) (fields : List (List ℕ)) (r : TreeNode) : Type 0 where
   pub row : fields ≡ kind_fields r.prefix r.kind
   pub positions : ArePositions p r.prefix
-  pub short : length r.prefix ≤ most_cells p v
+  pub short : length r.prefix ≤ most_positions p v
   pub kind : IsPrintableKind p r.kind
   pub narrow : IsNarrowKind r.kind
   pub lettered : IsLettered v r.kind
@@ -153,22 +153,22 @@ lettered One kind plain = plain
 lettered Two kind plain = tt
 
 -- a record of this kind, whose prefix the last fields spell
-node_made : (p : Problem) → IsProblem p → (v : TextVersion) (fields : List (List ℕ)) (q : List ℕ) (kind : Kind) (r : TreeNode) → fields ≡ kind_fields q kind → ArePositions p q → length q ≤ most_cells p v → IsPrintableKind p kind → IsNarrowKind kind → IsLettered v kind → ◌≡◌ {A = Result TreeNode PlanKind} (Ok (record { prefix = q; kind = kind })) (Ok r) → IsNodeLine p v fields r
+node_made : (p : Problem) → IsProblem p → (v : TextVersion) (fields : List (List ℕ)) (q : List ℕ) (kind : Kind) (r : TreeNode) → fields ≡ kind_fields q kind → ArePositions p q → length q ≤ most_positions p v → IsPrintableKind p kind → IsNarrowKind kind → IsLettered v kind → ◌≡◌ {A = Result TreeNode PlanKind} (Ok (record { prefix = q; kind = kind })) (Ok r) → IsNodeLine p v fields r
 node_made p h v fields q kind r row positions short k narrow letter e =
     let made : TreeNode = record { prefix = q; kind = kind } in
     subst (IsNodeLine p v fields) (same_ok made r e) (record { row = row; positions = positions; short = short; kind = k; narrow = narrow; lettered = letter })
 
 -- `B`
-branch_made : (p : Problem) → IsProblem p → (v : TextVersion) (letter : List ℕ) (cells : List (List ℕ)) (o : Option (List ℕ)) (r : TreeNode) → letter ≡ codes "B" → length cells ≤ most_cells p v → all_of (place_in p) cells ≡ o → branch_of o ≡ Ok r → IsNodeLine p v (letter ∷ cells) r
+branch_made : (p : Problem) → IsProblem p → (v : TextVersion) (letter : List ℕ) (cells : List (List ℕ)) (o : Option (List ℕ)) (r : TreeNode) → letter ≡ codes "B" → length cells ≤ most_positions p v → all_of (place_in p) cells ≡ o → branch_of o ≡ Ok r → IsNodeLine p v (letter ∷ cells) r
 branch_made p h v letter cells None r is short all e = absurd (err_ok BadNumber r e)
 branch_made p h v letter cells (Some q) r is short all e =
     let told = places_told p h cells q all in
     let long : length cells ≡ length q = ap length told.0 ∙ length-map q decimal in
     node_made p h v (letter ∷ cells) q Branch r (rw is (ap (λ (x : List (List ℕ)). codes "B" ∷ x) told.0)) told.1 (omega (arith, long, short)) tt tt (lettered v Branch tt) e
 
-branch_told : (p : Problem) → IsProblem p → (v : TextVersion) (letter : List ℕ) (cells : List (List ℕ)) (r : TreeNode) → letter ≡ codes "B" → branch_line p (most_cells p v) cells ≡ Ok r → IsNodeLine p v (letter ∷ cells) r
+branch_told : (p : Problem) → IsProblem p → (v : TextVersion) (letter : List ℕ) (cells : List (List ℕ)) (r : TreeNode) → letter ≡ codes "B" → branch_line p (most_positions p v) cells ≡ Ok r → IsNodeLine p v (letter ∷ cells) r
 branch_told p h v letter cells r is e =
-    let through = let_through (nat_le (length cells) (most_cells p v)) BadLine (branch_of (all_of (place_in p) cells)) r e in
+    let through = let_through (nat_le (length cells) (most_positions p v)) BadLine (branch_of (all_of (place_in p) cells)) r e in
     branch_made p h v letter cells (all_of (place_in p) cells) r is (leb-true _ _ through.0) refl through.1
 
 -- `W`, `M` and `E`
@@ -216,15 +216,15 @@ edge_letter : (p : Problem) (v : TextVersion) → has_edges v ≡ true → HasLe
 edge_letter p One has = absurd (let bad : ⊥ = cc in bad)
 edge_letter p Two has = record { fields = λ q n. refl; printable = λ n. tt; narrow = λ n small. small; known = λ n. tt }
 
-bounded_node : (p : Problem) → IsProblem p → (v : TextVersion) (letter word : List ℕ) (fields : List (List ℕ)) (kind : ℕ → Kind) (o : Result Bounded PlanKind) (r : TreeNode) → HasLetter p v word kind → letter ≡ word → bounded_line p (most_cells p v) fields ≡ o → node_of kind o ≡ Ok r → IsNodeLine p v (letter ∷ fields) r
+bounded_node : (p : Problem) → IsProblem p → (v : TextVersion) (letter word : List ℕ) (fields : List (List ℕ)) (kind : ℕ → Kind) (o : Result Bounded PlanKind) (r : TreeNode) → HasLetter p v word kind → letter ≡ word → bounded_line p (most_positions p v) fields ≡ o → node_of kind o ≡ Ok r → IsNodeLine p v (letter ∷ fields) r
 bounded_node p h v letter word fields kind (Err k) r has is line e = absurd (err_ok k r e)
 bounded_node p h v letter word fields kind (Ok b) r has is line e =
-    let told = bounded_told p h (most_cells p v) fields b line in
+    let told = bounded_told p h (most_positions p v) fields b line in
     node_made p h v (letter ∷ fields) b.prefix (kind b.bound) r (ap (λ (x : List ℕ). x ∷ fields) is ∙ ap (λ (x : List (List ℕ)). word ∷ x) told.row ∙ sym (has.fields b.prefix b.bound))
     told.positions told.short (has.printable b.bound) (has.narrow b.bound told.narrow) (has.known b.bound) e
 
 -- `T`
-tangent_made : (p : Problem) → IsProblem p → (v : TextVersion) (letter bound : List ℕ) (cells : List (List ℕ)) (n : Option ℕ) (o u : Option (List ℕ)) (r : TreeNode) → letter ≡ codes "T" → p.horizon ≤ length cells → length cells ≤ most_cells p v + p.horizon → amount_in bound ≡ n → all_of (place_in p) (take (length cells - p.horizon) cells) ≡ o → all_of (place_in p) (drop (length cells - p.horizon) cells) ≡ u → tangent_of n o u ≡ Ok r → IsNodeLine p v (letter ∷ bound ∷ cells) r
+tangent_made : (p : Problem) → IsProblem p → (v : TextVersion) (letter bound : List ℕ) (cells : List (List ℕ)) (n : Option ℕ) (o u : Option (List ℕ)) (r : TreeNode) → letter ≡ codes "T" → p.horizon ≤ length cells → length cells ≤ most_positions p v + p.horizon → amount_in bound ≡ n → all_of (place_in p) (take (length cells - p.horizon) cells) ≡ o → all_of (place_in p) (drop (length cells - p.horizon) cells) ≡ u → tangent_of n o u ≡ Ok r → IsNodeLine p v (letter ∷ bound ∷ cells) r
 tangent_made p h v letter bound cells None o u r is low high a front back e = absurd (err_ok BadNumber r e)
 tangent_made p h v letter bound cells (Some n) None u r is low high a front back e = absurd (err_ok BadNumber r e)
 tangent_made p h v letter bound cells (Some n) (Some q) None r is low high a front back e = absurd (err_ok BadNumber r e)
@@ -240,19 +240,19 @@ tangent_made p h v letter bound cells (Some n) (Some q) (Some x) r is low high a
     (ap (λ (y : List ℕ). y ∷ bound ∷ cells) is ∙ ap (λ (y : List ℕ). codes "T" ∷ y ∷ cells) number.0 ∙ ap (λ (y : List (List ℕ)). codes "T" ∷ decimal n ∷ y) whole)
     own.1 (omega (arith, behind, both, low, high)) (reference.1, omega (arith, behind, low)) number.1 (lettered v (Tangent n x) tt) e
 
-tangent_told : (p : Problem) → IsProblem p → (v : TextVersion) (letter : List ℕ) (fields : List (List ℕ)) (r : TreeNode) → letter ≡ codes "T" → tangent_line p (most_cells p v) fields ≡ Ok r → IsNodeLine p v (letter ∷ fields) r
+tangent_told : (p : Problem) → IsProblem p → (v : TextVersion) (letter : List ℕ) (fields : List (List ℕ)) (r : TreeNode) → letter ≡ codes "T" → tangent_line p (most_positions p v) fields ≡ Ok r → IsNodeLine p v (letter ∷ fields) r
 tangent_told p h v letter [] r is e = absurd (err_ok BadLine r e)
 tangent_told p h v letter (bound ∷ cells) r is e =
     let k = length cells - p.horizon in
-    let through = let_through (nat_le p.horizon (length cells) && nat_le (length cells) (most_cells p v + p.horizon)) BadLine _ r e in
-    let within = and_parts (nat_le p.horizon (length cells)) (nat_le (length cells) (most_cells p v + p.horizon)) through.0 in
+    let through = let_through (nat_le p.horizon (length cells) && nat_le (length cells) (most_positions p v + p.horizon)) BadLine _ r e in
+    let within = and_parts (nat_le p.horizon (length cells)) (nat_le (length cells) (most_positions p v + p.horizon)) through.0 in
     tangent_made p h v letter bound cells (amount_in bound) (all_of (place_in p) (take k cells)) (all_of (place_in p) (drop k cells)) r is (leb-true _ _ within.0) (leb-true _ _ within.1) refl refl refl through.1
 
 pub node_told : (p : Problem) → IsProblem p → (v : TextVersion) (fields : List (List ℕ)) (r : TreeNode) → node_line p v fields ≡ Ok r → IsNodeLine p v fields r
 node_told p h v [] r e = absurd (err_ok BadLine r e)
 node_told p h v (letter ∷ fields) r e =
     let G : Result TreeNode PlanKind → Type 0 = λ x. x ≡ Ok r → IsNodeLine p v (letter ∷ fields) r in
-    let line = bounded_line p (most_cells p v) fields in
+    let line = bounded_line p (most_positions p v) fields in
     cond_both (is_word letter (codes "B")) _ _ G (λ is. branch_told p h v letter fields r (word_told letter (codes "B") is))
     (λ _. cond_both (is_word letter (codes "W")) _ _ G (λ is. bounded_node p h v letter (codes "W") fields (λ n. Whole n) line r (whole_letter p v) (word_told letter (codes "W") is) refl)
     (λ _. cond_both (is_word letter (codes "M")) _ _ G (λ is. bounded_node p h v letter (codes "M") fields (λ n. Mean n) line r (mean_letter p v) (word_told letter (codes "M") is) refl)

@@ -24,7 +24,7 @@ use Rattle.tree_format.specs.declared.plan_line.TextVersion.TheVariants.{One, Tw
 use Rattle.tree_format.specs.declared.plan_line.Stage.{Stage}
 use Rattle.tree_format.specs.declared.plan_line.Stage.TheVariants as due
 use Rattle.tree_format.specs.declared.plan_line.PlanLine.{PlanLine}
-use Rattle.tree_format.specs.Reading.{said, amount_in, place_in, position_named, all_of, version_line, path_line, chance_line, count_line, most_cells, branch_line, bounded_line, tangent_line, has_edges, node_line, is_end, record_line, stage_line, line_at}
+use Rattle.tree_format.specs.Reading.{said, amount_in, place_in, position_named, all_of, version_line, path_line, chance_line, count_line, most_positions, branch_line, bounded_line, tangent_line, has_edges, node_line, is_end, record_line, stage_line, line_at}
 use Rattle.text_rows.specs.Fields.{is_word}
 use Rattle.list_laws.proofs.Firsts.{position-none}
 use Rattle.tree_format.specs.ReadingLaws.{SummaryDecides}
@@ -74,12 +74,12 @@ front_any (f ∷ fs) = rw (front_empty f, front_any fs) refl
 
 module _ (p : Problem) (h : IsProblem p) where
   front_place : (f : List ℕ) → place_in p (front f) ≡ place_in p f
-  front_place f = front_number (p.positions - 1) f (omega (arith, h.cells.1, h.positions))
+  front_place f = front_number (p.positions - 1) f (omega (arith, h.positions.1))
 
   front_name : (f : List ℕ) → position_named p (front f) ≡ position_named p f
-  front_name f = by_front (λ g. position_named p g) f None (λ g long. position-none (λ n. bytes_eq n g) p.names [] (λ k lt. false_from_ne_true _ (λ e.
-      let same = ap length ((bytes_eq-Decides (get_or p.names k []) g).0 e) in
-      let name : IsName (get_or p.names k []) = All-get_or IsName p.names k [] lt h.names in
+  front_name f = by_front (λ g. position_named p g) f None (λ g long. position-none (λ n. bytes_eq n g) p.position_names [] (λ k lt. false_from_ne_true _ (λ e.
+      let same = ap length ((bytes_eq-Decides (get_or p.position_names k []) g).0 e) in
+      let name : IsName (get_or p.position_names k []) = All-get_or IsName p.position_names k [] lt h.position_names.each in
       omega (arith, same, long, name.short))))
 
   front_places : (fs : List (List ℕ)) → all_of (place_in p) (map front fs) ≡ all_of (place_in p) fs
@@ -124,7 +124,7 @@ module _ (p : Problem) (h : IsProblem p) where
   front_node : (v : TextVersion) (fs : List (List ℕ)) → node_line p v (map front fs) ≡ node_line p v fs
   front_node v [] = refl
   front_node v (f ∷ fs) =
-      let most = most_cells p v in
+      let most = most_positions p v in
       rw (front_word f (codes "B") (omega arith), front_word f (codes "W") (omega arith), front_word f (codes "M") (omega arith), front_word f (codes "T") (omega arith), front_word f (codes "E") (omega arith), front_branch most fs, front_bounded most fs, front_tangent most fs) refl
 
   front_end : (fs : List (List ℕ)) → is_end (map front fs) ≡ is_end fs
@@ -170,14 +170,14 @@ module _ (p : Problem) (h : IsProblem p) where
   no_letter false false false false true = refl
   no_letter false false false false false = refl
 
-  few_cells : (v : TextVersion) → most_cells p v ≤ 32
+  few_cells : (v : TextVersion) → most_positions p v ≤ 32
   few_cells One = h.horizon.1
   few_cells Two = omega arith
 
   no_node : (v : TextVersion) (fs : List (List ℕ)) → 67 ≤ length fs → node_line p v fs ≡ Err BadLine
   no_node v [] long = absurd (omega arith)
   no_node v (f ∷ fs) long =
-      let most = most_cells p v in
+      let most = most_positions p v in
       let few = few_cells v in
       let more : 66 ≤ length fs = omega (arith, long) in
       rw (no_branch most few fs more, no_bounded most few fs more, no_tangent most few fs more) (no_letter (is_word f (codes "B")) (is_word f (codes "W")) (is_word f (codes "M")) (is_word f (codes "T")) (is_word f (codes "E") && has_edges v))

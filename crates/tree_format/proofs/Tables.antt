@@ -17,9 +17,9 @@ use Rattle.tree_format.specs.declared.plan_line.Stage.TheVariants as due
 use Rattle.tree_format.specs.declared.plan_line.PlanLine.{PlanLine}
 use Rattle.tree_format.specs.declared.plan_line.PlanLine.TheVariants.{Version, Count}
 use Rattle.tree_format.specs.declared.record_lines.Bounded.{Bounded}
-use Rattle.tree_format.specs.Reading.{amount_in, place_in, position_named, in_front, all_of, path_said, chance_said, count_said, most_cells, has_edges, branch_of, branch_line, bounded_of, bounded_line, node_of, tangent_of, tangent_line, node_line, placed, node_said, is_end, ending, end_said, stage_line, line_at}
+use Rattle.tree_format.specs.Reading.{amount_in, place_in, position_named, in_front, all_of, path_said, chance_said, count_said, most_positions, has_edges, branch_of, branch_line, bounded_of, bounded_line, node_of, tangent_of, tangent_line, node_line, placed, node_said, is_end, ending, end_said, stage_line, line_at}
 use Rattle.text_rows.specs.Fields.{is_word, first_alone, behind_first}
-use Rattle.tree_format.specs.KindTable.{bounded_form, tangent_form, node_form, has_form, node_amounts, node_cells, is_bad_number, has_unknown, has_too_many, is_miscounted, lacks_place, awaits_record, has_no_place, is_still_open, KindsByTable}
+use Rattle.tree_format.specs.KindTable.{bounded_form, tangent_form, node_form, has_form, node_amounts, node_positions, is_bad_number, has_unknown, has_too_many, is_miscounted, lacks_place, awaits_record, has_no_place, is_still_open, KindsByTable}
 use Rattle.text_rows.specs.Kinds.{first_kind, fault_of}
 
 -- fields say something together where each does
@@ -171,10 +171,10 @@ module _ (p : Problem) where
   abbrev numberless : List (List ℕ) → List (List ℕ) → Bool
   numberless amounts cells = list_any (λ f. is_none (amount_in f)) amounts || list_any (λ f. is_none (place_in p f)) cells
 
-  node_judged : (v : TextVersion) (fields : List (List ℕ)) → IsJudged (node_line p v fields) (node_form p v fields) (numberless (node_amounts fields) (node_cells fields))
+  node_judged : (v : TextVersion) (fields : List (List ℕ)) → IsJudged (node_line p v fields) (node_form p v fields) (numberless (node_amounts fields) (node_positions fields))
   node_judged v [] = misformed false
   node_judged v (letter ∷ fields) =
-      let most = most_cells p v in
+      let most = most_positions p v in
       let number : Bool → Bool = λ _. numberless (first_alone fields) (behind_first fields) in
       by_letter (is_word letter (codes "B")) _ _ _ _ (λ (b : Bool). numberless (cond b [] (first_alone fields)) (cond b fields (behind_first fields))) (branch_judged p most fields)
       (by_letter (is_word letter (codes "W")) _ _ _ _ number (bounded_judged p most (λ n. Whole n) fields)
@@ -182,7 +182,7 @@ module _ (p : Problem) where
       (by_letter (is_word letter (codes "T")) _ _ _ _ number (tangent_judged p most fields)
       (by_letter (is_word letter (codes "E") && has_edges v) _ _ _ _ number (bounded_judged p most (λ n. Edge n) fields) (misformed _)))))
 
-  end_numbers : (fields : List (List ℕ)) → is_end fields ≡ true → numberless (node_amounts fields) (node_cells fields) ≡ false
+  end_numbers : (fields : List (List ℕ)) → is_end fields ≡ true → numberless (node_amounts fields) (node_positions fields) ≡ false
   end_numbers [] e = absurd (let bad : ⊥ = cc in bad)
   end_numbers (word ∷ []) e = none_there (is_word word (codes "B"))
     where

@@ -36,13 +36,13 @@ amount_told field n e =
 
 pub place_told : (p : Problem) → IsProblem p → (field : List ℕ) (q : ℕ) → place_in p field ≡ Some q → (field ≡ decimal q) × (q < p.positions)
 place_told p h field q e =
-    let told = number_told (p.positions - 1) field q (omega (arith, h.cells.1, h.positions)) e in
-    (told.0, omega (arith, told.1, h.cells.0, h.positions))
+    let told = number_told (p.positions - 1) field q (omega (arith, h.positions.1)) e in
+    (told.0, omega (arith, told.1, h.positions.0))
 
 pub name_told : (p : Problem) → IsProblem p → (field : List ℕ) (q : ℕ) → position_named p field ≡ Some q → (field ≡ position_name p q) × (q < p.positions)
 name_told p h field q e =
-    let found = position-Some (λ n. bytes_eq n field) p.names q [] e in
-    (sym ((bytes_eq-Decides (get_or p.names q []) field).0 found.1), omega (arith, found.0, h.names_length, h.positions))
+    let found = position-Some (λ n. bytes_eq n field) p.position_names q [] e in
+    (sym ((bytes_eq-Decides (get_or p.position_names q []) field).0 found.1), omega (arith, found.0, h.position_names.count))
 
 -- a field and fields that all say something
 front_told : (o : Option ℕ) (os : Option (List ℕ)) (qs : List ℕ) → in_front o os ≡ Some qs → (a : ℕ) × (more : List ℕ) × (o ≡ Some a) × (os ≡ Some more) × (qs ≡ a ∷ more)

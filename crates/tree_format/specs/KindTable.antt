@@ -10,7 +10,7 @@ use Rattle.tree_format.specs.declared.plan_line.Stage.{Stage}
 use Rattle.tree_format.specs.declared.plan_line.Stage.TheVariants as due
 use Rattle.tree_format.specs.declared.kind.PlanKind.{PlanKind}
 use Rattle.tree_format.specs.declared.kind.PlanKind.TheVariants.{BadLine, BadNumber, UnknownName, TooManyNodes, WrongCount, NoPlace, StillOpen}
-use Rattle.tree_format.specs.Reading.{amount_in, place_in, position_named, most_cells, has_edges, is_end, line_at}
+use Rattle.tree_format.specs.Reading.{amount_in, place_in, position_named, most_positions, has_edges, is_end, line_at}
 use Rattle.text_rows.specs.Fields.{is_word, behind_first, first_alone}
 use Rattle.text_rows.specs.Kinds.{first_kind, fault_of}
 
@@ -36,25 +36,25 @@ abbrev pub count_form : List (List ℕ) → Bool
 count_form (word ∷ n ∷ []) = is_word word (codes "nodes")
 count_form _ = false
 
--- a number, and a prefix of at most so many cells behind it
+-- a number, and a prefix of at most so many positions behind it
 abbrev pub bounded_form : ℕ → List (List ℕ) → Bool
 bounded_form most [] = false
-bounded_form most (n ∷ cells) = nat_le (length cells) most
+bounded_form most (n ∷ positions) = nat_le (length positions) most
 
 -- a number, and a prefix and a reference behind it
 abbrev pub tangent_form : Problem → ℕ → List (List ℕ) → Bool
 tangent_form p most [] = false
-tangent_form p most (n ∷ cells) = nat_le p.horizon (length cells) && nat_le (length cells) (most + p.horizon)
+tangent_form p most (n ∷ positions) = nat_le p.horizon (length positions) && nat_le (length positions) (most + p.horizon)
 
 -- a record, by its letter, of which version 1 lacks `E`
 abbrev pub node_form : Problem → TextVersion → List (List ℕ) → Bool
 node_form p v [] = false
 node_form p v (letter ∷ fields) =
-    if is_word letter (codes "B") then nat_le (length fields) (most_cells p v) else
-    (if is_word letter (codes "W") then bounded_form (most_cells p v) fields else
-    (if is_word letter (codes "M") then bounded_form (most_cells p v) fields else
-    (if is_word letter (codes "T") then tangent_form p (most_cells p v) fields else
-    (if is_word letter (codes "E") && has_edges v then bounded_form (most_cells p v) fields else false))))
+    if is_word letter (codes "B") then nat_le (length fields) (most_positions p v) else
+    (if is_word letter (codes "W") then bounded_form (most_positions p v) fields else
+    (if is_word letter (codes "M") then bounded_form (most_positions p v) fields else
+    (if is_word letter (codes "T") then tangent_form p (most_positions p v) fields else
+    (if is_word letter (codes "E") && has_edges v then bounded_form (most_positions p v) fields else false))))
 
 -- the form of a line that may stand where this is due
 abbrev pub has_form : Problem → TextVersion → Stage → List (List ℕ) → Bool
@@ -65,17 +65,17 @@ has_form p v due.Count fields = count_form fields
 has_form p v (due.Records left) fields = is_end fields || node_form p v fields
 has_form p v due.Ended fields = false
 
--- The fields in the places of numbers, cells and names.
+-- The fields in the places of numbers, positions and names.
 
 -- the number of a record, which a branch has not
 abbrev pub node_amounts : List (List ℕ) → List (List ℕ)
 node_amounts [] = []
 node_amounts (letter ∷ fields) = if is_word letter (codes "B") then [] else first_alone fields
 
--- the cells of a record
-abbrev pub node_cells : List (List ℕ) → List (List ℕ)
-node_cells [] = []
-node_cells (letter ∷ fields) = if is_word letter (codes "B") then fields else behind_first fields
+-- the positions of a record
+abbrev pub node_positions : List (List ℕ) → List (List ℕ)
+node_positions [] = []
+node_positions (letter ∷ fields) = if is_word letter (codes "B") then fields else behind_first fields
 
 -- the fields of a line in the places of numbers
 abbrev pub amounts : Stage → List (List ℕ) → List (List ℕ)
@@ -84,10 +84,10 @@ amounts due.Count fields = behind_first fields
 amounts (due.Records left) fields = node_amounts fields
 amounts _ fields = []
 
--- those in the places of cells
-abbrev pub cells : Stage → List (List ℕ) → List (List ℕ)
-cells (due.Records left) fields = node_cells fields
-cells _ fields = []
+-- those in the places of positions
+abbrev pub positions : Stage → List (List ℕ) → List (List ℕ)
+positions (due.Records left) fields = node_positions fields
+positions _ fields = []
 
 -- and those in the places of names
 abbrev pub names : Stage → List (List ℕ) → List (List ℕ)
@@ -100,12 +100,12 @@ names _ fields = []
 abbrev pub is_bad_line : Problem → TextVersion → Stage → List (List ℕ) → Bool
 is_bad_line p v stage fields = list_any (λ f. length f == 0) fields || not (has_form p v stage fields)
 
--- a field in a number's place is no plain decimal below 2 to the power 128, or one in a cell's place is no cell's number
+-- a field in a number's place is no plain decimal below 2 to the power 128, or one in a position's place is no position's number
 abbrev pub is_bad_number : Problem → Stage → List (List ℕ) → Bool
 is_bad_number p stage fields =
-    list_any (λ f. is_none (amount_in f)) (amounts stage fields) || list_any (λ f. is_none (place_in p f)) (cells stage fields)
+    list_any (λ f. is_none (amount_in f)) (amounts stage fields) || list_any (λ f. is_none (place_in p f)) (positions stage fields)
 
--- a name of the path isn't a cell's
+-- a name of the path isn't a position's
 abbrev pub has_unknown : Problem → Stage → List (List ℕ) → Bool
 has_unknown p stage fields = list_any (λ f. is_none (position_named p f)) (names stage fields)
 

@@ -43,7 +43,7 @@ place_in p field = said (number_at (p.positions - 1) field)
 
 -- the position of a name
 abbrev pub position_named : Problem → List ℕ → Option ℕ
-position_named p name = position (λ n. bytes_eq n name) p.names
+position_named p name = position (λ n. bytes_eq n name) p.position_names
 
 -- what a field says, in front of what others say
 abbrev pub in_front : Option ℕ → Option (List ℕ) → Option (List ℕ)
@@ -100,10 +100,10 @@ count_line _ = Err BadLine
 
 -- The records.
 
--- the most cells that the prefix on a record's line may have: none in version 2, which leaves it out
-abbrev pub most_cells : Problem → TextVersion → ℕ
-most_cells p One = p.horizon
-most_cells p Two = 0
+-- the most positions that the prefix on a record's line may have: none in version 2, which leaves it out
+abbrev pub most_positions : Problem → TextVersion → ℕ
+most_positions p One = p.horizon
+most_positions p Two = 0
 
 -- whether a version has the letter `E`
 abbrev pub has_edges : TextVersion → Bool
@@ -115,9 +115,9 @@ abbrev pub branch_of : Option (List ℕ) → Result TreeNode PlanKind
 branch_of None = Err BadNumber
 branch_of (Some q) = Ok (record { prefix = q; kind = Branch })
 
--- at most so many cells, and their number goes before them
+-- at most so many positions, and their number goes before them
 abbrev pub branch_line : Problem → ℕ → List (List ℕ) → Result TreeNode PlanKind
-branch_line p most cells = if nat_le (length cells) most then branch_of (all_of (place_in p) cells) else Err BadLine
+branch_line p most positions = if nat_le (length positions) most then branch_of (all_of (place_in p) positions) else Err BadLine
 
 -- `W`, `M` and `E`, behind their letters
 abbrev pub bounded_of : Option ℕ → Option (List ℕ) → Result Bounded PlanKind
@@ -125,44 +125,44 @@ bounded_of None q = Err BadNumber
 bounded_of (Some n) None = Err BadNumber
 bounded_of (Some n) (Some q) = Ok (record { bound = n; prefix = q })
 
--- at least the number, and at most so many cells
+-- at least the number, and at most so many positions
 abbrev pub bounded_line : Problem → ℕ → List (List ℕ) → Result Bounded PlanKind
 bounded_line p most [] = Err BadLine
-bounded_line p most (bound ∷ cells) = if nat_le (length cells) most then bounded_of (amount_in bound) (all_of (place_in p) cells) else Err BadLine
+bounded_line p most (bound ∷ positions) = if nat_le (length positions) most then bounded_of (amount_in bound) (all_of (place_in p) positions) else Err BadLine
 
 -- a record of that kind
 abbrev pub node_of : (ℕ → Kind) → Result Bounded PlanKind → Result TreeNode PlanKind
 node_of kind (Err fault) = Err fault
 node_of kind (Ok b) = Ok (record { prefix = b.prefix; kind = kind b.bound })
 
--- `T`, behind its letter: the last cells, as many as there are periods, are the reference
+-- `T`, behind its letter: the last positions, as many as there are periods, are the reference
 abbrev pub tangent_of : Option ℕ → Option (List ℕ) → Option (List ℕ) → Result TreeNode PlanKind
 tangent_of None q reference = Err BadNumber
 tangent_of (Some n) None reference = Err BadNumber
 tangent_of (Some n) (Some q) None = Err BadNumber
 tangent_of (Some n) (Some q) (Some reference) = Ok (record { prefix = q; kind = Tangent n reference })
 
--- as many cells as periods, and at most so many more
+-- as many positions as periods, and at most so many more
 abbrev pub tangent_at : Problem → ℕ → List ℕ → List (List ℕ) → Result TreeNode PlanKind
-tangent_at p most bound cells =
-    if nat_le p.horizon (length cells) && nat_le (length cells) (most + p.horizon)
-    then tangent_of (amount_in bound) (all_of (place_in p) (take (length cells - p.horizon) cells)) (all_of (place_in p) (drop (length cells - p.horizon) cells))
+tangent_at p most bound positions =
+    if nat_le p.horizon (length positions) && nat_le (length positions) (most + p.horizon)
+    then tangent_of (amount_in bound) (all_of (place_in p) (take (length positions - p.horizon) positions)) (all_of (place_in p) (drop (length positions - p.horizon) positions))
     else Err BadLine
 
 -- at least the number
 abbrev pub tangent_line : Problem → ℕ → List (List ℕ) → Result TreeNode PlanKind
 tangent_line p most [] = Err BadLine
-tangent_line p most (bound ∷ cells) = tangent_at p most bound cells
+tangent_line p most (bound ∷ positions) = tangent_at p most bound positions
 
 -- a record, by its letter
 abbrev pub node_line : Problem → TextVersion → List (List ℕ) → Result TreeNode PlanKind
 node_line p v [] = Err BadLine
 node_line p v (letter ∷ fields) =
-    if is_word letter (codes "B") then branch_line p (most_cells p v) fields else
-    (if is_word letter (codes "W") then node_of (λ n. Whole n) (bounded_line p (most_cells p v) fields) else
-    (if is_word letter (codes "M") then node_of (λ n. Mean n) (bounded_line p (most_cells p v) fields) else
-    (if is_word letter (codes "T") then tangent_line p (most_cells p v) fields else
-    (if is_word letter (codes "E") && has_edges v then node_of (λ n. Edge n) (bounded_line p (most_cells p v) fields) else Err BadLine))))
+    if is_word letter (codes "B") then branch_line p (most_positions p v) fields else
+    (if is_word letter (codes "W") then node_of (λ n. Whole n) (bounded_line p (most_positions p v) fields) else
+    (if is_word letter (codes "M") then node_of (λ n. Mean n) (bounded_line p (most_positions p v) fields) else
+    (if is_word letter (codes "T") then tangent_line p (most_positions p v) fields else
+    (if is_word letter (codes "E") && has_edges v then node_of (λ n. Edge n) (bounded_line p (most_positions p v) fields) else Err BadLine))))
 
 -- where this prefix is expected next, a record has it
 abbrev pub placed_at : Option (List ℕ) → TreeNode → Result PlanLine PlanKind

@@ -44,9 +44,9 @@ pub fn places_in(sc: &Scenario, fields: &[&[u8]]) -> Option<Path>
 fn position_named(sc: &Scenario, name: &[u8]) -> Option<u8>
     ensures { result ≡ position_named_lem sc.now name.now }
 {
-    for c in 0..sc.cells() {
-        if sc.name(c).bytes() == name {
-            return Some(c);
+    for q in 0..sc.positions() {
+        if sc.position(q).bytes() == name {
+            return Some(q);
         }
     }
     None

@@ -1,7 +1,7 @@
 //! The fields of a record's line.
 
 ghost use Rattle.std.specs.Prelude.{◌≡◌, ◌≤◌, map};
-ghost use Rattle.tree_format.specs.Reading.{most_cells as most_cells_lem, has_edges as has_edges_lem, branch_line, bounded_line, tangent_of as tangent_of_lem, tangent_at as tangent_at_lem, tangent_line, node_line};
+ghost use Rattle.tree_format.specs.Reading.{most_positions as most_positions_lem, has_edges as has_edges_lem, branch_line, bounded_line, tangent_of as tangent_of_lem, tangent_at as tangent_at_lem, tangent_line, node_line};
 
 use crate::fields::{amount_in, places_in};
 use crate::kind::PlanKind;
@@ -16,9 +16,9 @@ pub struct Bounded {
     pub prefix: Path,
 }
 
-/// The most cells that the prefix on a record's line may have.
-fn most_cells(sc: &Scenario, version: TextVersion) -> usize
-    ensures value { result ≡ most_cells_lem sc.now version }
+/// The most positions that the prefix on a record's line may have.
+fn most_positions(sc: &Scenario, version: TextVersion) -> usize
+    ensures value { result ≡ most_positions_lem sc.now version }
     ensures few { result ≤ 32 }
 {
     match version {
@@ -37,14 +37,14 @@ fn has_edges(version: TextVersion) -> bool
     }
 }
 
-fn read_branch(sc: &Scenario, most: usize, cells: &[&[u8]]) -> Result<TreeNode, PlanKind>
+fn read_branch(sc: &Scenario, most: usize, positions: &[&[u8]]) -> Result<TreeNode, PlanKind>
     requires { most ≤ 32 }
-    ensures { result ≡ branch_line sc.now most (map (λ f. f.now) cells.now) }
+    ensures { result ≡ branch_line sc.now most (map (λ f. f.now) positions.now) }
 {
-    if cells.len() > most {
+    if positions.len() > most {
         return Err(PlanKind::BadLine);
     }
-    match places_in(sc, cells) {
+    match places_in(sc, positions) {
         None => Err(PlanKind::BadNumber),
         Some(prefix) => Ok(TreeNode {
             prefix,
@@ -59,11 +59,11 @@ fn read_bounded(sc: &Scenario, most: usize, fields: &[&[u8]]) -> Result<Bounded,
 {
     match fields {
         [] => Err(PlanKind::BadLine),
-        [bound, cells @ ..] => {
-            if cells.len() > most {
+        [bound, positions @ ..] => {
+            if positions.len() > most {
                 return Err(PlanKind::BadLine);
             }
-            match (amount_in(bound), places_in(sc, cells)) {
+            match (amount_in(bound), places_in(sc, positions)) {
                 (Some(bound), Some(prefix)) => Ok(Bounded { bound, prefix }),
                 _ => Err(PlanKind::BadNumber),
             }
@@ -91,20 +91,20 @@ fn tangent_at(
     sc: &Scenario,
     most: usize,
     bound: &[u8],
-    cells: &[&[u8]],
+    positions: &[&[u8]],
 ) -> Result<TreeNode, PlanKind>
     requires { most ≤ 32 }
-    ensures { result ≡ tangent_at_lem sc.now most bound.now (map (λ f. f.now) cells.now) }
+    ensures { result ≡ tangent_at_lem sc.now most bound.now (map (λ f. f.now) positions.now) }
 {
     let horizon = sc.horizon() as usize;
-    if cells.len() < horizon || cells.len() > most + horizon {
+    if positions.len() < horizon || positions.len() > most + horizon {
         return Err(PlanKind::BadLine);
     }
-    let own = cells.len() - horizon;
+    let own = positions.len() - horizon;
     tangent_of(
         amount_in(bound),
-        places_in(sc, &cells[..own]),
-        places_in(sc, &cells[own..]),
+        places_in(sc, &positions[..own]),
+        places_in(sc, &positions[own..]),
     )
 }
 
@@ -114,7 +114,7 @@ fn read_tangent(sc: &Scenario, most: usize, fields: &[&[u8]]) -> Result<TreeNode
 {
     match fields {
         [] => Err(PlanKind::BadLine),
-        [bound, cells @ ..] => tangent_at(sc, most, bound, cells),
+        [bound, positions @ ..] => tangent_at(sc, most, bound, positions),
     }
 }
 
@@ -126,9 +126,9 @@ pub fn read_node(
 ) -> Result<TreeNode, PlanKind>
     ensures { result ≡ node_line sc.now version (map (λ f. f.now) fields.now) }
 {
-    let most = most_cells(sc, version);
+    let most = most_positions(sc, version);
     match fields {
-        [letter, cells @ ..] if *letter == b"B".as_slice() => read_branch(sc, most, cells),
+        [letter, positions @ ..] if *letter == b"B".as_slice() => read_branch(sc, most, positions),
         [letter, fields @ ..] if *letter == b"W".as_slice() => {
             let Bounded { bound, prefix } = read_bounded(sc, most, fields)?;
             Ok(TreeNode {

@@ -36,15 +36,15 @@ fn row_scenario(alloc: Global) -> Result<Scenario, Fail> {
     scenario(alloc, &[b"a", b"b", b"c"], moves, 3)
 }
 
-// Cells of these names and moves, from each of which the target goes to each with the same part. The searcher starts in the
-// second, or in the only one.
+// Positions of these names and moves, and as many cells, which have the names the other way round; from each cell the target
+// goes to each with the same part. The searcher starts in the second, or in the only one.
 fn scenario(
     alloc: Global,
     names: &[&[u8]],
     moves: Vec<Vec<u8>>,
     horizon: u32,
 ) -> Result<Scenario, Fail> {
-    let mut parts_names = Vec::new(alloc);
+    let mut positions = Vec::new(alloc);
     let mut rows = Vec::new(alloc);
     let mut row = Vec::new(alloc);
     for cell in 0..names.len() {
@@ -57,7 +57,7 @@ fn scenario(
         let Some(name) = Name::new(name) else {
             return Err(Fail::from("no name"));
         };
-        parts_names.push(name)?;
+        positions.push(name)?;
         rows.push(row.clone()?)?;
     }
     let Ok(total @ 1..=200) = u32::try_from(rows.len()) else {
@@ -72,8 +72,11 @@ fn scenario(
     let Ok(sweep) = Sweep::new(2, vec![in alloc; 0; names.len()]?) else {
         return Err(Fail::from("no sweep"));
     };
+    let mut cells = positions.clone()?;
+    cells.reverse();
     let parts = Parts {
-        names: parts_names,
+        names: cells,
+        positions,
         horizon,
         start: u8::from(names.len() > 1),
         total,

@@ -47,9 +47,8 @@ pub fn push_names(out: &mut Vec<u8>, sc: &Scenario, positions: &[u8]) -> Result<
     ensures ok { OnOk result (out.new.items ≡ out.old.items ++ spaced (map (position_name sc.now) positions.now)) }
     ensures err { OnErr result (AppendsFront out.old.items out.new.items (spaced (map (position_name sc.now) positions.now))) }
 {
-    let _cells = sc.cells();
     for q in positions {
-        push_field(out, sc.name(*q).bytes())?;
+        push_field(out, sc.position(*q).bytes())?;
     }
     Ok(())
 }

@@ -4,4 +4,5 @@ use Rattle.tree_format.proofs.fields.position_named.Goals as goal
 
 pub returns : goal.returns
 returns c =
-    sym (position-none _ c.args.sc.now.names [] (λ k lt. c.loop-c.invariant k (omega (arith, c.cells-c-end.ensures.value, c.cells-c-end.ensures.sound.names_length))))
+    let sound = c.positions-q-end.ensures.sound in
+    sym (position-none _ c.args.sc.now.position_names [] (λ k lt. c.loop-q.invariant k (omega (arith, c.positions-q-end.ensures.value, sound.position_names.count))))
