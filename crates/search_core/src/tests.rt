@@ -18,6 +18,7 @@ fn one_cell(alloc: Global) -> Result<Scenario, Fail> {
     let stays = vec![in alloc; DriftPart { cell: 0, part: 1 }]?;
     Ok(Scenario::new(Parts {
         names: vec![in alloc; name]?,
+        positions: vec![in alloc; name]?,
         horizon: 1,
         start: 0,
         total: 1,

@@ -32,6 +32,7 @@ fn two_cells(alloc: Global) -> Result<Scenario, Fail> {
     let drifts = vec![in alloc; either(alloc)?, either(alloc)?]?;
     Ok(Scenario::new(Parts {
         names: vec![in alloc; a, b]?,
+        positions: vec![in alloc; a, b]?,
         horizon: 2,
         start: 0,
         total: 2,
@@ -97,6 +98,7 @@ fn four_cells(alloc: Global) -> Result<Scenario, Fail> {
     ]?;
     Ok(Scenario::new(Parts {
         names: vec![in alloc; a, b, c, d]?,
+        positions: vec![in alloc; a, b, c, d]?,
         horizon: 2,
         start: 1,
         total: 9,

@@ -72,6 +72,7 @@ fn nine_cells(alloc: Global) -> Result<Scenario, Fail> {
     ]?;
     Ok(Scenario::new(Parts {
         names: nine_names(alloc)?,
+        positions: nine_names(alloc)?,
         horizon: 12,
         start: 0,
         total: 45,

@@ -25,6 +25,7 @@ fn two_cells(alloc: Global) -> Result<Scenario, Fail> {
     let drifts = vec![in alloc; stay(alloc, 0)?, stay(alloc, 1)?]?;
     Ok(Scenario::new(Parts {
         names: vec![in alloc; a, b]?,
+        positions: vec![in alloc; a, b]?,
         horizon: 1,
         start: 0,
         total: 2,
