@@ -14,6 +14,7 @@ goes_to c part = record { cell = c; part = part }
 abbrev pub one_cell : Problem
 one_cell = record {
   names = (97 ∷ []) ∷ [];
+  position_names = (97 ∷ []) ∷ [];
   cells = 1;
   positions = 1;
   horizon = 1;
@@ -29,6 +30,7 @@ one_cell = record {
 abbrev pub two_cells : Problem
 two_cells = record {
   names = (97 ∷ []) ∷ (98 ∷ []) ∷ [];
+  position_names = (97 ∷ []) ∷ (98 ∷ []) ∷ [];
   cells = 2;
   positions = 2;
   horizon = 2;
@@ -44,6 +46,7 @@ two_cells = record {
 abbrev pub waiting_for : ℕ → Problem
 waiting_for periods = record {
   names = (97 ∷ []) ∷ (98 ∷ []) ∷ (99 ∷ []) ∷ [];
+  position_names = (97 ∷ []) ∷ (98 ∷ []) ∷ (99 ∷ []) ∷ [];
   cells = 3;
   positions = 3;
   horizon = periods;
