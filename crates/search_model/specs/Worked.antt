@@ -1,6 +1,7 @@
 -- Small problems, and what the definitions make of them.
 use Rattle.std.specs.Prelude.{ℕ, ◌≡◌, [], ◌∷◌, map}
 use Rattle.drift_chain.specs.declared.part.DriftPart.{DriftPart}
+use Rattle.drift_chain.specs.DriftRows.{drift_over}
 use Rattle.search_model.specs.Problem.{Problem, IsProblem}
 use Rattle.search_model.specs.Legal.{continuations}
 use Rattle.search_model.specs.Tracks.{tracks, weight_of, miss_of, whole_weight, missed_weight, value_of}
@@ -22,7 +23,7 @@ one_cell = record {
   total = 1;
   first = 1 ∷ [];
   moves = (0 ∷ []) ∷ [];
-  drift = record { denominator = 1; rows = (goes_to 0 1 ∷ []) ∷ [] };
+  drift = drift_over 1 ((goes_to 0 1 ∷ []) ∷ []);
   sweep = record { denominator = 2; overlook = 1 ∷ [] };
 }
 
@@ -38,7 +39,7 @@ two_cells = record {
   total = 2;
   first = 1 ∷ 1 ∷ [];
   moves = (0 ∷ 1 ∷ []) ∷ (0 ∷ 1 ∷ []) ∷ [];
-  drift = record { denominator = 2; rows = (goes_to 0 1 ∷ goes_to 1 1 ∷ []) ∷ (goes_to 0 1 ∷ goes_to 1 1 ∷ []) ∷ [] };
+  drift = drift_over 2 ((goes_to 0 1 ∷ goes_to 1 1 ∷ []) ∷ (goes_to 0 1 ∷ goes_to 1 1 ∷ []) ∷ []);
   sweep = record { denominator = 2; overlook = 0 ∷ 0 ∷ [] };
 }
 
@@ -54,7 +55,7 @@ waiting_for periods = record {
   total = 1;
   first = 0 ∷ 0 ∷ 1 ∷ [];
   moves = (0 ∷ 1 ∷ []) ∷ (0 ∷ 1 ∷ 2 ∷ []) ∷ (1 ∷ 2 ∷ []) ∷ [];
-  drift = record { denominator = 1; rows = (goes_to 0 1 ∷ []) ∷ (goes_to 1 1 ∷ []) ∷ (goes_to 2 1 ∷ []) ∷ [] };
+  drift = drift_over 1 ((goes_to 0 1 ∷ []) ∷ (goes_to 1 1 ∷ []) ∷ (goes_to 2 1 ∷ []) ∷ []);
   sweep = record { denominator = 2; overlook = 1 ∷ 1 ∷ 1 ∷ [] };
 }
 
