@@ -39,9 +39,9 @@ module _ (sweep : LookParts) (sound : IsSweep sweep) (none : sweep.changes ≡ [
     denominator = sound.denominator;
     positions = sound.positions;
     cells = sound.cells;
-    each = λ t p inside. elim (row_cases (with_changes sweep changes) t p) [
+    each = λ t p. elim (row_cases (with_changes sweep changes) t p) [
       | inl (change, there, is) ↦ rw is (All-contains (λ c. IsLookRow sweep.denominator (cells_of sweep) c.row) changes change right there)
-      | inr is ↦ rw is (subst (IsLookRow sweep.denominator (cells_of sweep)) (base_row t p) (sound.each t p inside))
+      | inr is ↦ rw is (subst (IsLookRow sweep.denominator (cells_of sweep)) (base_row t p) (sound.each t p))
     ];
   }
 

@@ -10,7 +10,7 @@ use Rattle.list_laws.proofs.Ascending.{Ascends, Ascends-from_keys, Ascends-head,
 use Rattle.list_laws.proofs.Found.{find_key-none, find_key-one}
 use Rattle.list_laws.proofs.Sums.{sum_by-plus, sum_by-none, sum_by-range-pick, sum_by-range-same}
 use Rattle.sweep_table.specs.declared.part.LookPart.{LookPart}
-use Rattle.sweep_table.specs.LookParts.{LookParts, look_row, factor_in, factor_of, positions_of, cells_of, parts_over, own_row, IsSweep}
+use Rattle.sweep_table.specs.LookParts.{LookParts, look_row, factor_in, factor_of, cells_of, parts_over, own_row, IsLookRow, IsSweep}
 
 -- a row without the cell misses all of it
 pub factor_in-none : (g : ℕ) (row : List LookPart) (c : ℕ) → All (λ entry. entry.cell ≢ c) row → factor_in g row c ≡ g
@@ -41,46 +41,63 @@ factor_in-le g (entry ∷ row) parts c =
       | inr apart ↦ rw (ne_eqb entry.cell c apart) (factor_in-le g row (All-tail P entry row parts) c)
     ]
 
--- a look finds in all cells together what it finds in those of its row
-pub found_in_row : (g cells : ℕ) (row : List LookPart) (x : ℕ → ℕ) → All (λ entry. entry.cell < cells) row → Ascends (λ entry. entry.cell) row →
-    sum_by (λ c. x c * (g - factor_in g row c)) (range_with_len 0 cells) ≡ sum_by (λ entry. x entry.cell * (g - entry.part)) row
-found_in_row g cells [] x within up =
-    sum_by-range-same cells (λ c. x c * (g - factor_in g [] c)) (λ _. 0) (λ c lt. let nothing : g - g ≡ 0 = omega arith in rw (factor_in-none g [] c (All-nil (λ entry. entry.cell ≢ c)), nothing) (omega arith))
+-- what is made of the factors of all cells together is made of the parts of a row, where nothing is made of the denominator
+pub made_in_row : (h : ℕ → ℕ) (g cells : ℕ) (row : List LookPart) (x : ℕ → ℕ) → h g ≡ 0 → All (λ entry. entry.cell < cells) row → Ascends (λ entry. entry.cell) row →
+    sum_by (λ c. x c * h (factor_in g row c)) (range_with_len 0 cells) ≡ sum_by (λ entry. x entry.cell * h entry.part) row
+made_in_row h g cells [] x nothing within up =
+    sum_by-range-same cells (λ c. x c * h (factor_in g [] c)) (λ _. 0) (λ c lt. rw (factor_in-none g [] c (All-nil (λ entry. entry.cell ≢ c)), nothing) (omega arith))
     ∙ sum_by-none (range_with_len 0 cells)
-found_in_row g cells (entry ∷ row) x within up =
-    let found : ℕ → ℕ = λ c. if entry.cell == c then g - entry.part else 0 in
-    let rest : ℕ → ℕ = λ c. x c * (g - factor_in g row c) in
+made_in_row h g cells (entry ∷ row) x nothing within up =
+    let made : ℕ → ℕ = λ c. if entry.cell == c then h entry.part else 0 in
+    let rest : ℕ → ℕ = λ c. x c * h (factor_in g row c) in
     let above = Ascends-head (λ e. e.cell) entry row up in
     let own : factor_in g row entry.cell ≡ g = factor_in-none g row entry.cell (All-weaker (λ e. entry.cell < e.cell) (λ e. e.cell ≢ entry.cell) (λ e lt same. omega arith) row above) in
-    let each : (c : ℕ) → x c * (g - factor_in g (entry ∷ row) c) ≡ found c * x c + rest c = λ c. elim (cases_eq entry.cell c) [
+    let each : (c : ℕ) → x c * h (factor_in g (entry ∷ row) c) ≡ made c * x c + rest c = λ c. elim (cases_eq entry.cell c) [
       | inl same ↦
           let none : factor_in g row c ≡ g = subst (λ d. factor_in g row d ≡ g) same own in
-          let nothing : g - g ≡ 0 = omega arith in
           rw (factor_in-cons g entry row c, eq-eqb entry.cell c same, none, nothing) (omega arith)
       | inr apart ↦ rw (factor_in-cons g entry row c, ne_eqb entry.cell c apart) (omega arith)
     ] in
-    sum_by-range-same cells (λ c. x c * (g - factor_in g (entry ∷ row) c)) (λ c. found c * x c + rest c) (λ c lt. each c)
-    ∙ sum_by-plus (λ c. found c * x c) rest (range_with_len 0 cells)
+    sum_by-range-same cells (λ c. x c * h (factor_in g (entry ∷ row) c)) (λ c. made c * x c + rest c) (λ c lt. each c)
+    ∙ sum_by-plus (λ c. made c * x c) rest (range_with_len 0 cells)
     ∙ omega (
       arith,
-      sum_by-range-pick cells entry.cell (g - entry.part) x (All-head (λ e. e.cell < cells) entry row within),
-      found_in_row g cells row x (All-tail (λ e. e.cell < cells) entry row within) (Ascends-tail (λ e. e.cell) entry row up),
-      sum_by-cons (λ e. x e.cell * (g - e.part)) entry row,
+      sum_by-range-pick cells entry.cell (h entry.part) x (All-head (λ e. e.cell < cells) entry row within),
+      made_in_row h g cells row x nothing (All-tail (λ e. e.cell < cells) entry row within) (Ascends-tail (λ e. e.cell) entry row up),
+      sum_by-cons (λ e. x e.cell * h e.part) entry row,
     )
+
+-- a look finds in all cells together what it finds in those of its row
+pub found_in_row : (g cells : ℕ) (row : List LookPart) (x : ℕ → ℕ) → All (λ entry. entry.cell < cells) row → Ascends (λ entry. entry.cell) row →
+    sum_by (λ c. x c * (g - factor_in g row c)) (range_with_len 0 cells) ≡ sum_by (λ entry. x entry.cell * (g - entry.part)) row
+found_in_row g cells row x within up = made_in_row (λ part. g - part) g cells row x (omega arith) within up
+
+-- a row that covers nothing is right
+pub empty_row : (g cells : ℕ) → IsLookRow g cells []
+empty_row g cells = record {
+  within = All-nil (λ entry. entry.cell < cells);
+  ascending = λ k next. absurd (omega arith);
+  parts = All-nil (λ entry. entry.part ≤ g);
+}
 
 module _ (sweep : LookParts) (sound : IsSweep sweep) where
   -- no factor exceeds the denominator
-  pub factor_of-le : (t p c : ℕ) → p < positions_of sweep → factor_of sweep t p c ≤ sweep.denominator
+  pub factor_of-le : (t p c : ℕ) → factor_of sweep t p c ≤ sweep.denominator
   unfolding factor_of
-  factor_of-le t p c position = factor_in-le sweep.denominator (look_row sweep t p) (sound.each t p position).parts c
+  factor_of-le t p c = factor_in-le sweep.denominator (look_row sweep t p) (sound.each t p).parts c
+
+  -- what is made of the factors of a look in all cells is made of the parts of the cells that it covers
+  pub made_by_look : (h : ℕ → ℕ) → h sweep.denominator ≡ 0 → (t p : ℕ) (x : ℕ → ℕ) →
+      sum_by (λ c. x c * h (factor_of sweep t p c)) (range_with_len 0 (cells_of sweep)) ≡ sum_by (λ entry. x entry.cell * h entry.part) (look_row sweep t p)
+  unfolding factor_of
+  made_by_look h nothing t p x =
+      let right = sound.each t p in
+      made_in_row h sweep.denominator (cells_of sweep) (look_row sweep t p) x nothing right.within (Ascends-from_keys (λ entry. entry.cell) (look_row sweep t p) right.ascending)
 
   -- what a look finds of a mass in each cell is what it finds in the cells that it covers
-  pub found_by_look : (t p : ℕ) (x : ℕ → ℕ) → p < positions_of sweep →
+  pub found_by_look : (t p : ℕ) (x : ℕ → ℕ) →
       sum_by (λ c. x c * (sweep.denominator - factor_of sweep t p c)) (range_with_len 0 (cells_of sweep)) ≡ sum_by (λ entry. x entry.cell * (sweep.denominator - entry.part)) (look_row sweep t p)
-  unfolding factor_of
-  found_by_look t p x position =
-      let right = sound.each t p position in
-      found_in_row sweep.denominator (cells_of sweep) (look_row sweep t p) x right.within (Ascends-from_keys (λ entry. entry.cell) (look_row sweep t p) right.ascending)
+  found_by_look t p x = made_by_look (λ part. sweep.denominator - part) (omega arith) t p x
 
 -- a plain table has a row for each part
 pub length-own_rows : (overlook : List ℕ) → length (map (own_row overlook) (range_with_len 0 (length overlook))) ≡ length overlook
@@ -90,6 +107,11 @@ length-own_rows overlook = length-map-range_with_len (own_row overlook) 0 (lengt
 pub look_row-own : (g : ℕ) (overlook : List ℕ) (t p : ℕ) → p < length overlook → look_row (parts_over g overlook) t p ≡ own_row overlook p
 unfolding look_row
 look_row-own g overlook t p inside = get_or-map-range_with_len (own_row overlook) 0 (length overlook) p p [] inside (omega arith)
+
+-- past the last position it is empty
+look_row-past : (g : ℕ) (overlook : List ℕ) (t p : ℕ) → length overlook ≤ p → look_row (parts_over g overlook) t p ≡ []
+unfolding look_row
+look_row-past g overlook t p past = get_or_past (map (own_row overlook) (range_with_len 0 (length overlook))) p [] (omega (arith, length-own_rows overlook, past))
 
 -- a look at the target's own cell misses that cell's part
 pub factor_of-own : (g : ℕ) (overlook : List ℕ) (t p : ℕ) → p < length overlook → factor_of (parts_over g overlook) t p p ≡ slice_index overlook p
@@ -110,20 +132,22 @@ IsSweep-from_parts g overlook denominator count within =
       denominator = denominator;
       positions = rw rows count;
       cells = count;
-      each = λ t p position.
-          let inside : p < length overlook = rw rows at position in
-          rw (look_row-own g overlook t p inside) (record {
-            within = All-cons (λ entry. entry.cell < length overlook) _ [] inside (All-nil (λ entry. entry.cell < length overlook));
-            ascending = λ k next. absurd (omega arith);
-            parts = All-cons (λ entry. entry.part ≤ g) _ [] (within p inside) (All-nil (λ entry. entry.part ≤ g));
-          });
+      each = λ t p. elim (cases_lt p (length overlook)) [
+        | inl inside ↦
+            rw (look_row-own g overlook t p inside) (record {
+              within = All-cons (λ entry. entry.cell < length overlook) _ [] inside (All-nil (λ entry. entry.cell < length overlook));
+              ascending = λ k next. absurd (omega arith);
+              parts = All-cons (λ entry. entry.part ≤ g) _ [] (within p inside) (All-nil (λ entry. entry.part ≤ g));
+            })
+        | inr past ↦ rw (look_row-past g overlook t p past) (empty_row g (length overlook))
+      ];
     }
 
 -- a sweep's parts are within its denominator
 pub part-le : (g : ℕ) (overlook : List ℕ) → IsSweep (parts_over g overlook) → (k : ℕ) → slice_index overlook k ≤ g
 part-le g overlook sweep k = elim (cases_lt k (length overlook)) [
   | inl inside ↦
-      let own = factor_of-le (parts_over g overlook) sweep 1 k k (rw (length-own_rows overlook) inside) in
+      let own = factor_of-le (parts_over g overlook) sweep 1 k k in
       rw (factor_of-own g overlook 1 k inside) at own
   | inr past ↦ rw (get_or_past overlook k 0 past) (omega arith)
 ]

@@ -147,7 +147,7 @@ module _ (sweep : LookParts) (sound : IsSweep sweep) (horizon : ℕ) (some : 1 �
       let (entry, stands_in, is) = Contains-map_cases (λ (e : LookPart). e.part) (look_row sweep t p) part stands in
       let (i, below, t_is) = Contains-range_cases 1 horizon t at in
       let position = within_range (positions_of sweep) p place in
-      let right = sound.each t p position in
+      let right = sound.each t p in
       let factor = factor_in-entry sweep.denominator (look_row sweep t p) stands_in.0 entry (Ascends-from_keys (λ e. e.cell) (look_row sweep t p) right.ascending) stands_in.1 in
       record {
         t = t;
@@ -174,7 +174,7 @@ module _ (sweep : LookParts) (sound : IsSweep sweep) (horizon : ℕ) (some : 1 �
       let either = factor_is (λ f. (f ≡ rate) ⊎ (f ≡ g)) is.either (inr refl) in
       let most : rate ≤ g = elim is.reached [
         | inl at ↦ omega arith
-        | inr there ↦ let factor = factor_at rate there in omega (arith, factor.here, factor_of-le sweep sound factor.t factor.p factor.c factor.position)
+        | inr there ↦ let factor = factor_at rate there in omega (arith, factor.here, factor_of-le sweep sound factor.t factor.p factor.c)
       ] in
       record {
         either = λ t p c first last position cell. either t p c first last position;

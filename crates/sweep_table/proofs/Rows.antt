@@ -1,25 +1,32 @@
 -- Rows of looks: when they make a sweep, and when two lists of them are the same.
-use Rattle.std.proofs.Common.{ℕ, ◌<◌, ◌≤◌, ◌≡◌, ◌∙◌, List, [], length, get_or, map, sym}
+use Rattle.std.proofs.Common.{ℕ, ◌<◌, ◌≤◌, ◌≡◌, ◌∙◌, List, [], length, get_or, map, sym, inl, inr}
 use Rattle.std.specs.List.{AllZip}
 use Rattle.std.specs.List.Sorted.{IsPermutation, IsStrictlyIncreasing}
-use Rattle.std.proofs.lemmas.List.{same_lists, get_or_default, get_or-map}
+use Rattle.std.proofs.lemmas.List.{same_lists, get_or_default, get_or-map, get_or_past}
 use Rattle.std.proofs.lemmas.List.Elements.{length_all_zip, AllZip-get_or}
 use Rattle.std.proofs.lemmas.List.Sorted.{Contains-permutation, IsPermutation-sym}
+use Rattle.std.proofs.lemmas.Bool.{cases_lt}
 use Rattle.list_laws.proofs.Ascending.{Ascends-from_keys, same_ascending}
 use Rattle.sweep_table.specs.declared.part.LookPart.{LookPart}
 use Rattle.sweep_table.specs.LookParts.{look_row, looks_over, IsLookRow, IsSweep}
 use Rattle.sweep_table.specs.Faults.{row_at}
+use Rattle.sweep_table.proofs.Factors.{empty_row}
 
 -- a sweep's rows are right
 pub right_rows : (g cells : ℕ) (rows : List (List LookPart)) → IsSweep (looks_over g cells rows) → (p : ℕ) → p < length rows → IsLookRow g cells (row_at rows p)
 unfolding look_row row_at
-right_rows g cells rows sweep p inside = sweep.each 1 p inside
+right_rows g cells rows sweep p inside = sweep.each 1 p
 
 -- and right rows make a sweep
 pub IsSweep-from_rows : (g cells : ℕ) (rows : List (List LookPart)) → (1 ≤ g) × (g ≤ 1000000) → (1 ≤ length rows) × (length rows ≤ 200) → (1 ≤ cells) × (cells ≤ 200) →
     ((p : ℕ) → p < length rows → IsLookRow g cells (row_at rows p)) → IsSweep (looks_over g cells rows)
 unfolding look_row row_at
-IsSweep-from_rows g cells rows denominator positions count each = record { denominator = denominator; positions = positions; cells = count; each = λ t p inside. each p inside }
+IsSweep-from_rows g cells rows denominator positions count each = record {
+  denominator = denominator;
+  positions = positions;
+  cells = count;
+  each = λ t p. elim (cases_lt p (length rows)) [ inl inside ↦ each p inside | inr past ↦ rw (get_or_past rows p [] past) (empty_row g cells) ];
+}
 
 -- an ascending row is settled by its entries
 pub same_row : (xs ys : List LookPart) → IsStrictlyIncreasing (map (λ entry. entry.cell) xs) → IsStrictlyIncreasing (map (λ entry. entry.cell) ys) → IsPermutation xs ys → ys ≡ xs

@@ -31,7 +31,7 @@ module _ (g : ℕ) (looks : Looks) (now : LookParts) (view : seen g looks ≡ no
     prints-indexed kept = subst AreIndexed form kept.indexed
 
     -- a row in force ascends
-    pub prints-ascending : IsKept g looks → (t p : ℕ) (row : List LookPart) → p < positions_of now → row ≡ look_row (prints_seen g prints) t p → IsStrictlyIncreasing (map (λ entry. entry.cell) row)
-    prints-ascending kept t p row position is =
+    pub prints-ascending : IsKept g looks → (t p : ℕ) (row : List LookPart) → row ≡ look_row (prints_seen g prints) t p → IsStrictlyIncreasing (map (λ entry. entry.cell) row)
+    prints-ascending kept t p row is =
         let sound : IsSweep (prints_seen g prints) = subst (λ l. IsSweep (seen g l)) form kept.sound in
-        rw is (sound.each t p (rw prints-seen at position)).ascending
+        rw is (sound.each t p).ascending

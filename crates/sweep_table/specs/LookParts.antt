@@ -52,7 +52,7 @@ pub record IsSweep (sweep : LookParts) : Type 0 where
   pub denominator : (1 ≤ sweep.denominator) × (sweep.denominator ≤ 1000000)
   pub positions : (1 ≤ positions_of sweep) × (positions_of sweep ≤ 200)
   pub cells : (1 ≤ cells_of sweep) × (cells_of sweep ≤ 200)
-  pub each : (t p : ℕ) → p < positions_of sweep → IsLookRow sweep.denominator (cells_of sweep) (look_row sweep t p)
+  pub each : (t p : ℕ) → IsLookRow sweep.denominator (cells_of sweep) (look_row sweep t p)
 
 -- the entry of a cell
 abbrev pub misses : ℕ → ℕ → LookPart
