@@ -1,5 +1,5 @@
 -- The edge bound is between what paths find and the mean bound.
-use Rattle.std.proofs.Common.{ℕ, zero, suc, ◌+◌, ◌*◌, ◌-◌, ◌^◌, ◌<◌, ◌≤◌, ◌≡◌, List, [], ◌∷◌, ◌++◌, map, length, take, drop, refl, sym, ap, ◌∙◌, subst, arith, sum_by, append_assoc, length-append, mul-le-mul_left, mul-le-mul_right, pow-suc, Contains}
+use Rattle.std.proofs.Common.{ℕ, suc, ◌+◌, ◌*◌, ◌-◌, ◌^◌, ◌<◌, ◌≤◌, ◌≡◌, List, [], ◌∷◌, ◌++◌, map, length, take, drop, sym, ap, ◌∙◌, subst, arith, sum_by, append_assoc, length-append, mul-le-mul_left, pow-suc, Contains}
 use Rattle.std.proofs.Math.Nat.{pow-zero, le_of_mul-le-mul_left}
 use Rattle.std.proofs.lemmas.List.{take-append-drop, length-drop, length-take-le}
 use Rattle.std.proofs.lemmas.List.Elements.{All-map, All-weaker, All-contains_itself}
@@ -7,10 +7,10 @@ use Rattle.sweep_table.specs.LookParts.{factor_of}
 use Rattle.sweep_table.proofs.Factors.{factor_of-le}
 use Rattle.search_model.specs.Problem.{Problem, IsProblem}
 use Rattle.search_model.specs.Legal.{last_of, continuations}
-use Rattle.search_model.specs.Tracks.{tracks, weight_of, miss_from, miss_of, missed_weight, whole_weight}
+use Rattle.search_model.specs.Tracks.{tracks, weight_of, miss_from, miss_of, missed_weight}
 use Rattle.search_model.specs.Bounds.{factors_along, cell_in, reward_of, sum_along, greatest}
 use Rattle.search_model.specs.Edge.{edge_reward_of, sum_moves, edge_sum}
-use Rattle.list_laws.proofs.Sums.{sum_by-same, sum_by-none, sum_by-plus, sum_by-within}
+use Rattle.list_laws.proofs.Sums.{sum_by-same, sum_by-none, sum_by-plus}
 use Rattle.list_laws.proofs.Members.{Contains-map}
 use Rattle.search_model.proofs.Totals.{nothing_is_cut_off}
 use Rattle.search_model.proofs.EdgeRewards.{edge_reward-le}

@@ -1,8 +1,7 @@
 -- The rate that is found among a problem's look factors is their one rate.
-use Rattle.std.proofs.Common.{◌≡◌, ◌⊎◌, ◌≤◌, ◌<◌, ◌+◌, ◌-◌, ℕ, Bool, true, false, cond, ◌&&◌, ◌||◌, ◌==◌, nat_le, leb-true, le-leb, eqb-true, eq-eqb, List, [], ◌∷◌, map, Option, Some, None, IfSome, IfNone, inl, inr, sym, refl, ap, ◌∙◌, subst, arith, Contains}
+use Rattle.std.proofs.Common.{◌≡◌, ◌⊎◌, ◌≤◌, ◌<◌, ◌-◌, ℕ, Bool, true, false, cond, ◌&&◌, ◌||◌, ◌==◌, nat_le, leb-true, le-leb, eqb-true, eq-eqb, List, [], ◌∷◌, map, Option, Some, None, IfSome, IfNone, inl, inr, sym, refl, ap, ◌∙◌, subst, arith, Contains}
 use Rattle.std.specs.List.{find, list_all, range_with_len, flat_map}
 use Rattle.std.proofs.lemmas.Bool.{and_parts, and_from, or_cases, or_left, or_right, true≢false}
-use Rattle.std.proofs.lemmas.List.FromFn.{length-range_with_len, get_or-range_with_len}
 use Rattle.sweep_table.specs.LookParts.{factor_of, IsOneRate}
 use Rattle.search_model.specs.Problem.{Problem, IsProblem}
 use Rattle.search_model.specs.Bounds.{IsRate}
