@@ -1,10 +1,10 @@
 -- Sweeps whose looks change in single periods.
-use Rattle.std.proofs.Common.{ℕ, ◌<◌, ◌≡◌, ◌⊎◌, Some, None, List, [], ◌∷◌, length, get_or, slice_index_or, Bool, true, false, refl, sym, subst, Contains, inl, inr}
+use Rattle.std.proofs.Common.{ℕ, ◌<◌, ◌≤◌, ◌≡◌, ◌⊎◌, ◌∙◌, Option, Some, None, IfSome, IfNone, ap, arith, List, [], ◌∷◌, length, get_or, slice_index_or, Bool, true, false, refl, sym, subst, Contains, inl, inr}
 use Rattle.std.specs.List.{AllZip, find}
 use Rattle.std.proofs.lemmas.List.{same_lists}
 use Rattle.std.proofs.lemmas.List.Elements.{length_all_zip, AllZip-get_or, All-contains}
 use Rattle.list_laws.proofs.Members.{Contains-head, Contains-tail}
-use Rattle.sweep_table.specs.LookParts.{LookRowChange, LookParts, is_for, look_row, cells_of, IsLookRow, IsSweep}
+use Rattle.sweep_table.specs.LookParts.{LookRowChange, LookParts, is_for, look_row, factor_in, factor_of, cells_of, IsLookRow, IsSweep, IsOneRate}
 use Rattle.sweep_table.specs.Changes.{with_changes, IsSameChange, HaveRightRows, HaveAscendingRows}
 use Rattle.sweep_table.proofs.Rows.{same_row}
 
@@ -27,15 +27,44 @@ row_cases sweep t p = elim (found_or_none (is_for t p) sweep.changes) [
   | inr none ↦ inr (rw none refl)
 ]
 
-module _ (sweep : LookParts) (sound : IsSweep sweep) (none : sweep.changes ≡ []) (changes : List LookRowChange) where
+module _ (sweep : LookParts) (none : sweep.changes ≡ []) where
   -- without changes the base row is in force
   base_row : (t p : ℕ) → look_row sweep t p ≡ slice_index_or sweep.rows p []
   unfolding look_row
   base_row t p = rw none refl
 
+  -- so a factor is the same in every period
+  steady_factor : (t u p c : ℕ) → factor_of sweep t p c ≡ factor_of sweep u p c
+  unfolding factor_of
+  steady_factor t u p c = ap (λ row. factor_in sweep.denominator row c) (base_row t p ∙ sym (base_row u p))
+
+  -- and the one rate of all periods is that of the first
+  steady_rate : (horizon rate : ℕ) → 1 ≤ horizon → IsOneRate sweep 1 rate → IsOneRate sweep horizon rate
+  steady_rate horizon rate some one = record {
+    either = λ t p c first last position cell. rw (steady_factor t 1 p c) (one.either 1 p c (omega arith) (omega arith) position cell);
+    least = λ t p c first last position cell. rw (steady_factor t 1 p c) (one.least 1 p c (omega arith) (omega arith) position cell);
+    reached = let (t, p, c, first, last, position, cell, here) = one.reached in (t, p, c, first, omega (arith, last, some), position, cell, here);
+  }
+
+  rate_of_first : (horizon rate : ℕ) → 1 ≤ horizon → IsOneRate sweep horizon rate → IsOneRate sweep 1 rate
+  rate_of_first horizon rate some one = record {
+    either = λ t p c first last position cell. one.either t p c first (omega (arith, last, some)) position cell;
+    least = λ t p c first last position cell. one.least t p c first (omega (arith, last, some)) position cell;
+    reached = let (t, p, c, first, last, position, cell, here) = one.reached in (1, p, c, omega arith, omega arith, position, cell, steady_factor 1 t p c ∙ here);
+  }
+
+  -- so what is told of the first period is told of all
+  pub steady_some : (horizon : ℕ) → 1 ≤ horizon → (o : Option ℕ) → IfSome o (IsOneRate sweep 1) → IfSome o (IsOneRate sweep horizon)
+  steady_some horizon some None told = told
+  steady_some horizon some (Some rate) told = steady_rate horizon rate some told
+
+  pub steady_none : (horizon : ℕ) → 1 ≤ horizon → (o : Option ℕ) → IfNone o ((rate : ℕ) → IsOneRate sweep 1 rate → ⊥) → IfNone o ((rate : ℕ) → IsOneRate sweep horizon rate → ⊥)
+  steady_none horizon some None none = λ rate one. none rate (rate_of_first horizon rate some one)
+  steady_none horizon some (Some rate) told = told
+
   -- right changes keep a sweep
-  pub IsSweep-with_changes : HaveRightRows sweep.denominator (cells_of sweep) changes → IsSweep (with_changes sweep changes)
-  IsSweep-with_changes right = record {
+  pub IsSweep-with_changes : IsSweep sweep → (changes : List LookRowChange) → HaveRightRows sweep.denominator (cells_of sweep) changes → IsSweep (with_changes sweep changes)
+  IsSweep-with_changes sound changes right = record {
     denominator = sound.denominator;
     positions = sound.positions;
     cells = sound.cells;

@@ -30,7 +30,7 @@ module _ (g : ℕ) (looks : Looks) (self : LookParts) (view : seen g looks ≡ s
     made_right = subst (λ (s : LookParts). HaveRightRows s.denominator (cells_of s) (changes_of changes)) base right
 
     pub made_sound : IsSweep (seen g looks) → self.changes ≡ [] → IsSweep (prints_seen g (prints_with prints changes))
-    made_sound sound none = subst IsSweep (sym made_seen) (IsSweep-with_changes self (subst IsSweep view sound) none (changes_of changes) made_right)
+    made_sound sound none = subst IsSweep (sym made_seen) (IsSweep-with_changes self none (subst IsSweep view sound) (changes_of changes) made_right)
 
     pub made_kept : IsKept g looks → self.changes ≡ [] → (n : ℕ) → n ≡ length prints.rows.items → changes.index ≡ index_over n (changes_of changes) → IsKept g (Footprints (prints_with prints changes))
     made_kept kept none n size indexed = record { sound = made_sound kept.sound none; indexed = subst (λ m. changes.index ≡ index_over m (changes_of changes)) size indexed }

@@ -16,12 +16,26 @@ impl Sweep {
         ensures none { IfNone result ((rate : ℕ) → ¬ IsOneRate self.now horizon rate) }
         ensures sound { IsSweep self.now }
     {
-        let mut rate = self.denominator();
-        for t in 1..horizon + 1 {
-            rate = rate_in_period(self, t, rate)?;
+        if self.may_change() {
+            rate_up_to(self, horizon)
+        } else {
+            rate_up_to(self, 1)
         }
-        Some(rate)
     }
+}
+
+// The one rate of the rows in force in periods 1 to `last`.
+fn rate_up_to(sweep: &Sweep, last: u32) -> Option<u32>
+    requires { (1 ≤ last) × (last ≤ 32) }
+    ensures some { IfSome result (IsOneRate sweep.now last) }
+    ensures none { IfNone result ((rate : ℕ) → ¬ IsOneRate sweep.now last rate) }
+    ensures sound { IsSweep sweep.now }
+{
+    let mut rate = sweep.denominator();
+    for t in 1..last + 1 {
+        rate = rate_in_period(sweep, t, rate)?;
+    }
+    Some(rate)
 }
 
 // The one rate of a rate so far and of the parts in force in one period.

@@ -1,6 +1,6 @@
 //! The table of look factors.
 
-ghost use Rattle.std.specs.Prelude.{◌≡◌, ℕ, ◌<◌, ◌≤◌, ◌↔◌, [], map, IfOk, IfErr, IsOk, IsErrOf};
+ghost use Rattle.std.specs.Prelude.{◌≡◌, ℕ, ◌<◌, ◌≤◌, ◌↔◌, [], map, false, IfOk, IfErr, IsOk, IsErrOf};
 ghost use Rattle.std.specs.List.{AllZip};
 ghost use Rattle.std.specs.List.Sorted.{IsPermutation};
 ghost use Rattle.sweep_table.specs.LookParts.{IsSweep};
@@ -163,6 +163,16 @@ impl Sweep {
         match &self.looks {
             Looks::Plain(overlook) => overlook.len() as u8,
             Looks::Footprints(prints) => prints.cells,
+        }
+    }
+
+    // Whether looks may differ from period to period.
+    pub(crate) fn may_change(&self) -> bool
+        ensures { result ≡ false → self.now.changes ≡ [] }
+    {
+        match &self.looks {
+            Looks::Plain(_) => false,
+            Looks::Footprints(prints) => prints.changes.is_some(),
         }
     }
 
