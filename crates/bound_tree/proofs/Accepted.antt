@@ -13,7 +13,7 @@ use Rattle.search_model.specs.Order.{smaller, better, standing_of}
 use Rattle.list_laws.proofs.Members.{Contains-map}
 use Rattle.search_model.proofs.Orders.{better_total, not_better_parts, not_better_from, smaller_one_way}
 use Rattle.bound_tree.specs.declared.node.Kind.{Kind}
-use Rattle.bound_tree.specs.declared.node.Kind.TheVariants.{Branch, Whole, Mean, Tangent}
+use Rattle.bound_tree.specs.declared.node.Kind.TheVariants.{Branch, Whole, Mean, Tangent, Edge}
 use Rattle.bound_tree.specs.declared.node.TreeNode.{TreeNode}
 use Rattle.bound_tree.specs.Cut.{is_cut, times}
 use Rattle.bound_tree.specs.Accepts.{Extends, IsGoodKind, expected_by, AreEaten}
@@ -21,6 +21,7 @@ use Rattle.bound_tree.specs.Laws.{AcceptedIsBest}
 use Rattle.bound_tree.proofs.Continuing.{front_legal}
 use Rattle.bound_tree.proofs.MeanBound.{mean_is_above}
 use Rattle.bound_tree.proofs.TangentBound.{tangent_is_above}
+use Rattle.bound_tree.proofs.EdgeBound.{edge_is_above}
 use Rattle.bound_tree.proofs.Closing.{smaller_by_fronts}
 use Rattle.list_laws.proofs.Halves.{All-front, All-back}
 
@@ -79,6 +80,9 @@ module _ (p : Problem) (sound : IsProblem p) (s : Standing) where
       let g = p.sweep.denominator in
       let most : g * value_of p y ≤ b = rw at (tangent_is_above p rate q whole y sound is reference x) in
       as_in_parts g (standing_of p y) s (omega (arith, sound.sweep.denominator)) (below_cut b (g * value_of p y) q y (times g s) x.front most good.2)
+  from_record q (Edge b) good below y x =
+      let most : value_of p y ≤ b = rw good.1 (edge_is_above p q y sound (front_legal p q y x) good.0 x) in
+      below_cut b (value_of p y) q y s x.front most good.2
 
   from_records : (qs : List (List ℕ)) (rs : List TreeNode) → AreEaten p s qs rs → All (λ q. NothingBetter q) qs
   from_records [] rs h = All-nil (λ q. NothingBetter q)

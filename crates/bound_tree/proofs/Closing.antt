@@ -1,5 +1,5 @@
 -- What a standing cuts or closes, each better standing does too; and how a prefix is closed.
-use Rattle.std.proofs.Common.{◌≡◌, ℕ, zero, suc, ◌*◌, ◌<◌, ◌≤◌, true, false, List, [], ◌∷◌, length, take, inl, inr, sym, refl, ap, ◌∙◌, arith, Ordering, Less, Equal, Greater, nat_cmp, is_lt, ltb-true, lt-ltb, eqb-true, eq-eqb}
+use Rattle.std.proofs.Common.{◌≡◌, ◌⊎◌, ℕ, zero, suc, ◌*◌, ◌<◌, ◌≤◌, true, false, List, [], ◌∷◌, length, take, inl, inr, sym, refl, ap, ◌∙◌, arith, Ordering, Less, Equal, Greater, nat_cmp, is_lt, ltb-true, lt-ltb, eqb-true, eq-eqb}
 use Rattle.std.specs.Ordering.{ordering_then}
 use Rattle.std.proofs.Math.Nat.{mul-le-mul_left, le_of_mul-le-mul_left}
 use Rattle.std.proofs.lemmas.Bool.{or_cases, or_left, or_right, and_from, true≢false, false_from_ne_true, cases_order, cases_lt, cases_Bool, true_from_ne_false, and_parts}
@@ -8,12 +8,13 @@ use Rattle.search_model.specs.Problem.{Problem, IsProblem}
 use Rattle.search_model.specs.Legal.{IsLegal}
 use Rattle.search_model.specs.Tracks.{value_of}
 use Rattle.search_model.specs.Bounds.{mean_of}
+use Rattle.search_model.specs.Edge.{edge_of}
 use Rattle.search_model.specs.Order.{smaller, better}
 use Rattle.search_model.proofs.Orders.{smaller_order, not_better_parts, not_better_from, same_from_neither, better_order, better_irreflexive, better_one_way}
 use Rattle.bound_tree.specs.declared.node.Kind.{Kind}
-use Rattle.bound_tree.specs.declared.node.Kind.TheVariants.{Branch, Whole, Mean, Tangent}
+use Rattle.bound_tree.specs.declared.node.Kind.TheVariants.{Branch, Whole, Mean, Tangent, Edge}
 use Rattle.bound_tree.specs.Cut.{is_cut, times}
-use Rattle.bound_tree.specs.Close.{IsClosed, IsAtLeast}
+use Rattle.bound_tree.specs.Close.{IsTangent, IsLeftOpen, IsClosed, IsAtLeast}
 use Rattle.bound_tree.specs.Accepts.{IsGoodKind}
 use Rattle.bound_tree.specs.CutLaws.{CutStays, FinerCutStays, IsBoundKind, ClosedStays, MeanStays, BranchedBefore, ClosesOnce}
 use Rattle.bound_tree.proofs.Tangents.{reference_extends, one_tangent, tangent_or_none}
@@ -99,14 +100,21 @@ finer_cut_stays g b q s t some h cut = cut_at_least b q (times g s) (times g t) 
 free_at_least : (b : ℕ) (q : List ℕ) (s t : Standing) → IsAtLeast t s → is_cut b q t ≡ false → is_cut b q s ≡ false
 free_at_least b q s t h free = false_from_ne_true _ (λ cut. true≢false (sym (cut_at_least b q s t h cut) ∙ free))
 
+-- what a standing leaves open, each leaves open that is the same or worse
+open_at_least : (p : Problem) (s t : Standing) (q : List ℕ) → IsProblem p → IsAtLeast t s → IsLeftOpen p t q → IsLeftOpen p s q
+open_at_least p s t q sound h left = record {
+  mean = free_at_least (mean_of p q) q s t h left.mean;
+  tangent = λ b whole tangent.
+      free_at_least b q (times p.sweep.denominator s) (times p.sweep.denominator t)
+      (times_at_least p.sweep.denominator s t sound.sweep.denominator.0 h) (left.tangent b whole tangent);
+}
+
 -- what branches under a standing branches under each that is the same or worse
 pub branch_at_least : (p : Problem) (s t : Standing) (q : List ℕ) → IsProblem p → IsAtLeast t s → IsClosed p t q Branch → IsClosed p s q Branch
 branch_at_least p s t q sound h closed = (
   closed.0,
-  free_at_least (mean_of p q) q s t h closed.1,
-  λ b whole tangent.
-      free_at_least b q (times p.sweep.denominator s) (times p.sweep.denominator t)
-      (times_at_least p.sweep.denominator s t sound.sweep.denominator.0 h) (closed.2 b whole tangent),
+  open_at_least p s t q sound h closed.1,
+  free_at_least (edge_of p q) q s t h closed.2,
 )
 
 pub branched_before : BranchedBefore
@@ -130,79 +138,97 @@ closed_is_good p s t q (Tangent b path) sound legal h whole closed =
       (tangent.rate, tangent.is_rate, reference_extends p q sound legal path tangent.reference, tangent.bound),
       finer_cut_stays p.sweep.denominator b q s t sound.sweep.denominator.0 h closed.3,
     )
+closed_is_good p s t q (Edge b) sound legal h whole closed = (closed.0, closed.2, cut_at_least b q s t h closed.3)
+
+-- a number that a standing cuts is none that it doesn't cut
+not_both : (s : Standing) (q : List ℕ) (b c : ℕ) → b ≡ c → is_cut b q s ≡ true → is_cut c q s ≡ false → ⊥
+not_both s q b c same cut free = true≢false (sym cut ∙ ap (λ (n : ℕ). is_cut n q s) same ∙ free)
 
 -- what is closed by a bound under a standing neither branches nor is a whole path under one that is at least as good
 bound_goes_on : (p : Problem) (s t : Standing) (q : List ℕ) → IsProblem p → IsAtLeast t s → (kind other : Kind) → IsBoundKind kind → IsClosed p s q kind →
     IsClosed p t q other → IsBoundKind other
 bound_goes_on p s t q sound h Branch other bound closed then = absurd bound
 bound_goes_on p s t q sound h (Whole n) other bound closed then = absurd bound
+bound_goes_on p s t q sound h kind (Mean c) bound closed then = tt
+bound_goes_on p s t q sound h kind (Tangent c path) bound closed then = tt
+bound_goes_on p s t q sound h kind (Edge c) bound closed then = tt
 bound_goes_on p s t q sound h (Mean b) Branch bound closed then =
     let before = branch_at_least p s t q sound h then in
-    absurd (true≢false (sym closed.2 ∙ ap (λ (n : ℕ). is_cut n q s) closed.1 ∙ before.1))
-bound_goes_on p s t q sound h (Mean b) (Whole n) bound closed then = absurd (omega (arith, closed.0, then.0))
-bound_goes_on p s t q sound h (Mean b) (Mean c) bound closed then = tt
-bound_goes_on p s t q sound h (Mean b) (Tangent c whole) bound closed then = tt
+    absurd (not_both s q b (mean_of p q) closed.1 closed.2 before.1.mean)
 bound_goes_on p s t q sound h (Tangent b whole) Branch bound closed then =
     let before = branch_at_least p s t q sound h then in
-    absurd (true≢false (sym closed.3 ∙ before.2 b whole closed.2))
+    absurd (true≢false (sym closed.3 ∙ before.1.tangent b whole closed.2))
+bound_goes_on p s t q sound h (Edge b) Branch bound closed then =
+    let before = branch_at_least p s t q sound h then in
+    absurd (not_both s q b (edge_of p q) closed.2 closed.3 before.2)
+bound_goes_on p s t q sound h (Mean b) (Whole n) bound closed then = absurd (omega (arith, closed.0, then.0))
 bound_goes_on p s t q sound h (Tangent b whole) (Whole n) bound closed then = absurd (omega (arith, closed.0, then.0))
-bound_goes_on p s t q sound h (Tangent b whole) (Mean c) bound closed then = tt
-bound_goes_on p s t q sound h (Tangent b whole) (Tangent c path) bound closed then = tt
-
--- what is closed by a bound is closed by a bound under a standing that is at least as good
-next_bound : (p : Problem) (s t : Standing) (q : List ℕ) → IsProblem p → IsAtLeast t s → (kind : Kind) → IsBoundKind kind → IsClosed p s q kind →
-    (next : Kind) × IsBoundKind next × IsClosed p t q next
-next_bound p s t q sound h Branch bound closed = absurd bound
-next_bound p s t q sound h (Whole n) bound closed = absurd bound
-next_bound p s t q sound h (Mean b) bound closed = (Mean b, tt, mean_at_least p s t q b h closed)
-next_bound p s t q sound h (Tangent b whole) bound closed =
-    elim (cases_Bool (is_cut (mean_of p q) q t)) [
-      | inl cut ↦ (Mean (mean_of p q), tt, (closed.0, refl, cut))
-      | inr free ↦ (Tangent b whole, tt, (closed.0, free, closed.2, finer_cut_stays p.sweep.denominator b q s t sound.sweep.denominator.0 h closed.3))
-    ]
-
-pub closed_stays : ClosedStays
-closed_stays p s t q kind sound legal h bound closed =
-    (next_bound p s t q sound (inr h) kind bound closed, λ other then. bound_goes_on p s t q sound (inr h) kind other bound closed then)
+bound_goes_on p s t q sound h (Edge b) (Whole n) bound closed then = absurd (omega (arith, closed.0, then.0))
 
 module _ (p : Problem) (s : Standing) (q : List ℕ) (sound : IsProblem p) (legal : IsLegal p q) where
   -- what closes a prefix is one kind
   same_kind : (kind other : Kind) → IsClosed p s q kind → IsClosed p s q other → other ≡ kind
   same_kind Branch Branch h g = refl
   same_kind Branch (Whole n) h g = absurd (omega (arith, h.0, g.0))
-  same_kind Branch (Mean b) h g = absurd (true≢false (sym g.2 ∙ ap (λ (n : ℕ). is_cut n q s) g.1 ∙ h.1))
-  same_kind Branch (Tangent b whole) h g = absurd (true≢false (sym g.3 ∙ h.2 b whole g.2))
+  same_kind Branch (Mean b) h g = absurd (not_both s q b (mean_of p q) g.1 g.2 h.1.mean)
+  same_kind Branch (Tangent b whole) h g = absurd (true≢false (sym g.3 ∙ h.1.tangent b whole g.2))
+  same_kind Branch (Edge b) h g = absurd (not_both s q b (edge_of p q) g.2 g.3 h.2)
   same_kind (Whole n) Branch h g = absurd (omega (arith, h.0, g.0))
   same_kind (Whole n) (Whole m) h g = ap Whole (g.1 ∙ sym h.1)
   same_kind (Whole n) (Mean b) h g = absurd (omega (arith, h.0, g.0))
   same_kind (Whole n) (Tangent b whole) h g = absurd (omega (arith, h.0, g.0))
-  same_kind (Mean b) Branch h g = absurd (true≢false (sym h.2 ∙ ap (λ (n : ℕ). is_cut n q s) h.1 ∙ g.1))
+  same_kind (Whole n) (Edge b) h g = absurd (omega (arith, h.0, g.0))
+  same_kind (Mean b) Branch h g = absurd (not_both s q b (mean_of p q) h.1 h.2 g.1.mean)
   same_kind (Mean b) (Whole n) h g = absurd (omega (arith, h.0, g.0))
   same_kind (Mean b) (Mean c) h g = ap Mean (g.1 ∙ sym h.1)
-  same_kind (Mean b) (Tangent c whole) h g = absurd (true≢false (sym h.2 ∙ ap (λ (n : ℕ). is_cut n q s) h.1 ∙ g.1))
-  same_kind (Tangent b whole) Branch h g = absurd (true≢false (sym h.3 ∙ g.2 b whole h.2))
+  same_kind (Mean b) (Tangent c whole) h g = absurd (not_both s q b (mean_of p q) h.1 h.2 g.1)
+  same_kind (Mean b) (Edge c) h g = absurd (not_both s q b (mean_of p q) h.1 h.2 g.1.mean)
+  same_kind (Tangent b whole) Branch h g = absurd (true≢false (sym h.3 ∙ g.1.tangent b whole h.2))
   same_kind (Tangent b whole) (Whole n) h g = absurd (omega (arith, h.0, g.0))
-  same_kind (Tangent b whole) (Mean c) h g = absurd (true≢false (sym g.2 ∙ ap (λ (n : ℕ). is_cut n q s) g.1 ∙ h.1))
+  same_kind (Tangent b whole) (Mean c) h g = absurd (not_both s q c (mean_of p q) g.1 g.2 h.1)
   same_kind (Tangent b whole) (Tangent c path) h g =
       let same = one_tangent p q sound legal c b path whole g.2 h.2 in
       ap (λ (n : ℕ). Tangent n path) same.0 ∙ ap (λ (w : List ℕ). Tangent b w) same.1
+  same_kind (Tangent b whole) (Edge c) h g = absurd (true≢false (sym h.3 ∙ g.1.tangent b whole h.2))
+  same_kind (Edge b) Branch h g = absurd (not_both s q b (edge_of p q) h.2 h.3 g.2)
+  same_kind (Edge b) (Whole n) h g = absurd (omega (arith, h.0, g.0))
+  same_kind (Edge b) (Mean c) h g = absurd (not_both s q c (mean_of p q) g.1 g.2 h.1.mean)
+  same_kind (Edge b) (Tangent c whole) h g = absurd (true≢false (sym g.3 ∙ h.1.tangent c whole g.2))
+  same_kind (Edge b) (Edge c) h g = ap Edge (g.2 ∙ sym h.2)
 
-  -- what the mean bound leaves open is closed by the tangent or branches
-  past_mean : length q < p.horizon → is_cut (mean_of p q) q s ≡ false → (kind : Kind) × IsClosed p s q kind
+  -- what closes a prefix by a bound
+  abbrev ByBound : Type 0
+  ByBound = (kind : Kind) × IsBoundKind kind × IsClosed p s q kind
+
+  -- what the mean bound leaves open is left open by the tangent bound too, or closed by it
+  past_mean : length q < p.horizon → is_cut (mean_of p q) q s ≡ false → IsLeftOpen p s q ⊎ ByBound
   past_mean short free = elim (tangent_or_none p q sound legal) [
     | inl (b, whole, tangent) ↦ elim (cases_Bool (is_cut b q (times p.sweep.denominator s))) [
-      | inl cut ↦ (Tangent b whole, (short, free, tangent, cut))
-      | inr open_at ↦ (Branch, (short, free, λ c path other. ap (λ (n : ℕ). is_cut n q (times p.sweep.denominator s)) (one_tangent p q sound legal c b path whole other tangent).0 ∙ open_at))
+      | inl cut ↦ inr (Tangent b whole, tt, (short, free, tangent, cut))
+      | inr open_at ↦
+          let others : (c : ℕ) (path : List ℕ) → IsTangent p q c path → is_cut c q (times p.sweep.denominator s) ≡ false =
+          λ c path other. ap (λ (n : ℕ). is_cut n q (times p.sweep.denominator s)) (one_tangent p q sound legal c b path whole other tangent).0 ∙ open_at in
+          inl (record { mean = free; tangent = others })
     ]
-    | inr none ↦ (Branch, (short, free, λ b whole tangent. absurd (none b whole tangent)))
+    | inr none ↦ inl (record { mean = free; tangent = λ b whole tangent. absurd (none b whole tangent) })
+  ]
+
+  -- a short prefix is left open by its mean and its tangent bound, or closed by one of them
+  open_or_closed : length q < p.horizon → IsLeftOpen p s q ⊎ ByBound
+  open_or_closed short = elim (cases_Bool (is_cut (mean_of p q) q s)) [
+    | inl cut ↦ inr (Mean (mean_of p q), tt, (short, refl, cut))
+    | inr free ↦ past_mean short free
   ]
 
   -- something closes each legal prefix
   some_kind : (kind : Kind) × IsClosed p s q kind
   some_kind = elim (cases_lt (length q) p.horizon) [
-    | inl short ↦ elim (cases_Bool (is_cut (mean_of p q) q s)) [
-      | inl cut ↦ (Mean (mean_of p q), (short, refl, cut))
-      | inr free ↦ past_mean short free
+    | inl short ↦ elim (open_or_closed short) [
+      | inl left ↦ elim (cases_Bool (is_cut (edge_of p q) q s)) [
+        | inl cut ↦ (Edge (edge_of p q), (short, left, refl, cut))
+        | inr free ↦ (Branch, (short, left, free))
+      ]
+      | inr (kind, bound, closed) ↦ (kind, closed)
     ]
     | inr long ↦ let full : length q ≡ p.horizon = omega (arith, long, legal.short) in (Whole (value_of p q), (full, refl))
   ]
@@ -211,3 +237,24 @@ pub closes_once : ClosesOnce
 closes_once p s q sound legal =
     let (kind, closed) = some_kind p s q sound legal in
     (kind, closed, λ other h. same_kind p s q sound legal kind other closed h)
+
+-- what is closed by a bound is closed by a bound under a standing that is at least as good
+next_bound : (p : Problem) (s t : Standing) (q : List ℕ) → IsProblem p → IsLegal p q → IsAtLeast t s → (kind : Kind) → IsBoundKind kind → IsClosed p s q kind →
+    (next : Kind) × IsBoundKind next × IsClosed p t q next
+next_bound p s t q sound legal h Branch bound closed = absurd bound
+next_bound p s t q sound legal h (Whole n) bound closed = absurd bound
+next_bound p s t q sound legal h (Mean b) bound closed = (Mean b, tt, mean_at_least p s t q b h closed)
+next_bound p s t q sound legal h (Tangent b whole) bound closed =
+    elim (cases_Bool (is_cut (mean_of p q) q t)) [
+      | inl cut ↦ (Mean (mean_of p q), tt, (closed.0, refl, cut))
+      | inr free ↦ (Tangent b whole, tt, (closed.0, free, closed.2, finer_cut_stays p.sweep.denominator b q s t sound.sweep.denominator.0 h closed.3))
+    ]
+next_bound p s t q sound legal h (Edge b) bound closed =
+    elim (open_or_closed p t q sound legal closed.0) [
+      | inl left ↦ (Edge b, tt, (closed.0, left, closed.2, cut_at_least b q s t h closed.3))
+      | inr other ↦ other
+    ]
+
+pub closed_stays : ClosedStays
+closed_stays p s t q kind sound legal h bound closed =
+    (next_bound p s t q sound legal (inr h) kind bound closed, λ other then. bound_goes_on p s t q sound (inr h) kind other bound closed then)

@@ -1,5 +1,5 @@
 -- Which prefixes are expected where a text leaves them out.
-use Rattle.std.proofs.Common.{◌≡◌, ℕ, ◌<◌, List, [], ◌∷◌, ◌++◌, length, Bool, true, false, cond, refl, sym, subst, All}
+use Rattle.std.proofs.Common.{◌≡◌, ℕ, List, [], ◌∷◌, ◌++◌, length, Bool, true, false, cond, refl, sym, subst, All}
 use Rattle.std.specs.Prelude.{nat_lt}
 use Rattle.std.proofs.lemmas.Bool.{cond_both, lt-ltb, ltb-true}
 use Rattle.std.proofs.lemmas.List.Elements.{All-nil}
@@ -7,7 +7,7 @@ use Rattle.search_model.specs.declared.standing.Standing.{Standing}
 use Rattle.search_model.specs.Problem.{Problem, IsProblem}
 use Rattle.search_model.specs.Legal.{IsLegal}
 use Rattle.bound_tree.specs.declared.node.Kind.{Kind}
-use Rattle.bound_tree.specs.declared.node.Kind.TheVariants.{Branch, Whole, Mean, Tangent}
+use Rattle.bound_tree.specs.declared.node.Kind.TheVariants.{Branch, Whole, Mean, Tangent, Edge}
 use Rattle.bound_tree.specs.declared.node.TreeNode.{TreeNode}
 use Rattle.bound_tree.specs.Accepts.{IsGoodKind, expected_by, AreEaten}
 use Rattle.bound_tree.specs.Room.{HasRoom}
@@ -24,6 +24,7 @@ opened_by_good p s q Branch good = rw (lt-ltb (length q) p.horizon good) refl
 opened_by_good p s q (Whole n) good = nothing_either_way (nat_lt (length q) p.horizon)
 opened_by_good p s q (Mean b) good = nothing_either_way (nat_lt (length q) p.horizon)
 opened_by_good p s q (Tangent b whole) good = nothing_either_way (nat_lt (length q) p.horizon)
+opened_by_good p s q (Edge b) good = nothing_either_way (nat_lt (length q) p.horizon)
 
 in_place : (p : Problem) (s : Standing) (rs : List TreeNode) (qs : List (List ℕ)) → AreEaten p s qs rs → AreInPlace p qs rs
 in_place p s [] [] eaten = tt

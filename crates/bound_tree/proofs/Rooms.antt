@@ -1,13 +1,11 @@
 -- What a record makes expected is legal, and has room on the stack.
-use Rattle.std.proofs.Common.{subst, ◌≡◌, ℕ, ◌+◌, ◌*◌, ◌≤◌, ◌<◌, List, [], ◌∷◌, ◌++◌, map, reverse, length, refl, arith, length-append, get_or, All, Contains}
+use Rattle.std.proofs.Common.{subst, ◌≡◌, ℕ, ◌+◌, ◌*◌, ◌≤◌, ◌<◌, List, [], ◌∷◌, ◌++◌, map, reverse, length, refl, arith, length-append, get_or, All}
 use Rattle.std.proofs.lemmas.List.{length-map, reverse-append}
 use Rattle.std.proofs.lemmas.List.Elements.{All-head, All-tail, All-nil, All-map, All-contains_itself}
 use Rattle.search_model.specs.Problem.{Problem, IsProblem}
-use Rattle.search_model.specs.Legal.{IsLegal, last_of, moves_after}
-use Rattle.search_model.proofs.LegalLemmas.{last_within}
-use Rattle.search_model.proofs.WalkLemmas.{follows-append}
+use Rattle.search_model.specs.Legal.{IsLegal, moves_after}
 use Rattle.bound_tree.specs.declared.node.Kind.{Kind}
-use Rattle.bound_tree.specs.declared.node.Kind.TheVariants.{Branch, Whole, Mean, Tangent}
+use Rattle.bound_tree.specs.declared.node.Kind.TheVariants.{Branch, Whole, Mean, Tangent, Edge}
 use Rattle.bound_tree.specs.Accepts.{expected_by}
 use Rattle.bound_tree.specs.Room.{HasRoom}
 use Rattle.search_model.proofs.Children.{few_moves, child_is_legal}
@@ -20,6 +18,7 @@ legal_expected p q Branch legal short =
 legal_expected p q (Whole n) legal short = All-nil (IsLegal p)
 legal_expected p q (Mean b) legal short = All-nil (IsLegal p)
 legal_expected p q (Tangent b whole) legal short = All-nil (IsLegal p)
+legal_expected p q (Edge b) legal short = All-nil (IsLegal p)
 
 -- where at most 63 prefixes for each position of q are expected behind it, up to 64 children of q have room before them
 HasRoom-children : (q : List ℕ) (ms : List ℕ) (qs : List (List ℕ)) → length ms ≤ 64 → length qs ≤ 63 * length q → HasRoom qs → HasRoom (map (λ d. q ++ d ∷ []) ms ++ qs)
@@ -47,3 +46,4 @@ room_expected p q Branch qs sound legal room = HasRoom-children q (moves_after p
 room_expected p q (Whole n) qs sound legal room = room.1
 room_expected p q (Mean b) qs sound legal room = room.1
 room_expected p q (Tangent b whole) qs sound legal room = room.1
+room_expected p q (Edge b) qs sound legal room = room.1

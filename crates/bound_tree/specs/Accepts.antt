@@ -6,8 +6,9 @@ use Rattle.search_model.specs.Legal.{IsPath, moves_after}
 use Rattle.search_model.specs.Tracks.{value_of, whole_weight}
 use Rattle.search_model.specs.Order.{better}
 use Rattle.search_model.specs.Bounds.{mean_of, IsRate, tangent_of}
+use Rattle.search_model.specs.Edge.{edge_of}
 use Rattle.bound_tree.specs.declared.node.Kind.{Kind}
-use Rattle.bound_tree.specs.declared.node.Kind.TheVariants.{Branch, Whole, Mean, Tangent}
+use Rattle.bound_tree.specs.declared.node.Kind.TheVariants.{Branch, Whole, Mean, Tangent, Edge}
 use Rattle.bound_tree.specs.declared.node.TreeNode.{TreeNode}
 use Rattle.bound_tree.specs.declared.plan.Plan.{Plan}
 use Rattle.bound_tree.specs.Cut.{is_cut, times}
@@ -24,6 +25,7 @@ IsGoodKind p s q (Whole n) = (length q ≡ p.horizon) × (n ≡ value_of p q) ×
 IsGoodKind p s q (Mean b) = (length q < p.horizon) × (b ≡ mean_of p q) × IsTrue (is_cut b q s)
 IsGoodKind p s q (Tangent b whole) =
     (length q < p.horizon) × ((rate : ℕ) × IsRate p rate × Extends p q whole × (b ≡ tangent_of p rate q whole)) × IsTrue (is_cut b q (times p.sweep.denominator s))
+IsGoodKind p s q (Edge b) = (length q < p.horizon) × (b ≡ edge_of p q) × IsTrue (is_cut b q s)
 
 abbrev pub IsGood : Problem → Standing → TreeNode → Type 0
 IsGood p s r = IsGoodKind p s r.prefix r.kind
@@ -42,6 +44,7 @@ expected_by p q Branch = children_of p q
 expected_by p q (Whole n) = []
 expected_by p q (Mean b) = []
 expected_by p q (Tangent b whole) = []
+expected_by p q (Edge b) = []
 
 -- the records are the trees of the expected prefixes, one after the other
 abbrev pub AreEaten : Problem → Standing → List (List ℕ) → List TreeNode → Type 0

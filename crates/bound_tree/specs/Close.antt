@@ -6,9 +6,10 @@ use Rattle.search_model.specs.Legal.{IsLegal, IsPath}
 use Rattle.search_model.specs.Tracks.{value_of}
 use Rattle.search_model.specs.Order.{smaller, better}
 use Rattle.search_model.specs.Bounds.{mean_of, IsRate, tangent_of}
+use Rattle.search_model.specs.Edge.{edge_of}
 use Rattle.search_model.specs.Reference.{IsReference}
 use Rattle.bound_tree.specs.declared.node.Kind.{Kind}
-use Rattle.bound_tree.specs.declared.node.Kind.TheVariants.{Branch, Whole, Mean, Tangent}
+use Rattle.bound_tree.specs.declared.node.Kind.TheVariants.{Branch, Whole, Mean, Tangent, Edge}
 use Rattle.bound_tree.specs.declared.node.TreeNode.{TreeNode}
 use Rattle.bound_tree.specs.Cut.{is_cut, times}
 
@@ -19,16 +20,21 @@ pub record IsTangent (p : Problem) (q : List ℕ) (b : ℕ) (whole : List ℕ) :
   pub reference : IsReference p q whole
   pub bound : b ≡ tangent_of p rate q whole
 
+-- the standing rules out neither a prefix's mean bound nor its tangent bound, if it has one
+pub record IsLeftOpen (p : Problem) (s : Standing) (q : List ℕ) : Type 0 where
+  pub mean : IsFalse (is_cut (mean_of p q) q s)
+  pub tangent : (b : ℕ) (whole : List ℕ) → IsTangent p q b whole → IsFalse (is_cut b q (times p.sweep.denominator s))
+
 -- how a legal prefix is closed: a path by its value; a shorter prefix by its mean bound where the standing cuts that, else
--- by its tangent bound where it has one and the standing cuts it, and else it branches
+-- by its tangent bound where it has one and the standing cuts it, else by its edge bound where the standing cuts that, and
+-- else it branches
 abbrev pub IsClosed : Problem → Standing → List ℕ → Kind → Type 0
-IsClosed p s q Branch =
-    (length q < p.horizon) × IsFalse (is_cut (mean_of p q) q s)
-    × ((b : ℕ) (whole : List ℕ) → IsTangent p q b whole → IsFalse (is_cut b q (times p.sweep.denominator s)))
+IsClosed p s q Branch = (length q < p.horizon) × IsLeftOpen p s q × IsFalse (is_cut (edge_of p q) q s)
 IsClosed p s q (Whole n) = (length q ≡ p.horizon) × (n ≡ value_of p q)
 IsClosed p s q (Mean b) = (length q < p.horizon) × (b ≡ mean_of p q) × IsTrue (is_cut b q s)
 IsClosed p s q (Tangent b whole) =
     (length q < p.horizon) × IsFalse (is_cut (mean_of p q) q s) × IsTangent p q b whole × IsTrue (is_cut b q (times p.sweep.denominator s))
+IsClosed p s q (Edge b) = (length q < p.horizon) × IsLeftOpen p s q × (b ≡ edge_of p q) × IsTrue (is_cut b q s)
 
 -- a legal prefix that no bound above it rules out: under the standing each shorter prefix of it branches
 pub record IsLive (p : Problem) (s : Standing) (q : List ℕ) : Type 0 where

@@ -5,7 +5,7 @@ use Rattle.search_model.specs.Problem.{Problem, IsProblem}
 use Rattle.search_model.specs.Legal.{IsLegal}
 use Rattle.search_model.specs.Order.{better}
 use Rattle.bound_tree.specs.declared.node.Kind.{Kind}
-use Rattle.bound_tree.specs.declared.node.Kind.TheVariants.{Branch, Whole, Mean, Tangent}
+use Rattle.bound_tree.specs.declared.node.Kind.TheVariants.{Branch, Whole, Mean, Tangent, Edge}
 use Rattle.bound_tree.specs.Cut.{is_cut, times}
 use Rattle.bound_tree.specs.Close.{IsClosed, IsAtLeast}
 use Rattle.bound_tree.specs.Accepts.{IsGoodKind}
@@ -18,12 +18,13 @@ CutStays = (b : ℕ) (q : List ℕ) (s t : Standing) → IsTrue (better t s) →
 abbrev pub FinerCutStays : Type 0
 FinerCutStays = (g b : ℕ) (q : List ℕ) (s t : Standing) → 1 ≤ g → IsAtLeast t s → IsTrue (is_cut b q (times g s)) → IsTrue (is_cut b q (times g t))
 
--- a mean or a tangent
+-- a mean, a tangent or an edge
 abbrev pub IsBoundKind : Kind → Type 0
 IsBoundKind Branch = ⊥
 IsBoundKind (Whole n) = ⊥
 IsBoundKind (Mean b) = Unit {0}
 IsBoundKind (Tangent b whole) = Unit {0}
+IsBoundKind (Edge b) = Unit {0}
 
 -- what is closed by a bound under a standing is closed by a bound under every better one, and in no other way there
 abbrev pub ClosedStays : Type 0

@@ -3,6 +3,7 @@
 ghost use Rattle.bound_tree.specs.BoundLaws.{MeanIsAbove, LooksAreConvex, TangentIsAbove};
 ghost use Rattle.bound_tree.specs.CutLaws.{CutStays, FinerCutStays, ClosedStays, MeanStays, BranchedBefore, ClosesOnce, ClosedIsGood};
 ghost use Rattle.bound_tree.specs.Eat.{EatenByEither};
+ghost use Rattle.bound_tree.specs.EdgeLaws.{EdgeIsAbove, EdgeIsWithinMean};
 ghost use Rattle.bound_tree.specs.Laws.{AcceptedIsBest};
 ghost use Rattle.bound_tree.specs.Places.{EatenAreInPlace};
 
@@ -50,8 +51,8 @@ pub fn cut_stays()
     ensures finer { FinerCutStays }
 {}
 
-/// What is closed by a bound is closed by a bound under better standings, by the mean bound if it was that, and what
-/// branches under a standing branched under the worse ones.
+/// What is closed by its mean, its tangent or its edge bound is closed by one of the three under better standings, by the
+/// mean bound if it was that, and what branches under a standing branched under the worse ones.
 #[tactic(auto, using(crate::proofs::Closing::closed_stays, crate::proofs::Closing::mean_stays))]
 pub fn closed_stays()
     ensures stays { ClosedStays }
@@ -70,8 +71,6 @@ pub fn closes_once()
 pub fn closed_is_good()
     ensures { ClosedIsGood }
 {}
-
-ghost use Rattle.bound_tree.specs.EdgeLaws.{EdgeIsAbove, EdgeIsWithinMean};
 
 /// The edge bound of a prefix is no less than what each path that extends it finds, and no more than its mean bound.
 #[tactic(auto, using(crate::proofs::EdgeBound::edge_is_above, crate::proofs::EdgeBound::edge_is_within_mean))]

@@ -13,6 +13,9 @@ pub enum Kind {
     Mean(u128),
     /// The greatest value below the prefix, times the look denominator, by the tangent at this path.
     Tangent(u128, Path),
+    /// The greatest value below the prefix, by the edge bound: the mean bound with each look discounted by the look just
+    /// before it.
+    Edge(u128),
 }
 
 /// A record: a prefix and how it was closed.

@@ -1,7 +1,6 @@
 -- Edge rewards, by masses: what the look just before takes of a reward.
-use Rattle.std.proofs.Common.{ℕ, suc, ◌+◌, ◌*◌, ◌-◌, ◌^◌, ◌<◌, ◌≤◌, ◌≡◌, ◌==◌, if◌then◌else◌, List, [], ◌∷◌, ◌++◌, Option, Some, None, map, length, slice_index, inl, inr, refl, ap, ◌∙◌, arith, sum_by, add-zero, length-append}
+use Rattle.std.proofs.Common.{ℕ, suc, ◌+◌, ◌*◌, ◌-◌, ◌^◌, ◌<◌, ◌≤◌, ◌≡◌, ◌==◌, if◌then◌else◌, List, [], ◌∷◌, ◌++◌, Option, Some, None, map, length, slice_index, refl, ap, ◌∙◌, arith, sum_by, add-zero, length-append}
 use Rattle.std.specs.List.{range_with_len}
-use Rattle.std.proofs.lemmas.Bool.{cases_eq, eq-eqb, ne_eqb}
 use Rattle.drift_chain.specs.DriftRows.{part_of}
 use Rattle.sweep_table.specs.LookParts.{LookParts, factor_of}
 use Rattle.search_model.specs.Problem.{Problem, IsProblem}

@@ -4,7 +4,7 @@ use Rattle.std.specs.List.{range_with_len}
 use Rattle.std.proofs.lemmas.Bool.{cases_lt}
 use Rattle.std.proofs.lemmas.List.Sums.{sum-map}
 use Rattle.std.proofs.lemmas.List.Elements.{All-map, All-weaker, All-contains_itself}
-use Rattle.std.proofs.Math.Nat.{pow-suc, mul-le-mul_right, one-le-pow, one-le-mul}
+use Rattle.std.proofs.Math.Nat.{pow-suc, mul-le-mul_right}
 use Rattle.exact_parts.proofs.Widths.{le-times}
 use Rattle.search_model.specs.Problem.{Problem, IsProblem}
 use Rattle.search_model.specs.Legal.{walks, continuations, last_of}

@@ -1,24 +1,30 @@
 //! The tables of the edge bound.
 
-ghost use Rattle.std.specs.Prelude.{◌≡◌, ◌<◌, length, IfOk};
+ghost use Rattle.std.specs.Prelude.{◌≡◌, ◌<◌, ◌≤◌, ◌+◌, ◌*◌, length, IfOk};
 ghost use Rattle.search_model.specs.Legal.{IsLegal};
 ghost use Rattle.search_model.specs.Edge.{edge_of};
+ghost use Rattle.belief_update.specs.Trails.{IsPast};
 
 use crate::masses::fill_masses;
 use crate::rows::{best_first, fill_sums};
-use belief_update::{Belief, prefix_value};
+use belief_update::{Belief, follow, value_by};
 use exact_parts::NoMemory;
 use search_model::{Path, Scenario};
 use std::alloc::Global;
 use std::marker::Model;
 
-/// Tables for the edge bound of prefixes, made for one scenario.
+/// Tables for the edge bound of prefixes, made for one scenario and filled anew for each bound.
 ///
 /// The bound is the value of the prefix, and the greatest sum of rewards over its continuations, where the reward of a
-/// look is what it finds after the looks of the prefix and the look just before it. So it is no less than the value of
-/// each path that begins with the prefix, and no more than the mean bound.
+/// look is what it finds after the looks of the prefix and the look just before it. It is the mean bound (Martins 1993)
+/// with this discount: there a look finds what it would if no other look came after the prefix. One look takes away no
+/// more than all that come before do, so the bound is no less than the value of each path that begins with the prefix;
+/// and it is no more than the mean bound.
+///
+/// `bound_after` is for who keeps the beliefs along the prefixes already; `bound` goes along the prefix from the start.
 #[derive(Drop)]
 pub struct Edge {
+    // The belief that goes along the prefix, and on without looks.
     belief: Belief,
     // Per period after the prefix and cell, the mass.
     masses: Vec<u128>,
@@ -33,6 +39,34 @@ impl Model for Edge {
     ghost Value = { EdgeState };
 
     ghost view = { λ e. record { belief = e.belief; masses = e.masses.items; sums = e.sums.items; earlier = e.earlier.items } };
+}
+
+/// The edge bound of a prefix, by a belief after it, in the period of its last look or in the next one. The belief goes
+/// on without looks.
+fn bound_by(
+    belief: &mut Belief,
+    masses: &mut [u128],
+    sums: &mut [u128],
+    earlier: &mut [u128],
+    sc: &Scenario,
+    prefix: &Path,
+) -> u128
+    requires belief { IsPast sc.now prefix.now belief.old }
+    requires near { belief.old.period ≤ length prefix.now + 1 }
+    requires size { length masses.old ≡ sc.now.horizon * sc.now.cells }
+    requires width { length sums.old ≡ sc.now.positions }
+    requires room { length earlier.old ≡ sc.now.positions }
+    requires legal { IsLegal sc.now prefix.now }
+    requires short { length prefix.now < sc.now.horizon }
+    ensures bound { result ≡ edge_of sc.now prefix.now }
+    ensures belief { length belief.new.masses ≡ sc.now.cells }
+{
+    let _sound = sc.cells();
+    belief.advance(sc);
+    let value = value_by(sc, belief, prefix);
+    fill_masses(masses, sc, belief, prefix);
+    fill_sums(sums, earlier, sc, prefix, masses);
+    value + best_first(sc, prefix, masses, sums)
 }
 
 impl Edge {
@@ -60,10 +94,35 @@ impl Edge {
         ensures bound { result ≡ edge_of sc.now prefix.now }
         ensures made { IsMadeFor sc.now self.new }
     {
-        let _sound = sc.cells();
-        let value = prefix_value(sc, &mut self.belief, prefix);
-        fill_masses(&mut self.masses, sc, &mut self.belief, prefix);
-        fill_sums(&mut self.sums, &mut self.earlier, sc, prefix, &self.masses);
-        value + best_first(sc, prefix, &self.masses, &self.sums)
+        follow(sc, &mut self.belief, prefix);
+        bound_by(
+            &mut self.belief,
+            &mut self.masses,
+            &mut self.sums,
+            &mut self.earlier,
+            sc,
+            prefix,
+        )
+    }
+
+    /// The same bound by a belief after the prefix, in the period of its last look or in the next one. Takes no memory.
+    pub fn bound_after(&mut self, sc: &Scenario, ahead: &Belief, prefix: &Path) -> u128
+        requires made { IsMadeFor sc.now self.old }
+        requires legal { IsLegal sc.now prefix.now }
+        requires short { length prefix.now < sc.now.horizon }
+        requires ahead { IsPast sc.now prefix.now ahead.now }
+        requires near { ahead.now.period ≤ length prefix.now + 1 }
+        ensures bound { result ≡ edge_of sc.now prefix.now }
+        ensures made { IsMadeFor sc.now self.new }
+    {
+        self.belief.copy_from(ahead);
+        bound_by(
+            &mut self.belief,
+            &mut self.masses,
+            &mut self.sums,
+            &mut self.earlier,
+            sc,
+            prefix,
+        )
     }
 }

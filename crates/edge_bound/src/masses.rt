@@ -1,24 +1,11 @@
 //! The masses after a prefix.
 
-ghost use Rattle.std.specs.Prelude.{◌≡◌, ◌<◌, ◌≤◌, ◌+◌, ◌*◌, ℕ, List, max, length, slice_index};
-ghost use Rattle.belief_update.specs.Masses.{looks_to};
-ghost use Rattle.belief_update.specs.Belief.{IsBelief, IsReached};
+ghost use Rattle.std.specs.Prelude.{◌≡◌, ◌<◌, ◌≤◌, ◌+◌, ◌*◌, ℕ, length, slice_index};
+ghost use Rattle.belief_update.specs.Trails.{IsAhead};
 ghost use Rattle.edge_bound.specs.Onward.{IsTableFor};
 
 use belief_update::Belief;
 use search_model::{Path, Scenario};
-
-/// Goes on from period `t` to the next one; to the first one, where `t` is 0.
-fn next_period(sc: &Scenario, belief: &mut Belief, t: u32)
-    requires belief { IsReached sc.now belief.old }
-    requires period { belief.old.period ≡ max 1 t }
-    requires last { t < sc.now.horizon }
-    ensures { (q : List ℕ) → length q ≤ t → IsBelief sc.now (looks_to (max 1 t) q) belief.old → IsBelief sc.now (looks_to (t + 1) q) belief.new }
-{
-    if t > 0 {
-        belief.drift(sc);
-    }
-}
 
 /// Writes the masses of a belief, one for each cell, from place `row` on.
 fn keep(masses: &mut [u128], sc: &Scenario, belief: &Belief, row: usize)
@@ -32,18 +19,19 @@ fn keep(masses: &mut [u128], sc: &Scenario, belief: &Belief, row: usize)
     }
 }
 
-/// Fills in the masses of all periods after a prefix, by the belief in the period of its last look, which drifts on
-/// without looks.
+/// Fills in the masses of all periods after a prefix, by the belief ahead of its next look, which drifts on without
+/// looks.
 pub(crate) fn fill_masses(masses: &mut [u128], sc: &Scenario, belief: &mut Belief, prefix: &Path)
     requires short { length prefix.now < sc.now.horizon }
     requires size { length masses.old ≡ sc.now.horizon * sc.now.cells }
-    requires belief { IsBelief sc.now (looks_to (max 1 (length prefix.now)) prefix.now) belief.old }
+    requires belief { IsAhead sc.now prefix.now belief.old }
     ensures masses { IsTableFor sc.now prefix.now masses.new }
     ensures cells { length belief.new.masses ≡ sc.now.cells }
 {
     let cells = usize::from(sc.cells());
-    for t in prefix.len() as u32..sc.horizon() {
-        next_period(sc, belief, t);
+    keep(masses, sc, belief, prefix.len() * cells);
+    for t in prefix.len() as u32 + 1..sc.horizon() {
+        belief.drift(sc);
         keep(masses, sc, belief, t as usize * cells);
     }
 }

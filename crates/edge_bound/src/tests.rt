@@ -1,8 +1,11 @@
 ghost use Rattle.std.specs.Prelude.{◌≡◌};
+ghost use Rattle.belief_update.specs.Trails.{IsTrailOf};
 ghost use Rattle.edge_bound.specs.Edges.{IsMadeFor};
 
 use super::*;
+use belief_update::Trail;
 use drift_chain::{Drift, DriftPart};
+use exact_parts::NoMemory;
 use search_grid::Grid;
 use search_model::{Name, Parts, Path, Scenario};
 use std::alloc::{AllocError, Global};
@@ -90,37 +93,39 @@ fn drifting(alloc: Global) -> Result<Scenario, Fail> {
     three_in_a_row(alloc, 4, 6, first, Drift::new(3, drifts)?, sweep)
 }
 
-// Whether a prefix may be bounded, and has this bound.
-fn has_bound(sc: &Scenario, edge: &mut Edge, cells: &[u8], bound: u128) -> bool
-    requires { IsMadeFor sc.now edge.old }
-    ensures { IsMadeFor sc.now edge.new }
+// Whether a prefix may be bounded, and has this bound by the beliefs along it and by one from the start.
+fn has_bound(sc: &Scenario, edge: &mut Edge, trail: &mut Trail, cells: &[u8], bound: u128) -> bool
+    requires edge { IsMadeFor sc.now edge.old }
+    requires trail { IsTrailOf sc.now trail.old }
+    ensures edge { IsMadeFor sc.now edge.new }
+    ensures trail { IsTrailOf sc.now trail.new }
 {
     match Path::of(cells) {
         Some(prefix) if sc.is_legal(&prefix) && cells.len() < sc.horizon() as usize => {
-            edge.bound(sc, &prefix) == bound
+            trail.go_to(sc, &prefix);
+            let after = edge.bound_after(sc, trail.ahead(prefix.len()), &prefix);
+            after == bound && edge.bound(sc, &prefix) == bound
         }
         _ => false,
     }
 }
 
 // Whether prefixes have their bounds, one asked after the other.
-fn have_bounds(sc: &Scenario, edge: &mut Edge, cases: &[(&[u8], u128)]) -> bool
-    requires { IsMadeFor sc.now edge.old }
-    ensures { IsMadeFor sc.now edge.new }
-{
+fn have_bounds(alloc: Global, sc: &Scenario, cases: &[(&[u8], u128)]) -> Result<bool, NoMemory> {
+    let mut edge = Edge::tables(alloc, sc)?;
+    let mut trail = Trail::tables(alloc, sc)?;
     for (cells, bound) in cases {
-        if !has_bound(sc, edge, cells, *bound) {
-            return false;
+        if !has_bound(sc, &mut edge, &mut trail, cells, *bound) {
+            return Ok(false);
         }
     }
-    true
+    Ok(true)
 }
 
 // The bounds of the drifting target are sums over all tracks, made by a script in another language from the definition.
 #[test]
 fn prefixes_have_the_worked_bounds_after_others(rt: HostRuntime) -> Result<(), Fail> {
-    let sc = waiting(rt.alloc())?;
-    let mut edge = Edge::tables(rt.alloc(), &sc)?;
+    let waits = waiting(rt.alloc())?;
     let bounds: [(&[u8], u128); 8] = [
         (&[1], 6),
         (&[], 8),
@@ -131,9 +136,8 @@ fn prefixes_have_the_worked_bounds_after_others(rt: HostRuntime) -> Result<(), F
         (&[0, 0], 0),
         (&[1], 6),
     ];
-    assert!(rt; have_bounds(&sc, &mut edge, &bounds));
+    assert!(rt; have_bounds(rt.alloc(), &waits, &bounds)?);
     let drifts = drifting(rt.alloc())?;
-    let mut over_drifts = Edge::tables(rt.alloc(), &drifts)?;
     let drifting_bounds: [(&[u8], u128); 9] = [
         (&[], 34176),
         (&[0], 27408),
@@ -145,7 +149,7 @@ fn prefixes_have_the_worked_bounds_after_others(rt: HostRuntime) -> Result<(), F
         (&[1, 2, 1], 24396),
         (&[2, 2, 2], 12512),
     ];
-    assert!(rt; have_bounds(&drifts, &mut over_drifts, &drifting_bounds));
-    crosses_threads(edge);
+    assert!(rt; have_bounds(rt.alloc(), &drifts, &drifting_bounds)?);
+    crosses_threads(Edge::tables(rt.alloc(), &waits)?);
     Ok(())
 }

@@ -50,7 +50,7 @@ fn place_values(alloc: Global, sc: &Scenario, path: &Path) -> Result<Vec<Value>,
     let _sound = sc.cells();
     let mut values = Vec::new(alloc);
     for a in path.cells() {
-        values.push(name_value(alloc, sc.name(*a))?)?;
+        values.push(name_value(alloc, sc.position(*a))?)?;
     }
     Ok(values)
 }

@@ -52,7 +52,7 @@ fn push_period(
         b"period",
         &[
             Field::Number(u128::from(t)),
-            Field::Word(sc.name(position).bytes()),
+            Field::Word(sc.position(position).bytes()),
             Field::Number(value),
             Field::Share(value, sc.weight()),
         ],

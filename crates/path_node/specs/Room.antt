@@ -5,12 +5,14 @@ use Rattle.search_model.specs.Bounds.{IsRate}
 use Rattle.belief_update.specs.Trails.{TrailState, IsTrailOf}
 use Rattle.mean_bound.specs.Means.{MeanState, IsMadeFor as IsMeanFor}
 use Rattle.tangent_bound.specs.Room.{TangentRoom, IsMadeFor as IsTangentFor}
+use Rattle.edge_bound.specs.Edges.{EdgeState, IsMadeFor as IsEdgeFor}
 
--- the beliefs along the prefix that was closed last, the tables of both bounds, and whether the looks have one rate
+-- the beliefs along the prefix that was closed last, the tables of the bounds, and whether the looks have one rate
 pub record NodeTables : Type 0 where
   pub trail : TrailState
   pub mean : MeanState
   pub tangent : TangentRoom
+  pub edge : EdgeState
   pub has_rate : Bool
 
 -- whether the problem has one rate
@@ -23,4 +25,5 @@ pub record IsMadeFor (p : Problem) (s : NodeTables) : Type 0 where
   pub trail : IsTrailOf p s.trail
   pub mean : IsMeanFor p s.mean
   pub tangent : IsTangentFor p s.tangent
+  pub edge : IsEdgeFor p s.edge
   pub rate : TellsRate p s.has_rate

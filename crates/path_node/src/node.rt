@@ -3,13 +3,14 @@
 ghost use Rattle.std.specs.Prelude.{◌≡◌, ◌<◌, ◌≤◌, ◌+◌, ℕ, length, IfOk, IsFalse};
 ghost use Rattle.search_model.specs.Legal.{IsLegal, moves_after};
 ghost use Rattle.search_model.specs.Bounds.{IsRate, mean_of};
-ghost use Rattle.bound_tree.specs.Close.{IsClosed, IsExact};
+ghost use Rattle.bound_tree.specs.Close.{IsClosed, IsExact, IsLeftOpen};
 ghost use Rattle.bound_tree.specs.Cut.{is_cut};
 ghost use Rattle.mean_bound.specs.Means.{IsFilledFor};
 ghost use Rattle.path_node.specs.Room.{IsMadeFor, TellsRate};
 
 use belief_update::{Trail, value_by};
 use bound_tree::{Kind, TreeNode, cuts, in_parts};
+use edge_bound::Edge;
 use exact_parts::NoMemory;
 use mean_bound::Mean;
 use search_model::{Path, Scenario, Standing};
@@ -17,13 +18,14 @@ use std::alloc::Global;
 use std::marker::Model;
 use tangent_bound::Tangent;
 
-/// Tables with which prefixes of one scenario are closed: the beliefs along the prefix that is closed, by which both
-/// bounds and values go, and the tables of both bounds.
+/// Tables with which prefixes of one scenario are closed: the beliefs along the prefix that is closed, by which all
+/// bounds and values go, and the tables of the bounds.
 #[derive(Drop)]
 pub struct Scratch {
     trail: Trail,
     mean: Mean,
     tangent: Tangent,
+    edge: Edge,
     has_rate: bool,
 }
 
@@ -32,15 +34,14 @@ impl Model for Scratch {
 
     ghost Value = { NodeTables };
 
-    ghost view = { λ s. record { trail = s.trail; mean = s.mean; tangent = s.tangent; has_rate = s.has_rate } };
+    ghost view = { λ s. record { trail = s.trail; mean = s.mean; tangent = s.tangent; edge = s.edge; has_rate = s.has_rate } };
 }
 
 /// Whether the looks of a scenario have one rate.
 fn has_rate(sc: &Scenario) -> bool
     ensures { TellsRate sc.now result }
 {
-    let _sound = sc.cells();
-    sc.sweep().one_rate().is_some()
+    sc.sweep().one_rate(sc.horizon()).is_some()
 }
 
 impl Scratch {
@@ -52,13 +53,35 @@ impl Scratch {
             trail: Trail::tables(alloc, sc)?,
             mean: Mean::tables(alloc, sc)?,
             tangent: Tangent::tables(alloc, sc)?,
+            edge: Edge::tables(alloc, sc)?,
             has_rate: has_rate(sc),
         })
     }
 }
 
-/// Closes a prefix whose mean bound isn't cut by its tangent bound at the least path of the greatest sum of rewards, if
-/// the standing cuts that.
+/// Closes a prefix that neither its mean bound nor a tangent bound rules out: by its edge bound, if the standing cuts
+/// that.
+fn close_by_edge(scratch: &mut Scratch, sc: &Scenario, prefix: &Path, standing: &Standing) -> Kind
+    requires made { IsMadeFor sc.now scratch.old }
+    requires there { scratch.old.trail.prefix ≡ prefix.now }
+    requires legal { IsLegal sc.now prefix.now }
+    requires shorter { length prefix.now < sc.now.horizon }
+    requires open { IsLeftOpen sc.now standing.now prefix.now }
+    requires exact { IsExact sc.now standing.now }
+    ensures closed { IsClosed sc.now standing.now prefix.now result }
+    ensures made { IsMadeFor sc.now scratch.new }
+{
+    let ahead = scratch.trail.ahead(prefix.len());
+    let edge = scratch.edge.bound_after(sc, ahead, prefix);
+    if cuts(standing, edge, prefix) {
+        Kind::Edge(edge)
+    } else {
+        Kind::Branch
+    }
+}
+
+/// Closes a prefix whose mean bound isn't cut, where the looks have one rate: by its tangent bound at the least path of
+/// the greatest sum of rewards, if the standing cuts that.
 fn close_by_tangent(
     scratch: &mut Scratch,
     sc: &Scenario,
@@ -79,13 +102,13 @@ fn close_by_tangent(
     let _sound = sc.cells();
     let mut reference = *prefix;
     scratch.mean.reference(sc, &mut reference);
-    let row = scratch.trail.ahead(prefix.len());
-    let bound = scratch.tangent.bound_after(sc, row, prefix, &reference);
+    let ahead = scratch.trail.ahead(prefix.len());
+    let tangent = scratch.tangent.bound_after(sc, ahead, prefix, &reference);
     let finer = in_parts(standing, sc.sweep().denominator());
-    if cuts(&finer, bound, prefix) {
-        Kind::Tangent(bound, reference)
+    if cuts(&finer, tangent, prefix) {
+        Kind::Tangent(tangent, reference)
     } else {
-        Kind::Branch
+        close_by_edge(scratch, sc, prefix, standing)
     }
 }
 
@@ -99,21 +122,22 @@ fn close_shorter(scratch: &mut Scratch, sc: &Scenario, prefix: &Path, standing: 
     ensures closed { IsClosed sc.now standing.now prefix.now result }
     ensures made { IsMadeFor sc.now scratch.new }
 {
-    let row = scratch.trail.ahead(prefix.len());
-    let bound = scratch.mean.bound_after(sc, row, prefix);
-    if cuts(standing, bound, prefix) {
-        return Kind::Mean(bound);
+    let ahead = scratch.trail.ahead(prefix.len());
+    let mean = scratch.mean.bound_after(sc, ahead, prefix);
+    if cuts(standing, mean, prefix) {
+        return Kind::Mean(mean);
     }
     if scratch.has_rate {
         close_by_tangent(scratch, sc, prefix, standing)
     } else {
-        Kind::Branch
+        close_by_edge(scratch, sc, prefix, standing)
     }
 }
 
 /// The record of a legal prefix, closed under a standing: a path by its value; a shorter prefix by its mean bound
 /// (Martins 1993) where the standing cuts that, else by its tangent bound where the looks have one rate and the standing
-/// cuts it, and else it branches. Takes no memory.
+/// cuts it, else by its edge bound where the standing cuts that, and else it branches. A bound is computed only where
+/// those before it rule nothing out. Takes no memory.
 pub fn close(scratch: &mut Scratch, sc: &Scenario, prefix: &Path, standing: &Standing) -> TreeNode
     requires made { IsMadeFor sc.now scratch.old }
     requires legal { IsLegal sc.now prefix.now }

@@ -1,16 +1,40 @@
 ghost use Rattle.path_node.specs.Room.{IsMadeFor};
 
 use super::*;
-use bound_tree::{Kind, TreeNode};
+use bound_tree::Kind;
+use exact_parts::NoMemory;
 use search_model::{Path, Scenario, Standing, value};
+use std::alloc::Global;
 use std::test::Fail;
-use worked_scenarios::{two_rates, waiting_longer};
 
 // Holds of what may be shared between threads and moved to one.
 fn crosses_threads<T: Send + Sync + Drop>(_value: T) {}
 
-// The record of a prefix under a path's standing, where both are legal.
-fn closed(sc: &Scenario, scratch: &mut Scratch, prefix: &[u8], best: &[u8]) -> Option<TreeNode>
+// The target that waits, over three periods; with no clause, which would put the whole problem into each goal of a test.
+fn waits(alloc: Global) -> Result<Scenario, NoMemory> {
+    worked_scenarios::waiting_longer(alloc)
+}
+
+// The same target, where no look in the middle misses.
+fn has_two_rates(alloc: Global) -> Result<Scenario, NoMemory> {
+    worked_scenarios::two_rates(alloc)
+}
+
+// A record's letter, its number, and the reference of a tangent.
+type Told = (char, u128, Path);
+
+fn told(kind: &Kind) -> Told {
+    match kind {
+        Kind::Branch => ('B', 0, Path::empty()),
+        Kind::Whole(value) => ('W', *value, Path::empty()),
+        Kind::Mean(bound) => ('M', *bound, Path::empty()),
+        Kind::Tangent(bound, reference) => ('T', *bound, *reference),
+        Kind::Edge(bound) => ('E', *bound, Path::empty()),
+    }
+}
+
+// What the record of a prefix tells under the standing of a path, where both are legal.
+fn closed(sc: &Scenario, scratch: &mut Scratch, prefix: &[u8], best: &[u8]) -> Option<Told>
     requires { IsMadeFor sc.now scratch.old }
     ensures { IsMadeFor sc.now scratch.new }
 {
@@ -21,60 +45,51 @@ fn closed(sc: &Scenario, scratch: &mut Scratch, prefix: &[u8], best: &[u8]) -> O
             path,
             value: value(sc, &path),
         };
-        Some(close(scratch, sc, &prefix, &standing))
+        Some(told(&close(scratch, sc, &prefix, &standing).kind))
     } else {
         None
     }
 }
 
-fn is_branch(node: &TreeNode) -> bool {
-    matches!(node.kind, Kind::Branch)
-}
-
-fn is_mean(node: &TreeNode, bound: u128) -> bool {
-    match node.kind {
-        Kind::Mean(found) => found == bound,
-        _ => false,
+// Whether the records of some prefixes tell this under the path that waits with the target, which finds 7 of 8.
+fn are_closed(
+    alloc: Global,
+    sc: &Scenario,
+    rows: &[(&[u8], char, u128, &[u8])],
+) -> Result<bool, NoMemory> {
+    let mut scratch = Scratch::tables(alloc, sc)?;
+    for (prefix, letter, number, reference) in rows {
+        match closed(sc, &mut scratch, prefix, &[2, 2, 2]) {
+            Some((is, n, x)) if is == *letter && n == *number && x.cells() == *reference => {}
+            _ => return Ok(false),
+        }
     }
+    Ok(true)
 }
 
-fn is_tangent(node: &TreeNode, bound: u128, path: &[u8]) -> bool {
-    match node.kind {
-        Kind::Tangent(found, reference) => found == bound && reference.cells() == path,
-        _ => false,
-    }
-}
-
-fn is_whole(node: &TreeNode, value: u128) -> bool {
-    match node.kind {
-        Kind::Whole(found) => found == value,
-        _ => false,
-    }
-}
-
-// Prefixes under the path that waits with the target, which finds 7 of 8.
 #[test]
 fn prefixes_are_closed_by_each_kind(rt: HostRuntime) -> Result<(), Fail> {
-    let sc = waiting_longer(rt.alloc())?;
-    let mut scratch = Scratch::tables(rt.alloc(), &sc)?;
-    let best = &[2, 2, 2];
-    let away = closed(&sc, &mut scratch, &[0], best).ok_or("not legal")?;
-    let near = closed(&sc, &mut scratch, &[1], best).ok_or("not legal")?;
-    let there = closed(&sc, &mut scratch, &[2], best).ok_or("not legal")?;
-    let whole = closed(&sc, &mut scratch, &[2, 2, 1], best).ok_or("not legal")?;
-    assert!(rt; is_mean(&away, 4));
-    assert!(rt; is_tangent(&near, 12, &[1, 2, 2]));
-    assert!(rt; is_branch(&there));
-    assert!(rt; is_whole(&whole, 6));
+    let sc = waits(rt.alloc())?;
+    let rows: [(&[u8], char, u128, &[u8]); 5] = [
+        (&[], 'B', 0, &[]),
+        (&[0], 'M', 4, &[]),
+        (&[1], 'T', 12, &[1, 2, 2]),
+        (&[2], 'B', 0, &[]),
+        (&[2, 2, 1], 'W', 6, &[]),
+    ];
+    assert!(rt; are_closed(rt.alloc(), &sc, &rows)?);
     Ok(())
 }
 
 #[test]
 fn looks_of_two_rates_have_no_tangent(rt: HostRuntime) -> Result<(), Fail> {
-    let sc = two_rates(rt.alloc())?;
-    let mut scratch = Scratch::tables(rt.alloc(), &sc)?;
-    let near = closed(&sc, &mut scratch, &[1], &[2, 2, 2]).ok_or("not legal")?;
-    assert!(rt; is_branch(&near));
-    crosses_threads(scratch);
+    let sc = has_two_rates(rt.alloc())?;
+    let rows: [(&[u8], char, u128, &[u8]); 3] = [
+        (&[0], 'M', 4, &[]),
+        (&[1], 'E', 6, &[]),
+        (&[2], 'B', 0, &[]),
+    ];
+    assert!(rt; are_closed(rt.alloc(), &sc, &rows)?);
+    crosses_threads(Scratch::tables(rt.alloc(), &sc)?);
     Ok(())
 }

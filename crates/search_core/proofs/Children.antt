@@ -11,7 +11,7 @@ use Rattle.search_model.specs.Problem.{Problem, IsProblem}
 use Rattle.search_model.specs.Legal.{last_of, moves_after}
 use Rattle.list_laws.proofs.Members.{Contains-nil, Contains-map_cases}
 use Rattle.bound_tree.specs.declared.node.Kind.{Kind}
-use Rattle.bound_tree.specs.declared.node.Kind.TheVariants.{Branch, Whole, Mean, Tangent}
+use Rattle.bound_tree.specs.declared.node.Kind.TheVariants.{Branch, Whole, Mean, Tangent, Edge}
 use Rattle.bound_tree.specs.declared.node.TreeNode.{TreeNode}
 use Rattle.bound_tree.specs.Accepts.{prefixes_of}
 use Rattle.bound_tree.specs.Accepts.{expected_by}
@@ -52,6 +52,7 @@ expected_cases p q Branch r h = let found = Contains-map_cases (λ d. q ++ d ∷
 expected_cases p q (Whole n) r h = absurd (Contains-nil r h)
 expected_cases p q (Mean b) r h = absurd (Contains-nil r h)
 expected_cases p q (Tangent b whole) r h = absurd (Contains-nil r h)
+expected_cases p q (Edge b) r h = absurd (Contains-nil r h)
 
 -- a child stands at most once among its siblings, and among no others' children
 children_once : (p q ds : List ℕ) (d : ℕ) → Rises ds → count_of (q ++ d ∷ []) (map (λ e. p ++ e ∷ []) ds) ≤ count_of q (p ∷ [])
@@ -84,6 +85,7 @@ module _ (p : Problem) where
   expected_once sound q (Whole n) r d = omega arith
   expected_once sound q (Mean b) r d = omega arith
   expected_once sound q (Tangent b whole) r d = omega arith
+  expected_once sound q (Edge b) r d = omega arith
 
   -- a child is expected at most as often as its front has a record
   pub expected_by_records : IsProblem p → (rs : List TreeNode) (q : List ℕ) (d : ℕ) → count_of (q ++ d ∷ []) (expected_of p rs) ≤ count_of q (prefixes_of rs)

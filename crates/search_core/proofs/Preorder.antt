@@ -10,7 +10,7 @@ use Rattle.search_model.specs.Order.{smaller}
 use Rattle.list_laws.proofs.Members.{Contains-map, Contains-map_cases, Contains-cons_cases, Contains-flat_map_cases}
 use Rattle.search_model.proofs.Orders.{smaller_irreflexive, smaller_one_way, smaller_prefix, smaller_at}
 use Rattle.bound_tree.specs.declared.node.Kind.{Kind}
-use Rattle.bound_tree.specs.declared.node.Kind.TheVariants.{Branch, Whole, Mean, Tangent}
+use Rattle.bound_tree.specs.declared.node.Kind.TheVariants.{Branch, Whole, Mean, Tangent, Edge}
 use Rattle.bound_tree.specs.declared.node.TreeNode.{TreeNode}
 use Rattle.bound_tree.specs.Accepts.{prefixes_of}
 use Rattle.bound_tree.specs.Accepts.{children_of, expected_by, IsGood, AreEaten}
@@ -61,6 +61,7 @@ module _ (p : Problem) (sound : IsProblem p) where
   expected_ordered q (Whole n) qs h = AllPairs-tail Before q qs h
   expected_ordered q (Mean b) qs h = AllPairs-tail Before q qs h
   expected_ordered q (Tangent b whole) qs h = AllPairs-tail Before q qs h
+  expected_ordered q (Edge b) qs h = AllPairs-tail Before q qs h
 
   -- the first of a preorder is no one's child
   first_is_no_child : (r : TreeNode) (rs : List TreeNode) → FirstIsLeast r rs → Contains (expected_of p (r ∷ rs)) r.prefix → ⊥

@@ -2,7 +2,7 @@
 use Rattle.std.proofs.Common.{◌≡◌, ◌≢◌, ℕ, ◌+◌, List, [], ◌∷◌, ◌++◌, ap, refl, arith, IsPermutation}
 use Rattle.search_model.specs.Problem.{Problem}
 use Rattle.bound_tree.specs.declared.node.Kind.{Kind}
-use Rattle.bound_tree.specs.declared.node.Kind.TheVariants.{Branch, Whole, Mean, Tangent}
+use Rattle.bound_tree.specs.declared.node.Kind.TheVariants.{Branch, Whole, Mean, Tangent, Edge}
 use Rattle.bound_tree.specs.declared.node.TreeNode.{TreeNode}
 use Rattle.bound_tree.specs.Accepts.{expected_by, prefixes_of}
 use Rattle.steal_pool.specs.Kits.{KitView, put_of, taken_of}
@@ -106,6 +106,7 @@ expects_nothing p q Branch other = absurd (other refl)
 expects_nothing p q (Whole n) other = refl
 expects_nothing p q (Mean b) other = refl
 expects_nothing p q (Tangent b whole) other = refl
+expects_nothing p q (Edge b) other = refl
 
 -- after nothing was recorded
 pub stays_balanced : (p : Problem) (kit : KitView (List ℕ)) (d d' : DeskView) → IsHaulBalanced p (haul_of (record { kit = kit; desk = d })) → Stays d d' →

@@ -1,11 +1,11 @@
 -- What a seat has seen on the board or offered to it.
-use Rattle.std.proofs.Common.{◌≡◌, List, [], ◌∷◌, ◌++◌, inl, inr, sym, subst, Contains}
+use Rattle.std.proofs.Common.{◌≡◌, [], ◌∷◌, ◌++◌, inl, inr, sym, subst, Contains}
 use Rattle.std.proofs.lemmas.List.Elements.{Contains-append_left, Contains-append_right, Contains-append_cases}
 use Rattle.search_model.specs.declared.standing.Standing.{Standing}
 use Rattle.list_laws.proofs.Wholes.{Contains-last}
 use Rattle.incumbent_board.specs.declared.offer.Offer.{Offer}
 use Rattle.incumbent_board.specs.declared.offer.Offer.TheVariants.{Placed, Behind}
-use Rattle.incumbent_board.specs.History.{last_of, last_from}
+use Rattle.incumbent_board.specs.History.{last_of}
 use Rattle.incumbent_board.specs.Boards.{SeatView, offers_of}
 use Rattle.incumbent_board.specs.Offers.{OnPlaced, IfBehind}
 use Rattle.search_workers.specs.Incumbents.{WasTold, Looked}

@@ -195,11 +195,9 @@ impl Sweep {
         match &self.looks {
             Looks::Plain(overlook) if p == c => overlook[p as usize],
             Looks::Plain(_) => self.denominator,
-            Looks::Footprints(prints) => factor_in_row(
-                self.denominator,
-                row_in_force(prints, t, p),
-                c,
-            ),
+            Looks::Footprints(prints) => {
+                factor_in_row(self.denominator, row_in_force(prints, t, p), c)
+            }
         }
     }
 }

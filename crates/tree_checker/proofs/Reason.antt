@@ -7,9 +7,10 @@ use Rattle.search_model.specs.Problem.{Problem}
 use Rattle.search_model.specs.Tracks.{value_of, whole_weight}
 use Rattle.search_model.specs.Order.{smaller}
 use Rattle.search_model.specs.Bounds.{mean_of, IsRate, tangent_of}
+use Rattle.search_model.specs.Edge.{edge_of}
 use Rattle.search_model.proofs.Orders.{smaller_irreflexive, same_from_neither}
 use Rattle.bound_tree.specs.declared.node.Kind.{Kind}
-use Rattle.bound_tree.specs.declared.node.Kind.TheVariants.{Branch, Whole, Mean, Tangent}
+use Rattle.bound_tree.specs.declared.node.Kind.TheVariants.{Branch, Whole, Mean, Tangent, Edge}
 use Rattle.bound_tree.specs.declared.node.TreeNode.{TreeNode}
 use Rattle.bound_tree.specs.declared.plan.Plan.{Plan}
 use Rattle.bound_tree.specs.Cut.{is_cut, times}
@@ -74,12 +75,14 @@ module _ (p : Problem) (s : Standing) where
   good_kind q (Tangent b whole) h =
       let tangent = good_tangent q b whole (one_rate_of p) refl h.1 in
       (ltb-true (length q) p.horizon h.0, tangent.0, tangent.1)
+  good_kind q (Edge b) h = (ltb-true (length q) p.horizon h.0, eqb-true b (edge_of p q) h.1.0, h.1.1.0)
 
   kind_good : (q : List ℕ) (kind : Kind) → IsGoodKind p s q kind → AllTrue (kind_tests p s q kind)
   kind_good q Branch h = (lt-ltb (length q) p.horizon h, tt)
   kind_good q (Whole n) h = (eq-eqb (length q) p.horizon h.0, (eq-eqb n (value_of p q) h.1, (ap not h.2, tt)))
   kind_good q (Mean b) h = (lt-ltb (length q) p.horizon h.0, (eq-eqb b (mean_of p q) h.1, (h.2, tt)))
   kind_good q (Tangent b whole) h = (lt-ltb (length q) p.horizon h.0, tangent_good q b whole h.1 h.2)
+  kind_good q (Edge b) h = (lt-ltb (length q) p.horizon h.0, (eq-eqb b (edge_of p q) h.1, (h.2, tt)))
 
   -- a branch that passes its tests is shorter than the horizon
   short_branch : (q : List ℕ) (kind : Kind) → AllTrue (kind_tests p s q kind) → kind ≡ Branch → length q < p.horizon
@@ -87,6 +90,7 @@ module _ (p : Problem) (s : Standing) where
   short_branch q (Whole n) h e = cc
   short_branch q (Mean b) h e = cc
   short_branch q (Tangent b whole) h e = cc
+  short_branch q (Edge b) h e = cc
 
   pub branch_is_short : (q : List ℕ) (r : TreeNode) → first_failed (record_tests p s q r) ≡ None → r.kind ≡ Branch → length q < p.horizon
   branch_is_short q r h e = short_branch q r.kind (all_true (record_tests p s q r) h).1.1 e

@@ -12,7 +12,7 @@ use Rattle.tree_checker.specs.Reasons.{head_reason, end_reason, tree_reason}
 use Rattle.tree_checker.specs.Tables.{AreMadeFor}
 
 -- the plan's standing, the first reason so far, the prefixes that are expected next, the line of the next record, and the
--- tables of both bounds
+-- tables of the bounds
 pub record Progress : Type 0 where
   pub standing : Standing
   pub reason : Option RejectAt

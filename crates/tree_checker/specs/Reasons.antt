@@ -8,8 +8,9 @@ use Rattle.search_model.specs.Problem.{Problem}
 use Rattle.search_model.specs.Tracks.{value_of, whole_weight}
 use Rattle.search_model.specs.Order.{smaller, better}
 use Rattle.search_model.specs.Bounds.{mean_of, tangent_of}
+use Rattle.search_model.specs.Edge.{edge_of}
 use Rattle.bound_tree.specs.declared.node.Kind.{Kind}
-use Rattle.bound_tree.specs.declared.node.Kind.TheVariants.{Branch, Whole, Mean, Tangent}
+use Rattle.bound_tree.specs.declared.node.Kind.TheVariants.{Branch, Whole, Mean, Tangent, Edge}
 use Rattle.bound_tree.specs.declared.node.TreeNode.{TreeNode}
 use Rattle.bound_tree.specs.declared.plan.Plan.{Plan}
 use Rattle.bound_tree.specs.Cut.{is_cut, times}
@@ -47,23 +48,25 @@ path_tests p q = (is_path p q, PathIllegal) ∷ []
 abbrev pub value_tests : Problem → Standing → ℕ → List Test
 value_tests p s weight = (s.value == value_of p s.path, ValueWrong) ∷ (weight == whole_weight p, WeightWrong) ∷ []
 
+-- the tests of a bound's number at a prefix: it is the right one, and the standing cuts it
+abbrev pub bound_tests : Standing → List ℕ → ℕ → ℕ → List Test
+bound_tests s q b right = (b == right, BoundWrong) ∷ (is_cut b q s, NotCut) ∷ []
+
 -- the tests of a tangent at a prefix and a reference path, with the one rate, where there is one: the reference is a path
 -- that begins with the prefix, the bound is the tangent there, and the standing, in as fine parts, cuts it
 abbrev pub tangent_tests : Problem → Standing → List ℕ → ℕ → List ℕ → Option ℕ → List Test
 tangent_tests p s q b whole None = (false, NoOneRate) ∷ []
 tangent_tests p s q b whole (Some rate) =
-    (is_path p whole && starts_with nat_eq whole q, ReferenceWrong)
-    ∷ (b == tangent_of p rate q whole, BoundWrong)
-    ∷ (is_cut b q (times p.sweep.denominator s), NotCut)
-    ∷ []
+    (is_path p whole && starts_with nat_eq whole q, ReferenceWrong) ∷ bound_tests (times p.sweep.denominator s) q b (tangent_of p rate q whole)
 
 -- the tests of a kind at a prefix, under the plan's standing
 abbrev pub kind_tests : Problem → Standing → List ℕ → Kind → List Test
 kind_tests p s q Branch = (nat_lt (length q) p.horizon, WholeWrong) ∷ []
 kind_tests p s q (Whole n) =
     (length q == p.horizon, WholeWrong) ∷ (n == value_of p q, WholeWrong) ∷ (not (better (record { path = q; value = n }) s), NotCut) ∷ []
-kind_tests p s q (Mean b) = (nat_lt (length q) p.horizon, WholeWrong) ∷ (b == mean_of p q, BoundWrong) ∷ (is_cut b q s, NotCut) ∷ []
+kind_tests p s q (Mean b) = (nat_lt (length q) p.horizon, WholeWrong) ∷ bound_tests s q b (mean_of p q)
 kind_tests p s q (Tangent b whole) = (nat_lt (length q) p.horizon, WholeWrong) ∷ tangent_tests p s q b whole (one_rate_of p)
+kind_tests p s q (Edge b) = (nat_lt (length q) p.horizon, WholeWrong) ∷ bound_tests s q b (edge_of p q)
 
 -- the tests of a record where prefix q is expected; past the first two the record's prefix is q
 abbrev pub record_tests : Problem → Standing → List ℕ → TreeNode → List Test

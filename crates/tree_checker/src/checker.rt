@@ -112,7 +112,7 @@ impl Checker {
         ensures made { IsMadeFor sc.now self.new }
     {
         self.standing = *standing;
-        self.reason = head_reason(sc, &mut self.tables.mean, standing, weight);
+        self.reason = head_reason(sc, &mut self.tables, standing, weight);
         self.expected.clear();
         push_prefix(&mut self.expected, Path::empty());
         self.line = 5;

@@ -3,26 +3,29 @@
 ghost use Rattle.std.specs.Prelude.{◌≡◌, IfNone};
 ghost use Rattle.search_model.specs.Legal.{IsLegal};
 ghost use Rattle.bound_tree.specs.Close.{IsExact};
-ghost use Rattle.mean_bound.specs.Means.{IsMadeFor as IsMeanFor};
 ghost use Rattle.tree_checker.specs.Reasons.{first_failed, value_tests, kind_tests, record_tests, head_reason as head_reason_lem};
 ghost use Rattle.tree_checker.specs.Tables.{AreMadeFor};
 
-use crate::bounds::{mean_reason, tangent_reason};
+use crate::bounds::{edge_reason, mean_reason, tangent_reason};
 use crate::path_tests::is_path;
 use crate::tables::BoundTables;
 use crate::verdict::{RejectAt, Why};
 use bound_tree::{Kind, TreeNode};
-use mean_bound::Mean;
 use search_model::{Path, Scenario, Standing, better};
 
 /// The first reason against the value and the weight of a path.
-fn value_reason(sc: &Scenario, mean: &mut Mean, standing: &Standing, weight: u128) -> Option<Why>
-    requires made { IsMeanFor sc.now mean.old }
+fn value_reason(
+    sc: &Scenario,
+    tables: &mut BoundTables,
+    standing: &Standing,
+    weight: u128,
+) -> Option<Why>
+    requires made { AreMadeFor sc.now tables.old }
     requires legal { IsLegal sc.now standing.now.path }
     ensures reason { result ≡ first_failed (value_tests sc.now standing.now weight) }
-    ensures made { IsMeanFor sc.now mean.new }
+    ensures made { AreMadeFor sc.now tables.new }
 {
-    if standing.value != mean.value(sc, &standing.path) {
+    if standing.value != tables.value(sc, &standing.path) {
         Some(Why::ValueWrong)
     } else if weight != sc.weight() {
         Some(Why::WeightWrong)
@@ -34,14 +37,14 @@ fn value_reason(sc: &Scenario, mean: &mut Mean, standing: &Standing, weight: u12
 /// The first reason against a plan's path, value and weight.
 pub(crate) fn head_reason(
     sc: &Scenario,
-    mean: &mut Mean,
+    tables: &mut BoundTables,
     standing: &Standing,
     weight: u128,
 ) -> Option<RejectAt>
-    requires made { IsMeanFor sc.now mean.old }
+    requires made { AreMadeFor sc.now tables.old }
     ensures reason { result ≡ head_reason_lem sc.now standing.now weight }
     ensures exact { IfNone result (IsExact sc.now standing.now) }
-    ensures made { IsMeanFor sc.now mean.new }
+    ensures made { AreMadeFor sc.now tables.new }
 {
     if !is_path(sc, &standing.path) {
         return Some(RejectAt {
@@ -49,23 +52,23 @@ pub(crate) fn head_reason(
             why: Why::PathIllegal,
         });
     }
-    let why = value_reason(sc, mean, standing, weight)?;
+    let why = value_reason(sc, tables, standing, weight)?;
     Some(RejectAt { line: 3, why })
 }
 
 /// The first reason against a path as a record.
 fn whole_reason(
     sc: &Scenario,
-    mean: &mut Mean,
+    tables: &mut BoundTables,
     standing: &Standing,
     whole: &Standing,
 ) -> Option<Why>
-    requires made { IsMeanFor sc.now mean.old }
+    requires made { AreMadeFor sc.now tables.old }
     requires legal { IsLegal sc.now whole.now.path }
     ensures reason { result ≡ first_failed (kind_tests sc.now standing.now whole.now.path (Kind.Whole whole.now.value)) }
-    ensures made { IsMeanFor sc.now mean.new }
+    ensures made { AreMadeFor sc.now tables.new }
 {
-    if whole.path.len() != sc.horizon() as usize || whole.value != mean.value(sc, &whole.path) {
+    if whole.path.len() != sc.horizon() as usize || whole.value != tables.value(sc, &whole.path) {
         Some(Why::WholeWrong)
     } else if better(whole, standing) {
         Some(Why::NotCut)
@@ -101,17 +104,13 @@ fn kind_reason(
                 path: *prefix,
                 value: *number,
             };
-            whole_reason(sc, &mut tables.mean, standing, &whole)
+            whole_reason(sc, tables, standing, &whole)
         }
-        Kind::Mean(bound) => mean_reason(sc, &mut tables.mean, standing, prefix, *bound),
-        Kind::Tangent(bound, reference) => tangent_reason(
-            sc,
-            &mut tables.tangent,
-            standing,
-            prefix,
-            *bound,
-            reference,
-        ),
+        Kind::Mean(bound) => mean_reason(sc, tables, standing, prefix, *bound),
+        Kind::Tangent(bound, reference) => {
+            tangent_reason(sc, tables, standing, prefix, *bound, reference)
+        }
+        Kind::Edge(bound) => edge_reason(sc, tables, standing, prefix, *bound),
     }
 }
 

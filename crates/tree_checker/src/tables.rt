@@ -1,19 +1,28 @@
-//! The tables of both bounds.
+//! The tables of the bounds.
 
-ghost use Rattle.std.specs.Prelude.{IfOk};
+ghost use Rattle.std.specs.Prelude.{◌≡◌, ◌<◌, length, take, IfOk};
+ghost use Rattle.search_model.specs.Legal.{IsLegal, IsPath};
+ghost use Rattle.search_model.specs.Tracks.{value_of};
+ghost use Rattle.search_model.specs.Bounds.{mean_of, IsRate, tangent_of};
+ghost use Rattle.search_model.specs.Edge.{edge_of};
 ghost use Rattle.tree_checker.specs.Tables.{AreMadeFor};
 
+use belief_update::{Trail, value_by};
+use edge_bound::Edge;
 use exact_parts::NoMemory;
 use mean_bound::Mean;
-use search_model::Scenario;
+use search_model::{Path, Scenario};
 use std::alloc::Global;
 use tangent_bound::Tangent;
 
-/// The tables of the mean bound, which values of prefixes come from too, and of the tangent bound.
+/// The beliefs along the last prefix, by which all values and bounds go, and the tables of the bounds. A prefix uses the
+/// beliefs of the part that it has in common with the one before it.
 #[derive(Drop)]
 pub(crate) struct BoundTables {
+    pub(crate) trail: Trail,
     pub(crate) mean: Mean,
     pub(crate) tangent: Tangent,
+    pub(crate) edge: Edge,
 }
 
 impl BoundTables {
@@ -22,8 +31,71 @@ impl BoundTables {
         ensures { IfOk result (AreMadeFor sc.now) }
     {
         Ok(BoundTables {
+            trail: Trail::tables(alloc, sc)?,
             mean: Mean::tables(alloc, sc)?,
             tangent: Tangent::tables(alloc, sc)?,
+            edge: Edge::tables(alloc, sc)?,
         })
+    }
+
+    /// The value of a legal prefix.
+    pub(crate) fn value(&mut self, sc: &Scenario, prefix: &Path) -> u128
+        requires made { AreMadeFor sc.now self.old }
+        requires legal { IsLegal sc.now prefix.now }
+        ensures value { result ≡ value_of sc.now prefix.now }
+        ensures made { AreMadeFor sc.now self.new }
+    {
+        self.trail.go_to(sc, prefix);
+        value_by(sc, self.trail.row(prefix.len()), prefix)
+    }
+
+    /// The mean bound of a legal prefix that is shorter than the horizon.
+    pub(crate) fn mean_bound(&mut self, sc: &Scenario, prefix: &Path) -> u128
+        requires made { AreMadeFor sc.now self.old }
+        requires legal { IsLegal sc.now prefix.now }
+        requires open { length prefix.now < sc.now.horizon }
+        ensures value { result ≡ mean_of sc.now prefix.now }
+        ensures made { AreMadeFor sc.now self.new }
+    {
+        self.trail.go_to(sc, prefix);
+        let ahead = self.trail.ahead(prefix.len());
+        self.mean.bound_after(sc, ahead, prefix)
+    }
+
+    /// The tangent bound of a legal prefix that is shorter than the horizon, at a path that begins with it, where the
+    /// looks have this rate.
+    pub(crate) fn tangent_bound(
+        &mut self,
+        sc: &Scenario,
+        rate: u32,
+        prefix: &Path,
+        reference: &Path,
+    ) -> u128
+        requires made { AreMadeFor sc.now self.old }
+        requires rate { IsRate sc.now rate }
+        requires legal { IsLegal sc.now prefix.now }
+        requires open { length prefix.now < sc.now.horizon }
+        requires path { IsPath sc.now reference.now }
+        requires begins { take (length prefix.now) reference.now ≡ prefix.now }
+        ensures value { result ≡ tangent_of sc.now rate prefix.now reference.now }
+        ensures made { AreMadeFor sc.now self.new }
+    {
+        let _known = rate;
+        self.trail.go_to(sc, prefix);
+        let ahead = self.trail.ahead(prefix.len());
+        self.tangent.bound_after(sc, ahead, prefix, reference)
+    }
+
+    /// The edge bound of a legal prefix that is shorter than the horizon.
+    pub(crate) fn edge_bound(&mut self, sc: &Scenario, prefix: &Path) -> u128
+        requires made { AreMadeFor sc.now self.old }
+        requires legal { IsLegal sc.now prefix.now }
+        requires open { length prefix.now < sc.now.horizon }
+        ensures value { result ≡ edge_of sc.now prefix.now }
+        ensures made { AreMadeFor sc.now self.new }
+    {
+        self.trail.go_to(sc, prefix);
+        let ahead = self.trail.ahead(prefix.len());
+        self.edge.bound_after(sc, ahead, prefix)
     }
 }

@@ -7,7 +7,27 @@ use search_model::{Name, Parts, Path, Scenario, Standing};
 use std::alloc::Global;
 use std::test::Fail;
 use sweep_table::Sweep;
-use worked_scenarios::{one_cell, two_cells, two_rates, waiting_longer, waiting_target};
+
+// The worked scenarios, with no clauses: these would put each problem whole into every goal of a test over it.
+fn one_cell(alloc: Global) -> Result<Scenario, NoMemory> {
+    worked_scenarios::one_cell(alloc)
+}
+
+fn two_cells(alloc: Global) -> Result<Scenario, NoMemory> {
+    worked_scenarios::two_cells(alloc)
+}
+
+fn waiting_target(alloc: Global) -> Result<Scenario, NoMemory> {
+    worked_scenarios::waiting_target(alloc)
+}
+
+fn waiting_longer(alloc: Global) -> Result<Scenario, NoMemory> {
+    worked_scenarios::waiting_longer(alloc)
+}
+
+fn two_rates(alloc: Global) -> Result<Scenario, NoMemory> {
+    worked_scenarios::two_rates(alloc)
+}
 
 // A row of the drift over nine cells: of ten parts two stay in cell `c`, and one goes to each other cell.
 fn spread_from(alloc: Global, c: u8) -> Result<Vec<DriftPart>, Fail> {
@@ -315,8 +335,8 @@ fn said_of_mean(alloc: Global, bound: u128) -> Result<Verdict, Fail> {
 }
 
 // What is said of a plan of three cells and three periods, whose third record, of prefix 1, is this, and whose record in
-// line 11 has this value.
-fn said_of_third(alloc: Global, sc: &Scenario, third: Kind, value: u128) -> Result<Verdict, Fail> {
+// line 11, of a path, is that.
+fn said_of_third(alloc: Global, sc: &Scenario, third: Kind, path: Kind) -> Result<Verdict, Fail> {
     let nodes = vec![in alloc;
         node_of(&[], Kind::Branch),
         node_of(&[0], Kind::Mean(4)),
@@ -324,7 +344,7 @@ fn said_of_third(alloc: Global, sc: &Scenario, third: Kind, value: u128) -> Resu
         node_of(&[2], Kind::Branch),
         node_of(&[2, 1], Kind::Mean(6)),
         node_of(&[2, 2], Kind::Branch),
-        node_of(&[2, 2, 1], Kind::Whole(value)),
+        node_of(&[2, 2, 1], path),
         node_of(&[2, 2, 2], Kind::Whole(7)),
     ]?;
     said_of(alloc, sc, &[2, 2, 2], 7, 8, nodes)
@@ -351,35 +371,68 @@ fn plans_with_tangent_bounds(rt: HostRuntime) -> Result<(), Fail> {
     let alloc = rt.alloc();
     let sc = waiting_longer(alloc)?;
     let right = tangent_at(12, &[1, 2, 2]);
+    let whole = Kind::Whole(6);
     let rows = [
-        (right, 6, Verdict::Accepted),
+        (right, whole, Verdict::Accepted),
         // The path of the tangent doesn't begin with the prefix.
         (
             tangent_at(12, &[2, 2, 2]),
-            6,
+            whole,
             rejected(7, Why::ReferenceWrong),
         ),
         // It isn't as long as the horizon.
-        (tangent_at(12, &[1, 2]), 6, rejected(7, Why::ReferenceWrong)),
+        (
+            tangent_at(12, &[1, 2]),
+            whole,
+            rejected(7, Why::ReferenceWrong),
+        ),
         // The bound is wrong, and isn't cut either.
-        (tangent_at(14, &[1, 2, 2]), 6, rejected(7, Why::BoundWrong)),
+        (
+            tangent_at(14, &[1, 2, 2]),
+            whole,
+            rejected(7, Why::BoundWrong),
+        ),
         // The mean bound is right, and isn't cut.
-        (Kind::Mean(8), 6, rejected(7, Why::NotCut)),
-        (right, 5, rejected(11, Why::WholeWrong)),
+        (Kind::Mean(8), whole, rejected(7, Why::NotCut)),
+        (right, Kind::Whole(5), rejected(11, Why::WholeWrong)),
     ];
-    for (third, value, verdict) in rows {
-        assert_eq!(rt; said_of_third(alloc, &sc, third, value)?, verdict);
+    for (third, path, verdict) in rows {
+        assert_eq!(rt; said_of_third(alloc, &sc, third, path)?, verdict);
     }
     Ok(())
 }
 
+// What is said of a plan of three cells and three periods whose only record, of the empty prefix, is this.
+fn said_of_one(alloc: Global, sc: &Scenario, kind: Kind) -> Result<Verdict, Fail> {
+    let nodes = vec![in alloc; node_of(&[], kind)]?;
+    said_of(alloc, sc, &[2, 2, 2], 7, 8, nodes)
+}
+
+// After one look at the waiting target the next one finds half: the prefix 1 has two looks left, which find 4 and 2 of 8,
+// and the empty prefix has three, which are bounded as 4, 2 and 2.
 #[test]
-fn tangents_need_one_rate(rt: HostRuntime) -> Result<(), Fail> {
+fn plans_with_edge_bounds(rt: HostRuntime) -> Result<(), Fail> {
     let alloc = rt.alloc();
     let sc = two_rates(alloc)?;
+    let whole = Kind::Whole(6);
+    let rows = [
+        (Kind::Edge(6), whole, Verdict::Accepted),
+        (Kind::Edge(5), whole, rejected(7, Why::BoundWrong)),
+        // A tangent needs one rate.
+        (
+            tangent_at(12, &[1, 2, 2]),
+            whole,
+            rejected(7, Why::NoOneRate),
+        ),
+        // Its prefix is a path.
+        (Kind::Edge(6), Kind::Edge(6), rejected(11, Why::WholeWrong)),
+    ];
+    for (third, path, verdict) in rows {
+        assert_eq!(rt; said_of_third(alloc, &sc, third, path)?, verdict);
+    }
     assert_eq!(rt;
-        said_of_third(alloc, &sc, tangent_at(12, &[1, 2, 2]), 6)?,
-        rejected(7, Why::NoOneRate)
+        said_of_one(alloc, &sc, Kind::Edge(8))?,
+        rejected(5, Why::NotCut)
     );
     Ok(())
 }

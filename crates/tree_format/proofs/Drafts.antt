@@ -1,18 +1,13 @@
 -- What a draft has read.
-use Rattle.std.proofs.Common.{◌≡◌, ℕ, List, Ok, refl, sym, subst}
+use Rattle.std.proofs.Common.{◌≡◌, ℕ, List, Ok, sym, subst}
 use Rattle.search_model.specs.Problem.{Problem, IsProblem}
-use Rattle.bound_tree.specs.declared.plan.Plan.{Plan}
 use Rattle.text_rows.specs.Fields.{exact_fields}
 use Rattle.tree_format.specs.declared.due.Due.{Due}
 use Rattle.tree_format.specs.declared.draft.Draft.{Draft}
 use Rattle.tree_format.specs.declared.plan_line.PlanLine.{PlanLine}
 use Rattle.tree_format.specs.Gives.{Adds, plan_of}
-use Rattle.tree_format.specs.Reading.{line_at, at_start, blank_plan}
+use Rattle.tree_format.specs.Reading.{line_at}
 use Rattle.tree_format.proofs.Spelled.{IsRead, line_on}
-
--- nothing was read
-pub draft_begun : (p : Problem) (d : Due) (plan : Plan) → d ≡ at_start → plan ≡ blank_plan → IsRead p d plan
-draft_begun p d plan first blank = subst (λ (x : Due). IsRead p x plan) (sym first) (subst (IsRead p at_start) (sym blank) (refl, refl))
 
 -- a line more was read
 pub draft_added : (p : Problem) → IsProblem p → (old new : Draft) (line : List ℕ) → IsRead p old.due (plan_of old) → (said : PlanLine) × (line_at p old.due (exact_fields line) ≡ Ok said) × Adds p old new said → IsRead p new.due (plan_of new)

@@ -45,12 +45,6 @@ pub record IsFedTo (p : Problem) (fed : List ℕ) (items : List PlanItem) (piece
   pub here : HasRead p (fed ++ take i piece) items feed
   pub earlier : (n : ℕ) → n < i → Tells p (fed ++ take n piece) items
 
-pub fed_nothing : (p : Problem) (fed : List ℕ) (items : List PlanItem) (piece : List ℕ) (feed : Stand) → HasRead p fed items feed → IsFedTo p fed items piece 0 feed
-fed_nothing p fed items piece feed read = record {
-  here = subst (λ (bytes : List ℕ). HasRead p bytes items feed) (sym (append-nil fed)) read;
-  earlier = λ n lt. absurd (omega (arith, lt));
-}
-
 -- those before a place, where none before it did
 pub fed_before : (p : Problem) (fed : List ℕ) (items : List PlanItem) (piece : List ℕ) (i : ℕ) (feed : Stand) → IsFedTo p fed items piece i feed → (n : ℕ) → n < i + 1 → Tells p (fed ++ take n piece) items
 fed_before p fed items piece i feed to n lt = elim (cases_lt n i) [

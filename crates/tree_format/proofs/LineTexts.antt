@@ -1,14 +1,13 @@
 -- The text of a line as the pieces that are written one after the other.
 use Rattle.std.proofs.Common.{◌≡◌, ℕ, List, [], ◌∷◌, ◌++◌, map, length, codes, ◌∙◌, ap, append_assoc}
 use Rattle.std.specs.Fmt.{decimal}
-use Rattle.std.proofs.lemmas.List.{append-nil}
 use Rattle.std.proofs.lemmas.List.Concat.{flat_map-append}
 use Rattle.text_rows.specs.Rows.{text_of, spaced}
 use Rattle.text_rows.proofs.RowLemmas.{join-fields, text_of-append}
 use Rattle.exact_parts.proofs.AppendLemmas.{Stands}
 use Rattle.search_model.specs.Problem.{Problem, position_name}
 use Rattle.bound_tree.specs.declared.node.Kind.{Kind}
-use Rattle.bound_tree.specs.declared.node.Kind.TheVariants.{Branch, Whole, Mean, Tangent}
+use Rattle.bound_tree.specs.declared.node.Kind.TheVariants.{Branch, Whole, Mean, Tangent, Edge}
 use Rattle.bound_tree.specs.declared.node.TreeNode.{TreeNode}
 use Rattle.bound_tree.specs.declared.plan.Plan.{Plan}
 use Rattle.tree_format.specs.declared.plan_line.TextVersion.{TextVersion}
@@ -43,11 +42,12 @@ after_letter kind q = spaced (bound_fields kind) ++ (spaced (numbers q) ++ (spac
 
 kind_text : (q : List ℕ) (kind : Kind) → text_of (kind_fields q kind ∷ []) ≡ letter_of kind ∷ after_letter kind q
 kind_text q Branch = ap (λ (x : List ℕ). x ++ 10 ∷ []) (join-fields (codes "B") (numbers q))
-kind_text q (Whole value) = ap (λ (x : List ℕ). x ++ 10 ∷ []) (join-fields (codes "W") (decimal value ∷ numbers q)) ∙ simp (append_assoc, append-nil)
-kind_text q (Mean bound) = ap (λ (x : List ℕ). x ++ 10 ∷ []) (join-fields (codes "M") (decimal bound ∷ numbers q)) ∙ simp (append_assoc, append-nil)
+kind_text q (Whole value) = ap (λ (x : List ℕ). x ++ 10 ∷ []) (join-fields (codes "W") (decimal value ∷ numbers q)) ∙ simp (append_assoc)
+kind_text q (Mean bound) = ap (λ (x : List ℕ). x ++ 10 ∷ []) (join-fields (codes "M") (decimal bound ∷ numbers q)) ∙ simp (append_assoc)
 kind_text q (Tangent bound reference) =
     ap (λ (x : List ℕ). x ++ 10 ∷ []) (join-fields (codes "T") (decimal bound ∷ (numbers q ++ numbers reference)))
-    ∙ simp (append_assoc, append-nil, flat_map-append)
+    ∙ simp (append_assoc, flat_map-append)
+kind_text q (Edge bound) = ap (λ (x : List ℕ). x ++ 10 ∷ []) (join-fields (codes "E") (decimal bound ∷ numbers q)) ∙ simp (append_assoc)
 
 -- a record's letter; then what stands behind it is left
 pub record_begun : (v : TextVersion) (r : TreeNode) (old now : List ℕ) → now ≡ old ++ letter_of r.kind ∷ [] → Stands old now (after_letter r.kind (written v r.prefix)) (text_of (record_row v r ∷ []))

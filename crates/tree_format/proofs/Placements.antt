@@ -20,11 +20,7 @@ taken p (x ∷ old) new q r first same next = record {
   );
 }
 
--- a record that hasn't, or where none is expected
-pub another_place : (p : Problem) (expected : List (List ℕ)) (q : List ℕ) (r : TreeNode) → first_of expected ≡ Some q → (q ≡ r.prefix → ⊥) → IsOutOfPlace p expected r
-another_place p [] q r first other = λ rs h. h
-another_place p (x ∷ expected) q r first other = λ rs h. let here : x ≡ q = cc in other (sym here ∙ sym h.0)
-
+-- a record where none is expected
 pub no_place : (p : Problem) (expected : List (List ℕ)) (r : TreeNode) → first_of expected ≡ None → IsOutOfPlace p expected r
 no_place p [] r none = λ rs h. h
 no_place p (x ∷ expected) r none = absurd (let bad : ⊥ = cc in bad)
@@ -33,12 +29,6 @@ no_place p (x ∷ expected) r none = absurd (let bad : ⊥ = cc in bad)
 pub record AreLeft (p : Problem) (tree : List TreeNode) (i : ℕ) (expected : List (List ℕ)) : Type 0 where
   pub legal : All (IsLegal p) expected
   pub left : AreInPlace p ([] ∷ []) tree ↔ AreInPlace p expected (drop i tree)
-
-pub none_taken : (p : Problem) (tree : List TreeNode) (expected : List (List ℕ)) → expected ≡ [] ∷ [] → AreLeft p tree 0 expected
-none_taken p tree expected e = record {
-  legal = empty_legal p expected e;
-  left = subst (λ (qs : List (List ℕ)). AreInPlace p ([] ∷ []) tree ↔ AreInPlace p qs tree) (sym e) (λ h. h, λ h. h);
-}
 
 pub more_taken : (p : Problem) (tree : List TreeNode) (i : ℕ) (d : TreeNode) (old new : List (List ℕ)) → i < length tree → AreLeft p tree i old → IsTaken p old (get_or tree i d) new → AreLeft p tree (i + 1) new
 more_taken p tree i d old new lt before step =
@@ -57,10 +47,3 @@ refused p tree i d old lt before out all =
 all_taken : (p : Problem) (expected : List (List ℕ)) → AreInPlace p expected [] ↔ (first_of expected ≡ None)
 all_taken p [] = (λ _. refl, λ _. tt)
 all_taken p (q ∷ expected) = (λ h. absurd h, λ e. let bad : ⊥ = cc in bad)
-
-pub all_left : (p : Problem) (tree : List TreeNode) (i : ℕ) (expected : List (List ℕ)) → length tree ≤ i → AreLeft p tree i expected → AreInPlace p ([] ∷ []) tree ↔ (first_of expected ≡ None)
-all_left p tree i expected le before =
-    let nothing : drop i tree ≡ [] = drop_all i tree le in
-    let here = subst (λ (rs : List TreeNode). AreInPlace p ([] ∷ []) tree ↔ AreInPlace p expected rs) nothing before.left in
-    let last = all_taken p expected in
-    (λ h. last.0 (here.0 h), λ h. here.1 (last.1 h))

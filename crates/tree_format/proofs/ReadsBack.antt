@@ -13,12 +13,12 @@ use Rattle.text_rows.specs.Fields.{is_word}
 use Rattle.text_rows.proofs.RowTexts.{IsField, AreFields, IsRow, exact_fields-row, pieces_of-row, row_fields, none_empty, word, field_by, IsField-decimal, AreFields-map, AreFields-append}
 use Rattle.search_model.specs.Problem.{Problem, IsProblem, position_name}
 use Rattle.bound_tree.specs.declared.node.Kind.{Kind}
-use Rattle.bound_tree.specs.declared.node.Kind.TheVariants.{Branch, Whole, Mean, Tangent}
+use Rattle.bound_tree.specs.declared.node.Kind.TheVariants.{Branch, Whole, Mean, Tangent, Edge}
 use Rattle.bound_tree.specs.declared.node.TreeNode.{TreeNode}
 use Rattle.bound_tree.specs.declared.plan.Plan.{Plan}
 use Rattle.search_model.specs.Names.{IsName, is_name_byte}
 use Rattle.std.proofs.lemmas.Grind.{common_steps}
-use Rattle.tree_format.specs.PlanText.{numbers, kind_fields, written, record_row, version_row, chance_row, count_row, text_in, ArePositions, IsPrintableKind, IsPrintableRecord, IsPrintable, IsNarrowKind, IsNarrow, IsTextOfPlan}
+use Rattle.tree_format.specs.PlanText.{numbers, kind_fields, written, record_row, version_row, chance_row, count_row, text_in, ArePositions, IsPrintableKind, IsPrintableRecord, IsPrintable, IsNarrowKind, IsNarrow, IsNoEdge, IsLettered, IsTextOfPlan}
 use Rattle.tree_format.specs.declared.due.Due.{Due}
 use Rattle.tree_format.specs.declared.plan_line.TextVersion.{TextVersion}
 use Rattle.tree_format.specs.declared.plan_line.TextVersion.TheVariants.{One, Two}
@@ -100,20 +100,23 @@ places-numbers p h q k = all_of-map (place_in p) decimal (λ a. a < p.positions)
 number_fields : (p : Problem) → IsProblem p → (q : List ℕ) → ArePositions p q → AreFields (numbers q)
 number_fields p h q k = AreFields-map decimal (λ a. a < p.positions) (λ a lt. IsField-decimal a (omega (arith, h.positions, h.cells.1))) q k
 
-kind_line : (p : Problem) → IsProblem p → (most : ℕ) (q : List ℕ) (kind : Kind) → ArePositions p q → length q ≤ most → IsPrintableKind p kind → IsNarrowKind kind → node_line p most (kind_fields q kind) ≡ Ok (record { prefix = q; kind = kind })
-kind_line p h most q Branch places short k narrow = rw (length-map q decimal, le-leb (length q) most short, places-numbers p h q places) refl
-kind_line p h most q (Whole value) places short k narrow =
-    rw (length-map q decimal, le-leb (length q) most short, amount_in-decimal value narrow, places-numbers p h q places) refl
-kind_line p h most q (Mean bound) places short k narrow =
-    rw (length-map q decimal, le-leb (length q) most short, amount_in-decimal bound narrow, places-numbers p h q places) refl
-kind_line p h most q (Tangent bound reference) places short k narrow =
+kind_line : (p : Problem) → IsProblem p → (v : TextVersion) (q : List ℕ) (kind : Kind) → ArePositions p q → length q ≤ most_cells p v → IsPrintableKind p kind → IsNarrowKind kind → IsLettered v kind → node_line p v (kind_fields q kind) ≡ Ok (record { prefix = q; kind = kind })
+kind_line p h v q Branch places short k narrow known = rw (length-map q decimal, le-leb (length q) (most_cells p v) short, places-numbers p h q places) refl
+kind_line p h v q (Whole value) places short k narrow known =
+    rw (length-map q decimal, le-leb (length q) (most_cells p v) short, amount_in-decimal value narrow, places-numbers p h q places) refl
+kind_line p h v q (Mean bound) places short k narrow known =
+    rw (length-map q decimal, le-leb (length q) (most_cells p v) short, amount_in-decimal bound narrow, places-numbers p h q places) refl
+kind_line p h v q (Tangent bound reference) places short k narrow known =
     let cells = numbers q ++ numbers reference in
     let own : length (numbers q) ≡ length q = length-map q decimal in
     let long : length cells ≡ length q + p.horizon = omega (arith, length-append (numbers q) (numbers reference), own, length-map reference decimal, k.1) in
     let cut : length q + p.horizon - p.horizon ≡ length q = omega arith in
     let front : take (length q) cells ≡ numbers q = rw (← own) (take-append_seam (numbers q) (numbers reference)) in
     let back : drop (length q) cells ≡ numbers reference = rw (← own) (drop-append_seam (numbers q) (numbers reference)) in
-    rw (long, le-leb p.horizon (length q + p.horizon) (omega arith), le-leb (length q + p.horizon) (most + p.horizon) (omega (arith, short)), cut, front, back, amount_in-decimal bound narrow, places-numbers p h q places, places-numbers p h reference k.0) refl
+    rw (long, le-leb p.horizon (length q + p.horizon) (omega arith), le-leb (length q + p.horizon) (most_cells p v + p.horizon) (omega (arith, short)), cut, front, back, amount_in-decimal bound narrow, places-numbers p h q places, places-numbers p h reference k.0) refl
+kind_line p h One q (Edge bound) places short k narrow known = absurd known
+kind_line p h Two q (Edge bound) places short k narrow known =
+    rw (length-map q decimal, le-leb (length q) 0 short, amount_in-decimal bound narrow, places-numbers p h q places) refl
 
 -- a record's row has a letter, which isn't `end`, and fields
 kind_row : (p : Problem) → IsProblem p → (q : List ℕ) (kind : Kind) → ArePositions p q → IsPrintableKind p kind → IsNarrowKind kind → IsRow (kind_fields q kind)
@@ -124,6 +127,7 @@ kind_row p h q (Tangent bound reference) places k narrow = (
   word (codes "T") (omega arith) refl,
   (IsField-decimal bound narrow, AreFields-append (numbers q) (numbers reference) (number_fields p h q places) (number_fields p h reference k.0)),
 )
+kind_row p h q (Edge bound) places k narrow = (word (codes "E") (omega arith) refl, (IsField-decimal bound narrow, number_fields p h q places))
 
 not_end : (letter : List ℕ) (fields : List (List ℕ)) → is_word letter (codes "end") ≡ false → is_end (letter ∷ fields) ≡ false
 not_end letter [] other = other
@@ -134,6 +138,7 @@ kind_goes_on q Branch = not_end (codes "B") (numbers q) refl
 kind_goes_on q (Whole value) = refl
 kind_goes_on q (Mean bound) = refl
 kind_goes_on q (Tangent bound reference) = refl
+kind_goes_on q (Edge bound) = refl
 
 -- the prefix that a record's line has is right
 written_fits : (p : Problem) (v : TextVersion) (q : List ℕ) → ArePositions p q → length q ≤ p.horizon → ArePositions p (written v q) × (length (written v q) ≤ most_cells p v)
@@ -146,23 +151,23 @@ placed_back p One expected r has = refl
 placed_back p Two [] r has = absurd has
 placed_back p Two (q ∷ expected) r has = ap (λ (x : List ℕ). Ok (Node (record { prefix = x; kind = r.kind }))) (sym has)
 
-Takes-record : (p : Problem) → IsProblem p → (v : TextVersion) (expected : List (List ℕ)) (left : ℕ) (r : TreeNode) → IsPrintableRecord p r → IsNarrowKind r.kind → HasPlace v expected r.prefix → Takes p (at_stage v expected (due.Records (suc left))) (record_row v r) (Node r)
-Takes-record p h v expected left r k narrow has =
+Takes-record : (p : Problem) → IsProblem p → (v : TextVersion) (expected : List (List ℕ)) (left : ℕ) (r : TreeNode) → IsPrintableRecord p r → IsNarrowKind r.kind → IsLettered v r.kind → HasPlace v expected r.prefix → Takes p (at_stage v expected (due.Records (suc left))) (record_row v r) (Node r)
+Takes-record p h v expected left r k narrow known has =
     let q = written v r.prefix in
     let fits = written_fits p v r.prefix k.positions k.short in
     record {
       fields = kind_row p h q r.kind fits.0 k.kind narrow;
       goes = λ e. cc;
-      says = rw (kind_goes_on q r.kind, kind_line p h (most_cells p v) q r.kind fits.0 fits.1 k.kind narrow, ne_eqb (suc left) 0 (λ e. omega arith)) (placed_back p v expected r has);
+      says = rw (kind_goes_on q r.kind, kind_line p h v q r.kind fits.0 fits.1 k.kind narrow known, ne_eqb (suc left) 0 (λ e. omega arith)) (placed_back p v expected r has);
     }
 
 -- the plan with these records
 abbrev with_tree : Plan → List TreeNode → Plan
 with_tree plan tree = record { standing = plan.standing; weight = plan.weight; tree = tree }
 
--- these records have the prefixes that are expected, where the text leaves them out
+-- these records have the prefixes that are expected, where the text leaves them out, and where it doesn't they have letters
 abbrev HavePlaces : Problem → TextVersion → List (List ℕ) → List TreeNode → Type 0
-HavePlaces p One expected rs = Unit {0}
+HavePlaces p One expected rs = All (λ r. IsNoEdge r.kind) rs
 HavePlaces p Two expected rs = AreInPlace p expected rs
 
 -- and then none is expected
@@ -170,10 +175,10 @@ abbrev IsClosed : TextVersion → List (List ℕ) → Type 0
 IsClosed One expected = Unit {0}
 IsClosed Two expected = expected ≡ []
 
-first_place : (p : Problem) (v : TextVersion) (expected : List (List ℕ)) (r : TreeNode) (rs : List TreeNode) → HavePlaces p v expected (r ∷ rs) → HasPlace v expected r.prefix × HavePlaces p v (places_behind p v expected r.kind) rs
-first_place p One expected r rs h = (tt, tt)
+first_place : (p : Problem) (v : TextVersion) (expected : List (List ℕ)) (r : TreeNode) (rs : List TreeNode) → HavePlaces p v expected (r ∷ rs) → HasPlace v expected r.prefix × HavePlaces p v (places_behind p v expected r.kind) rs × IsLettered v r.kind
+first_place p One expected r rs h = let N : TreeNode → Type 0 = λ x. IsNoEdge x.kind in (tt, All-tail N r rs h, All-head N r rs h)
 first_place p Two [] r rs h = absurd h
-first_place p Two (q ∷ expected) r rs h = h
+first_place p Two (q ∷ expected) r rs h = (h.0, h.1, tt)
 
 no_more : (p : Problem) (v : TextVersion) (expected : List (List ℕ)) → HavePlaces p v expected [] → IsClosed v expected
 no_more p One expected h = tt
@@ -196,7 +201,7 @@ Reads-records p h v plan whole expected done (r ∷ rs) rows k narrow places res
     let after = Reads-records p h v plan whole later (done ++ r ∷ []) rs rows (All-tail (IsPrintableRecord p) r rs k) (All-tail N r rs narrow) place.1
     (subst (λ (records : List TreeNode). ReadsEnd p v (with_tree plan records) rows whole) (sym (append_assoc done (r ∷ []) rs)) rest) in
     Reads-row p (at_stage v expected (due.Records (suc (length rs)))) (with_tree plan done) whole (Node r) (record_row v r) (map (record_row v) rs ++ rows)
-    (Takes-record p h v expected (length rs) r (All-head (IsPrintableRecord p) r rs k) (All-head N r rs narrow) place.0)
+    (Takes-record p h v expected (length rs) r (All-head (IsPrintableRecord p) r rs k) (All-head N r rs narrow) place.2 place.0)
     (subst (λ (left : ℕ). Reads p (at_stage v later (due.Records left)) (with_tree plan (done ++ r ∷ [])) (map (record_row v) rs ++ rows) whole) (sym less) after)
 
 Takes-end : (p : Problem) (v : TextVersion) (expected : List (List ℕ)) → IsClosed v expected → Takes p (at_stage v expected (due.Records 0)) (codes "end" ∷ []) End
@@ -221,7 +226,7 @@ text_reads_back p v plan h k narrow places =
     Reads-row p at_start blank_plan plan (Version v) _ path_rows (Takes-version p v) path 1
 
 pub plan_text_reads_back : PlanTextReadsBack
-plan_text_reads_back p plan h k narrow = text_reads_back p One plan h k narrow tt
+plan_text_reads_back p plan h k narrow no_edge = text_reads_back p One plan h k narrow no_edge
 
 pub plan_text_2_reads_back : PlanText2ReadsBack
 plan_text_2_reads_back p plan h k narrow places = text_reads_back p Two plan h k narrow places
@@ -229,7 +234,7 @@ plan_text_2_reads_back p plan h k narrow places = text_reads_back p Two plan h k
 -- the text of a plan in either version is read as that plan
 pub text_read : (p : Problem) → IsProblem p → (plan : Plan) (text : List ℕ) → IsTextOfPlan p plan text → plan_at p text ≡ Ok plan
 text_read p h plan text spelled = elim spelled [
-  | inl one ↦ ap (plan_at p) one.spelled ∙ plan_text_reads_back p plan h one.printable one.narrow
+  | inl one ↦ ap (plan_at p) one.spelled ∙ plan_text_reads_back p plan h one.printable one.narrow one.no_edge
   | inr two ↦ ap (plan_at p) two.spelled ∙ plan_text_2_reads_back p plan h two.printable two.narrow two.in_place
 ]
 

@@ -26,7 +26,7 @@ use Rattle.tree_format.specs.declared.plan_line.TextVersion.TheVariants.{One, Tw
 use Rattle.tree_format.specs.declared.plan_line.Stage.{Stage}
 use Rattle.tree_format.specs.declared.plan_line.Stage.TheVariants as due
 use Rattle.tree_format.specs.declared.plan_line.PlanLine.{PlanLine}
-use Rattle.tree_format.specs.PlanText.{record_row, version_row, path_rows, chance_row, count_row, plan_rows, text_in, ArePositions, IsPrintableRecord, IsPrintable, IsNarrowKind, IsNarrow, IsTextOfPlan}
+use Rattle.tree_format.specs.PlanText.{record_row, version_row, path_rows, chance_row, count_row, plan_rows, text_in, ArePositions, IsPrintableRecord, IsPrintable, IsNarrowKind, IsNarrow, IsLettered, IsTextOfPlan}
 use Rattle.tree_format.specs.Reading.{line_at, stage_line, at_start, with_stage, blank_plan, places_behind, next, taken, is_ended, at_line_number, go_on, pieces_at}
 use Rattle.tree_format.specs.ReadingLaws.{OneTextAPlan}
 use Rattle.tree_format.proofs.SpelledLines.{IsVersionLine, version_told, IsPathLine, path_told, IsChanceLine, chance_told, IsCountLine, count_told, HasPlace, IsRecordLine, record_printable, IsEndLine, record_told}
@@ -56,6 +56,7 @@ pub record IsTreeOf (p : Problem) (v : TextVersion) (expected : List (List ℕ))
   pub few : length tree + left ≤ 1048576
   pub printable : All (IsPrintableRecord p) tree
   pub narrow : All (λ r. IsNarrowKind r.kind) tree
+  pub lettered : All (λ r. IsLettered v r.kind) tree
   pub legal : All (IsLegal p) expected
   pub placed : IsPlaced p v expected tree
 
@@ -151,6 +152,7 @@ module _ (p : Problem) (h : IsProblem p) (v : TextVersion) (expected : List (Lis
         few = omega (arith, told.few);
         printable = All-nil (IsPrintableRecord p);
         narrow = All-nil (λ (r : TreeNode). IsNarrowKind r.kind);
+        lettered = All-nil (λ (r : TreeNode). IsLettered v r.kind);
         legal = empty_legal p expected empty;
         placed = placed_nothing p v expected empty;
       } in
@@ -179,6 +181,7 @@ module _ (p : Problem) (h : IsProblem p) (v : TextVersion) (expected : List (Lis
             few = omega (arith, long, tree.few);
             printable = All-push (IsPrintableRecord p) plan.tree r tree.printable (record_printable p h v left expected fields said tree.legal told);
             narrow = All-push (λ (x : TreeNode). IsNarrowKind x.kind) plan.tree r tree.narrow told.narrow;
+            lettered = All-push (λ (x : TreeNode). IsLettered v x.kind) plan.tree r tree.lettered told.lettered;
             legal = legal_on p v expected r.kind tree.legal;
             placed = placed_on p v expected plan.tree r told.place tree.placed;
           },
@@ -197,7 +200,7 @@ module _ (p : Problem) (h : IsProblem p) (v : TextVersion) (expected : List (Lis
           read.0,
           read.1,
           read.2,
-          record { few = omega (arith, told.none, tree.few); printable = tree.printable; narrow = tree.narrow; legal = tree.legal; placed = tree.placed },
+          record { few = omega (arith, told.none, tree.few); printable = tree.printable; narrow = tree.narrow; lettered = tree.lettered; legal = tree.legal; placed = tree.placed },
           told.closed,
         );
       })
@@ -299,7 +302,7 @@ printable_whole p v expected plan read =
 text_told : (p : Problem) (v : TextVersion) (expected : List (List ℕ)) (plan : Plan) (text : List ℕ) → IsReadAt p v expected due.Ended plan → text ≡ text_in v p plan → IsTextOfPlan p plan text
 text_told p One expected plan text read spelled =
     let parts = printable_whole p One expected plan read in
-    inl (record { printable = parts.0; narrow = parts.1; spelled = spelled })
+    inl (record { printable = parts.0; narrow = parts.1; no_edge = read.3.lettered; spelled = spelled })
 text_told p Two expected plan text read spelled =
     let parts = printable_whole p Two expected plan read in
     let none : expected ≡ [] = read.4 refl in

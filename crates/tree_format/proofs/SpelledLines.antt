@@ -9,7 +9,7 @@ use Rattle.search_model.specs.Legal.{IsLegal}
 use Rattle.search_model.proofs.PlainSteps.{positions_follow}
 use Rattle.search_model.specs.Problem.{Problem, IsProblem, position_name}
 use Rattle.bound_tree.specs.declared.node.Kind.{Kind}
-use Rattle.bound_tree.specs.declared.node.Kind.TheVariants.{Branch, Whole, Mean, Tangent}
+use Rattle.bound_tree.specs.declared.node.Kind.TheVariants.{Branch, Whole, Mean, Tangent, Edge}
 use Rattle.bound_tree.specs.declared.node.TreeNode.{TreeNode}
 use Rattle.tree_format.specs.declared.kind.PlanKind.{PlanKind}
 use Rattle.tree_format.specs.declared.kind.PlanKind.TheVariants.{BadLine, BadNumber, UnknownName, TooManyNodes, WrongCount, NoPlace, StillOpen}
@@ -18,8 +18,8 @@ use Rattle.tree_format.specs.declared.plan_line.TextVersion.TheVariants.{One, Tw
 use Rattle.tree_format.specs.declared.plan_line.PlanLine.{PlanLine}
 use Rattle.tree_format.specs.declared.plan_line.PlanLine.TheVariants.{Version, Path, Chance, Count, Node, End}
 use Rattle.tree_format.specs.declared.record_lines.Bounded.{Bounded}
-use Rattle.tree_format.specs.PlanText.{numbers, kind_fields, record_row, version_word, version_row, chance_row, count_row, ArePositions, IsPrintableKind, IsPrintableRecord, IsNarrowKind}
-use Rattle.tree_format.specs.Reading.{all_of, amount_in, place_in, position_named, version_line, path_said, path_line, chance_said, chance_line, count_said, count_line, most_cells, branch_of, branch_line, bounded_of, bounded_line, node_of, tangent_of, tangent_line, node_line, placed, node_said, is_end, ending, end_said, record_line}
+use Rattle.tree_format.specs.PlanText.{numbers, kind_fields, record_row, version_word, version_row, chance_row, count_row, ArePositions, IsPrintableKind, IsPrintableRecord, IsNarrowKind, IsNoEdge, IsLettered}
+use Rattle.tree_format.specs.Reading.{all_of, amount_in, place_in, position_named, version_line, path_said, path_line, chance_said, chance_line, count_said, count_line, most_cells, has_edges, branch_of, branch_line, bounded_of, bounded_line, node_of, tangent_of, tangent_line, node_line, placed, node_said, is_end, ending, end_said, record_line}
 use Rattle.text_rows.specs.Fields.{is_word}
 use Rattle.tree_format.proofs.Told.{word_told, amount_told, places_told, names_told}
 use Rattle.text_rows.proofs.Results.{err_ok, same_ok, let_through}
@@ -139,33 +139,39 @@ count_told (word ∷ n ∷ []) said e =
 count_told (word ∷ n ∷ more ∷ rest) said e = absurd (err_ok BadLine said e)
 
 -- Records.
-pub record IsNodeLine (p : Problem) (most : ℕ) (fields : List (List ℕ)) (r : TreeNode) : Type 0 where
+pub record IsNodeLine (p : Problem) (v : TextVersion) (fields : List (List ℕ)) (r : TreeNode) : Type 0 where
   pub row : fields ≡ kind_fields r.prefix r.kind
   pub positions : ArePositions p r.prefix
-  pub short : length r.prefix ≤ most
+  pub short : length r.prefix ≤ most_cells p v
   pub kind : IsPrintableKind p r.kind
   pub narrow : IsNarrowKind r.kind
+  pub lettered : IsLettered v r.kind
+
+-- a kind that both versions have
+lettered : (v : TextVersion) (kind : Kind) → IsNoEdge kind → IsLettered v kind
+lettered One kind plain = plain
+lettered Two kind plain = tt
 
 -- a record of this kind, whose prefix the last fields spell
-node_made : (p : Problem) → IsProblem p → (most : ℕ) (fields : List (List ℕ)) (q : List ℕ) (kind : Kind) (r : TreeNode) → fields ≡ kind_fields q kind → ArePositions p q → length q ≤ most → IsPrintableKind p kind → IsNarrowKind kind → ◌≡◌ {A = Result TreeNode PlanKind} (Ok (record { prefix = q; kind = kind })) (Ok r) → IsNodeLine p most fields r
-node_made p h most fields q kind r row positions short k narrow e =
+node_made : (p : Problem) → IsProblem p → (v : TextVersion) (fields : List (List ℕ)) (q : List ℕ) (kind : Kind) (r : TreeNode) → fields ≡ kind_fields q kind → ArePositions p q → length q ≤ most_cells p v → IsPrintableKind p kind → IsNarrowKind kind → IsLettered v kind → ◌≡◌ {A = Result TreeNode PlanKind} (Ok (record { prefix = q; kind = kind })) (Ok r) → IsNodeLine p v fields r
+node_made p h v fields q kind r row positions short k narrow letter e =
     let made : TreeNode = record { prefix = q; kind = kind } in
-    subst (IsNodeLine p most fields) (same_ok made r e) (record { row = row; positions = positions; short = short; kind = k; narrow = narrow })
+    subst (IsNodeLine p v fields) (same_ok made r e) (record { row = row; positions = positions; short = short; kind = k; narrow = narrow; lettered = letter })
 
 -- `B`
-branch_made : (p : Problem) → IsProblem p → (most : ℕ) (letter : List ℕ) (cells : List (List ℕ)) (o : Option (List ℕ)) (r : TreeNode) → letter ≡ codes "B" → length cells ≤ most → all_of (place_in p) cells ≡ o → branch_of o ≡ Ok r → IsNodeLine p most (letter ∷ cells) r
-branch_made p h most letter cells None r is short all e = absurd (err_ok BadNumber r e)
-branch_made p h most letter cells (Some q) r is short all e =
+branch_made : (p : Problem) → IsProblem p → (v : TextVersion) (letter : List ℕ) (cells : List (List ℕ)) (o : Option (List ℕ)) (r : TreeNode) → letter ≡ codes "B" → length cells ≤ most_cells p v → all_of (place_in p) cells ≡ o → branch_of o ≡ Ok r → IsNodeLine p v (letter ∷ cells) r
+branch_made p h v letter cells None r is short all e = absurd (err_ok BadNumber r e)
+branch_made p h v letter cells (Some q) r is short all e =
     let told = places_told p h cells q all in
     let long : length cells ≡ length q = ap length told.0 ∙ length-map q decimal in
-    node_made p h most (letter ∷ cells) q Branch r (rw is (ap (λ (x : List (List ℕ)). codes "B" ∷ x) told.0)) told.1 (omega (arith, long, short)) tt tt e
+    node_made p h v (letter ∷ cells) q Branch r (rw is (ap (λ (x : List (List ℕ)). codes "B" ∷ x) told.0)) told.1 (omega (arith, long, short)) tt tt (lettered v Branch tt) e
 
-branch_told : (p : Problem) → IsProblem p → (most : ℕ) (letter : List ℕ) (cells : List (List ℕ)) (r : TreeNode) → letter ≡ codes "B" → branch_line p most cells ≡ Ok r → IsNodeLine p most (letter ∷ cells) r
-branch_told p h most letter cells r is e =
-    let through = let_through (nat_le (length cells) most) BadLine (branch_of (all_of (place_in p) cells)) r e in
-    branch_made p h most letter cells (all_of (place_in p) cells) r is (leb-true _ _ through.0) refl through.1
+branch_told : (p : Problem) → IsProblem p → (v : TextVersion) (letter : List ℕ) (cells : List (List ℕ)) (r : TreeNode) → letter ≡ codes "B" → branch_line p (most_cells p v) cells ≡ Ok r → IsNodeLine p v (letter ∷ cells) r
+branch_told p h v letter cells r is e =
+    let through = let_through (nat_le (length cells) (most_cells p v)) BadLine (branch_of (all_of (place_in p) cells)) r e in
+    branch_made p h v letter cells (all_of (place_in p) cells) r is (leb-true _ _ through.0) refl through.1
 
--- `W` and `M`
+-- `W`, `M` and `E`
 record IsBounded (p : Problem) (most : ℕ) (fields : List (List ℕ)) (b : Bounded) : Type 0 where
   row : fields ≡ decimal b.bound ∷ numbers b.prefix
   positions : ArePositions p b.prefix
@@ -194,30 +200,35 @@ bounded_told p h most (bound ∷ cells) b e =
     bounded_made p h most bound cells (amount_in bound) (all_of (place_in p) cells) b (leb-true _ _ through.0) refl refl through.1
 
 -- a kind that has such a line behind its letter
-record HasLetter (p : Problem) (letter : List ℕ) (kind : ℕ → Kind) : Type 0 where
+record HasLetter (p : Problem) (v : TextVersion) (letter : List ℕ) (kind : ℕ → Kind) : Type 0 where
   fields : (q : List ℕ) (n : ℕ) → kind_fields q (kind n) ≡ letter ∷ (decimal n ∷ numbers q)
   printable : (n : ℕ) → IsPrintableKind p (kind n)
   narrow : (n : ℕ) → n < 2 ^ 128 → IsNarrowKind (kind n)
+  known : (n : ℕ) → IsLettered v (kind n)
 
-whole_letter : (p : Problem) → HasLetter p (codes "W") (λ n. Whole n)
-whole_letter p = record { fields = λ q n. refl; printable = λ n. tt; narrow = λ n small. small }
+whole_letter : (p : Problem) (v : TextVersion) → HasLetter p v (codes "W") (λ n. Whole n)
+whole_letter p v = record { fields = λ q n. refl; printable = λ n. tt; narrow = λ n small. small; known = λ n. lettered v (Whole n) tt }
 
-mean_letter : (p : Problem) → HasLetter p (codes "M") (λ n. Mean n)
-mean_letter p = record { fields = λ q n. refl; printable = λ n. tt; narrow = λ n small. small }
+mean_letter : (p : Problem) (v : TextVersion) → HasLetter p v (codes "M") (λ n. Mean n)
+mean_letter p v = record { fields = λ q n. refl; printable = λ n. tt; narrow = λ n small. small; known = λ n. lettered v (Mean n) tt }
 
-lettered : (p : Problem) → IsProblem p → (most : ℕ) (letter word : List ℕ) (fields : List (List ℕ)) (kind : ℕ → Kind) (o : Result Bounded PlanKind) (r : TreeNode) → HasLetter p word kind → letter ≡ word → bounded_line p most fields ≡ o → node_of kind o ≡ Ok r → IsNodeLine p most (letter ∷ fields) r
-lettered p h most letter word fields kind (Err k) r has is line e = absurd (err_ok k r e)
-lettered p h most letter word fields kind (Ok b) r has is line e =
-    let told = bounded_told p h most fields b line in
-    node_made p h most (letter ∷ fields) b.prefix (kind b.bound) r (ap (λ (x : List ℕ). x ∷ fields) is ∙ ap (λ (x : List (List ℕ)). word ∷ x) told.row ∙ sym (has.fields b.prefix b.bound))
-    told.positions told.short (has.printable b.bound) (has.narrow b.bound told.narrow) e
+edge_letter : (p : Problem) (v : TextVersion) → has_edges v ≡ true → HasLetter p v (codes "E") (λ n. Edge n)
+edge_letter p One has = absurd (let bad : ⊥ = cc in bad)
+edge_letter p Two has = record { fields = λ q n. refl; printable = λ n. tt; narrow = λ n small. small; known = λ n. tt }
+
+bounded_node : (p : Problem) → IsProblem p → (v : TextVersion) (letter word : List ℕ) (fields : List (List ℕ)) (kind : ℕ → Kind) (o : Result Bounded PlanKind) (r : TreeNode) → HasLetter p v word kind → letter ≡ word → bounded_line p (most_cells p v) fields ≡ o → node_of kind o ≡ Ok r → IsNodeLine p v (letter ∷ fields) r
+bounded_node p h v letter word fields kind (Err k) r has is line e = absurd (err_ok k r e)
+bounded_node p h v letter word fields kind (Ok b) r has is line e =
+    let told = bounded_told p h (most_cells p v) fields b line in
+    node_made p h v (letter ∷ fields) b.prefix (kind b.bound) r (ap (λ (x : List ℕ). x ∷ fields) is ∙ ap (λ (x : List (List ℕ)). word ∷ x) told.row ∙ sym (has.fields b.prefix b.bound))
+    told.positions told.short (has.printable b.bound) (has.narrow b.bound told.narrow) (has.known b.bound) e
 
 -- `T`
-tangent_made : (p : Problem) → IsProblem p → (most : ℕ) (letter bound : List ℕ) (cells : List (List ℕ)) (n : Option ℕ) (o u : Option (List ℕ)) (r : TreeNode) → letter ≡ codes "T" → p.horizon ≤ length cells → length cells ≤ most + p.horizon → amount_in bound ≡ n → all_of (place_in p) (take (length cells - p.horizon) cells) ≡ o → all_of (place_in p) (drop (length cells - p.horizon) cells) ≡ u → tangent_of n o u ≡ Ok r → IsNodeLine p most (letter ∷ bound ∷ cells) r
-tangent_made p h most letter bound cells None o u r is low high a front back e = absurd (err_ok BadNumber r e)
-tangent_made p h most letter bound cells (Some n) None u r is low high a front back e = absurd (err_ok BadNumber r e)
-tangent_made p h most letter bound cells (Some n) (Some q) None r is low high a front back e = absurd (err_ok BadNumber r e)
-tangent_made p h most letter bound cells (Some n) (Some q) (Some x) r is low high a front back e =
+tangent_made : (p : Problem) → IsProblem p → (v : TextVersion) (letter bound : List ℕ) (cells : List (List ℕ)) (n : Option ℕ) (o u : Option (List ℕ)) (r : TreeNode) → letter ≡ codes "T" → p.horizon ≤ length cells → length cells ≤ most_cells p v + p.horizon → amount_in bound ≡ n → all_of (place_in p) (take (length cells - p.horizon) cells) ≡ o → all_of (place_in p) (drop (length cells - p.horizon) cells) ≡ u → tangent_of n o u ≡ Ok r → IsNodeLine p v (letter ∷ bound ∷ cells) r
+tangent_made p h v letter bound cells None o u r is low high a front back e = absurd (err_ok BadNumber r e)
+tangent_made p h v letter bound cells (Some n) None u r is low high a front back e = absurd (err_ok BadNumber r e)
+tangent_made p h v letter bound cells (Some n) (Some q) None r is low high a front back e = absurd (err_ok BadNumber r e)
+tangent_made p h v letter bound cells (Some n) (Some q) (Some x) r is low high a front back e =
     let k = length cells - p.horizon in
     let own = places_told p h (take k cells) q front in
     let reference = places_told p h (drop k cells) x back in
@@ -225,26 +236,30 @@ tangent_made p h most letter bound cells (Some n) (Some q) (Some x) r is low hig
     let whole : cells ≡ numbers q ++ numbers x = sym (take-append-drop k cells) ∙ ap (λ (y : List (List ℕ)). y ++ drop k cells) own.0 ∙ ap (λ (y : List (List ℕ)). numbers q ++ y) reference.0 in
     let behind : length x ≡ length cells - k = sym (length-map x decimal) ∙ sym (ap length reference.0) ∙ length-drop k cells in
     let both : length cells ≡ length q + length x = ap length whole ∙ simp (length-append, length-map) in
-    node_made p h most (letter ∷ bound ∷ cells) q (Tangent n x) r
+    node_made p h v (letter ∷ bound ∷ cells) q (Tangent n x) r
     (ap (λ (y : List ℕ). y ∷ bound ∷ cells) is ∙ ap (λ (y : List ℕ). codes "T" ∷ y ∷ cells) number.0 ∙ ap (λ (y : List (List ℕ)). codes "T" ∷ decimal n ∷ y) whole)
-    own.1 (omega (arith, behind, both, low, high)) (reference.1, omega (arith, behind, low)) number.1 e
+    own.1 (omega (arith, behind, both, low, high)) (reference.1, omega (arith, behind, low)) number.1 (lettered v (Tangent n x) tt) e
 
-tangent_told : (p : Problem) → IsProblem p → (most : ℕ) (letter : List ℕ) (fields : List (List ℕ)) (r : TreeNode) → letter ≡ codes "T" → tangent_line p most fields ≡ Ok r → IsNodeLine p most (letter ∷ fields) r
-tangent_told p h most letter [] r is e = absurd (err_ok BadLine r e)
-tangent_told p h most letter (bound ∷ cells) r is e =
+tangent_told : (p : Problem) → IsProblem p → (v : TextVersion) (letter : List ℕ) (fields : List (List ℕ)) (r : TreeNode) → letter ≡ codes "T" → tangent_line p (most_cells p v) fields ≡ Ok r → IsNodeLine p v (letter ∷ fields) r
+tangent_told p h v letter [] r is e = absurd (err_ok BadLine r e)
+tangent_told p h v letter (bound ∷ cells) r is e =
     let k = length cells - p.horizon in
-    let through = let_through (nat_le p.horizon (length cells) && nat_le (length cells) (most + p.horizon)) BadLine _ r e in
-    let within = and_parts (nat_le p.horizon (length cells)) (nat_le (length cells) (most + p.horizon)) through.0 in
-    tangent_made p h most letter bound cells (amount_in bound) (all_of (place_in p) (take k cells)) (all_of (place_in p) (drop k cells)) r is (leb-true _ _ within.0) (leb-true _ _ within.1) refl refl refl through.1
+    let through = let_through (nat_le p.horizon (length cells) && nat_le (length cells) (most_cells p v + p.horizon)) BadLine _ r e in
+    let within = and_parts (nat_le p.horizon (length cells)) (nat_le (length cells) (most_cells p v + p.horizon)) through.0 in
+    tangent_made p h v letter bound cells (amount_in bound) (all_of (place_in p) (take k cells)) (all_of (place_in p) (drop k cells)) r is (leb-true _ _ within.0) (leb-true _ _ within.1) refl refl refl through.1
 
-pub node_told : (p : Problem) → IsProblem p → (most : ℕ) (fields : List (List ℕ)) (r : TreeNode) → node_line p most fields ≡ Ok r → IsNodeLine p most fields r
-node_told p h most [] r e = absurd (err_ok BadLine r e)
-node_told p h most (letter ∷ fields) r e =
-    let G : Result TreeNode PlanKind → Type 0 = λ x. x ≡ Ok r → IsNodeLine p most (letter ∷ fields) r in
-    cond_both (is_word letter (codes "B")) _ _ G (λ is. branch_told p h most letter fields r (word_told letter (codes "B") is))
-    (λ _. cond_both (is_word letter (codes "W")) _ _ G (λ is. lettered p h most letter (codes "W") fields (λ n. Whole n) (bounded_line p most fields) r (whole_letter p) (word_told letter (codes "W") is) refl)
-    (λ _. cond_both (is_word letter (codes "M")) _ _ G (λ is. lettered p h most letter (codes "M") fields (λ n. Mean n) (bounded_line p most fields) r (mean_letter p) (word_told letter (codes "M") is) refl)
-    (λ _. cond_both (is_word letter (codes "T")) _ _ G (λ is. tangent_told p h most letter fields r (word_told letter (codes "T") is)) (λ _ e'. absurd (err_ok BadLine r e'))))) e
+pub node_told : (p : Problem) → IsProblem p → (v : TextVersion) (fields : List (List ℕ)) (r : TreeNode) → node_line p v fields ≡ Ok r → IsNodeLine p v fields r
+node_told p h v [] r e = absurd (err_ok BadLine r e)
+node_told p h v (letter ∷ fields) r e =
+    let G : Result TreeNode PlanKind → Type 0 = λ x. x ≡ Ok r → IsNodeLine p v (letter ∷ fields) r in
+    let line = bounded_line p (most_cells p v) fields in
+    cond_both (is_word letter (codes "B")) _ _ G (λ is. branch_told p h v letter fields r (word_told letter (codes "B") is))
+    (λ _. cond_both (is_word letter (codes "W")) _ _ G (λ is. bounded_node p h v letter (codes "W") fields (λ n. Whole n) line r (whole_letter p v) (word_told letter (codes "W") is) refl)
+    (λ _. cond_both (is_word letter (codes "M")) _ _ G (λ is. bounded_node p h v letter (codes "M") fields (λ n. Mean n) line r (mean_letter p v) (word_told letter (codes "M") is) refl)
+    (λ _. cond_both (is_word letter (codes "T")) _ _ G (λ is. tangent_told p h v letter fields r (word_told letter (codes "T") is))
+    (λ _. cond_both (is_word letter (codes "E") && has_edges v) _ _ G
+    (λ both. let is = and_parts (is_word letter (codes "E")) (has_edges v) both in bounded_node p h v letter (codes "E") fields (λ n. Edge n) line r (edge_letter p v is.1) (word_told letter (codes "E") is.0) refl)
+    (λ _ e'. absurd (err_ok BadLine r e')))))) e
 
 -- a record has the prefix that is expected next, where the text leaves prefixes out
 abbrev pub HasPlace : TextVersion → List (List ℕ) → List ℕ → Type 0
@@ -265,6 +280,7 @@ pub record IsRecordLine (p : Problem) (v : TextVersion) (left : ℕ) (expected f
   pub place : HasPlace v expected node.prefix
   pub kind : IsPrintableKind p node.kind
   pub narrow : IsNarrowKind node.kind
+  pub lettered : IsLettered v node.kind
   pub is : said ≡ Node node
   pub more : 1 ≤ left
 
@@ -302,7 +318,7 @@ no_cells [] short = refl
 no_cells (a ∷ q) short = absurd (omega (arith, short))
 
 -- a record of a line that has a place
-node_placed : (p : Problem) (v : TextVersion) (left : ℕ) (expected fields : List (List ℕ)) (r : TreeNode) (said : PlanLine) → IsNodeLine p (most_cells p v) fields r → 1 ≤ left → placed v expected r ≡ Ok said → IsRecordLine p v left expected fields said
+node_placed : (p : Problem) (v : TextVersion) (left : ℕ) (expected fields : List (List ℕ)) (r : TreeNode) (said : PlanLine) → IsNodeLine p v fields r → 1 ≤ left → placed v expected r ≡ Ok said → IsRecordLine p v left expected fields said
 node_placed p One left expected fields r said line some e = record {
   node = r;
   row = line.row;
@@ -310,6 +326,7 @@ node_placed p One left expected fields r said line some e = record {
   place = tt;
   kind = line.kind;
   narrow = line.narrow;
+  lettered = line.lettered;
   is = sym (same_ok (Node r) said e);
   more = some;
 }
@@ -323,16 +340,17 @@ node_placed p Two left (q ∷ expected) fields r said line some e =
       place = refl;
       kind = line.kind;
       narrow = line.narrow;
+      lettered = line.lettered;
       is = sym (same_ok (Node here) said e);
       more = some;
     }
 
-node_left : (p : Problem) → IsProblem p → (v : TextVersion) (left : ℕ) (expected fields : List (List ℕ)) (o : Result TreeNode PlanKind) (said : PlanLine) → node_line p (most_cells p v) fields ≡ o → node_said v left expected o ≡ Ok said → IsRecordLine p v left expected fields said
+node_left : (p : Problem) → IsProblem p → (v : TextVersion) (left : ℕ) (expected fields : List (List ℕ)) (o : Result TreeNode PlanKind) (said : PlanLine) → node_line p v fields ≡ o → node_said v left expected o ≡ Ok said → IsRecordLine p v left expected fields said
 node_left p h v left expected fields (Err kind) said line e = absurd (err_ok kind said e)
 node_left p h v left expected fields (Ok r) said line e =
     cond_both (left == 0) (Err WrongCount) (placed v expected r) (λ (x : Result PlanLine PlanKind). x ≡ Ok said → IsRecordLine p v left expected fields said)
     (λ _ e'. absurd (err_ok WrongCount said e'))
-    (λ some e'. node_placed p v left expected fields r said (node_told p h (most_cells p v) fields r line) (positive left some) e') e
+    (λ some e'. node_placed p v left expected fields r said (node_told p h v fields r line) (positive left some) e') e
 
 end_closed : (v : TextVersion) (expected : List (List ℕ)) (said : PlanLine) → ending v expected ≡ Ok said → (said ≡ End) × (v ≡ Two → expected ≡ [])
 end_closed One expected said e = (sym (same_ok End said e), λ two. absurd (let bad : ⊥ = cc in bad))
@@ -347,5 +365,5 @@ end_left v left expected fields said is e =
 
 pub record_told : (p : Problem) → IsProblem p → (v : TextVersion) (left : ℕ) (expected fields : List (List ℕ)) (said : PlanLine) → record_line p v left expected fields ≡ Ok said → IsRecordLine p v left expected fields said ⊎ IsEndLine v left expected fields said
 record_told p h v left expected fields said e =
-    cond_both (is_end fields) (end_said v left expected) (node_said v left expected (node_line p (most_cells p v) fields)) (λ (x : Result PlanLine PlanKind). x ≡ Ok said → IsRecordLine p v left expected fields said ⊎ IsEndLine v left expected fields said)
-    (λ is e'. inr (end_left v left expected fields said is e')) (λ _ e'. inl (node_left p h v left expected fields (node_line p (most_cells p v) fields) said refl e')) e
+    cond_both (is_end fields) (end_said v left expected) (node_said v left expected (node_line p v fields)) (λ (x : Result PlanLine PlanKind). x ≡ Ok said → IsRecordLine p v left expected fields said ⊎ IsEndLine v left expected fields said)
+    (λ is e'. inr (end_left v left expected fields said is e')) (λ _ e'. inl (node_left p h v left expected fields (node_line p v fields) said refl e')) e

@@ -1,6 +1,6 @@
 -- A line is judged by the first 40 bytes of each of its first 70 fields.
 use Rattle.std.proofs.Common.{◌≡◌, ℕ, ◌<◌, ◌≤◌, ◌-◌, ◌+◌, ◌^◌, Bool, true, false, cond, List, [], ◌∷◌, map, length, get_or, take, drop, Option, None, Result, Err, refl, sym, ap, subst, ◌∙◌, arith, inl, inr}
-use Rattle.std.specs.Prelude.{codes, nat_le, ◌==◌}
+use Rattle.std.specs.Prelude.{codes, nat_le, ◌==◌, ◌&&◌}
 use Rattle.std.specs.List.{list_any}
 use Rattle.std.specs.Str.{bytes_eq}
 use Rattle.std.proofs.lemmas.Bool.{cases_lt, cond_both, lt-leb, ne_eqb, false_from_ne_true}
@@ -24,7 +24,7 @@ use Rattle.tree_format.specs.declared.plan_line.TextVersion.TheVariants.{One, Tw
 use Rattle.tree_format.specs.declared.plan_line.Stage.{Stage}
 use Rattle.tree_format.specs.declared.plan_line.Stage.TheVariants as due
 use Rattle.tree_format.specs.declared.plan_line.PlanLine.{PlanLine}
-use Rattle.tree_format.specs.Reading.{said, amount_in, place_in, position_named, all_of, version_line, path_line, chance_line, count_line, most_cells, branch_line, bounded_line, tangent_line, node_line, is_end, record_line, stage_line, line_at}
+use Rattle.tree_format.specs.Reading.{said, amount_in, place_in, position_named, all_of, version_line, path_line, chance_line, count_line, most_cells, branch_line, bounded_line, tangent_line, has_edges, node_line, is_end, record_line, stage_line, line_at}
 use Rattle.text_rows.specs.Fields.{is_word}
 use Rattle.list_laws.proofs.Firsts.{position-none}
 use Rattle.tree_format.specs.ReadingLaws.{SummaryDecides}
@@ -121,10 +121,11 @@ module _ (p : Problem) (h : IsProblem p) where
       let k = length fs - p.horizon in
       rw (length-map fs front, front_amount n, take-map front k fs, drop-map front k fs, front_places (take k fs), front_places (drop k fs)) refl
 
-  front_node : (most : ℕ) (fs : List (List ℕ)) → node_line p most (map front fs) ≡ node_line p most fs
-  front_node most [] = refl
-  front_node most (f ∷ fs) =
-      rw (front_word f (codes "B") (omega arith), front_word f (codes "W") (omega arith), front_word f (codes "M") (omega arith), front_word f (codes "T") (omega arith), front_branch most fs, front_bounded most fs, front_tangent most fs) refl
+  front_node : (v : TextVersion) (fs : List (List ℕ)) → node_line p v (map front fs) ≡ node_line p v fs
+  front_node v [] = refl
+  front_node v (f ∷ fs) =
+      let most = most_cells p v in
+      rw (front_word f (codes "B") (omega arith), front_word f (codes "W") (omega arith), front_word f (codes "M") (omega arith), front_word f (codes "T") (omega arith), front_word f (codes "E") (omega arith), front_branch most fs, front_bounded most fs, front_tangent most fs) refl
 
   front_end : (fs : List (List ℕ)) → is_end (map front fs) ≡ is_end fs
   front_end [] = refl
@@ -136,7 +137,7 @@ module _ (p : Problem) (h : IsProblem p) where
   front_stage v due.Path expected fs = front_path fs
   front_stage v due.Chance expected fs = front_chance fs
   front_stage v due.Count expected fs = front_count fs
-  front_stage v (due.Records left) expected fs = rw (front_end fs, front_node (most_cells p v) fs) refl
+  front_stage v (due.Records left) expected fs = rw (front_end fs, front_node v fs) refl
   front_stage v due.Ended expected fs = refl
 
   front_line : (d : Due) (fs : List (List ℕ)) → line_at p d (map front fs) ≡ line_at p d fs
@@ -161,27 +162,30 @@ module _ (p : Problem) (h : IsProblem p) where
   no_tangent most few (n ∷ fs) long =
       rw (lt-leb (length fs) (most + p.horizon) (omega (arith, long, few, h.horizon.1)), and-false (nat_le p.horizon (length fs))) refl
 
-  no_letter : (b w m t : Bool) → ◌≡◌ {A = Result TreeNode PlanKind} (cond b (Err BadLine) (cond w (Err BadLine) (cond m (Err BadLine) (cond t (Err BadLine) (Err BadLine))))) (Err BadLine)
-  no_letter true w m t = refl
-  no_letter false true m t = refl
-  no_letter false false true t = refl
-  no_letter false false false true = refl
-  no_letter false false false false = refl
-
-  no_node : (most : ℕ) → most ≤ 32 → (fs : List (List ℕ)) → 67 ≤ length fs → node_line p most fs ≡ Err BadLine
-  no_node most few [] long = absurd (omega arith)
-  no_node most few (f ∷ fs) long =
-      let more : 66 ≤ length fs = omega (arith, long) in
-      rw (no_branch most few fs more, no_bounded most few fs more, no_tangent most few fs more) (no_letter (is_word f (codes "B")) (is_word f (codes "W")) (is_word f (codes "M")) (is_word f (codes "T")))
+  no_letter : (b w m t e : Bool) → ◌≡◌ {A = Result TreeNode PlanKind} (cond b (Err BadLine) (cond w (Err BadLine) (cond m (Err BadLine) (cond t (Err BadLine) (cond e (Err BadLine) (Err BadLine)))))) (Err BadLine)
+  no_letter true w m t e = refl
+  no_letter false true m t e = refl
+  no_letter false false true t e = refl
+  no_letter false false false true e = refl
+  no_letter false false false false true = refl
+  no_letter false false false false false = refl
 
   few_cells : (v : TextVersion) → most_cells p v ≤ 32
   few_cells One = h.horizon.1
   few_cells Two = omega arith
 
+  no_node : (v : TextVersion) (fs : List (List ℕ)) → 67 ≤ length fs → node_line p v fs ≡ Err BadLine
+  no_node v [] long = absurd (omega arith)
+  no_node v (f ∷ fs) long =
+      let most = most_cells p v in
+      let few = few_cells v in
+      let more : 66 ≤ length fs = omega (arith, long) in
+      rw (no_branch most few fs more, no_bounded most few fs more, no_tangent most few fs more) (no_letter (is_word f (codes "B")) (is_word f (codes "W")) (is_word f (codes "M")) (is_word f (codes "T")) (is_word f (codes "E") && has_edges v))
+
   no_record : (v : TextVersion) (left : ℕ) (expected fs : List (List ℕ)) → 67 ≤ length fs → record_line p v left expected fs ≡ Err BadLine
   no_record v left expected [] long = absurd (omega arith)
   no_record v left expected (f ∷ []) long = absurd (omega arith)
-  no_record v left expected (f ∷ g ∷ fs) long = rw (no_node (most_cells p v) (few_cells v) (f ∷ g ∷ fs) long) refl
+  no_record v left expected (f ∷ g ∷ fs) long = rw (no_node v (f ∷ g ∷ fs) long) refl
 
   no_version : (fs : List (List ℕ)) → 67 ≤ length fs → version_line fs ≡ Err BadLine
   no_version [] long = refl

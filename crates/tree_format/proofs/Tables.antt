@@ -6,7 +6,7 @@ use Rattle.std.proofs.lemmas.List.{take-append-drop}
 use Rattle.std.proofs.lemmas.List.Folds.{list_any-append}
 use Rattle.search_model.specs.Problem.{Problem}
 use Rattle.bound_tree.specs.declared.node.Kind.{Kind}
-use Rattle.bound_tree.specs.declared.node.Kind.TheVariants.{Branch, Whole, Mean, Tangent}
+use Rattle.bound_tree.specs.declared.node.Kind.TheVariants.{Branch, Whole, Mean, Tangent, Edge}
 use Rattle.bound_tree.specs.declared.node.TreeNode.{TreeNode}
 use Rattle.tree_format.specs.declared.kind.PlanKind.{PlanKind}
 use Rattle.tree_format.specs.declared.kind.PlanKind.TheVariants.{BadLine, BadNumber, UnknownName, TooManyNodes, WrongCount, NoPlace, StillOpen}
@@ -17,7 +17,7 @@ use Rattle.tree_format.specs.declared.plan_line.Stage.TheVariants as due
 use Rattle.tree_format.specs.declared.plan_line.PlanLine.{PlanLine}
 use Rattle.tree_format.specs.declared.plan_line.PlanLine.TheVariants.{Version, Count}
 use Rattle.tree_format.specs.declared.record_lines.Bounded.{Bounded}
-use Rattle.tree_format.specs.Reading.{amount_in, place_in, position_named, in_front, all_of, path_said, chance_said, count_said, most_cells, branch_of, branch_line, bounded_of, bounded_line, node_of, tangent_of, tangent_line, node_line, placed, node_said, is_end, ending, end_said, stage_line, line_at}
+use Rattle.tree_format.specs.Reading.{amount_in, place_in, position_named, in_front, all_of, path_said, chance_said, count_said, most_cells, has_edges, branch_of, branch_line, bounded_of, bounded_line, node_of, tangent_of, tangent_line, node_line, placed, node_said, is_end, ending, end_said, stage_line, line_at}
 use Rattle.text_rows.specs.Fields.{is_word, first_alone, behind_first}
 use Rattle.tree_format.specs.KindTable.{bounded_form, tangent_form, node_form, has_form, node_amounts, node_cells, is_bad_number, has_unknown, has_too_many, is_miscounted, lacks_place, awaits_record, has_no_place, is_still_open, KindsByTable}
 use Rattle.text_rows.specs.Kinds.{first_kind, fault_of}
@@ -167,19 +167,26 @@ module _ (p : Problem) (most : ℕ) where
       subst (λ (none : Bool). IsJudged (tangent_line p most (n ∷ cells)) form ((no_amount n || false) || none)) both
       (judged form (tangent_of (amount_in n) o u) _ (tangent_said (amount_in n) o u))
 
-  node_judged : (fields : List (List ℕ)) → IsJudged (node_line p most fields) (node_form p most fields) (list_any no_amount (node_amounts fields) || list_any no_place (node_cells fields))
-  node_judged [] = misformed false
-  node_judged (letter ∷ fields) =
-      by_letter (is_word letter (codes "B")) _ _ _ _ (λ (b : Bool). list_any no_amount (cond b [] (first_alone fields)) || list_any no_place (cond b fields (behind_first fields))) (branch_judged fields)
-      (by_letter (is_word letter (codes "W")) _ _ _ _ (λ (b : Bool). list_any no_amount (first_alone fields) || list_any no_place (behind_first fields)) (bounded_judged (λ n. Whole n) fields)
-      (by_letter (is_word letter (codes "M")) _ _ _ _ (λ (b : Bool). list_any no_amount (first_alone fields) || list_any no_place (behind_first fields)) (bounded_judged (λ n. Mean n) fields)
-      (by_letter (is_word letter (codes "T")) _ _ _ _ (λ (b : Bool). list_any no_amount (first_alone fields) || list_any no_place (behind_first fields)) (tangent_judged fields) (misformed _))))
+module _ (p : Problem) where
+  abbrev numberless : List (List ℕ) → List (List ℕ) → Bool
+  numberless amounts cells = list_any (λ f. is_none (amount_in f)) amounts || list_any (λ f. is_none (place_in p f)) cells
 
-  end_numbers : (fields : List (List ℕ)) → is_end fields ≡ true → (list_any no_amount (node_amounts fields) || list_any no_place (node_cells fields)) ≡ false
+  node_judged : (v : TextVersion) (fields : List (List ℕ)) → IsJudged (node_line p v fields) (node_form p v fields) (numberless (node_amounts fields) (node_cells fields))
+  node_judged v [] = misformed false
+  node_judged v (letter ∷ fields) =
+      let most = most_cells p v in
+      let number : Bool → Bool = λ _. numberless (first_alone fields) (behind_first fields) in
+      by_letter (is_word letter (codes "B")) _ _ _ _ (λ (b : Bool). numberless (cond b [] (first_alone fields)) (cond b fields (behind_first fields))) (branch_judged p most fields)
+      (by_letter (is_word letter (codes "W")) _ _ _ _ number (bounded_judged p most (λ n. Whole n) fields)
+      (by_letter (is_word letter (codes "M")) _ _ _ _ number (bounded_judged p most (λ n. Mean n) fields)
+      (by_letter (is_word letter (codes "T")) _ _ _ _ number (tangent_judged p most fields)
+      (by_letter (is_word letter (codes "E") && has_edges v) _ _ _ _ number (bounded_judged p most (λ n. Edge n) fields) (misformed _)))))
+
+  end_numbers : (fields : List (List ℕ)) → is_end fields ≡ true → numberless (node_amounts fields) (node_cells fields) ≡ false
   end_numbers [] e = absurd (let bad : ⊥ = cc in bad)
   end_numbers (word ∷ []) e = none_there (is_word word (codes "B"))
     where
-      none_there : (b : Bool) → (list_any no_amount (cond b [] []) || list_any no_place (cond b [] [])) ≡ false
+      none_there : (b : Bool) → numberless (cond b [] []) (cond b [] []) ≡ false
       none_there true = refl
       none_there false = refl
   end_numbers (word ∷ more ∷ rest) e = absurd (let bad : ⊥ = cc in bad)
@@ -227,8 +234,7 @@ stage_table p v due.Count expected (word ∷ []) = refl
 stage_table p v due.Count expected (word ∷ n ∷ []) = count_table (is_word word (codes "nodes")) (amount_in n)
 stage_table p v due.Count expected (word ∷ n ∷ more ∷ rest) = refl
 stage_table p v (due.Records left) expected fields =
-    let most = most_cells p v in
-    record_table (is_end fields) v left expected (node_line p most fields) (node_form p most fields) _ (end_numbers p most fields) (node_judged p most fields)
+    record_table (is_end fields) v left expected (node_line p v fields) (node_form p v fields) _ (end_numbers p fields) (node_judged p v fields)
 stage_table p v due.Ended expected fields = refl
 
 by_empty : (empty form number unknown many miscounted homeless open_still : Bool) (r : Result PlanLine PlanKind) → fault_of r ≡ first_kind ((not form, BadLine) ∷ (number, BadNumber) ∷ (unknown, UnknownName) ∷ (many, TooManyNodes) ∷ (miscounted, WrongCount) ∷ (homeless, NoPlace) ∷ (open_still, StillOpen) ∷ []) →

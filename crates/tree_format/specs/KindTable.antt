@@ -10,7 +10,7 @@ use Rattle.tree_format.specs.declared.plan_line.Stage.{Stage}
 use Rattle.tree_format.specs.declared.plan_line.Stage.TheVariants as due
 use Rattle.tree_format.specs.declared.kind.PlanKind.{PlanKind}
 use Rattle.tree_format.specs.declared.kind.PlanKind.TheVariants.{BadLine, BadNumber, UnknownName, TooManyNodes, WrongCount, NoPlace, StillOpen}
-use Rattle.tree_format.specs.Reading.{amount_in, place_in, position_named, most_cells, is_end, line_at}
+use Rattle.tree_format.specs.Reading.{amount_in, place_in, position_named, most_cells, has_edges, is_end, line_at}
 use Rattle.text_rows.specs.Fields.{is_word, behind_first, first_alone}
 use Rattle.text_rows.specs.Kinds.{first_kind, fault_of}
 
@@ -46,14 +46,15 @@ abbrev pub tangent_form : Problem → ℕ → List (List ℕ) → Bool
 tangent_form p most [] = false
 tangent_form p most (n ∷ cells) = nat_le p.horizon (length cells) && nat_le (length cells) (most + p.horizon)
 
--- a record, by its letter
-abbrev pub node_form : Problem → ℕ → List (List ℕ) → Bool
-node_form p most [] = false
-node_form p most (letter ∷ fields) =
-    if is_word letter (codes "B") then nat_le (length fields) most else
-    (if is_word letter (codes "W") then bounded_form most fields else
-    (if is_word letter (codes "M") then bounded_form most fields else
-    (if is_word letter (codes "T") then tangent_form p most fields else false)))
+-- a record, by its letter, of which version 1 lacks `E`
+abbrev pub node_form : Problem → TextVersion → List (List ℕ) → Bool
+node_form p v [] = false
+node_form p v (letter ∷ fields) =
+    if is_word letter (codes "B") then nat_le (length fields) (most_cells p v) else
+    (if is_word letter (codes "W") then bounded_form (most_cells p v) fields else
+    (if is_word letter (codes "M") then bounded_form (most_cells p v) fields else
+    (if is_word letter (codes "T") then tangent_form p (most_cells p v) fields else
+    (if is_word letter (codes "E") && has_edges v then bounded_form (most_cells p v) fields else false))))
 
 -- the form of a line that may stand where this is due
 abbrev pub has_form : Problem → TextVersion → Stage → List (List ℕ) → Bool
@@ -61,7 +62,7 @@ has_form p v due.Version fields = version_form fields
 has_form p v due.Path fields = path_form fields
 has_form p v due.Chance fields = chance_form fields
 has_form p v due.Count fields = count_form fields
-has_form p v (due.Records left) fields = is_end fields || node_form p (most_cells p v) fields
+has_form p v (due.Records left) fields = is_end fields || node_form p v fields
 has_form p v due.Ended fields = false
 
 -- The fields in the places of numbers, cells and names.

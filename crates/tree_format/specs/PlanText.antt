@@ -1,11 +1,11 @@
--- The text of a plan: each plan has one spelling of version 1, and one of version 2 where its records have the prefixes that
--- are expected.
+-- The text of a plan: it has one spelling of version 1 where no record is an edge bound, and one of version 2 where its
+-- records have the prefixes that are expected.
 use Rattle.std.specs.Prelude.{ℕ, ◌^◌, ◌≡◌, ◌⊎◌, ◌<◌, ◌≤◌, List, [], ◌∷◌, ◌++◌, map, length, codes, All}
 use Rattle.std.specs.Fmt.{decimal}
 use Rattle.text_rows.specs.Rows.{text_of}
 use Rattle.search_model.specs.Problem.{Problem, position_name}
 use Rattle.bound_tree.specs.declared.node.Kind.{Kind}
-use Rattle.bound_tree.specs.declared.node.Kind.TheVariants.{Branch, Whole, Mean, Tangent}
+use Rattle.bound_tree.specs.declared.node.Kind.TheVariants.{Branch, Whole, Mean, Tangent, Edge}
 use Rattle.bound_tree.specs.declared.node.TreeNode.{TreeNode}
 use Rattle.bound_tree.specs.declared.plan.Plan.{Plan}
 use Rattle.bound_tree.specs.Places.{AreInPlace}
@@ -22,6 +22,7 @@ kind_fields q Branch = codes "B" ∷ numbers q
 kind_fields q (Whole value) = codes "W" ∷ decimal value ∷ numbers q
 kind_fields q (Mean bound) = codes "M" ∷ decimal bound ∷ numbers q
 kind_fields q (Tangent bound reference) = codes "T" ∷ decimal bound ∷ (numbers q ++ numbers reference)
+kind_fields q (Edge bound) = codes "E" ∷ decimal bound ∷ numbers q
 
 -- the prefix of a record as its line has it, which version 2 leaves out
 abbrev pub written : TextVersion → List ℕ → List ℕ
@@ -81,6 +82,7 @@ IsPrintableKind p Branch = Unit {0}
 IsPrintableKind p (Whole value) = Unit {0}
 IsPrintableKind p (Mean bound) = Unit {0}
 IsPrintableKind p (Tangent bound reference) = ArePositions p reference × (length reference ≡ p.horizon)
+IsPrintableKind p (Edge bound) = Unit {0}
 
 -- a record whose prefix is within the horizon
 pub record IsPrintableRecord (p : Problem) (r : TreeNode) : Type 0 where
@@ -102,16 +104,35 @@ IsNarrowKind Branch = Unit {0}
 IsNarrowKind (Whole value) = value < 2 ^ 128
 IsNarrowKind (Mean bound) = bound < 2 ^ 128
 IsNarrowKind (Tangent bound reference) = bound < 2 ^ 128
+IsNarrowKind (Edge bound) = bound < 2 ^ 128
 
 pub record IsNarrow (plan : Plan) : Type 0 where
   pub value : plan.standing.value < 2 ^ 128
   pub weight : plan.weight < 2 ^ 128
   pub records : All (λ r. IsNarrowKind r.kind) plan.tree
 
+-- a record of any kind but an edge bound
+abbrev pub IsNoEdge : Kind → Type 0
+IsNoEdge Branch = Unit {0}
+IsNoEdge (Whole value) = Unit {0}
+IsNoEdge (Mean bound) = Unit {0}
+IsNoEdge (Tangent bound reference) = Unit {0}
+IsNoEdge (Edge bound) = ⊥
+
+-- for an edge bound version 1 has no letter
+abbrev pub IsLettered : TextVersion → Kind → Type 0
+IsLettered One kind = IsNoEdge kind
+IsLettered Two kind = Unit {0}
+
+-- so version 1 has a text of a plan none of whose records is one
+abbrev pub HasNoEdge : Plan → Type 0
+HasNoEdge plan = All (λ r. IsNoEdge r.kind) plan.tree
+
 -- the bytes are the one text of version 1 of this plan, which has one
 pub record IsPlanText (p : Problem) (plan : Plan) (text : List ℕ) : Type 0 where
   pub printable : IsPrintable p plan
   pub narrow : IsNarrow plan
+  pub no_edge : HasNoEdge plan
   pub spelled : text ≡ plan_text p plan
 
 -- they are the one text of version 2 of this plan, whose records have the prefixes that are expected

@@ -7,7 +7,7 @@ use Rattle.exact_parts.specs.declared.number.Number.TheVariants.{NotPlain, Above
 use Rattle.exact_parts.specs.Decimal.{number_at}
 use Rattle.search_model.specs.Problem.{Problem}
 use Rattle.bound_tree.specs.declared.node.Kind.{Kind}
-use Rattle.bound_tree.specs.declared.node.Kind.TheVariants.{Branch, Whole, Mean, Tangent}
+use Rattle.bound_tree.specs.declared.node.Kind.TheVariants.{Branch, Whole, Mean, Tangent, Edge}
 use Rattle.bound_tree.specs.declared.node.TreeNode.{TreeNode}
 use Rattle.bound_tree.specs.declared.plan.Plan.{Plan}
 use Rattle.bound_tree.specs.Places.{first_of, expected_behind}
@@ -105,6 +105,11 @@ abbrev pub most_cells : Problem → TextVersion → ℕ
 most_cells p One = p.horizon
 most_cells p Two = 0
 
+-- whether a version has the letter `E`
+abbrev pub has_edges : TextVersion → Bool
+has_edges One = false
+has_edges Two = true
+
 -- `B`, behind its letter
 abbrev pub branch_of : Option (List ℕ) → Result TreeNode PlanKind
 branch_of None = Err BadNumber
@@ -114,7 +119,7 @@ branch_of (Some q) = Ok (record { prefix = q; kind = Branch })
 abbrev pub branch_line : Problem → ℕ → List (List ℕ) → Result TreeNode PlanKind
 branch_line p most cells = if nat_le (length cells) most then branch_of (all_of (place_in p) cells) else Err BadLine
 
--- `W` and `M`, behind their letters
+-- `W`, `M` and `E`, behind their letters
 abbrev pub bounded_of : Option ℕ → Option (List ℕ) → Result Bounded PlanKind
 bounded_of None q = Err BadNumber
 bounded_of (Some n) None = Err BadNumber
@@ -150,13 +155,14 @@ tangent_line p most [] = Err BadLine
 tangent_line p most (bound ∷ cells) = tangent_at p most bound cells
 
 -- a record, by its letter
-abbrev pub node_line : Problem → ℕ → List (List ℕ) → Result TreeNode PlanKind
-node_line p most [] = Err BadLine
-node_line p most (letter ∷ fields) =
-    if is_word letter (codes "B") then branch_line p most fields else
-    (if is_word letter (codes "W") then node_of (λ n. Whole n) (bounded_line p most fields) else
-    (if is_word letter (codes "M") then node_of (λ n. Mean n) (bounded_line p most fields) else
-    (if is_word letter (codes "T") then tangent_line p most fields else Err BadLine)))
+abbrev pub node_line : Problem → TextVersion → List (List ℕ) → Result TreeNode PlanKind
+node_line p v [] = Err BadLine
+node_line p v (letter ∷ fields) =
+    if is_word letter (codes "B") then branch_line p (most_cells p v) fields else
+    (if is_word letter (codes "W") then node_of (λ n. Whole n) (bounded_line p (most_cells p v) fields) else
+    (if is_word letter (codes "M") then node_of (λ n. Mean n) (bounded_line p (most_cells p v) fields) else
+    (if is_word letter (codes "T") then tangent_line p (most_cells p v) fields else
+    (if is_word letter (codes "E") && has_edges v then node_of (λ n. Edge n) (bounded_line p (most_cells p v) fields) else Err BadLine))))
 
 -- where this prefix is expected next, a record has it
 abbrev pub placed_at : Option (List ℕ) → TreeNode → Result PlanLine PlanKind
@@ -194,7 +200,7 @@ end_said v left expected = if left == 0 then ending v expected else Err WrongCou
 
 -- a record or `end`
 abbrev pub record_line : Problem → TextVersion → ℕ → List (List ℕ) → List (List ℕ) → Result PlanLine PlanKind
-record_line p v left expected fields = if is_end fields then end_said v left expected else node_said v left expected (node_line p (most_cells p v) fields)
+record_line p v left expected fields = if is_end fields then end_said v left expected else node_said v left expected (node_line p v fields)
 
 -- All lines.
 

@@ -5,13 +5,13 @@ use Rattle.bound_tree.specs.declared.plan.Plan.{Plan}
 use Rattle.bound_tree.specs.Places.{AreInPlace}
 use Rattle.tree_format.specs.declared.kind.PlanFault.{PlanFault}
 use Rattle.tree_format.specs.declared.due.Due.{Due}
-use Rattle.tree_format.specs.PlanText.{IsPrintable, IsNarrow, IsTextOfPlan, plan_text, plan_text_2}
+use Rattle.tree_format.specs.PlanText.{IsPrintable, IsNarrow, HasNoEdge, IsTextOfPlan, plan_text, plan_text_2}
 use Rattle.tree_format.specs.Reading.{line_at, plan_at, summary_of}
 use Rattle.tree_format.specs.Faults.{IsFirstFault}
 
--- it reads back as the plan
+-- the text of version 1 of a plan without edge bounds reads back as the plan
 abbrev pub PlanTextReadsBack : Type 0
-PlanTextReadsBack = (p : Problem) (plan : Plan) → IsProblem p → IsPrintable p plan → IsNarrow plan → plan_at p (plan_text p plan) ≡ Ok plan
+PlanTextReadsBack = (p : Problem) (plan : Plan) → IsProblem p → IsPrintable p plan → IsNarrow plan → HasNoEdge plan → plan_at p (plan_text p plan) ≡ Ok plan
 
 -- and so does the text of version 2, where the records have the prefixes that are expected
 abbrev pub PlanText2ReadsBack : Type 0

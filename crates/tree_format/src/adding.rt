@@ -2,8 +2,8 @@
 
 ghost use Rattle.std.specs.Prelude.{◌≡◌, OnOk, All};
 ghost use Rattle.search_model.specs.Legal.{IsLegal};
-ghost use Rattle.tree_format.specs.Reading.{next, places_behind, one_less as one_less_lem};
-ghost use Rattle.tree_format.specs.Gives.{Adds};
+ghost use Rattle.tree_format.specs.Reading.{next, taken, places_behind, one_less as one_less_lem};
+ghost use Rattle.tree_format.specs.Gives.{Adds, plan_of};
 
 use crate::draft::Draft;
 use crate::due::Due;
@@ -23,7 +23,7 @@ fn one_less(stage: Stage) -> Stage
 }
 
 /// A record of this kind was read.
-pub fn pass_record(due: &mut Due, sc: &Scenario, kind: &Kind)
+fn pass_record(due: &mut Due, sc: &Scenario, kind: &Kind)
     ensures version { due.new.version ≡ due.old.version }
     ensures stage { due.new.stage ≡ one_less_lem due.old.stage }
     ensures expected { All (IsLegal sc.now) due.old.expected → due.new.expected ≡ places_behind sc.now due.old.version due.old.expected kind.now }
@@ -35,38 +35,50 @@ pub fn pass_record(due: &mut Due, sc: &Scenario, kind: &Kind)
     }
 }
 
-fn push_node(draft: &mut Draft, sc: &Scenario, node: TreeNode) -> Result<(), NoMemory>
-    requires { All (IsLegal sc.now) draft.old.due.expected }
-    ensures { OnOk result (Adds sc.now draft.old draft.new (PlanLine.Node node)) }
+/// Goes on behind a line that says this.
+pub fn pass_line(due: &mut Due, sc: &Scenario, said: &PlanLine)
+    ensures stage { due.new.stage ≡ (next sc.now due.old said.now).stage }
+    ensures due { All (IsLegal sc.now) due.old.expected → due.new ≡ next sc.now due.old said.now }
 {
-    let TreeNode { prefix, kind } = node;
-    draft.nodes.push(TreeNode { prefix, kind })?;
-    pass_record(&mut draft.due, sc, &kind);
+    match said {
+        PlanLine::Version(version) => {
+            due.version = *version;
+            due.stage = Stage::Path;
+        }
+        PlanLine::Path(_) => due.stage = Stage::Chance,
+        PlanLine::Chance(..) => due.stage = Stage::Count,
+        PlanLine::Count(count) => due.stage = Stage::Records(*count),
+        PlanLine::Node(node) => pass_record(due, sc, &node.kind),
+        PlanLine::End => due.stage = Stage::Ended,
+    }
+}
+
+/// Keeps what a line says of the plan.
+fn keep(draft: &mut Draft, said: &PlanLine) -> Result<(), NoMemory>
+    ensures due { OnOk result (draft.new.due ≡ draft.old.due) }
+    ensures plan { OnOk result (plan_of draft.new ≡ taken (plan_of draft.old) said.now) }
+{
+    match said {
+        PlanLine::Path(path) => draft.path = *path,
+        PlanLine::Chance(value, weight) => {
+            draft.value = *value;
+            draft.weight = *weight;
+        }
+        PlanLine::Node(TreeNode { prefix, kind }) => draft.nodes.push(TreeNode {
+            prefix: *prefix,
+            kind: *kind,
+        })?,
+        PlanLine::Version(_) | PlanLine::Count(_) | PlanLine::End => {}
+    }
     Ok(())
 }
 
 /// Adds what a line says to what was read.
-pub fn add_line(draft: &mut Draft, sc: &Scenario, line: PlanLine) -> Result<(), NoMemory>
+pub fn add_line(draft: &mut Draft, sc: &Scenario, said: &PlanLine) -> Result<(), NoMemory>
     requires { All (IsLegal sc.now) draft.old.due.expected }
-    ensures { OnOk result (Adds sc.now draft.old draft.new line) }
+    ensures { OnOk result (Adds sc.now draft.old draft.new said.now) }
 {
-    match line {
-        PlanLine::Version(version) => {
-            draft.due.version = version;
-            draft.due.stage = Stage::Path;
-        }
-        PlanLine::Path(path) => {
-            draft.due.stage = Stage::Chance;
-            draft.path = path;
-        }
-        PlanLine::Chance(value, weight) => {
-            draft.due.stage = Stage::Count;
-            draft.value = value;
-            draft.weight = weight;
-        }
-        PlanLine::Count(count) => draft.due.stage = Stage::Records(count),
-        PlanLine::Node(node) => push_node(draft, sc, node)?,
-        PlanLine::End => draft.due.stage = Stage::Ended,
-    }
+    keep(draft, said)?;
+    pass_line(&mut draft.due, sc, said);
     Ok(())
 }

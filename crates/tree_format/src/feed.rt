@@ -11,14 +11,14 @@ ghost use Rattle.tree_format.specs.declared.plan_item.Step.TheVariants as step;
 ghost use Rattle.tree_format.specs.declared.kind.PlanFault.{PlanFault as FaultLem};
 ghost use Rattle.search_model.specs.Problem.{Problem};
 
-use crate::adding::pass_record;
+use crate::adding::pass_line;
 use crate::due::{Due, first_due, is_ended};
 use crate::gathered_line::GatheredLine;
 use crate::kind::{PlanFault, PlanKind};
 use crate::lines::read_line;
 use crate::pieces::first_fields;
 use crate::plan_item::{Fed, PlanItem, Step};
-use crate::plan_line::{PlanLine, Stage};
+use crate::plan_line::PlanLine;
 use exact_parts::NoMemory;
 use search_model::{Path, Scenario, Standing};
 use std::alloc::Global;
@@ -64,35 +64,23 @@ impl PlanFeed {
     {
         self.line.clear();
         self.number += 1;
+        pass_line(&mut self.due, sc, &said);
         match said {
-            PlanLine::Version(version) => {
-                self.due.version = version;
-                self.due.stage = Stage::Path;
-                Step::More
-            }
+            PlanLine::Version(_) => Step::More,
             PlanLine::Path(path) => {
-                self.due.stage = Stage::Chance;
                 self.standing.path = path;
                 Step::More
             }
             PlanLine::Chance(value, weight) => {
-                self.due.stage = Stage::Count;
                 self.standing.value = value;
                 self.weight = weight;
                 Step::More
             }
             PlanLine::Count(count) => {
-                self.due.stage = Stage::Records(count);
                 Step::Item(PlanItem::Head(self.standing, self.weight, count))
             }
-            PlanLine::Node(node) => {
-                pass_record(&mut self.due, sc, &node.kind);
-                Step::Item(PlanItem::Node(node))
-            }
-            PlanLine::End => {
-                self.due.stage = Stage::Ended;
-                Step::Item(PlanItem::End)
-            }
+            PlanLine::Node(node) => Step::Item(PlanItem::Node(node)),
+            PlanLine::End => Step::Item(PlanItem::End),
         }
     }
 

@@ -72,7 +72,9 @@ fn told_by(alloc: Global, sc: &Scenario, text: &[u8], size: usize) -> Result<Tel
 fn same_kind(a: &Kind, b: &Kind) -> bool {
     match (a, b) {
         (Kind::Branch, Kind::Branch) => true,
-        (Kind::Whole(x), Kind::Whole(y)) | (Kind::Mean(x), Kind::Mean(y)) => x == y,
+        (Kind::Whole(x), Kind::Whole(y))
+        | (Kind::Mean(x), Kind::Mean(y))
+        | (Kind::Edge(x), Kind::Edge(y)) => x == y,
         (Kind::Tangent(x, p), Kind::Tangent(y, q)) => x == y && p.cells() == q.cells(),
         _ => false,
     }

@@ -3,19 +3,19 @@
 ghost use Rattle.tree_format.specs.KindTable.{KindsByTable};
 ghost use Rattle.tree_format.specs.ReadingLaws.{PlanTextReadsBack, PlanText2ReadsBack, OneTextAPlan, OnePlanAText, FirstFaultDecides, SummaryDecides};
 
-/// The text of a plan reads back as that plan.
+/// The text of version 1 of a plan without edge bounds reads back as that plan.
 #[tactic(auto, using(crate::proofs::ReadsBack::plan_text_reads_back))]
 pub fn plan_text_reads_back()
     ensures { PlanTextReadsBack }
 {}
 
-/// And so does the text of version 2.
+/// And so does the text of version 2 of a plan whose records have the prefixes that are expected.
 #[tactic(auto, using(crate::proofs::ReadsBack::plan_text_2_reads_back))]
 pub fn plan_text_2_reads_back()
     ensures { PlanText2ReadsBack }
 {}
 
-/// What is read as a plan is the text of that plan in one of the versions: a plan has one in each.
+/// What is read as a plan is the text of that plan in one of the versions: a plan has at most one in each.
 #[tactic(auto, using(crate::proofs::Spelled::one_text_a_plan))]
 pub fn one_text_a_plan()
     ensures { OneTextAPlan }

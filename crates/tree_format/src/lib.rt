@@ -39,7 +39,7 @@ pub use laws::{
     first_fault_decides, kinds_by_table, one_plan_a_text, one_text_a_plan, plan_text_2_reads_back,
     plan_text_reads_back, summary_decides,
 };
-pub use placing::are_in_place;
+pub use placing::{are_in_place, has_no_edge};
 pub use plan_item::{Fed, PlanItem, Step};
 pub use printing::{print_plan, print_plan_2};
 pub use reading::read_plan;

@@ -8,7 +8,7 @@ use crate::due::Due;
 use crate::head_lines::{read_chance, read_count, read_path, read_version};
 use crate::kind::PlanKind;
 use crate::plan_line::{PlanLine, Stage, TextVersion};
-use crate::record_lines::{most_cells, read_node};
+use crate::record_lines::read_node;
 use bound_tree::TreeNode;
 use search_model::{Path, Scenario};
 
@@ -86,11 +86,7 @@ fn read_record(sc: &Scenario, due: &Due, left: u64, fields: &[&[u8]]) -> Result<
     if is_end(fields) {
         ending(due, left)
     } else {
-        record_among(
-            due,
-            left,
-            read_node(sc, most_cells(sc, due.version), fields),
-        )
+        record_among(due, left, read_node(sc, due.version, fields))
     }
 }
 

@@ -1,10 +1,11 @@
-//! Whether the records of a plan have the prefixes that are expected.
+//! Whether a plan has a text of each version.
 
-ghost use Rattle.std.specs.Prelude.{◌≡◌, ◌↔◌, ◌∷◌, [], IsTrue, IfOk};
+ghost use Rattle.std.specs.Prelude.{◌≡◌, ◌↔◌, ◌∷◌, [], IsTrue, IfOk, All};
 ghost use Rattle.bound_tree.specs.Places.{AreInPlace};
+ghost use Rattle.tree_format.specs.PlanText.{IsNoEdge, HasNoEdge};
 
 use crate::places::Places;
-use bound_tree::{Plan, TreeNode};
+use bound_tree::{Kind, Plan, TreeNode};
 use exact_parts::NoMemory;
 use search_model::Scenario;
 use std::alloc::Global;
@@ -29,4 +30,31 @@ pub fn are_in_place(alloc: Global, sc: &Scenario, plan: &Plan) -> Result<bool, N
 {
     let places = Places::start(alloc)?;
     Ok(have_places(places, sc, plan.tree.nodes()))
+}
+
+fn is_no_edge(kind: &Kind) -> bool
+    ensures { IsTrue result ↔ IsNoEdge kind.now }
+{
+    match kind {
+        Kind::Branch | Kind::Whole(_) | Kind::Mean(_) | Kind::Tangent(..) => true,
+        Kind::Edge(_) => false,
+    }
+}
+
+fn have_no_edge(records: &[TreeNode]) -> bool
+    ensures { IsTrue result ↔ All (λ r. IsNoEdge r.kind) records.now }
+{
+    for node in records {
+        if !is_no_edge(&node.kind) {
+            return false;
+        }
+    }
+    true
+}
+
+/// Whether a plan has a text of version 1: none of its records is an edge bound.
+pub fn has_no_edge(plan: &Plan) -> bool
+    ensures { IsTrue result ↔ HasNoEdge plan.now }
+{
+    have_no_edge(plan.tree.nodes())
 }

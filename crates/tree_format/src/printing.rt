@@ -3,7 +3,7 @@
 ghost use Rattle.std.specs.Prelude.{◌≡◌, ◌∷◌, [], ◌++◌, OnOk, OnErr};
 ghost use Rattle.exact_parts.specs.Appending.{AppendsFront};
 ghost use Rattle.bound_tree.specs.Places.{AreInPlace};
-ghost use Rattle.tree_format.specs.PlanText.{IsPrintable, IsNarrow, IsPlanText, IsPlanText2, text_in, plan_text, plan_text_2};
+ghost use Rattle.tree_format.specs.PlanText.{IsPrintable, IsNarrow, HasNoEdge, IsPlanText, IsPlanText2, text_in, plan_text, plan_text_2};
 
 use crate::head::{push_chance, push_count, push_path};
 use crate::plan_line::TextVersion;
@@ -33,14 +33,15 @@ fn push_plan(
     Ok(())
 }
 
-/// Appends the text of version 1 of a plan for a scenario, the one spelling that the plan has in this version. It reads
-/// back as that plan.
+/// Appends the text of version 1 of a plan none of whose records is an edge bound, the one spelling that it has in this
+/// version. It reads back as that plan.
 ///
 /// # Errors
 ///
 /// `NoMemory`: `out` then ends with a front of the text.
 pub fn print_plan(out: &mut Vec<u8>, sc: &Scenario, plan: &Plan) -> Result<(), NoMemory>
-    requires { IsPrintable sc.now plan.now }
+    requires printable { IsPrintable sc.now plan.now }
+    requires no_edge { HasNoEdge plan.now }
     ensures ok { OnOk result (out.new.items ≡ out.old.items ++ plan_text sc.now plan.now) }
     ensures err { OnErr result (AppendsFront out.old.items out.new.items (plan_text sc.now plan.now)) }
     ensures spelled { OnOk result (IsPlanText sc.now plan.now (plan_text sc.now plan.now)) }

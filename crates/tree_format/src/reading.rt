@@ -44,7 +44,7 @@ fn take_line(draft: &mut Draft, sc: &Scenario, number: u64, line: &[u8]) -> Resu
     let _cells = sc.cells();
     let fields = first_fields(line);
     match read_line(sc, &draft.due, &fields.items[..fields.len]) {
-        Ok(said) => Ok(add_line(draft, sc, said)?),
+        Ok(said) => Ok(add_line(draft, sc, &said)?),
         Err(kind) => Err(PlanStop::Fault(PlanFault { line: number, kind })),
     }
 }

@@ -1,7 +1,7 @@
 //! The fields of a record's line.
 
 ghost use Rattle.std.specs.Prelude.{◌≡◌, ◌≤◌, map};
-ghost use Rattle.tree_format.specs.Reading.{most_cells as most_cells_lem, branch_line, bounded_line, tangent_of as tangent_of_lem, tangent_at as tangent_at_lem, tangent_line, node_line};
+ghost use Rattle.tree_format.specs.Reading.{most_cells as most_cells_lem, has_edges as has_edges_lem, branch_line, bounded_line, tangent_of as tangent_of_lem, tangent_at as tangent_at_lem, tangent_line, node_line};
 
 use crate::fields::{amount_in, places_in};
 use crate::kind::PlanKind;
@@ -17,13 +17,23 @@ pub struct Bounded {
 }
 
 /// The most cells that the prefix on a record's line may have.
-pub fn most_cells(sc: &Scenario, version: TextVersion) -> usize
+fn most_cells(sc: &Scenario, version: TextVersion) -> usize
     ensures value { result ≡ most_cells_lem sc.now version }
     ensures few { result ≤ 32 }
 {
     match version {
         TextVersion::One => sc.horizon() as usize,
         TextVersion::Two => 0,
+    }
+}
+
+/// Whether a version has records of edge bounds.
+fn has_edges(version: TextVersion) -> bool
+    ensures { result ≡ has_edges_lem version }
+{
+    match version {
+        TextVersion::One => false,
+        TextVersion::Two => true,
     }
 }
 
@@ -108,11 +118,15 @@ fn read_tangent(sc: &Scenario, most: usize, fields: &[&[u8]]) -> Result<TreeNode
     }
 }
 
-/// A record, from the fields of its line, whose prefix has at most so many cells.
-pub fn read_node(sc: &Scenario, most: usize, fields: &[&[u8]]) -> Result<TreeNode, PlanKind>
-    requires { most ≤ 32 }
-    ensures { result ≡ node_line sc.now most (map (λ f. f.now) fields.now) }
+/// A record, from the fields of its line.
+pub fn read_node(
+    sc: &Scenario,
+    version: TextVersion,
+    fields: &[&[u8]],
+) -> Result<TreeNode, PlanKind>
+    ensures { result ≡ node_line sc.now version (map (λ f. f.now) fields.now) }
 {
+    let most = most_cells(sc, version);
     match fields {
         [letter, cells @ ..] if *letter == b"B".as_slice() => read_branch(sc, most, cells),
         [letter, fields @ ..] if *letter == b"W".as_slice() => {
@@ -130,6 +144,13 @@ pub fn read_node(sc: &Scenario, most: usize, fields: &[&[u8]]) -> Result<TreeNod
             })
         }
         [letter, fields @ ..] if *letter == b"T".as_slice() => read_tangent(sc, most, fields),
+        [letter, fields @ ..] if *letter == b"E".as_slice() && has_edges(version) => {
+            let Bounded { bound, prefix } = read_bounded(sc, most, fields)?;
+            Ok(TreeNode {
+                prefix,
+                kind: Kind::Edge(bound),
+            })
+        }
         _ => Err(PlanKind::BadLine),
     }
 }

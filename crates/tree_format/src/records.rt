@@ -21,6 +21,7 @@ fn letter(kind: &Kind) -> u8
         Kind::Whole(_) => b'W',
         Kind::Mean(_) => b'M',
         Kind::Tangent(_, _) => b'T',
+        Kind::Edge(_) => b'E',
     }
 }
 
@@ -32,7 +33,9 @@ fn push_bound(out: &mut Vec<u8>, kind: &Kind) -> Result<(), NoMemory>
 {
     match kind {
         Kind::Branch => Ok(()),
-        Kind::Whole(n) | Kind::Mean(n) | Kind::Tangent(n, _) => push_number(out, *n),
+        Kind::Whole(n) | Kind::Mean(n) | Kind::Tangent(n, _) | Kind::Edge(n) => {
+            push_number(out, *n)
+        }
     }
 }
 
@@ -43,7 +46,7 @@ fn push_reference(out: &mut Vec<u8>, kind: &Kind) -> Result<(), NoMemory>
 {
     match kind {
         Kind::Tangent(_, reference) => push_positions(out, reference.cells()),
-        Kind::Branch | Kind::Whole(_) | Kind::Mean(_) => Ok(()),
+        Kind::Branch | Kind::Whole(_) | Kind::Mean(_) | Kind::Edge(_) => Ok(()),
     }
 }
 

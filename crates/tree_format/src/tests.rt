@@ -12,16 +12,45 @@ use sweep_table::Sweep;
 
 // Cells of these names, each a move of each, from each of which the target goes to each with the same part.
 fn even_scenario(alloc: Global, names: &[&[u8]], horizon: u32) -> Result<Scenario, Fail> {
-    let mut parts_names = Vec::new(alloc);
     let mut moves = Vec::new(alloc);
-    let mut rows = Vec::new(alloc);
     let mut cells = Vec::new(alloc);
-    let mut row = Vec::new(alloc);
     for cell in 0..names.len() {
         let Ok(cell) = u8::try_from(cell) else {
             return Err(Fail::from("too many cells"));
         };
         cells.push(cell)?;
+    }
+    for _ in names {
+        moves.push(cells.clone()?)?;
+    }
+    scenario(alloc, names, moves, horizon)
+}
+
+// Three cells in a row, from each of which the searcher stays or goes to the next, over three periods.
+fn row_scenario(alloc: Global) -> Result<Scenario, Fail> {
+    let moves = vec![in alloc;
+        vec![in alloc; 0, 1]?,
+        vec![in alloc; 0, 1, 2]?,
+        vec![in alloc; 1, 2]?,
+    ]?;
+    scenario(alloc, &[b"a", b"b", b"c"], moves, 3)
+}
+
+// Cells of these names and moves, from each of which the target goes to each with the same part. The searcher starts in the
+// second, or in the only one.
+fn scenario(
+    alloc: Global,
+    names: &[&[u8]],
+    moves: Vec<Vec<u8>>,
+    horizon: u32,
+) -> Result<Scenario, Fail> {
+    let mut parts_names = Vec::new(alloc);
+    let mut rows = Vec::new(alloc);
+    let mut row = Vec::new(alloc);
+    for cell in 0..names.len() {
+        let Ok(cell) = u8::try_from(cell) else {
+            return Err(Fail::from("too many cells"));
+        };
         row.push(DriftPart { cell, part: 1 })?;
     }
     for name in names {
@@ -29,7 +58,6 @@ fn even_scenario(alloc: Global, names: &[&[u8]], horizon: u32) -> Result<Scenari
             return Err(Fail::from("no name"));
         };
         parts_names.push(name)?;
-        moves.push(cells.clone()?)?;
         rows.push(row.clone()?)?;
     }
     let Ok(total @ 1..=200) = u32::try_from(rows.len()) else {
@@ -47,7 +75,7 @@ fn even_scenario(alloc: Global, names: &[&[u8]], horizon: u32) -> Result<Scenari
     let parts = Parts {
         names: parts_names,
         horizon,
-        start: 0,
+        start: u8::from(names.len() > 1),
         total,
         first: vec![in alloc; 1; names.len()]?,
         grid,
@@ -69,32 +97,22 @@ const THREE_PERIODS: &[u8] =
 const TWO_CELLS_2: &[u8] =
     b"plan 2\npath a a\nchance 12 16\nnodes 5\nB\nB\nW 12\nW 12\nM 12\nend\n";
 
-// Whether a text is a plan's, and the plan prints back to the same bytes behind what stood there.
-fn prints_back(alloc: Global, names: &[&[u8]], horizon: u32, text: &[u8]) -> Result<bool, Fail> {
-    let sc = even_scenario(alloc, names, horizon)?;
-    let mut out = Vec::from_slice(alloc, b"!")?;
-    match read_plan(alloc, &sc, text) {
-        Ok(plan) => print_plan(&mut out, &sc, &plan)?,
-        Err(_) => return Ok(false),
-    }
-    Ok(
-        out.starts_with(b"!")
-            && out.ends_with(text)
-            && out.len() == text.len() + 1
-            && tells_as_read(alloc, &sc, text)?,
-    )
-}
+// The plan of `THREE_PERIODS` in version 2, and the same with an edge bound for the tangent.
+const THREE_PERIODS_2: &[u8] =
+    b"plan 2\npath c c c\nchance 7 8\nnodes 8\nB\nM 4\nT 12 1 2 2\nB\nM 6\nB\nW 6\nW 7\nend\n";
 
-// The same of version 2.
-fn prints_back_2(alloc: Global, names: &[&[u8]], horizon: u32, text: &[u8]) -> Result<bool, Fail> {
-    let sc = even_scenario(alloc, names, horizon)?;
+const WITH_EDGE: &[u8] =
+    b"plan 2\npath c c c\nchance 7 8\nnodes 8\nB\nM 4\nE 6\nB\nM 6\nB\nW 6\nW 7\nend\n";
+
+// Whether a text is a plan's, and the plan prints back to the same bytes behind what stood there.
+fn prints_back(alloc: Global, sc: &Scenario, text: &[u8]) -> Result<bool, Fail> {
     let mut out = Vec::from_slice(alloc, b"!")?;
-    match read_plan(alloc, &sc, text) {
+    match read_plan(alloc, sc, text) {
         Ok(plan) => {
-            if !are_in_place(alloc, &sc, &plan)? {
+            if !has_no_edge(&plan) {
                 return Ok(false);
             }
-            print_plan_2(&mut out, &sc, &plan)?;
+            print_plan(&mut out, sc, &plan)?;
         }
         Err(_) => return Ok(false),
     }
@@ -102,7 +120,27 @@ fn prints_back_2(alloc: Global, names: &[&[u8]], horizon: u32, text: &[u8]) -> R
         out.starts_with(b"!")
             && out.ends_with(text)
             && out.len() == text.len() + 1
-            && tells_as_read(alloc, &sc, text)?,
+            && tells_as_read(alloc, sc, text)?,
+    )
+}
+
+// The same of version 2.
+fn prints_back_2(alloc: Global, sc: &Scenario, text: &[u8]) -> Result<bool, Fail> {
+    let mut out = Vec::from_slice(alloc, b"!")?;
+    match read_plan(alloc, sc, text) {
+        Ok(plan) => {
+            if !are_in_place(alloc, sc, &plan)? {
+                return Ok(false);
+            }
+            print_plan_2(&mut out, sc, &plan)?;
+        }
+        Err(_) => return Ok(false),
+    }
+    Ok(
+        out.starts_with(b"!")
+            && out.ends_with(text)
+            && out.len() == text.len() + 1
+            && tells_as_read(alloc, sc, text)?,
     )
 }
 
@@ -136,7 +174,26 @@ fn texts_of_version_2_print_back(rt: HostRuntime) -> Result<(), Fail> {
         ),
     ];
     for (names, horizon, text) in rows {
-        assert!(rt; prints_back_2(alloc, names, horizon, text)?);
+        let sc = even_scenario(alloc, names, horizon)?;
+        assert!(rt; prints_back_2(alloc, &sc, text)?);
+    }
+    Ok(())
+}
+
+// A branch opens as many records as its position has moves. A plan with an edge bound has no text of version 1.
+#[test]
+fn texts_over_cells_in_a_row(rt: HostRuntime) -> Result<(), Fail> {
+    let alloc = rt.alloc();
+    let sc = row_scenario(alloc)?;
+    assert!(rt; prints_back_2(alloc, &sc, THREE_PERIODS_2)?);
+    assert!(rt; prints_back_2(alloc, &sc, WITH_EDGE)?);
+    let Ok(plan) = read_plan(alloc, &sc, WITH_EDGE) else {
+        return Err(Fail::from("the text was not read"));
+    };
+    assert!(rt; !has_no_edge(&plan));
+    match plan.tree.nodes() {
+        [_, _, edge, ..] => assert!(rt; is_edge(edge, &[1], 6)),
+        _ => return Err(Fail::from("other records")),
     }
     Ok(())
 }
@@ -203,7 +260,8 @@ fn texts_of_plans_print_back(rt: HostRuntime) -> Result<(), Fail> {
         ),
     ];
     for (names, horizon, text) in rows {
-        assert!(rt; prints_back(alloc, names, horizon, text)?);
+        let sc = even_scenario(alloc, names, horizon)?;
+        assert!(rt; prints_back(alloc, &sc, text)?);
     }
     Ok(())
 }
@@ -213,14 +271,21 @@ fn is_tangent(node: &TreeNode, prefix: &[u8], number: u128, reference: &[u8]) ->
         Kind::Tangent(bound, path) => {
             node.prefix.cells() == prefix && bound == number && path.cells() == reference
         }
-        Kind::Branch | Kind::Whole(_) | Kind::Mean(_) => false,
+        Kind::Branch | Kind::Whole(_) | Kind::Mean(_) | Kind::Edge(_) => false,
     }
 }
 
 fn is_mean(node: &TreeNode, prefix: &[u8], number: u128) -> bool {
     match node.kind {
         Kind::Mean(bound) => node.prefix.cells() == prefix && bound == number,
-        Kind::Branch | Kind::Whole(_) | Kind::Tangent(_, _) => false,
+        Kind::Branch | Kind::Whole(_) | Kind::Tangent(_, _) | Kind::Edge(_) => false,
+    }
+}
+
+fn is_edge(node: &TreeNode, prefix: &[u8], number: u128) -> bool {
+    match node.kind {
+        Kind::Edge(bound) => node.prefix.cells() == prefix && bound == number,
+        Kind::Branch | Kind::Whole(_) | Kind::Mean(_) | Kind::Tangent(_, _) => false,
     }
 }
 
@@ -356,7 +421,7 @@ fn faults_of_the_lines_above_the_records(rt: HostRuntime) -> Result<(), Fail> {
 
 #[test]
 fn faults_of_the_records_and_the_end(rt: HostRuntime) -> Result<(), Fail> {
-    let rows: [Row; 28] = [
+    let rows: [Row; 29] = [
         (5, b"B \n", 5, PlanKind::BadLine),
         (5, b"\n", 5, PlanKind::BadLine),
         (5, b"b\n", 5, PlanKind::BadLine),
@@ -378,6 +443,7 @@ fn faults_of_the_records_and_the_end(rt: HostRuntime) -> Result<(), Fail> {
         (7, b"W 12 0 2\n", 7, PlanKind::BadNumber),
         (7, b"W 12 0 0 0\n", 7, PlanKind::BadLine),
         (7, b"W x 0 0 0\n", 7, PlanKind::BadLine),
+        (9, b"E 12 1\n", 9, PlanKind::BadLine),
         (9, b"T 12 0\n", 9, PlanKind::BadLine),
         (9, b"T 12 1 1 0 0 0\n", 9, PlanKind::BadLine),
         (9, b"T 12 1 1 2\n", 9, PlanKind::BadNumber),
@@ -400,7 +466,7 @@ fn faults_of_the_records_and_the_end(rt: HostRuntime) -> Result<(), Fail> {
 // The text of version 2 over two cells. Of its nine lines the records are 5 to 9.
 #[test]
 fn faults_of_version_2(rt: HostRuntime) -> Result<(), Fail> {
-    let rows: [Row; 14] = [
+    let rows: [Row; 18] = [
         (4, b"nodes 0\n", 5, PlanKind::WrongCount),
         (4, b"nodes 4\n", 9, PlanKind::WrongCount),
         (4, b"nodes 6\n", 10, PlanKind::WrongCount),
@@ -413,6 +479,10 @@ fn faults_of_version_2(rt: HostRuntime) -> Result<(), Fail> {
         (6, b"T 12 0 2\n", 6, PlanKind::BadNumber),
         (6, b"M 12\n", 8, PlanKind::NoPlace),
         (9, b"B\n", 10, PlanKind::StillOpen),
+        (9, b"E\n", 9, PlanKind::BadLine),
+        (9, b"E 12 1\n", 9, PlanKind::BadLine),
+        (9, b"E x\n", 9, PlanKind::BadNumber),
+        (10, b"E 12\n", 10, PlanKind::WrongCount),
         (9, b"M 12\nM 12\n", 10, PlanKind::WrongCount),
         (10, b"end\n\n", 11, PlanKind::Rest),
     ];
@@ -422,6 +492,8 @@ fn faults_of_version_2(rt: HostRuntime) -> Result<(), Fail> {
     let more = with_line(rt.alloc(), TWO_CELLS_2, 4, b"nodes 6\n")?;
     let last = with_line(rt.alloc(), &more, 9, b"M 12\nW 12\n")?;
     assert!(rt; has_fault(&rt, &last, (10, b"W 12\n", 10, PlanKind::NoPlace))?);
+    let none = b"plan 2\npath a a\nchance 12 16\nnodes 0\nend\n";
+    assert!(rt; has_fault(&rt, none, (5, b"end\n", 5, PlanKind::StillOpen))?);
     Ok(())
 }
 

@@ -3,9 +3,13 @@ use Rattle.bound_tree.proofs.Tangents.{tangent_needs_rate}
 use Rattle.path_node.specs.Room.{TellsRate}
 use Rattle.path_node.proofs.node.close_shorter.Goals as goal
 
-pub returns-else-scratch-clause-closed : goal.returns-else-scratch-clause-closed
-returns-else-scratch-clause-closed c =
+-- without one rate there is no tangent to be cut
+pub close_by_edge-requires-clause-open : goal.close_by_edge-requires-clause-open
+close_by_edge-requires-clause-open c =
     let p = c.args.sc.now in
     let q = c.args.prefix.now in
     let none = subst (TellsRate p) c.if-scratch.false (rw (← c.scratch.view_is) at c.requires.made.rate) in
-    (c.requires.shorter, rw c.bound_after-bound.ensures.bound at (sym c.cuts.ensures ∙ c.if-cuts.false), (λ b whole tangent. absurd (tangent_needs_rate p q b whole none tangent)))
+    record {
+      mean = rw c.bound_after-mean.ensures.bound at (sym c.cuts.ensures ∙ c.if-cuts.false);
+      tangent = λ b whole tangent. absurd (tangent_needs_rate p q b whole none tangent);
+    }

@@ -29,7 +29,7 @@ row_in_force-requires-clause-indexed c = prints-indexed _ _ _ c.self.view_is _ c
 
 pub factor_in_row-requires : goal.factor_in_row-requires
 factor_in_row-requires c =
-    prints-ascending _ _ _ c.self.view_is _ c.in-Footprints.is c.self.invariant c.args.t c.args.p _ (c.row_in_force.ensures c.self.inside.denominator)
+    prints-ascending _ _ _ c.self.view_is _ c.in-Footprints.is c.self.invariant _ _ _ (c.row_in_force.ensures c.self.inside.denominator)
 
 pub returns-in-Footprints-clause-value : goal.returns-in-Footprints-clause-value
 unfolding factor_of

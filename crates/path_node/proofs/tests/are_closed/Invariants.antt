@@ -1,0 +1,5 @@
+use Rattle.path_node.specs.Room.{IsMadeFor}
+use Rattle.path_node.proofs.tests.are_closed.Given as goal
+
+abbrev pub invariant-loop-prefix : goal.invariant-loop-prefix
+invariant-loop-prefix l = IsMadeFor l.sc l.scratch
