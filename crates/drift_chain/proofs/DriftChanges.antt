@@ -10,12 +10,16 @@ use Rattle.period_index.proofs.Places.{place_of-Some, place_of-first}
 use Rattle.drift_chain.specs.declared.part.DriftPart.{DriftPart}
 use Rattle.drift_chain.specs.declared.changes.ChangeFault.{ChangeFault}
 use Rattle.drift_chain.specs.declared.changes.ChangeFault.TheVariants.{NoMemory}
-use Rattle.drift_chain.specs.DriftRows.{DriftRowChange, DriftRows, drift_cells, drift_with, row_of, is_change, IsSameKey, IsDriftRow, AreChanges, IsDrift}
+use Rattle.drift_chain.specs.DriftRows.{DriftRowChange, DriftRows, drift_cells, drift_over, drift_with, row_of, is_change, IsSameKey, IsDriftRow, AreChanges, IsDrift}
 use Rattle.drift_chain.specs.ChangeFaults.{change_key, change_at, AreSameChanges, HasChangeFault, change_number, IsRefusal, IsRightAfter, AreRight}
 use Rattle.drift_chain.proofs.ChangeKeys.{row_found, no_row_found}
 use Rattle.drift_chain.proofs.ChangeOrder.{no_fault_there, place_inside}
 use Rattle.drift_chain.proofs.Drifts.{same_row}
 use Rattle.drift_chain.proofs.SameChanges.{none, same_length, same_key, same_entries, HasChangeFault-same}
+
+-- a drift without changes is its rows
+pub plain_drift : (drift : DriftRows) → drift.changes ≡ [] → drift_over drift.denominator drift.rows ≡ drift
+plain_drift drift plain = ap (drift_with drift) (sym plain)
 
 -- the row in force: that of the change that is found, or the cell's own
 pub row_of-changed : (drift : DriftRows) (t c : ℕ) (change : DriftRowChange) → find (is_change t c) drift.changes ≡ Some change → row_of drift t c ≡ change.row
