@@ -3,6 +3,7 @@ use Rattle.std.proofs.Common.{ℕ, zero, suc, ◌+◌, ◌*◌, ◌^◌, ◌<◌
 use Rattle.std.specs.List.{range_with_len}
 use Rattle.std.proofs.Math.Nat.{pow-zero, pow-suc, mul-le-mul_left, mul-le-mul_right}
 use Rattle.drift_chain.specs.DriftRows.{part_of}
+use Rattle.sweep_table.proofs.Factors.{factor_of-le}
 use Rattle.exact_parts.proofs.Widths.{part_fits}
 use Rattle.search_model.specs.Problem.{Problem, IsProblem}
 use Rattle.list_laws.proofs.Sums.{sum_by-same, sum_by-times, sum_by-exchange, sum_by-range-same, sum_by-range-le}
@@ -39,7 +40,7 @@ unfolding total_after
 total_after-look p sound looks a =
     let m : ℕ → ℕ = mass_of p (looks ++ None ∷ []) in
     rw (← sum_by-times m p.sweep.denominator (range_with_len 0 p.cells))
-    (sum_by-range-le p.cells _ _ (λ c lt. rw (mass_of-look p looks a c) (mul-le-mul_left (m c) (sound.sweep.within (length looks + 1) a c))))
+    (sum_by-range-le p.cells _ _ (λ c lt. rw (mass_of-look p looks a c) (mul-le-mul_left (m c) (factor_of-le p.sweep sound.sweep (length looks + 1) a c))))
 
 -- a list of n + 1 looks is one of n and a last one
 pub split_last : (n : ℕ) (looks : List (Option ℕ)) → length looks ≡ suc n → (front : List (Option ℕ)) × (look : Option ℕ) × (length front ≡ n) × (looks ≡ front ++ look ∷ [])

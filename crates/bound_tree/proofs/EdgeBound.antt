@@ -4,6 +4,7 @@ use Rattle.std.proofs.Math.Nat.{pow-zero, le_of_mul-le-mul_left}
 use Rattle.std.proofs.lemmas.List.{take-append-drop, length-drop, length-take-le}
 use Rattle.std.proofs.lemmas.List.Elements.{All-map, All-weaker, All-contains_itself}
 use Rattle.sweep_table.specs.LookParts.{factor_of}
+use Rattle.sweep_table.proofs.Factors.{factor_of-le}
 use Rattle.search_model.specs.Problem.{Problem, IsProblem}
 use Rattle.search_model.specs.Legal.{last_of, continuations}
 use Rattle.search_model.specs.Tracks.{tracks, weight_of, miss_from, miss_of, missed_weight}
@@ -51,8 +52,8 @@ moves_together p sound a (b ∷ z) (d ∷ x) u c t size begin =
     let longer : length (u ++ c ∷ []) ≡ length u + 1 = length-append u (c ∷ []) in
     let joined : u ++ c ∷ d ∷ x ≡ u ++ c ∷ [] ++ d ∷ x = sym (append_assoc u (c ∷ []) (d ∷ x)) in
     let here : cell_in (u ++ c ∷ d ∷ x) t ≡ d = ap (λ (v : List ℕ). cell_in v t) joined ∙ cell_in-after (u ++ c ∷ []) d x t (omega (arith, begin, longer)) in
-    let least : e ≤ g = sound.sweep.within (t - 1) a c in
-    let most : f ≤ g = sound.sweep.within t b d in
+    let least : e ≤ g = factor_of-le p.sweep sound.sweep (t - 1) a c in
+    let most : f ≤ g = factor_of-le p.sweep sound.sweep t b d in
     let same : t + 1 - 1 ≡ t = omega arith in
     let rest = moves_together p sound b z x (u ++ c ∷ []) d (t + 1) (omega (arith, size)) (omega (arith, longer, begin)) in
     let moved = rw (same, ← joined) at rest in
@@ -94,7 +95,7 @@ looks_within p sound (a ∷ z) (c ∷ x) u t some size begin =
     let g = p.sweep.denominator in
     let f = factor_of p.sweep t a c in
     let here : cell_in (u ++ c ∷ x) t ≡ c = cell_in-after u c x t begin in
-    let most : f ≤ g = sound.sweep.within t a c in
+    let most : f ≤ g = factor_of-le p.sweep sound.sweep t a c in
     let same : t + 1 - 1 ≡ t = omega arith in
     let later = moves_later p sound a z x u c (t + 1) (omega (arith, size)) (omega (arith, begin)) in
     let moved = rw same at later in

@@ -3,6 +3,7 @@ use Rattle.std.proofs.Common.{ℕ, suc, ◌+◌, ◌*◌, ◌-◌, ◌^◌, ◌<
 use Rattle.std.proofs.Math.Nat.{pow-zero, le_of_mul-le-mul_left}
 use Rattle.std.proofs.lemmas.List.{take-append-drop, length-drop, length-take-le}
 use Rattle.sweep_table.specs.LookParts.{factor_of}
+use Rattle.sweep_table.proofs.Factors.{factor_of-le}
 use Rattle.search_model.specs.Problem.{Problem, IsProblem}
 use Rattle.search_model.specs.Tracks.{tracks, weight_of, miss_from, miss_of, missed_weight, whole_weight}
 use Rattle.search_model.specs.Bounds.{factors_along, cell_in, reward_of, sum_along}
@@ -35,7 +36,7 @@ looks_together p sound (a ∷ z) (c ∷ x) u t size begin =
     let g = p.sweep.denominator in
     let f = factor_of p.sweep t a c in
     let here : cell_in (u ++ c ∷ x) t ≡ c = cell_in-after u c x t begin in
-    let most : f ≤ g = sound.sweep.within t a c in
+    let most : f ≤ g = factor_of-le p.sweep sound.sweep t a c in
     let rest = looks_together p sound z x (u ++ c ∷ []) (t + 1) (omega (arith, size)) (omega (arith, length-append u (c ∷ []), begin)) in
     let moved = rw (append_assoc u (c ∷ []) x) at rest in
     rw (here, pow-suc g (length z))

@@ -4,6 +4,7 @@ use Rattle.std.proofs.Math.Nat.{pow-zero}
 use Rattle.std.proofs.lemmas.List.{take-append-drop, length-drop, length-take-le}
 use Rattle.std.proofs.lemmas.List.Elements.{All-head, All-tail, All-drop}
 use Rattle.sweep_table.specs.LookParts.{factor_of}
+use Rattle.sweep_table.proofs.Factors.{factor_of-le}
 use Rattle.search_model.specs.Problem.{Problem, IsProblem}
 use Rattle.search_model.specs.Tracks.{tracks, weight_of, miss_from, miss_of, missed_weight, whole_weight}
 use Rattle.search_model.specs.Bounds.{factors_along, cell_in, gain_of, sum_along, IsRate}
@@ -25,7 +26,7 @@ covers_along p t (a ∷ z) x = (if nat_lt (factor_of p.sweep t a (cell_in x t)) 
 rate_within : (p : Problem) (rate : ℕ) → IsProblem p → IsRate p rate → rate ≤ p.sweep.denominator
 rate_within p rate sound is =
     let (t, a, c, first, last, from, to, here) = is.reached in
-    omega (arith, sound.sweep.within t a c, here)
+    omega (arith, factor_of-le p.sweep sound.sweep t a c, here)
 
 -- what looks at one rate miss of a track u, x depends on how many cover it; the looks start in the period after u
 looks_counted : (p : Problem) (rate : ℕ) → IsProblem p → IsRate p rate → (z x u : List ℕ) (t : ℕ) → length x ≡ length z → t ≡ length u + 1 → t + length z ≤ suc p.horizon →

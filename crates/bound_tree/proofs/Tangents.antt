@@ -4,7 +4,7 @@ use Rattle.std.proofs.lemmas.Bool.{cases_eq}
 use Rattle.std.proofs.lemmas.List.{take_at, get_or_default}
 use Rattle.std.proofs.lemmas.List.Elements.{All-nil, All-cons, All-head, All-tail, All-contains}
 use Rattle.std.proofs.lemmas.List.MinMax.{IsStrictWeakOrder-by_number}
-use Rattle.sweep_table.specs.LookParts.{IsOneRate}
+use Rattle.sweep_table.proofs.OneRate.{one_rate_or_none}
 use Rattle.search_model.specs.Problem.{Problem, IsProblem}
 use Rattle.search_model.specs.Legal.{IsLegal, last_of}
 use Rattle.search_model.specs.Bounds.{reward_of, IsRate, tangent_of}
@@ -21,38 +21,12 @@ use Rattle.search_model.specs.Reference.{IsReference}
 pub tangent_needs_rate : (p : Problem) (q : List ℕ) (b : ℕ) (whole : List ℕ) → ((rate : ℕ) → IsRate p rate → ⊥) → IsTangent p q b whole → ⊥
 tangent_needs_rate p q b whole none tangent = none tangent.rate tangent.is_rate
 
--- whether each of some numbers is one of two
-each_or_not : (m g : ℕ) (xs : List ℕ) → All (λ x. (x ≡ m) ⊎ (x ≡ g)) xs ⊎ (All (λ x. (x ≡ m) ⊎ (x ≡ g)) xs → ⊥)
-each_or_not m g [] = inl (All-nil (λ x. (x ≡ m) ⊎ (x ≡ g)))
-each_or_not m g (y ∷ ys) =
-    let P : ℕ → Type 0 = λ x. (x ≡ m) ⊎ (x ≡ g) in
-    elim (each_or_not m g ys) [
-      | inr fails ↦ inr (λ all. fails (All-tail P y ys all))
-      | inl rest ↦ elim (cases_eq y m) [
-        | inl least ↦ inl (All-cons P y ys (inl least) rest)
-        | inr above ↦ elim (cases_eq y g) [
-          | inl most ↦ inl (All-cons P y ys (inr most) rest)
-          | inr apart ↦ inr (λ all. elim (All-head P y ys all) [ inl e ↦ above e | inr e ↦ apart e ])
-        ]
-      ]
-    ]
-
--- whether a problem's look factors have one rate: the least overlook part is it, or none is
+-- whether a problem's look factors have one rate
 pub rate_or_none : (p : Problem) → IsProblem p → ((rate : ℕ) × IsRate p rate) ⊎ ((rate : ℕ) → IsRate p rate → ⊥)
-rate_or_none p sound =
-    let parts = p.sweep.overlook in
-    let some : 0 < length parts = omega (arith, sound.sweep.positions) in
-    let (m, reached, unbeaten_by) = unbeaten (λ x y. ltb x y) (IsStrictWeakOrder-by_number (λ (x : ℕ). x)) parts some in
-    let below : (x : ℕ) → Contains parts x → m ≤ x = λ x h. ltb-false x m (unbeaten_by x h) in
-    elim (each_or_not m p.sweep.denominator parts) [
-      | inl each ↦
-          let least : All (λ x. m ≤ x) parts = λ k d inside. below _ (k, inside, get_or_default parts k _ d inside) in
-          inl (m, (one_rate_is_rate p m sound).0 (record { either = each; least = least; reached = reached }))
-      | inr fails ↦ inr (λ rate is.
-          let one : IsOneRate p.sweep rate = (one_rate_is_rate p rate sound).1 is in
-          let same : rate ≡ m = omega (arith, below rate one.reached, All-contains (λ x. rate ≤ x) parts m one.least reached) in
-          fails (subst (λ v. All (λ x. (x ≡ v) ⊎ (x ≡ p.sweep.denominator)) parts) same one.either))
-    ]
+rate_or_none p sound = elim (one_rate_or_none p.sweep sound.sweep p.horizon sound.horizon.0) [
+  | inl (rate, one) ↦ inl (rate, (one_rate_is_rate p rate sound).0 one)
+  | inr none ↦ inr (λ rate is. none rate ((one_rate_is_rate p rate sound).1 is))
+]
 
 module _ (p : Problem) (q : List ℕ) (sound : IsProblem p) (legal : IsLegal p q) where
   -- a prefix has one reference

@@ -41,8 +41,7 @@ impl Model for Scratch {
 fn has_rate(sc: &Scenario) -> bool
     ensures { TellsRate sc.now result }
 {
-    let _sound = sc.cells();
-    sc.sweep().one_rate().is_some()
+    sc.sweep().one_rate(sc.horizon()).is_some()
 }
 
 impl Scratch {

@@ -6,7 +6,7 @@ use Rattle.std.proofs.lemmas.List.Elements.{All-replicate}
 use Rattle.search_grid.specs.Sides.{side_moves}
 use Rattle.drift_chain.specs.DriftRows.{drift_over, drift_cells}
 use Rattle.sweep_table.specs.LookParts.{parts_over, IsSweep}
-use Rattle.sweep_table.proofs.Factors.{IsSweep-from_parts}
+use Rattle.sweep_table.proofs.Factors.{IsSweep-from_parts, length-own_rows}
 use Rattle.search_grid.proofs.Beside.{IsGrid-from_sides}
 use Rattle.search_model.specs.Names.{AreNames}
 use Rattle.search_model.specs.Problem.{Problem}
@@ -66,7 +66,7 @@ made_is_problem number = record {
   drift = let part = spread_within number in drift_right (spread_of number) part.0 part.1;
   drift_cells = length-spread_rows (spread_of number);
   sweep = IsSweep-same (overlook_of number) (let part = overlook_within number in omega (arith, part.1));
-  sweep_positions = length-replicate 25 (overlook_of number);
+  sweep_positions = length-own_rows (replicate 25 (overlook_of number)) ∙ length-replicate 25 (overlook_of number);
   sweep_cells = length-replicate 25 (overlook_of number);
   fits = omega arith;
 }

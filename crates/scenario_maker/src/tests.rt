@@ -83,7 +83,7 @@ fn numbers_give_what_is_drawn_for_them(rt: HostRuntime) -> Result<(), Fail> {
         assert_eq!(rt; scenario.drift().part(1, 12, 7), row.spread);
         assert_eq!(rt; scenario.drift().part(1, 12, 12), row.middle);
         assert_eq!(rt; scenario.drift().part(1, 24, 24), row.corner);
-        assert_eq!(rt; scenario.sweep().one_rate(), Some(row.overlook));
+        assert_eq!(rt; scenario.sweep().one_rate(8), Some(row.overlook));
     }
     Ok(())
 }

@@ -148,6 +148,7 @@ module _ (s : State) (h : IsSound s) (ended : s.stage ≡ Ended) where
     pub grid : IsGrid p.moves
     pub denominator : p.drift.denominator ≡ s.drift
     pub parts : HasSameParts s.parts p.drift.rows
+    pub steady : p.drift.changes ≡ []
     pub drift : IsDrift p.drift
     pub sweep : p.sweep ≡ parts_over s.look (map (λ o. unwrap_or o 0) s.overlook)
 
@@ -204,5 +205,6 @@ module _ (s : State) (h : IsSound s) (ended : s.stage ≡ Ended) where
         moves = m.moves;
         denominator = m.denominator;
         parts = m.parts;
+        steady = m.steady;
         sweep = m.sweep;
       }

@@ -138,10 +138,10 @@ unfolding canonical_text
 front_cut p rest h = (Reads-scenario p h).cut rest
 
 pub canonical_front_reads_back : CanonicalFrontReadsBack
-canonical_front_reads_back p rest h = record {
+canonical_front_reads_back p rest h steady = record {
   front = front_of_problem p;
   read = front_read p rest h;
-  says = canonical_says p h;
+  says = canonical_says p h steady;
   bytes = ap (λ (t : List ℕ). length (canonical_text p) + length t) (front_cut p rest h) ∙ sym (length-append (canonical_text p) rest);
 }
 
@@ -150,12 +150,12 @@ unfolding first_said lines_of
 nothing_more number = refl
 
 pub canonical_reads_back : CanonicalReadsBack
-canonical_reads_back p h =
+canonical_reads_back p h steady =
     let text : canonical_text p ++ [] ≡ canonical_text p = append-nil (canonical_text p) in
     let read : front_of (canonical_text p) ≡ Ok (front_of_problem p) = rw text at (front_read p [] h) in
     let cut : after_lines (length (scenario_rows p)) (canonical_text p) ≡ [] = rw text at (front_cut p [] h) in
     record {
       front = front_of_problem p;
       read = rw (read, cut, nothing_more (length (scenario_rows p) + 1)) refl;
-      says = canonical_says p h;
+      says = canonical_says p h steady;
     }

@@ -1,19 +1,20 @@
 -- What the canonical text of a problem says is that problem.
 use Rattle.std.proofs.Common.{◌≡◌, ℕ, List, [], ◌∷◌, map, Some, refl, sym, ap, ◌∙◌, subst}
 use Rattle.std.specs.Prelude.{unwrap_or, slice_index}
-use Rattle.std.specs.List.{range_with_len}
+use Rattle.std.specs.List.{find, range_with_len}
 use Rattle.std.proofs.lemmas.Bool.{eq-eqb}
 use Rattle.std.proofs.lemmas.List.FromFn.{fill_by_all}
 use Rattle.std.proofs.lemmas.List.Sorted.{IsPermutation-refl}
 use Rattle.drift_chain.specs.declared.part.DriftPart.{DriftPart}
-use Rattle.drift_chain.specs.DriftRows.{row_of}
+use Rattle.drift_chain.specs.DriftRows.{row_of, is_change}
+use Rattle.drift_chain.proofs.DriftChanges.{row_of-base}
 use Rattle.drift_chain.specs.Faults.{HasSameParts, parts_from}
 use Rattle.search_grid.specs.Faults.{HasSameMoves}
 use Rattle.search_grid.specs.Moves.{moves_from}
 use Rattle.sweep_table.specs.LookParts.{LookParts, factor_of, parts_over}
 use Rattle.search_model.specs.Problem.{Problem, IsProblem}
 use Rattle.scenario_text.specs.Canonical.{state_of_problem}
-use Rattle.scenario_text.specs.Laws.{CanonicalSays}
+use Rattle.scenario_text.specs.Laws.{CanonicalSays, IsSteady}
 use Rattle.scenario_text.proofs.FirstParts.{part_in-first}
 
 -- rows have their own moves, and their own parts
@@ -24,9 +25,8 @@ parts_kept : (rows : List (List DriftPart)) → HasSameParts rows rows
 parts_kept rows = record { cells = refl; parts = λ c inside. IsPermutation-refl (parts_from rows c) }
 
 -- the drift rows are what is read of each cell
-pub drift_rows-all : (p : Problem) → IsProblem p → map (row_of p.drift 1) (range_with_len 0 p.cells) ≡ p.drift.rows
-unfolding row_of
-drift_rows-all p h = sym (fill_by_all (row_of p.drift 1) p.drift.rows p.cells [] h.drift_cells (λ k lt. refl))
+pub drift_rows-all : (p : Problem) → IsProblem p → IsSteady p → map (row_of p.drift 1) (range_with_len 0 p.cells) ≡ p.drift.rows
+drift_rows-all p h steady = sym (fill_by_all (row_of p.drift 1) p.drift.rows p.cells [] h.drift_cells (λ k lt. sym (row_of-base p.drift 1 k (ap (find (is_change 1 k)) steady))))
 
 own_factor : (sweep : LookParts) (c : ℕ) → slice_index sweep.overlook c ≡ factor_of sweep 1 c c
 unfolding factor_of
@@ -43,7 +43,7 @@ overlook_all p h =
     ∙ sym (unwrapped (λ c. factor_of p.sweep 1 c c) (range_with_len 0 p.positions))
 
 pub canonical_says : CanonicalSays
-canonical_says p h = record {
+canonical_says p h steady = record {
   sound = h;
   names = refl;
   horizon = refl;
@@ -52,6 +52,7 @@ canonical_says p h = record {
   first = part_in-first p;
   moves = moves_kept p.moves;
   denominator = refl;
-  parts = subst (λ (rows : List (List DriftPart)). HasSameParts rows p.drift.rows) (sym (drift_rows-all p h)) (parts_kept p.drift.rows);
+  steady = steady;
+  parts = subst (λ (rows : List (List DriftPart)). HasSameParts rows p.drift.rows) (sym (drift_rows-all p h steady)) (parts_kept p.drift.rows);
   sweep = ap (parts_over p.sweep.denominator) (overlook_all p h);
 }

@@ -5,6 +5,7 @@ use Rattle.std.proofs.lemmas.List.Sorted.{IsPermutation-sym, IsPermutation-trans
 use Rattle.drift_chain.specs.declared.part.DriftPart.{DriftPart}
 use Rattle.drift_chain.specs.DriftRows.{drift_over, IsDrift}
 use Rattle.drift_chain.specs.Faults.{HasSameParts, parts_from}
+use Rattle.drift_chain.proofs.DriftChanges.{plain_drift}
 use Rattle.drift_chain.proofs.Drifts.{same_drift}
 use Rattle.search_grid.specs.Faults.{HasSameMoves}
 use Rattle.search_grid.specs.Moves.{moves_from}
@@ -43,5 +44,9 @@ one_problem s p q g h =
     let here : c < p.cells = omega (arith, g.sound.first_length) in
     g.first c here ∙ sym (h.first c (omega (arith, cells)))) in
     let moves : q.moves ≡ p.moves = same_grid p.moves q.moves g.sound.grid h.sound.grid (moves_shared s.moves p.moves q.moves g.moves h.moves) in
-    let drift : p.drift ≡ q.drift = same_rows p.drift.denominator q.drift.denominator p.drift.rows q.drift.rows (g.denominator ∙ sym h.denominator) g.sound.drift h.sound.drift (parts_shared s.parts p.drift.rows q.drift.rows g.parts h.parts) in
+    let drift : p.drift ≡ q.drift =
+    sym (plain_drift p.drift g.steady)
+    ∙ same_rows p.drift.denominator q.drift.denominator p.drift.rows q.drift.rows (g.denominator ∙ sym h.denominator) (rw (plain_drift p.drift g.steady) g.sound.drift) (rw (plain_drift q.drift h.steady) h.sound.drift)
+    (parts_shared s.parts p.drift.rows q.drift.rows g.parts h.parts)
+    ∙ plain_drift q.drift h.steady in
     same_problem p q names cells (g.sound.positions ∙ cells ∙ sym h.sound.positions) (g.horizon ∙ sym h.horizon) (g.start ∙ sym h.start) (g.total ∙ sym h.total) firsts (sym moves) drift (g.sweep ∙ sym h.sweep)

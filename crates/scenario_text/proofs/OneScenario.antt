@@ -7,6 +7,7 @@ use Rattle.std.proofs.lemmas.List.{map-id, take_all}
 use Rattle.std.proofs.lemmas.List.FromFn.{length-map-range_with_len, get_or-map-range_with_len}
 use Rattle.std.proofs.lemmas.List.Sorted.{length_permutation, All-permutation, sum_by-IsPermutation}
 use Rattle.drift_chain.specs.declared.part.DriftPart.{DriftPart}
+use Rattle.drift_chain.proofs.Drifts.{AreChanges-none}
 use Rattle.drift_chain.specs.DriftRows.{drift_over, part_in, row_of, IsDriftRow, IsDrift}
 use Rattle.drift_chain.specs.Faults.{parts_from, HasSameParts}
 use Rattle.search_grid.specs.Moves.{moves_from, IsMoveRow, IsGrid}
@@ -155,6 +156,7 @@ module _ (s : State) (h : IsSound s) (ended : s.stage ≡ due.Ended) where
     denominator = drift_limits s h ended;
     size = (omega (arith, long_parts, some_cell s h ended), omega (arith, long_parts, h.few));
     each = λ t c lt. let inside : c < cells = omega (arith, lt, long_parts) in subst (λ (n : ℕ). IsDriftRow s.drift n (row_of (drift_over s.drift all_parts) t c)) (sym long_parts) (subst (IsDriftRow s.drift cells) (sym (row_in t c ∙ parts_in c inside)) (right_parts c inside));
+    changes = AreChanges-none (length all_parts);
   }
 
   -- The first parts, cell by cell.
@@ -199,6 +201,7 @@ module _ (s : State) (h : IsSound s) (ended : s.stage ≡ due.Ended) where
         grid = grid;
         denominator = refl;
         parts = same_parts;
+        steady = refl;
         drift = drift;
         sweep = refl;
       } in

@@ -16,17 +16,21 @@ OneProblem = (s : State) (p q : Problem) → Says s p → Says s q → p ≡ q
 abbrev pub EveryTextSpellsOne : Type 0
 EveryTextSpellsOne = (text : List ℕ) (front : Front) → front_of text ≡ Ok front → (p : Problem) × Says front.state p × ((q : Problem) → Says front.state q → q ≡ p)
 
+-- the drift is the same in every period: a text of version 1 says no other
+abbrev pub IsSteady : Problem → Type 0
+IsSteady p = p.drift.changes ≡ []
+
 -- what the canonical text of a problem says is that problem
 abbrev pub CanonicalSays : Type 0
-CanonicalSays = (p : Problem) → IsProblem p → Says (state_of_problem p) p
+CanonicalSays = (p : Problem) → IsProblem p → IsSteady p → Says (state_of_problem p) p
 
 -- the canonical text of a problem is a text of that problem alone
 abbrev pub CanonicalReadsBack : Type 0
-CanonicalReadsBack = (p : Problem) → IsProblem p → IsTextOf p (canonical_text p)
+CanonicalReadsBack = (p : Problem) → IsProblem p → IsSteady p → IsTextOf p (canonical_text p)
 
 -- and so it is with all of its bytes, whatever follows it
 abbrev pub CanonicalFrontReadsBack : Type 0
-CanonicalFrontReadsBack = (p : Problem) (rest : List ℕ) → IsProblem p → IsFront (canonical_text p ++ rest) p (length (canonical_text p))
+CanonicalFrontReadsBack = (p : Problem) (rest : List ℕ) → IsProblem p → IsSteady p → IsFront (canonical_text p ++ rest) p (length (canonical_text p))
 
 -- the last line has the one word `end`, and its line feed
 pub record EndsWithEnd (text : List ℕ) : Type 0 where

@@ -1,5 +1,5 @@
 -- The scenario that a text spells.
-use Rattle.std.specs.Prelude.{ℕ, ◌≡◌, ◌+◌, ◌<◌, List, map, length, unwrap_or, Result, Ok, Err}
+use Rattle.std.specs.Prelude.{ℕ, ◌≡◌, ◌+◌, ◌<◌, List, [], map, length, unwrap_or, Result, Ok, Err}
 use Rattle.search_grid.specs.Faults.{HasSameMoves}
 use Rattle.drift_chain.specs.DriftRows.{part_in}
 use Rattle.drift_chain.specs.Faults.{HasSameParts}
@@ -11,7 +11,8 @@ use Rattle.text_rows.specs.Lines.{after_lines}
 use Rattle.scenario_text.specs.State.{State}
 use Rattle.scenario_text.specs.Reading.{Front, front_of, alone_of}
 
--- the problem is what was read; its moves and drift entries are those of the rows, in ascending order
+-- the problem is what was read; its moves and drift entries are those of the rows, in ascending order, and the drift is the
+-- same in every period
 pub record Says (s : State) (p : Problem) : Type 0 where
   pub sound : IsProblem p
   pub names : p.names ≡ s.names
@@ -22,6 +23,7 @@ pub record Says (s : State) (p : Problem) : Type 0 where
   pub moves : HasSameMoves s.moves p.moves
   pub denominator : p.drift.denominator ≡ s.drift
   pub parts : HasSameParts s.parts p.drift.rows
+  pub steady : p.drift.changes ≡ []
   pub sweep : p.sweep ≡ parts_over s.look (map (λ o. unwrap_or o 0) s.overlook)
 
 -- the text of this scenario, up to its line `end`, stands at the front, and has so many bytes

@@ -1,6 +1,6 @@
 //! The scenario that a draft says.
 
-ghost use Rattle.std.specs.Prelude.{◌≡◌, ◌<◌, ◌≤◌, ℕ, List, All, map, length, slice_index, sum, sum_by, unwrap_or, IfOk};
+ghost use Rattle.std.specs.Prelude.{[], ◌≡◌, ◌<◌, ◌≤◌, ℕ, List, All, map, length, slice_index, sum, sum_by, unwrap_or, IfOk};
 ghost use Rattle.search_grid.specs.declared.faults.GridFault.{GridFault};
 ghost use Rattle.search_grid.specs.Moves.{IsGrid};
 ghost use Rattle.search_grid.specs.Faults.{HasSameMoves, HasFault as HasGridFault};
@@ -78,6 +78,7 @@ fn drift_of(denominator: u32, rows: Vec<Vec<DriftPart>>) -> Drift
     requires faultless { (fault : DriftFault) → HasDriftFault denominator (map (λ row. row.items) rows.items) fault → ⊥ }
     ensures denominator { result.denominator ≡ denominator }
     ensures made { HasSameParts (map (λ row. row.items) rows.items) result.rows }
+    ensures steady { result.changes ≡ [] }
     ensures sound { IsDrift result }
 {
     match Drift::new(denominator, rows) {

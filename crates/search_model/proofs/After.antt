@@ -4,6 +4,7 @@ use Rattle.std.specs.List.{range_with_len}
 use Rattle.std.proofs.lemmas.Nat.{mul-le}
 use Rattle.std.proofs.Math.Nat.{pow-zero, pow-suc, le_refl, mul-le-mul_left}
 use Rattle.drift_chain.specs.DriftRows.{row_of, part_of}
+use Rattle.sweep_table.proofs.Factors.{factor_of-le}
 use Rattle.search_model.specs.Problem.{Problem, first_of, IsProblem}
 use Rattle.search_model.specs.Tracks.{tracks, steps_product, weight_of, miss_from, missed_weight, whole_weight}
 use Rattle.search_model.specs.Following.{look_factor, after_of}
@@ -20,7 +21,7 @@ miss_from-cons p t (a ∷ q) c x = refl
 -- no look factor exceeds the denominator
 pub look_factor-le : (p : Problem) → IsProblem p → (t : ℕ) (q : List ℕ) (c : ℕ) → look_factor p t q c ≤ p.sweep.denominator
 look_factor-le p sound t [] c = le_refl p.sweep.denominator
-look_factor-le p sound t (a ∷ q) c = sound.sweep.within t a c
+look_factor-le p sound t (a ∷ q) c = factor_of-le p.sweep sound.sweep t a c
 
 -- nothing follows in no more periods
 pub after_of-zero : (p : Problem) (t c : ℕ) (q : List ℕ) → after_of p t c q 0 ≡ 1

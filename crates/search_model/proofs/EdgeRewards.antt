@@ -4,6 +4,7 @@ use Rattle.std.proofs.Math.Nat.{pow-zero, one-le-pow}
 use Rattle.std.proofs.lemmas.Nat.{mul-le, pow-add}
 use Rattle.exact_parts.proofs.Widths.{scaled_part_fits}
 use Rattle.sweep_table.specs.LookParts.{factor_of}
+use Rattle.sweep_table.proofs.Factors.{factor_of-le}
 use Rattle.search_model.specs.Problem.{Problem, IsProblem}
 use Rattle.search_model.specs.Tracks.{tracks, weight_of, whole_weight}
 use Rattle.search_model.specs.Bounds.{factors_along, cell_in, reward_of}
@@ -25,7 +26,7 @@ edge_reward-le p sound q t a b some =
     let n = p.horizon - length q - 2 in
     let more : g ^ (p.horizon - length q - 1) ≡ g * g ^ n = ap (λ (m : ℕ). g ^ m) (let e : p.horizon - length q - 1 ≡ suc n = omega (arith, some) in e) ∙ pow-suc g n ∙ omega arith in
     sum_by-within _ _ (tracks p.cells p.horizon) (λ x _.
-    rw more (discounted (weight_of p x * factors_along p 1 q x) (factor_of p.sweep (t - 1) a (cell_in x (t - 1))) (g - factor_of p.sweep t b (cell_in x t)) g (g ^ n) (sound.sweep.within (t - 1) a (cell_in x (t - 1)))))
+    rw more (discounted (weight_of p x * factors_along p 1 q x) (factor_of p.sweep (t - 1) a (cell_in x (t - 1))) (g - factor_of p.sweep t b (cell_in x t)) g (g ^ n) (factor_of-le p.sweep sound.sweep (t - 1) a (cell_in x (t - 1)))))
 
 -- the factors of a prefix are within its denominators
 factors_along-le : (p : Problem) → IsProblem p → (t : ℕ) (q x : List ℕ) → factors_along p t q x ≤ p.sweep.denominator ^ length q
@@ -33,7 +34,7 @@ unfolding factors_along
 factors_along-le p sound t [] x = rw (pow-zero p.sweep.denominator) (omega arith)
 factors_along-le p sound t (a ∷ q) [] = one-le-pow (length (a ∷ q)) p.sweep.denominator (omega (arith, sound.sweep.denominator))
 factors_along-le p sound t (a ∷ q) (c ∷ x) =
-    let here = sound.sweep.within t a c in
+    let here = factor_of-le p.sweep sound.sweep t a c in
     let rest = factors_along-le p sound (t + 1) q x in
     rw (pow-suc p.sweep.denominator (length q)) (omega (arith, mul-le _ _ _ _ here rest))
 

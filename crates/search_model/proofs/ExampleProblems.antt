@@ -4,6 +4,7 @@ use Rattle.std.proofs.lemmas.List.Elements.{All-from_recursion}
 use Rattle.std.proofs.lemmas.Bool.{and_from}
 use Rattle.exact_parts.specs.Width.{Fits}
 use Rattle.search_grid.specs.Moves.{moves_from, IsMoveRow}
+use Rattle.drift_chain.proofs.Drifts.{AreChanges-none}
 use Rattle.drift_chain.specs.DriftRows.{row_of, IsDriftRow}
 use Rattle.sweep_table.proofs.Factors.{IsSweep-from_parts}
 use Rattle.search_model.specs.Names.{IsName, is_name_byte, name_in, AreNames}
@@ -111,7 +112,7 @@ one_cell_sound = record {
   first_total = refl;
   grid = record { size = (omega arith, omega arith); each = below_one (λ p. IsMoveRow 1 (moves_from one_cell.moves p)) (one_move 1 0 (omega arith)) };
   grid_positions = refl;
-  drift = record { denominator = (omega arith, omega arith); size = (omega arith, omega arith); each = λ t. below_one (λ c. IsDriftRow 1 1 (row_of one_cell.drift t c)) (one_step 1 1 0 (omega arith) (omega arith)) };
+  drift = record { denominator = (omega arith, omega arith); size = (omega arith, omega arith); each = λ t. below_one (λ c. IsDriftRow 1 1 (row_of one_cell.drift t c)) (one_step 1 1 0 (omega arith) (omega arith)); changes = AreChanges-none 1 };
   drift_cells = refl;
   sweep = IsSweep-from_parts 2 (1 ∷ []) (omega arith, omega arith) (omega arith, omega arith) (below_one (λ k. slice_index (1 ∷ []) k ≤ 2) (omega arith));
   sweep_positions = refl;
@@ -136,7 +137,7 @@ two_cells_sound = record {
     each = below_two (λ p. IsMoveRow 2 (moves_from two_cells.moves p)) (two_moves 2 0 1 (omega arith) (omega arith)) (two_moves 2 0 1 (omega arith) (omega arith));
   };
   grid_positions = refl;
-  drift = record { denominator = (omega arith, omega arith); size = (omega arith, omega arith); each = λ t. below_two (λ c. IsDriftRow 2 2 (row_of two_cells.drift t c)) two_steps two_steps };
+  drift = record { denominator = (omega arith, omega arith); size = (omega arith, omega arith); each = λ t. below_two (λ c. IsDriftRow 2 2 (row_of two_cells.drift t c)) two_steps two_steps; changes = AreChanges-none 2 };
   drift_cells = refl;
   sweep = IsSweep-from_parts 2 (0 ∷ 0 ∷ []) (omega arith, omega arith) (omega arith, omega arith) (below_two (λ k. slice_index (0 ∷ 0 ∷ []) k ≤ 2) (omega arith) (omega arith));
   sweep_positions = refl;
@@ -166,6 +167,7 @@ waiting_sound periods horizon fits =
         denominator = (omega arith, omega arith);
         size = (omega arith, omega arith);
         each = λ t. below_three (λ c. IsDriftRow 1 3 (row_of (waiting_for periods).drift t c)) (one_step 1 3 0 (omega arith) (omega arith)) (one_step 1 3 1 (omega arith) (omega arith)) (one_step 1 3 2 (omega arith) (omega arith));
+        changes = AreChanges-none 3;
       };
       drift_cells = refl;
       sweep = IsSweep-from_parts 2 (1 ∷ 1 ∷ 1 ∷ []) (omega arith, omega arith) (omega arith, omega arith) (below_three (λ k. slice_index (1 ∷ 1 ∷ 1 ∷ []) k ≤ 2) (omega arith) (omega arith) (omega arith));

@@ -2,7 +2,7 @@
 use Rattle.std.proofs.Common.{[], ◌∷◌, refl, arith}
 use Rattle.search_grid.specs.Moves.{moves_from}
 use Rattle.drift_chain.specs.DriftRows.{row_of, part_in}
-use Rattle.sweep_table.specs.LookParts.{factor_of}
+use Rattle.sweep_table.specs.LookParts.{look_row, factor_in, factor_of}
 use Rattle.search_model.specs.Legal.{walks}
 use Rattle.search_model.specs.Tracks.{tracks, steps_product, weight_of, miss_from, missed_weight}
 use Rattle.search_model.specs.Worked.{one_cell, two_cells, waiting_target, waiting_longer, OneCellValues, TwoCellsValues, WaitingTargetValues, WaitingLongerValues, WorkedValues}
@@ -10,11 +10,11 @@ use Rattle.search_model.proofs.Best.{best_by_test}
 use Rattle.search_model.proofs.ExampleProblems.{one_cell_sound, two_cells_sound, waiting_target_sound, waiting_longer_sound}
 
 one_cell_values : OneCellValues
-unfolding tracks steps_product weight_of miss_from missed_weight row_of part_in factor_of walks moves_from
+unfolding tracks steps_product weight_of miss_from missed_weight row_of part_in look_row factor_in factor_of walks moves_from
 one_cell_values = record { sound = one_cell_sound; whole = refl; weights = refl; misses = (refl, refl); paths = refl; missed = refl; values = refl; best = best_by_test one_cell (0 ∷ []) (0, omega arith, refl) refl }
 
 two_cells_values : TwoCellsValues
-unfolding tracks steps_product weight_of miss_from missed_weight row_of part_in factor_of walks moves_from
+unfolding tracks steps_product weight_of miss_from missed_weight row_of part_in look_row factor_in factor_of walks moves_from
 two_cells_values = record {
   sound = two_cells_sound;
   whole = refl;
@@ -30,7 +30,7 @@ two_cells_values = record {
 }
 
 waiting_target_values : WaitingTargetValues
-unfolding tracks steps_product weight_of miss_from missed_weight row_of part_in factor_of walks moves_from
+unfolding tracks steps_product weight_of miss_from missed_weight row_of part_in look_row factor_in factor_of walks moves_from
 waiting_target_values = record {
   sound = waiting_target_sound;
   whole = refl;
@@ -44,7 +44,7 @@ waiting_target_values = record {
 }
 
 waiting_longer_values : WaitingLongerValues
-unfolding tracks steps_product weight_of miss_from missed_weight row_of part_in factor_of walks moves_from
+unfolding tracks steps_product weight_of miss_from missed_weight row_of part_in look_row factor_in factor_of walks moves_from
 waiting_longer_values = record {
   sound = waiting_longer_sound;
   whole = refl;

@@ -11,6 +11,7 @@ pub mod FaultLemmas
 pub mod Greatest
 pub mod LeastBest
 pub mod LegalLemmas
+pub mod LookRows
 pub mod NameLemmas
 pub mod Orders
 pub mod Places

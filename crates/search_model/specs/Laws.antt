@@ -25,9 +25,9 @@ WalksFollow = (rows : List (List ℕ)) (n a : ℕ) (y : List ℕ) → Contains (
 abbrev pub OneBest : Type 0
 OneBest = (p : Problem) → IsProblem p → (q : List ℕ) × IsBest p q × ((r : List ℕ) → IsBest p r → r ≡ q)
 
--- a sweep has one rate exactly where that is the rate of the problem's look factors
+-- a sweep has one rate up to the horizon exactly where that is the rate of the problem's look factors
 abbrev pub OneRateIsRate : Type 0
-OneRateIsRate = (p : Problem) (rate : ℕ) → IsProblem p → IsOneRate p.sweep rate ↔ IsRate p rate
+OneRateIsRate = (p : Problem) (rate : ℕ) → IsProblem p → IsOneRate p.sweep p.horizon rate ↔ IsRate p rate
 
 -- from each position there is one least walk of the greatest sum, and no second one
 abbrev pub OneLeastBest : Type 0

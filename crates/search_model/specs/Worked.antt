@@ -1,6 +1,8 @@
 -- Small problems, and what the definitions make of them.
 use Rattle.std.specs.Prelude.{ℕ, ◌≡◌, [], ◌∷◌, map}
 use Rattle.drift_chain.specs.declared.part.DriftPart.{DriftPart}
+use Rattle.drift_chain.specs.DriftRows.{drift_over}
+use Rattle.sweep_table.specs.LookParts.{parts_over}
 use Rattle.search_model.specs.Problem.{Problem, IsProblem}
 use Rattle.search_model.specs.Legal.{continuations}
 use Rattle.search_model.specs.Tracks.{tracks, weight_of, miss_of, whole_weight, missed_weight, value_of}
@@ -22,8 +24,8 @@ one_cell = record {
   total = 1;
   first = 1 ∷ [];
   moves = (0 ∷ []) ∷ [];
-  drift = record { denominator = 1; rows = (goes_to 0 1 ∷ []) ∷ [] };
-  sweep = record { denominator = 2; overlook = 1 ∷ [] };
+  drift = drift_over 1 ((goes_to 0 1 ∷ []) ∷ []);
+  sweep = parts_over 2 (1 ∷ []);
 }
 
 -- two cells, two periods: no look at the target's cell misses, and each step goes to either cell alike
@@ -38,8 +40,8 @@ two_cells = record {
   total = 2;
   first = 1 ∷ 1 ∷ [];
   moves = (0 ∷ 1 ∷ []) ∷ (0 ∷ 1 ∷ []) ∷ [];
-  drift = record { denominator = 2; rows = (goes_to 0 1 ∷ goes_to 1 1 ∷ []) ∷ (goes_to 0 1 ∷ goes_to 1 1 ∷ []) ∷ [] };
-  sweep = record { denominator = 2; overlook = 0 ∷ 0 ∷ [] };
+  drift = drift_over 2 ((goes_to 0 1 ∷ goes_to 1 1 ∷ []) ∷ (goes_to 0 1 ∷ goes_to 1 1 ∷ []) ∷ []);
+  sweep = parts_over 2 (0 ∷ 0 ∷ []);
 }
 
 -- three cells in a row, and a target that stays in the last one: the searcher starts in the middle, a look misses 1 of 2
@@ -54,8 +56,8 @@ waiting_for periods = record {
   total = 1;
   first = 0 ∷ 0 ∷ 1 ∷ [];
   moves = (0 ∷ 1 ∷ []) ∷ (0 ∷ 1 ∷ 2 ∷ []) ∷ (1 ∷ 2 ∷ []) ∷ [];
-  drift = record { denominator = 1; rows = (goes_to 0 1 ∷ []) ∷ (goes_to 1 1 ∷ []) ∷ (goes_to 2 1 ∷ []) ∷ [] };
-  sweep = record { denominator = 2; overlook = 1 ∷ 1 ∷ 1 ∷ [] };
+  drift = drift_over 1 ((goes_to 0 1 ∷ []) ∷ (goes_to 1 1 ∷ []) ∷ (goes_to 2 1 ∷ []) ∷ []);
+  sweep = parts_over 2 (1 ∷ 1 ∷ 1 ∷ []);
 }
 
 abbrev pub waiting_target : Problem

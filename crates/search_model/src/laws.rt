@@ -44,7 +44,7 @@ pub fn one_least_best()
     ensures { OneLeastBest }
 {}
 
-/// `Sweep::one_rate` answers the rate of a scenario's look factors, and `None` where they have none.
+/// `Sweep::one_rate` up to the horizon answers the rate of a scenario's look factors, and `None` where they have none.
 pub fn one_rate_is_rate()
     ensures { OneRateIsRate }
 {}

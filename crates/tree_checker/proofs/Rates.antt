@@ -132,11 +132,11 @@ module _ (p : Problem) where
 pub finds_one_rate : FindsOneRate
 finds_one_rate p rate = (found_rate p rate, finds_rate p rate)
 
-none_or_some : (p : Problem) (o : Option ℕ) → o ≡ one_rate_of p → ((rate : ℕ) → IsOneRate p.sweep rate → ⊥) → IsProblem p → one_rate_of p ≡ None
+none_or_some : (p : Problem) (o : Option ℕ) → o ≡ one_rate_of p → ((rate : ℕ) → IsOneRate p.sweep p.horizon rate → ⊥) → IsProblem p → one_rate_of p ≡ None
 none_or_some p None is none sound = sym is
 none_or_some p (Some rate) is none sound = absurd (none rate ((one_rate_is_rate p rate sound).1 ((finds_one_rate p rate).0 (sym is))))
 
 -- the sweep's one rate is the one that is found
-pub sweep_rate_is_found : (p : Problem) (r : Option ℕ) → IsProblem p → IfSome r (IsOneRate p.sweep) → IfNone r ((rate : ℕ) → IsOneRate p.sweep rate → ⊥) → r ≡ one_rate_of p
+pub sweep_rate_is_found : (p : Problem) (r : Option ℕ) → IsProblem p → IfSome r (IsOneRate p.sweep p.horizon) → IfNone r ((rate : ℕ) → IsOneRate p.sweep p.horizon rate → ⊥) → r ≡ one_rate_of p
 sweep_rate_is_found p (Some rate) sound some none = sym ((finds_one_rate p rate).1 ((one_rate_is_rate p rate sound).0 some))
 sweep_rate_is_found p None sound some none = sym (none_or_some p (one_rate_of p) refl none sound)

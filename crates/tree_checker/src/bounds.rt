@@ -75,8 +75,7 @@ pub(crate) fn edge_reason(
 fn one_rate(sc: &Scenario) -> Option<u32>
     ensures { result ≡ one_rate_of sc.now }
 {
-    let _sound = sc.horizon();
-    sc.sweep().one_rate()
+    sc.sweep().one_rate(sc.horizon())
 }
 
 /// A path with its value, that in parts of the looks' denominator for each.

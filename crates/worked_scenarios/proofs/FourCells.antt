@@ -2,6 +2,7 @@
 use Rattle.std.proofs.Common.{ℕ, ◌<◌, ◌≤◌, [], ◌∷◌, refl, arith, slice_index}
 use Rattle.std.proofs.lemmas.List.Elements.{All-from_recursion}
 use Rattle.search_grid.specs.Moves.{moves_from, IsMoveRow}
+use Rattle.drift_chain.proofs.Drifts.{AreChanges-none}
 use Rattle.drift_chain.specs.DriftRows.{row_of, IsDriftRow}
 use Rattle.sweep_table.proofs.Factors.{IsSweep-from_parts}
 use Rattle.search_model.specs.Names.{IsName, AreNames}
@@ -47,6 +48,7 @@ four_cells_sound = record {
     denominator = (omega arith, omega arith);
     size = (omega arith, omega arith);
     each = λ t. below_four (λ c. IsDriftRow 1 4 (row_of four_cells.drift t c)) (one_step 1 4 0 (omega arith) (omega arith)) (one_step 1 4 1 (omega arith) (omega arith)) (one_step 1 4 2 (omega arith) (omega arith)) (one_step 1 4 3 (omega arith) (omega arith));
+    changes = AreChanges-none 4;
   };
   drift_cells = refl;
   sweep = IsSweep-from_parts 1 (0 ∷ 0 ∷ 0 ∷ 0 ∷ []) (omega arith, omega arith) (omega arith, omega arith) (below_four (λ k. slice_index (0 ∷ 0 ∷ 0 ∷ 0 ∷ []) k ≤ 1) (omega arith) (omega arith) (omega arith) (omega arith));

@@ -39,6 +39,7 @@ returns c =
       grid = c.grid_of.ensures.sound;
       denominator = c.drift_of.ensures.denominator;
       parts = c.drift_of.ensures.made;
+      steady = c.drift_of.ensures.steady;
       drift = c.drift_of.ensures.sound;
       sweep = c.sweep_of.ensures ∙ ap (λ (xs : List ℕ). parts_over c.args.draft.look xs) (c.in_ok-overlook.ensures ∙ ap (map (λ o. unwrap_or o 0)) c.deref-2.ensures.value);
     })
