@@ -22,6 +22,7 @@ pub mod GridNames
 pub mod Spreads
 pub mod FirstFields
 pub mod ByCellNames
+pub mod EntryRows
 pub mod Due
 pub mod Passed
 pub mod SoundFields

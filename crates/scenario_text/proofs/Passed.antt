@@ -20,7 +20,7 @@ passed [] made t other e = (same_ok made t e, refl)
 passed (test ∷ tests) made t other e = passed_one test.0 test.1 (unless_any tests made) (unless_any tests other) (made ≡ t) t other (passed tests made t other) e
 
 -- the fields begin this line
-pub begins : (s : State) (word : List ℕ) (fields : List (List ℕ)) (line : Line) → line_due s.stage (nat_lt 0 (length s.names)) word ≡ Some line → fields_at s (word ∷ fields) ≡ row_at line s fields
+pub begins : (s : State) (word : List ℕ) (fields : List (List ℕ)) (line : Line) → line_due s.version s.stage (nat_lt 0 (length s.names)) word ≡ Some line → fields_at s (word ∷ fields) ≡ row_at line s fields
 begins s word fields line e = ap (λ (o : Option Line). unless_any (tests s o fields) (added o s fields)) e
 
 -- the one line that is due was read

@@ -7,6 +7,7 @@ pub mod Reading
 pub mod Worked
 pub mod ByCells
 pub mod Sound
+pub mod Order
 pub mod Faults
 pub mod InRows
 pub mod ReadingLaws

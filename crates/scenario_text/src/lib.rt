@@ -12,6 +12,7 @@ mod line;
 mod number_field;
 mod pair;
 mod pairs;
+mod period_rows;
 mod pieces;
 mod printing;
 mod reading;
