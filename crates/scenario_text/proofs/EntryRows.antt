@@ -1,10 +1,11 @@
 -- Lines with entries give the rows of the table, once their pairs were scanned.
 use Rattle.std.proofs.Common.{◌≡◌, ℕ, ◌+◌, ◌-◌, Bool, true, false, cond, List, [], ◌∷◌, ◌++◌, take, drop, length, map, get_or, Option, Some, None, Result, Ok, Err, refl, sym, ap, subst, ◌∙◌, arith, ◌≤◌, set}
 use Rattle.std.specs.Prelude.{not, ◌||◌, ◌==◌, nat_lt, is_none, unwrap_or, sum_by, slice_index_or}
-use Rattle.std.proofs.lemmas.Bool.{eq-eqb}
+use Rattle.std.proofs.lemmas.Bool.{eq-eqb, le-ltb}
 use Rattle.std.specs.List.{list_any}
 use Rattle.std.proofs.lemmas.List.Sums.{sum_by-cons}
 use Rattle.exact_parts.specs.declared.number.Number.{Number}
+use Rattle.exact_parts.specs.declared.number.Number.TheVariants.{Of}
 use Rattle.exact_parts.specs.Decimal.{number_at}
 use Rattle.list_laws.proofs.Mapped.{list_any-map}
 use Rattle.drift_chain.specs.declared.part.DriftPart.{DriftPart}
@@ -250,6 +251,25 @@ pub drift_said : (s : State) (name : List ℕ) (c : ℕ) (fields : List (List �
 drift_said s name c fields es found form h total before =
     let whole = eq-eqb (sum_by part (pair_parts fields)) s.drift (sum_said s.names fields ∙ ap (λ (xs : List DriftPart). sum_by (λ e. e.part) xs) h.entries ∙ total) in
     rw (form, h.bad, h.over, found, h.known, h.once, before, whole, h.entries) refl
+
+pub drift_in_said : (s : State) (t name : List ℕ) (period c : ℕ) (fields : List (List ℕ)) (es : List DriftPart) → number_at (s.horizon - 1) t ≡ Of period → 1 ≤ period → cell_named s.names name ≡ Some c → are_pairs fields ≡ true → AreSaid s.names 1 fields es → sum_by (λ e. e.part) es ≡ s.drift → has_period_row s.drift_rows period c ≡ false
+    → row_at DriftIn s (t ∷ name ∷ fields) ≡ Ok (record s { drift_rows = s.drift_rows ++ record { period = period; own = c; row = es } ∷ [] })
+drift_in_said s t name period c fields es when some found form h total before =
+    let whole = eq-eqb (sum_by part (pair_parts fields)) s.drift (sum_said s.names fields ∙ ap (λ (xs : List DriftPart). sum_by (λ e. e.part) xs) h.entries ∙ total) in
+    let least = le-ltb period 1 some in
+    rw (form, when, least, h.bad, h.over, found, h.known, h.once, before, whole, h.entries) refl
+
+pub look_said : (s : State) (name : List ℕ) (q : ℕ) (fields : List (List ℕ)) (es : List DriftPart) → cell_named (positions_in s) name ≡ Some q → are_even fields ≡ true → AreSaid s.names 0 fields es → list_any (λ e. nat_lt s.look e.part) es ≡ false → slice_index_or s.looks q None ≡ None → row_at Look s (name ∷ fields) ≡ Ok (record s { looks = set s.looks q (Some es) })
+look_said s name q fields es found form h within before =
+    let below = any_said s.names (nat_lt s.look) fields ∙ ap (λ (xs : List DriftPart). list_any (λ e. nat_lt s.look e.part) xs) h.entries ∙ within in
+    rw (form, h.bad, h.over, found, h.known, h.once, before, below, h.entries) refl
+
+pub look_in_said : (s : State) (t name : List ℕ) (period q : ℕ) (fields : List (List ℕ)) (es : List DriftPart) → number_at s.horizon t ≡ Of period → 1 ≤ period → cell_named (positions_in s) name ≡ Some q → are_even fields ≡ true → AreSaid s.names 0 fields es → list_any (λ e. nat_lt s.look e.part) es ≡ false → has_period_row s.look_rows period q ≡ false
+    → row_at LookIn s (t ∷ name ∷ fields) ≡ Ok (record s { look_rows = s.look_rows ++ record { period = period; own = q; row = es } ∷ [] })
+look_in_said s t name period q fields es when some found form h within before =
+    let below = any_said s.names (nat_lt s.look) fields ∙ ap (λ (xs : List DriftPart). list_any (λ e. nat_lt s.look e.part) xs) h.entries ∙ within in
+    let least = le-ltb period 1 some in
+    rw (form, when, least, h.bad, h.over, found, h.known, h.once, before, below, h.entries) refl
 
 -- The first fields are given beside the text.
 module _ {X : Type 0} (view : X → List ℕ) (new : Draft) (result : Result (Unit {0}) LineStop) (line : Line) (s : State) where

@@ -139,7 +139,7 @@ stands_counted c (d ∷ cs) e =
           omega (arith, step, stands_counted c cs more)
     ]
 
-once_differ : (cs : List ℕ) → ((d : ℕ) → count_by (λ m. m == d) cs ≤ 1) → has_double (map Some cs) ≡ false
+pub once_differ : (cs : List ℕ) → ((d : ℕ) → count_by (λ m. m == d) cs ≤ 1) → has_double (map Some cs) ≡ false
 unfolding has_double
 once_differ [] once = refl
 once_differ (c ∷ cs) once =

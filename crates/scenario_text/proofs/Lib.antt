@@ -43,4 +43,6 @@ pub mod Answered
 pub mod InRows
 pub mod GridRows
 pub mod Ordered
+pub mod RowsBack
+pub mod HeadsBack
 pub mod OneScenario

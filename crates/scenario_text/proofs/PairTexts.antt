@@ -59,7 +59,7 @@ entries_said : (es : List DriftPart) → entries_of (map said es) ≡ es
 entries_said [] = refl
 entries_said (e ∷ es) = ap (λ (xs : List DriftPart). e ∷ xs) (entries_said es)
 
-length-entry_fields : (names : List (List ℕ)) (es : List DriftPart) → length (entry_fields names es) ≡ 2 * length es
+pub length-entry_fields : (names : List (List ℕ)) (es : List DriftPart) → length (entry_fields names es) ≡ 2 * length es
 length-entry_fields names [] = refl
 length-entry_fields names (e ∷ es) = let rest = length-entry_fields names es in omega arith
 

@@ -75,11 +75,11 @@ names_found names cells found (c ∷ cs) within =
 names_known : (p : Problem) → IsProblem p → (cs : List ℕ) → All (λ c. c < p.cells) cs → map (cell_named p.names) (map (cell_name p) cs) ≡ map Some cs
 names_known p h = names_found p.names p.cells (cell_named-at p h)
 
-none_unknown : (cs : List ℕ) → list_any (λ m. is_none m) (map Some cs) ≡ false
+pub none_unknown : (cs : List ℕ) → list_any (λ m. is_none m) (map Some cs) ≡ false
 none_unknown [] = refl
 none_unknown (c ∷ cs) = none_unknown cs
 
-numbers_of : (cs : List ℕ) → map (λ m. unwrap_or m 0) (map Some cs) ≡ cs
+pub numbers_of : (cs : List ℕ) → map (λ m. unwrap_or m 0) (map Some cs) ≡ cs
 numbers_of [] = refl
 numbers_of (c ∷ cs) = ap (λ (xs : List ℕ). c ∷ xs) (numbers_of cs)
 

@@ -79,16 +79,17 @@ none_period last owners IsRow = record {
 }
 
 -- none was read yet, whatever the limits
-pub none_changed : (a b : Stage) (t c p d g t' c' p' d' g' : ℕ) (drift_rows look_rows : List PeriodRow) → place_of a ≤ 4 → AreChanges a t c p d g drift_rows look_rows → AreChanges b t' c' p' d' g' drift_rows look_rows
-none_changed a b t c p d g t' c' p' d' g' drift_rows look_rows early h = record {
+pub none_changed : (v w : TextVersion) (a b : Stage) (t c p d g t' c' p' d' g' : ℕ) (drift_rows look_rows : List PeriodRow) → place_of a ≤ 4 → AreChanges v a t c p d g drift_rows look_rows → AreChanges w b t' c' p' d' g' drift_rows look_rows
+none_changed v w a b t c p d g t' c' p' d' g' drift_rows look_rows early h = record {
   early = λ le. h.early early;
+  every_period = λ one. h.early early;
   drifts = subst (ArePeriodRows (t' - 1) c' (AreEntries c' d')) (sym (h.early early).0) (none_period (t' - 1) c' (AreEntries c' d'));
   looks = subst (ArePeriodRows t' p' (AreLooks c' g')) (sym (h.early early).1) (none_period t' p' (AreLooks c' g'));
 }
 
 -- those that were read stay, behind the first parts
-pub changed_on : (a b : Stage) (t c p d g : ℕ) (drift_rows look_rows : List PeriodRow) → (place_of b ≤ 4 → place_of a ≤ 4) → AreChanges a t c p d g drift_rows look_rows → AreChanges b t c p d g drift_rows look_rows
-changed_on a b t c p d g drift_rows look_rows before h = record { early = λ le. h.early (before le); drifts = h.drifts; looks = h.looks }
+pub changed_on : (v : TextVersion) (a b : Stage) (t c p d g : ℕ) (drift_rows look_rows : List PeriodRow) → (place_of b ≤ 4 → place_of a ≤ 4) → AreChanges v a t c p d g drift_rows look_rows → AreChanges v b t c p d g drift_rows look_rows
+changed_on v a b t c p d g drift_rows look_rows before h = record { early = λ le. h.early (before le); every_period = h.every_period; drifts = h.drifts; looks = h.looks }
 
 below : (a b : Stage) (n : ℕ) → a ≡ b → place_of b ≤ n → place_of a ≤ n
 below a b n e le = subst (λ st. place_of st ≤ n) (sym e) le
@@ -108,7 +109,7 @@ version_taken s at h = record {
   first = λ le. absurd (omega arith);
   moves = h.moves;
   empty = λ le. h.empty (early s.stage due.Version at (omega arith));
-  changes = none_changed s.stage due.Horizon _ _ _ _ _ _ _ _ _ _ _ _ (below s.stage due.Version 4 at (omega arith)) h.changes;
+  changes = none_changed s.version _ s.stage due.Horizon _ _ _ _ _ _ _ _ _ _ _ _ (below s.stage due.Version 4 at (omega arith)) h.changes;
   plain = h.plain;
   cells = λ is. absurd (no_grid s.stage due.Version s.gridded at (λ e. let bad : ⊥ = cc in bad) (omega arith) (λ g. (h.cells g).1) is);
   own = h.own;
@@ -138,7 +139,7 @@ horizon_taken s n at within h = record {
   first = λ le. absurd (omega arith);
   moves = h.moves;
   empty = λ le. h.empty (early s.stage due.Horizon at (omega arith));
-  changes = none_changed s.stage due.Parts _ _ _ _ _ _ _ _ _ _ _ _ (below s.stage due.Horizon 4 at (omega arith)) h.changes;
+  changes = none_changed s.version _ s.stage due.Parts _ _ _ _ _ _ _ _ _ _ _ _ (below s.stage due.Horizon 4 at (omega arith)) h.changes;
   plain = h.plain;
   cells = λ is. absurd (no_grid s.stage due.Horizon s.gridded at (λ e. let bad : ⊥ = cc in bad) (omega arith) (λ g. (h.cells g).1) is);
   own = h.own;
@@ -184,7 +185,7 @@ parts_taken s a d g at first drift look none h = record {
   first = λ le. absurd (omega arith);
   moves = h.moves;
   empty = λ le. absurd (omega arith);
-  changes = none_changed s.stage due.Cells _ _ _ _ _ _ _ _ _ _ _ _ (below s.stage due.Parts 4 at (omega arith)) h.changes;
+  changes = none_changed s.version _ s.stage due.Cells _ _ _ _ _ _ _ _ _ _ _ _ (below s.stage due.Parts 4 at (omega arith)) h.changes;
   plain = h.plain;
   cells = λ is. absurd (no_grid s.stage due.Parts s.gridded at (λ e. let bad : ⊥ = cc in bad) (omega arith) (λ g. (h.cells g).1) is);
   own = h.own;
@@ -284,7 +285,7 @@ module _ (s : State) (name : List ℕ) (at : s.stage ≡ due.Cells) (is_name : I
         own = λ is c lt. absurd (no_grid s.stage due.Cells s.gridded at (λ e. let bad : ⊥ = cc in bad) (omega arith) (λ g. (h.cells g).1) is);
         parts = wider_parts;
         overlook = All-push (IsPart s.look) s.overlook None h.overlook tt;
-        changes = none_changed s.stage s.stage _ _ _ _ _ _ _ _ _ _ _ _ (below s.stage due.Cells 4 at (omega arith)) h.changes;
+        changes = none_changed s.version _ s.stage s.stage _ _ _ _ _ _ _ _ _ _ _ _ (below s.stage due.Cells 4 at (omega arith)) h.changes;
         plain = refl;
         whole = λ e. absurd (let bad : due.Cells ≡ due.Ended = sym at ∙ e in let none : ⊥ = cc in none);
         fits = λ e. absurd (let bad : due.Cells ≡ due.Ended = sym at ∙ e in let none : ⊥ = cc in none);
@@ -307,7 +308,7 @@ module _ (s : State) (name : List ℕ) (at : s.stage ≡ due.Cells) (is_name : I
         own = λ is c lt. absurd (no_grid s.stage due.Cells s.gridded at (λ e. let bad : ⊥ = cc in bad) (omega arith) (λ g. (h.cells g).1) is);
         parts = wider_parts;
         overlook = h.overlook;
-        changes = none_changed s.stage s.stage _ _ _ _ _ _ _ _ _ _ _ _ (below s.stage due.Cells 4 at (omega arith)) h.changes;
+        changes = none_changed s.version _ s.stage s.stage _ _ _ _ _ _ _ _ _ _ _ _ (below s.stage due.Cells 4 at (omega arith)) h.changes;
         plain = let bad : One ≡ Two = sym h.plain ∙ two in absurd (let none : ⊥ = cc in none);
         whole = λ e. absurd (let bad : due.Cells ≡ due.Ended = sym at ∙ e in let none : ⊥ = cc in none);
         fits = λ e. absurd (let bad : due.Cells ≡ due.Ended = sym at ∙ e in let none : ⊥ = cc in none);
@@ -370,7 +371,7 @@ position_taken s name two at is_name few new h =
       own = λ is c lt. absurd (ungridded is);
       parts = h.parts;
       overlook = h.overlook;
-      changes = none_changed s.stage due.Positions _ _ _ _ _ _ _ _ _ _ _ _ (omega (arith, at)) h.changes;
+      changes = none_changed s.version _ s.stage due.Positions _ _ _ _ _ _ _ _ _ _ _ _ (omega (arith, at)) h.changes;
       plain = h.plain;
       whole = λ e. absurd (let bad : ⊥ = cc in bad);
       fits = λ e. absurd (let bad : ⊥ = cc in bad);
@@ -421,7 +422,7 @@ grid_taken s rows cols one at some_row some_col few h =
       moves = All-weaker (AreMoves (length (by_version s.version (grid_names rows cols) s.positions))) Q (λ row m. inr m) (side_moves rows cols) moves;
       empty = λ le. absurd (omega arith);
       cells = λ is. (one, inl refl);
-      changes = none_changed s.stage due.Start _ _ _ _ _ _ _ _ _ _ _ _ (below s.stage due.Cells 4 at (omega arith)) h.changes;
+      changes = none_changed s.version _ s.stage due.Start _ _ _ _ _ _ _ _ _ _ _ _ (below s.stage due.Cells 4 at (omega arith)) h.changes;
       plain = h.plain;
       own = λ is c lt. own_once rows cols c lt;
       parts = All-replicate (λ row. (length row ≡ 0) ⊎ AreEntries n s.drift row) (rows * cols) [] (inl refl);
@@ -465,7 +466,7 @@ start_taken s c past within h = record {
   own = h.own;
   parts = h.parts;
   overlook = h.overlook;
-  changes = none_changed s.stage due.First _ _ _ _ _ _ _ _ _ _ _ _ (omega (arith, past)) h.changes;
+  changes = none_changed s.version _ s.stage due.First _ _ _ _ _ _ _ _ _ _ _ _ (omega (arith, past)) h.changes;
   plain = h.plain;
   whole = λ e. absurd (let bad : ⊥ = cc in bad);
   fits = λ e. absurd (let bad : ⊥ = cc in bad);
@@ -498,7 +499,7 @@ first_taken s entries at are h = record {
   moves = h.moves;
   empty = λ le. absurd (omega arith);
   cells = λ is. ((h.cells is).0, inr (omega arith));
-  changes = none_changed s.stage due.Rows _ _ _ _ _ _ _ _ _ _ _ _ (below s.stage due.First 4 at (omega arith)) h.changes;
+  changes = none_changed s.version _ s.stage due.Rows _ _ _ _ _ _ _ _ _ _ _ _ (below s.stage due.First 4 at (omega arith)) h.changes;
   plain = h.plain;
   own = h.own;
   parts = h.parts;

@@ -22,7 +22,7 @@ use Rattle.text_rows.proofs.Results.{err_ok}
 use Rattle.search_model.specs.Grids.{spread_rows}
 use Rattle.scenario_text.specs.State.{State, PeriodRow, by_version, positions_in}
 use Rattle.scenario_text.specs.declared.draft.TextVersion.{TextVersion}
-use Rattle.scenario_text.specs.declared.draft.TextVersion.TheVariants.{One}
+use Rattle.scenario_text.specs.declared.draft.TextVersion.TheVariants.{One, Two}
 use Rattle.scenario_text.specs.KindTable.{holds_of, has_moves, has_parts, has_overlook, has_look, has_period_row, lacks_row, is_narrow, part, pair_names, pair_parts, stands_twice, within}
 use Rattle.scenario_text.specs.Grammar.{row_at}
 use Rattle.scenario_text.specs.Sound.{place_of, AreEntries, AreLooks, AreMoves, IsPart, IsLook, ArePeriodRows, IsSound}
@@ -170,8 +170,8 @@ rows_only : (s : State) → s.stage ≡ due.Rows → place_of s.stage ≤ 4 → 
 rows_only s at le = let here = subst (λ st. place_of st ≤ 4) at le in omega (arith, here)
 
 -- `driftin T NAME NAME PART NAME PART ..`
-drift_row_added : (s : State) (r : PeriodRow) → s.stage ≡ due.Rows → ArePeriodRows (s.horizon - 1) (length s.names) (AreEntries (length s.names) s.drift) (s.drift_rows ++ r ∷ []) → IsSound s → IsSound (record s { drift_rows = s.drift_rows ++ r ∷ [] })
-drift_row_added s r at rows h = record {
+drift_row_added : (s : State) (r : PeriodRow) → s.version ≡ Two → s.stage ≡ due.Rows → ArePeriodRows (s.horizon - 1) (length s.names) (AreEntries (length s.names) s.drift) (s.drift_rows ++ r ∷ []) → IsSound s → IsSound (record s { drift_rows = s.drift_rows ++ r ∷ [] })
+drift_row_added s r two at rows h = record {
   settled = h.settled;
   few = h.few;
   names = h.names;
@@ -188,13 +188,13 @@ drift_row_added s r at rows h = record {
   own = h.own;
   parts = h.parts;
   overlook = h.overlook;
-  changes = record { early = λ le. absurd (rows_only s at le); drifts = rows; looks = h.changes.looks };
+  changes = record { early = λ le. absurd (rows_only s at le); every_period = λ one. absurd (let bad : One ≡ Two = sym one ∙ two in let none : ⊥ = cc in none); drifts = rows; looks = h.changes.looks };
   plain = h.plain;
   whole = λ e. not_ended s.stage at e;
   fits = λ e. not_ended s.stage at e;
 }
 
-pub drift_in_sound : (s : State) (fields : List (List ℕ)) (t : State) → s.stage ≡ due.Rows → IsSound s → row_at DriftIn s fields ≡ Ok t → IsSound t
+pub drift_in_sound : (s : State) (fields : List (List ℕ)) (t : State) → (s.version ≡ Two) × (s.stage ≡ due.Rows) → IsSound s → row_at DriftIn s fields ≡ Ok t → IsSound t
 drift_in_sound s [] t at h e = absurd (err_ok BadLine t e)
 drift_in_sound s (period ∷ []) t at h e = absurd (err_ok BadLine t e)
 drift_in_sound s (period ∷ name ∷ fields) t at h e =
@@ -215,7 +215,7 @@ drift_in_sound s (period ∷ name ∷ fields) t at h e =
     let entries = AreEntries-said s.names fields _ s.drift said (eqb-true _ _ (not-false _ right.0)) in
     let rows = period_row_more (s.horizon - 1) (length s.names) (AreEntries (length s.names) s.drift) s.drift_rows (record { period = number_in n; own = unwrap_or own 0; row = entries_in s.names fields })
     (in_limits (s.horizon - 1) period goods.0 smalls.0) (named_one s.names name known.0) entries (none_found own (has_period_row s.drift_rows (number_in n)) known.0 new.0) h.changes.drifts in
-    sound_ok _ t right.1 (drift_row_added s _ at rows h)
+    sound_ok _ t right.1 (drift_row_added s _ at.0 at.1 rows h)
 
 -- `look NAME NAME PART NAME PART ..`
 look_set : (s : State) (q : ℕ) (row : List DriftPart) → s.stage ≡ due.Rows → AreLooks (length s.names) s.look row → IsSound s → IsSound (record s { looks = set s.looks q (Some row) })
@@ -267,8 +267,8 @@ look_sound s (name ∷ fields) t at h e =
     sound_ok _ t right.1 (look_set s _ _ at (AreLooks-said s.names fields _ s.look said right.0) h)
 
 -- `lookin T NAME NAME PART NAME PART ..`
-look_row_added : (s : State) (r : PeriodRow) → s.stage ≡ due.Rows → ArePeriodRows s.horizon (length (positions_in s)) (AreLooks (length s.names) s.look) (s.look_rows ++ r ∷ []) → IsSound s → IsSound (record s { look_rows = s.look_rows ++ r ∷ [] })
-look_row_added s r at rows h = record {
+look_row_added : (s : State) (r : PeriodRow) → s.version ≡ Two → s.stage ≡ due.Rows → ArePeriodRows s.horizon (length (positions_in s)) (AreLooks (length s.names) s.look) (s.look_rows ++ r ∷ []) → IsSound s → IsSound (record s { look_rows = s.look_rows ++ r ∷ [] })
+look_row_added s r two at rows h = record {
   settled = h.settled;
   few = h.few;
   names = h.names;
@@ -285,13 +285,13 @@ look_row_added s r at rows h = record {
   own = h.own;
   parts = h.parts;
   overlook = h.overlook;
-  changes = record { early = λ le. absurd (rows_only s at le); drifts = h.changes.drifts; looks = rows };
+  changes = record { early = λ le. absurd (rows_only s at le); every_period = λ one. absurd (let bad : One ≡ Two = sym one ∙ two in let none : ⊥ = cc in none); drifts = h.changes.drifts; looks = rows };
   plain = h.plain;
   whole = λ e. not_ended s.stage at e;
   fits = λ e. not_ended s.stage at e;
 }
 
-pub look_in_sound : (s : State) (fields : List (List ℕ)) (t : State) → s.stage ≡ due.Rows → IsSound s → row_at LookIn s fields ≡ Ok t → IsSound t
+pub look_in_sound : (s : State) (fields : List (List ℕ)) (t : State) → (s.version ≡ Two) × (s.stage ≡ due.Rows) → IsSound s → row_at LookIn s fields ≡ Ok t → IsSound t
 look_in_sound s [] t at h e = absurd (err_ok BadLine t e)
 look_in_sound s (period ∷ []) t at h e = absurd (err_ok BadLine t e)
 look_in_sound s (period ∷ name ∷ fields) t at h e =
@@ -312,7 +312,7 @@ look_in_sound s (period ∷ name ∷ fields) t at h e =
     let said : AreSaid s.names 0 fields (entries_in s.names fields) = record { bad = goods.1; over = smalls.1; known = known.1; once = single.0; entries = refl } in
     let rows = period_row_more s.horizon (length (positions_in s)) (AreLooks (length s.names) s.look) s.look_rows (record { period = number_in n; own = unwrap_or own 0; row = entries_in s.names fields })
     (in_limits s.horizon period goods.0 smalls.0) (named_one (positions_in s) name owner) (AreLooks-said s.names fields _ s.look said right.0) (none_found own (has_period_row s.look_rows (number_in n)) owner new.0) h.changes.looks in
-    sound_ok _ t right.1 (look_row_added s _ at rows h)
+    sound_ok _ t right.1 (look_row_added s _ at.0 at.1 rows h)
 
 -- `overlook NAME PART`
 overlook_set : (s : State) (c part : ℕ) → s.stage ≡ due.Rows → part ≤ s.look → IsSound s → IsSound (record s { overlook = set s.overlook c (Some part) })
@@ -447,7 +447,7 @@ end_taken s at whole fits h = record {
   own = h.own;
   parts = h.parts;
   overlook = h.overlook;
-  changes = changed_on s.stage due.Ended _ _ _ _ _ _ _ (λ le. absurd (omega arith)) h.changes;
+  changes = changed_on s.version s.stage due.Ended _ _ _ _ _ _ _ (λ le. absurd (omega arith)) h.changes;
   plain = h.plain;
   whole = λ e. whole;
   fits = λ e. fits;

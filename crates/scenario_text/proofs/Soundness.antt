@@ -53,7 +53,7 @@ blank_sound = record {
   own = λ is c lt. absurd (omega arith);
   parts = All-nil (λ row. (length row ≡ 0) ⊎ AreEntries 0 0 row);
   overlook = All-nil (IsPart 0);
-  changes = record { early = λ le. (refl, refl); drifts = none_period 0 0 (AreEntries 0 0); looks = none_period 0 0 (AreLooks 0 0) };
+  changes = record { early = λ le. (refl, refl); every_period = λ one. (refl, refl); drifts = none_period 0 0 (AreEntries 0 0); looks = none_period 0 0 (AreLooks 0 0) };
   plain = refl;
   whole = λ e. absurd (let bad : ⊥ = cc in bad);
   fits = λ e. absurd (let bad : ⊥ = cc in bad);
@@ -71,12 +71,12 @@ row_sound Start s fields t at h some e = start_sound s fields t at h e
 row_sound First s fields t at h some e = first_sound s fields t at h e
 row_sound Moves s fields t at h some e = moves_sound s fields t at h e
 row_sound Drift s fields t at h some e = drift_sound s fields t at h e
-row_sound DriftIn s fields t at h some e = drift_in_sound s fields t at.1 h e
+row_sound DriftIn s fields t at h some e = drift_in_sound s fields t at h e
 row_sound Overlook s fields t at h some e = overlook_sound s fields t at h e
 row_sound Spread s fields t at h some e = spread_sound s fields t at h e
 row_sound Rate s fields t at h some e = rate_sound s fields t at h e
 row_sound Look s fields t at h some e = look_sound s fields t at.1 h e
-row_sound LookIn s fields t at h some e = look_in_sound s fields t at.1 h e
+row_sound LookIn s fields t at h some e = look_in_sound s fields t at h e
 row_sound End s fields t at h some e = end_sound s fields t at h e
 
 -- of the line that is due

@@ -15,6 +15,7 @@ pub mod Scenarios
 pub mod Gives
 pub mod Scanning
 pub mod RowFields
+pub mod StateRows
 pub mod Canonical
 pub mod Laws
 pub mod Printing

@@ -77,9 +77,10 @@ pub record ArePeriodRows (last owners : ℕ) (IsRow : List DriftPart → Type 0)
   pub right : All (λ r. IsRow r.row) rows
   pub once : (t c : ℕ) → count_by (λ r. r.period == t && r.own == c) rows ≤ 1
 
--- the rows of one period: they stand behind the first parts
-pub record AreChanges (stage : Stage) (horizon cells positions drift look : ℕ) (drift_rows look_rows : List PeriodRow) : Type 0 where
+-- the rows of one period: they stand behind the first parts, in version 2
+pub record AreChanges (version : TextVersion) (stage : Stage) (horizon cells positions drift look : ℕ) (drift_rows look_rows : List PeriodRow) : Type 0 where
   pub early : place_of stage ≤ 4 → (drift_rows ≡ []) × (look_rows ≡ [])
+  pub every_period : version ≡ One → (drift_rows ≡ []) × (look_rows ≡ [])
   pub drifts : ArePeriodRows (horizon - 1) cells (AreEntries cells drift) drift_rows
   pub looks : ArePeriodRows horizon positions (AreLooks cells look) look_rows
 
@@ -101,7 +102,7 @@ pub record IsSound (s : State) : Type 0 where
   pub own : s.gridded ≡ true → (c : ℕ) → c < length s.moves → count_by (λ m. m == c) (moves_from s.moves c) ≡ 1
   pub parts : All (λ row. (length row ≡ 0) ⊎ AreEntries (length s.names) s.drift row) s.parts
   pub overlook : All (IsPart s.look) s.overlook
-  pub changes : AreChanges s.stage s.horizon (length s.names) (length (positions_in s)) s.drift s.look s.drift_rows s.look_rows
+  pub changes : AreChanges s.version s.stage s.horizon (length s.names) (length (positions_in s)) s.drift s.look s.drift_rows s.look_rows
   pub plain : s.version ≡ One
   pub whole : s.stage ≡ Ended → lacks_row s ≡ false
   pub fits : s.stage ≡ Ended → Fits s.total s.drift s.look s.horizon
