@@ -5,6 +5,7 @@ pub mod KindTable
 pub mod Grammar
 pub mod Reading
 pub mod Worked
+pub mod WorkedTwo
 pub mod ByCells
 pub mod Sound
 pub mod Order
