@@ -31,7 +31,7 @@ use Rattle.scenario_text.specs.Grammar.{position_of, with_name, with_cells, adds
 use Rattle.scenario_text.specs.declared.line.Line.{Line}
 use Rattle.scenario_text.specs.declared.line.Line.TheVariants.{Scenario, Horizon, Parts, Cell, Position, Grid, Start, First, Moves, Drift, DriftIn, Overlook, Spread, Rate, Look, LookIn, End}
 use Rattle.scenario_text.proofs.ByCellNames.{moves_by_cells}
-use Rattle.scenario_text.proofs.Passed.{passed, begins, only_read}
+use Rattle.scenario_text.proofs.Passed.{passed, begins, not_due, only_read}
 use Rattle.scenario_text.proofs.Due.{place_due}
 use Rattle.scenario_text.specs.Order.{IsPlace}
 use Rattle.scenario_text.specs.declared.draft.TextVersion.{TextVersion}
@@ -314,10 +314,19 @@ behind_cells s t rows cols start first one some_row some_col few taken done =
           )
     ]
 
+-- a grid stands in version 1
+plain_grid : (version : TextVersion) (s t : State) (rows cols : ℕ) → s.version ≡ version → s.stage ≡ due.Cells → s.names ≡ [] → rows ≤ 200 → cols ≤ 200 → line_at s (line_text (codes "grid" ∷ decimal rows ∷ decimal cols ∷ [])) ≡ Ok t → s.version ≡ One
+plain_grid One s t rows cols e at none few_rows few_cols read = e
+plain_grid Two s t rows cols e at none few_rows few_cols read =
+    let fields : AreFields (codes "grid" ∷ decimal rows ∷ decimal cols ∷ []) = (word (codes "grid") (omega arith) refl, (IsField-decimal rows (omega (arith, few_rows)), (IsField-decimal cols (omega (arith, few_cols)), tt))) in
+    let gone : line_due s.version s.stage (nat_lt 0 (length s.names)) (codes "grid") ≡ None =
+    ap (λ (v : TextVersion). line_due v s.stage (nat_lt 0 (length s.names)) (codes "grid")) e ∙ ap (λ (g : Stage). line_due Two g (nat_lt 0 (length s.names)) (codes "grid")) at ∙ ap (λ (ns : List (List ℕ)). line_due Two due.Cells (nat_lt 0 (length ns)) (codes "grid")) none in
+    absurd (not_due s t (codes "grid") (decimal rows ∷ decimal cols ∷ []) gone (sym (line_at-fields s (codes "grid" ∷ decimal rows ∷ decimal cols ∷ []) fields refl) ∙ read))
+
 pub grid_in_rows : GridInRows
 grid_in_rows s t rows cols start first came at none few_rows few_cols taken done =
     let h = reached_sound s came in
-    let one = h.plain in
+    let one = plain_grid s.version s taken.0 rows cols refl at none few_rows few_cols taken.1 in
     let g = grid_read s taken.0 rows cols one at none few_rows few_cols taken.1 in
     let n = rows * cols in
     let behind : AreTaken (with_cells s rows cols) (start ∷ first ∷ []) t = subst (λ (x : State). AreTaken x (start ∷ first ∷ []) t) g.made taken.3 in

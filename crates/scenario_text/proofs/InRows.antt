@@ -18,11 +18,12 @@ use Rattle.search_model.specs.Grids.{spread_row, spread_rows}
 use Rattle.scenario_text.specs.State.{State, by_version}
 use Rattle.scenario_text.specs.declared.line.Line.{Line}
 use Rattle.scenario_text.specs.declared.line.Line.TheVariants.{Drift, Overlook, Spread, Rate}
-use Rattle.scenario_text.specs.KindTable.{row_due, line_due}
-use Rattle.scenario_text.proofs.Passed.{begins}
+use Rattle.scenario_text.specs.KindTable.{row_due, period_row_due, line_due}
+use Rattle.scenario_text.specs.Grammar.{fields_at}
+use Rattle.scenario_text.proofs.Passed.{begins, not_due}
 use Rattle.scenario_text.proofs.EntryRows.{drift_said}
 use Rattle.scenario_text.specs.declared.draft.TextVersion.{TextVersion}
-use Rattle.scenario_text.specs.declared.draft.TextVersion.TheVariants.{One}
+use Rattle.scenario_text.specs.declared.draft.TextVersion.TheVariants.{One, Two}
 use Rattle.scenario_text.specs.Sound.{AreEntries, AreMoves, IsSound}
 use Rattle.scenario_text.specs.Faults.{AreTaken}
 use Rattle.scenario_text.specs.InRows.{line_text, for_each, RateInRows, SpreadInRows}
@@ -78,6 +79,12 @@ field_in s h c lt = IsField-name (name_in s.names c) (All-get_or IsName s.names 
 pub row_begins : (s : State) (word : List ℕ) (line : Line) → s.version ≡ One → s.stage ≡ due.Rows → row_due word ≡ Some line → line_due s.version s.stage (nat_lt 0 (length s.names)) word ≡ Some line
 row_begins s word line one at is = ap (λ (v : TextVersion). line_due v s.stage (nat_lt 0 (length s.names)) word) one ∙ ap (λ (g : Stage). line_due One g (nat_lt 0 (length s.names)) word) at ∙ is
 
+-- a row that version 2 doesn't have stands in version 1
+plain_row : (version : TextVersion) (s t : State) (word : List ℕ) (fields : List (List ℕ)) → s.version ≡ version → s.stage ≡ due.Rows → period_row_due word ≡ None → fields_at s (word ∷ fields) ≡ Ok t → s.version ≡ One
+plain_row One s t word fields e at none read = e
+plain_row Two s t word fields e at none read =
+    absurd (not_due s t word fields (ap (λ (v : TextVersion). line_due v s.stage (nat_lt 0 (length s.names)) word) e ∙ ap (λ (g : Stage). line_due Two g (nat_lt 0 (length s.names)) word) at ∙ none) read)
+
 -- in version 1 each cell has its row of moves, and its overlook part
 pub cell_moves : (s : State) → IsSound s → s.version ≡ One → length s.moves ≡ length s.names
 cell_moves s h one = h.moves_length ∙ ap (λ (v : TextVersion). length (by_version v s.names s.positions)) one
@@ -96,11 +103,11 @@ none_some os none k lt = empty_of (get_or os k None) (none_pass (λ o. is_some o
 pub rate_in_rows : RateInRows
 rate_in_rows s t part came at few e =
     let h = reached_sound s came in
-    let one = h.plain in
     let n = length s.names in
     let number = number_at-decimal 1000000 part few (omega arith) in
     let least = le-ltb part 0 (omega arith) in
     let fields : AreFields (codes "rate" ∷ decimal part ∷ []) = (word (codes "rate") (omega arith) refl, (IsField-decimal part (omega (arith, few)), tt)) in
+    let one = plain_row s.version s t (codes "rate") (decimal part ∷ []) refl at refl (sym (line_at-fields s (codes "rate" ∷ decimal part ∷ []) fields refl) ∙ e) in
     let read = sym (begins s (codes "rate") (decimal part ∷ []) Rate (row_begins s (codes "rate") Rate one at refl)) ∙ sym (line_at-fields s (codes "rate" ∷ decimal part ∷ []) fields refl) ∙ e in
     let told = rw (number, least) at read in
     let new = not_refused (list_any (λ o. is_some o) s.overlook) _ _ t told in
@@ -179,12 +186,12 @@ spread_entries s part h one gridded narrow c lt =
 pub spread_in_rows : SpreadInRows
 spread_in_rows s t part came at few e =
     let h = reached_sound s came in
-    let one = h.plain in
     let n = length s.names in
     let number = number_at-decimal 1000000 part few (omega arith) in
     let least = le-ltb part 0 (omega arith) in
     let limits = h.settled.drift (reached s.stage due.Rows 3 at (omega arith)) in
     let fields : AreFields (codes "spread" ∷ decimal part ∷ []) = (word (codes "spread") (omega arith) refl, (IsField-decimal part (omega (arith, few)), tt)) in
+    let one = plain_row s.version s t (codes "spread") (decimal part ∷ []) refl at refl (sym (line_at-fields s (codes "spread" ∷ decimal part ∷ []) fields refl) ∙ e) in
     let read = sym (begins s (codes "spread") (decimal part ∷ []) Spread (row_begins s (codes "spread") Spread one at refl)) ∙ sym (line_at-fields s (codes "spread" ∷ decimal part ∷ []) fields refl) ∙ e in
     let told = rw (number, least) at read in
     let gridded = not_refused (not s.gridded) _ _ t told in
