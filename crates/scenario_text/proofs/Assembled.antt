@@ -18,7 +18,8 @@ use Rattle.sweep_table.specs.LookParts.{LookParts, parts_over, factor_of, IsSwee
 use Rattle.search_model.specs.Names.{IsName, IsRepeated}
 use Rattle.search_model.specs.Problem.{Problem, IsProblem}
 use Rattle.scenario_text.specs.declared.draft.Stage.TheVariants.{Ended}
-use Rattle.scenario_text.specs.State.{State}
+use Rattle.scenario_text.specs.State.{State, by_version}
+use Rattle.scenario_text.specs.declared.draft.TextVersion.{TextVersion}
 use Rattle.scenario_text.specs.Scenarios.{Says}
 use Rattle.scenario_text.specs.Sound.{AreEntries, AreMoves, IsPart, IsSound}
 use Rattle.scenario_text.proofs.SoundFields.{none_pass}
@@ -30,13 +31,26 @@ not_empty P row some (inl none) = absurd (eqb-false (length row) 0 some none)
 not_empty P row some (inr h) = h
 
 module _ (s : State) (h : IsSound s) (ended : s.stage ≡ Ended) where
-  lacks_none : (list_any (λ row. length row == 0) s.moves || (list_any (λ row. length row == 0) s.parts || list_any (λ o. is_none o) s.overlook)) ≡ false
+  lacks_none : (list_any (λ row. length row == 0) s.moves || (list_any (λ row. length row == 0) s.parts || (list_any (λ o. is_none o) s.overlook || list_any (λ o. is_none o) s.looks))) ≡ false
   lacks_none = h.whole ended
+
+  -- the positions are the cells
+  pub cells_moves : length s.moves ≡ length s.names
+  cells_moves = h.moves_length ∙ ap (λ (v : TextVersion). length (by_version v s.names s.positions)) h.plain
+
+  cells_overlook : length s.overlook ≡ length s.names
+  cells_overlook = h.overlook_length ∙ ap (λ (v : TextVersion). length (by_version v s.names [])) h.plain
+
+  given_moves : All (λ row. (length row ≡ 0) ⊎ AreMoves (length s.names) row) s.moves
+  given_moves = subst (λ (v : TextVersion). All (λ row. (length row ≡ 0) ⊎ AreMoves (length (by_version v s.names s.positions)) row) s.moves) h.plain h.moves
+
+  cell_start : s.start < length s.names
+  cell_start = subst (λ (v : TextVersion). s.start < length (by_version v s.names s.positions)) h.plain (h.start (reached s.stage Ended 4 ended (omega arith)))
 
   all_moves : All (AreMoves (length s.names)) s.moves
   all_moves k row lt =
       let some = none_pass (λ (r : List ℕ). length r == 0) s.moves (or_parts (list_any (λ (r : List ℕ). length r == 0) s.moves) _ lacks_none).0 k row lt in
-      not_empty (AreMoves (length s.names)) _ some (h.moves k row lt)
+      not_empty (AreMoves (length s.names)) _ some (given_moves k row lt)
 
   all_parts : All (AreEntries (length s.names) s.drift) s.parts
   all_parts k row lt =
@@ -45,7 +59,7 @@ module _ (s : State) (h : IsSound s) (ended : s.stage ≡ Ended) where
       not_empty (AreEntries (length s.names) s.drift) _ some (h.parts k row lt)
 
   pub some_cell : 1 ≤ length s.names
-  some_cell = let start = h.start (reached s.stage Ended 4 ended (omega arith)) in omega (arith, start)
+  some_cell = let start = cell_start in omega (arith, start)
 
   pub moves_of : (c : ℕ) → c < length s.moves → AreMoves (length s.names) (moves_from s.moves c)
   unfolding moves_from
@@ -57,14 +71,14 @@ module _ (s : State) (h : IsSound s) (ended : s.stage ≡ Ended) where
 
   -- the moves make a grid
   pub no_grid_fault : (fault : GridFault) → HasGridFault s.moves fault → ⊥
-  no_grid_fault grid.CellCount (inl none) = omega (arith, none, h.moves_length, some_cell)
-  no_grid_fault grid.CellCount (inr many) = omega (arith, many, h.moves_length, h.few)
+  no_grid_fault grid.CellCount (inl none) = omega (arith, none, cells_moves, some_cell)
+  no_grid_fault grid.CellCount (inr many) = omega (arith, many, cells_moves, h.few)
   no_grid_fault (grid.NoMove c) bad = let row = moves_of c bad.0 in omega (arith, bad.1, row.some)
   no_grid_fault (grid.TooManyMoves c) bad = let row = moves_of c bad.0 in omega (arith, bad.1, row.few)
   no_grid_fault (grid.OutOfRange c) bad =
       let row = moves_of c bad.0 in
       let lt = row.within bad.1.0 bad.1.1 bad.1.2 in
-      omega (arith, lt, bad.1.3, bad.1.4, h.moves_length)
+      omega (arith, lt, bad.1.3, bad.1.4, cells_moves)
   no_grid_fault (grid.DoubleMove c) bad = let row = moves_of c bad.0 in omega (arith, bad.1.1, row.once bad.1.0)
   no_grid_fault grid.NoMemory bad = bad
 
@@ -106,7 +120,7 @@ module _ (s : State) (h : IsSound s) (ended : s.stage ≡ Ended) where
 
   places_long : length places ≡ length s.names
   unfolding places
-  places_long = length-map s.overlook (λ o. unwrap_or o 0) ∙ h.overlook_length
+  places_long = length-map s.overlook (λ o. unwrap_or o 0) ∙ cells_overlook
 
   place_within : (p : ℕ) → slice_index places p ≤ s.look
   unfolding places
@@ -156,14 +170,14 @@ module _ (s : State) (h : IsSound s) (ended : s.stage ≡ Ended) where
   rows_long p m = m.parts.cells ∙ h.parts_length
 
   moves_long : (p : Problem) → Made p → length p.moves ≡ length s.names
-  moves_long p m = m.moves.cells ∙ h.moves_length
+  moves_long p m = m.moves.cells ∙ cells_moves
 
   pub problem_right : (p : Problem) → Made p → IsProblem p
   unfolding places first_entries
   problem_right p m =
       let horizon = h.settled.horizon (reached s.stage Ended 2 ended (omega arith)) in
       let total = h.settled.total (reached s.stage Ended 3 ended (omega arith)) in
-      let start = h.start (reached s.stage Ended 4 ended (omega arith)) in
+      let start = cell_start in
       let rows = rows_long p m in
       let moves = moves_long p m in
       let N : List (List ℕ) → Type 0 = λ names. All IsName names in

@@ -1,6 +1,8 @@
 -- Columns of a draft, seen as lists, and a name that joins its set.
-use Rattle.std.proofs.Common.{◌≡◌, ℕ, ◌+◌, ◌<◌, ◌≤◌, Bool, false, List, [], ◌∷◌, ◌++◌, map, length, take, None, refl, sym, ◌∙◌, arith, inl, inr}
+use Rattle.std.proofs.Common.{◌≡◌, ℕ, ◌+◌, ◌<◌, ◌≤◌, Bool, false, List, [], ◌∷◌, ◌++◌, map, length, take, Option, None, Some, refl, sym, ◌∙◌, arith, inl, inr}
 use Rattle.std.specs.List.{list_any, position, position_or_len}
+use Rattle.std.specs.Option.{option_map}
+use Rattle.std.specs.Prelude.{is_none}
 use Rattle.std.specs.Str.{bytes_eq}
 use Rattle.std.proofs.lemmas.Bool.{lt-ltb, cases_order}
 use Rattle.std.proofs.lemmas.List.{map_push, take_more, length-map}
@@ -37,5 +39,11 @@ inserted_last eq view keys name same new =
 pub moves_next : (rows : List (List ℕ)) (c : ℕ) → c < length rows → take (c + 1) rows ≡ take c rows ++ moves_from rows c ∷ []
 unfolding moves_from
 moves_next rows c lt = take_more rows c [] lt
+
+-- an option that is mapped is none where it was
+pub none_kept : {X Y : Type 0} (f : X → Y) (os : List (Option X)) → list_any (λ o. is_none o) (map (option_map f) os) ≡ list_any (λ o. is_none o) os
+none_kept f [] = refl
+none_kept f (None ∷ os) = refl
+none_kept f (Some x ∷ os) = none_kept f os
 
 pub ruleset column_steps = (length-map)

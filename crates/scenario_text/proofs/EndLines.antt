@@ -4,6 +4,8 @@ use Rattle.std.specs.Prelude.{codes, not, nat_lt, ◌==◌, if◌then◌else◌}
 use Rattle.std.specs.List.{list_all, onto_first}
 use Rattle.scenario_text.specs.declared.draft.Stage.{Stage}
 use Rattle.scenario_text.specs.declared.draft.Stage.TheVariants as due
+use Rattle.scenario_text.specs.declared.draft.TextVersion.{TextVersion}
+use Rattle.scenario_text.specs.declared.draft.TextVersion.TheVariants.{One, Two}
 use Rattle.scenario_text.specs.declared.line.Line.TheVariants.{End}
 use Rattle.scenario_text.specs.declared.kind.TextKind.{TextKind}
 use Rattle.scenario_text.specs.declared.kind.TextKind.TheVariants.{NotText, BadLine}
@@ -29,23 +31,28 @@ ended s t e = ap (λ (u : State). u.stage) (sym (passed (tests s (Some End) []) 
 no_end : (s t : State) → unless_any (tests s None []) s ≡ Ok t → t.stage ≡ due.Ended
 no_end s t e = absurd (err_ok BadLine t e)
 
-stage_ends : (stage : Stage) (named : Bool) (s t : State) → unless_any (tests s (line_due stage named (codes "end")) []) (added (line_due stage named (codes "end")) s []) ≡ Ok t → t.stage ≡ due.Ended
-stage_ends due.Version named s t e = no_end s t e
-stage_ends due.Horizon named s t e = no_end s t e
-stage_ends due.Parts named s t e = no_end s t e
-stage_ends due.Cells true s t e = no_end s t e
-stage_ends due.Cells false s t e = no_end s t e
-stage_ends due.Start named s t e = no_end s t e
-stage_ends due.First named s t e = no_end s t e
-stage_ends due.Rows named s t e = ended s t e
-stage_ends due.Ended named s t e = no_end s t e
+stage_ends : (version : TextVersion) (stage : Stage) (named : Bool) (s t : State) → unless_any (tests s (line_due version stage named (codes "end")) []) (added (line_due version stage named (codes "end")) s []) ≡ Ok t → t.stage ≡ due.Ended
+stage_ends v due.Version named s t e = no_end s t e
+stage_ends v due.Horizon named s t e = no_end s t e
+stage_ends v due.Parts named s t e = no_end s t e
+stage_ends One due.Cells true s t e = no_end s t e
+stage_ends One due.Cells false s t e = no_end s t e
+stage_ends Two due.Cells true s t e = no_end s t e
+stage_ends Two due.Cells false s t e = no_end s t e
+stage_ends One due.Positions named s t e = no_end s t e
+stage_ends Two due.Positions named s t e = no_end s t e
+stage_ends v due.Start named s t e = no_end s t e
+stage_ends v due.First named s t e = no_end s t e
+stage_ends One due.Rows named s t e = ended s t e
+stage_ends Two due.Rows named s t e = ended s t e
+stage_ends v due.Ended named s t e = no_end s t e
 
 line_ends : (s t : State) (line : List ℕ) → fields_of line ≡ codes "end" ∷ [] → line_at s line ≡ Ok t → t.stage ≡ due.Ended
 unfolding line_at
 line_ends s t line word e =
     let reads : List (List ℕ) → Type 0 =
     λ fields. (if says_nothing fields then Ok s else (if not (list_all is_text_byte line) then Err NotText else fields_at s fields)) ≡ Ok t in
-    stage_ends s.stage (nat_lt 0 (length s.names)) s t (not_refused (not (list_all is_text_byte line)) NotText _ t (subst reads word e)).1
+    stage_ends s.version s.stage (nat_lt 0 (length s.names)) s t (not_refused (not (list_all is_text_byte line)) NotText _ t (subst reads word e)).1
 
 -- What follows it isn't looked at.
 

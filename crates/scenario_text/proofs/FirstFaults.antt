@@ -82,6 +82,7 @@ goes_on due.Version t number more fault e = ((λ h. absurd (let bad : ⊥ = cc i
 goes_on due.Horizon t number more fault e = ((λ h. absurd (let bad : ⊥ = cc in bad)), e)
 goes_on due.Parts t number more fault e = ((λ h. absurd (let bad : ⊥ = cc in bad)), e)
 goes_on due.Cells t number more fault e = ((λ h. absurd (let bad : ⊥ = cc in bad)), e)
+goes_on due.Positions t number more fault e = ((λ h. absurd (let bad : ⊥ = cc in bad)), e)
 goes_on due.Start t number more fault e = ((λ h. absurd (let bad : ⊥ = cc in bad)), e)
 goes_on due.First t number more fault e = ((λ h. absurd (let bad : ⊥ = cc in bad)), e)
 goes_on due.Rows t number more fault e = ((λ h. absurd (let bad : ⊥ = cc in bad)), e)

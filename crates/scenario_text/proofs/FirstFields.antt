@@ -9,7 +9,7 @@ use Rattle.scenario_text.specs.Gives.{TakesLine}
 use Rattle.scenario_text.specs.State.{State}
 use Rattle.scenario_text.specs.Grammar.{row_at, fields_at}
 use Rattle.scenario_text.specs.declared.line.Line.{Line}
-use Rattle.scenario_text.specs.declared.line.Line.TheVariants.{Scenario, Horizon, Parts, Cell, Grid, Start, First, Moves, Drift, Overlook, Spread, Rate, End}
+use Rattle.scenario_text.specs.declared.line.Line.TheVariants.{Scenario, Horizon, Parts, Cell, Position, Grid, Start, First, Moves, Drift, DriftIn, Overlook, Spread, Rate, Look, LookIn, End}
 
 -- Lists of which a front is known.
 
@@ -31,6 +31,9 @@ front_rest n w ws (f ∷ fs) e = cc
 abbrev is_short : Line → Bool
 is_short First = false
 is_short Drift = false
+is_short DriftIn = false
+is_short Look = false
+is_short LookIn = false
 is_short _ = true
 
 -- a row of more than 64 moves is too long, however long it is
@@ -55,6 +58,7 @@ long_cut Scenario s a b c d fs short = refl
 long_cut Horizon s a b c d fs short = refl
 long_cut Parts s a b c d fs short = refl
 long_cut Cell s a b c d fs short = refl
+long_cut Position s a b c d fs short = refl
 long_cut Grid s a b c d fs short = refl
 long_cut Start s a b c d fs short = refl
 long_cut Overlook s a b c d fs short = refl
@@ -64,6 +68,9 @@ long_cut End s a b c d fs short = refl
 long_cut Moves s a b c d fs short = moves_cut s a (b ∷ c ∷ d ∷ fs)
 long_cut First s a b c d fs short = absurd (let bad : ⊥ = cc in bad)
 long_cut Drift s a b c d fs short = absurd (let bad : ⊥ = cc in bad)
+long_cut DriftIn s a b c d fs short = absurd (let bad : ⊥ = cc in bad)
+long_cut Look s a b c d fs short = absurd (let bad : ⊥ = cc in bad)
+long_cut LookIn s a b c d fs short = absurd (let bad : ⊥ = cc in bad)
 
 row_cut : (line : Line) (s : State) (fs : List (List ℕ)) → is_short line ≡ true → row_at line s (take 66 fs) ≡ row_at line s fs
 row_cut line s [] short = refl

@@ -2,7 +2,7 @@
 use Rattle.std.proofs.Common.{◌≡◌, ℕ, ◌+◌, ◌-◌, ◌<◌, ◌≤◌, List, [], ◌∷◌, length, Option, Some, None, Result, Ok, Err, refl, sym, ap, ◌∙◌, arith, subst}
 use Rattle.search_model.specs.Problem.{Problem}
 use Rattle.scenario_text.specs.declared.draft.Stage.{Stage}
-use Rattle.scenario_text.specs.declared.draft.Stage.TheVariants.{Version, Horizon, Parts, Cells, Start, First, Rows, Ended}
+use Rattle.scenario_text.specs.declared.draft.Stage.TheVariants.{Version, Horizon, Parts, Cells, Positions, Start, First, Rows, Ended}
 use Rattle.scenario_text.specs.declared.kind.TextKind.{TextKind}
 use Rattle.scenario_text.specs.declared.kind.TextFault.{TextFault}
 use Rattle.text_rows.specs.Lines.{lines_of, after_lines}
@@ -22,6 +22,7 @@ at_stage Version t number most more front e lt further is = further is
 at_stage Horizon t number most more front e lt further is = further is
 at_stage Parts t number most more front e lt further is = further is
 at_stage Cells t number most more front e lt further is = further is
+at_stage Positions t number most more front e lt further is = further is
 at_stage Start t number most more front e lt further is = further is
 at_stage First t number most more front e lt further is = further is
 at_stage Rows t number most more front e lt further is = further is

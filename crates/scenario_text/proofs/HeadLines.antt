@@ -3,7 +3,7 @@ use Rattle.std.proofs.Common.{◌≡◌, ℕ, ◌+◌, ◌<◌, true, false, Lis
 use Rattle.std.specs.Prelude.{codes, nat_lt, if◌then◌else◌}
 use Rattle.std.specs.Fmt.{decimal}
 use Rattle.std.specs.List.{range_with_len, list_all}
-use Rattle.std.proofs.lemmas.Bool.{le-ltb, lt-ltb, lt-leb, eq-eqb}
+use Rattle.std.proofs.lemmas.Bool.{le-ltb, lt-ltb, lt-leb}
 use Rattle.std.proofs.lemmas.List.Elements.{All-get_or}
 use Rattle.std.proofs.lemmas.List.FromFn.{length-map-range_with_len, map-range_with_len_more}
 use Rattle.drift_chain.specs.declared.part.DriftPart.{DriftPart}
@@ -13,19 +13,19 @@ use Rattle.sweep_table.specs.LookParts.{factor_of}
 use Rattle.search_model.specs.Names.{IsName, is_name_byte}
 use Rattle.search_model.specs.Problem.{Problem, IsProblem, cell_name, position_name}
 use Rattle.scenario_text.specs.declared.draft.Stage.TheVariants.{Horizon, Parts, Cells, First, Rows}
-use Rattle.scenario_text.specs.declared.pair.Pair.{Pair}
+use Rattle.scenario_text.specs.declared.draft.TextVersion.TheVariants.{One}
 use Rattle.scenario_text.specs.State.{State, blank_state}
 use Rattle.scenario_text.specs.Fields.{cell_named}
 use Rattle.scenario_text.specs.Grammar.{with_name, row_at}
 use Rattle.scenario_text.specs.declared.line.Line.TheVariants.{Cell}
-use Rattle.scenario_text.proofs.ByCellNames.{first_by_cells, with_first}
+use Rattle.scenario_text.proofs.EntryRows.{first_said}
 use Rattle.scenario_text.specs.Canonical.{first_entries, pair_fields}
 use Rattle.scenario_text.specs.RowFields.{cell_row}
 use Rattle.text_rows.proofs.RowTexts.{IsField-decimal, word}
 use Rattle.exact_parts.proofs.Decimals.{number_at-decimal}
 use Rattle.scenario_text.proofs.FieldTexts.{IsField-cell_name, AreFields-pairs}
 use Rattle.scenario_text.proofs.NamesApart.{cell_named-at, cell_named-next, names_all}
-use Rattle.scenario_text.proofs.PairTexts.{said, pairs_of-entries, IsSaid, IsSaid-row, some_entry, are_pairs-entries, parts_within}
+use Rattle.scenario_text.proofs.PairTexts.{AreSaid-row, some_entry, are_pairs-entries, parts_within}
 use Rattle.scenario_text.proofs.FirstParts.{IsDriftRow-first}
 use Rattle.scenario_text.proofs.RowsRead.{Takes}
 
@@ -59,17 +59,22 @@ overlook_after p k c = if nat_lt c k then Some (factor_of p.sweep 1 c c) else No
 abbrev pub after_cells : Problem → ℕ → State
 after_cells p m = record {
   stage = Cells;
+  version = One;
   horizon = p.horizon;
   total = p.total;
   drift = p.drift.denominator;
   look = p.sweep.denominator;
   names = map (cell_name p) (range_with_len 0 m);
+  positions = [];
   gridded = false;
   start = 0;
   first = [];
   moves = map (moves_after p 0) (range_with_len 0 m);
   parts = map (parts_after p 0) (range_with_len 0 m);
   overlook = map (overlook_after p 0) (range_with_len 0 m);
+  looks = [];
+  drift_rows = [];
+  look_rows = [];
 }
 
 pub Takes-parts : (p : Problem) → IsProblem p → Takes (dated p) (codes "parts" ∷ decimal p.total ∷ decimal p.drift.denominator ∷ decimal p.sweep.denominator ∷ []) (after_cells p 0)
@@ -138,11 +143,6 @@ Takes-start p h =
       taken = rw (some, found) refl;
     }
 
-with_first-taken : (s : State) (pairs : List Pair) (es : List DriftPart) → IsSaid s.total es pairs → with_first s pairs ≡ Ok (record s { stage = Rows; first = es })
-with_first-taken s pairs es h =
-    let total = eq-eqb _ _ h.total in
-    rw (h.faultless, total, h.entries) refl
-
 abbrev pub first_taken : Problem → State
 first_taken p = record (started p) { stage = Rows; first = first_entries p }
 
@@ -150,10 +150,9 @@ pub Takes-first : (p : Problem) → IsProblem p → Takes (started p) (codes "fi
 Takes-first p h =
     let row = IsDriftRow-first p h in
     let small = parts_within p.total p.cells 1000000 (first_entries p) row h.total.1 in
-    let pairs = pairs_of-entries p h (first_entries p) row.within small in
     let even = are_pairs-entries p (first_entries p) (some_entry p.total p.cells (first_entries p) row h.total.0) in
     record {
       fields = (word (codes "first") (omega arith) refl, AreFields-pairs p h (first_entries p) row.within small);
       says = refl;
-      taken = sym (first_by_cells (started p) (pair_fields p (first_entries p))) ∙ rw (even, pairs) (with_first-taken (started p) (map said (first_entries p)) (first_entries p) (IsSaid-row p.total p.cells (first_entries p) row));
+      taken = first_said (started p) (pair_fields p (first_entries p)) (first_entries p) even (AreSaid-row p.names p.cells (cell_named-at p h) p.total (first_entries p) row h.total.1) row.total;
     }

@@ -22,6 +22,7 @@ pub mod GridNames
 pub mod Spreads
 pub mod FirstFields
 pub mod ByCellNames
+pub mod EntryRows
 pub mod Due
 pub mod Passed
 pub mod SoundFields
@@ -42,4 +43,6 @@ pub mod Answered
 pub mod InRows
 pub mod GridRows
 pub mod Ordered
+pub mod RowsBack
+pub mod HeadsBack
 pub mod OneScenario

@@ -2,7 +2,7 @@
 use Rattle.std.proofs.Common.{◌≡◌, ℕ, ◌+◌, ◌-◌, true, false, List, [], ◌∷◌, length, None, Some, Result, Ok, Err, refl, sym, ap, ◌∙◌, arith}
 use Rattle.std.specs.List.{list_all}
 use Rattle.scenario_text.specs.declared.draft.Stage.{Stage}
-use Rattle.scenario_text.specs.declared.draft.Stage.TheVariants.{Version, Horizon, Parts, Cells, Start, First, Rows, Ended}
+use Rattle.scenario_text.specs.declared.draft.Stage.TheVariants.{Version, Horizon, Parts, Cells, Positions, Start, First, Rows, Ended}
 use Rattle.scenario_text.specs.declared.kind.TextKind.{TextKind}
 use Rattle.scenario_text.specs.declared.kind.TextKind.TheVariants.{EarlyEnd}
 use Rattle.scenario_text.specs.declared.kind.TextFault.{TextFault}
@@ -26,6 +26,7 @@ stays Version s number more h = refl
 stays Horizon s number more h = refl
 stays Parts s number more h = refl
 stays Cells s number more h = refl
+stays Positions s number more h = refl
 stays Start s number more h = refl
 stays First s number more h = refl
 stays Rows s number more h = refl

@@ -26,7 +26,7 @@ use Rattle.scenario_text.specs.Scenarios.{Says}
 use Rattle.scenario_text.specs.Sound.{AreEntries, AreMoves, IsSound}
 use Rattle.scenario_text.specs.Laws.{EveryTextSpellsOne}
 use Rattle.list_laws.proofs.Rising.{increasing_from_ascends}
-use Rattle.scenario_text.proofs.Assembled.{moves_of, parts_at, some_cell, drift_limits, first_entries, Made, problem_says}
+use Rattle.scenario_text.proofs.Assembled.{cells_moves, moves_of, parts_at, some_cell, drift_limits, first_entries, Made, problem_says}
 use Rattle.scenario_text.proofs.Determined.{one_problem}
 use Rattle.scenario_text.proofs.FrontLines.{front_ended}
 use Rattle.scenario_text.proofs.Ordered.{in_order, in_order_same, in_order_rises}
@@ -39,6 +39,7 @@ sound_at due.Version t number more front h further is = further is
 sound_at due.Horizon t number more front h further is = further is
 sound_at due.Parts t number more front h further is = further is
 sound_at due.Cells t number more front h further is = further is
+sound_at due.Positions t number more front h further is = further is
 sound_at due.Start t number more front h further is = further is
 sound_at due.First t number more front h further is = further is
 sound_at due.Rows t number more front h further is = further is
@@ -96,7 +97,7 @@ module _ (s : State) (h : IsSound s) (ended : s.stage ≡ due.Ended) where
 
   moves_given : (c : ℕ) → c < cells → AreMoves cells (moves_from s.moves c)
   unfolding cells
-  moves_given c lt = moves_of s h ended c (omega (arith, lt, h.moves_length))
+  moves_given c lt = moves_of s h ended c (omega (arith, lt, cells_moves s h ended))
 
   parts_given : (c : ℕ) → c < cells → AreEntries cells s.drift (parts_from s.parts c)
   unfolding cells
@@ -105,8 +106,8 @@ module _ (s : State) (h : IsSound s) (ended : s.stage ≡ due.Ended) where
   same_moves : HasSameMoves s.moves all_moves
   unfolding cells moves_row
   same_moves = record {
-    cells = long_moves ∙ sym h.moves_length;
-    moves = λ c lt. subst (IsPermutation (moves_from s.moves c)) (sym (moves_in c (omega (arith, lt, h.moves_length)))) (in_order_same (λ m. m) (moves_from s.moves c));
+    cells = long_moves ∙ sym (cells_moves s h ended);
+    moves = λ c lt. subst (IsPermutation (moves_from s.moves c)) (sym (moves_in c (omega (arith, lt, cells_moves s h ended)))) (in_order_same (λ m. m) (moves_from s.moves c));
   }
 
   same_parts : HasSameParts s.parts all_parts

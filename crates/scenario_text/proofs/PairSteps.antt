@@ -1,21 +1,19 @@
 -- Pairs of a line, one after the other.
 use Rattle.std.proofs.Common.{◌≡◌, ℕ, suc, ◌<◌, ◌%◌, Bool, true, false, cond, eqb, List, [], ◌∷◌, ◌++◌, length, map, Option, Some, None, refl, sym, ap, ◌∙◌, subst, arith, append_assoc}
-use Rattle.std.specs.Prelude.{◌||◌, ◌&&◌, ◌==◌, nat_le, is_some, is_none, unwrap_or, if◌then◌else◌, Result, Ok, Err, OnOk}
+use Rattle.std.specs.Prelude.{◌||◌, ◌&&◌, ◌==◌, nat_le, is_some, is_none, unwrap_or, Result, Ok, Err, OnOk}
 use Rattle.std.specs.List.{list_any, onto_first}
 use Rattle.std.proofs.lemmas.List.{append-nil, map_push}
-use Rattle.std.proofs.lemmas.Bool.{eq-eqb, ne_eqb, le-leb}
+use Rattle.std.proofs.lemmas.Bool.{eq-eqb, ne_eqb, le-leb, eqb-true}
 use Rattle.drift_chain.specs.declared.part.DriftPart.{DriftPart}
-use Rattle.scenario_text.specs.declared.kind.TextKind.TheVariants.{BadNumber, OverLimit, UnknownName, DoubleName}
 use Rattle.scenario_text.specs.declared.pair.Pair.{Pair}
-use Rattle.scenario_text.specs.declared.pairs.Pairs.{Pairs}
 use Rattle.scenario_text.specs.declared.pairs.Scan.{Scan}
 use Rattle.text_rows.specs.Fields.{ends_field, fields_of}
 use Rattle.exact_parts.specs.Decimal.{number_at}
 use Rattle.text_rows.proofs.FieldCuts.{fields_gone, starts_field}
-use Rattle.scenario_text.specs.Fields.{is_bad, is_over, number_in, cell_named, are_pairs}
-use Rattle.scenario_text.specs.ByCells.{stands_in, has_double, entries_of, pairs_of, pairs_fault}
+use Rattle.scenario_text.specs.Fields.{is_bad, is_over, number_in, cell_named, are_even, are_pairs}
+use Rattle.scenario_text.specs.ByCells.{stands_in, has_double, entries_of, pairs_of}
 use Rattle.scenario_text.specs.Scanning.{HasSeen, IsMarked, IsAdded}
-use Rattle.scenario_text.specs.Gives.{AreScanned}
+use Rattle.scenario_text.specs.Gives.{Scans, ScansSome}
 
 or_false : (a : Bool) → (a || false) ≡ a
 or_false true = refl
@@ -109,9 +107,9 @@ entries_push done x cell is =
     ap (λ (o : Option ℕ). entries_of done ++ record { cell = unwrap_or o 0; part = number_in x.part } ∷ []) (sym is) ∙ sym (map_push (λ (x : Pair). record { cell = unwrap_or x.cell 0; part = number_in x.part }) done x)
 
 -- a pair more, where something is wrong, so that nothing is added
-pub seen_marked : (done : List Pair) (x : Pair) (old new : Scan) → IsMarked old x new → (new.bad || (new.over || (new.unknown || new.double))) ≡ true → HasSeen done old → HasSeen (done ++ x ∷ []) new
-seen_marked done x old new m any h = record {
-  bad = marked_any (λ x. is_bad 1 x.part) done x old.bad new.bad h.bad m.bad;
+pub seen_marked : (least : ℕ) (done : List Pair) (x : Pair) (old new : Scan) → IsMarked least old x new → (new.bad || (new.over || (new.unknown || new.double))) ≡ true → HasSeen least done old → HasSeen least (done ++ x ∷ []) new
+seen_marked least done x old new m any h = record {
+  bad = marked_any (λ x. is_bad least x.part) done x old.bad new.bad h.bad m.bad;
   over = marked_any (λ x. is_over x.part) done x old.over new.over h.over m.over;
   unknown = marked_any (λ x. is_none x.cell) done x old.unknown new.unknown h.unknown m.unknown;
   double = λ b o u.
@@ -123,8 +121,8 @@ seen_marked done x old new m any h = record {
 }
 
 -- a pair more, where nothing is wrong so far
-pub seen_added : (done : List Pair) (x : Pair) (cell : ℕ) (old marked new : Scan) → x.cell ≡ Some cell → IsMarked old x marked → (marked.bad || (marked.over || (marked.unknown || marked.double))) ≡ false → IsAdded marked (record { cell = cell; part = number_in x.part }) new → HasSeen done old → HasSeen (done ++ x ∷ []) new
-seen_added done x cell old marked new is m none a h =
+pub seen_added : (least : ℕ) (done : List Pair) (x : Pair) (cell : ℕ) (old marked new : Scan) → x.cell ≡ Some cell → IsMarked least old x marked → (marked.bad || (marked.over || (marked.unknown || marked.double))) ≡ false → IsAdded marked (record { cell = cell; part = number_in x.part }) new → HasSeen least done old → HasSeen least (done ++ x ∷ []) new
+seen_added least done x cell old marked new is m none a h =
     let b0 : marked.bad ≡ false = or_left _ _ none in
     let none_1 : (marked.over || (marked.unknown || marked.double)) ≡ false = or_right marked.bad (marked.over || (marked.unknown || marked.double)) none in
     let o0 : marked.over ≡ false = or_left _ _ none_1 in
@@ -140,7 +138,7 @@ seen_added done x cell old marked new is m none a h =
     let no_double : has_double (map (λ (x : Pair). x.cell) done) ≡ false = sym (h.double b o u) ∙ d in
     let among : list_any (λ (e : DriftPart). e.cell == cell) (entries_of done) ≡ stands_in (Some cell) (map (λ x. x.cell) done) = has_entry done cell (sym h.unknown ∙ u) in
     record {
-      bad = marked_any (λ x. is_bad 1 x.part) done x old.bad new.bad h.bad (a.bad ∙ m.bad);
+      bad = marked_any (λ x. is_bad least x.part) done x old.bad new.bad h.bad (a.bad ∙ m.bad);
       over = marked_any (λ x. is_over x.part) done x old.over new.over h.over (a.over ∙ m.over);
       unknown = marked_any (λ x. is_none x.cell) done x old.unknown new.unknown h.unknown (a.unknown ∙ m.unknown);
       double = λ _ _ _. rw (cells_push done x, no_double, is) (a.double ∙ ap (list_any (λ (e : DriftPart). e.cell == cell)) same ∙ among);
@@ -153,17 +151,17 @@ on_ok (Err e) P Q f h = tt
 
 -- The pairs of a text, read up to a rest.
 
-pub record IsScanned (names : List (List ℕ)) (text rest : List ℕ) (scan : Scan) : Type 0 where
+pub record IsScanned (names : List (List ℕ)) (least : ℕ) (text rest : List ℕ) (scan : Scan) : Type 0 where
   pub done : List Pair
-  pub seen : HasSeen done scan
+  pub seen : HasSeen least done scan
   pub so_far : done ++ pairs_of names (fields_of rest) ≡ pairs_of names (fields_of text)
   pub even : length (fields_of rest) % 2 ≡ length (fields_of text) % 2
   pub starts : ends_field rest ≡ true → rest ≡ []
 
 -- nothing was seen yet
-pub scan_starts : (names : List (List ℕ)) (text rest : List ℕ) (scan : Scan) → fields_of text ≡ fields_of rest → (ends_field rest ≡ true → rest ≡ []) → scan.bad ≡ false → scan.over ≡ false → scan.unknown ≡ false → scan.double ≡ false → scan.entries.items ≡ [] → IsScanned names text rest scan
+pub scan_starts : (names : List (List ℕ)) (least : ℕ) (text rest : List ℕ) (scan : Scan) → fields_of text ≡ fields_of rest → (ends_field rest ≡ true → rest ≡ []) → scan.bad ≡ false → scan.over ≡ false → scan.unknown ≡ false → scan.double ≡ false → scan.entries.items ≡ [] → IsScanned names least text rest scan
 unfolding has_double
-scan_starts names text rest scan same starts bad over unknown double entries = record {
+scan_starts names least text rest scan same starts bad over unknown double entries = record {
   done = [];
   seen = record { bad = bad; over = over; unknown = unknown; double = λ _ _ _. double; entries = λ _ _ _ _. entries };
   so_far = ap (pairs_of names) (sym same);
@@ -176,9 +174,9 @@ unfolding pairs_of
 pair_first names name part fields = refl
 
 -- one pair more was seen
-pub scan_more : (names : List (List ℕ)) (text rest name after part left : List ℕ) (x : Pair) (old new : Scan) → fields_of rest ≡ name ∷ fields_of after → fields_of after ≡ part ∷ fields_of left → (ends_field left ≡ true → left ≡ [])
-    → x ≡ record { cell = cell_named names name; part = number_at 1000000 part } → ((done : List Pair) → HasSeen done old → HasSeen (done ++ x ∷ []) new) → IsScanned names text rest old → IsScanned names text left new
-scan_more names text rest name after part left x old new one two starts is add s =
+pub scan_more : (names : List (List ℕ)) (least : ℕ) (text rest name after part left : List ℕ) (x : Pair) (old new : Scan) → fields_of rest ≡ name ∷ fields_of after → fields_of after ≡ part ∷ fields_of left → (ends_field left ≡ true → left ≡ [])
+    → x ≡ record { cell = cell_named names name; part = number_at 1000000 part } → ((done : List Pair) → HasSeen least done old → HasSeen least (done ++ x ∷ []) new) → IsScanned names least text rest old → IsScanned names least text left new
+scan_more names least text rest name after part left x old new one two starts is add s =
     let both : fields_of rest ≡ name ∷ part ∷ fields_of left = one ∙ ap (λ (fs : List (List ℕ)). name ∷ fs) two in
     let first : pairs_of names (fields_of rest) ≡ x ∷ pairs_of names (fields_of left) = ap (pairs_of names) both ∙ pair_first names name part (fields_of left) ∙ ap (λ (y : Pair). y ∷ pairs_of names (fields_of left)) (sym is) in
     let long : length (fields_of rest) ≡ suc (suc (length (fields_of left))) = ap length both in
@@ -191,19 +189,14 @@ scan_more names text rest name after part left x old new one two starts is add s
     }
 
 -- a name without a part is left
-pub scan_odd : (names : List (List ℕ)) (text rest name after : List ℕ) (scan : Scan) → fields_of rest ≡ name ∷ fields_of after → length after ≡ 0 → IsScanned names text rest scan → are_pairs (fields_of text) ≡ false
-scan_odd names text rest name after scan one none s =
+pub scan_odd : (names : List (List ℕ)) (least : ℕ) (text rest name after : List ℕ) (scan : Scan) → fields_of rest ≡ name ∷ fields_of after → length after ≡ 0 → IsScanned names least text rest scan → are_even (fields_of text) ≡ false
+scan_odd names least text rest name after scan one none s =
     let long : length (fields_of rest) ≡ 1 = ap length one ∙ ap (λ (fs : List (List ℕ)). suc (length fs)) (fields_gone after none) in
-    let odd : eqb (length (fields_of text) % 2) 0 ≡ false = ne_eqb _ _ (λ e. let even = s.even in omega (arith, long, even, e)) in
-    rw odd (and_false (nat_le 2 (length (fields_of text))))
+    ne_eqb _ _ (λ e. let even = s.even in omega (arith, long, even, e))
 
 pairs_none : (names : List (List ℕ)) → pairs_of names [] ≡ []
 unfolding pairs_of
 pairs_none names = refl
-
--- no field is no pair
-pub scan_none : (text rest : List ℕ) → fields_of text ≡ fields_of rest → length rest ≡ 0 → are_pairs (fields_of text) ≡ false
-scan_none text rest same none = rw (same ∙ fields_gone rest none) refl
 
 some_onto : (c : ℕ) (pieces : List (List ℕ)) → 0 < length (onto_first c pieces)
 some_onto c [] = omega arith
@@ -223,31 +216,26 @@ pub begun : (line : List ℕ) (empty : Bool) → (ends_field line ≡ true → l
 begun [] empty starts is some = absurd (let bad : ⊥ = cc in bad)
 begun (c ∷ cs) empty starts is some = starts_field (c ∷ cs) starts (omega arith)
 
--- no test passes
-no_fault : (b o u d : Bool) → (if b then Some BadNumber else (if o then Some OverLimit else (if u then Some UnknownName else (if d then Some DoubleName else None)))) ≡ None → (b ≡ false) × (o ≡ false) × (u ≡ false) × (d ≡ false)
-no_fault true o u d e = absurd cc
-no_fault false true u d e = absurd cc
-no_fault false false true d e = absurd cc
-no_fault false false false true e = absurd cc
-no_fault false false false false e = (refl, refl, refl, refl)
-
 -- all pairs were seen
-pub scan_ends : (names : List (List ℕ)) (text first rest : List ℕ) (scan : Scan) (pairs : Pairs) → fields_of text ≡ fields_of first → ends_field first ≡ false → length rest ≡ 0 → ((done : List Pair) → HasSeen done scan → pairs.fault ≡ pairs_fault done) → pairs.entries.items ≡ scan.entries.items → IsScanned names text rest scan
-    → (are_pairs (fields_of text) ≡ true) × AreScanned (pairs_of names (fields_of text)) pairs
-scan_ends names text first rest scan pairs same begun none fault entries s =
+pub scan_ends : (names : List (List ℕ)) (least : ℕ) (text rest : List ℕ) (scan : Scan) → length rest ≡ 0 → IsScanned names least text rest scan → (are_even (fields_of text) ≡ true) × HasSeen least (pairs_of names (fields_of text)) scan
+scan_ends names least text rest scan none s =
     let gone : fields_of rest ≡ [] = fields_gone rest none in
     let empty : length (fields_of rest) ≡ 0 = ap length gone in
-    let some : 0 < length (fields_of text) = rw same (some_field first begun) in
     let even_text : length (fields_of text) % 2 ≡ 0 = let even = s.even in omega (arith, even, empty) in
-    let two : nat_le 2 (length (fields_of text)) ≡ true = le-leb 2 (length (fields_of text)) (omega (arith, some, even_text)) in
-    let even : eqb (length (fields_of text) % 2) 0 ≡ true = eq-eqb _ _ even_text in
     let no_pairs : pairs_of names (fields_of rest) ≡ [] = ap (pairs_of names) gone ∙ pairs_none names in
     let whole : s.done ≡ pairs_of names (fields_of text) = sym (append-nil s.done) ∙ ap (λ (ys : List Pair). s.done ++ ys) (sym no_pairs) ∙ s.so_far in
-    let P : List Pair → Type 0 = λ list. AreScanned list pairs in
-    let scanned : AreScanned s.done pairs = record {
-      fault = fault s.done s.seen;
-      entries = λ e.
-          let (b, o, u, d) = no_fault _ _ _ _ e in
-          entries ∙ s.seen.entries (s.seen.bad ∙ b) (s.seen.over ∙ o) (s.seen.unknown ∙ u) (s.seen.double (s.seen.bad ∙ b) (s.seen.over ∙ o) (s.seen.unknown ∙ u) ∙ d);
-    } in
-    (rw (two, even) refl, subst P whole scanned)
+    let P : List Pair → Type 0 = λ list. HasSeen least list scan in
+    (eq-eqb _ _ even_text, subst P whole s.seen)
+
+-- One pair or more.
+
+pub some_scanned : (names : List (List ℕ)) (text first : List ℕ) (o : Option Scan) → fields_of text ≡ fields_of first → ends_field first ≡ false → Scans names 1 (fields_of text) o → ScansSome names (fields_of text) o
+some_scanned names text first None same begun none = rw none (and_false (nat_le 2 (length (fields_of text))))
+some_scanned names text first (Some scan) same begun h =
+    let some : 0 < length (fields_of text) = rw same (some_field first begun) in
+    let even : length (fields_of text) % 2 ≡ 0 = eqb-true _ _ h.0 in
+    let two : nat_le 2 (length (fields_of text)) ≡ true = le-leb 2 (length (fields_of text)) (omega (arith, some, even)) in
+    (rw (two, h.0) refl, h.1)
+
+pub no_pairs : (text first : List ℕ) → fields_of text ≡ fields_of first → length first ≡ 0 → are_pairs (fields_of text) ≡ false
+no_pairs text first same none = rw (same ∙ fields_gone first none) refl

@@ -1,6 +1,6 @@
 -- A row of entries, written as pairs, is read as those entries.
-use Rattle.std.proofs.Common.{◌≡◌, ℕ, ◌*◌, ◌<◌, ◌≤◌, ◌%◌, true, false, List, [], ◌∷◌, map, length, Some, None, refl, ap, ◌∙◌, arith}
-use Rattle.std.specs.Prelude.{All, is_none, sum_by}
+use Rattle.std.proofs.Common.{◌≡◌, ℕ, ◌*◌, ◌<◌, ◌≤◌, ◌%◌, true, false, List, [], ◌∷◌, map, length, Some, refl, sym, ap, ◌∙◌, arith}
+use Rattle.std.specs.Prelude.{All, is_none}
 use Rattle.std.specs.List.{list_any}
 use Rattle.std.proofs.lemmas.Bool.{le-ltb, le-leb, eq-eqb}
 use Rattle.std.proofs.lemmas.List.Elements.{All-head, All-tail}
@@ -13,7 +13,8 @@ use Rattle.search_model.specs.Names.{name_in}
 use Rattle.search_model.specs.Problem.{Problem, IsProblem}
 use Rattle.scenario_text.specs.declared.pair.Pair.{Pair}
 use Rattle.scenario_text.specs.Fields.{cell_named, are_pairs, is_bad, is_over}
-use Rattle.scenario_text.specs.ByCells.{pairs_of, pairs_fault, entries_of, total_of, has_double}
+use Rattle.scenario_text.specs.ByCells.{pairs_of, entries_of, has_double}
+use Rattle.scenario_text.proofs.EntryRows.{AreSaid, parts_any, any_unknown, twice, entries_alike}
 use Rattle.scenario_text.specs.Canonical.{pair_fields}
 use Rattle.scenario_text.specs.RowFields.{entry_fields}
 use Rattle.scenario_text.proofs.Ascending.{has_double-rising}
@@ -36,11 +37,11 @@ pairs_of-named names cells found (e ∷ es) within small =
 pub pairs_of-entries : (p : Problem) → IsProblem p → (es : List DriftPart) → All (λ e. e.cell < p.cells) es → All (λ e. e.part ≤ 1000000) es → pairs_of p.names (pair_fields p es) ≡ map said es
 pairs_of-entries p h = pairs_of-named p.names p.cells (cell_named-at p h)
 
-none_bad : (es : List DriftPart) → All (λ e. 1 ≤ e.part) es → list_any (λ x. is_bad 1 x.part) (map said es) ≡ false
-none_bad [] positive = refl
-none_bad (e ∷ es) positive =
-    let head = le-ltb e.part 1 (All-head (λ e. 1 ≤ e.part) e es positive) in
-    rw (head, none_bad es (All-tail (λ e. 1 ≤ e.part) e es positive)) refl
+none_bad : (least : ℕ) (es : List DriftPart) → All (λ e. least ≤ e.part) es → list_any (λ x. is_bad least x.part) (map said es) ≡ false
+none_bad least [] positive = refl
+none_bad least (e ∷ es) positive =
+    let head = le-ltb e.part least (All-head (λ e. least ≤ e.part) e es positive) in
+    rw (head, none_bad least es (All-tail (λ e. least ≤ e.part) e es positive)) refl
 
 none_over : (es : List DriftPart) → list_any (λ x. is_over x.part) (map said es) ≡ false
 none_over [] = refl
@@ -58,31 +59,29 @@ entries_said : (es : List DriftPart) → entries_of (map said es) ≡ es
 entries_said [] = refl
 entries_said (e ∷ es) = ap (λ (xs : List DriftPart). e ∷ xs) (entries_said es)
 
-total_said : (es : List DriftPart) → total_of (map said es) ≡ sum_by (λ e. e.part) es
-total_said es = ap (λ (xs : List DriftPart). sum_by (λ e. e.part) xs) (entries_said es)
-
-length-entry_fields : (names : List (List ℕ)) (es : List DriftPart) → length (entry_fields names es) ≡ 2 * length es
+pub length-entry_fields : (names : List (List ℕ)) (es : List DriftPart) → length (entry_fields names es) ≡ 2 * length es
 length-entry_fields names [] = refl
 length-entry_fields names (e ∷ es) = let rest = length-entry_fields names es in omega arith
 
--- a row in order, with a denominator within the limits, passes each test of its pairs
-pub record IsSaid (denominator : ℕ) (es : List DriftPart) (pairs : List Pair) : Type 0 where
-  pub faultless : pairs_fault pairs ≡ None
-  pub total : total_of pairs ≡ denominator
-  pub entries : entries_of pairs ≡ es
+-- entries for different cells that are written as pairs are said by these
+module _ (names : List (List ℕ)) (cells : ℕ) (found : (c : ℕ) → c < cells → cell_named names (name_in names c) ≡ Some c) where
+  pub AreSaid-named : (least : ℕ) (es : List DriftPart) → All (λ e. e.cell < cells) es → All (λ e. e.part ≤ 1000000) es → All (λ e. least ≤ e.part) es → has_double (map Some (map (λ e. e.cell) es)) ≡ false → AreSaid names least (entry_fields names es) es
+  AreSaid-named least es within small positive differ =
+      let fields = entry_fields names es in
+      let pairs = pairs_of-named names cells found es within small in
+      let known = sym (any_unknown names fields) ∙ ap (λ (xs : List Pair). list_any (λ x. is_none x.cell) xs) pairs ∙ none_unknown es in
+      record {
+        bad = sym (parts_any names is_bad least fields) ∙ ap (λ (xs : List Pair). list_any (λ x. is_bad least x.part) xs) pairs ∙ none_bad least es positive;
+        over = sym (parts_any names (λ l x. is_over x) least fields) ∙ ap (λ (xs : List Pair). list_any (λ x. is_over x.part) xs) pairs ∙ none_over es;
+        known = known;
+        once = sym (twice names fields known) ∙ ap (λ (xs : List Pair). has_double (map (λ x. x.cell) xs)) pairs ∙ ap has_double (cells_said es) ∙ differ;
+        entries = sym (entries_alike names fields) ∙ ap entries_of pairs ∙ entries_said es;
+      }
 
--- entries for different cells with positive parts
-pub IsSaid-by : (denominator : ℕ) (es : List DriftPart) → All (λ e. 1 ≤ e.part) es → has_double (map Some (map (λ e. e.cell) es)) ≡ false → sum_by (λ e. e.part) es ≡ denominator → IsSaid denominator es (map said es)
-IsSaid-by denominator es positive differ total =
-    let double : has_double (map (λ x. x.cell) (map said es)) ≡ false = ap has_double (cells_said es) ∙ differ in
-    record {
-      faultless = rw (none_bad es positive, none_over es, none_unknown es, double) refl;
-      total = total_said es ∙ total;
-      entries = entries_said es;
-    }
-
-pub IsSaid-row : (denominator cells : ℕ) (es : List DriftPart) → IsDriftRow denominator cells es → IsSaid denominator es (map said es)
-IsSaid-row denominator cells es row = IsSaid-by denominator es row.positive (has_double-rising (map (λ e. e.cell) es) (AllPairs-from_increasing (map (λ e. e.cell) es) row.ascending)) row.total
+  -- and a row in order, with a denominator within the limits
+  pub AreSaid-row : (denominator : ℕ) (es : List DriftPart) → IsDriftRow denominator cells es → denominator ≤ 1000000 → AreSaid names 1 (entry_fields names es) es
+  AreSaid-row denominator es row le =
+      AreSaid-named 1 es row.within (λ i d lt. omega (arith, get_or-le-sum_by (λ e. e.part) es i d lt, row.total)) row.positive (has_double-rising (map (λ e. e.cell) es) (AllPairs-from_increasing (map (λ e. e.cell) es) row.ascending))
 
 -- it isn't empty
 pub some_entry : (denominator cells : ℕ) (es : List DriftPart) → IsDriftRow denominator cells es → 1 ≤ denominator → 0 < length es

@@ -1,5 +1,5 @@
 -- A line that is right passes each test of its row, and what it adds is what is read.
-use Rattle.std.proofs.Common.{◌≡◌, ℕ, Bool, true, false, cond, List, [], ◌∷◌, length, Option, Some, None, Result, Ok, Err, refl, ap}
+use Rattle.std.proofs.Common.{◌≡◌, ℕ, Bool, true, false, cond, List, [], ◌∷◌, length, Option, Some, None, Result, Ok, Err, refl, sym, ap, ◌∙◌}
 use Rattle.std.specs.Prelude.{nat_lt}
 use Rattle.scenario_text.specs.declared.kind.TextKind.{TextKind}
 use Rattle.scenario_text.specs.declared.kind.TextKind.TheVariants.{BadLine}
@@ -20,8 +20,12 @@ passed [] made t other e = (same_ok made t e, refl)
 passed (test ∷ tests) made t other e = passed_one test.0 test.1 (unless_any tests made) (unless_any tests other) (made ≡ t) t other (passed tests made t other) e
 
 -- the fields begin this line
-pub begins : (s : State) (word : List ℕ) (fields : List (List ℕ)) (line : Line) → line_due s.stage (nat_lt 0 (length s.names)) word ≡ Some line → fields_at s (word ∷ fields) ≡ row_at line s fields
+pub begins : (s : State) (word : List ℕ) (fields : List (List ℕ)) (line : Line) → line_due s.version s.stage (nat_lt 0 (length s.names)) word ≡ Some line → fields_at s (word ∷ fields) ≡ row_at line s fields
 begins s word fields line e = ap (λ (o : Option Line). unless_any (tests s o fields) (added o s fields)) e
+
+-- where the fields begin no line, they aren't read
+pub not_due : (s t : State) (word : List ℕ) (fields : List (List ℕ)) → line_due s.version s.stage (nat_lt 0 (length s.names)) word ≡ None → fields_at s (word ∷ fields) ≡ Ok t → ⊥
+not_due s t word fields none e = err_ok BadLine t (sym (ap (λ (o : Option Line). unless_any (tests s o fields) (added o s fields)) none) ∙ e)
 
 -- the one line that is due was read
 pub only_read : (b : Bool) (line : Line) (s t : State) (fields : List (List ℕ)) → unless_any (tests s (cond b (Some line) None) fields) (added (cond b (Some line) None) s fields) ≡ Ok t → (b ≡ true) × (row_at line s fields ≡ Ok t)

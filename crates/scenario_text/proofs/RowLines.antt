@@ -2,7 +2,7 @@
 use Rattle.std.proofs.Common.{◌≡◌, ℕ, ◌+◌, ◌<◌, ◌≤◌, false, List, [], ◌∷◌, map, length, set, Option, Some, None, Ok, refl, sym, ap, ◌∙◌, subst, arith, inl, inr}
 use Rattle.std.specs.Prelude.{All, codes, nat_lt, unwrap_or, slice_index_or, is_none}
 use Rattle.std.specs.List.{range_with_len, list_any}
-use Rattle.std.proofs.lemmas.Bool.{le-ltb, lt-ltb, eq-eqb, ne_eqb, cases_order}
+use Rattle.std.proofs.lemmas.Bool.{le-ltb, lt-ltb, ne_eqb, cases_order}
 use Rattle.std.proofs.lemmas.List.{length-map}
 use Rattle.std.proofs.lemmas.List.Elements.{All-head, All-tail}
 use Rattle.std.proofs.lemmas.List.FromFn.{get_or-map-range_with_len}
@@ -13,13 +13,14 @@ use Rattle.sweep_table.specs.LookParts.{factor_of}
 use Rattle.search_model.specs.Names.{name_in}
 use Rattle.search_model.specs.Problem.{Problem, IsProblem, cell_name, position_name}
 use Rattle.scenario_text.specs.declared.draft.Stage.TheVariants.{Rows}
-use Rattle.scenario_text.specs.declared.pair.Pair.{Pair}
+use Rattle.scenario_text.specs.declared.draft.TextVersion.TheVariants.{One}
 use Rattle.scenario_text.specs.State.{State}
 use Rattle.scenario_text.specs.Fields.{cell_named}
 use Rattle.std.specs.Fmt.{decimal}
 use Rattle.scenario_text.specs.declared.line.Line.TheVariants.{Overlook}
 use Rattle.scenario_text.specs.Grammar.{row_at}
-use Rattle.scenario_text.proofs.ByCellNames.{moves_by_cells, drift_by_cells, with_moves, with_parts_of}
+use Rattle.scenario_text.proofs.ByCellNames.{moves_by_cells, with_moves}
+use Rattle.scenario_text.proofs.EntryRows.{drift_said}
 use Rattle.scenario_text.specs.Canonical.{pair_fields, first_entries, moves_row, drift_row, overlook_row}
 use Rattle.scenario_text.proofs.Ascending.{has_double-rising}
 use Rattle.scenario_text.proofs.FieldTexts.{IsField-cell_name, AreFields-names, AreFields-pairs}
@@ -28,7 +29,7 @@ use Rattle.exact_parts.proofs.Decimals.{number_at-decimal}
 use Rattle.scenario_text.proofs.RowsRead.{Takes}
 use Rattle.scenario_text.proofs.HeadLines.{moves_after, parts_after, overlook_after}
 use Rattle.scenario_text.proofs.NamesApart.{cell_named-at}
-use Rattle.scenario_text.proofs.PairTexts.{said, pairs_of-entries, IsSaid, IsSaid-row, some_entry, are_pairs-entries, parts_within}
+use Rattle.scenario_text.proofs.PairTexts.{AreSaid-row, some_entry, are_pairs-entries, parts_within}
 use Rattle.scenario_text.proofs.Ranges.{set-map-range}
 use Rattle.std.proofs.lemmas.List.Kept.{AllPairs-from_increasing}
 
@@ -36,17 +37,22 @@ use Rattle.std.proofs.lemmas.List.Kept.{AllPairs-from_increasing}
 abbrev pub after_rows : Problem → ℕ → ℕ → ℕ → State
 after_rows p i j k = record {
   stage = Rows;
+  version = One;
   horizon = p.horizon;
   total = p.total;
   drift = p.drift.denominator;
   look = p.sweep.denominator;
   names = p.names;
+  positions = [];
   gridded = false;
   start = p.start;
   first = first_entries p;
   moves = map (moves_after p i) (range_with_len 0 p.cells);
   parts = map (parts_after p j) (range_with_len 0 p.cells);
   overlook = map (overlook_after p k) (range_with_len 0 p.cells);
+  looks = [];
+  drift_rows = [];
+  look_rows = [];
 }
 
 -- whether a cell is among the first k, but for the next one, doesn't change with k
@@ -69,11 +75,11 @@ names_found names cells found (c ∷ cs) within =
 names_known : (p : Problem) → IsProblem p → (cs : List ℕ) → All (λ c. c < p.cells) cs → map (cell_named p.names) (map (cell_name p) cs) ≡ map Some cs
 names_known p h = names_found p.names p.cells (cell_named-at p h)
 
-none_unknown : (cs : List ℕ) → list_any (λ m. is_none m) (map Some cs) ≡ false
+pub none_unknown : (cs : List ℕ) → list_any (λ m. is_none m) (map Some cs) ≡ false
 none_unknown [] = refl
 none_unknown (c ∷ cs) = none_unknown cs
 
-numbers_of : (cs : List ℕ) → map (λ m. unwrap_or m 0) (map Some cs) ≡ cs
+pub numbers_of : (cs : List ℕ) → map (λ m. unwrap_or m 0) (map Some cs) ≡ cs
 numbers_of [] = refl
 numbers_of (c ∷ cs) = ap (λ (xs : List ℕ). c ∷ xs) (numbers_of cs)
 
@@ -113,11 +119,6 @@ Takes-moves p h i j k lt =
 
 -- Drift rows.
 
-pub with_parts-taken : (s : State) (c : ℕ) (pairs : List Pair) (es : List DriftPart) → IsSaid s.drift es pairs → slice_index_or s.parts c [] ≡ [] → with_parts_of s (Some c) pairs ≡ Ok (record s { parts = set s.parts c es })
-with_parts-taken s c pairs es h before =
-    let total = eq-eqb _ _ h.total in
-    rw (h.faultless, before, total, h.entries) refl
-
 drifted : (p : Problem) (j : ℕ) → j < p.cells → set (map (parts_after p j) (range_with_len 0 p.cells)) j (row_of p.drift 1 j) ≡ map (parts_after p (j + 1)) (range_with_len 0 p.cells)
 drifted p j lt =
     let among = lt-ltb j (j + 1) (omega arith) in
@@ -132,14 +133,13 @@ Takes-drift p h i j k lt =
     let row : IsDriftRow p.drift.denominator p.cells es = subst (λ (n : ℕ). IsDriftRow p.drift.denominator n es) h.drift_cells (h.drift.each 1 j (omega (arith, h.drift_cells))) in
     let small = parts_within p.drift.denominator p.cells 1000000 es row h.drift.denominator.1 in
     let found = cell_named-at p h j lt in
-    let pairs = pairs_of-entries p h es row.within small in
     let even = are_pairs-entries p es (some_entry p.drift.denominator p.cells es row h.drift.denominator.0) in
     let among = le-ltb j j (omega arith) in
     let before : slice_index_or s.parts j [] ≡ [] = get_or-map-range_with_len (parts_after p j) 0 p.cells j j [] lt (omega arith) ∙ rw among refl in
     record {
       fields = (word (codes "drift") (omega arith) refl, (IsField-cell_name p h j lt, AreFields-pairs p h es row.within small));
       says = refl;
-      taken = sym (drift_by_cells s (cell_name p j) (pair_fields p es)) ∙ rw (even, found, pairs) (with_parts-taken s j (map said es) es (IsSaid-row p.drift.denominator p.cells es row) before ∙ ap (λ (xs : List (List DriftPart)). Ok (record s { parts = xs })) (drifted p j lt));
+      taken = drift_said s (cell_name p j) j (pair_fields p es) es found even (AreSaid-row p.names p.cells (cell_named-at p h) p.drift.denominator es row h.drift.denominator.1) row.total before ∙ ap (λ (xs : List (List DriftPart)). Ok (record s { parts = xs })) (drifted p j lt);
     }
 
 -- Overlook parts.

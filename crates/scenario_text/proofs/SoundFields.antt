@@ -1,19 +1,21 @@
 -- What tests that a line has passed say of its numbers, names and pairs.
-use Rattle.std.proofs.Common.{◌≡◌, ℕ, ◌<◌, ◌≤◌, Bool, true, false, cond, List, [], ◌∷◌, map, length, get_or, Option, Some, None, Result, Ok, Err, refl, sym, ◌∙◌, arith, inl, inr}
-use Rattle.std.specs.Prelude.{◌==◌, is_none, is_some, unwrap_or, All, Contains, count_by}
+use Rattle.std.proofs.Common.{◌≡◌, ℕ, ◌<◌, ◌≤◌, Bool, true, false, cond, List, [], ◌∷◌, map, length, get_or, Option, Some, None, Result, Ok, Err, refl, sym, ap, subst, ◌∙◌, arith, inl, inr}
+use Rattle.std.specs.Prelude.{◌==◌, nat_lt, sum_by, is_none, is_some, unwrap_or, All, Contains, count_by}
 use Rattle.std.specs.List.{list_any, position_or_len}
 use Rattle.std.specs.Str.{bytes_eq}
-use Rattle.std.proofs.lemmas.Bool.{eq-eqb, ne_eqb, cases_eq, or_parts, lt-ltb, true≢false, cases_lt}
+use Rattle.std.proofs.lemmas.Bool.{eq-eqb, ne_eqb, cases_eq, or_parts, lt-ltb, true≢false, cases_lt, ltb-false}
 use Rattle.std.proofs.lemmas.List.{length-map}
-use Rattle.std.proofs.lemmas.List.Elements.{All-nil, All-cons, All-map}
+use Rattle.std.proofs.lemmas.List.Elements.{All-nil, All-cons, All-map, All-weaker}
 use Rattle.std.proofs.lemmas.List.Sums.{sum_by-cons, fails_before_first}
 use Rattle.std.proofs.lemmas.Slice.Eq.{bytes_eq-Decides}
 use Rattle.drift_chain.specs.declared.part.DriftPart.{DriftPart}
 use Rattle.scenario_text.specs.declared.pair.Pair.{Pair}
 use Rattle.scenario_text.specs.Fields.{is_bad, is_over, number_in, cell_named}
-use Rattle.scenario_text.specs.ByCells.{stands_in, has_double, pairs_of, entries_of, total_of, pairs_fault}
+use Rattle.scenario_text.specs.ByCells.{stands_in, has_double, pairs_of, entries_of}
 use Rattle.exact_parts.specs.Decimal.{number_at}
-use Rattle.scenario_text.specs.Sound.{AreEntries, AreMoves}
+use Rattle.scenario_text.specs.Sound.{AreEntries, AreLooks, AreMoves}
+use Rattle.scenario_text.specs.KindTable.{part, pair_parts}
+use Rattle.scenario_text.proofs.EntryRows.{AreSaid, parts_any, any_unknown, twice, entries_alike, sum_said, any_said}
 use Rattle.scenario_text.proofs.Numbers.{number_at_within, least_met}
 use Rattle.scenario_text.proofs.Positions.{position_within}
 use Rattle.list_laws.proofs.Mapped.{list_any-map}
@@ -24,10 +26,6 @@ use Rattle.text_rows.proofs.Results.{err_ok}
 pub not_refused : {X E : Type 0} (b : Bool) (k : E) (r : Result X E) (t : X) → cond b (Err k) r ≡ Ok t → (b ≡ false) × (r ≡ Ok t)
 not_refused true k r t e = absurd (err_ok k t e)
 not_refused false k r t e = (refl, e)
-
-no_kind : {K : Type 0} (b : Bool) (k : K) (r : Option K) → cond b (Some k) r ≡ None → (b ≡ false) × (r ≡ None)
-no_kind true k r e = absurd (let bad : ⊥ = cc in bad)
-no_kind false k r e = (refl, e)
 
 -- a number within its limits
 pub in_limits : (most : ℕ) (field : List ℕ) → is_bad 1 (number_at most field) ≡ false → is_over (number_at most field) ≡ false →
@@ -123,17 +121,40 @@ pairs_once pairs found single d =
     let there = sum_by-map (λ m. cond (m == d) 1 0) (λ m. unwrap_or m 0) cells ∙ sum_by-map (λ (m : Option ℕ). cond (unwrap_or m 0 == d) 1 0) (λ (x : Pair). x.cell) pairs in
     omega (arith, all, here, there)
 
--- the entries of pairs that have no fault among themselves
-pub AreEntries-from_pairs : (names fields : List (List ℕ)) (denominator : ℕ) → pairs_fault (pairs_of names fields) ≡ None → total_of (pairs_of names fields) ≡ denominator → AreEntries (length names) denominator (entries_of (pairs_of names fields))
-AreEntries-from_pairs names fields denominator faultless total =
-    let pairs = pairs_of names fields in
-    let good = no_kind (list_any (λ x. is_bad 1 x.part) pairs) _ _ faultless in
-    let small = no_kind (list_any (λ x. is_over x.part) pairs) _ _ good.1 in
-    let found = no_kind (list_any (λ x. is_none x.cell) pairs) _ _ small.1 in
-    let single = no_kind (has_double (map (λ x. x.cell) pairs)) _ _ found.1 in
-    record {
-      within = All-map (λ e. e.cell < length names) _ pairs (pairs_within names fields found.0);
-      positive = All-map (λ e. 1 ≤ e.part) _ pairs (pairs_positive pairs good.0 small.0);
-      once = pairs_once pairs found.0 single.0;
-      total = total;
-    }
+-- the entries of fields that have no fault among their numbers and names
+module _ (names fields : List (List ℕ)) (es : List DriftPart) where
+  said_within : (least : ℕ) → AreSaid names least fields es → All (λ e. e.cell < length names) es
+  said_within least h =
+      let found = any_unknown names fields ∙ h.known in
+      let all : All (λ e. e.cell < length names) (entries_of (pairs_of names fields)) = All-map (λ e. e.cell < length names) _ (pairs_of names fields) (pairs_within names fields found) in
+      subst (λ (xs : List DriftPart). All (λ e. e.cell < length names) xs) (entries_alike names fields ∙ h.entries) all
+
+  said_once : (least : ℕ) → AreSaid names least fields es → (d : ℕ) → count_by (λ e. e.cell == d) es ≤ 1
+  said_once least h d =
+      let found = any_unknown names fields ∙ h.known in
+      let single = twice names fields h.known ∙ h.once in
+      subst (λ (xs : List DriftPart). count_by (λ e. e.cell == d) xs ≤ 1) (entries_alike names fields ∙ h.entries) (pairs_once (pairs_of names fields) found single d)
+
+  said_positive : AreSaid names 1 fields es → All (λ e. 1 ≤ e.part) es
+  said_positive h =
+      let good = parts_any names is_bad 1 fields ∙ h.bad in
+      let small = parts_any names (λ l x. is_over x) 1 fields ∙ h.over in
+      let all : All (λ e. 1 ≤ e.part) (entries_of (pairs_of names fields)) = All-map (λ e. 1 ≤ e.part) _ (pairs_of names fields) (pairs_positive (pairs_of names fields) good small) in
+      subst (λ (xs : List DriftPart). All (λ e. 1 ≤ e.part) xs) (entries_alike names fields ∙ h.entries) all
+
+  pub AreEntries-said : (denominator : ℕ) → AreSaid names 1 fields es → sum_by part (pair_parts fields) ≡ denominator → AreEntries (length names) denominator es
+  AreEntries-said denominator h total = record {
+    within = said_within 1 h;
+    positive = said_positive h;
+    once = said_once 1 h;
+    total = ap (λ (xs : List DriftPart). sum_by (λ e. e.part) xs) (sym h.entries) ∙ sym (sum_said names fields) ∙ total;
+  }
+
+  pub AreLooks-said : (denominator : ℕ) → AreSaid names 0 fields es → list_any (λ f. nat_lt denominator (part f)) (pair_parts fields) ≡ false → AreLooks (length names) denominator es
+  AreLooks-said denominator h none =
+      let above : list_any (λ e. nat_lt denominator e.part) es ≡ false = ap (λ (xs : List DriftPart). list_any (λ e. nat_lt denominator e.part) xs) (sym h.entries) ∙ sym (any_said names (nat_lt denominator) fields) ∙ none in
+      record {
+        within = said_within 0 h;
+        parts = All-weaker (λ e. nat_lt denominator e.part ≡ false) (λ e. e.part ≤ denominator) (λ e fails. ltb-false denominator e.part fails) es (none_pass (λ e. nat_lt denominator e.part) es above);
+        once = said_once 0 h;
+      }

@@ -13,17 +13,18 @@ use Rattle.scenario_text.specs.Fields.{says_nothing}
 use Rattle.scenario_text.specs.State.{State, blank_state}
 use Rattle.scenario_text.specs.Reading.{line_at}
 use Rattle.scenario_text.specs.declared.line.Line.{Line}
-use Rattle.scenario_text.specs.declared.line.Line.TheVariants.{Scenario, Horizon, Parts, Cell, Grid, Start, First, Moves, Drift, Overlook, Spread, Rate, End}
+use Rattle.scenario_text.specs.declared.line.Line.TheVariants.{Scenario, Horizon, Parts, Cell, Position, Grid, Start, First, Moves, Drift, DriftIn, Overlook, Spread, Rate, Look, LookIn, End}
 use Rattle.scenario_text.specs.declared.kind.TextKind.{TextKind}
 use Rattle.scenario_text.specs.KindTable.{line_due, line_of, tests, tests_of}
 use Rattle.scenario_text.specs.Grammar.{added, unless_any, row_at, fields_at}
-use Rattle.scenario_text.proofs.Due.{IsPlace, place_due}
-use Rattle.scenario_text.specs.Sound.{AreEntries, AreMoves, IsPart, IsSound}
+use Rattle.scenario_text.proofs.Due.{place_due}
+use Rattle.scenario_text.specs.Order.{IsPlace}
+use Rattle.scenario_text.specs.Sound.{AreEntries, AreLooks, AreMoves, IsPart, IsLook, IsSound}
 use Rattle.scenario_text.specs.Faults.{AreTaken}
 use Rattle.scenario_text.specs.InRows.{IsReached}
 use Rattle.scenario_text.proofs.SoundFields.{not_refused}
-use Rattle.scenario_text.proofs.SoundHeads.{sound_ok, version_sound, horizon_sound, parts_sound, cell_sound, grid_sound, start_sound, first_sound}
-use Rattle.scenario_text.proofs.SoundLines.{moves_sound, drift_sound, overlook_sound, spread_sound, rate_sound, end_sound}
+use Rattle.scenario_text.proofs.SoundHeads.{sound_ok, version_sound, horizon_sound, parts_sound, none_period, cell_sound, position_sound, grid_sound, start_sound, first_sound}
+use Rattle.scenario_text.proofs.SoundLines.{moves_sound, drift_sound, drift_in_sound, overlook_sound, spread_sound, rate_sound, look_sound, look_in_sound, end_sound}
 
 -- what no line has given
 pub blank_sound : IsSound blank_state
@@ -32,6 +33,15 @@ blank_sound = record {
   few = omega arith;
   names = All-nil IsName;
   differ = λ c again. let lt = again.0 in absurd (omega arith);
+  positions = record {
+    few = omega arith;
+    names = All-nil IsName;
+    differ = λ q again. let lt = again.0 in absurd (omega arith);
+    looks_length = refl;
+    covered = All-nil (IsLook 0 0);
+    empty = λ le. refl;
+    cells_alone = λ one. refl;
+  };
   moves_length = refl;
   parts_length = refl;
   overlook_length = refl;
@@ -43,34 +53,40 @@ blank_sound = record {
   own = λ is c lt. absurd (omega arith);
   parts = All-nil (λ row. (length row ≡ 0) ⊎ AreEntries 0 0 row);
   overlook = All-nil (IsPart 0);
+  changes = record { early = λ le. (refl, refl); every_period = λ one. (refl, refl); drifts = none_period 0 0 (AreEntries 0 0); looks = none_period 0 0 (AreLooks 0 0) };
+  plain = refl;
   whole = λ e. absurd (let bad : ⊥ = cc in bad);
   fits = λ e. absurd (let bad : ⊥ = cc in bad);
 }
 
 -- the row of each line
-row_sound : (line : Line) (s : State) (fields : List (List ℕ)) (t : State) → IsPlace line s.stage → IsSound s → All (λ f. 1 ≤ length f) fields → row_at line s fields ≡ Ok t → IsSound t
+row_sound : (line : Line) (s : State) (fields : List (List ℕ)) (t : State) → IsPlace line s.version s.stage → IsSound s → All (λ f. 1 ≤ length f) fields → row_at line s fields ≡ Ok t → IsSound t
 row_sound Scenario s fields t at h some e = version_sound s fields t at h e
 row_sound Horizon s fields t at h some e = horizon_sound s fields t at h e
 row_sound Parts s fields t at h some e = parts_sound s fields t at h e
 row_sound Cell s fields t at h some e = cell_sound s fields t at h some e
+row_sound Position s fields t at h some e = position_sound s fields t at h some e
 row_sound Grid s fields t at h some e = grid_sound s fields t at h e
 row_sound Start s fields t at h some e = start_sound s fields t at h e
 row_sound First s fields t at h some e = first_sound s fields t at h e
 row_sound Moves s fields t at h some e = moves_sound s fields t at h e
 row_sound Drift s fields t at h some e = drift_sound s fields t at h e
+row_sound DriftIn s fields t at h some e = drift_in_sound s fields t at h e
 row_sound Overlook s fields t at h some e = overlook_sound s fields t at h e
 row_sound Spread s fields t at h some e = spread_sound s fields t at h e
 row_sound Rate s fields t at h some e = rate_sound s fields t at h e
+row_sound Look s fields t at h some e = look_sound s fields t at.1 h e
+row_sound LookIn s fields t at h some e = look_in_sound s fields t at h e
 row_sound End s fields t at h some e = end_sound s fields t at h e
 
 -- of the line that is due
-due_sound : (o : Option Line) (s : State) (word : List ℕ) (fields : List (List ℕ)) (t : State) → line_due s.stage (nat_lt 0 (length s.names)) word ≡ o → IsSound s → All (λ f. 1 ≤ length f) fields → unless_any (tests s o fields) (added o s fields) ≡ Ok t → IsSound t
+due_sound : (o : Option Line) (s : State) (word : List ℕ) (fields : List (List ℕ)) (t : State) → line_due s.version s.stage (nat_lt 0 (length s.names)) word ≡ o → IsSound s → All (λ f. 1 ≤ length f) fields → unless_any (tests s o fields) (added o s fields) ≡ Ok t → IsSound t
 due_sound None s word fields t is h some e = absurd (err_ok BadLine t e)
-due_sound (Some line) s word fields t is h some e = row_sound line s fields t (place_due s.stage (nat_lt 0 (length s.names)) word line is) h some e
+due_sound (Some line) s word fields t is h some e = row_sound line s fields t (place_due s.version s.stage (nat_lt 0 (length s.names)) word line is) h some e
 
 fields_sound : (s : State) (fields : List (List ℕ)) (t : State) → IsSound s → All (λ f. 1 ≤ length f) fields → fields_at s fields ≡ Ok t → IsSound t
 fields_sound s [] t h some e = absurd (err_ok BadLine t e)
-fields_sound s (word ∷ fields) t h some e = due_sound (line_due s.stage (nat_lt 0 (length s.names)) word) s word fields t refl h (All-tail (λ f. 1 ≤ length f) word fields some) e
+fields_sound s (word ∷ fields) t h some e = due_sound (line_due s.version s.stage (nat_lt 0 (length s.names)) word) s word fields t refl h (All-tail (λ f. 1 ≤ length f) word fields some) e
 
 pub line_sound : (s t : State) (line : List ℕ) → IsSound s → line_at s line ≡ Ok t → IsSound t
 unfolding line_at

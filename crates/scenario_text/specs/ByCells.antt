@@ -1,10 +1,10 @@
 -- The code's words for names that were looked up: cells, and pairs of a cell with its part.
-use Rattle.std.specs.Prelude.{ℕ, Bool, false, ◌&&◌, ◌||◌, [], ◌∷◌, sum_by, is_some, ◌==◌, if◌then◌else◌, List, map, Option, Some, None, is_none, unwrap_or}
+use Rattle.std.specs.Prelude.{ℕ, Bool, false, ◌&&◌, ◌||◌, [], ◌∷◌, is_some, ◌==◌, if◌then◌else◌, List, map, Option, Some, None, Result, Ok, Err, unwrap_or}
 use Rattle.std.specs.List.{list_any}
 use Rattle.scenario_text.specs.declared.kind.TextKind.{TextKind}
 use Rattle.scenario_text.specs.declared.kind.TextKind.TheVariants.{BadNumber, OverLimit, UnknownName, DoubleName}
 use Rattle.scenario_text.specs.declared.pair.Pair.{Pair}
-use Rattle.scenario_text.specs.Fields.{is_bad, is_over, number_in, cell_named}
+use Rattle.scenario_text.specs.Fields.{number_in, cell_named}
 use Rattle.exact_parts.specs.Decimal.{number_at}
 use Rattle.drift_chain.specs.declared.part.DriftPart.{DriftPart}
 
@@ -28,20 +28,16 @@ pairs_of names (name ∷ part ∷ fields) = record { cell = cell_named names nam
 abbrev pub entries_of : List Pair → List DriftPart
 entries_of pairs = map (λ x. record { cell = unwrap_or x.cell 0; part = number_in x.part }) pairs
 
--- what the parts sum to
-abbrev pub total_of : List Pair → ℕ
-total_of pairs = sum_by (λ e. e.part) (entries_of pairs)
+-- nothing, or the first kind of fault among the numbers and the names of pairs
+abbrev pub right_pairs : Bool → Bool → Bool → Bool → Result (Unit {0}) TextKind
+right_pairs bad over unknown double =
+    if bad then Err BadNumber else (if over then Err OverLimit else (if unknown then Err UnknownName else (if double then Err DoubleName else Ok tt)))
 
--- the first kind of fault that pairs have among themselves
-abbrev pub pairs_fault : List Pair → Option TextKind
-pairs_fault pairs =
-    if list_any (λ x. is_bad 1 x.part) pairs then Some BadNumber else
-    (if list_any (λ x. is_over x.part) pairs then Some OverLimit else
-    (if list_any (λ x. is_none x.cell) pairs then Some UnknownName else
-    (if has_double (map (λ x. x.cell) pairs) then Some DoubleName else None)))
+-- the cell or the position of a row, where neither a number nor a name of its line has a fault
+abbrev pub known_owner : Option ℕ → Bool → Bool → Result ℕ TextKind
+known_owner None unknown double = Err UnknownName
+known_owner (Some own) unknown double = if unknown then Err UnknownName else (if double then Err DoubleName else Ok own)
 
--- the fault of a row whose own cell is unknown: numbers go before names
-abbrev pub unknown_after : Option TextKind → TextKind
-unknown_after (Some BadNumber) = BadNumber
-unknown_after (Some OverLimit) = OverLimit
-unknown_after _ = UnknownName
+-- or the first kind of fault among them
+abbrev pub owner_of : Bool → Bool → Option ℕ → Bool → Bool → Result ℕ TextKind
+owner_of bad over own unknown double = if bad then Err BadNumber else (if over then Err OverLimit else known_owner own unknown double)

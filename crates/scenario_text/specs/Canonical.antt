@@ -9,6 +9,7 @@ use Rattle.search_grid.specs.Moves.{moves_from}
 use Rattle.sweep_table.specs.LookParts.{factor_of}
 use Rattle.search_model.specs.Problem.{Problem, first_of, position_name}
 use Rattle.scenario_text.specs.declared.draft.Stage.TheVariants.{Ended}
+use Rattle.scenario_text.specs.declared.draft.TextVersion.TheVariants.{One}
 use Rattle.scenario_text.specs.State.{State}
 use Rattle.scenario_text.specs.Reading.{Front}
 use Rattle.scenario_text.specs.RowFields.{entry_fields, cell_row, moves_of, drift_of, overlook_of}
@@ -57,17 +58,22 @@ canonical_text p = text_of (scenario_rows p)
 abbrev pub state_of_problem : Problem → State
 state_of_problem p = record {
   stage = Ended;
+  version = One;
   horizon = p.horizon;
   total = p.total;
   drift = p.drift.denominator;
   look = p.sweep.denominator;
   names = p.names;
+  positions = [];
   gridded = false;
   start = p.start;
   first = first_entries p;
   moves = p.moves;
   parts = map (row_of p.drift 1) (range_with_len 0 p.cells);
   overlook = map (λ c. Some (factor_of p.sweep 1 c c)) (range_with_len 0 p.positions);
+  looks = [];
+  drift_rows = [];
+  look_rows = [];
 }
 
 -- its lines up to the last one

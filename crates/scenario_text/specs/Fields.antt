@@ -30,15 +30,19 @@ number_in NotPlain = 0
 number_in Above = 0
 number_in (Of n) = n
 
--- Cells and pairs of a name with its part.
+-- Names, and pairs of a name with its part.
 
--- the number of the cell with this name
+-- the number of the cell, or of the position, with this name: its place among the names
 abbrev pub cell_named : List (List ℕ) → List ℕ → Option ℕ
 cell_named names name = position (bytes_eq name) names
 
+-- pairs alone
+abbrev pub are_even : List (List ℕ) → Bool
+are_even fields = length fields % 2 == 0
+
 -- one pair or more
 abbrev pub are_pairs : List (List ℕ) → Bool
-are_pairs fields = nat_le 2 (length fields) && length fields % 2 == 0
+are_pairs fields = nat_le 2 (length fields) && are_even fields
 
 -- the entries of `NAME PART NAME PART ..`
 unfoldable pub entries_in : List (List ℕ) → List (List ℕ) → List DriftPart

@@ -3,16 +3,16 @@ use Rattle.std.specs.Prelude.{◌≡◌, ℕ, true, false, List, Option, Some, N
 use Rattle.scenario_text.specs.declared.draft.Draft.{Draft}
 use Rattle.scenario_text.specs.declared.kind.TextKind.{TextKind}
 use Rattle.scenario_text.specs.declared.kind.TextFault.{TextFault}
-use Rattle.scenario_text.specs.declared.pair.Pair.{Pair}
-use Rattle.scenario_text.specs.declared.pairs.Pairs.{Pairs}
+use Rattle.scenario_text.specs.declared.pairs.Scan.{Scan}
 use Rattle.scenario_text.specs.declared.reading.DraftFront.{DraftFront}
 use Rattle.scenario_text.specs.declared.stop.LineStop.{LineStop}
 use Rattle.scenario_text.specs.declared.stop.LineStop.TheVariants as line_stops
 use Rattle.scenario_text.specs.declared.stop.TextStop.{TextStop}
 use Rattle.scenario_text.specs.declared.stop.TextStop.TheVariants as text_stops
 use Rattle.text_rows.specs.Lines.{after_lines}
-use Rattle.scenario_text.specs.Fields.{are_pairs}
-use Rattle.scenario_text.specs.ByCells.{pairs_of, pairs_fault, entries_of}
+use Rattle.scenario_text.specs.Fields.{are_even, are_pairs}
+use Rattle.scenario_text.specs.ByCells.{pairs_of}
+use Rattle.scenario_text.specs.Scanning.{HasSeen}
 use Rattle.scenario_text.specs.Reading.{front_of}
 use Rattle.scenario_text.specs.State.{State, state_of}
 use Rattle.scenario_text.specs.Sound.{IsSound}
@@ -23,15 +23,15 @@ TakesLine new (Ok _) read = read ≡ Ok (state_of new)
 TakesLine new (Err (line_stops.Fault kind)) read = read ≡ Err kind
 TakesLine new (Err line_stops.NoMemory) read = Unit {0}
 
--- the first fault of pairs, and their entries where they have none
-pub record AreScanned (list : List Pair) (pairs : Pairs) : Type 0 where
-  pub fault : pairs.fault ≡ pairs_fault list
-  pub entries : pairs_fault list ≡ None → pairs.entries.items ≡ entries_of list
-
 -- the pairs that these fields are, where they are pairs
-abbrev pub Scans : List (List ℕ) → List (List ℕ) → Option Pairs → Type 0
-Scans names fields None = are_pairs fields ≡ false
-Scans names fields (Some pairs) = (are_pairs fields ≡ true) × AreScanned (pairs_of names fields) pairs
+abbrev pub Scans : List (List ℕ) → ℕ → List (List ℕ) → Option Scan → Type 0
+Scans names least fields None = are_even fields ≡ false
+Scans names least fields (Some pairs) = (are_even fields ≡ true) × HasSeen least (pairs_of names fields) pairs
+
+-- where they are one pair or more
+abbrev pub ScansSome : List (List ℕ) → List (List ℕ) → Option Scan → Type 0
+ScansSome names fields None = are_pairs fields ≡ false
+ScansSome names fields (Some pairs) = (are_pairs fields ≡ true) × HasSeen 1 (pairs_of names fields) pairs
 
 -- the text was read up to its line `end`, or has that fault, unless memory ran out
 abbrev pub ReadsDraft : List ℕ → Result DraftFront TextStop → Type 0

@@ -1,23 +1,37 @@
 -- What a line without a fault adds to what was read.
-use Rattle.std.specs.Prelude.{ℕ, ◌*◌, Bool, true, if◌then◌else◌, List, [], ◌∷◌, ◌++◌, map, length, set, replicate, Option, Some, None, unwrap_or, Result, Ok, Err}
+use Rattle.std.specs.Prelude.{ℕ, ◌*◌, ◌-◌, Bool, true, if◌then◌else◌, List, [], ◌∷◌, ◌++◌, map, length, set, replicate, Option, Some, None, unwrap_or, Result, Ok, Err}
 use Rattle.search_grid.specs.Sides.{side_moves}
 use Rattle.search_model.specs.Grids.{grid_names, spread_rows}
 use Rattle.scenario_text.specs.declared.draft.Stage.TheVariants as due
 use Rattle.scenario_text.specs.declared.kind.TextKind.{TextKind}
 use Rattle.text_rows.specs.Fields.{behind_first}
 use Rattle.scenario_text.specs.Fields.{cell_named, entries_in}
-use Rattle.scenario_text.specs.State.{State}
+use Rattle.scenario_text.specs.State.{State, by_version, positions_in}
 use Rattle.scenario_text.specs.declared.line.Line.{Line}
-use Rattle.scenario_text.specs.declared.line.Line.TheVariants.{Scenario, Horizon, Parts, Cell, Grid, Start, First, Moves, Drift, Overlook, Spread, Rate, End}
-use Rattle.scenario_text.specs.KindTable.{value, tests, line_of}
+use Rattle.scenario_text.specs.declared.line.Line.TheVariants.{Scenario, Horizon, Parts, Cell, Position, Grid, Start, First, Moves, Drift, DriftIn, Overlook, Spread, Rate, Look, LookIn, End}
+use Rattle.scenario_text.specs.KindTable.{value, part, tests, line_of}
 
 -- the number of the cell that a name names
 abbrev pub cell_of : State → List ℕ → ℕ
 cell_of s name = unwrap_or (cell_named s.names name) 0
 
--- a cell more, that has no rows yet
+-- and of the position
+abbrev pub position_of : State → List ℕ → ℕ
+position_of s name = unwrap_or (cell_named (positions_in s) name) 0
+
+-- a cell more, that has no rows yet: in version 1 it is a position, too
 abbrev pub with_name : State → List ℕ → State
-with_name s name = record s { names = s.names ++ name ∷ []; moves = s.moves ++ [] ∷ []; parts = s.parts ++ [] ∷ []; overlook = s.overlook ++ None ∷ [] }
+with_name s name =
+    record s {
+      names = s.names ++ name ∷ [];
+      moves = by_version s.version (s.moves ++ [] ∷ []) s.moves;
+      parts = s.parts ++ [] ∷ [];
+      overlook = by_version s.version (s.overlook ++ None ∷ []) s.overlook;
+    }
+
+-- a position more, that has no rows yet
+abbrev pub with_position : State → List ℕ → State
+with_position s name = record s { stage = due.Positions; positions = s.positions ++ name ∷ []; moves = s.moves ++ [] ∷ []; looks = s.looks ++ None ∷ [] }
 
 -- all cells of a grid, with their moves
 abbrev pub with_cells : State → ℕ → ℕ → State
@@ -34,17 +48,21 @@ with_cells s rows cols =
 -- what each line adds, by the fields behind its keyword
 abbrev pub adds : Line → State → List (List ℕ) → State
 adds Scenario s fields = record s { stage = due.Horizon }
-adds Horizon s (t ∷ []) = record s { stage = due.Parts; horizon = value Horizon t }
-adds Parts s (a ∷ d ∷ g ∷ []) = record s { stage = due.Cells; total = value Parts a; drift = value Parts d; look = value Parts g }
+adds Horizon s (t ∷ []) = record s { stage = due.Parts; horizon = value 32 t }
+adds Parts s (a ∷ d ∷ g ∷ []) = record s { stage = due.Cells; total = part a; drift = part d; look = part g }
 adds Cell s (name ∷ []) = with_name s name
-adds Grid s (rows ∷ cols ∷ []) = with_cells s (value Grid rows) (value Grid cols)
-adds Start s (name ∷ []) = record s { stage = due.First; start = cell_of s name }
+adds Position s (name ∷ []) = with_position s name
+adds Grid s (rows ∷ cols ∷ []) = with_cells s (value 200 rows) (value 200 cols)
+adds Start s (name ∷ []) = record s { stage = due.First; start = position_of s name }
 adds First s fields = record s { stage = due.Rows; first = entries_in s.names fields }
-adds Moves s (name ∷ moves) = record s { moves = set s.moves (cell_of s name) (map (cell_of s) moves) }
+adds Moves s (name ∷ moves) = record s { moves = set s.moves (position_of s name) (map (position_of s) moves) }
 adds Drift s (name ∷ fields) = record s { parts = set s.parts (cell_of s name) (entries_in s.names fields) }
-adds Overlook s (name ∷ part ∷ []) = record s { overlook = set s.overlook (cell_of s name) (Some (value Overlook part)) }
-adds Spread s (part ∷ []) = record s { parts = spread_rows s.drift (value Spread part) s.moves }
-adds Rate s (part ∷ []) = record s { overlook = replicate (length s.names) (Some (value Rate part)) }
+adds DriftIn s (t ∷ name ∷ fields) = record s { drift_rows = s.drift_rows ++ record { period = value (s.horizon - 1) t; own = cell_of s name; row = entries_in s.names fields } ∷ [] }
+adds Overlook s (name ∷ n ∷ []) = record s { overlook = set s.overlook (cell_of s name) (Some (part n)) }
+adds Spread s (n ∷ []) = record s { parts = spread_rows s.drift (part n) s.moves }
+adds Rate s (n ∷ []) = record s { overlook = replicate (length s.names) (Some (part n)) }
+adds Look s (name ∷ fields) = record s { looks = set s.looks (position_of s name) (Some (entries_in s.names fields)) }
+adds LookIn s (t ∷ name ∷ fields) = record s { look_rows = s.look_rows ++ record { period = value s.horizon t; own = position_of s name; row = entries_in s.names fields } ∷ [] }
 adds End s fields = record s { stage = due.Ended }
 adds _ s fields = s
 

@@ -5,8 +5,10 @@ pub mod KindTable
 pub mod Grammar
 pub mod Reading
 pub mod Worked
+pub mod WorkedTwo
 pub mod ByCells
 pub mod Sound
+pub mod Order
 pub mod Faults
 pub mod InRows
 pub mod ReadingLaws
@@ -14,6 +16,7 @@ pub mod Scenarios
 pub mod Gives
 pub mod Scanning
 pub mod RowFields
+pub mod StateRows
 pub mod Canonical
 pub mod Laws
 pub mod Printing

@@ -2,6 +2,7 @@
 use Rattle.std.specs.Prelude.{ℕ, ◌≡◌, ◌+◌, true, false, List, [], ◌∷◌, ◌++◌, take, Some, Result, Ok, Err, codes}
 use Rattle.drift_chain.specs.declared.part.DriftPart.{DriftPart}
 use Rattle.scenario_text.specs.declared.draft.Stage.TheVariants.{Ended}
+use Rattle.scenario_text.specs.declared.draft.TextVersion.TheVariants.{One}
 use Rattle.scenario_text.specs.declared.kind.TextKind.{TextKind}
 use Rattle.scenario_text.specs.declared.kind.TextKind.TheVariants.{NotText, BadLine, BadNumber, OverLimit, UnknownName, DoubleName, MissingRow, DoubleRow, WrongSum, PartOver, NoMove, TooWide, EarlyEnd}
 use Rattle.scenario_text.specs.declared.kind.TextFault.{TextFault}
@@ -37,17 +38,22 @@ by_rows =
 abbrev pub rows_say : State
 rows_say = record {
   stage = Ended;
+  version = One;
   horizon = 2;
   total = 3;
   drift = 2;
   look = 4;
   names = codes "a" ∷ codes "b" ∷ [];
+  positions = [];
   gridded = false;
   start = 1;
   first = entry 0 1 ∷ entry 1 2 ∷ [];
   moves = (0 ∷ 1 ∷ []) ∷ (0 ∷ []) ∷ [];
   parts = (entry 1 2 ∷ []) ∷ (entry 0 1 ∷ entry 1 1 ∷ []) ∷ [];
   overlook = Some 0 ∷ Some 4 ∷ [];
+  looks = [];
+  drift_rows = [];
+  look_rows = [];
 }
 
 -- a grid of one row, and what is said of all its cells at once
@@ -68,17 +74,22 @@ by_grid =
 abbrev pub grid_says : State
 grid_says = record {
   stage = Ended;
+  version = One;
   horizon = 1;
   total = 1;
   drift = 4;
   look = 5;
   names = codes "r0c0" ∷ codes "r0c1" ∷ [];
+  positions = [];
   gridded = true;
   start = 1;
   first = entry 0 1 ∷ [];
   moves = (0 ∷ 1 ∷ []) ∷ (0 ∷ 1 ∷ []) ∷ [];
   parts = (entry 0 3 ∷ entry 1 1 ∷ []) ∷ (entry 0 1 ∷ entry 1 3 ∷ []) ∷ [];
   overlook = Some 3 ∷ Some 3 ∷ [];
+  looks = [];
+  drift_rows = [];
+  look_rows = [];
 }
 
 -- the widest numbers

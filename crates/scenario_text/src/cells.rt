@@ -1,4 +1,4 @@
-//! The cells that the names of a line stand for.
+//! The cells, or the positions, that the names of a line stand for.
 
 ghost use Rattle.std.specs.Prelude.{◌≡◌, ◌≤◌, ◌==◌, ◌&&◌, map, length, is_none, is_some, unwrap_or, IfOk};
 ghost use Rattle.std.specs.List.{list_any};

@@ -1,32 +1,56 @@
 use drift_chain::DriftPart;
 use indexmap::IndexSet;
 
+/// The version of a text.
+#[derive(Clone, Copy, Debug, PartialEq, Eq)]
+pub enum TextVersion {
+    /// The positions of the searcher are the cells.
+    One,
+    /// Positions have names of their own, a look may cover several cells, and rows may be of one period.
+    Two,
+}
+
 /// The line that is due.
 #[derive(Clone, Copy, Debug, PartialEq, Eq)]
 pub enum Stage {
     Version,
     Horizon,
     Parts,
-    /// A cell, the grid before any cell, or the start behind a cell.
+    /// A cell; or, in version 1, the grid before any cell, or the start behind a cell; or, in version 2, a position
+    /// behind a cell.
     Cells,
+    /// A position more, or the start.
+    Positions,
     /// The start behind a grid.
     Start,
     First,
-    /// A row of a cell, a shorthand, or the end.
+    /// A row, a shorthand, or the end.
     Rows,
     Ended,
 }
 
-/// What was read so far. A cell's number is its name's place in the set. The last three lists have an element a cell; one
-/// that has no row of moves or of parts yet has an empty one, which no line gives.
+/// A row of a cell's drift, or of a position's look, that is in force in one period alone.
+#[derive(Drop)]
+pub struct RowIn {
+    pub period: u32,
+    pub own: u8,
+    pub row: Vec<DriftPart>,
+}
+
+/// What was read so far. The number of a cell, or of a position, is its name's place in its set. `moves` has an element
+/// a position, `parts` and, in version 1, `overlook` one a cell, and, in version 2, `looks` one a position; one that has
+/// no row of moves or of parts yet has an empty one, which no line gives.
 #[derive(Drop)]
 pub struct Draft {
     pub stage: Stage,
+    pub version: TextVersion,
     pub horizon: u32,
     pub total: u32,
     pub drift: u32,
     pub look: u32,
     pub names: IndexSet<Vec<u8>>,
+    /// The names of the positions in version 2. In version 1 there are none: the positions are the cells.
+    pub positions: IndexSet<Vec<u8>>,
     /// Whether the cells are those of a line `grid`.
     pub gridded: bool,
     pub start: u8,
@@ -34,4 +58,7 @@ pub struct Draft {
     pub moves: Vec<Vec<u8>>,
     pub parts: Vec<Vec<DriftPart>>,
     pub overlook: Vec<Option<u32>>,
+    pub looks: Vec<Option<Vec<DriftPart>>>,
+    pub drift_rows: Vec<RowIn>,
+    pub look_rows: Vec<RowIn>,
 }

@@ -2,6 +2,7 @@
 
 ghost use Rattle.scenario_text.specs.Laws.{OneProblem, EveryTextSpellsOne, CanonicalSays, CanonicalReadsBack, CanonicalFrontReadsBack, FrontIgnoresRest};
 ghost use Rattle.scenario_text.specs.Worked.{WorkedTexts};
+ghost use Rattle.scenario_text.specs.WorkedTwo.{WorkedTwo};
 ghost use Rattle.scenario_text.specs.InRows.{GridInRows, GridReadsOn, RateInRows, SpreadInRows};
 ghost use Rattle.scenario_text.specs.ReadingLaws.{SilentLinesAddNothing, KindsInOrder, FirstFaultDecides, FirstFaultDecidesAlone};
 
@@ -56,6 +57,11 @@ pub fn kinds_in_order()
 /// Two texts with what they say, and a fault of each kind, worked by hand.
 pub fn worked_texts()
     ensures { WorkedTexts }
+{}
+
+/// Lines of version 2, behind that of the version, with what they say, and faults of each kind, worked by hand.
+pub fn worked_lines_of_version_2()
+    ensures { WorkedTwo }
 {}
 
 /// The line `rate` says what an `overlook` line for each cell says.

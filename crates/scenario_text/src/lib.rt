@@ -12,6 +12,7 @@ mod line;
 mod number_field;
 mod pair;
 mod pairs;
+mod period_rows;
 mod pieces;
 mod printing;
 mod reading;
@@ -29,7 +30,7 @@ pub use laws::{
     canonical_front_reads_back, canonical_text_reads_back, canonical_text_says,
     every_text_spells_one, first_fault_decides, first_fault_decides_alone, front_ignores_rest,
     grid_in_rows, grid_reads_on, kinds_in_order, one_problem_a_text, rate_in_rows,
-    silent_lines_add_nothing, spread_in_rows, worked_texts,
+    silent_lines_add_nothing, spread_in_rows, worked_lines_of_version_2, worked_texts,
 };
 pub use printing::print_scenario;
 pub use scenarios::{read_scenario, read_scenario_alone};

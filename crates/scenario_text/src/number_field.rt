@@ -1,6 +1,6 @@
 //! Fields in the place of a number.
 
-ghost use Rattle.std.specs.Prelude.{◌≡◌, ◌≤◌};
+ghost use Rattle.std.specs.Prelude.{◌≡◌, ◌≤◌, ◌<◌};
 ghost use Rattle.scenario_text.specs.Fields.{is_bad as is_bad_lem, is_over as is_over_lem, number_in as number_in_lem};
 ghost use Rattle.exact_parts.specs.Decimal.{number_at as number_at_lem};
 
@@ -38,7 +38,7 @@ pub fn is_over(number: Number) -> bool
 
 /// The number, or 0 where there is none.
 pub fn number_in(number: Number) -> u32
-    requires { number_in_lem number ≤ 1000000 }
+    requires { number_in_lem number < 4294967296 }
     ensures { result ≡ number_in_lem number }
 {
     match number {

@@ -7,8 +7,8 @@ ghost use Rattle.drift_chain.specs.declared.part.DriftPart.{DriftPart};
 ghost use Rattle.text_rows.specs.Fields.{fields_of as fields_lem};
 ghost use Rattle.scenario_text.specs.declared.pair.Pair.{Pair};
 ghost use Rattle.scenario_text.specs.Fields.{number_in as number_in_lem};
-ghost use Rattle.scenario_text.specs.ByCells.{pairs_fault};
-ghost use Rattle.scenario_text.specs.Gives.{Scans};
+ghost use Rattle.scenario_text.specs.ByCells.{owner_of, right_pairs};
+ghost use Rattle.scenario_text.specs.Gives.{Scans, ScansSome};
 ghost use Rattle.scenario_text.specs.Scanning.{HasSeen, IsAdded, IsMarked};
 
 use crate::cell_names::cell_named;
@@ -20,21 +20,18 @@ use indexmap::IndexSet;
 use std::alloc::{AllocError, Global};
 use text_rows::{cut_field, skip_blanks};
 
-/// What the pairs of a line come to: their first kind of fault, or else their entries.
+/// What was seen of the pairs of a line. No entry is added once one of the four holds.
 #[derive(Drop)]
-pub struct Pairs {
-    pub fault: Option<TextKind>,
+pub struct Scan {
+    /// A number is no plain decimal, or below the least.
+    pub bad: bool,
+    /// A number is above its limit.
+    pub over: bool,
+    /// A name isn't a cell's.
+    pub unknown: bool,
+    /// A cell stands twice; told where nothing else is wrong.
+    pub double: bool,
     pub entries: Vec<DriftPart>,
-}
-
-// What was seen of the pairs so far. No entry is added once one of the four holds.
-#[derive(Drop)]
-struct Scan {
-    bad: bool,
-    over: bool,
-    unknown: bool,
-    double: bool,
-    entries: Vec<DriftPart>,
 }
 
 fn has_entry(entries: &[DriftPart], cell: u8) -> bool
@@ -44,10 +41,10 @@ fn has_entry(entries: &[DriftPart], cell: u8) -> bool
 }
 
 // Marks what is wrong with a pair by itself.
-fn mark_pair(scan: &mut Scan, pair: Pair)
-    ensures { IsMarked scan.old pair scan.new }
+fn mark_pair(scan: &mut Scan, pair: Pair, least: u128)
+    ensures { IsMarked least scan.old pair scan.new }
 {
-    scan.bad |= is_bad(pair.part, 1);
+    scan.bad |= is_bad(pair.part, least);
     scan.over |= is_over(pair.part);
     scan.unknown |= pair.cell.is_none();
 }
@@ -71,11 +68,11 @@ fn has_fault(scan: &Scan) -> bool
     scan.bad || scan.over || scan.unknown || scan.double
 }
 
-fn add_pair(scan: &mut Scan, pair: Pair) -> Result<(), AllocError>
+fn add_pair(scan: &mut Scan, pair: Pair, least: u128) -> Result<(), AllocError>
     requires { number_in_lem pair.part ≤ 1000000 }
-    ensures { OnOk result ((done : List Pair) → HasSeen done scan.old → HasSeen (done ++ pair ∷ []) scan.new) }
+    ensures { OnOk result ((done : List Pair) → HasSeen least done scan.old → HasSeen least (done ++ pair ∷ []) scan.new) }
 {
-    mark_pair(scan, pair);
+    mark_pair(scan, pair, least);
     match pair.cell {
         Some(cell) => {
             if has_fault(scan) {
@@ -93,30 +90,15 @@ fn add_pair(scan: &mut Scan, pair: Pair) -> Result<(), AllocError>
     }
 }
 
-fn fault_of(scan: &Scan) -> Option<TextKind>
-    ensures { (done : List Pair) → HasSeen done scan.now → result ≡ pairs_fault done }
-{
-    if scan.bad {
-        Some(TextKind::BadNumber)
-    } else if scan.over {
-        Some(TextKind::OverLimit)
-    } else if scan.unknown {
-        Some(TextKind::UnknownName)
-    } else if scan.double {
-        Some(TextKind::DoubleName)
-    } else {
-        None
-    }
-}
-
-/// The pairs `NAME PART NAME PART ..` that a text is, or `None` where its fields aren't one pair or more.
+/// The pairs `NAME PART NAME PART ..` that a text is, or `None` where its fields aren't pairs. A part is `least` at least.
 pub fn scan_pairs(
     alloc: Global,
     names: &IndexSet<Vec<u8>>,
     text: &[u8],
-) -> Result<Option<Pairs>, AllocError>
+    least: u128,
+) -> Result<Option<Scan>, AllocError>
     requires { length names.now.keys ≤ 200 }
-    ensures { IfOk result (Scans (map (λ n. n.items) names.now.keys) (fields_lem text.now)) }
+    ensures { IfOk result (Scans (map (λ n. n.items) names.now.keys) least (fields_lem text.now)) }
 {
     let mut scan = Scan {
         bad: false,
@@ -126,9 +108,6 @@ pub fn scan_pairs(
         entries: Vec::new(alloc),
     };
     let mut rest = skip_blanks(text);
-    if rest.is_empty() {
-        return Ok(None);
-    }
     while !rest.is_empty() {
         let (name, after) = cut_field(rest);
         let after = skip_blanks(after);
@@ -142,13 +121,68 @@ pub fn scan_pairs(
                 cell: cell_named(names, name),
                 part: number_at(part, MOST_PART),
             },
+            least,
         )?;
         rest = skip_blanks(more);
     }
-    Ok(Some(Pairs {
-        fault: fault_of(&scan),
-        entries: scan.entries,
-    }))
+    Ok(Some(scan))
+}
+
+/// The pairs, of which there has to be one, with positive parts.
+pub fn scan_some_pairs(
+    alloc: Global,
+    names: &IndexSet<Vec<u8>>,
+    text: &[u8],
+) -> Result<Option<Scan>, AllocError>
+    requires { length names.now.keys ≤ 200 }
+    ensures { IfOk result (ScansSome (map (λ n. n.items) names.now.keys) (fields_lem text.now)) }
+{
+    if skip_blanks(text).is_empty() {
+        return Ok(None);
+    }
+    scan_pairs(alloc, names, text, 1)
+}
+
+/// Nothing, or the first kind of fault among the numbers and the names of pairs.
+pub fn check_pairs(pairs: &Scan) -> Result<(), TextKind>
+    ensures { result ≡ right_pairs pairs.now.bad pairs.now.over pairs.now.unknown pairs.now.double }
+{
+    if pairs.bad {
+        return Err(TextKind::BadNumber);
+    }
+    if pairs.over {
+        return Err(TextKind::OverLimit);
+    }
+    if pairs.unknown {
+        return Err(TextKind::UnknownName);
+    }
+    if pairs.double {
+        return Err(TextKind::DoubleName);
+    }
+    Ok(())
+}
+
+/// The cell or the position of a row with pairs, or the first kind of fault among the numbers and the names of its line:
+/// before the pairs a number may be bad or over its limit.
+pub fn row_owner(bad: bool, over: bool, own: Option<u8>, pairs: &Scan) -> Result<u8, TextKind>
+    ensures { result ≡ owner_of (bad || pairs.now.bad) (over || pairs.now.over) own pairs.now.unknown pairs.now.double }
+{
+    if bad || pairs.bad {
+        return Err(TextKind::BadNumber);
+    }
+    if over || pairs.over {
+        return Err(TextKind::OverLimit);
+    }
+    let Some(own) = own else {
+        return Err(TextKind::UnknownName);
+    };
+    if pairs.unknown {
+        return Err(TextKind::UnknownName);
+    }
+    if pairs.double {
+        return Err(TextKind::DoubleName);
+    }
+    Ok(own)
 }
 
 /// What the parts of entries sum to.

@@ -8,7 +8,7 @@ ghost use Rattle.scenario_text.specs.Reading.{first_said as first_said_lem};
 ghost use Rattle.scenario_text.specs.State.{state_of, blank_state};
 ghost use Rattle.scenario_text.specs.Gives.{ReadsDraft, stop_at};
 
-use crate::draft::{Draft, Stage};
+use crate::draft::{Draft, Stage, TextVersion};
 use crate::kind::{TextFault, TextKind};
 use crate::stop::{LineStop, TextStop};
 use crate::taking_line::take_line;
@@ -44,17 +44,22 @@ fn blank_draft(alloc: Global) -> Draft
 {
     Draft {
         stage: Stage::Version,
+        version: TextVersion::One,
         horizon: 0,
         total: 0,
         drift: 0,
         look: 0,
         names: IndexSet::new(alloc),
+        positions: IndexSet::new(alloc),
         gridded: false,
         start: 0,
         first: Vec::new(alloc),
         moves: Vec::new(alloc),
         parts: Vec::new(alloc),
         overlook: Vec::new(alloc),
+        looks: Vec::new(alloc),
+        drift_rows: Vec::new(alloc),
+        look_rows: Vec::new(alloc),
     }
 }
 

@@ -1,20 +1,22 @@
 //! The lines above the rows: each function takes a line by the fields behind its keyword.
 
 ghost use Rattle.std.specs.Prelude.{◌≡◌, ◌∷◌, [], ℕ, List, None, Ok, map, true};
+ghost use Rattle.scenario_text.specs.declared.draft.TextVersion.{TextVersion as Version};
 ghost use Rattle.text_rows.specs.Fields.{fields_of as fields_lem};
 ghost use Rattle.scenario_text.specs.State.{state_of};
 ghost use Rattle.scenario_text.specs.Sound.{IsSound};
-ghost use Rattle.scenario_text.specs.Gives.{TakesLine, AreScanned};
+ghost use Rattle.scenario_text.specs.Gives.{TakesLine};
+ghost use Rattle.scenario_text.specs.Scanning.{HasSeen};
 ghost use Rattle.scenario_text.specs.Fields.{are_pairs, cell_named as cell_named_lem};
 ghost use Rattle.scenario_text.specs.ByCells.{pairs_of};
-ghost use Rattle.scenario_text.specs.Grammar.{row_at, with_name};
+ghost use Rattle.scenario_text.specs.Grammar.{row_at, with_name, with_position};
 
-use crate::cell_names::{are_name_bytes, cell_named};
-use crate::draft::{Draft, Stage};
+use crate::cell_names::{are_name_bytes, cell_named, positions_of};
+use crate::draft::{Draft, Stage, TextVersion};
 use crate::kind::TextKind;
 use crate::line::Line;
 use crate::number_field::{MOST_PART, is_bad, is_over, number_at, number_in};
-use crate::pairs::{Pairs, scan_pairs, total_of};
+use crate::pairs::{Scan, check_pairs, scan_some_pairs, total_of};
 use crate::stop::LineStop;
 use std::alloc::Global;
 
@@ -85,9 +87,10 @@ pub fn take_parts(draft: &mut Draft, fields: &[&[u8]]) -> Result<(), LineStop>
     }
 }
 
-/// Adds a cell that has no rows yet.
-fn push_cell(alloc: Global, draft: &mut Draft, name: &[u8]) -> Result<(), LineStop>
+/// Adds a cell that is a position, too, and has no rows yet.
+fn push_place(alloc: Global, draft: &mut Draft, name: &[u8]) -> Result<(), LineStop>
     requires new { cell_named_lem (state_of draft.old).names name.now ≡ None }
+    requires version { draft.old.version ≡ Version.One }
     ensures { TakesLine draft.new result (Ok (with_name (state_of draft.old) name.now)) }
 {
     let mut bytes = Vec::new(alloc);
@@ -97,6 +100,29 @@ fn push_cell(alloc: Global, draft: &mut Draft, name: &[u8]) -> Result<(), LineSt
     draft.parts.push(Vec::new(alloc))?;
     draft.overlook.push(None)?;
     Ok(())
+}
+
+/// Adds a cell that has no row yet.
+fn push_target(alloc: Global, draft: &mut Draft, name: &[u8]) -> Result<(), LineStop>
+    requires new { cell_named_lem (state_of draft.old).names name.now ≡ None }
+    requires version { draft.old.version ≡ Version.Two }
+    ensures { TakesLine draft.new result (Ok (with_name (state_of draft.old) name.now)) }
+{
+    let mut bytes = Vec::new(alloc);
+    bytes.extend_from_slice(name)?;
+    draft.names.insert(bytes)?;
+    draft.parts.push(Vec::new(alloc))?;
+    Ok(())
+}
+
+fn push_cell(alloc: Global, draft: &mut Draft, name: &[u8]) -> Result<(), LineStop>
+    requires { cell_named_lem (state_of draft.old).names name.now ≡ None }
+    ensures { TakesLine draft.new result (Ok (with_name (state_of draft.old) name.now)) }
+{
+    match draft.version {
+        TextVersion::One => push_place(alloc, draft, name),
+        TextVersion::Two => push_target(alloc, draft, name),
+    }
 }
 
 fn add_cell(alloc: Global, draft: &mut Draft, name: &[u8]) -> Result<(), LineStop>
@@ -126,11 +152,52 @@ pub fn take_cell(alloc: Global, draft: &mut Draft, fields: &[&[u8]]) -> Result<(
     }
 }
 
+/// Adds a position that has no rows yet.
+fn push_position(alloc: Global, draft: &mut Draft, name: &[u8]) -> Result<(), LineStop>
+    requires { cell_named_lem (state_of draft.old).positions name.now ≡ None }
+    ensures { TakesLine draft.new result (Ok (with_position (state_of draft.old) name.now)) }
+{
+    let mut bytes = Vec::new(alloc);
+    bytes.extend_from_slice(name)?;
+    draft.positions.insert(bytes)?;
+    draft.moves.push(Vec::new(alloc))?;
+    draft.looks.push(None)?;
+    draft.stage = Stage::Positions;
+    Ok(())
+}
+
+fn add_position(alloc: Global, draft: &mut Draft, name: &[u8]) -> Result<(), LineStop>
+    requires { IsSound (state_of draft.old) }
+    ensures { TakesLine draft.new result (row_at Line.Position (state_of draft.old) (name.now ∷ [])) }
+{
+    if !are_name_bytes(name) {
+        return Err(LineStop::Fault(TextKind::BadLine));
+    }
+    if name.len() > 24 || draft.positions.len() >= 200 {
+        return Err(LineStop::Fault(TextKind::OverLimit));
+    }
+    if cell_named(&draft.positions, name).is_some() {
+        return Err(LineStop::Fault(TextKind::DoubleName));
+    }
+    push_position(alloc, draft, name)
+}
+
+/// `position NAME`
+pub fn take_position(alloc: Global, draft: &mut Draft, fields: &[&[u8]]) -> Result<(), LineStop>
+    requires { IsSound (state_of draft.old) }
+    ensures { TakesLine draft.new result (row_at Line.Position (state_of draft.old) (map (λ f. f.now) fields.now)) }
+{
+    match fields {
+        [name] => add_position(alloc, draft, name),
+        _ => Err(LineStop::Fault(TextKind::BadLine)),
+    }
+}
+
 fn set_start(draft: &mut Draft, name: &[u8]) -> Result<(), LineStop>
     requires { IsSound (state_of draft.old) }
     ensures { TakesLine draft.new result (row_at Line.Start (state_of draft.old) (name.now ∷ [])) }
 {
-    match cell_named(&draft.names, name) {
+    match cell_named(positions_of(draft), name) {
         None => Err(LineStop::Fault(TextKind::UnknownName)),
         Some(c) => {
             draft.stage = Stage::First;
@@ -151,10 +218,10 @@ pub fn take_start(draft: &mut Draft, fields: &[&[u8]]) -> Result<(), LineStop>
     }
 }
 
-fn set_first(draft: &mut Draft, pairs: Pairs) -> Result<(), LineStop>
-    ensures { (fields : List (List ℕ)) → are_pairs fields ≡ true → AreScanned (pairs_of (state_of draft.old).names fields) pairs → TakesLine draft.new result (row_at Line.First (state_of draft.old) fields) }
+fn set_first(draft: &mut Draft, pairs: Scan) -> Result<(), LineStop>
+    ensures { (fields : List (List ℕ)) → are_pairs fields ≡ true → HasSeen 1 (pairs_of (state_of draft.old).names fields) pairs → TakesLine draft.new result (row_at Line.First (state_of draft.old) fields) }
 {
-    if let Some(kind) = pairs.fault {
+    if let Err(kind) = check_pairs(&pairs) {
         return Err(LineStop::Fault(kind));
     }
     if total_of(&pairs.entries) != u128::from(draft.total) {
@@ -170,7 +237,7 @@ pub fn take_first(alloc: Global, draft: &mut Draft, text: &[u8]) -> Result<(), L
     requires { IsSound (state_of draft.old) }
     ensures { TakesLine draft.new result (row_at Line.First (state_of draft.old) (fields_lem text.now)) }
 {
-    match scan_pairs(alloc, &draft.names, text)? {
+    match scan_some_pairs(alloc, &draft.names, text)? {
         None => Err(LineStop::Fault(TextKind::BadLine)),
         Some(pairs) => set_first(draft, pairs),
     }

@@ -6,6 +6,7 @@ ghost use Rattle.text_rows.specs.Fields.{fields_of as fields_lem, is_text_byte a
 ghost use Rattle.scenario_text.specs.Fields.{says_nothing as says_nothing_lem};
 ghost use Rattle.scenario_text.specs.State.{state_of};
 ghost use Rattle.scenario_text.specs.Sound.{IsSound};
+ghost use Rattle.scenario_text.specs.Order.{IsPlace};
 ghost use Rattle.scenario_text.specs.Gives.{TakesLine};
 ghost use Rattle.scenario_text.specs.Reading.{line_at};
 ghost use Rattle.scenario_text.specs.KindTable.{lacks_row as lacks_row_lem};
@@ -14,10 +15,13 @@ ghost use Rattle.scenario_text.specs.Grammar.{row_at, fields_at};
 use crate::draft::{Draft, Stage};
 use crate::kind::TextKind;
 use crate::line::{Line, line_due};
-use crate::rows::{take_drift, take_moves, take_overlook};
+use crate::period_rows::{take_drift_in, take_look_in};
+use crate::rows::{take_drift, take_look, take_moves, take_overlook};
 use crate::shorthands::{take_grid, take_rate, take_spread};
 use crate::stop::LineStop;
-use crate::taking::{take_cell, take_first, take_horizon, take_parts, take_start, take_version};
+use crate::taking::{
+    take_cell, take_first, take_horizon, take_parts, take_position, take_start, take_version,
+};
 use drift_chain::DriftPart;
 use exact_parts::fits;
 use std::alloc::Global;
@@ -65,10 +69,19 @@ fn any_no_overlook(parts: &[Option<u32>]) -> bool
     parts.iter().any(|o| o.is_none())
 }
 
+fn any_no_look(rows: &[Option<Vec<DriftPart>>]) -> bool
+    ensures { result ≡ list_any (λ o. is_none o) rows.now }
+{
+    rows.iter().any(|o| o.is_none())
+}
+
 fn lacks_row(draft: &Draft) -> bool
     ensures { result ≡ lacks_row_lem (state_of draft.now) }
 {
-    any_no_moves(&draft.moves) || any_no_parts(&draft.parts) || any_no_overlook(&draft.overlook)
+    any_no_moves(&draft.moves)
+        || any_no_parts(&draft.parts)
+        || any_no_overlook(&draft.overlook)
+        || any_no_look(&draft.looks)
 }
 
 /// `end`
@@ -100,7 +113,7 @@ fn take_due(
     text: &[u8],
 ) -> Result<(), LineStop>
     requires sound { IsSound (state_of draft.old) }
-    requires due { line ≡ Line.End → draft.old.stage ≡ Stage.Rows }
+    requires due { IsPlace line draft.old.version draft.old.stage }
     requires front { map (λ f. f.now) fields.now ≡ take 66 (fields_lem text.now) }
     ensures { TakesLine draft.new result (row_at line (state_of draft.old) (fields_lem text.now)) }
 {
@@ -109,14 +122,18 @@ fn take_due(
         Line::Horizon => take_horizon(draft, fields),
         Line::Parts => take_parts(draft, fields),
         Line::Cell => take_cell(alloc, draft, fields),
+        Line::Position => take_position(alloc, draft, fields),
         Line::Grid => take_grid(alloc, draft, fields),
         Line::Start => take_start(draft, fields),
         Line::First => take_first(alloc, draft, text),
         Line::Moves => take_moves(alloc, draft, fields),
         Line::Drift => take_drift(alloc, draft, fields, text),
+        Line::DriftIn => take_drift_in(alloc, draft, fields, text),
         Line::Overlook => take_overlook(draft, fields),
         Line::Spread => take_spread(alloc, draft, fields),
         Line::Rate => take_rate(alloc, draft, fields),
+        Line::Look => take_look(alloc, draft, fields, text),
+        Line::LookIn => take_look_in(alloc, draft, fields, text),
         Line::End => take_end(draft, fields),
     }
 }
@@ -128,7 +145,7 @@ fn has_cells(draft: &Draft) -> bool
 }
 
 /// The line that a word begins, of which the first fields behind it are given beside their text
-#[tactic(auto, using(crate::proofs::Due::end_in_rows))]
+#[tactic(auto, using(crate::proofs::Due::place_due))]
 fn take_word(
     alloc: Global,
     draft: &mut Draft,
@@ -140,7 +157,7 @@ fn take_word(
     requires front { map (λ f. f.now) fields.now ≡ take 66 (fields_lem text.now) }
     ensures { TakesLine draft.new result (fields_at (state_of draft.old) (word.now ∷ fields_lem text.now)) }
 {
-    match line_due(draft.stage, has_cells(draft), word) {
+    match line_due(draft.version, draft.stage, has_cells(draft), word) {
         Some(line) => take_due(alloc, draft, line, fields, text),
         None => Err(LineStop::Fault(TextKind::BadLine)),
     }

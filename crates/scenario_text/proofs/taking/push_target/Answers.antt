@@ -1,9 +1,9 @@
-use Rattle.std.proofs.Common.{refl, ◌∙◌, ap, map, ◌≡◌, Bool, None, List, ℕ, ◌++◌, ◌∷◌, [], Vec, Global}
+use Rattle.std.proofs.Common.{refl, ◌∙◌, ap, map, ◌≡◌, Bool, List, ℕ, ◌++◌, ◌∷◌, [], Vec, Global}
 use Rattle.std.specs.Str.{bytes_eq}
 use Rattle.std.proofs.lemmas.List.{map_push}
 use Rattle.drift_chain.specs.declared.part.DriftPart.{DriftPart}
 use Rattle.scenario_text.proofs.Columns.{inserted_last}
-use Rattle.scenario_text.proofs.taking.push_cell.Goals as goal
+use Rattle.scenario_text.proofs.taking.push_target.Goals as goal
 
 pub returns : goal.returns
 returns c =
@@ -16,9 +16,6 @@ returns c =
     ap (map bytes) c.in_ok-insert.ensures.keys
     ∙ inserted_last same bytes c.args.draft.now.names.keys c.extend_from_slice.new.self (λ k. refl) (rw name c.requires.new)
     ∙ ap (λ (x : List ℕ). map bytes c.args.draft.now.names.keys ++ x ∷ []) name in
-    let moves : map bytes c.push.new.self.items ≡ map bytes c.args.draft.now.moves.items ++ [] ∷ [] =
-    ap (map bytes) c.in_ok-push.ensures.items ∙ map_push bytes c.args.draft.now.moves.items c.new.result ∙ ap (λ (x : List ℕ). map bytes c.args.draft.now.moves.items ++ x ∷ []) c.new.ensures.items in
-    let rows : map parts c.push-2.new.self.items ≡ map parts c.args.draft.now.parts.items ++ [] ∷ [] =
-    ap (map parts) c.in_ok-push-2.ensures.items ∙ map_push parts c.args.draft.now.parts.items c.new-2.result ∙ ap (λ (x : List DriftPart). map parts c.args.draft.now.parts.items ++ x ∷ []) c.new-2.ensures.items in
-    let overlook : c.push-3.new.self.items ≡ c.args.draft.now.overlook.items ++ None ∷ [] = c.in_ok-push-3.ensures.items in
-    rw (names, moves, rows, overlook) refl
+    let rows : map parts c.push.new.self.items ≡ map parts c.args.draft.now.parts.items ++ [] ∷ [] =
+    ap (map parts) c.in_ok-push.ensures.items ∙ map_push parts c.args.draft.now.parts.items c.new.result ∙ ap (λ (x : List DriftPart). map parts c.args.draft.now.parts.items ++ x ∷ []) c.new.ensures.items in
+    rw (c.requires.version, names, rows) refl
