@@ -1,9 +1,9 @@
 -- The scenario of what was read whole.
-use Rattle.std.proofs.Common.{◌≡◌, ℕ, ◌<◌, ◌≤◌, Bool, true, false, List, [], map, length, Option, Some, None, sym, ap, ◌∙◌, arith, subst, inl, inr, ◌⊎◌}
-use Rattle.std.specs.Prelude.{◌==◌, ◌||◌, if◌then◌else◌, All, sum_by, sum, slice_index, unwrap_or, is_none}
+use Rattle.std.proofs.Common.{◌≡◌, ℕ, ◌<◌, ◌≤◌, false, List, [], map, length, Option, Some, None, refl, sym, ap, ◌∙◌, arith, subst, inl, inr, ◌⊎◌}
+use Rattle.std.specs.Prelude.{◌==◌, ◌||◌, All, sum_by, sum, slice_index, unwrap_or, is_none}
 use Rattle.std.specs.List.{list_any}
-use Rattle.std.proofs.lemmas.Bool.{eqb-false, or_parts, cases_lt}
-use Rattle.std.proofs.lemmas.List.{length-map, get_or_past}
+use Rattle.std.proofs.lemmas.Bool.{eqb-false, or_parts}
+use Rattle.std.proofs.lemmas.List.{length-map}
 use Rattle.std.proofs.lemmas.List.Elements.{All-map, All-weaker}
 use Rattle.search_grid.specs.declared.faults.GridFault.{GridFault}
 use Rattle.search_grid.specs.declared.faults.GridFault.TheVariants as grid
@@ -14,11 +14,12 @@ use Rattle.drift_chain.specs.declared.faults.DriftFault.{DriftFault}
 use Rattle.drift_chain.specs.declared.faults.DriftFault.TheVariants as drift
 use Rattle.drift_chain.specs.DriftRows.{IsDrift, part_in}
 use Rattle.drift_chain.specs.Faults.{parts_from, HasSameParts, HasFault as HasDriftFault}
-use Rattle.sweep_table.specs.LookParts.{LookParts, parts_over, factor_of, IsSweep}
-use Rattle.search_model.specs.Names.{IsName, IsRepeated}
+use Rattle.sweep_table.specs.LookParts.{LookParts, parts_over, positions_of, cells_of, IsSweep}
+use Rattle.sweep_table.proofs.Factors.{IsSweep-from_parts, length-own_rows}
+use Rattle.search_model.specs.Names.{AreNames}
 use Rattle.search_model.specs.Problem.{Problem, IsProblem}
 use Rattle.scenario_text.specs.declared.draft.Stage.TheVariants.{Ended}
-use Rattle.scenario_text.specs.State.{State, by_version}
+use Rattle.scenario_text.specs.State.{State, by_version, positions_in}
 use Rattle.scenario_text.specs.declared.draft.TextVersion.{TextVersion}
 use Rattle.scenario_text.specs.Scenarios.{Says}
 use Rattle.scenario_text.specs.Sound.{AreEntries, AreMoves, IsPart, IsSound}
@@ -37,6 +38,9 @@ module _ (s : State) (h : IsSound s) (ended : s.stage ≡ Ended) where
   -- the positions are the cells
   pub cells_moves : length s.moves ≡ length s.names
   cells_moves = h.moves_length ∙ ap (λ (v : TextVersion). length (by_version v s.names s.positions)) h.plain
+
+  cells_positions : positions_in s ≡ s.names
+  cells_positions = ap (λ (v : TextVersion). by_version v s.names s.positions) h.plain
 
   cells_overlook : length s.overlook ≡ length s.names
   cells_overlook = h.overlook_length ∙ ap (λ (v : TextVersion). length (by_version v s.names [])) h.plain
@@ -122,27 +126,13 @@ module _ (s : State) (h : IsSound s) (ended : s.stage ≡ Ended) where
   unfolding places
   places_long = length-map s.overlook (λ o. unwrap_or o 0) ∙ cells_overlook
 
-  place_within : (p : ℕ) → slice_index places p ≤ s.look
+  place_within : (p : ℕ) → p < length places → slice_index places p ≤ s.look
   unfolding places
-  place_within p =
-      let all : All (λ n. n ≤ s.look) (map (λ o. unwrap_or o 0) s.overlook) = All-map (λ n. n ≤ s.look) (λ o. unwrap_or o 0) s.overlook (All-weaker (IsPart s.look) (λ o. unwrap_or o 0 ≤ s.look) (overlook_within s.look) s.overlook h.overlook) in
-      elim (cases_lt p (length (map (λ (o : Option ℕ). unwrap_or o 0) s.overlook))) [
-        | inl lt ↦ all p 0 lt
-        | inr past ↦ let none = get_or_past (map (λ (o : Option ℕ). unwrap_or o 0) s.overlook) p 0 past in omega (arith, none)
-      ]
-
-  one_or_other : (b : Bool) (m n most : ℕ) → m ≤ most → n ≤ most → (if b then m else n) ≤ most
-  one_or_other true m n most le le' = le
-  one_or_other false m n most le le' = le'
+  place_within p lt = All-map (λ n. n ≤ s.look) (λ o. unwrap_or o 0) s.overlook (All-weaker (IsPart s.look) (λ o. unwrap_or o 0 ≤ s.look) (overlook_within s.look) s.overlook h.overlook) p 0 lt
 
   pub IsSweep-read : IsSweep (parts_over s.look (map (λ o. unwrap_or o 0) s.overlook))
-  unfolding factor_of places
-  IsSweep-read = record {
-    denominator = look_limits;
-    positions = (omega (arith, places_long, some_cell), omega (arith, places_long, h.few));
-    cells = (omega (arith, places_long, some_cell), omega (arith, places_long, h.few));
-    within = λ t p c. one_or_other (p == c) _ _ s.look (place_within p) (omega arith);
-  }
+  unfolding places
+  IsSweep-read = IsSweep-from_parts s.look (map (λ o. unwrap_or o 0) s.overlook) look_limits (omega (arith, places_long, some_cell), omega (arith, places_long, h.few)) place_within
 
   pub first_entries : (total : ℕ) × AreEntries (length s.names) total s.first
   first_entries = (s.total, h.first (reached s.stage Ended 5 ended (omega arith)))
@@ -150,6 +140,7 @@ module _ (s : State) (h : IsSound s) (ended : s.stage ≡ Ended) where
   -- A problem that was made of what was read is a right one, and is what was read.
   pub record Made (p : Problem) : Type 0 where
     pub names : p.names ≡ s.names
+    pub position_names : p.position_names ≡ positions_in s
     pub cells : p.cells ≡ length p.drift.rows
     pub positions : p.positions ≡ length p.moves
     pub horizon : p.horizon ≡ s.horizon
@@ -180,19 +171,20 @@ module _ (s : State) (h : IsSound s) (ended : s.stage ≡ Ended) where
       let start = cell_start in
       let rows = rows_long p m in
       let moves = moves_long p m in
-      let N : List (List ℕ) → Type 0 = λ names. All IsName names in
-      let R : List (List ℕ) → Type 0 = λ names. (c : ℕ) → ¬ IsRepeated names c in
       let W : LookParts → Type 0 = λ sweep. IsSweep sweep in
-      let looks : length p.sweep.overlook ≡ length s.names = ap (λ (x : LookParts). length x.overlook) m.sweep ∙ places_long in
-      let names : length p.names ≡ length s.names = ap (λ (ns : List (List ℕ)). length ns) m.names in
+      let N : List (List ℕ) → Type 0 = λ names. AreNames (length s.names) names in
+      let positions : positions_of p.sweep ≡ length s.names = ap (λ (x : LookParts). positions_of x) m.sweep ∙ length-own_rows (map (λ o. unwrap_or o 0) s.overlook) ∙ places_long in
+      let looked : cells_of p.sweep ≡ length s.names = ap (λ (x : LookParts). cells_of x) m.sweep ∙ places_long in
+      let cells : p.cells ≡ length s.names = m.cells ∙ rows in
+      let stands : p.positions ≡ length s.names = m.positions ∙ moves in
+      let given : AreNames (length s.names) s.names = record { count = refl; each = h.names; differ = h.differ } in
       record {
         horizon = (omega (arith, m.horizon, horizon.0), omega (arith, m.horizon, horizon.1));
         total = (omega (arith, m.total, total.0), omega (arith, m.total, total.1));
         cells = (omega (arith, m.cells, rows, some_cell), omega (arith, m.cells, rows, h.few));
-        positions = omega (arith, m.cells, m.positions, rows, moves);
-        names_length = omega (arith, m.cells, rows, names);
-        names = subst N (sym m.names) h.names;
-        names_differ = subst R (sym m.names) h.differ;
+        positions = (omega (arith, stands, some_cell), omega (arith, stands, h.few));
+        names = subst (λ (n : ℕ). AreNames n p.names) (sym cells) (subst N (sym m.names) given);
+        position_names = subst (λ (n : ℕ). AreNames n p.position_names) (sym stands) (subst N (sym (m.position_names ∙ cells_positions)) given);
         start = omega (arith, m.start, start, m.positions, moves);
         first_length = omega (arith, m.first_cells, m.cells, rows);
         first_total = m.first_total ∙ (first_entries.1).total ∙ sym m.total;
@@ -201,8 +193,8 @@ module _ (s : State) (h : IsSound s) (ended : s.stage ≡ Ended) where
         drift = m.drift;
         drift_cells = sym m.cells;
         sweep = subst W (sym m.sweep) IsSweep-read;
-        sweep_positions = omega (arith, looks, m.positions, moves);
-        sweep_cells = omega (arith, looks, m.cells, rows);
+        sweep_positions = positions ∙ sym stands;
+        sweep_cells = looked ∙ sym cells;
         fits = rw (m.horizon, m.total, m.denominator, m.sweep) (h.fits ended);
       }
 
@@ -212,6 +204,7 @@ module _ (s : State) (h : IsSound s) (ended : s.stage ≡ Ended) where
       record {
         sound = problem_right p m;
         names = m.names;
+        position_names = m.position_names;
         horizon = m.horizon;
         start = m.start;
         total = m.total;

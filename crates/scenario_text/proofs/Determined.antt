@@ -39,7 +39,9 @@ same_rows d e xs ys same right right' parts =
 pub one_problem : OneProblem
 one_problem s p q g h =
     let names : p.names ≡ q.names = g.names ∙ sym h.names in
-    let cells : p.cells ≡ q.cells = sym g.sound.names_length ∙ ap length names ∙ h.sound.names_length in
+    let position_names : p.position_names ≡ q.position_names = g.position_names ∙ sym h.position_names in
+    let cells : p.cells ≡ q.cells = sym g.sound.names.count ∙ ap length names ∙ h.sound.names.count in
+    let positions : p.positions ≡ q.positions = sym g.sound.position_names.count ∙ ap length position_names ∙ h.sound.position_names.count in
     let firsts : p.first ≡ q.first = same_number_lists p.first q.first (g.sound.first_length ∙ cells ∙ sym h.sound.first_length) (λ c inside.
     let here : c < p.cells = omega (arith, g.sound.first_length) in
     g.first c here ∙ sym (h.first c (omega (arith, cells)))) in
@@ -49,4 +51,4 @@ one_problem s p q g h =
     ∙ same_rows p.drift.denominator q.drift.denominator p.drift.rows q.drift.rows (g.denominator ∙ sym h.denominator) (rw (plain_drift p.drift g.steady) g.sound.drift) (rw (plain_drift q.drift h.steady) h.sound.drift)
     (parts_shared s.parts p.drift.rows q.drift.rows g.parts h.parts)
     ∙ plain_drift q.drift h.steady in
-    same_problem p q names cells (g.sound.positions ∙ cells ∙ sym h.sound.positions) (g.horizon ∙ sym h.horizon) (g.start ∙ sym h.start) (g.total ∙ sym h.total) firsts (sym moves) drift (g.sweep ∙ sym h.sweep)
+    same_problem p q names position_names cells positions (g.horizon ∙ sym h.horizon) (g.start ∙ sym h.start) (g.total ∙ sym h.total) firsts (sym moves) drift (g.sweep ∙ sym h.sweep)

@@ -18,7 +18,7 @@ pub IsField-name : (name : List ℕ) → IsName name → IsField name
 IsField-name name h = field_by is_name_byte name_byte_is_field name (omega (arith, h.some)) h.bytes
 
 pub IsField-cell_name : (p : Problem) → IsProblem p → (c : ℕ) → c < p.cells → IsField (cell_name p c)
-IsField-cell_name p h c lt = IsField-name (cell_name p c) (All-get_or IsName p.names c [] (omega (arith, h.names_length)) h.names)
+IsField-cell_name p h c lt = IsField-name (cell_name p c) (All-get_or IsName p.names c [] (omega (arith, h.names.count)) h.names.each)
 
 -- where so many cells have names
 module _ (names : List (List ℕ)) (cells : ℕ) (field : (c : ℕ) → c < cells → IsField (name_in names c)) where

@@ -1,5 +1,5 @@
 -- The lines before the rows are taken: version, horizon, parts, cells, start and first parts.
-use Rattle.std.proofs.Common.{◌≡◌, ℕ, ◌+◌, ◌<◌, true, false, List, [], ◌∷◌, ◌++◌, map, length, Option, Some, None, Ok, refl, sym, ap, ◌∙◌, arith}
+use Rattle.std.proofs.Common.{◌≡◌, ℕ, ◌+◌, ◌<◌, true, false, List, [], ◌∷◌, ◌++◌, map, length, Option, Some, None, Ok, refl, sym, ap, ◌∙◌, subst, arith}
 use Rattle.std.specs.Prelude.{codes, nat_lt, if◌then◌else◌}
 use Rattle.std.specs.Fmt.{decimal}
 use Rattle.std.specs.List.{range_with_len, list_all}
@@ -10,7 +10,7 @@ use Rattle.drift_chain.specs.declared.part.DriftPart.{DriftPart}
 use Rattle.drift_chain.specs.DriftRows.{row_of}
 use Rattle.search_grid.specs.Moves.{moves_from}
 use Rattle.sweep_table.specs.LookParts.{factor_of}
-use Rattle.search_model.specs.Names.{IsName, is_name_byte}
+use Rattle.search_model.specs.Names.{IsName, is_name_byte, name_in}
 use Rattle.search_model.specs.Problem.{Problem, IsProblem, cell_name, position_name}
 use Rattle.scenario_text.specs.declared.draft.Stage.TheVariants.{Horizon, Parts, Cells, First, Rows}
 use Rattle.scenario_text.specs.declared.draft.TextVersion.TheVariants.{One}
@@ -27,6 +27,8 @@ use Rattle.scenario_text.proofs.FieldTexts.{IsField-cell_name, AreFields-pairs}
 use Rattle.scenario_text.proofs.NamesApart.{cell_named-at, cell_named-next, names_all}
 use Rattle.scenario_text.proofs.PairTexts.{AreSaid-row, some_entry, are_pairs-entries, parts_within}
 use Rattle.scenario_text.proofs.FirstParts.{IsDriftRow-first}
+use Rattle.scenario_text.specs.Laws.{IsPlain}
+use Rattle.scenario_text.proofs.CanonicalSaid.{cells_are}
 use Rattle.scenario_text.proofs.RowsRead.{Takes}
 
 pub Takes-version : Takes blank_state (codes "scenario" ∷ codes "1" ∷ []) (record blank_state { stage = Horizon })
@@ -115,7 +117,7 @@ next_named p k =
 pub Takes-cell : (p : Problem) → IsProblem p → (k : ℕ) → k < p.cells → Takes (after_cells p k) (cell_row (cell_name p k)) (after_cells p (k + 1))
 Takes-cell p h k lt =
     let long : length (map (cell_name p) (range_with_len 0 k)) ≡ k = length-map-range_with_len (cell_name p) 0 k in
-    let name : IsName (cell_name p k) = All-get_or IsName p.names k [] (omega (arith, h.names_length)) h.names in
+    let name : IsName (cell_name p k) = All-get_or IsName p.names k [] (omega (arith, h.names.count)) h.names.each in
     record {
       fields = (word (codes "cell") (omega arith) refl, (IsField-cell_name p h k lt, tt));
       says = refl;
@@ -132,16 +134,16 @@ after_all_cells p h = ap (λ (names : List (List ℕ)). record (after_cells p p.
 abbrev pub started : Problem → State
 started p = record (named p) { stage = First; start = p.start }
 
-pub Takes-start : (p : Problem) → IsProblem p → Takes (named p) (codes "start" ∷ position_name p p.start ∷ []) (started p)
-Takes-start p h =
-    let start : p.start < p.cells = omega (arith, h.start, h.positions) in
-    let some = lt-ltb 0 (length p.names) (omega (arith, h.cells.0, h.names_length)) in
+pub Takes-start : (p : Problem) → IsProblem p → IsPlain p → Takes (named p) (codes "start" ∷ position_name p p.start ∷ []) (started p)
+Takes-start p h plain =
+    let start : p.start < p.cells = omega (arith, h.start, cells_are p h plain) in
+    let some = lt-ltb 0 (length p.names) (omega (arith, h.cells.0, h.names.count)) in
     let found = cell_named-at p h p.start start in
-    record {
+    subst (λ (ns : List (List ℕ)). Takes (named p) (codes "start" ∷ name_in ns p.start ∷ []) (started p)) (sym plain.positions) (record {
       fields = (word (codes "start") (omega arith) refl, (IsField-cell_name p h p.start start, tt));
       says = refl;
       taken = rw (some, found) refl;
-    }
+    })
 
 abbrev pub first_taken : Problem → State
 first_taken p = record (started p) { stage = Rows; first = first_entries p }

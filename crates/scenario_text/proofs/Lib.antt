@@ -32,7 +32,6 @@ pub mod SoundHeads
 pub mod SoundLines
 pub mod Soundness
 pub mod Places
-pub mod Faultless
 pub mod Assembled
 pub mod FrontLines
 pub mod EndLines

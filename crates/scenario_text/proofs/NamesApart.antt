@@ -25,10 +25,10 @@ module _ (names : List (List ℕ)) (differ : (c : ℕ) → ¬ IsRepeated names c
 -- a problem's names
 module _ (p : Problem) (h : IsProblem p) where
   other_name : (j k : ℕ) → j < k → k < p.cells → bytes_eq (cell_name p k) (cell_name p j) ≡ false
-  other_name j k below within = named_before p.names h.names_differ j k below (omega (arith, h.names_length))
+  other_name j k below within = named_before p.names h.names.differ j k below (omega (arith, h.names.count))
 
   pub cell_named-at : (c : ℕ) → c < p.cells → cell_named p.names (cell_name p c) ≡ Some c
-  cell_named-at c lt = named_at p.names h.names_differ c (omega (arith, h.names_length))
+  cell_named-at c lt = named_at p.names h.names.differ c (omega (arith, h.names.count))
 
   -- the first k of them
   abbrev these : ℕ → List (List ℕ)
@@ -42,4 +42,4 @@ module _ (p : Problem) (h : IsProblem p) where
       ap (bytes_eq (cell_name p k)) (get_or-map-range_with_len (cell_name p) 0 k j j [] (omega arith) (omega arith)) ∙ other_name j k (omega arith) lt)
 
   pub names_all : these p.cells ≡ p.names
-  names_all = sym (fill_by_all (cell_name p) p.names p.cells [] h.names_length (λ k lt. refl))
+  names_all = sym (fill_by_all (cell_name p) p.names p.cells [] h.names.count (λ k lt. refl))

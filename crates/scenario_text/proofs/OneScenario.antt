@@ -20,7 +20,7 @@ use Rattle.scenario_text.specs.declared.kind.TextKind.{TextKind}
 use Rattle.scenario_text.specs.declared.kind.TextFault.{TextFault}
 use Rattle.text_rows.specs.Lines.{lines_of}
 use Rattle.text_rows.proofs.Results.{err_ok}
-use Rattle.scenario_text.specs.State.{State, blank_state}
+use Rattle.scenario_text.specs.State.{State, blank_state, positions_in}
 use Rattle.scenario_text.specs.Reading.{Front, line_at, lines_at, go_on, unless_ended}
 use Rattle.scenario_text.specs.Scenarios.{Says}
 use Rattle.scenario_text.specs.Sound.{AreEntries, AreMoves, IsSound}
@@ -178,6 +178,7 @@ module _ (s : State) (h : IsSound s) (ended : s.stage ≡ due.Ended) where
       let whole = take_all (length s.first) s.first (omega arith) in
       let p : Problem = record {
         names = s.names;
+        position_names = positions_in s;
         cells = length all_parts;
         positions = length all_moves;
         horizon = s.horizon;
@@ -190,6 +191,7 @@ module _ (s : State) (h : IsSound s) (ended : s.stage ≡ due.Ended) where
       } in
       let made : Made s h ended p = record {
         names = refl;
+        position_names = refl;
         cells = refl;
         positions = refl;
         horizon = refl;

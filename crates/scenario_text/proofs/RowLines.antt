@@ -10,8 +10,9 @@ use Rattle.drift_chain.specs.declared.part.DriftPart.{DriftPart}
 use Rattle.drift_chain.specs.DriftRows.{row_of, IsDriftRow}
 use Rattle.search_grid.specs.Moves.{moves_from, IsMoveRow}
 use Rattle.sweep_table.specs.LookParts.{factor_of}
+use Rattle.sweep_table.proofs.Factors.{factor_of-le}
 use Rattle.search_model.specs.Names.{name_in}
-use Rattle.search_model.specs.Problem.{Problem, IsProblem, cell_name, position_name}
+use Rattle.search_model.specs.Problem.{Problem, IsProblem, cell_name}
 use Rattle.scenario_text.specs.declared.draft.Stage.TheVariants.{Rows}
 use Rattle.scenario_text.specs.declared.draft.TextVersion.TheVariants.{One}
 use Rattle.scenario_text.specs.State.{State}
@@ -21,11 +22,14 @@ use Rattle.scenario_text.specs.declared.line.Line.TheVariants.{Overlook}
 use Rattle.scenario_text.specs.Grammar.{row_at}
 use Rattle.scenario_text.proofs.ByCellNames.{moves_by_cells, with_moves}
 use Rattle.scenario_text.proofs.EntryRows.{drift_said}
+use Rattle.scenario_text.specs.RowFields.{moves_of, overlook_of}
 use Rattle.scenario_text.specs.Canonical.{pair_fields, first_entries, moves_row, drift_row, overlook_row}
 use Rattle.scenario_text.proofs.Ascending.{has_double-rising}
 use Rattle.scenario_text.proofs.FieldTexts.{IsField-cell_name, AreFields-names, AreFields-pairs}
 use Rattle.text_rows.proofs.RowTexts.{IsField-decimal, word}
 use Rattle.exact_parts.proofs.Decimals.{number_at-decimal}
+use Rattle.scenario_text.specs.Laws.{IsPlain}
+use Rattle.scenario_text.proofs.CanonicalSaid.{cells_are}
 use Rattle.scenario_text.proofs.RowsRead.{Takes}
 use Rattle.scenario_text.proofs.HeadLines.{moves_after, parts_after, overlook_after}
 use Rattle.scenario_text.proofs.NamesApart.{cell_named-at}
@@ -101,21 +105,21 @@ moved p i lt =
     ap (set (map (moves_after p i) (range_with_len 0 p.cells)) i) row
     ∙ set-map-range p.cells 0 i i (moves_after p i) (moves_after p (i + 1)) lt (omega arith) (λ c other. rw (among_more c i other) refl)
 
-pub Takes-moves : (p : Problem) → IsProblem p → (i j k : ℕ) → i < p.cells → Takes (after_rows p i j k) (moves_row p i) (after_rows p (i + 1) j k)
-Takes-moves p h i j k lt =
+pub Takes-moves : (p : Problem) → IsProblem p → IsPlain p → (i j k : ℕ) → i < p.cells → Takes (after_rows p i j k) (moves_row p i) (after_rows p (i + 1) j k)
+Takes-moves p h plain i j k lt =
     let s = after_rows p i j k in
     let row = moves_from p.moves i in
-    let moves : IsMoveRow p.cells row = subst (λ (n : ℕ). IsMoveRow n row) (h.grid_positions ∙ h.positions) (h.grid.each i (omega (arith, h.grid_positions, h.positions))) in
-    let long : length (map (position_name p) row) ≡ length row = length-map row (position_name p) in
-    let few = le-ltb 64 (length (map (position_name p) row)) (omega (arith, moves.few)) in
+    let moves : IsMoveRow p.cells row = subst (λ (n : ℕ). IsMoveRow n row) (h.grid_positions ∙ cells_are p h plain) (h.grid.each i (omega (arith, h.grid_positions, cells_are p h plain))) in
+    let long : length (map (cell_name p) row) ≡ length row = length-map row (cell_name p) in
+    let few = le-ltb 64 (length (map (cell_name p) row)) (omega (arith, moves.few)) in
     let found = cell_named-at p h i lt in
     let among = le-ltb i i (omega arith) in
     let before : slice_index_or s.moves i [] ≡ [] = get_or-map-range_with_len (moves_after p i) 0 p.cells i i [] lt (omega arith) ∙ rw among refl in
-    record {
+    subst (λ (ns : List (List ℕ)). Takes s (moves_of ns i row) (after_rows p (i + 1) j k)) (sym plain.positions) (record {
       fields = (word (codes "moves") (omega arith) refl, (IsField-cell_name p h i lt, AreFields-names p h row moves.within));
       says = refl;
-      taken = sym (moves_by_cells s (cell_name p i) (map (position_name p) row)) ∙ rw (few, found, names_known p h row moves.within) (with_moves-taken s i p.cells row moves before ∙ ap (λ (xs : List (List ℕ)). Ok (record s { moves = xs })) (moved p i lt));
-    }
+      taken = sym (moves_by_cells s (cell_name p i) (map (cell_name p) row)) ∙ rw (few, found, names_known p h row moves.within) (with_moves-taken s i p.cells row moves before ∙ ap (λ (xs : List (List ℕ)). Ok (record s { moves = xs })) (moved p i lt));
+    })
 
 -- Drift rows.
 
@@ -158,16 +162,16 @@ overlooked p k lt =
     ap (set (map (overlook_after p k) (range_with_len 0 p.cells)) k) part
     ∙ set-map-range p.cells 0 k k (overlook_after p k) (overlook_after p (k + 1)) lt (omega arith) (λ c other. rw (among_more c k other) refl)
 
-pub Takes-overlook : (p : Problem) → IsProblem p → (i j k : ℕ) → k < p.cells → Takes (after_rows p i j k) (overlook_row p k) (after_rows p i j (k + 1))
-Takes-overlook p h i j k lt =
+pub Takes-overlook : (p : Problem) → IsProblem p → IsPlain p → (i j k : ℕ) → k < p.cells → Takes (after_rows p i j k) (overlook_row p k) (after_rows p i j (k + 1))
+Takes-overlook p h plain i j k lt =
     let s = after_rows p i j k in
     let part = factor_of p.sweep 1 k k in
-    let within : part ≤ p.sweep.denominator = h.sweep.within 1 k k in
+    let within : part ≤ p.sweep.denominator = factor_of-le p.sweep h.sweep 1 k k in
     let found = cell_named-at p h k lt in
     let among = le-ltb k k (omega arith) in
     let before : slice_index_or s.overlook k None ≡ None = get_or-map-range_with_len (overlook_after p k) 0 p.cells k k None lt (omega arith) ∙ rw among refl in
-    record {
+    subst (λ (ns : List (List ℕ)). Takes s (overlook_of ns k part) (after_rows p i j (k + 1))) (sym plain.positions) (record {
       fields = (word (codes "overlook") (omega arith) refl, (IsField-cell_name p h k lt, (IsField-decimal part (omega (arith, within, h.sweep.denominator.1)), tt)));
       says = refl;
-      taken = overlook-taken s (position_name p k) k part found (omega (arith, within, h.sweep.denominator.1)) within before ∙ ap (λ (xs : List (Option ℕ)). Ok (record s { overlook = xs })) (overlooked p k lt);
-    }
+      taken = overlook-taken s (cell_name p k) k part found (omega (arith, within, h.sweep.denominator.1)) within before ∙ ap (λ (xs : List (Option ℕ)). Ok (record s { overlook = xs })) (overlooked p k lt);
+    })

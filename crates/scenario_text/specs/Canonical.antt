@@ -23,14 +23,14 @@ abbrev pub first_entries : Problem → List DriftPart
 first_entries p = flat_map (λ c. if first_of p c == 0 then [] else record { cell = c; part = first_of p c } ∷ []) (range_with_len 0 p.cells)
 
 abbrev pub moves_row : Problem → ℕ → List (List ℕ)
-moves_row p q = moves_of p.names q (moves_from p.moves q)
+moves_row p q = moves_of p.position_names q (moves_from p.moves q)
 
 abbrev pub drift_row : Problem → ℕ → List (List ℕ)
 drift_row p c = drift_of p.names c (row_of p.drift 1 c)
 
--- the overlook part of a position is the factor at its own cell
+-- the overlook part of a position is the factor at the cell of its number
 abbrev pub overlook_row : Problem → ℕ → List (List ℕ)
-overlook_row p q = overlook_of p.names q (factor_of p.sweep 1 q q)
+overlook_row p q = overlook_of p.position_names q (factor_of p.sweep 1 q q)
 
 -- the rows of all cells, and the end
 abbrev pub table_rows : Problem → List (List (List ℕ))

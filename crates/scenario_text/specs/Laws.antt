@@ -1,5 +1,7 @@
 -- The canonical text reads back, and a text spells one scenario.
-use Rattle.std.specs.Prelude.{◌≡◌, ◌↔◌, ℕ, List, [], ◌∷◌, ◌++◌, length, Ok, codes}
+use Rattle.std.specs.Prelude.{◌≡◌, ◌↔◌, ℕ, List, [], ◌∷◌, ◌++◌, map, length, Ok, codes}
+use Rattle.std.specs.List.{range_with_len}
+use Rattle.sweep_table.specs.LookParts.{factor_of, parts_over}
 use Rattle.search_model.specs.Problem.{Problem, IsProblem}
 use Rattle.text_rows.specs.Lines.{lines_of}
 use Rattle.text_rows.specs.Fields.{fields_of}
@@ -16,21 +18,24 @@ OneProblem = (s : State) (p q : Problem) → Says s p → Says s q → p ≡ q
 abbrev pub EveryTextSpellsOne : Type 0
 EveryTextSpellsOne = (text : List ℕ) (front : Front) → front_of text ≡ Ok front → (p : Problem) × Says front.state p × ((q : Problem) → Says front.state q → q ≡ p)
 
--- the drift is the same in every period: a text of version 1 says no other
-abbrev pub IsSteady : Problem → Type 0
-IsSteady p = p.drift.changes ≡ []
+-- what a text of version 1 can say: the positions are the cells with the same names, drift and looks are the same in every
+-- period, and each look covers the cell of its position's number alone
+pub record IsPlain (p : Problem) : Type 0 where
+  pub positions : p.position_names ≡ p.names
+  pub steady : p.drift.changes ≡ []
+  pub looks : p.sweep ≡ parts_over p.sweep.denominator (map (λ q. factor_of p.sweep 1 q q) (range_with_len 0 p.positions))
 
 -- what the canonical text of a problem says is that problem
 abbrev pub CanonicalSays : Type 0
-CanonicalSays = (p : Problem) → IsProblem p → IsSteady p → Says (state_of_problem p) p
+CanonicalSays = (p : Problem) → IsProblem p → IsPlain p → Says (state_of_problem p) p
 
 -- the canonical text of a problem is a text of that problem alone
 abbrev pub CanonicalReadsBack : Type 0
-CanonicalReadsBack = (p : Problem) → IsProblem p → IsSteady p → IsTextOf p (canonical_text p)
+CanonicalReadsBack = (p : Problem) → IsProblem p → IsPlain p → IsTextOf p (canonical_text p)
 
 -- and so it is with all of its bytes, whatever follows it
 abbrev pub CanonicalFrontReadsBack : Type 0
-CanonicalFrontReadsBack = (p : Problem) (rest : List ℕ) → IsProblem p → IsSteady p → IsFront (canonical_text p ++ rest) p (length (canonical_text p))
+CanonicalFrontReadsBack = (p : Problem) (rest : List ℕ) → IsProblem p → IsPlain p → IsFront (canonical_text p ++ rest) p (length (canonical_text p))
 
 -- the last line has the one word `end`, and its line feed
 pub record EndsWithEnd (text : List ℕ) : Type 0 where

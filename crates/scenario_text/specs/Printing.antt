@@ -12,9 +12,9 @@ use Rattle.scenario_text.specs.RowFields.{cell_row}
 abbrev pub line_of : List (List ℕ) → List ℕ
 line_of row = join_with_byte 32 row ++ 10 ∷ []
 
--- ` NAME`
+-- ` NAME` of a position
 abbrev pub name_text : Problem → ℕ → List ℕ
-name_text p c = 32 ∷ cell_name p c
+name_text p q = 32 ∷ position_name p q
 
 -- ` NAME PART`
 abbrev pub entry_text : Problem → DriftPart → List ℕ

@@ -8,7 +8,7 @@ use Rattle.search_model.specs.Problem.{Problem, IsProblem, first_of}
 use Rattle.scenario_text.specs.declared.stop.TextStop.{TextStop}
 use Rattle.scenario_text.specs.declared.stop.TextStop.TheVariants.{Fault, NoMemory}
 use Rattle.text_rows.specs.Lines.{after_lines}
-use Rattle.scenario_text.specs.State.{State}
+use Rattle.scenario_text.specs.State.{State, positions_in}
 use Rattle.scenario_text.specs.Reading.{Front, front_of, alone_of}
 
 -- the problem is what was read; its moves and drift entries are those of the rows, in ascending order, and the drift is the
@@ -16,6 +16,7 @@ use Rattle.scenario_text.specs.Reading.{Front, front_of, alone_of}
 pub record Says (s : State) (p : Problem) : Type 0 where
   pub sound : IsProblem p
   pub names : p.names ≡ s.names
+  pub position_names : p.position_names ≡ positions_in s
   pub horizon : p.horizon ≡ s.horizon
   pub start : p.start ≡ s.start
   pub total : p.total ≡ s.total

@@ -12,11 +12,11 @@ ghost use Rattle.search_model.specs.Names.{IsName};
 ghost use Rattle.search_model.specs.Parts.{problem_of};
 ghost use Rattle.search_model.specs.Problem.{IsProblem};
 ghost use Rattle.scenario_text.specs.declared.draft.Stage.{Stage};
-ghost use Rattle.scenario_text.specs.State.{state_of};
+ghost use Rattle.scenario_text.specs.State.{state_of, positions_in};
 ghost use Rattle.scenario_text.specs.Sound.{IsSound, AreEntries};
 ghost use Rattle.scenario_text.specs.Scenarios.{Says};
 
-use crate::draft::Draft;
+use crate::draft::{Draft, TextVersion};
 use drift_chain::{Drift, DriftPart};
 use indexmap::IndexSet;
 use search_grid::Grid;
@@ -107,6 +107,17 @@ fn scenario_of(parts: Parts) -> Scenario
     }
 }
 
+/// The names of the positions: in version 1 the positions are the cells.
+fn position_names(alloc: Global, draft: &Draft) -> Result<Vec<Name>, AllocError>
+    requires { IsSound (state_of draft.now) }
+    ensures { IfOk result (λ v. v.items ≡ positions_in (state_of draft.now)) }
+{
+    match draft.version {
+        TextVersion::One => names_of(alloc, &draft.names),
+        TextVersion::Two => names_of(alloc, &draft.positions),
+    }
+}
+
 /// The parts of the scenario that a draft says.
 fn model_parts(alloc: Global, draft: Draft) -> Result<Parts, AllocError>
     requires sound { IsSound (state_of draft) }
@@ -114,10 +125,12 @@ fn model_parts(alloc: Global, draft: Draft) -> Result<Parts, AllocError>
     ensures { IfOk result (λ parts. Says (state_of draft) (problem_of parts)) }
 {
     let names = names_of(alloc, &draft.names)?;
+    let positions = position_names(alloc, &draft)?;
     let first = parts_of(alloc, draft.names.len(), &draft.first)?;
     let overlook = overlook_of(alloc, &draft.overlook)?;
     Ok(Parts {
         names,
+        positions,
         horizon: draft.horizon,
         start: draft.start,
         total: draft.total,

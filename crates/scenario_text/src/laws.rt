@@ -12,13 +12,13 @@ pub fn one_problem_a_text()
     ensures { OneProblem }
 {}
 
-/// What the canonical text of a problem with the same drift in every period says is that problem.
+/// What the canonical text of a plain problem says is that problem.
 #[tactic(auto, using(crate::proofs::CanonicalSaid::canonical_says))]
 pub fn canonical_text_says()
     ensures { CanonicalSays }
 {}
 
-/// The canonical text of such a problem is a text of that problem alone.
+/// The canonical text of a plain problem is a text of that problem alone.
 #[tactic(auto, using(crate::proofs::Back::canonical_reads_back))]
 pub fn canonical_text_reads_back()
     ensures { CanonicalReadsBack }

@@ -3,6 +3,7 @@
 ghost use Rattle.std.specs.Prelude.{◌≡◌, ◌<◌, ◌++◌, All, map, OnOk, OnErr};
 ghost use Rattle.std.specs.List.{flat_map, range_with_len};
 ghost use Rattle.text_rows.specs.Rows.{text_of};
+ghost use Rattle.sweep_table.specs.LookParts.{factor_of};
 ghost use Rattle.search_model.specs.Problem.{IsProblem};
 ghost use Rattle.exact_parts.specs.Appending.{AppendsFront};
 ghost use Rattle.scenario_text.specs.Canonical.{canonical_text};
@@ -107,29 +108,29 @@ fn print_chance(out: &mut Vec<u8>, sc: &Scenario) -> Result<(), NoMemory>
     ensures ok { OnOk result (out.new.items ≡ out.old.items ++ chance_text sc.now) }
     ensures no_memory { OnErr result (AppendsFront out.old.items out.new.items (chance_text sc.now)) }
 {
-    let start = sc.name(sc.start());
+    let start = sc.position(sc.start());
     push_all(out, &[b"start ", start.bytes(), b"\nfirst"])?;
     push_first(out, sc)?;
     push_all(out, &[b"\n"])
 }
 
-/// ` NAME`.
-fn push_name(out: &mut Vec<u8>, sc: &Scenario, c: u8) -> Result<(), NoMemory>
-    requires { c < sc.now.cells }
-    ensures ok { OnOk result (out.new.items ≡ out.old.items ++ name_text sc.now c) }
-    ensures no_memory { OnErr result (AppendsFront out.old.items out.new.items (name_text sc.now c)) }
+/// ` NAME` of a position.
+fn push_name(out: &mut Vec<u8>, sc: &Scenario, q: u8) -> Result<(), NoMemory>
+    requires { q < sc.now.positions }
+    ensures ok { OnOk result (out.new.items ≡ out.old.items ++ name_text sc.now q) }
+    ensures no_memory { OnErr result (AppendsFront out.old.items out.new.items (name_text sc.now q)) }
 {
-    push_all(out, &[b" ", sc.name(c).bytes()])
+    push_all(out, &[b" ", sc.position(q).bytes()])
 }
 
-/// ` NAME` for each of these cells.
-fn push_names(out: &mut Vec<u8>, sc: &Scenario, cells: &[u8]) -> Result<(), NoMemory>
-    requires { All (λ c. c < sc.now.cells) cells.now }
-    ensures ok { OnOk result (out.new.items ≡ out.old.items ++ flat_map (name_text sc.now) cells.now) }
-    ensures no_memory { OnErr result (AppendsFront out.old.items out.new.items (flat_map (name_text sc.now) cells.now)) }
+/// ` NAME` for each of these positions.
+fn push_names(out: &mut Vec<u8>, sc: &Scenario, positions: &[u8]) -> Result<(), NoMemory>
+    requires { All (λ q. q < sc.now.positions) positions.now }
+    ensures ok { OnOk result (out.new.items ≡ out.old.items ++ flat_map (name_text sc.now) positions.now) }
+    ensures no_memory { OnErr result (AppendsFront out.old.items out.new.items (flat_map (name_text sc.now) positions.now)) }
 {
-    for c in cells {
-        push_name(out, sc, *c)?;
+    for q in positions {
+        push_name(out, sc, *q)?;
     }
     Ok(())
 }
@@ -141,7 +142,7 @@ fn push_moves(out: &mut Vec<u8>, sc: &Scenario, q: u8) -> Result<(), NoMemory>
     ensures ok { OnOk result (out.new.items ≡ out.old.items ++ moves_text sc.now q) }
     ensures no_memory { OnErr result (AppendsFront out.old.items out.new.items (moves_text sc.now q)) }
 {
-    push_all(out, &[b"moves ", sc.name(q).bytes()])?;
+    push_all(out, &[b"moves ", sc.position(q).bytes()])?;
     push_names(out, sc, sc.grid().moves(q))?;
     push_all(out, &[b"\n"])
 }
@@ -192,6 +193,19 @@ fn print_drift(out: &mut Vec<u8>, sc: &Scenario) -> Result<(), NoMemory>
     Ok(())
 }
 
+/// How much of a target in the cell of a position's number a look from there misses in period 1: all of it, where there is no
+/// such cell.
+fn own_part(sc: &Scenario, q: u8) -> u32
+    requires { q < sc.now.positions }
+    ensures { result ≡ factor_of sc.now.sweep 1 q q }
+{
+    if q < sc.cells() {
+        sc.sweep().factor(1, q, q)
+    } else {
+        sc.sweep().denominator()
+    }
+}
+
 /// The line of a position's overlook part.
 fn push_overlook(out: &mut Vec<u8>, sc: &Scenario, q: u8) -> Result<(), NoMemory>
     requires problem { IsProblem sc.now }
@@ -199,10 +213,16 @@ fn push_overlook(out: &mut Vec<u8>, sc: &Scenario, q: u8) -> Result<(), NoMemory
     ensures ok { OnOk result (out.new.items ≡ out.old.items ++ overlook_text sc.now q) }
     ensures no_memory { OnErr result (AppendsFront out.old.items out.new.items (overlook_text sc.now q)) }
 {
-    let part = Digits::of(sc.sweep().factor(1, q, q));
+    let part = Digits::of(own_part(sc, q));
     push_all(
         out,
-        &[b"overlook ", sc.name(q).bytes(), b" ", part.bytes(), b"\n"],
+        &[
+            b"overlook ",
+            sc.position(q).bytes(),
+            b" ",
+            part.bytes(),
+            b"\n",
+        ],
     )
 }
 

@@ -27,6 +27,7 @@ returns c =
     let each = subst P c.deref.ensures.value c.in_ok-first.ensures.parts in
     problem_says (state_of c.args.draft) c.requires.sound c.requires.whole _ (record {
       names = c.in_ok-names.ensures;
+      position_names = c.in_ok-positions.ensures;
       cells = refl;
       positions = refl;
       horizon = refl;

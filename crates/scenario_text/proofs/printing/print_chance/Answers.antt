@@ -2,7 +2,7 @@ use Rattle.std.proofs.Common.{◌≡◌, ◌++◌, ◌∷◌, rules}
 use Rattle.std.specs.Prelude.{codes}
 use Rattle.std.specs.List.{flat_map, range_with_len}
 use Rattle.std.proofs.lemmas.Result.{on_ok_weaker, on_err_weaker}
-use Rattle.search_model.specs.Problem.{cell_name}
+use Rattle.search_model.specs.Problem.{position_name}
 use Rattle.exact_parts.specs.Appending.{AppendsFront}
 use Rattle.scenario_text.specs.Printing.{first_text}
 use Rattle.scenario_text.proofs.Appending.{front_of_three-first, front_of_three-second, front_of_three-third, three_appended}
@@ -12,23 +12,23 @@ use Rattle.scenario_text.proofs.printing.print_chance.Goals as goal
 
 pub returns-in_err-push_all-clause-no_memory : goal.returns-in_err-push_all-clause-no_memory
 returns-in_err-push_all-clause-no_memory c =
-    let h : AppendsFront c.args.out.now.items c.push_all.new.out.items (codes "start " ++ (cell_name c.args.sc.now c.args.sc.now.start ++ 10 ∷ codes "first")) = search rules in
+    let h : AppendsFront c.args.out.now.items c.push_all.new.out.items (codes "start " ++ (position_name c.args.sc.now c.args.sc.now.start ++ 10 ∷ codes "first")) = search rules in
     at_refusal _ _ (front_of_three-first _ _ (chance_text-pieces c.args.sc.now) h)
 
 pub returns-in_err-push_first-clause-no_memory : goal.returns-in_err-push_first-clause-no_memory
 returns-in_err-push_first-clause-no_memory c =
-    let e : c.push_all.new.out.items ≡ c.args.out.now.items ++ (codes "start " ++ (cell_name c.args.sc.now c.args.sc.now.start ++ 10 ∷ codes "first")) = search rules in
+    let e : c.push_all.new.out.items ≡ c.args.out.now.items ++ (codes "start " ++ (position_name c.args.sc.now c.args.sc.now.start ++ 10 ∷ codes "first")) = search rules in
     let h : AppendsFront c.push_all.new.out.items c.push_first.new.out.items (flat_map (first_text c.args.sc.now) (range_with_len 0 c.args.sc.now.cells)) = search rules in
     at_refusal _ _ (front_of_three-second _ _ _ (chance_text-pieces c.args.sc.now) e h)
 
 pub returns-clause-ok : goal.returns-clause-ok
 returns-clause-ok c =
-    let e : c.push_all.new.out.items ≡ c.args.out.now.items ++ (codes "start " ++ (cell_name c.args.sc.now c.args.sc.now.start ++ 10 ∷ codes "first")) = search rules in
+    let e : c.push_all.new.out.items ≡ c.args.out.now.items ++ (codes "start " ++ (position_name c.args.sc.now c.args.sc.now.start ++ 10 ∷ codes "first")) = search rules in
     let f : c.push_first.new.out.items ≡ c.push_all.new.out.items ++ flat_map (first_text c.args.sc.now) (range_with_len 0 c.args.sc.now.cells) = search rules in
     on_ok_weaker _ (three_appended _ _ _ _ (chance_text-pieces c.args.sc.now) e f) c.push_all-2.ensures.ok
 
 pub returns-clause-no_memory : goal.returns-clause-no_memory
 returns-clause-no_memory c =
-    let e : c.push_all.new.out.items ≡ c.args.out.now.items ++ (codes "start " ++ (cell_name c.args.sc.now c.args.sc.now.start ++ 10 ∷ codes "first")) = search rules in
+    let e : c.push_all.new.out.items ≡ c.args.out.now.items ++ (codes "start " ++ (position_name c.args.sc.now c.args.sc.now.start ++ 10 ∷ codes "first")) = search rules in
     let f : c.push_first.new.out.items ≡ c.push_all.new.out.items ++ flat_map (first_text c.args.sc.now) (range_with_len 0 c.args.sc.now.cells) = search rules in
     on_err_weaker _ (front_of_three-third _ _ _ _ (chance_text-pieces c.args.sc.now) e f) c.push_all-2.ensures.no_memory

@@ -3,7 +3,7 @@ use Rattle.std.specs.Prelude.{codes}
 use Rattle.std.specs.List.{flat_map}
 use Rattle.std.proofs.lemmas.Result.{on_ok_weaker, on_err_weaker}
 use Rattle.search_grid.specs.Moves.{moves_from}
-use Rattle.search_model.specs.Problem.{cell_name}
+use Rattle.search_model.specs.Problem.{position_name}
 use Rattle.exact_parts.specs.Appending.{AppendsFront}
 use Rattle.scenario_text.specs.Printing.{name_text}
 use Rattle.scenario_text.proofs.Appending.{front_of_three-first, front_of_three-second, front_of_three-third, three_appended}
@@ -13,23 +13,23 @@ use Rattle.scenario_text.proofs.printing.push_moves.Goals as goal
 
 pub returns-in_err-push_all-clause-no_memory : goal.returns-in_err-push_all-clause-no_memory
 returns-in_err-push_all-clause-no_memory c =
-    let h : AppendsFront c.args.out.now.items c.push_all.new.out.items (codes "moves " ++ (cell_name c.args.sc.now c.args.q ++ [])) = search rules in
+    let h : AppendsFront c.args.out.now.items c.push_all.new.out.items (codes "moves " ++ (position_name c.args.sc.now c.args.q ++ [])) = search rules in
     at_refusal _ _ (front_of_three-first _ _ (moves_text-pieces c.args.sc.now c.args.q) h)
 
 pub returns-in_err-push_names-clause-no_memory : goal.returns-in_err-push_names-clause-no_memory
 returns-in_err-push_names-clause-no_memory c =
-    let e : c.push_all.new.out.items ≡ c.args.out.now.items ++ (codes "moves " ++ (cell_name c.args.sc.now c.args.q ++ [])) = search rules in
+    let e : c.push_all.new.out.items ≡ c.args.out.now.items ++ (codes "moves " ++ (position_name c.args.sc.now c.args.q ++ [])) = search rules in
     let h : AppendsFront c.push_all.new.out.items c.push_names.new.out.items (flat_map (name_text c.args.sc.now) (moves_from c.args.sc.now.moves c.args.q)) = search rules in
     at_refusal _ _ (front_of_three-second _ _ _ (moves_text-pieces c.args.sc.now c.args.q) e h)
 
 pub returns-clause-ok : goal.returns-clause-ok
 returns-clause-ok c =
-    let e : c.push_all.new.out.items ≡ c.args.out.now.items ++ (codes "moves " ++ (cell_name c.args.sc.now c.args.q ++ [])) = search rules in
+    let e : c.push_all.new.out.items ≡ c.args.out.now.items ++ (codes "moves " ++ (position_name c.args.sc.now c.args.q ++ [])) = search rules in
     let f : c.push_names.new.out.items ≡ c.push_all.new.out.items ++ flat_map (name_text c.args.sc.now) (moves_from c.args.sc.now.moves c.args.q) = search rules in
     on_ok_weaker _ (three_appended _ _ _ _ (moves_text-pieces c.args.sc.now c.args.q) e f) c.push_all-2.ensures.ok
 
 pub returns-clause-no_memory : goal.returns-clause-no_memory
 returns-clause-no_memory c =
-    let e : c.push_all.new.out.items ≡ c.args.out.now.items ++ (codes "moves " ++ (cell_name c.args.sc.now c.args.q ++ [])) = search rules in
+    let e : c.push_all.new.out.items ≡ c.args.out.now.items ++ (codes "moves " ++ (position_name c.args.sc.now c.args.q ++ [])) = search rules in
     let f : c.push_names.new.out.items ≡ c.push_all.new.out.items ++ flat_map (name_text c.args.sc.now) (moves_from c.args.sc.now.moves c.args.q) = search rules in
     on_err_weaker _ (front_of_three-third _ _ _ _ (moves_text-pieces c.args.sc.now c.args.q) e f) c.push_all-2.ensures.no_memory

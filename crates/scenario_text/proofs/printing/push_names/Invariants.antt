@@ -3,5 +3,5 @@ use Rattle.std.specs.List.{flat_map}
 use Rattle.scenario_text.specs.Printing.{name_text}
 use Rattle.scenario_text.proofs.printing.push_names.Given as goal
 
-abbrev pub invariant-loop-c : goal.invariant-loop-c
-invariant-loop-c l = l.out.items ≡ l.fn.out.items ++ flat_map (name_text l.sc) (take l.c-index l.cells)
+abbrev pub invariant-loop-q : goal.invariant-loop-q
+invariant-loop-q l = l.out.items ≡ l.fn.out.items ++ flat_map (name_text l.sc) (take l.q-index l.positions)
