@@ -3,7 +3,7 @@
 use Rattle.std.proofs.Common.{ℕ, suc, ◌+◌, ◌*◌, ◌-◌, ◌^◌, ◌<◌, ◌≤◌, ◌≡◌, List, length, sym, ap, ◌∙◌, arith, sum, sum_by}
 use Rattle.std.specs.List.{range_with_len}
 use Rattle.std.proofs.lemmas.List.Sums.{sum-map}
-use Rattle.std.proofs.Math.Nat.{pow-suc, mul-le-mul_left, le_refl, one-le-pow, one-le-mul}
+use Rattle.std.proofs.Math.Nat.{pow-suc, mul-le-mul_left, le_refl}
 use Rattle.std.proofs.lemmas.Nat.{mul-le}
 use Rattle.exact_parts.proofs.Widths.{scaled_part_fits}
 use Rattle.sweep_table.specs.LookParts.{factor_of}
@@ -52,9 +52,9 @@ module _ (p : Problem) (sound : IsProblem p) (q : List ℕ) where
 
   -- nor do the greatest rewards of all periods sum to more than so many times the whole weight
   pub highest-le : (rewards : List ℕ) → length q < p.horizon → HasRewards p q rewards →
-      highest_sum p.cells (entry_at p.cells rewards) (p.horizon - length q) (length q + 1) ≤ (p.horizon - length q) * whole_weight p
+      highest_sum p.positions (entry_at p.positions rewards) (p.horizon - length q) (length q + 1) ≤ (p.horizon - length q) * whole_weight p
   highest-le rewards short each =
-      highest_below p.cells (whole_weight p) (entry_at p.cells rewards) (p.horizon - length q) (length q + 1) (λ u a from to here.
+      highest_below p.positions (whole_weight p) (entry_at p.positions rewards) (p.horizon - length q) (length q + 1) (λ u a from to here.
       let later : length q < u = omega (arith, from) in
       let last : u ≤ p.horizon = omega (arith, to, short) in
       rw (each u a later last here) (reward-le u a later last))
@@ -74,7 +74,7 @@ module _ (p : Problem) (sound : IsProblem p) (q : List ℕ) where
       omega (arith, fits)
 
   -- what a look finds fits
-  pub found_fits : (t a : ℕ) (b : BeliefState) → length q < t → t ≤ p.horizon → a < p.cells → IsBelief p (looks_to t q) b →
-      found_of p b (p.drift.denominator ^ (p.horizon - t) * p.sweep.denominator ^ (p.horizon - (length q + 1))) a < 2 ^ 127
+  pub found_fits : (t a : ℕ) (b : BeliefState) → length q < t → t ≤ p.horizon → a < p.positions → IsBelief p (looks_to t q) b →
+      found_of p b a * (p.drift.denominator ^ (p.horizon - t) * p.sweep.denominator ^ (p.horizon - (length q + 1))) < 2 ^ 127
   found_fits t a b later last here belief =
       omega (arith, found_is p sound q t a b later last here belief, reward-le t a later last, whole_weight-fits p sound)

@@ -1,4 +1,3 @@
 pub mod Found
 pub mod Fitting
-pub mod Rows
 pub mod Walked

@@ -38,15 +38,15 @@ least_same rows grid r s n t a y here same best =
 
 module _ (p : Problem) (sound : IsProblem p) (q rewards : List ℕ) (each : HasRewards p q rewards) (short : length q < p.horizon) where
   -- in the periods after the prefix the table has its rewards
-  entries_are : (u a : ℕ) → length q + 1 ≤ u → u < length q + 1 + (p.horizon - length q) → a < length p.moves → entry_at p.cells rewards u a ≡ reward_of p q u a
-  entries_are u a from to here = each u a (omega (arith, from)) (omega (arith, to, short)) (omega (arith, here, sound.grid_positions, sound.positions))
+  entries_are : (u a : ℕ) → length q + 1 ≤ u → u < length q + 1 + (p.horizon - length q) → a < length p.moves → entry_at p.positions rewards u a ≡ reward_of p q u a
+  entries_are u a from to here = each u a (omega (arith, from)) (omega (arith, to, short)) (omega (arith, here, sound.grid_positions))
 
   -- the greatest sum
   pub greatest_is : (a : ℕ) → a < length p.moves →
-      greatest_sum p.moves (entry_at p.cells rewards) (p.horizon - length q) (length q + 1) a ≡ greatest_sum p.moves (reward_of p q) (p.horizon - length q) (length q + 1) a
-  greatest_is a here = same_rewards_same_sum p.moves (entry_at p.cells rewards) (reward_of p q) (p.horizon - length q) (length q + 1) a sound.grid here entries_are
+      greatest_sum p.moves (entry_at p.positions rewards) (p.horizon - length q) (length q + 1) a ≡ greatest_sum p.moves (reward_of p q) (p.horizon - length q) (length q + 1) a
+  greatest_is a here = same_rewards_same_sum p.moves (entry_at p.positions rewards) (reward_of p q) (p.horizon - length q) (length q + 1) a sound.grid here entries_are
 
   -- the least walk
-  pub least_is : (a : ℕ) (y : List ℕ) → a < length p.moves → IsLeastBest p.moves (entry_at p.cells rewards) (p.horizon - length q) (length q + 1) a y →
+  pub least_is : (a : ℕ) (y : List ℕ) → a < length p.moves → IsLeastBest p.moves (entry_at p.positions rewards) (p.horizon - length q) (length q + 1) a y →
       IsLeastBest p.moves (reward_of p q) (p.horizon - length q) (length q + 1) a y
-  least_is a y here best = least_same p.moves sound.grid (entry_at p.cells rewards) (reward_of p q) (p.horizon - length q) (length q + 1) a y here entries_are best
+  least_is a y here best = least_same p.moves sound.grid (entry_at p.positions rewards) (reward_of p q) (p.horizon - length q) (length q + 1) a y here entries_are best

@@ -1,22 +1,25 @@
 -- What contracts see of the tables of the mean bound, and when they are right.
-use Rattle.std.specs.Prelude.{ℕ, ◌≡◌, ◌-◌, ◌*◌, ◌<◌, List, length}
+use Rattle.std.specs.Prelude.{ℕ, ◌≡◌, ◌*◌, ◌<◌, List, length}
 use Rattle.search_model.specs.Problem.{Problem}
 use Rattle.search_model.specs.Legal.{last_of, IsLegal}
 use Rattle.longest_walk.specs.Tables.{Tables, IsFilled}
 use Rattle.belief_update.specs.Trails.{TrailState, IsTrailOf}
 use Rattle.mean_bound.specs.Rewards.{HasRewards}
 
--- the beliefs along the last prefix, the rewards after the last one that was bounded, and the walks of these rewards
+-- the beliefs along the last prefix, the number of cells, the rewards after the last prefix that was bounded, and the
+-- walks of these rewards
 pub record MeanState : Type 0 where
   pub trail : TrailState
+  pub cells : ℕ
   pub rewards : List ℕ
   pub walk : Tables
 
 -- the tables are for this scenario, and the beliefs that they keep are right in it
 pub record IsMadeFor (p : Problem) (m : MeanState) : Type 0 where
   pub trail : IsTrailOf p m.trail
-  pub size : length m.rewards ≡ p.horizon * p.cells
-  pub cells : m.walk.cells ≡ p.cells
+  pub cells : m.cells ≡ p.cells
+  pub size : length m.rewards ≡ p.horizon * p.positions
+  pub positions : m.walk.positions ≡ p.positions
   pub horizon : m.walk.horizon ≡ p.horizon
 
 -- the tables hold the rewards after this legal prefix, and the walks of these rewards from its last position

@@ -1,6 +1,7 @@
--- The rewards after a prefix, in one list with a row of cells for each period.
-use Rattle.std.specs.Prelude.{ℕ, ◌≡◌, ◌-◌, ◌*◌, ◌<◌, ◌≤◌, List, length, slice_index}
-use Rattle.sweep_table.specs.LookParts.{factor_of}
+-- The rewards after a prefix, in one list with a row of positions for each period.
+use Rattle.std.specs.Prelude.{ℕ, ◌≡◌, ◌-◌, ◌*◌, ◌<◌, ◌≤◌, List, length, slice_index, sum_by}
+use Rattle.sweep_table.specs.declared.part.LookPart.{LookPart}
+use Rattle.sweep_table.specs.LookParts.{look_row}
 use Rattle.search_model.specs.Problem.{Problem}
 use Rattle.search_model.specs.Bounds.{reward_of}
 use Rattle.longest_walk.specs.Sums.{entry_at}
@@ -9,12 +10,16 @@ use Rattle.belief_update.specs.Belief.{BeliefState}
 -- the rewards of the periods after the prefix, up to a last one
 abbrev pub HasRewardsTo : Problem → List ℕ → ℕ → List ℕ → Type 0
 HasRewardsTo p q last rewards =
-    (t a : ℕ) → length q < t → t ≤ last → a < p.cells → entry_at p.cells rewards t a ≡ reward_of p q t a
+    (t a : ℕ) → length q < t → t ≤ last → a < p.positions → entry_at p.positions rewards t a ≡ reward_of p q t a
 
 -- the rewards of all periods after the prefix
 abbrev pub HasRewards : Problem → List ℕ → List ℕ → Type 0
 HasRewards p q rewards = HasRewardsTo p q p.horizon rewards
 
--- what a look from a cell finds of the masses of a belief, times the parts of what is to come
-abbrev pub found_of : Problem → BeliefState → ℕ → ℕ → ℕ
-found_of p b parts a = slice_index b.masses a * (p.sweep.denominator - factor_of p.sweep b.period a a) * parts
+-- what is found of the mass of a cell that a look covers
+abbrev pub found_in : Problem → BeliefState → LookPart → ℕ
+found_in p b entry = slice_index b.masses entry.cell * (p.sweep.denominator - entry.part)
+
+-- what a look from a position finds of the masses of a belief, in all cells that it covers
+abbrev pub found_of : Problem → BeliefState → ℕ → ℕ
+found_of p b a = sum_by (found_in p b) (look_row p.sweep b.period a)

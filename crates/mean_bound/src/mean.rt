@@ -34,14 +34,12 @@ pub struct Mean {
 }
 
 impl Model for Mean {
-    ghost use Rattle.std.specs.Prelude.{◌≡◌, length};
+    ghost use Rattle.std.specs.Prelude.{length};
     ghost use Rattle.mean_bound.specs.Means.{MeanState};
 
     ghost Value = { MeanState };
 
-    ghost view = { λ m. record { trail = m.trail; rewards = m.rewards.items; walk = m.walk } };
-
-    ghost invariant = { λ m. length m.onward.masses ≡ m.walk.cells };
+    ghost view = { λ m. record { trail = m.trail; cells = length m.onward.masses; rewards = m.rewards.items; walk = m.walk } };
 }
 
 /// The last position of a prefix, or the start.
@@ -62,8 +60,8 @@ fn bound_by(
     prefix: &Path,
 ) -> u128
     requires onward { length onward.old.masses ≡ sc.now.cells }
-    requires size { length rewards.old ≡ sc.now.horizon * sc.now.cells }
-    requires cells { walk.old.cells ≡ sc.now.cells }
+    requires size { length rewards.old ≡ sc.now.horizon * sc.now.positions }
+    requires positions { walk.old.positions ≡ sc.now.positions }
     requires horizon { walk.old.horizon ≡ sc.now.horizon }
     requires legal { IsLegal sc.now prefix.now }
     requires short { length prefix.now < sc.now.horizon }
@@ -73,7 +71,7 @@ fn bound_by(
     ensures onward { length onward.new.masses ≡ sc.now.cells }
     ensures rewards { HasRewards sc.now prefix.now rewards.new }
     ensures walked { IsFilled walk.new sc.now.moves rewards.new (last_of sc.now.start prefix.now) (length prefix.now) }
-    ensures cells { walk.new.cells ≡ sc.now.cells }
+    ensures positions { walk.new.positions ≡ sc.now.positions }
     ensures horizon { walk.new.horizon ≡ sc.now.horizon }
 {
     let _sound = sc.cells();
@@ -93,13 +91,13 @@ impl Mean {
     pub fn tables(alloc: Global, sc: &Scenario) -> Result<Mean, NoMemory>
         ensures { IfOk result (IsMadeFor sc.now) }
     {
-        let cells = sc.cells();
+        let positions = sc.positions();
         let horizon = sc.horizon();
         Ok(Mean {
             trail: Trail::tables(alloc, sc)?,
             onward: Belief::start(alloc, sc)?,
-            rewards: vec![in alloc; 0; horizon as usize * usize::from(cells)]?,
-            walk: Walk::tables(alloc, cells, horizon)?,
+            rewards: vec![in alloc; 0; horizon as usize * usize::from(positions)]?,
+            walk: Walk::tables(alloc, positions, horizon)?,
         })
     }
 

@@ -7,22 +7,38 @@ ghost use Rattle.mean_bound.specs.Rewards.{HasRewards, found_of};
 use belief_update::{Belief, later_parts};
 use search_model::{Path, Scenario};
 
-/// Writes the rewards of one period, which begin at place `row`: what a look from each cell finds of the masses, times
-/// the parts of what is to come.
+/// What a look from position `a` finds of the masses, in all cells that it covers.
+fn found(sc: &Scenario, belief: &Belief, a: u8) -> u128
+    requires period { (1 ≤ belief.now.period) × (belief.now.period ≤ sc.now.horizon) }
+    requires cells { length belief.now.masses ≡ sc.now.cells }
+    requires position { a < sc.now.positions }
+    requires fits { found_of sc.now belief.now a < 2 ^ 127 }
+    ensures { result ≡ found_of sc.now belief.now a }
+{
+    let _sound = sc.cells();
+    let sweep = sc.sweep();
+    let whole = sweep.denominator();
+    let look = sweep.look(belief.period(), a);
+    let mut sum = 0;
+    for entry in look.parts() {
+        sum += belief.at(entry.cell) * u128::from(whole - entry.part);
+    }
+    sum
+}
+
+/// Writes the rewards of one period, which begin at place `row`: what a look from each position finds of the masses,
+/// times the parts of what is to come.
 fn fill_period(rewards: &mut [u128], sc: &Scenario, belief: &Belief, row: usize, parts: u128)
     requires period { (1 ≤ belief.now.period) × (belief.now.period ≤ sc.now.horizon) }
     requires cells { length belief.now.masses ≡ sc.now.cells }
     requires parts { 1 ≤ parts }
-    requires row { row + sc.now.cells ≤ length rewards.old }
-    requires fits { (a : ℕ) → a < sc.now.cells → found_of sc.now belief.now parts a < 2 ^ 127 }
-    ensures each { (a : ℕ) → a < sc.now.cells → slice_index rewards.new (row + a) ≡ found_of sc.now belief.now parts a }
+    requires row { row + sc.now.positions ≤ length rewards.old }
+    requires fits { (a : ℕ) → a < sc.now.positions → found_of sc.now belief.now a * parts < 2 ^ 127 }
+    ensures each { (a : ℕ) → a < sc.now.positions → slice_index rewards.new (row + a) ≡ found_of sc.now belief.now a * parts }
     ensures earlier { (i : ℕ) → i < row → slice_index rewards.new i ≡ slice_index rewards.old i }
 {
-    let whole = sc.sweep().denominator();
-    let period = belief.period();
-    for a in 0..sc.cells() {
-        let found = whole - sc.sweep().factor(period, a, a);
-        rewards[row + usize::from(a)] = belief.at(a) * u128::from(found) * parts;
+    for a in 0..sc.positions() {
+        rewards[row + usize::from(a)] = found(sc, belief, a) * parts;
     }
 }
 
@@ -30,19 +46,19 @@ fn fill_period(rewards: &mut [u128], sc: &Scenario, belief: &Belief, row: usize,
 /// looks.
 pub(crate) fn fill_rewards(rewards: &mut [u128], sc: &Scenario, onward: &mut Belief, prefix: &Path)
     requires short { length prefix.now < sc.now.horizon }
-    requires size { length rewards.old ≡ sc.now.horizon * sc.now.cells }
+    requires size { length rewards.old ≡ sc.now.horizon * sc.now.positions }
     requires belief { IsAhead sc.now prefix.now onward.old }
     ensures rewards { HasRewards sc.now prefix.now rewards.new }
     ensures cells { length onward.new.masses ≡ sc.now.cells }
 {
-    let cells = usize::from(sc.cells());
+    let positions = usize::from(sc.positions());
     // A reward counts the looks of the prefix, and its own.
     let looks = prefix.len() as u32 + 1;
     fill_period(
         rewards,
         sc,
         onward,
-        prefix.len() * cells,
+        prefix.len() * positions,
         later_parts(sc, looks, looks),
     );
     for t in looks..sc.horizon() {
@@ -51,7 +67,7 @@ pub(crate) fn fill_rewards(rewards: &mut [u128], sc: &Scenario, onward: &mut Bel
             rewards,
             sc,
             onward,
-            t as usize * cells,
+            t as usize * positions,
             later_parts(sc, t + 1, looks),
         );
     }

@@ -1,7 +1,7 @@
 -- The walks below a prefix of a path, over a table of gains.
-use Rattle.std.proofs.Common.{ℕ, ◌+◌, ◌*◌, ◌-◌, ◌<◌, ◌≤◌, ◌≡◌, List, [], ◌∷◌, ◌++◌, length, take, drop, refl, sym, ap, ◌∙◌, arith, subst, All, length-drop}
+use Rattle.std.proofs.Common.{ℕ, ◌+◌, ◌*◌, ◌-◌, ◌<◌, ◌≤◌, ◌≡◌, List, ◌++◌, length, take, drop, sym, ap, ◌∙◌, arith, subst, length-drop}
 use Rattle.std.proofs.lemmas.List.{take-append-drop}
-use Rattle.std.proofs.lemmas.List.Elements.{All-head, All-tail, All-drop}
+use Rattle.std.proofs.lemmas.List.Elements.{All-drop}
 use Rattle.search_model.specs.Problem.{Problem, IsProblem}
 use Rattle.search_model.specs.Legal.{last_of, Follows, IsLegal, IsPath}
 use Rattle.search_model.specs.Bounds.{sum_along, gain_of}
@@ -26,8 +26,8 @@ pub record IsTable (p : Problem) (rate : ℕ) (q x gains : List ℕ) : Type 0 wh
   pub are : AreGains p rate x (length q) p.horizon gains
 
 module _ {p : Problem} {rate : ℕ} {q x gains : List ℕ} (table : IsTable p rate q x gains) where
-  positions : length p.moves ≡ p.cells
-  positions = table.sound.grid_positions ∙ table.sound.positions
+  positions : length p.moves ≡ p.positions
+  positions = table.sound.grid_positions
 
   -- the last position of the prefix is one
   pub last_inside : last_of p.start q < length p.moves
@@ -43,33 +43,33 @@ module _ {p : Problem} {rate : ℕ} {q x gains : List ℕ} (table : IsTable p ra
   rest_long = omega (arith, length-drop (length q) x, table.path.whole)
 
   -- so its sum is no more than the greatest
-  pub rest_below : sum_along (entry_at p.cells gains) (length q + 1) (drop (length q) x) ≤ greatest_sum p.moves (entry_at p.cells gains) (p.horizon - length q) (length q + 1) (last_of p.start q)
-  rest_below = sum_along-below p.moves (entry_at p.cells gains) (p.horizon - length q) (length q + 1) (last_of p.start q) (drop (length q) x) (walk_listed p.moves (p.horizon - length q) (last_of p.start q) (drop (length q) x) rest_follows rest_long)
+  pub rest_below : sum_along (entry_at p.positions gains) (length q + 1) (drop (length q) x) ≤ greatest_sum p.moves (entry_at p.positions gains) (p.horizon - length q) (length q + 1) (last_of p.start q)
+  rest_below = sum_along-below p.moves (entry_at p.positions gains) (p.horizon - length q) (length q + 1) (last_of p.start q) (drop (length q) x) (walk_listed p.moves (p.horizon - length q) (last_of p.start q) (drop (length q) x) rest_follows rest_long)
 
   -- the numbers of the periods after the prefix are gains
-  agree : (u a : ℕ) → length q + 1 ≤ u → u < length q + 1 + (p.horizon - length q) → a < p.cells → entry_at p.cells gains u a ≡ gain_of p rate x u a
+  agree : (u a : ℕ) → length q + 1 ≤ u → u < length q + 1 + (p.horizon - length q) → a < p.positions → entry_at p.positions gains u a ≡ gain_of p rate x u a
   agree u a from to here = table.are u (omega (arith, from)) (omega (arith, to, table.more)) a here
 
   -- the highest of them are bounded
-  pub highest_bounded : highest_sum p.cells (entry_at p.cells gains) (p.horizon - length q) (length q + 1) ≤ (p.horizon - length q) * most_of p
+  pub highest_bounded : highest_sum p.positions (entry_at p.positions gains) (p.horizon - length q) (length q + 1) ≤ (p.horizon - length q) * most_of p
   highest_bounded =
-      highest_below p.cells (most_of p) (entry_at p.cells gains) (p.horizon - length q) (length q + 1)
-      (λ u a from to here. rw (agree u a from to here) (gain-le p table.sound x table.path u (omega (arith, from)) (omega (arith, to, table.more)) rate a here))
+      highest_below p.positions (most_of p) (entry_at p.positions gains) (p.horizon - length q) (length q + 1)
+      (λ u a from to here. rw (agree u a from to here) (gain-le p table.sound x table.path u (omega (arith, from)) (omega (arith, to, table.more)) a rate))
 
   -- so is the greatest sum
-  pub greatest_bounded : greatest_sum p.moves (entry_at p.cells gains) (p.horizon - length q) (length q + 1) (last_of p.start q) ≤ (p.horizon - length q) * most_of p
+  pub greatest_bounded : greatest_sum p.moves (entry_at p.positions gains) (p.horizon - length q) (length q + 1) (last_of p.start q) ≤ (p.horizon - length q) * most_of p
   greatest_bounded =
-      omega (arith, rw positions at (highest_above p.moves (entry_at p.cells gains) (p.horizon - length q) (length q + 1) (last_of p.start q) table.sound.grid last_inside), highest_bounded)
+      omega (arith, rw positions at (highest_above p.moves (entry_at p.positions gains) (p.horizon - length q) (length q + 1) (last_of p.start q) table.sound.grid last_inside), highest_bounded)
 
   -- the greatest sum is that of the gains
-  pub greatest_is : greatest_sum p.moves (entry_at p.cells gains) (p.horizon - length q) (length q + 1) (last_of p.start q) ≡ greatest_sum p.moves (gain_of p rate x) (p.horizon - length q) (length q + 1) (last_of p.start q)
+  pub greatest_is : greatest_sum p.moves (entry_at p.positions gains) (p.horizon - length q) (length q + 1) (last_of p.start q) ≡ greatest_sum p.moves (gain_of p rate x) (p.horizon - length q) (length q + 1) (last_of p.start q)
   greatest_is =
-      same_rewards_same_sum p.moves (entry_at p.cells gains) (gain_of p rate x) (p.horizon - length q) (length q + 1) (last_of p.start q) table.sound.grid last_inside
+      same_rewards_same_sum p.moves (entry_at p.positions gains) (gain_of p rate x) (p.horizon - length q) (length q + 1) (last_of p.start q) table.sound.grid last_inside
       (λ u a from to here. agree u a from to (omega (arith, here, positions)))
 
   -- and so is the sum along the rest of the reference
-  pub rest_is : sum_along (entry_at p.cells gains) (length q + 1) (drop (length q) x) ≡ sum_along (gain_of p rate x) (length q + 1) (drop (length q) x)
+  pub rest_is : sum_along (entry_at p.positions gains) (length q + 1) (drop (length q) x) ≡ sum_along (gain_of p rate x) (length q + 1) (drop (length q) x)
   rest_is =
-      sum_along-agree p.cells (entry_at p.cells gains) (gain_of p rate x) (length q + 1) (drop (length q) x)
-      (rw table.sound.positions at (All-drop (λ a. a < p.positions) (length q) x (all_within p table.sound x table.path.follows)))
+      sum_along-agree p.positions (entry_at p.positions gains) (gain_of p rate x) (length q + 1) (drop (length q) x)
+      (All-drop (λ a. a < p.positions) (length q) x (all_within p table.sound x table.path.follows))
       (λ u a from to here. agree u a from (omega (arith, to, rest_long)) here)

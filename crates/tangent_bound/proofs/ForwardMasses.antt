@@ -1,12 +1,11 @@
 -- The masses of a belief that looked in each period are forward masses.
-use Rattle.std.proofs.Common.{ℕ, ◌+◌, ◌-◌, ◌<◌, ◌≤◌, ◌≡◌, List, [], ◌∷◌, ◌++◌, Some, map, length, slice_index, refl, ◌∙◌, arith}
+use Rattle.std.proofs.Common.{ℕ, ◌-◌, ◌<◌, ◌≤◌, ◌≡◌, List, [], ◌∷◌, ◌++◌, Some, map, length, slice_index, refl, ◌∙◌, arith}
 use Rattle.std.proofs.lemmas.List.{length-map}
 use Rattle.std.proofs.lemmas.List.FromFn.{get_or-map-range_with_len}
 use Rattle.search_model.specs.Problem.{Problem}
 use Rattle.search_model.specs.Tracks.{tracks}
-use Rattle.search_model.specs.Bounds.{factors_along}
 use Rattle.list_laws.proofs.Sums.{sum_by-same}
-use Rattle.belief_update.specs.Masses.{looked_along, mass_of}
+use Rattle.belief_update.specs.Masses.{mass_of}
 use Rattle.belief_update.specs.Belief.{BeliefState}
 use Rattle.belief_update.proofs.Looks.{looks_to-some}
 use Rattle.belief_update.proofs.Rewards.{factors_along-looked}

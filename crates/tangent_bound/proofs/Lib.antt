@@ -1,5 +1,5 @@
 pub mod ForwardMasses
-pub mod OwnCell
+pub mod Covered
 pub mod Sizes
 pub mod Found
 pub mod RowSteps

@@ -1,5 +1,5 @@
--- Steps over a flat table with one row of cells for each period.
-use Rattle.std.proofs.Common.{ℕ, zero, suc, ◌+◌, ◌*◌, ◌-◌, ◌<◌, ◌≤◌, ◌≡◌, ◌≢◌, List, length, slice_index, slice_set, drop, inl, inr, refl, ◌∙◌, arith, mul-le-mul_right, get_or-set_other, get_or-set_same, below_more}
+-- Steps over a flat table with one row of positions for each period.
+use Rattle.std.proofs.Common.{ℕ, ◌+◌, ◌*◌, ◌-◌, ◌<◌, ◌≤◌, ◌≡◌, ◌≢◌, List, length, slice_index, slice_set, drop, inl, inr, refl, ◌∙◌, arith, get_or-set_other, get_or-set_same, below_more}
 use Rattle.std.proofs.lemmas.Bool.{cases_lt}
 use Rattle.std.proofs.lemmas.List.{at_drop_more, at_drop_all}
 use Rattle.search_model.specs.Problem.{Problem}
@@ -23,14 +23,14 @@ earlier_stays xs place v i before = let apart : i ≢ place = omega (arith, befo
 
 -- the gains of one period more
 pub gains_more : (p : Problem) (rate : ℕ) (x : List ℕ) (k n : ℕ) (before after : List ℕ) → AreGains p rate x k n before → IsGainRow p rate x (n + 1) after →
-    ((i : ℕ) → i < (n + 1 - 1) * p.cells → slice_index after i ≡ slice_index before i) → AreGains p rate x k (n + 1) after
+    ((i : ℕ) → i < (n + 1 - 1) * p.positions → slice_index after i ≡ slice_index before i) → AreGains p rate x k (n + 1) after
 gains_more p rate x k n before after gains row earlier u from to a here =
     elim (cases_lt n u) [
       | inl beyond ↦ let same : u ≡ n + 1 = omega (arith, beyond, to) in rw same (row a here)
       | inr within ↦
           let back : n + 1 - 1 ≡ n = omega arith in
-          let place : (u - 1) * p.cells + a < n * p.cells = place_within n p.cells u a (omega (arith, from)) within here in
-          earlier ((u - 1) * p.cells + a) (rw back place) ∙ gains u from within a here
+          let place : (u - 1) * p.positions + a < n * p.positions = place_within n p.positions u a (omega (arith, from)) within here in
+          earlier ((u - 1) * p.positions + a) (rw back place) ∙ gains u from within a here
     ]
 
 -- no gain comes after none
@@ -38,11 +38,11 @@ pub gains_none : (p : Problem) (rate : ℕ) (x : List ℕ) (k : ℕ) (gains : Li
 gains_none p rate x k gains u from to a here = absurd (omega (arith, from, to))
 
 -- one number more: the sum so far and that of the rest are the whole
-pub sum_along-more : (cells : ℕ) (numbers x : List ℕ) (n sum whole : ℕ) → n < length x → sum + sum_along (entry_at cells numbers) (n + 1) (drop n x) ≡ whole →
-    sum + slice_index numbers (n * cells + slice_index x n) + sum_along (entry_at cells numbers) (n + 1 + 1) (drop (n + 1) x) ≡ whole
-sum_along-more cells numbers x n sum whole here so_far =
+pub sum_along-more : (positions : ℕ) (numbers x : List ℕ) (n sum whole : ℕ) → n < length x → sum + sum_along (entry_at positions numbers) (n + 1) (drop n x) ≡ whole →
+    sum + slice_index numbers (n * positions + slice_index x n) + sum_along (entry_at positions numbers) (n + 1 + 1) (drop (n + 1) x) ≡ whole
+sum_along-more positions numbers x n sum whole here so_far =
     let back : n + 1 - 1 ≡ n = omega arith in
-    let next = at_drop_more (sum_along (entry_at cells numbers) (n + 1)) x n 0 here ∙ sum_along-cons (entry_at cells numbers) (n + 1) (slice_index x n) (drop (n + 1) x) in
+    let next = at_drop_more (sum_along (entry_at positions numbers) (n + 1)) x n 0 here ∙ sum_along-cons (entry_at positions numbers) (n + 1) (slice_index x n) (drop (n + 1) x) in
     omega (arith, rw back at next, so_far)
 
 -- past its end there is nothing to sum

@@ -1,10 +1,10 @@
 -- A path up to the horizon: its positions, and its value.
-use Rattle.std.proofs.Common.{ℕ, ◌*◌, ◌-◌, ◌<◌, ◌≤◌, ◌≡◌, List, length, get_or, max, arith, sum, All}
-use Rattle.std.proofs.Math.Nat.{pow-zero, le-max_right, mul-le-mul_left}
+use Rattle.std.proofs.Common.{ℕ, ◌*◌, ◌<◌, ◌≤◌, List, length, get_or, arith, All}
+use Rattle.std.proofs.Math.Nat.{mul-le-mul_left}
 use Rattle.std.proofs.lemmas.List.Elements.{All-get_or}
 use Rattle.search_model.specs.Problem.{Problem, IsProblem}
-use Rattle.search_model.specs.Legal.{IsPath, Follows}
-use Rattle.search_model.specs.Tracks.{missed_weight, value_of}
+use Rattle.search_model.specs.Legal.{Follows}
+use Rattle.search_model.specs.Tracks.{value_of}
 use Rattle.search_model.proofs.PlainSteps.{positions_follow}
 use Rattle.tangent_bound.proofs.Sizes.{most_of}
 

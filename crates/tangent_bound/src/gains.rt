@@ -7,33 +7,61 @@ ghost use Rattle.belief_update.specs.Belief.{BeliefState};
 ghost use Rattle.belief_update.specs.Trails.{IsPast};
 ghost use Rattle.backward_mass.specs.Table.{IsMadeFor, IsFilledFrom};
 ghost use Rattle.longest_walk.specs.Sums.{entry_at};
-ghost use Rattle.tangent_bound.specs.Gains.{IsMet, IsGainRow, AreGains};
+ghost use Rattle.tangent_bound.specs.Gains.{IsMet, IsGainRow, AreGains, missed_at, missed_by_look};
 
 use crate::steps::look_on;
 use backward_mass::Backward;
 use belief_update::Belief;
 use search_model::{Path, Scenario};
+use sweep_table::LookPart;
+
+/// What the reference misses of the tracks that are in the entry's cell in period `t`, where the belief is after the
+/// reference's look of that period. It is counted only where a look over the entry finds something there.
+fn missed(sc: &Scenario, belief: &Belief, backward: &Backward, t: u32, entry: LookPart) -> u128
+    requires met { (path : List ℕ) × IsMet sc.now path t belief.now backward.now }
+    requires first { 1 ≤ t }
+    requires last { t ≤ sc.now.horizon }
+    requires cell { entry.cell < sc.now.cells }
+    ensures { (path : List ℕ) → IsMet sc.now path t belief.now backward.now → result ≡ missed_at sc.now path t entry }
+{
+    let _sound = sc.cells();
+    if entry.part < sc.sweep().denominator() {
+        belief.at(entry.cell) * backward.at(t, entry.cell)
+    } else {
+        0
+    }
+}
+
+/// What the reference misses of all tracks that a look from position `a` covers in period `t`.
+fn covered(sc: &Scenario, belief: &Belief, backward: &Backward, t: u32, a: u8) -> u128
+    requires met { (path : List ℕ) × IsMet sc.now path t belief.now backward.now }
+    requires first { 1 ≤ t }
+    requires last { t ≤ sc.now.horizon }
+    requires position { a < sc.now.positions }
+    ensures { (path : List ℕ) → IsMet sc.now path t belief.now backward.now → result ≡ missed_by_look sc.now path t a }
+{
+    let _sound = sc.cells();
+    let look = sc.sweep().look(t, a);
+    let mut sum = 0;
+    for entry in look.parts() {
+        sum += missed(sc, belief, backward, t, *entry);
+    }
+    sum
+}
 
 /// What one more look from position `a` in period `t` finds of what the reference misses, where the belief is after the
-/// reference's look of that period. A look covers its own cell alone, and there only where it finds something at all.
+/// reference's look of that period.
 fn gain(sc: &Scenario, rate: u32, belief: &Belief, backward: &Backward, t: u32, a: u8) -> u128
     requires rate { rate ≤ sc.now.sweep.denominator }
     requires met { (path : List ℕ) × IsMet sc.now path t belief.now backward.now }
     requires first { 1 ≤ t }
     requires last { t ≤ sc.now.horizon }
-    requires position { a < sc.now.cells }
+    requires position { a < sc.now.positions }
     ensures { (path : List ℕ) → IsMet sc.now path t belief.now backward.now → result ≡ gain_of sc.now rate path t a }
 {
     let _sound = sc.cells();
-    let sweep = sc.sweep();
-    let denominator = sweep.denominator();
-    if sweep.factor(t, a, a) < denominator {
-        let before = belief.at(a);
-        let after = backward.at(t, a);
-        u128::from(denominator - rate) * (before * after)
-    } else {
-        0
-    }
+    let found = sc.sweep().denominator() - rate;
+    u128::from(found) * covered(sc, belief, backward, t, a)
 }
 
 /// Writes the gains of period `t`, where the belief is after the reference's look of that period.
@@ -45,16 +73,16 @@ fn fill_row(
     backward: &Backward,
     t: u32,
 )
-    requires size { length gains.old ≡ sc.now.horizon * sc.now.cells }
+    requires size { length gains.old ≡ sc.now.horizon * sc.now.positions }
     requires rate { rate ≤ sc.now.sweep.denominator }
     requires met { (path : List ℕ) × IsMet sc.now path t belief.now backward.now }
     requires first { 1 ≤ t }
     requires last { t ≤ sc.now.horizon }
     ensures row { (path : List ℕ) → IsMet sc.now path t belief.now backward.now → IsGainRow sc.now rate path t gains.new }
-    ensures earlier { (i : ℕ) → i < (t - 1) * sc.now.cells → slice_index gains.new i ≡ slice_index gains.old i }
+    ensures earlier { (i : ℕ) → i < (t - 1) * sc.now.positions → slice_index gains.new i ≡ slice_index gains.old i }
 {
-    let here = (t as usize - 1) * usize::from(sc.cells());
-    for a in 0..sc.cells() {
+    let here = (t as usize - 1) * usize::from(sc.positions());
+    for a in 0..sc.positions() {
         gains[here + usize::from(a)] = gain(sc, rate, belief, backward, t, a);
     }
 }
@@ -70,7 +98,7 @@ fn fill_rows(
     reference: &Path,
     k: u32,
 )
-    requires size { length gains.old ≡ sc.now.horizon * sc.now.cells }
+    requires size { length gains.old ≡ sc.now.horizon * sc.now.positions }
     requires rate { rate ≤ sc.now.sweep.denominator }
     requires path { IsPath sc.now reference.now }
     requires backward { IsFilledFrom sc.now reference.now (k + 1) backward.now }
@@ -97,7 +125,7 @@ pub(crate) fn fill_after(
     prefix: &Path,
     reference: &Path,
 )
-    requires size { length gains.old ≡ sc.now.horizon * sc.now.cells }
+    requires size { length gains.old ≡ sc.now.horizon * sc.now.positions }
     requires rate { rate ≤ sc.now.sweep.denominator }
     requires belief { IsPast sc.now prefix.now belief.old }
     requires near { belief.old.period ≤ length prefix.now + 1 }
@@ -115,17 +143,17 @@ pub(crate) fn fill_after(
 }
 
 /// The sum of the gains along a path after its first `k` positions.
-pub(crate) fn sum_after(gains: &[u128], cells: u8, path: &[u8], k: u32) -> u128
-    requires size { length gains.now ≡ length path.now * cells }
-    requires within { All (λ a. a < cells) path.now }
+pub(crate) fn sum_after(gains: &[u128], positions: u8, path: &[u8], k: u32) -> u128
+    requires size { length gains.now ≡ length path.now * positions }
+    requires within { All (λ a. a < positions) path.now }
     requires few { length path.now ≤ 32 }
     requires period { k ≤ length path.now }
-    requires fits { sum_along (entry_at cells gains.now) (k + 1) (drop k path.now) < 2 ^ 128 }
-    ensures { result ≡ sum_along (entry_at cells gains.now) (k + 1) (drop k path.now) }
+    requires fits { sum_along (entry_at positions gains.now) (k + 1) (drop k path.now) < 2 ^ 128 }
+    ensures { result ≡ sum_along (entry_at positions gains.now) (k + 1) (drop k path.now) }
 {
     let mut sum = 0;
     for n in k as usize..path.len() {
-        sum += gains[n * usize::from(cells) + usize::from(path[n])];
+        sum += gains[n * usize::from(positions) + usize::from(path[n])];
     }
     sum
 }

@@ -2,19 +2,18 @@
 
 ghost use Rattle.std.specs.Prelude.{◌≡◌, ◌<◌, ◌≤◌, ◌+◌, ℕ, take, length};
 ghost use Rattle.search_model.specs.Legal.{IsLegal, last_of};
-ghost use Rattle.search_model.specs.Bounds.{IsRate};
 ghost use Rattle.belief_update.specs.Trails.{IsAfter, IsPast};
+ghost use Rattle.tangent_bound.specs.Room.{IsRateFound};
 
 use belief_update::Belief;
 use search_model::{Path, Scenario};
 
-/// The rate of a scenario that has one.
-pub(crate) fn rate_of(sc: &Scenario) -> u32
-    requires { (rate : ℕ) × IsRate sc.now rate }
-    ensures { IsRate sc.now result }
+/// The rate of a scenario, where it has one. It is found by all looks of all periods.
+pub(crate) fn one_rate(sc: &Scenario) -> Option<u32>
+    ensures { IsRateFound sc.now result }
 {
     let _sound = sc.cells();
-    sc.sweep().one_rate().unwrap()
+    sc.sweep().one_rate(sc.horizon())
 }
 
 /// The last position of a prefix, or the start.

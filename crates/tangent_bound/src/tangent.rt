@@ -8,7 +8,7 @@ ghost use Rattle.backward_mass.specs.Table.{IsMadeFor as IsBackwardFor};
 ghost use Rattle.tangent_bound.specs.Room.{IsMadeFor};
 
 use crate::gains::{fill_after, sum_after};
-use crate::steps::{last_position, rate_of};
+use crate::steps::{last_position, one_rate};
 use backward_mass::Backward;
 use belief_update::{Belief, follow, value_by};
 use exact_parts::NoMemory;
@@ -17,8 +17,8 @@ use search_model::{Path, Scenario};
 use std::alloc::Global;
 use std::marker::Model;
 
-/// Tables for the tangent bound of a scenario's prefixes, made once for its numbers of cells and of periods and filled
-/// anew for each bound. The bound is this project's own, by convexity; it is for scenarios of one rate.
+/// Tables for the tangent bound of a scenario's prefixes, made once for its sizes and its rate and filled anew for each
+/// bound. The bound is this project's own, by convexity; it is for scenarios of one rate.
 ///
 /// Where each look misses all of a target or one rate of it, what is missed of a track is convex in the number of looks
 /// that cover the track. The bound goes along the tangent at a reference path: one more look gains what it would find of
@@ -32,6 +32,8 @@ pub struct Tangent {
     // prefix that was asked are those of its reference.
     gains: Vec<u128>,
     walk: Walk,
+    // The rate of the scenario, where it has one: what its looks miss where they find something.
+    rate: Option<u32>,
 }
 
 impl Model for Tangent {
@@ -40,13 +42,12 @@ impl Model for Tangent {
 
     ghost Value = { TangentRoom };
 
-    ghost view = { λ w. record { cells = w.walk.cells; horizon = w.walk.horizon } };
+    ghost view = { λ w. record { cells = w.backward.cells; positions = w.walk.positions; horizon = w.walk.horizon; rate = w.rate } };
 
     ghost invariant = { λ w. record {
-      belief : length w.belief.masses ≡ w.walk.cells;
-      backward_cells : w.backward.cells ≡ w.walk.cells;
+      belief : length w.belief.masses ≡ w.backward.cells;
       backward_horizon : w.backward.horizon ≡ w.walk.horizon;
-      gains : length w.gains.items ≡ w.walk.horizon * w.walk.cells;
+      gains : length w.gains.items ≡ w.walk.horizon * w.walk.positions;
     } };
 }
 
@@ -58,48 +59,57 @@ fn bound_by(
     gains: &mut [u128],
     walk: &mut Walk,
     sc: &Scenario,
+    rate: u32,
     prefix: &Path,
     reference: &Path,
 ) -> u128
     requires belief { IsPast sc.now prefix.now belief.old }
     requires near { belief.old.period ≤ length prefix.now + 1 }
     requires backward { IsBackwardFor sc.now backward.old }
-    requires size { length gains.old ≡ sc.now.horizon * sc.now.cells }
-    requires cells { walk.old.cells ≡ sc.now.cells }
+    requires size { length gains.old ≡ sc.now.horizon * sc.now.positions }
+    requires positions { walk.old.positions ≡ sc.now.positions }
     requires horizon { walk.old.horizon ≡ sc.now.horizon }
-    requires rate { (rate : ℕ) × IsRate sc.now rate }
+    requires rate { IsRate sc.now rate }
     requires prefix { IsLegal sc.now prefix.now }
     requires open { length prefix.now < sc.now.horizon }
     requires path { IsPath sc.now reference.now }
     requires begins { take (length prefix.now) reference.now ≡ prefix.now }
-    ensures value { (rate : ℕ) → IsRate sc.now rate → result ≡ tangent_of sc.now rate prefix.now reference.now }
+    ensures value { result ≡ tangent_of sc.now rate prefix.now reference.now }
     ensures belief { length belief.new.masses ≡ sc.now.cells }
     ensures backward { IsBackwardFor sc.now backward.new }
-    ensures cells { walk.new.cells ≡ sc.now.cells }
+    ensures positions { walk.new.positions ≡ sc.now.positions }
     ensures horizon { walk.new.horizon ≡ sc.now.horizon }
 {
-    let cells = sc.cells();
-    let rate = rate_of(sc);
+    let positions = sc.positions();
     fill_after(gains, sc, rate, belief, backward, prefix, reference);
     let k = prefix.len() as u32;
     walk.fill(sc.grid(), gains, last_position(sc, prefix), k);
-    let own = sum_after(gains, cells, reference.cells(), k);
+    let own = sum_after(gains, positions, reference.cells(), k);
     let value = value_by(sc, belief, reference);
     u128::from(sc.sweep().denominator()) * value + walk.greatest() - own
 }
 
 impl Tangent {
-    /// The tables of a scenario: one number for each cell of each period, and a belief. Only this call takes memory.
+    /// The tables of a scenario: one number for each position of each period, a belief, and the rate of the looks, for which
+    /// it goes through them once. Only this call takes memory.
     pub fn tables(alloc: Global, sc: &Scenario) -> Result<Tangent, NoMemory>
         ensures { IfOk result (IsMadeFor sc.now) }
     {
-        let size = sc.horizon() as usize * usize::from(sc.cells());
+        let size = sc.horizon() as usize * usize::from(sc.positions());
         Ok(Tangent {
             belief: Belief::start(alloc, sc)?,
             backward: Backward::tables(alloc, sc)?,
             gains: vec![in alloc; 0; size]?,
-            walk: Walk::tables(alloc, sc.cells(), sc.horizon())?,
+            walk: Walk::tables(alloc, sc.positions(), sc.horizon())?,
+            rate: one_rate(sc),
         })
+    }
+
+    /// The rate of the scenario, where it has one.
+    pub fn rate(&self) -> Option<u32>
+        ensures { result ≡ self.now.rate }
+    {
+        self.rate
     }
 
     /// The tangent bound of a prefix at a reference path that begins with it, in parts of the looks' denominator times
@@ -118,6 +128,7 @@ impl Tangent {
         ensures value { (rate : ℕ) → IsRate sc.now rate → result ≡ tangent_of sc.now rate prefix.now reference.now }
         ensures made { IsMadeFor sc.now self.new }
     {
+        let rate = self.rate.unwrap();
         follow(sc, &mut self.belief, prefix);
         bound_by(
             &mut self.belief,
@@ -125,6 +136,7 @@ impl Tangent {
             &mut self.gains,
             &mut self.walk,
             sc,
+            rate,
             prefix,
             reference,
         )
@@ -149,6 +161,7 @@ impl Tangent {
         ensures value { (rate : ℕ) → IsRate sc.now rate → result ≡ tangent_of sc.now rate prefix.now reference.now }
         ensures made { IsMadeFor sc.now self.new }
     {
+        let rate = self.rate.unwrap();
         self.belief.copy_from(row);
         bound_by(
             &mut self.belief,
@@ -156,6 +169,7 @@ impl Tangent {
             &mut self.gains,
             &mut self.walk,
             sc,
+            rate,
             prefix,
             reference,
         )

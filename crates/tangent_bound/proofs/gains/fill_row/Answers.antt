@@ -8,9 +8,9 @@ use Rattle.backward_mass.proofs.Tables.{place_within}
 inside : (c : goal.After-from-in-loop-a) → (c.args.t - 1) * c.from.result + c.loop-a.a < length c.loop-a.gains
 inside c =
     let p = c.args.sc.now in
-    let cells : c.from.result ≡ p.cells = omega (arith, c.from.ensures, c.cells.ensures.value) in
-    let here : c.loop-a.a < p.cells = omega (arith, c.loop-a-test.true, c.cells-a-end.ensures.value) in
-    rw cells (omega (arith, place_within p.horizon p.cells c.args.t c.loop-a.a c.requires.first c.requires.last here, c.loop-a.auto.gains, c.requires.size))
+    let positions : c.from.result ≡ p.positions = omega (arith, c.from.ensures, c.positions.ensures.value) in
+    let here : c.loop-a.a < p.positions = omega (arith, c.loop-a-test.true, c.positions-a-end.ensures.value) in
+    rw positions (omega (arith, place_within p.horizon p.positions c.args.t c.loop-a.a c.requires.first c.requires.last here, c.loop-a.auto.gains, c.requires.size))
 
 pub bounds-gains-here : goal.bounds-gains-here
 bounds-gains-here c = rw c.from-in-loop-a.ensures (inside c)

@@ -1,12 +1,12 @@
-use Rattle.std.proofs.Common.{◌≡◌, ◌≤◌, ◌+◌, length, take, arith}
+use Rattle.std.proofs.Common.{◌≡◌, length, take, arith}
 use Rattle.std.proofs.lemmas.List.{length-take-le}
 use Rattle.belief_update.specs.Trails.{IsAhead}
 use Rattle.belief_update.proofs.TrailSteps.{ready_ahead, unlooked_ahead, after_look}
 use Rattle.tangent_bound.proofs.WholePath.{position_within}
 use Rattle.tangent_bound.proofs.steps.look_on.Goals as goal
 
-pub look-requires-clause-cell : goal.look-requires-clause-cell
-look-requires-clause-cell c = rw c.cells.ensures.value (position_within c.args.sc.now c.cells-sound.ensures.sound c.args.path.now c.requires.path.follows c.args.looks 0 c.requires.more)
+pub look-requires-clause-position : goal.look-requires-clause-position
+look-requires-clause-position c = rw c.cells.ensures.value (position_within c.args.sc.now c.cells-sound.ensures.sound c.args.path.now c.requires.path.follows c.args.looks 0 c.requires.more)
 
 pub returns : goal.returns
 returns c =

@@ -18,10 +18,10 @@ returns c =
     let rest = c.least_best.ensures.kept.0 in
     let whole : c.least_best.new.to ≡ q ++ rest = c.least_best.ensures.kept.1 in
     let added : drop (length q) c.least_best.new.to ≡ rest = ap (drop (length q)) whole ∙ drop-append_seam q rest in
-    let cells : c.self.inside.walk.cells ≡ p.cells = ap (λ m. m.walk.cells) c.self.view_is ∙ c.requires.made.cells in
+    let positions : c.self.inside.walk.positions ≡ p.positions = ap (λ m. m.walk.positions) c.self.view_is ∙ c.requires.made.positions in
     let horizon : c.self.inside.walk.horizon ≡ p.horizon = ap (λ m. m.walk.horizon) c.self.view_is ∙ c.requires.made.horizon in
     let start : c.self.inside.walk.from ≡ from = ap (λ m. m.walk.from) c.self.view_is ∙ filled.walked.start in
     let rewards : c.deref.result.now ≡ c.args.self.now.rewards = c.deref.ensures.value ∙ ap (λ m. m.rewards) c.self.view_is in
-    let least : IsLeastBest p.moves (entry_at p.cells c.args.self.now.rewards) (p.horizon - length q) (length q + 1) from rest =
-    rw (c.grid.ensures, cells, horizon, start, rewards, added) at c.least_best.ensures.least in
+    let least : IsLeastBest p.moves (entry_at p.positions c.args.self.now.rewards) (p.horizon - length q) (length q + 1) from rest =
+    rw (c.grid.ensures, positions, horizon, start, rewards, added) at c.least_best.ensures.least in
     (rest, whole, least_is p sound q c.args.self.now.rewards filled.rewarded filled.short from rest here least)
