@@ -1,16 +1,12 @@
 -- A prefix's tangent bound: there is at most one, and whether there is one is decided by the look factors.
-use Rattle.std.proofs.Common.{◌≡◌, ◌⊎◌, ℕ, ◌+◌, ◌-◌, ◌<◌, ◌≤◌, List, [], ◌∷◌, ◌++◌, length, inl, inr, sym, refl, ap, ◌∙◌, subst, arith, ltb, ltb-false, All, Contains}
-use Rattle.std.proofs.lemmas.Bool.{cases_eq}
-use Rattle.std.proofs.lemmas.List.{take_at, get_or_default}
-use Rattle.std.proofs.lemmas.List.Elements.{All-nil, All-cons, All-head, All-tail, All-contains}
-use Rattle.std.proofs.lemmas.List.MinMax.{IsStrictWeakOrder-by_number}
+use Rattle.std.proofs.Common.{◌≡◌, ◌⊎◌, ℕ, ◌+◌, ◌-◌, ◌<◌, List, ◌++◌, length, inl, inr, sym, refl, ap, ◌∙◌, subst, arith}
+use Rattle.std.proofs.lemmas.List.{take_at}
 use Rattle.sweep_table.proofs.OneRate.{one_rate_or_none}
 use Rattle.search_model.specs.Problem.{Problem, IsProblem}
 use Rattle.search_model.specs.Legal.{IsLegal, last_of}
 use Rattle.search_model.specs.Bounds.{reward_of, IsRate, tangent_of}
 use Rattle.search_model.proofs.LegalLemmas.{last_within}
 use Rattle.search_model.proofs.WalkLemmas.{continuations_are}
-use Rattle.search_model.proofs.Best.{unbeaten}
 use Rattle.search_model.proofs.Rates.{one_rate, one_rate_is_rate}
 use Rattle.search_model.proofs.LeastBest.{one_least_best}
 use Rattle.bound_tree.specs.Accepts.{Extends}
