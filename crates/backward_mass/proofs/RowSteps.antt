@@ -1,9 +1,8 @@
 -- The steps of the backward pass.
-use Rattle.std.proofs.Common.{ℕ, zero, suc, ◌+◌, ◌*◌, ◌-◌, ◌^◌, ◌<◌, ◌≤◌, ◌≡◌, List, [], ◌∷◌, length, slice_index, get_or, drop, take, inl, inr, refl, ◌∙◌, arith, sum_by, All, mul-le-mul_right}
+use Rattle.std.proofs.Common.{ℕ, zero, suc, ◌+◌, ◌*◌, ◌-◌, ◌^◌, ◌<◌, ◌≤◌, ◌≡◌, List, ◌∷◌, length, slice_index, get_or, drop, take, inl, inr, refl, ◌∙◌, arith, sum_by, All, mul-le-mul_right}
 use Rattle.std.proofs.lemmas.Bool.{cases_lt}
 use Rattle.std.proofs.lemmas.List.{drop_more}
-use Rattle.std.proofs.lemmas.List.Sums.{sum_by-cons}
-use Rattle.std.proofs.lemmas.List.Elements.{All-head, All-tail, All-weaker, All-take, All-get_or}
+use Rattle.std.proofs.lemmas.List.Elements.{All-weaker, All-take, All-get_or}
 use Rattle.drift_chain.specs.declared.part.DriftPart.{DriftPart}
 use Rattle.drift_chain.specs.DriftRows.{row_of}
 use Rattle.sweep_table.specs.LookParts.{factor_of, positions_of}

@@ -22,6 +22,7 @@ fn waiting_longer(alloc: Global) -> Result<Scenario, Fail> {
     let drifts = vec![in alloc; stays(alloc, 0)?, stays(alloc, 1)?, stays(alloc, 2)?]?;
     Ok(Scenario::new(Parts {
         names: vec![in alloc; a, b, c]?,
+        positions: vec![in alloc; a, b, c]?,
         horizon: 3,
         start: 1,
         total: 1,

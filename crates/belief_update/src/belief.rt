@@ -76,14 +76,14 @@ impl Belief {
     }
 
     /// Looks from a position, in a period that isn't looked at yet.
-    pub fn look(&mut self, sc: &Scenario, cell: u8)
+    pub fn look(&mut self, sc: &Scenario, position: u8)
         requires belief { IsUnlooked sc.now self.old }
-        requires cell { cell < sc.now.positions }
-        ensures belief { (looks : List (Option ℕ)) → IsBelief sc.now (looks ++ None ∷ []) self.old → IsBelief sc.now (looks ++ Some cell ∷ []) self.new }
+        requires position { position < sc.now.positions }
+        ensures belief { (looks : List (Option ℕ)) → IsBelief sc.now (looks ++ None ∷ []) self.old → IsBelief sc.now (looks ++ Some position ∷ []) self.new }
         ensures period { self.new.period ≡ self.old.period }
     {
         let _sound = sc.cells();
-        steps::weaken(&mut self.masses, sc.sweep(), self.period, cell);
+        steps::weaken(&mut self.masses, sc.sweep(), self.period, position);
         self.looked = true;
     }
 
@@ -142,26 +142,26 @@ impl Belief {
         }
     }
 
-    /// Becomes another belief after one look more: from `cell`, in the period of that belief where it isn't looked at,
+    /// Becomes another belief after one look more: from `position`, in the period of that belief where it isn't looked at,
     /// else in the next one. It counts one step.
     pub fn step_from<L: Ledger>(
         &mut self,
         sc: &Scenario,
         before: &Belief,
-        cell: u8,
+        position: u8,
         steps: &mut Steps<L>,
     )
         requires cells { length self.old.masses ≡ sc.now.cells }
         requires belief { IsReached sc.now before.now }
         requires period { IsTrue before.now.looked → before.now.period < sc.now.horizon }
-        requires cell { cell < sc.now.positions }
-        ensures first { (looks : List (Option ℕ)) → IsBelief sc.now (looks ++ None ∷ []) before.now → IsBelief sc.now (looks ++ Some cell ∷ []) self.new }
+        requires position { position < sc.now.positions }
+        ensures first { (looks : List (Option ℕ)) → IsBelief sc.now (looks ++ None ∷ []) before.now → IsBelief sc.now (looks ++ Some position ∷ []) self.new }
         ensures later { (looks : List (Option ℕ)) (a : ℕ) → IsBelief sc.now (looks ++ Some a ∷ []) before.now
-            → IsBelief sc.now (looks ++ Some a ∷ [] ++ Some cell ∷ []) self.new }
+            → IsBelief sc.now (looks ++ Some a ∷ [] ++ Some position ∷ []) self.new }
         ensures counted { steps.new ≡ steps.old + 1 }
     {
         self.advance_from(sc, before);
-        self.look(sc, cell);
+        self.look(sc, position);
         steps.tick();
     }
 

@@ -36,6 +36,7 @@ fn two_cells(alloc: Global) -> Result<Scenario, Fail>
     let drifts = vec![in alloc; either(alloc)?, either(alloc)?]?;
     Ok(Scenario::new(Parts {
         names: vec![in alloc; a, b]?,
+        positions: vec![in alloc; a, b]?,
         horizon: 2,
         start: 0,
         total: 2,
@@ -135,6 +136,7 @@ fn waiting_longer(alloc: Global) -> Result<Scenario, Fail>
     let drifts = vec![in alloc; stays(alloc, 0)?, stays(alloc, 1)?, stays(alloc, 2)?]?;
     Ok(Scenario::new(Parts {
         names: vec![in alloc; a, b, c]?,
+        positions: vec![in alloc; a, b, c]?,
         horizon: 3,
         start: 1,
         total: 1,

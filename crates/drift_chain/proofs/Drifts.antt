@@ -1,12 +1,17 @@
 -- Drifts, row by row.
-use Rattle.std.proofs.Common.{ℕ, ◌<◌, ◌≤◌, ◌≡◌, List, [], length, sym, ◌∙◌}
+use Rattle.std.proofs.Common.{ℕ, ◌<◌, ◌≤◌, ◌≡◌, List, [], length, sym, ◌∙◌, arith}
 use Rattle.std.specs.List.Sorted.{IsPermutation}
 use Rattle.std.proofs.lemmas.List.{same_lists, get_or_default}
+use Rattle.std.proofs.lemmas.List.Elements.{All-nil}
 use Rattle.std.proofs.lemmas.List.Sorted.{Contains-permutation, IsPermutation-sym}
 use Rattle.drift_chain.specs.declared.part.DriftPart.{DriftPart}
-use Rattle.drift_chain.specs.DriftRows.{row_of, drift_over, IsDriftRow, IsDrift}
+use Rattle.drift_chain.specs.DriftRows.{row_of, drift_over, IsDriftRow, AreChanges, IsDrift}
 use Rattle.drift_chain.specs.Faults.{parts_from, HasSameParts}
 use Rattle.list_laws.proofs.Ascending.{Ascends-from_keys, same_ascending}
+
+-- no change at all
+pub AreChanges-none : (cells : ℕ) → AreChanges cells []
+AreChanges-none cells = record { within = All-nil _; differ = λ i j d before none. absurd (omega arith) }
 
 -- a drift's rows are right
 pub right_rows : (denominator : ℕ) (rows : List (List DriftPart)) → IsDrift (drift_over denominator rows) → (c : ℕ) → c < length rows → IsDriftRow denominator (length rows) (parts_from rows c)
@@ -21,10 +26,11 @@ IsDrift-from_rows denominator rows n size bounds count each = record {
   denominator = bounds;
   size = rw (← size) count;
   each = λ t c inside. rw (← size) (each c (rw size inside));
+  changes = AreChanges-none (length rows);
 }
 
 -- two right rows with the same entries are the same
-same_row : (denominator n m : ℕ) (xs ys : List DriftPart) → IsDriftRow denominator n xs → IsDriftRow denominator m ys → IsPermutation xs ys → xs ≡ ys
+pub same_row : (denominator n m : ℕ) (xs ys : List DriftPart) → IsDriftRow denominator n xs → IsDriftRow denominator m ys → IsPermutation xs ys → xs ≡ ys
 same_row denominator n m xs ys right right' same =
     same_ascending (λ entry. entry.cell) xs ys (Ascends-from_keys (λ entry. entry.cell) xs right.ascending) (Ascends-from_keys (λ entry. entry.cell) ys right'.ascending)
     (λ z there. Contains-permutation xs ys z same there)

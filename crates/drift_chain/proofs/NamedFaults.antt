@@ -12,13 +12,13 @@ use Rattle.list_laws.proofs.Ascending.{Ascends-from_keys, count_at-le}
 use Rattle.drift_chain.proofs.Drifts.{right_rows}
 
 -- the order of the entries in a row makes and mends no fault
-Any-permutation : {X : Type 0} (P : X → Type 0) (xs ys : List X) → IsPermutation xs ys → Any P xs → Any P ys
+pub Any-permutation : {X : Type 0} (P : X → Type 0) (xs ys : List X) → IsPermutation xs ys → Any P xs → Any P ys
 Any-permutation P xs ys same any = let there = Contains-permutation xs ys any.1 same (any.0, any.2, any.3) in (there.0, any.1, there.1, there.2, any.4)
 
-HasDouble-permutation : (xs ys : List DriftPart) → IsPermutation xs ys → HasDouble xs → HasDouble ys
+pub HasDouble-permutation : (xs ys : List DriftPart) → IsPermutation xs ys → HasDouble xs → HasDouble ys
 HasDouble-permutation xs ys same double = (double.0, rw (sum_by-IsPermutation (λ entry. if entry.cell == double.0 then 1 else 0) xs ys same) double.1)
 
-wrong_sum-permutation : (denominator : ℕ) (xs ys : List DriftPart) → IsPermutation xs ys → sum_by (λ entry. entry.part) xs ≢ denominator → sum_by (λ entry. entry.part) ys ≢ denominator
+pub wrong_sum-permutation : (denominator : ℕ) (xs ys : List DriftPart) → IsPermutation xs ys → sum_by (λ entry. entry.part) xs ≢ denominator → sum_by (λ entry. entry.part) ys ≢ denominator
 wrong_sum-permutation denominator xs ys same wrong right = wrong (sym (sum_by-IsPermutation (λ entry. entry.part) xs ys same) ∙ right)
 
 HasFault-same : (denominator : ℕ) (given made : List (List DriftPart)) → HasSameParts given made → (fault : DriftFault) → HasFault denominator given fault → HasFault denominator made fault
@@ -39,19 +39,19 @@ IsFirstFault-same denominator given made same fault first = record {
 }
 
 -- what holds of all entries fails at none
-none_out : (cells : ℕ) (row : List DriftPart) → All (λ entry. entry.cell < cells) row → Any (λ entry. cells ≤ entry.cell) row → ⊥
+pub none_out : (cells : ℕ) (row : List DriftPart) → All (λ entry. entry.cell < cells) row → Any (λ entry. cells ≤ entry.cell) row → ⊥
 none_out cells row within out =
     let here = within out.0 out.1 out.2 in
     let below : out.1.cell < cells = rw out.3 at here in
     omega (arith, below, out.4)
 
-none_zero : (row : List DriftPart) → All (λ entry. 1 ≤ entry.part) row → Any (λ entry. entry.part ≡ 0) row → ⊥
+pub none_zero : (row : List DriftPart) → All (λ entry. 1 ≤ entry.part) row → Any (λ entry. entry.part ≡ 0) row → ⊥
 none_zero row positive zero =
     let here = positive zero.0 zero.1 zero.2 in
     let some : 1 ≤ zero.1.part = rw zero.3 at here in
     omega (arith, some, zero.4)
 
-none_double : (row : List DriftPart) → IsStrictlyIncreasing (map (λ entry. entry.cell) row) → HasDouble row → ⊥
+pub none_double : (row : List DriftPart) → IsStrictlyIncreasing (map (λ entry. entry.cell) row) → HasDouble row → ⊥
 none_double row up double = omega (arith, count_at-le (λ entry. entry.cell) double.0 row (Ascends-from_keys (λ entry. entry.cell) row up), double.1)
 
 -- a drift's rows have no fault, in any order
@@ -69,7 +69,7 @@ pub no_first_fault : (denominator : ℕ) (rows : List (List DriftPart)) → IsDr
 no_first_fault denominator rows drift fault first = no_fault-of_drift denominator rows drift fault first.there
 
 -- a fault is not after another in the same row or a later one
-not_after : (c b m n : ℕ) → c ≤ b → (b ≡ c → m ≤ n) → (c < b) ⊎ ((c ≡ b) × (m ≤ n))
+pub not_after : (c b m n : ℕ) → c ≤ b → (b ≡ c → m ≤ n) → (c < b) ⊎ ((c ≡ b) × (m ≤ n))
 not_after c b m n le number = elim (cases_lt c b) [
   | inl before ↦ inl before
   | inr after ↦ let same : b ≡ c = omega arith in inr (omega arith, number same)

@@ -1,2 +1,4 @@
 pub mod DriftRows
 pub mod Faults
+pub mod ChangeFaults
+pub mod Changes

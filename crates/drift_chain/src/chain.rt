@@ -4,32 +4,39 @@ ghost use Rattle.std.specs.Prelude.{◌≡◌, ℕ, ◌<◌, ◌≤◌, ◌↔�
 ghost use Rattle.std.specs.List.Sorted.{IsStrictlyIncreasing};
 ghost use Rattle.drift_chain.specs.DriftRows.{part_in};
 
+use crate::changes::{ChangeFault, Changes, DriftChange};
 use crate::faults::{DriftFault, put_in_order};
 use crate::part::DriftPart;
+use std::alloc::Global;
 use std::marker::Model;
 
-/// Per cell, its row: the parts of the next step, in ascending order of their cells.
+/// Per period and cell, its row: the parts of the next step, in ascending order of their cells. A cell has one row for
+/// all periods, and for a period that differs one of its own.
 #[derive(Debug, Drop)]
 pub struct Drift {
     denominator: u32,
     rows: Vec<Vec<DriftPart>>,
+    changes: Option<Changes>,
 }
 
 impl Model for Drift {
     ghost use Rattle.std.specs.Prelude.{map};
-    ghost use Rattle.drift_chain.specs.DriftRows.{DriftRows, IsDrift};
+    ghost use Rattle.drift_chain.specs.DriftRows.{DriftRows};
+    ghost use Rattle.drift_chain.specs.Changes.{drift_by, AreForDrift};
 
     ghost Value = { DriftRows };
 
-    ghost view = { λ d. record { denominator = d.denominator; rows = map (λ row. row.items) d.rows.items } };
+    ghost view = { λ d. drift_by d.denominator (map (λ row. row.items) d.rows.items) d.changes };
 
-    ghost invariant = { λ d. IsDrift (record { denominator = d.denominator; rows = map (λ row. row.items) d.rows.items }) };
+    ghost invariant = { λ d. AreForDrift d.denominator (map (λ row. row.items) d.rows.items) d.changes };
 }
 
 impl Drift {
-    ghost use Rattle.std.specs.Prelude.{Ok};
-    ghost use Rattle.drift_chain.specs.DriftRows.{drift_cells, row_of, part_of, drift_over, IsDrift};
+    ghost use Rattle.std.specs.Prelude.{Ok, Err, [], ◌⊎◌};
+    ghost use Rattle.drift_chain.specs.DriftRows.{drift_cells, row_of, part_of, drift_over, drift_with, IsDrift};
     ghost use Rattle.drift_chain.specs.Faults.{HasSameParts, HasFault, IsFirstFault};
+    ghost use Rattle.drift_chain.specs.ChangeFaults.{row_change, AreSameChanges, HasChangeFault, IsRefusal};
+    ghost use Rattle.drift_chain.specs.declared.changes.ChangeFault.TheVariants.{NoMemory};
 
     /// Makes the drift whose row of cell `c` is `rows[c]`, which it puts in ascending order of cells.
     ///
@@ -42,13 +49,50 @@ impl Drift {
         requires most_rows { length rows.items ≤ 200 }
         ensures denominator { IfOk result (λ drift. drift.denominator ≡ denominator) }
         ensures made { let given = map (λ row. row.items) rows.items in IfOk result (λ drift. HasSameParts given drift.rows) }
+        ensures plain { IfOk result (λ drift. drift.changes ≡ []) }
         ensures sound { IfOk result IsDrift }
         ensures faultless { let given = map (λ row. row.items) rows.items in IsOk result ↔ ((fault : DriftFault) → HasFault denominator given fault → ⊥) }
         ensures fault { let given = map (λ row. row.items) rows.items in IfErr result (IsFirstFault denominator given) }
         ensures kept { let given = drift_over denominator (map (λ row. row.items) rows.items) in IsDrift given → result ≡ Ok given }
     {
         put_in_order(denominator, &mut rows)?;
-        Ok(Drift { denominator, rows })
+        Ok(Drift {
+            denominator,
+            rows,
+            changes: None,
+        })
+    }
+
+    /// The drift with rows for single periods, 1 to 31, each of which it puts in ascending order of cells.
+    ///
+    /// The error is the fault of the first change that has one, and of its faults the first in the order of the
+    /// variants; or `NoMemory`.
+    pub fn in_periods(self, alloc: Global, changes: Vec<DriftChange>) -> Result<Drift, ChangeFault>
+        requires { self.changes ≡ [] }
+        ensures base { IfOk result (λ drift. drift ≡ drift_with self drift.changes) }
+        ensures made { let given = map row_change changes.items in IfOk result (λ drift. AreSameChanges given drift.changes) }
+        ensures sound { IfOk result IsDrift }
+        ensures faultless { let given = map row_change changes.items in
+            IsOk result → (fault : ChangeFault) → HasChangeFault self.denominator (drift_cells self) given fault → ⊥ }
+        ensures fault { let given = map row_change changes.items in
+            IfErr result (IsRefusal self.denominator (drift_cells self) given) }
+        ensures kept { let given = drift_with self (map row_change changes.items) in
+            IsDrift given → (result ≡ Ok given) ⊎ (result ≡ Err NoMemory) }
+    {
+        if changes.is_empty() {
+            return Ok(self);
+        }
+        let Drift {
+            denominator,
+            rows,
+            ..
+        } = self;
+        let changes = Changes::new(alloc, denominator, rows.len() as u8, changes)?;
+        Ok(Drift {
+            denominator,
+            rows,
+            changes: Some(changes),
+        })
     }
 
     /// What the parts of each row sum to.
@@ -75,7 +119,11 @@ impl Drift {
         ensures value { result.now ≡ row_of self.now t c }
         ensures sound { IsDrift self.now }
     {
-        &self.rows[c as usize]
+        let own: &[DriftPart] = &self.rows[c as usize];
+        match &self.changes {
+            Some(changes) => changes.row(t, c).unwrap_or(own),
+            None => own,
+        }
     }
 
     /// The part of the step from cell `c` to cell `d` after period `t`: 0 where `d` isn't in the row.

@@ -64,7 +64,12 @@ fn first_fault(denominator: u32, rows: &[Vec<DriftPart>]) -> Option<DriftFault>
 }
 
 // What is wrong with the row of a cell, in ascending order, out of so many cells.
-fn row_fault(denominator: u32, cells: usize, cell: u8, row: &[DriftPart]) -> Option<DriftFault>
+pub(crate) fn row_fault(
+    denominator: u32,
+    cells: usize,
+    cell: u8,
+    row: &[DriftPart],
+) -> Option<DriftFault>
     requires few { cells ≤ 200 }
     requires ascending { IsNonDecreasingBy (λ entry. entry.cell) row.now }
     ensures none { IfNone result (IsDriftRow denominator cells row.now) }

@@ -1,11 +1,13 @@
-//! How the target drifts: per cell, the parts of its next step.
+//! How the target drifts: per period and cell, the parts of its next step.
 #![tactic(auto)]
 
 mod chain;
+pub mod changes;
 mod faults;
 pub mod part;
 
 pub use chain::Drift;
+pub use changes::{ChangeFault, DriftChange};
 pub use faults::DriftFault;
 pub use part::DriftPart;
 

@@ -4,13 +4,17 @@ pub mod Filtered
 pub mod Changed
 pub mod Exchanges
 pub mod Firsts
+pub mod FirstFaults
+pub mod Found
 pub mod Halves
 pub mod Mapped
 pub mod Matched
 pub mod Members
 pub mod Pairs
 pub mod Parts
+pub mod Passes
 pub mod Ranges
+pub mod Reordered
 pub mod Rising
 pub mod Sums
 pub mod Wholes

@@ -1,5 +1,5 @@
 -- Two lists that match, element by element.
-use Rattle.std.proofs.Common.{ℕ, suc, ◌<◌, ◌≡◌, List, [], ◌∷◌, length, get_or, refl, arith, All, sum_by}
+use Rattle.std.proofs.Common.{ℕ, suc, ◌<◌, ◌≡◌, List, [], ◌∷◌, length, get_or, map, refl, arith, All, sum_by}
 use Rattle.std.specs.List.{AllZip}
 use Rattle.std.proofs.lemmas.List.Elements.{length_all_zip, AllZip-get_or}
 use Rattle.std.proofs.lemmas.List.Sums.{sum_by-cons}
@@ -24,3 +24,24 @@ module _ {X : Type 0} (R : X → X → Type 0) where
   sum_by-zip f same [] (y ∷ ys) zip = absurd zip
   sum_by-zip f same (x ∷ xs) [] zip = absurd zip
   sum_by-zip f same (x ∷ xs) (y ∷ ys) zip = omega (arith, sum_by-cons f x xs, sum_by-cons f y ys, same x y zip.0, sum_by-zip f same xs ys zip.1)
+
+-- what two lists match by, their images do
+pub AllZip-images : {X Y : Type 0} (S : Y → Y → Type 0) (f : X → Y) (xs ys : List X) → AllZip (λ x y. S (f x) (f y)) xs ys → AllZip S (map f xs) (map f ys)
+AllZip-images S f [] [] zip = tt
+AllZip-images S f [] (y ∷ ys) zip = absurd zip
+AllZip-images S f (x ∷ xs) [] zip = absurd zip
+AllZip-images S f (x ∷ xs) (y ∷ ys) zip = (zip.0, AllZip-images S f xs ys zip.1)
+
+-- and by what follows from it
+pub AllZip-weaker : {X : Type 0} (R S : X → X → Type 0) → ((x y : X) → R x y → S x y) → (xs ys : List X) → AllZip R xs ys → AllZip S xs ys
+AllZip-weaker R S follows [] [] zip = tt
+AllZip-weaker R S follows [] (y ∷ ys) zip = absurd zip
+AllZip-weaker R S follows (x ∷ xs) [] zip = absurd zip
+AllZip-weaker R S follows (x ∷ xs) (y ∷ ys) zip = (follows x y zip.0, AllZip-weaker R S follows xs ys zip.1)
+
+-- and the other way round
+pub AllZip-flip : {X : Type 0} (R S : X → X → Type 0) → ((x y : X) → R x y → S y x) → (xs ys : List X) → AllZip R xs ys → AllZip S ys xs
+AllZip-flip R S turned [] [] zip = tt
+AllZip-flip R S turned [] (y ∷ ys) zip = absurd zip
+AllZip-flip R S turned (x ∷ xs) [] zip = absurd zip
+AllZip-flip R S turned (x ∷ xs) (y ∷ ys) zip = (turned x y zip.0, AllZip-flip R S turned xs ys zip.1)

@@ -12,14 +12,14 @@ use Rattle.longest_walk.proofs.Steps.{sum_through, All-moves, greatest_sum-zero,
 use Rattle.longest_walk.proofs.Highest.{highest_above_reward, highest_above, highest_sum-suc, highest_sum-later}
 
 -- in the last period the sums are the rewards
-pub HasSums-last : (rows : List (List ℕ)) (cells horizon : ℕ) (rewards sums : List ℕ) → 1 ≤ horizon →
-    ((i : ℕ) → (horizon - 1) * cells ≤ i → slice_index sums i ≡ slice_index rewards i) → HasSums rows cells horizon rewards (horizon - 1) sums
-HasSums-last rows cells horizon rewards sums some same t q after within here =
+pub HasSums-last : (rows : List (List ℕ)) (positions horizon : ℕ) (rewards sums : List ℕ) → 1 ≤ horizon →
+    ((i : ℕ) → (horizon - 1) * positions ≤ i → slice_index sums i ≡ slice_index rewards i) → HasSums rows positions horizon rewards (horizon - 1) sums
+HasSums-last rows positions horizon rewards sums some same t q after within here =
     let last : t ≡ horizon = omega (arith, some, after, within) in
     let none : horizon - t ≡ 0 = omega (arith, last) in
-    let nothing : greatest_sum rows (entry_at cells rewards) (horizon - t) (t + 1) q ≡ 0 = rw none (greatest_sum-zero rows (entry_at cells rewards) (t + 1) q) in
-    let place : (horizon - 1) * cells ≤ (t - 1) * cells + q = rw last (omega arith) in
-    omega (arith, same ((t - 1) * cells + q) place, nothing)
+    let nothing : greatest_sum rows (entry_at positions rewards) (horizon - t) (t + 1) q ≡ 0 = rw none (greatest_sum-zero rows (entry_at positions rewards) (t + 1) q) in
+    let place : (horizon - 1) * positions ≤ (t - 1) * positions + q = rw last (omega arith) in
+    omega (arith, same ((t - 1) * positions + q) place, nothing)
 
 module _ (rows : List (List ℕ)) (grid : IsGrid rows) (horizon : ℕ) (rewards sums : List ℕ) (p : ℕ) (filled : HasSums rows (length rows) horizon rewards p sums) (below : p < horizon) where
   -- an entry of the row of the period after p, by its place
@@ -78,15 +78,15 @@ HasSums-more rows grid horizon rewards sums after p filled some below row later 
       subst P same (row q within ∙ ap (λ v. slice_index rewards ((p - 1) * length rows + q) + v) (next_greatest rows grid horizon rewards sums p filled below q within)))
 ]
 
--- the tables are filled where the rows are, and the best is the greatest over the moves of the first cell
-pub IsFilled-from : (rows : List (List ℕ)) → IsGrid rows → (w : Tables) (rewards : List ℕ) (k : ℕ) → length rows ≡ w.cells → HasSums rows (length rows) w.horizon rewards k w.sums → k < w.horizon → w.from < w.cells →
-    w.best ≡ greatest (sums_at w.sums (k * w.cells) (moves_from rows w.from)) → IsFilled w rows rewards w.from k
-IsFilled-from rows grid w rewards k cells filled below within best = record {
+-- the tables are filled where the rows are, and the best is the greatest over the moves of the first position
+pub IsFilled-from : (rows : List (List ℕ)) → IsGrid rows → (w : Tables) (rewards : List ℕ) (k : ℕ) → length rows ≡ w.positions → HasSums rows (length rows) w.horizon rewards k w.sums → k < w.horizon → w.from < w.positions →
+    w.best ≡ greatest (sums_at w.sums (k * w.positions) (moves_from rows w.from)) → IsFilled w rows rewards w.from k
+IsFilled-from rows grid w rewards k positions filled below within best = record {
   grid = grid;
-  cells = cells;
+  positions = positions;
   start = refl;
-  best = best ∙ subst P cells (next_greatest rows grid w.horizon rewards w.sums k filled below w.from (rw cells within));
-  sums = subst (λ n. HasSums rows n w.horizon rewards k w.sums) cells filled;
+  best = best ∙ subst P positions (next_greatest rows grid w.horizon rewards w.sums k filled below w.from (rw positions within));
+  sums = subst (λ n. HasSums rows n w.horizon rewards k w.sums) positions filled;
 }
   where
     P : ℕ → Type 0

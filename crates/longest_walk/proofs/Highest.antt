@@ -26,12 +26,12 @@ same_rewards_same_sum rows r s n t a grid here same =
     (walks rows n a) (All-contains_itself (walks rows n a))))
 
 -- no reward is above the highest of its period
-pub highest_above_reward : (cells : ℕ) (r : ℕ → ℕ → ℕ) (t q : ℕ) → q < cells → r t q ≤ highest cells r t
-highest_above_reward cells r t q less = greatest_above (map (r t) (range_with_len 0 cells)) (r t q) (Contains-map (r t) (range_with_len 0 cells) q (Contains-range_from_0 cells q less))
+pub highest_above_reward : (positions : ℕ) (r : ℕ → ℕ → ℕ) (t q : ℕ) → q < positions → r t q ≤ highest positions r t
+highest_above_reward positions r t q less = greatest_above (map (r t) (range_with_len 0 positions)) (r t q) (Contains-map (r t) (range_with_len 0 positions) q (Contains-range_from_0 positions q less))
 
 -- the first period's highest reward, and those of the rest
-pub highest_sum-suc : (cells : ℕ) (r : ℕ → ℕ → ℕ) (n t : ℕ) → highest_sum cells r (suc n) t ≡ highest cells r t + highest_sum cells r n (t + 1)
-highest_sum-suc cells r n t = sum_by-cons (highest cells r) t (range_with_len (t + 1) n)
+pub highest_sum-suc : (positions : ℕ) (r : ℕ → ℕ → ℕ) (n t : ℕ) → highest_sum positions r (suc n) t ≡ highest positions r t + highest_sum positions r n (t + 1)
+highest_sum-suc positions r n t = sum_by-cons (highest positions r) t (range_with_len (t + 1) n)
 
 -- along one walk
 sum_along_below_highest : (rows : List (List ℕ)) → IsGrid rows → (r : ℕ → ℕ → ℕ) (n t a : ℕ) (y : List ℕ) → a < length rows → Follows rows a y → length y ≡ n →
@@ -54,19 +54,19 @@ highest_above rows r n t a grid here =
     (walks rows n a) (All-contains_itself (walks rows n a))))
 
 pub highest_below : HighestBelow
-highest_below cells most r zero t each = omega arith
-highest_below cells most r (suc n) t each =
-    let first : highest cells r t ≤ most =
-    greatest_below most (map (r t) (range_with_len 0 cells)) (All-map (λ v. v ≤ most) (r t) (range_with_len 0 cells)
-    (All-range (λ q. r t q ≤ most) 0 cells (λ q from to. each t q (omega arith) (omega arith) (omega (arith, to))))) in
-    let rest = highest_below cells most r n (t + 1) (λ u q from to less. each u q (omega (arith, from)) (omega (arith, to)) less) in
-    omega (arith, first, rest, highest_sum-suc cells r n t)
+highest_below positions most r zero t each = omega arith
+highest_below positions most r (suc n) t each =
+    let first : highest positions r t ≤ most =
+    greatest_below most (map (r t) (range_with_len 0 positions)) (All-map (λ v. v ≤ most) (r t) (range_with_len 0 positions)
+    (All-range (λ q. r t q ≤ most) 0 positions (λ q from to. each t q (omega arith) (omega arith) (omega (arith, to))))) in
+    let rest = highest_below positions most r n (t + 1) (λ u q from to less. each u q (omega (arith, from)) (omega (arith, to)) less) in
+    omega (arith, first, rest, highest_sum-suc positions r n t)
 
 -- fewer periods have no greater sum
-pub highest_sum-later : (cells : ℕ) (r : ℕ → ℕ → ℕ) (j n t : ℕ) → highest_sum cells r n (t + j) ≤ highest_sum cells r (j + n) t
-highest_sum-later cells r zero n t = let e : t + 0 ≡ t = omega arith in let f : 0 + n ≡ n = omega arith in rw (e, f) (omega arith)
-highest_sum-later cells r (suc j) n t =
-    let rest = highest_sum-later cells r j n (t + 1) in
+pub highest_sum-later : (positions : ℕ) (r : ℕ → ℕ → ℕ) (j n t : ℕ) → highest_sum positions r n (t + j) ≤ highest_sum positions r (j + n) t
+highest_sum-later positions r zero n t = let e : t + 0 ≡ t = omega arith in let f : 0 + n ≡ n = omega arith in rw (e, f) (omega arith)
+highest_sum-later positions r (suc j) n t =
+    let rest = highest_sum-later positions r j n (t + 1) in
     let e : t + suc j ≡ t + 1 + j = omega arith in
     let f : suc j + n ≡ suc (j + n) = omega arith in
-    rw (e, f) (omega (arith, rest, highest_sum-suc cells r (j + n) t))
+    rw (e, f) (omega (arith, rest, highest_sum-suc positions r (j + n) t))

@@ -1,4 +1,4 @@
--- The least walk of the greatest sum, cell by cell from the table.
+-- The least walk of the greatest sum, position by position from the table.
 use Rattle.std.proofs.Common.{ℕ, suc, ◌+◌, ◌-◌, ◌*◌, ◌≤◌, ◌<◌, ◌≡◌, List, [], ◌∷◌, ◌++◌, map, length, drop, slice_index, sym, refl, ap, ◌∙◌, subst, arith, Contains, append_assoc}
 use Rattle.std.proofs.lemmas.List.{drop-append-le, length-append}
 use Rattle.search_grid.specs.Moves.{moves_from, IsGrid}
@@ -14,8 +14,8 @@ use Rattle.longest_walk.proofs.LeastWalks.{IsLeastBest-cons}
 use Rattle.longest_walk.proofs.Filling.{next_entry, next_entries}
 
 -- the sums of later periods are among those of more periods
-pub HasSums-later : (rows : List (List ℕ)) (cells horizon : ℕ) (rewards sums : List ℕ) (k p : ℕ) → k ≤ p → HasSums rows cells horizon rewards k sums → HasSums rows cells horizon rewards p sums
-HasSums-later rows cells horizon rewards sums k p le filled t q from to within = filled t q (omega (arith, le, from)) to within
+pub HasSums-later : (rows : List (List ℕ)) (positions horizon : ℕ) (rewards sums : List ℕ) (k p : ℕ) → k ≤ p → HasSums rows positions horizon rewards k sums → HasSums rows positions horizon rewards p sums
+HasSums-later rows positions horizon rewards sums k p le filled t q from to within = filled t q (omega (arith, le, from)) to within
 
 -- the least move, and then the least walk from there
 pub IsLeastBest-step : (rows : List (List ℕ)) → IsGrid rows → (horizon : ℕ) (rewards sums : List ℕ) (p a d : ℕ) (y : List ℕ) → HasSums rows (length rows) horizon rewards p sums → p < horizon → a < length rows →
@@ -36,7 +36,7 @@ IsLeastBest-step rows grid horizon rewards sums p a d y filled below here step r
     (λ e move same. step.least e move (entry e move ∙ same ∙ sym whole))
     rest)
 
--- the cells after the first ones, with one more
+-- the positions after the first ones, with one more
 pub drop-pushed : (old to : List ℕ) (d : ℕ) (y : List ℕ) → Starts old to → drop (length old) (to ++ d ∷ []) ++ y ≡ drop (length old) to ++ d ∷ y
 drop-pushed old to d y starts =
     let le : length old ≤ length to = rw (starts.1, length-append) (omega arith) in

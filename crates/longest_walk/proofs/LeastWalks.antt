@@ -13,7 +13,7 @@ use Rattle.search_model.proofs.Greatest.{greatest_above}
 use Rattle.longest_walk.proofs.Steps.{sum_through, greatest_sum-zero, greatest_sum-suc}
 use Rattle.search_model.proofs.LeastBest.{sum_along-cons, sum_along-below}
 
--- the empty walk is the only one of no cells
+-- the empty walk is the only one of no positions
 pub IsLeastBest-nil : (rows : List (List ℕ)) (r : ℕ → ℕ → ℕ) (t a : ℕ) → IsLeastBest rows r 0 t a []
 unfolding walks sum_along
 IsLeastBest-nil rows r t a = record {
@@ -22,7 +22,7 @@ IsLeastBest-nil rows r t a = record {
   least = λ z listed is. elim (Contains-cons_cases [] z [] listed) [ inl e ↦ ap (λ y. smaller y []) (sym e) | inr k ↦ absurd (Contains-nil z k) ];
 }
 
--- the first cell decides, and at the same first cell the rest
+-- the first position decides, and at the same first position the rest
 not_smaller-cons : (e d : ℕ) (z y : List ℕ) → d ≤ e → (e ≡ d → smaller z y ≡ false) → smaller (e ∷ z) (d ∷ y) ≡ false
 not_smaller-cons e d z y le rest = elim (cases_order e d) [
   | inl same ↦ rw (sym (nat_cmp_is e d Equal same)) (rest same)

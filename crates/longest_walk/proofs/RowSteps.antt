@@ -26,41 +26,41 @@ best_all f xs i best whole all so_far =
     omega (arith, left, so_far)
 
 -- the first of the greatest sums is that of the least move, since moves ascend
-pub first_is_least : (sums : List ℕ) (row : ℕ) (cells : List ℕ) (i : ℕ) → IsStrictlyIncreasing cells →
-    IsFirstMaxByKey (λ d. slice_index sums (row + d)) cells (length cells) i → IsLeastMove sums row cells (get_or cells i 0)
-first_is_least sums row cells i ascending first = record {
+pub first_is_least : (sums : List ℕ) (row : ℕ) (moves : List ℕ) (i : ℕ) → IsStrictlyIncreasing moves →
+    IsFirstMaxByKey (λ d. slice_index sums (row + d)) moves (length moves) i → IsLeastMove sums row moves (get_or moves i 0)
+first_is_least sums row moves i ascending first = record {
   move = there;
   best = omega (arith, upper, lower);
   least = λ e listed same. not_before e listed same;
 }
   where
     d : ℕ
-    d = get_or cells i 0
+    d = get_or moves i 0
 
     f : ℕ → ℕ
     f = λ d. slice_index sums (row + d)
 
-    there : Contains cells d
-    there = (i, first.0, get_or_default cells i d 0 first.0)
+    there : Contains moves d
+    there = (i, first.0, get_or_default moves i d 0 first.0)
 
-    none_above : (e : ℕ) → Contains cells e → f e ≤ f d
+    none_above : (e : ℕ) → Contains moves e → f e ≤ f d
     none_above e listed =
-        let at : get_or cells listed.0 0 ≡ e = get_or_default cells listed.0 0 e listed.1 ∙ listed.2 in
+        let at : get_or moves listed.0 0 ≡ e = get_or_default moves listed.0 0 e listed.1 ∙ listed.2 in
         subst (λ x. f x ≤ f d) at (first.1 listed.0 0 listed.1)
 
-    upper : greatest (sums_at sums row cells) ≤ f d
-    upper = greatest_below (f d) (map f cells) (All-map (λ v. v ≤ f d) f cells (All-weaker (Contains cells) (λ e. f e ≤ f d) none_above cells (All-contains_itself cells)))
+    upper : greatest (sums_at sums row moves) ≤ f d
+    upper = greatest_below (f d) (map f moves) (All-map (λ v. v ≤ f d) f moves (All-weaker (Contains moves) (λ e. f e ≤ f d) none_above moves (All-contains_itself moves)))
 
-    lower : f d ≤ greatest (sums_at sums row cells)
-    lower = greatest_above (map f cells) (f d) (Contains-map f cells d there)
+    lower : f d ≤ greatest (sums_at sums row moves)
+    lower = greatest_above (map f moves) (f d) (Contains-map f moves d there)
 
-    not_before : (e : ℕ) → Contains cells e → f e ≡ greatest (sums_at sums row cells) → d ≤ e
+    not_before : (e : ℕ) → Contains moves e → f e ≡ greatest (sums_at sums row moves) → d ≤ e
     not_before e listed same =
-        let at : get_or cells listed.0 0 ≡ e = get_or_default cells listed.0 0 e listed.1 ∙ listed.2 in
+        let at : get_or moves listed.0 0 ≡ e = get_or_default moves listed.0 0 e listed.1 ∙ listed.2 in
         elim (cases_order listed.0 i) [
-          | inl equal ↦ subst (λ k. get_or cells k 0 ≤ e) equal (omega (arith, at))
+          | inl equal ↦ subst (λ k. get_or moves k 0 ≤ e) equal (omega (arith, at))
           | inr o ↦ elim o [
-            | inl before ↦ absurd (let less : f (get_or cells listed.0 0) < f d = first.2 listed.0 0 before in let value : f (get_or cells listed.0 0) ≡ f e = ap f at in omega (arith, less, value, same, lower))
-            | inr after ↦ (let less : d < get_or cells listed.0 0 = AllPairs-from_increasing cells ascending i listed.0 0 after listed.1 in omega (arith, less, at))
+            | inl before ↦ absurd (let less : f (get_or moves listed.0 0) < f d = first.2 listed.0 0 before in let value : f (get_or moves listed.0 0) ≡ f e = ap f at in omega (arith, less, value, same, lower))
+            | inr after ↦ (let less : d < get_or moves listed.0 0 = AllPairs-from_increasing moves ascending i listed.0 0 after listed.1 in omega (arith, less, at))
           ]
         ]

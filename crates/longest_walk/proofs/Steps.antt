@@ -12,7 +12,7 @@ use Rattle.list_laws.proofs.Agreeing.{map_agree, map-flat_map}
 use Rattle.search_model.proofs.Greatest.{greatest-one, greatest-raised, greatest-flat_map}
 use Rattle.search_model.proofs.LeastBest.{sum_along-cons}
 
--- the greatest sum over the walks that are on a cell in period t and go on for n periods more
+-- the greatest sum over the walks that are on a position in period t and go on for n periods more
 abbrev pub sum_through : List (List ℕ) → (ℕ → ℕ → ℕ) → ℕ → ℕ → ℕ → ℕ
 sum_through rows r n t d = r t d + greatest_sum rows r n (t + 1) d
 
@@ -21,7 +21,7 @@ pub greatest_sum-zero : (rows : List (List ℕ)) (r : ℕ → ℕ → ℕ) (t a 
 unfolding walks sum_along
 greatest_sum-zero rows r t a = greatest-one 0
 
--- a first cell adds its part to each sum
+-- a first position adds its part to each sum
 sums-first : (f g : List ℕ → ℕ) (b part : ℕ) → ((y : List ℕ) → f (b ∷ y) ≡ part + g y) → (ys : List (List ℕ)) → map f (map (λ y. b ∷ y) ys) ≡ map (λ v. part + v) (map g ys)
 sums-first f g b part first [] = refl
 sums-first f g b part first (y ∷ ys) =
@@ -36,7 +36,7 @@ sums-through rows grid f g n b part first here =
     ap greatest (sums-first f g b part first (walks rows n b))
     ∙ greatest-raised part (map g (walks rows n b)) (rw length-map (some_walks rows grid n b here))
 
--- what holds of each cell holds of each move
+-- what holds of each position holds of each move
 pub All-moves : (rows : List (List ℕ)) → IsGrid rows → (P : ℕ → Type 0) → ((d : ℕ) → d < length rows → P d) → (a : ℕ) → a < length rows → All P (moves_from rows a)
 All-moves rows grid P each a here =
     All-weaker (Contains (moves_from rows a)) P (λ d move. each d (move_within rows grid a d here move)) (moves_from rows a) (All-contains_itself (moves_from rows a))

@@ -4,7 +4,7 @@ use Rattle.search_grid.specs.Moves.{IsGrid}
 use Rattle.longest_walk.specs.Sums.{highest_sum}
 use Rattle.search_model.specs.Reference.{greatest_sum}
 
--- rewards that are the same in each period from t on and at each cell have the same greatest sum
+-- rewards that are the same in each period from t on and at each position have the same greatest sum
 abbrev pub SameRewardsSameSum : Type 0
 SameRewardsSameSum =
     (rows : List (List ℕ)) (r s : ℕ → ℕ → ℕ) (n t a : ℕ) → IsGrid rows → a < length rows →
@@ -20,6 +20,6 @@ HighestAbove =
 -- where no reward is above a bound, the greatest rewards of n periods are together at most n times the bound
 abbrev pub HighestBelow : Type 0
 HighestBelow =
-    (cells most : ℕ) (r : ℕ → ℕ → ℕ) (n t : ℕ) →
-    ((u q : ℕ) → t ≤ u → u < t + n → q < cells → r u q ≤ most) →
-    highest_sum cells r n t ≤ n * most
+    (positions most : ℕ) (r : ℕ → ℕ → ℕ) (n t : ℕ) →
+    ((u q : ℕ) → t ≤ u → u < t + n → q < positions → r u q ≤ most) →
+    highest_sum positions r n t ≤ n * most

@@ -3,7 +3,7 @@
 ghost use Rattle.longest_walk.specs.Laws.{SameRewardsSameSum, HighestAbove, HighestBelow};
 ghost use Rattle.longest_walk.specs.Worked.{WorkedWalks};
 
-/// Rewards that are the same in each period and at each cell have the same greatest sum.
+/// Rewards that are the same in each period and at each position have the same greatest sum.
 pub fn same_rewards_same_sum()
     ensures { SameRewardsSameSum }
 {}

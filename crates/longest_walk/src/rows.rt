@@ -1,4 +1,4 @@
-//! The rows of the table, one for each period, with one sum for each cell.
+//! The rows of the table, one for each period, with one sum for each position.
 
 ghost use Rattle.std.specs.Prelude.{◌≡◌, ℕ, ◌+◌, ◌-◌, ◌*◌, ◌^◌, ◌<◌, ◌≤◌, List, length, drop, slice_index, All};
 ghost use Rattle.std.specs.List.Sorted.{IsStrictlyIncreasing};
@@ -13,32 +13,32 @@ ghost use Rattle.longest_walk.specs.Rows.{sums_at, IsLeastMove};
 use search_grid::Grid;
 use search_model::Path;
 
-// The greatest sum among some cells, in the row that starts at `row`.
-pub(crate) fn greatest_at(sums: &[u128], row: usize, cells: &[u8]) -> u128
-    requires { All (λ d. row + d < length sums.now) cells.now }
-    ensures { result ≡ greatest (sums_at sums.now row cells.now) }
+// The greatest sum among some positions, in the row that starts at `row`.
+pub(crate) fn greatest_at(sums: &[u128], row: usize, moves: &[u8]) -> u128
+    requires { All (λ d. row + d < length sums.now) moves.now }
+    ensures { result ≡ greatest (sums_at sums.now row moves.now) }
 {
     let mut best = 0;
-    for d in cells {
+    for d in moves {
         best = sums[row + usize::from(*d)].max(best);
     }
     best
 }
 
-// The first of some cells that have the greatest sum among them, in the row that starts at `row`.
-pub(crate) fn least_move(sums: &[u128], row: usize, cells: &[u8]) -> u8
-    requires some { 1 ≤ length cells.now }
-    requires within { All (λ d. row + d < length sums.now) cells.now }
-    requires ascending { IsStrictlyIncreasing cells.now }
-    ensures { IsLeastMove sums.now row cells.now result }
+// The first of some positions that have the greatest sum among them, in the row that starts at `row`.
+pub(crate) fn least_move(sums: &[u128], row: usize, moves: &[u8]) -> u8
+    requires some { 1 ≤ length moves.now }
+    requires within { All (λ d. row + d < length sums.now) moves.now }
+    requires ascending { IsStrictlyIncreasing moves.now }
+    ensures { IsLeastMove sums.now row moves.now result }
 {
     let mut best = 0;
-    for i in 1..cells.len() {
-        if sums[row + usize::from(cells[i])] > sums[row + usize::from(cells[best])] {
+    for i in 1..moves.len() {
+        if sums[row + usize::from(moves[i])] > sums[row + usize::from(moves[best])] {
             best = i;
         }
     }
-    cells[best]
+    moves[best]
 }
 
 // Fills the row that starts at `here` from the row of the period after it, which starts at `next`.
@@ -73,31 +73,31 @@ pub(crate) fn fill_rows(sums: &mut [u128], grid: &Grid, rewards: &[u128], horizo
     requires period { k < horizon }
     requires rewards { length rewards.now ≡ horizon * length grid.now }
     requires sums { length sums.old ≡ horizon * length grid.now }
-    requires fits { let cells = length grid.now in highest_sum cells (entry_at cells rewards.now) (horizon - k) (k + 1) < 2 ^ 127 }
+    requires fits { let positions = length grid.now in highest_sum positions (entry_at positions rewards.now) (horizon - k) (k + 1) < 2 ^ 127 }
     ensures { HasSums grid.now (length grid.now) horizon rewards.now k sums.new }
 {
-    let cells = usize::from(grid.cells());
-    fill_last(sums, rewards, (horizon - 1) * cells);
+    let positions = usize::from(grid.cells());
+    fill_last(sums, rewards, (horizon - 1) * positions);
     for t in (k + 1..horizon).rev() {
-        fill_row(sums, grid, rewards, (t - 1) * cells, t * cells);
+        fill_row(sums, grid, rewards, (t - 1) * positions, t * positions);
     }
 }
 
-// Appends the cells of the least walk of the greatest sum from a cell, one least move after another.
+// Appends the positions of the least walk of the greatest sum from a position, one least move after another.
 pub(crate) fn append_least(sums: &[u128], grid: &Grid, horizon: usize, from: u8, to: &mut Path)
     requires horizon { horizon ≤ 32 }
     requires from { from < length grid.now }
     requires sums { length sums.now ≡ horizon * length grid.now }
     requires room { length to.old ≤ horizon }
     ensures kept { Starts to.old to.new }
-    ensures least { let k = length to.old in let cells = length grid.now in
-        (rewards : List ℕ) → HasSums grid.now cells horizon rewards k sums.now
-        → IsLeastBest grid.now (entry_at cells rewards) (horizon - k) (k + 1) from (drop k to.new) }
+    ensures least { let k = length to.old in let positions = length grid.now in
+        (rewards : List ℕ) → HasSums grid.now positions horizon rewards k sums.now
+        → IsLeastBest grid.now (entry_at positions rewards) (horizon - k) (k + 1) from (drop k to.new) }
 {
-    let cells = usize::from(grid.cells());
+    let positions = usize::from(grid.cells());
     let mut at = from;
     for t in to.len()..horizon {
-        at = least_move(sums, t * cells, grid.moves(at));
+        at = least_move(sums, t * positions, grid.moves(at));
         to.push(at);
     }
 }

@@ -12,18 +12,18 @@ use search_model::Path;
 use std::alloc::Global;
 use std::marker::Model;
 
-/// Tables for the greatest sum of rewards over all continuations of a path, made once for a number of cells and of
+/// Tables for the greatest sum of rewards over all continuations of a path, made once for a number of positions and of
 /// periods, and filled anew for each path.
 ///
-/// Rewards are a list with one row of cells for each period: the reward of period `t`, from 1 on, and cell `q` stands
-/// at place `(t - 1) * cells + q`.
+/// Rewards are a list with one row of positions for each period: the reward of period `t`, from 1 on, and position `q` stands
+/// at place `(t - 1) * positions + q`.
 #[derive(Drop)]
 pub struct Walk {
-    cells: u8,
+    positions: u8,
     horizon: u32,
     from: u8,
     best: u128,
-    // Per period and cell, the greatest sum over the walks that are on that cell in that period.
+    // Per period and position, the greatest sum over the walks that are on that position in that period.
     sums: Vec<u128>,
 }
 
@@ -32,46 +32,46 @@ impl Model for Walk {
 
     ghost Value = { Tables };
 
-    ghost view = { λ w. record { cells = w.cells; horizon = w.horizon; from = w.from; best = w.best; sums = w.sums.items } };
+    ghost view = { λ w. record { positions = w.positions; horizon = w.horizon; from = w.from; best = w.best; sums = w.sums.items } };
 
-    ghost invariant = { λ w. IsTables (record { cells = w.cells; horizon = w.horizon; from = w.from; best = w.best; sums = w.sums.items }) };
+    ghost invariant = { λ w. IsTables (record { positions = w.positions; horizon = w.horizon; from = w.from; best = w.best; sums = w.sums.items }) };
 }
 
 impl Walk {
     ghost use Rattle.longest_walk.specs.Tables.{IsFilled};
 
-    /// Tables for so many cells, 1 to 200, and so many periods, 1 to 32. Only this call takes memory.
-    pub fn tables(alloc: Global, cells: u8, horizon: u32) -> Result<Walk, NoMemory>
-        requires cells { (1 ≤ cells) × (cells ≤ 200) }
+    /// Tables for so many positions, 1 to 200, and so many periods, 1 to 32. Only this call takes memory.
+    pub fn tables(alloc: Global, positions: u8, horizon: u32) -> Result<Walk, NoMemory>
+        requires positions { (1 ≤ positions) × (positions ≤ 200) }
         requires horizon { (1 ≤ horizon) × (horizon ≤ 32) }
-        ensures { IfOk result (λ walk. (walk.cells ≡ cells) × (walk.horizon ≡ horizon)) }
+        ensures { IfOk result (λ walk. (walk.positions ≡ positions) × (walk.horizon ≡ horizon)) }
     {
         Ok(Walk {
-            cells,
+            positions,
             horizon,
             from: 0,
             best: 0,
-            sums: vec![in alloc; 0; horizon as usize * usize::from(cells)]?,
+            sums: vec![in alloc; 0; horizon as usize * usize::from(positions)]?,
         })
     }
 
-    /// Fills the tables for the walks from cell `from` through the periods after `k`.
+    /// Fills the tables for the walks from position `from` through the periods after `k`.
     ///
-    /// The rewards of each period's best cell may not sum to 2 ^ 127 or more over those periods.
+    /// The rewards of each period's best position may not sum to 2 ^ 127 or more over those periods.
     pub fn fill(&mut self, grid: &Grid, rewards: &[u128], from: u8, k: u32)
-        requires cells { length grid.now ≡ self.old.cells }
-        requires rewards { length rewards.now ≡ self.old.horizon * self.old.cells }
-        requires from { from < self.old.cells }
+        requires positions { length grid.now ≡ self.old.positions }
+        requires rewards { length rewards.now ≡ self.old.horizon * self.old.positions }
+        requires from { from < self.old.positions }
         requires period { k < self.old.horizon }
-        requires fits { let cells = self.old.cells in
-            highest_sum cells (entry_at cells rewards.now) (self.old.horizon - k) (k + 1) < 2 ^ 127 }
+        requires fits { let positions = self.old.positions in
+            highest_sum positions (entry_at positions rewards.now) (self.old.horizon - k) (k + 1) < 2 ^ 127 }
         ensures filled { IsFilled self.new grid.now rewards.now from k }
-        ensures cells { self.new.cells ≡ self.old.cells }
+        ensures positions { self.new.positions ≡ self.old.positions }
         ensures horizon { self.new.horizon ≡ self.old.horizon }
     {
         let after = k as usize;
         fill_rows(&mut self.sums, grid, rewards, self.horizon as usize, after);
-        let row = after * usize::from(self.cells);
+        let row = after * usize::from(self.positions);
         self.best = greatest_at(&self.sums, row, grid.moves(from));
         self.from = from;
     }
@@ -80,19 +80,19 @@ impl Walk {
     pub fn greatest(&self) -> u128
         ensures { let walk = self.now in
             (rows : List (List ℕ)) (rewards : List ℕ) (from k : ℕ) → IsFilled walk rows rewards from k
-            → result ≡ greatest_sum rows (entry_at walk.cells rewards) (walk.horizon - k) (k + 1) from }
+            → result ≡ greatest_sum rows (entry_at walk.positions rewards) (walk.horizon - k) (k + 1) from }
     {
         self.best
     }
 
-    /// Appends to a path of `k` cells the least of the walks of the greatest sum, where the tables are filled with this
+    /// Appends to a path of `k` positions the least of the walks of the greatest sum, where the tables are filled with this
     /// grid and these rewards for the periods after `k`. The sums are read from the tables.
     pub fn least_best(&self, grid: &Grid, _rewards: &[u128], to: &mut Path)
         requires filled { IsFilled self.now grid.now _rewards.now self.now.from (length to.old) }
         requires room { length to.old ≤ self.now.horizon }
         ensures kept { Starts to.old to.new }
         ensures least { let walk = self.now in let k = length to.old in
-            IsLeastBest grid.now (entry_at walk.cells _rewards.now) (walk.horizon - k) (k + 1) walk.from (drop k to.new) }
+            IsLeastBest grid.now (entry_at walk.positions _rewards.now) (walk.horizon - k) (k + 1) walk.from (drop k to.new) }
     {
         append_least(&self.sums, grid, self.horizon as usize, self.from, to);
     }

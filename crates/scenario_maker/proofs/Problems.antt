@@ -1,5 +1,5 @@
 -- What is made from a number is a problem.
-use Rattle.std.proofs.Common.{ℕ, ◌<◌, ◌≤◌, ◌≡◌, length, replicate, refl, ap, ◌∙◌, arith}
+use Rattle.std.proofs.Common.{ℕ, ◌<◌, ◌≤◌, ◌≡◌, length, replicate, ap, ◌∙◌, arith}
 use Rattle.std.specs.Prelude.{All}
 use Rattle.std.proofs.Math.ListN.{length-replicate}
 use Rattle.std.proofs.lemmas.List.Elements.{All-replicate}
@@ -8,7 +8,8 @@ use Rattle.drift_chain.specs.DriftRows.{drift_over, drift_cells}
 use Rattle.sweep_table.specs.LookParts.{parts_over, IsSweep}
 use Rattle.sweep_table.proofs.Factors.{IsSweep-from_parts}
 use Rattle.search_grid.proofs.Beside.{IsGrid-from_sides}
-use Rattle.search_model.specs.Problem.{Problem, IsProblem}
+use Rattle.search_model.specs.Names.{AreNames}
+use Rattle.search_model.specs.Problem.{Problem}
 use Rattle.scenario_maker.specs.Generator.{next, state_after}
 use Rattle.search_model.specs.Grids.{grid_names, spread_rows}
 use Rattle.scenario_maker.specs.Made.{start_of, part_cells, spread_of, overlook_of, counts_of, made_problem}
@@ -45,16 +46,18 @@ IsSweep-same part few =
     let long = length-replicate 25 part in
     IsSweep-from_parts 6 (replicate 25 part) (omega arith, omega arith) (omega (arith, long), omega (arith, long)) (λ k lt. All-replicate (λ x. x ≤ 6) 25 part few k 0 lt)
 
+made_names : AreNames 25 (grid_names 5 5)
+made_names = record { count = length-grid_names; each = names_right; differ = names_apart }
+
 pub made_is_problem : MadeIsProblem
 unfolding made_problem
 made_is_problem number = record {
   horizon = (omega arith, omega arith);
   total = (omega arith, omega arith);
   cells = (omega arith, omega arith);
-  positions = refl;
-  names_length = length-grid_names;
-  names = names_right;
-  names_differ = names_apart;
+  positions = (omega arith, omega arith);
+  names = made_names;
+  position_names = made_names;
   start = start_within number;
   first_length = length-counts_of 25 (part_cells number);
   first_total = sum-counts_of 25 (part_cells number) (cells_within number) ∙ sixty_cells number;
@@ -69,11 +72,11 @@ made_is_problem number = record {
 }
 
 -- a problem of these parts is the one that is made
-pub is_made : (number : ℕ) (p : Problem) → p.names ≡ grid_names 5 5 → p.cells ≡ drift_cells p.drift → p.positions ≡ length p.moves → p.horizon ≡ 8 → p.start ≡ start_of number → p.total ≡ 60 →
+pub is_made : (number : ℕ) (p : Problem) → p.names ≡ grid_names 5 5 → p.position_names ≡ grid_names 5 5 → p.cells ≡ drift_cells p.drift → p.positions ≡ length p.moves → p.horizon ≡ 8 → p.start ≡ start_of number → p.total ≡ 60 →
     p.first ≡ counts_of 25 (part_cells number) → p.moves ≡ side_moves 5 5 → p.drift ≡ drift_over 12 (spread_rows 12 (spread_of number) (side_moves 5 5)) →
     p.sweep ≡ parts_over 6 (replicate 25 (overlook_of number)) → p ≡ made_problem number
 unfolding made_problem
-is_made number p names cells positions horizon start total first moves drift sweep =
+is_made number p names position_names cells positions horizon start total first moves drift sweep =
     let all_cells : p.cells ≡ 25 = cells ∙ ap drift_cells drift ∙ length-spread_rows (spread_of number) in
     let all_positions : p.positions ≡ 25 = positions ∙ ap length moves ∙ length-side_moves in
-    same_problem p (made_problem number) names all_cells all_positions horizon start total first moves drift sweep
+    same_problem p (made_problem number) names position_names all_cells all_positions horizon start total first moves drift sweep

@@ -36,10 +36,11 @@ overlook_of number = 1 + slice_index (draws_of number) 62
 unfoldable pub counts_of : ℕ → List ℕ → List ℕ
 counts_of cells xs = map (λ c. count_by (λ x. x == c) xs) (range_with_len 0 cells)
 
--- 5 rows of 5 cells and 8 periods; chances are in parts of 60, of 12 and of 6
+-- 5 rows of 5 cells, which are the positions, too, and 8 periods; chances are in parts of 60, of 12 and of 6
 unfoldable pub made_problem : ℕ → Problem
 made_problem number = record {
   names = grid_names 5 5;
+  position_names = grid_names 5 5;
   cells = 25;
   positions = 25;
   horizon = 8;

@@ -20,6 +20,7 @@ fn parts_of(alloc: Global, number: u64) -> Result<Parts, NoMemory>
     let grid = grid(alloc)?;
     Ok(Parts {
         names: grid_names(alloc)?,
+        positions: grid_names(alloc)?,
         horizon: HORIZON,
         start: drawn.start,
         total: u32::from(PARTS),

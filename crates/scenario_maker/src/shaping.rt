@@ -14,7 +14,7 @@ use search_model::Name;
 use std::alloc::{AllocError, Global};
 use sweep_table::Sweep;
 
-/// The name of a cell.
+/// The name of a cell, and of the position of the same number.
 fn grid_name(c: u8) -> Name
     requires { c < CELLS }
     ensures { result ≡ grid_name_lem SIDE c }

@@ -96,6 +96,8 @@ fn cells_are_named_by_row_and_column(rt: HostRuntime) -> Result<(), Fail> {
     assert_eq!(rt; scenario.name(7).bytes(), b"r1c2".as_slice());
     assert_eq!(rt; scenario.name(0).bytes(), b"r0c0".as_slice());
     assert_eq!(rt; scenario.name(24).bytes(), b"r4c4".as_slice());
+    assert_eq!(rt; scenario.positions(), 25);
+    assert_eq!(rt; scenario.position(7).bytes(), b"r1c2".as_slice());
     assert_eq!(rt; scenario.grid().moves(7), [2, 6, 7, 8, 12].as_slice());
     // The parts of 3 to four neighbours leave none that stays.
     assert_eq!(rt; scenario.drift().row(1, 12).len(), 4);

@@ -4,9 +4,10 @@ use Rattle.std.proofs.lemmas.List.Elements.{All-from_recursion}
 use Rattle.std.proofs.lemmas.Bool.{and_from}
 use Rattle.exact_parts.specs.Width.{Fits}
 use Rattle.search_grid.specs.Moves.{moves_from, IsMoveRow}
+use Rattle.drift_chain.proofs.Drifts.{AreChanges-none}
 use Rattle.drift_chain.specs.DriftRows.{row_of, IsDriftRow}
 use Rattle.sweep_table.proofs.Factors.{IsSweep-from_parts}
-use Rattle.search_model.specs.Names.{IsName, is_name_byte, name_in}
+use Rattle.search_model.specs.Names.{IsName, is_name_byte, name_in, AreNames}
 use Rattle.search_model.specs.Problem.{IsProblem}
 use Rattle.search_model.specs.Worked.{goes_to, one_cell, two_cells, waiting_for, waiting_target, waiting_longer}
 use Rattle.search_model.proofs.NameLemmas.{below_more}
@@ -70,22 +71,48 @@ apart a b names less rest has = elim (Contains-cons_cases (a ∷ []) (b ∷ []) 
 abbrev pub NotBefore : List (List ℕ) → ℕ → Type 0
 NotBefore names c = ¬ Contains (take c names) (name_in names c)
 
+-- the names of the small problems
+one_name : AreNames 1 one_cell.names
+one_name = record {
+  count = refl;
+  each = All-from_recursion IsName one_cell.names (letters 97 refl, tt);
+  differ = λ c has. below_one (NotBefore one_cell.names) (Contains-nil (97 ∷ [])) c has.0 has.1;
+}
+
+two_names : AreNames 2 two_cells.names
+two_names = record {
+  count = refl;
+  each = All-from_recursion IsName two_cells.names (letters 97 refl, (letters 98 refl, tt));
+  differ = λ c has. below_two (NotBefore two_cells.names) (Contains-nil (97 ∷ [])) (apart 97 98 [] (omega arith) (Contains-nil (98 ∷ []))) c has.0 has.1;
+}
+
+three_names : AreNames 3 waiting_target.names
+three_names = record {
+  count = refl;
+  each = All-from_recursion IsName waiting_target.names (letters 97 refl, (letters 98 refl, (letters 99 refl, tt)));
+  differ = λ c has.
+      below_three (NotBefore waiting_target.names)
+      (Contains-nil (97 ∷ []))
+      (apart 97 98 [] (omega arith) (Contains-nil (98 ∷ [])))
+      (apart 97 99 ((98 ∷ []) ∷ []) (omega arith) (apart 98 99 [] (omega arith) (Contains-nil (99 ∷ []))))
+      c has.0 has.1;
+}
+
 pub one_cell_sound : IsProblem one_cell
 unfolding moves_from row_of
 one_cell_sound = record {
   horizon = (omega arith, omega arith);
   total = (omega arith, omega arith);
   cells = (omega arith, omega arith);
-  positions = refl;
-  names_length = refl;
-  names = All-from_recursion IsName one_cell.names (letters 97 refl, tt);
-  names_differ = λ c has. below_one (NotBefore one_cell.names) (Contains-nil (97 ∷ [])) c has.0 has.1;
+  positions = (omega arith, omega arith);
+  names = one_name;
+  position_names = one_name;
   start = omega arith;
   first_length = refl;
   first_total = refl;
   grid = record { size = (omega arith, omega arith); each = below_one (λ p. IsMoveRow 1 (moves_from one_cell.moves p)) (one_move 1 0 (omega arith)) };
   grid_positions = refl;
-  drift = record { denominator = (omega arith, omega arith); size = (omega arith, omega arith); each = λ t. below_one (λ c. IsDriftRow 1 1 (row_of one_cell.drift t c)) (one_step 1 1 0 (omega arith) (omega arith)) };
+  drift = record { denominator = (omega arith, omega arith); size = (omega arith, omega arith); each = λ t. below_one (λ c. IsDriftRow 1 1 (row_of one_cell.drift t c)) (one_step 1 1 0 (omega arith) (omega arith)); changes = AreChanges-none 1 };
   drift_cells = refl;
   sweep = IsSweep-from_parts 2 (1 ∷ []) (omega arith, omega arith) (omega arith, omega arith) (below_one (λ k. slice_index (1 ∷ []) k ≤ 2) (omega arith));
   sweep_positions = refl;
@@ -99,10 +126,9 @@ two_cells_sound = record {
   horizon = (omega arith, omega arith);
   total = (omega arith, omega arith);
   cells = (omega arith, omega arith);
-  positions = refl;
-  names_length = refl;
-  names = All-from_recursion IsName two_cells.names (letters 97 refl, (letters 98 refl, tt));
-  names_differ = λ c has. below_two (NotBefore two_cells.names) (Contains-nil (97 ∷ [])) (apart 97 98 [] (omega arith) (Contains-nil (98 ∷ []))) c has.0 has.1;
+  positions = (omega arith, omega arith);
+  names = two_names;
+  position_names = two_names;
   start = omega arith;
   first_length = refl;
   first_total = refl;
@@ -111,7 +137,7 @@ two_cells_sound = record {
     each = below_two (λ p. IsMoveRow 2 (moves_from two_cells.moves p)) (two_moves 2 0 1 (omega arith) (omega arith)) (two_moves 2 0 1 (omega arith) (omega arith));
   };
   grid_positions = refl;
-  drift = record { denominator = (omega arith, omega arith); size = (omega arith, omega arith); each = λ t. below_two (λ c. IsDriftRow 2 2 (row_of two_cells.drift t c)) two_steps two_steps };
+  drift = record { denominator = (omega arith, omega arith); size = (omega arith, omega arith); each = λ t. below_two (λ c. IsDriftRow 2 2 (row_of two_cells.drift t c)) two_steps two_steps; changes = AreChanges-none 2 };
   drift_cells = refl;
   sweep = IsSweep-from_parts 2 (0 ∷ 0 ∷ []) (omega arith, omega arith) (omega arith, omega arith) (below_two (λ k. slice_index (0 ∷ 0 ∷ []) k ≤ 2) (omega arith) (omega arith));
   sweep_positions = refl;
@@ -122,15 +148,13 @@ two_cells_sound = record {
 waiting_sound : (periods : ℕ) → (1 ≤ periods) × (periods ≤ 32) → Fits 1 1 2 periods → IsProblem (waiting_for periods)
 unfolding moves_from row_of
 waiting_sound periods horizon fits =
-    let names : List (List ℕ) = (97 ∷ []) ∷ (98 ∷ []) ∷ (99 ∷ []) ∷ [] in
     record {
       horizon = horizon;
       total = (omega arith, omega arith);
       cells = (omega arith, omega arith);
-      positions = refl;
-      names_length = refl;
-      names = All-from_recursion IsName names (letters 97 refl, (letters 98 refl, (letters 99 refl, tt)));
-      names_differ = λ c has. below_three (NotBefore names) (Contains-nil (97 ∷ [])) (apart 97 98 [] (omega arith) (Contains-nil (98 ∷ []))) (apart 97 99 ((98 ∷ []) ∷ []) (omega arith) (apart 98 99 [] (omega arith) (Contains-nil (99 ∷ [])))) c has.0 has.1;
+      positions = (omega arith, omega arith);
+      names = three_names;
+      position_names = three_names;
       start = omega arith;
       first_length = refl;
       first_total = refl;
@@ -143,6 +167,7 @@ waiting_sound periods horizon fits =
         denominator = (omega arith, omega arith);
         size = (omega arith, omega arith);
         each = λ t. below_three (λ c. IsDriftRow 1 3 (row_of (waiting_for periods).drift t c)) (one_step 1 3 0 (omega arith) (omega arith)) (one_step 1 3 1 (omega arith) (omega arith)) (one_step 1 3 2 (omega arith) (omega arith));
+        changes = AreChanges-none 3;
       };
       drift_cells = refl;
       sweep = IsSweep-from_parts 2 (1 ∷ 1 ∷ 1 ∷ []) (omega arith, omega arith) (omega arith, omega arith) (below_three (λ k. slice_index (1 ∷ 1 ∷ 1 ∷ []) k ≤ 2) (omega arith) (omega arith) (omega arith));

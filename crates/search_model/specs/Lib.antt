@@ -13,6 +13,7 @@ pub mod Parts
 pub mod PathPlaces
 pub mod Problem
 pub mod Reference
+pub mod Same
 pub mod Tracks
 pub mod Worked
 pub mod WorkedBounds

@@ -1,5 +1,5 @@
--- Names of cells.
-use Rattle.std.specs.Prelude.{ℕ, ◌≤◌, ◌<◌, Bool, ◌&&◌, ◌||◌, ◌==◌, nat_le, List, [], length, slice_index_or, take, Contains, IsTrue}
+-- Names of cells and of positions.
+use Rattle.std.specs.Prelude.{ℕ, ◌≡◌, ◌≤◌, ◌<◌, Bool, ◌&&◌, ◌||◌, ◌==◌, nat_le, List, [], length, slice_index_or, take, All, Contains, IsTrue}
 use Rattle.std.specs.List.{list_all}
 
 -- a to z, A to Z, 0 to 9, `_` and `-`
@@ -19,3 +19,9 @@ name_in names c = slice_index_or names c []
 -- the name of c stands before it, too
 abbrev pub IsRepeated : List (List ℕ) → ℕ → Type 0
 IsRepeated names c = (c < length names) × Contains (take c names) (name_in names c)
+
+-- so many names, of which no two are the same
+pub record AreNames (n : ℕ) (names : List (List ℕ)) : Type 0 where
+  pub count : length names ≡ n
+  pub each : All IsName names
+  pub differ : (c : ℕ) → ¬ IsRepeated names c

@@ -7,6 +7,7 @@ use Rattle.search_model.specs.Problem.{Problem}
 abbrev pub problem_of : Parts → Problem
 problem_of s = record {
   names = s.names.items;
+  position_names = s.positions.items;
   cells = drift_cells s.drift;
   positions = length s.grid;
   horizon = s.horizon;

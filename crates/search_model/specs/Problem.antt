@@ -1,14 +1,15 @@
 -- The search problem: what contracts see of a scenario.
-use Rattle.std.specs.Prelude.{ℕ, ◌≡◌, ◌<◌, ◌≤◌, List, length, slice_index, sum, All}
+use Rattle.std.specs.Prelude.{ℕ, ◌≡◌, ◌<◌, ◌≤◌, List, length, slice_index, sum}
 use Rattle.exact_parts.specs.Width.{Fits}
 use Rattle.search_grid.specs.Moves.{IsGrid}
 use Rattle.drift_chain.specs.DriftRows.{DriftRows, drift_cells, IsDrift}
 use Rattle.sweep_table.specs.LookParts.{LookParts, positions_of, cells_of, IsSweep}
-use Rattle.search_model.specs.Names.{IsName, name_in, IsRepeated}
+use Rattle.search_model.specs.Names.{AreNames, name_in}
 
--- The target drifts among cells, the searcher moves among positions; both have the names of the cells.
+-- The target drifts among cells; the searcher moves among positions, and looks from them at cells.
 pub record Problem : Type 0 where
   pub names : List (List ℕ)
+  pub position_names : List (List ℕ)
   pub cells : ℕ
   pub positions : ℕ
   pub horizon : ℕ
@@ -24,10 +25,9 @@ pub record IsProblem (p : Problem) : Type 0 where
   pub horizon : (1 ≤ p.horizon) × (p.horizon ≤ 32)
   pub total : (1 ≤ p.total) × (p.total ≤ 1000000)
   pub cells : (1 ≤ p.cells) × (p.cells ≤ 200)
-  pub positions : p.positions ≡ p.cells
-  pub names_length : length p.names ≡ p.cells
-  pub names : All IsName p.names
-  pub names_differ : (c : ℕ) → ¬ IsRepeated p.names c
+  pub positions : (1 ≤ p.positions) × (p.positions ≤ 200)
+  pub names : AreNames p.cells p.names
+  pub position_names : AreNames p.positions p.position_names
   pub start : p.start < p.positions
   pub first_length : length p.first ≡ p.cells
   pub first_total : sum p.first ≡ p.total
@@ -44,9 +44,10 @@ pub record IsProblem (p : Problem) : Type 0 where
 abbrev pub first_of : Problem → ℕ → ℕ
 first_of p c = slice_index p.first c
 
--- the name of a cell, and of a position
+-- the name of a cell
 abbrev pub cell_name : Problem → ℕ → List ℕ
 cell_name p c = name_in p.names c
 
+-- the name of a position
 abbrev pub position_name : Problem → ℕ → List ℕ
-position_name p q = name_in p.names q
+position_name p a = name_in p.position_names a

@@ -1,6 +1,7 @@
 -- Small problems, and what the definitions make of them.
 use Rattle.std.specs.Prelude.{ℕ, ◌≡◌, [], ◌∷◌, map}
 use Rattle.drift_chain.specs.declared.part.DriftPart.{DriftPart}
+use Rattle.drift_chain.specs.DriftRows.{drift_over}
 use Rattle.search_model.specs.Problem.{Problem, IsProblem}
 use Rattle.search_model.specs.Legal.{continuations}
 use Rattle.search_model.specs.Tracks.{tracks, weight_of, miss_of, whole_weight, missed_weight, value_of}
@@ -14,6 +15,7 @@ goes_to c part = record { cell = c; part = part }
 abbrev pub one_cell : Problem
 one_cell = record {
   names = (97 ∷ []) ∷ [];
+  position_names = (97 ∷ []) ∷ [];
   cells = 1;
   positions = 1;
   horizon = 1;
@@ -21,7 +23,7 @@ one_cell = record {
   total = 1;
   first = 1 ∷ [];
   moves = (0 ∷ []) ∷ [];
-  drift = record { denominator = 1; rows = (goes_to 0 1 ∷ []) ∷ [] };
+  drift = drift_over 1 ((goes_to 0 1 ∷ []) ∷ []);
   sweep = record { denominator = 2; overlook = 1 ∷ [] };
 }
 
@@ -29,6 +31,7 @@ one_cell = record {
 abbrev pub two_cells : Problem
 two_cells = record {
   names = (97 ∷ []) ∷ (98 ∷ []) ∷ [];
+  position_names = (97 ∷ []) ∷ (98 ∷ []) ∷ [];
   cells = 2;
   positions = 2;
   horizon = 2;
@@ -36,7 +39,7 @@ two_cells = record {
   total = 2;
   first = 1 ∷ 1 ∷ [];
   moves = (0 ∷ 1 ∷ []) ∷ (0 ∷ 1 ∷ []) ∷ [];
-  drift = record { denominator = 2; rows = (goes_to 0 1 ∷ goes_to 1 1 ∷ []) ∷ (goes_to 0 1 ∷ goes_to 1 1 ∷ []) ∷ [] };
+  drift = drift_over 2 ((goes_to 0 1 ∷ goes_to 1 1 ∷ []) ∷ (goes_to 0 1 ∷ goes_to 1 1 ∷ []) ∷ []);
   sweep = record { denominator = 2; overlook = 0 ∷ 0 ∷ [] };
 }
 
@@ -44,6 +47,7 @@ two_cells = record {
 abbrev pub waiting_for : ℕ → Problem
 waiting_for periods = record {
   names = (97 ∷ []) ∷ (98 ∷ []) ∷ (99 ∷ []) ∷ [];
+  position_names = (97 ∷ []) ∷ (98 ∷ []) ∷ (99 ∷ []) ∷ [];
   cells = 3;
   positions = 3;
   horizon = periods;
@@ -51,7 +55,7 @@ waiting_for periods = record {
   total = 1;
   first = 0 ∷ 0 ∷ 1 ∷ [];
   moves = (0 ∷ 1 ∷ []) ∷ (0 ∷ 1 ∷ 2 ∷ []) ∷ (1 ∷ 2 ∷ []) ∷ [];
-  drift = record { denominator = 1; rows = (goes_to 0 1 ∷ []) ∷ (goes_to 1 1 ∷ []) ∷ (goes_to 2 1 ∷ []) ∷ [] };
+  drift = drift_over 1 ((goes_to 0 1 ∷ []) ∷ (goes_to 1 1 ∷ []) ∷ (goes_to 2 1 ∷ []) ∷ []);
   sweep = record { denominator = 2; overlook = 1 ∷ 1 ∷ 1 ∷ [] };
 }
 

@@ -1,4 +1,4 @@
-//! Names of cells.
+//! Names of cells and of positions.
 
 ghost use Rattle.std.specs.Prelude.{◌≡◌, ◌≤◌, length, IfSome, IfNone};
 ghost use Rattle.std.specs.List.{list_all};
@@ -9,7 +9,7 @@ use std::marker::Model;
 /// The most bytes of a name.
 const LONGEST: usize = 24;
 
-/// A cell's name: 1 to 24 bytes of `a-z A-Z 0-9 _ -`, in place.
+/// The name of a cell or of a position: 1 to 24 bytes of `a-z A-Z 0-9 _ -`, in place.
 #[derive(Clone, Copy)]
 pub struct Name {
     places: [u8; LONGEST],

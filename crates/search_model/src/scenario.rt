@@ -18,6 +18,8 @@ use sweep_table::Sweep;
 pub struct Parts {
     /// One name a cell.
     pub names: Vec<Name>,
+    /// One name a position; cells and positions may have the same names.
+    pub positions: Vec<Name>,
     /// The number of periods.
     pub horizon: u32,
     /// The position where the searcher stands before period 1.
@@ -53,7 +55,8 @@ impl Model for Scenario {
 pub enum ModelFault {
     /// The horizon isn't 1 to 32, or the total isn't 1 to 1,000,000.
     OutOfLimits,
-    /// Names, first parts, moves, drift and looks don't agree on the number of cells.
+    /// Names, first parts, drift and looks don't agree on the number of cells, or names, moves and looks on the number of
+    /// positions.
     SizesDiffer,
     /// The start isn't a position.
     StartOutOfRange,
@@ -63,6 +66,8 @@ pub enum ModelFault {
     DoubleName(u8),
     /// The widest sum doesn't fit 127 bits.
     TooWide,
+    /// This is the least position whose name stands before it.
+    DoublePosition(u8),
 }
 
 /// The sum of a few parts.
@@ -84,16 +89,17 @@ fn within_limits(parts: &Parts) -> bool
     (1..=32).contains(&parts.horizon) && (1..=1_000_000).contains(&parts.total)
 }
 
-/// Whether all parts are of the same number of cells.
+/// Whether all parts are of the same number of cells and of the same number of positions.
 fn sizes_agree(parts: &Parts) -> bool
     ensures { IsTrue result ↔ SizesAgree parts.now }
 {
     let cells = parts.drift.cells();
+    let positions = parts.grid.cells();
     parts.names.len() == cells as usize
         && parts.first.len() == cells as usize
-        && parts.grid.cells() == cells
-        && parts.sweep.positions() == cells
         && parts.sweep.cells() == cells
+        && parts.positions.len() == positions as usize
+        && parts.sweep.positions() == positions
 }
 
 /// Whether a name is one of these.
@@ -103,7 +109,7 @@ fn stands_in(name: &[u8], names: &[Name]) -> bool
     names.iter().any(|n| n.bytes() == name)
 }
 
-/// Whether the name of a cell stands before it.
+/// Whether the name at a place stands before it.
 fn is_repeated(names: &[Name], c: usize) -> bool
     requires { c < length names.now }
     ensures value { IsTrue result ↔ IsRepeated names.now c }
@@ -113,7 +119,7 @@ fn is_repeated(names: &[Name], c: usize) -> bool
     stands_in(name.bytes(), &names[..c])
 }
 
-/// The least cell whose name stands before it.
+/// The least place of a name that stands before it.
 fn first_repeated(names: &[Name]) -> Option<u8>
     requires { length names.now ≤ 200 }
     ensures some { IfSome result (λ c. IsRepeated names.now c × ((d : ℕ) → d < c → ¬ IsRepeated names.now d)) }
@@ -166,11 +172,14 @@ impl Scenario {
         if !fits(parts.total, d, g, parts.horizon) {
             return Err(ModelFault::TooWide);
         }
+        if let Some(p) = first_repeated(&parts.positions) {
+            return Err(ModelFault::DoublePosition(p));
+        }
         Ok(Scenario { parts })
     }
 
     ghost use Rattle.search_grid.specs.Moves.{moves_from};
-    ghost use Rattle.search_model.specs.Problem.{IsProblem, first_of, cell_name};
+    ghost use Rattle.search_model.specs.Problem.{IsProblem, first_of, cell_name, position_name};
     ghost use Rattle.search_model.specs.Legal.{IsLegal, moves_after};
     ghost use Rattle.search_model.specs.Tracks.{whole_weight};
 
@@ -227,6 +236,14 @@ impl Scenario {
         ensures { result.now ≡ cell_name self.now c }
     {
         &self.parts.names[c as usize]
+    }
+
+    /// The name of position `p`.
+    pub fn position(&self, p: u8) -> &Name
+        requires { p < self.now.positions }
+        ensures { result.now ≡ position_name self.now p }
+    {
+        &self.parts.positions[p as usize]
     }
 
     /// The searcher's moves.

@@ -112,7 +112,7 @@ fn lists_of(alloc: Global, lists: &[&[u8]]) -> Result<Vec<Vec<u8>>, AllocError> 
     Ok(rows)
 }
 
-// Per cell, the name of one byte.
+// The names of one byte each.
 fn names_of(alloc: Global, letters: &[u8]) -> Result<Vec<Name>, Fail> {
     let mut names = Vec::new(alloc);
     for letter in letters {
@@ -153,6 +153,7 @@ fn looks_of(alloc: Global, denominator: u32) -> Result<Sweep, Fail> {
 #[derive(Clone, Copy)]
 struct Given {
     names: &'static [u8],
+    positions: &'static [u8],
     horizon: u32,
     start: u8,
     total: u32,
@@ -164,6 +165,7 @@ struct Given {
 fn parts_of(alloc: Global, given: Given) -> Result<Parts, Fail> {
     Ok(Parts {
         names: names_of(alloc, given.names)?,
+        positions: names_of(alloc, given.positions)?,
         horizon: given.horizon,
         start: given.start,
         total: given.total,
@@ -178,6 +180,7 @@ fn parts_of(alloc: Global, given: Given) -> Result<Parts, Fail> {
 fn waiting(alloc: Global, horizon: u32, start: u8) -> Result<Scenario, Fail> {
     let given = Given {
         names: b"abc",
+        positions: b"abz",
         horizon,
         start,
         total: 1,
@@ -198,6 +201,7 @@ fn a_scenario_is_made_of_its_parts(rt: HostRuntime) -> Result<(), Fail> {
     assert!(rt; sc.cells() == 3);
     assert_eq!(rt; sc.first(2), 1);
     assert_eq!(rt; sc.name(2).bytes(), b"c".as_slice());
+    assert_eq!(rt; sc.position(2).bytes(), b"z".as_slice());
     crosses_threads(sc);
     crosses_threads(standing(7, &[2, 2, 2]));
     Ok(())
@@ -252,11 +256,12 @@ fn values_are_as_worked_by_hand(rt: HostRuntime) -> Result<(), Fail> {
     Ok(())
 }
 
-// Each has the faults of the later ones, too.
-const FAULTY: [(Given, ModelFault); 7] = [
+// Each has the faults of the later ones, too, as far as they can stand together.
+const FAULTY: [(Given, ModelFault); 9] = [
     (
         Given {
             names: b"aaa",
+            positions: b"xxx",
             horizon: 33,
             start: 3,
             total: 2,
@@ -268,6 +273,7 @@ const FAULTY: [(Given, ModelFault); 7] = [
     (
         Given {
             names: b"aaa",
+            positions: b"xxx",
             horizon: 2,
             start: 3,
             total: 2,
@@ -279,6 +285,19 @@ const FAULTY: [(Given, ModelFault); 7] = [
     (
         Given {
             names: b"aaa",
+            positions: b"xx",
+            horizon: 2,
+            start: 3,
+            total: 2,
+            first: &[0, 0, 1],
+            looks: 2,
+        },
+        ModelFault::SizesDiffer,
+    ),
+    (
+        Given {
+            names: b"aaa",
+            positions: b"xxx",
             horizon: 2,
             start: 3,
             total: 2,
@@ -290,6 +309,7 @@ const FAULTY: [(Given, ModelFault); 7] = [
     (
         Given {
             names: b"aaa",
+            positions: b"xxx",
             horizon: 2,
             start: 1,
             total: 2,
@@ -301,6 +321,7 @@ const FAULTY: [(Given, ModelFault); 7] = [
     (
         Given {
             names: b"aaa",
+            positions: b"xxx",
             horizon: 32,
             start: 1,
             total: 1,
@@ -312,6 +333,7 @@ const FAULTY: [(Given, ModelFault); 7] = [
     (
         Given {
             names: b"aba",
+            positions: b"xxx",
             horizon: 32,
             start: 1,
             total: 1,
@@ -323,6 +345,7 @@ const FAULTY: [(Given, ModelFault); 7] = [
     (
         Given {
             names: b"abc",
+            positions: b"xxx",
             horizon: 32,
             start: 1,
             total: 1,
@@ -330,6 +353,18 @@ const FAULTY: [(Given, ModelFault); 7] = [
             looks: 1_000_000,
         },
         ModelFault::TooWide,
+    ),
+    (
+        Given {
+            names: b"abc",
+            positions: b"cac",
+            horizon: 2,
+            start: 1,
+            total: 1,
+            first: &[0, 0, 1],
+            looks: 2,
+        },
+        ModelFault::DoublePosition(2),
     ),
 ];
 

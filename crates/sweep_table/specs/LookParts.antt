@@ -1,45 +1,82 @@
--- The searcher's looks: what contracts see of a sweep is its denominator and, per position, the overlook part.
-use Rattle.std.specs.Prelude.{ℕ, ◌≡◌, ◌<◌, ◌≤◌, ◌==◌, ◌⊎◌, if◌then◌else◌, List, length, slice_index, All, Contains}
+-- The searcher's looks: what contracts see of a sweep is, per position, the cells that a look covers with the part that it misses, and the
+-- periods in which another row is in force.
+use Rattle.std.specs.Prelude.{ℕ, ◌≡◌, ◌<◌, ◌≤◌, ◌==◌, ◌&&◌, ◌⊎◌, Bool, List, [], ◌∷◌, length, map, slice_index, slice_index_or, unwrap_or, option_map, All}
+use Rattle.std.specs.List.{find, range_with_len}
+use Rattle.std.specs.List.Sorted.{IsStrictlyIncreasing}
+use Rattle.sweep_table.specs.declared.part.LookPart.{LookPart}
 
+-- the row of a position in one period, in place of its base row
+pub record LookRowChange : Type 0 where
+  pub period : ℕ
+  pub position : ℕ
+  pub row : List LookPart
+
+-- the number of cells, a base row for each position, and the changes in the order in which they were given
 pub record LookParts : Type 0 where
   pub denominator : ℕ
-  pub overlook : List ℕ
+  pub cells : ℕ
+  pub rows : List (List LookPart)
+  pub changes : List LookRowChange
 
 -- the number of positions to look from, and of the cells that are looked at
 abbrev pub positions_of : LookParts → ℕ
-positions_of sweep = length sweep.overlook
+positions_of sweep = length sweep.rows
 
 abbrev pub cells_of : LookParts → ℕ
-cells_of sweep = length sweep.overlook
+cells_of sweep = sweep.cells
+
+-- whether a change is for position p in period t
+abbrev pub is_for : ℕ → ℕ → LookRowChange → Bool
+is_for t p change = (change.period == t) && (change.position == p)
+
+-- the row in force for a look from position p in period t: that of the first change for it, or else the base row
+unfoldable pub look_row : LookParts → ℕ → ℕ → List LookPart
+look_row sweep t p = unwrap_or (option_map (λ change. change.row) (find (is_for t p) sweep.changes)) (slice_index_or sweep.rows p [])
+
+-- how much of a target in cell c a look over a row misses, out of the denominator g: the part of the cell's entry, or all where it has none
+unfoldable pub factor_in : ℕ → List LookPart → ℕ → ℕ
+factor_in g row c = unwrap_or (option_map (λ entry. entry.part) (find (λ entry. entry.cell == c) row)) g
 
 -- how much of a target in cell c a look from position p in period t misses, out of the denominator
 unfoldable pub factor_of : LookParts → ℕ → ℕ → ℕ → ℕ
-factor_of sweep t p c = if p == c then slice_index sweep.overlook p else sweep.denominator
+factor_of sweep t p c = factor_in sweep.denominator (look_row sweep t p) c
 
--- a denominator up to 1,000,000, 1 to 200 positions and cells, and no factor above the denominator
+-- a row's entries are cells in ascending order, and no part exceeds the denominator
+pub record IsLookRow (denominator cells : ℕ) (row : List LookPart) : Type 0 where
+  pub within : All (λ entry. entry.cell < cells) row
+  pub ascending : IsStrictlyIncreasing (map (λ entry. entry.cell) row)
+  pub parts : All (λ entry. entry.part ≤ denominator) row
+
+-- a denominator up to 1,000,000, 1 to 200 positions and cells, and each row in force is right
 pub record IsSweep (sweep : LookParts) : Type 0 where
   pub denominator : (1 ≤ sweep.denominator) × (sweep.denominator ≤ 1000000)
   pub positions : (1 ≤ positions_of sweep) × (positions_of sweep ≤ 200)
   pub cells : (1 ≤ cells_of sweep) × (cells_of sweep ≤ 200)
-  pub within : (t p c : ℕ) → factor_of sweep t p c ≤ sweep.denominator
+  pub each : (t p : ℕ) → IsLookRow sweep.denominator (cells_of sweep) (look_row sweep t p)
 
--- the table of these overlook parts, one per cell
+-- the entry of a cell
+abbrev pub misses : ℕ → ℕ → LookPart
+misses c part = record { cell = c; part = part }
+
+-- a look from position p covers its own cell alone
+abbrev pub own_row : List ℕ → ℕ → List LookPart
+own_row overlook p = misses p (slice_index overlook p) ∷ []
+
+-- the plain table of these overlook parts, in every period: as many cells as positions
 abbrev pub parts_over : ℕ → List ℕ → LookParts
-parts_over denominator overlook = record { denominator = denominator; overlook = overlook }
+parts_over denominator overlook = record {
+  denominator = denominator;
+  cells = length overlook;
+  rows = map (own_row overlook) (range_with_len 0 (length overlook));
+  changes = [];
+}
 
--- no overlook part, or more than 200
-abbrev pub HasWrongCount : List ℕ → Type 0
-HasWrongCount overlook = (length overlook ≡ 0) ⊎ (200 < length overlook)
+-- the table of these rows, in every period
+abbrev pub looks_over : ℕ → ℕ → List (List LookPart) → LookParts
+looks_over denominator cells rows = record { denominator = denominator; cells = cells; rows = rows; changes = [] }
 
--- the count is right, and c is the least cell whose part exceeds the denominator
-pub record IsFirstOver (denominator : ℕ) (overlook : List ℕ) (c : ℕ) : Type 0 where
-  pub count : (1 ≤ length overlook) × (length overlook ≤ 200)
-  pub cell : c < length overlook
-  pub over : denominator < slice_index overlook c
-  pub earlier : (k : ℕ) → k < c → slice_index overlook k ≤ denominator
-
--- every overlook part is the rate or the denominator, and the rate is the least of them
-pub record IsOneRate (sweep : LookParts) (rate : ℕ) : Type 0 where
-  pub either : All (λ part. (part ≡ rate) ⊎ (part ≡ sweep.denominator)) sweep.overlook
-  pub least : All (λ part. rate ≤ part) sweep.overlook
-  pub reached : Contains sweep.overlook rate
+-- the factors of periods 1 to the horizon are each the rate or the denominator, and the rate is the least of them
+pub record IsOneRate (sweep : LookParts) (horizon rate : ℕ) : Type 0 where
+  pub either : (t p c : ℕ) → 1 ≤ t → t ≤ horizon → p < positions_of sweep → c < cells_of sweep → (factor_of sweep t p c ≡ rate) ⊎ (factor_of sweep t p c ≡ sweep.denominator)
+  pub least : (t p c : ℕ) → 1 ≤ t → t ≤ horizon → p < positions_of sweep → c < cells_of sweep → rate ≤ factor_of sweep t p c
+  pub reached : (t : ℕ) × (p : ℕ) × (c : ℕ) × (1 ≤ t) × (t ≤ horizon) × (p < positions_of sweep) × (c < cells_of sweep) × (factor_of sweep t p c ≡ rate)

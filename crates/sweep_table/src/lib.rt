@@ -1,9 +1,20 @@
-//! What the searcher's looks miss: per position and cell, how much of a target a look leaves undetected.
+//! What the searcher's looks miss: per position, the cells that a look covers and how much of a target there it leaves
+//! undetected.
 #![tactic(auto)]
 
+mod changes;
+mod faults;
+mod footprints;
+mod look;
+pub mod part;
+mod rates;
 mod table;
 
-pub use table::{Sweep, SweepFault};
+pub use changes::LookChangeFault;
+pub use faults::{LookFault, SweepFault};
+pub use look::Look;
+pub use part::{LookChange, LookPart};
+pub use table::Sweep;
 
 #[cfg(test)]
 mod tests;

@@ -1,45 +1,56 @@
 //! The table of look factors.
 
-ghost use Rattle.std.specs.Prelude.{◌≡◌, ℕ, ◌<◌, ◌≤◌, ◌↔◌, ◌⊎◌, [], IfOk, IfSome, IfNone, IsOk, IsErrOf, IsTrue, length, slice_index, All, Contains};
+ghost use Rattle.std.specs.Prelude.{◌≡◌, ℕ, ◌<◌, ◌≤◌, ◌↔◌, [], map, IfOk, IfErr, IsOk, IsErrOf};
+ghost use Rattle.std.specs.List.{AllZip};
+ghost use Rattle.std.specs.List.Sorted.{IsPermutation};
+ghost use Rattle.sweep_table.specs.LookParts.{IsSweep};
+ghost use Rattle.sweep_table.specs.Forms.{seen, prints_seen};
 
+use crate::changes::{LookChangeFault, make_changes};
+use crate::faults::{LookFault, MOST_CELLS, SweepFault, first_over, put_in_order};
+use crate::footprints::{Footprints, factor_in_row, own_rows, row_in_force};
+use crate::look::Look;
+use crate::part::{LookChange, LookPart};
+use exact_parts::NoMemory;
+use std::alloc::Global;
 use std::marker::Model;
-
-/// The most positions and cells of a sweep.
-const MAX_CELLS: usize = 200;
 
 /// The look factors, as parts of one denominator.
 #[derive(Debug, Drop)]
 pub struct Sweep {
     denominator: u32,
-    overlook: Vec<u32>,
+    looks: Looks,
 }
 
-/// Why overlook parts make no sweep.
-#[derive(Clone, Copy, Debug, PartialEq, Eq)]
-pub enum SweepFault {
-    /// There is no part, or there are more than 200.
-    CellCount,
-    /// This cell is the least whose part exceeds the denominator.
-    PartOver(u8),
+// What looks cover: each the searcher's own cell alone with that cell's part, or rows of cells.
+#[derive(Debug, Drop)]
+enum Looks {
+    Plain(Vec<u32>),
+    Footprints(Footprints),
 }
 
 impl Model for Sweep {
-    ghost use Rattle.sweep_table.specs.LookParts.{LookParts, IsSweep};
+    ghost use Rattle.sweep_table.specs.LookParts.{LookParts};
 
     ghost Value = { LookParts };
 
-    ghost view = { λ s. record { denominator = s.denominator; overlook = s.overlook.items } };
+    ghost use Rattle.sweep_table.specs.Forms.{seen, IsKept};
 
-    ghost invariant = { λ s. IsSweep (record { denominator = s.denominator; overlook = s.overlook.items }) };
+    ghost view = { λ s. seen s.denominator s.looks };
+
+    ghost invariant = { λ s. IsKept s.denominator s.looks };
 }
 
 impl Sweep {
-    ghost use Rattle.sweep_table.specs.LookParts.{factor_of, positions_of, cells_of, parts_over, IsSweep, IsOneRate, HasWrongCount, IsFirstOver};
+    ghost use Rattle.std.specs.Prelude.{Ok};
+    ghost use Rattle.sweep_table.specs.LookParts.{factor_of, look_row, positions_of, cells_of, parts_over, looks_over};
+    ghost use Rattle.sweep_table.specs.Faults.{HasWrongCount, IsFirstOver, HasFault, IsFirstFault};
+    ghost use Rattle.sweep_table.specs.Changes.{change_of, with_changes, IsSameChange, HaveAscendingRows, HaveRightRows, HasChangeFault, IsRefusal};
 
-    /// Makes the table of a look that misses, of a target in the searcher's own cell, that cell's part
-    /// out of `denominator`, and all of a target elsewhere.
+    /// Makes the table of looks that each cover the searcher's own cell alone: a look there misses that cell's part,
+    /// out of `denominator`.
     ///
-    /// Gives the fault with the smaller number: `CellCount`, then `PartOver` at the least cell.
+    /// Gives the fault with the smaller number: `CellCount`, then `PartOver` at the least cell. Takes no memory.
     pub fn new(denominator: u32, overlook: Vec<u32>) -> Result<Sweep, SweepFault>
         requires some { 1 ≤ denominator }
         requires few { denominator ≤ 1000000 }
@@ -48,16 +59,81 @@ impl Sweep {
         ensures wrong_count { IsErrOf result SweepFault.CellCount ↔ HasWrongCount overlook.items }
         ensures part_over { (c : ℕ) → IsErrOf result (SweepFault.PartOver c) ↔ IsFirstOver denominator overlook.items c }
     {
-        if overlook.is_empty() || overlook.len() > MAX_CELLS {
+        if overlook.is_empty() || overlook.len() > MOST_CELLS {
             return Err(SweepFault::CellCount);
         }
         match first_over(denominator, &overlook) {
             Some(cell) => Err(SweepFault::PartOver(cell as u8)),
             None => Ok(Sweep {
                 denominator,
-                overlook,
+                looks: Looks::Plain(overlook),
             }),
         }
+    }
+
+    /// Makes the table whose looks from position `p` cover the cells of `rows[p]`, which it puts in ascending order, and
+    /// miss each cell's part out of `denominator`, and all of a target elsewhere.
+    ///
+    /// The error is `Count`, or else the fault of the least position that has one, and of its faults the first in the order
+    /// of the variants. Takes no memory.
+    pub fn footprints(
+        denominator: u32,
+        cells: u8,
+        mut rows: Vec<Vec<LookPart>>,
+    ) -> Result<Sweep, LookFault>
+        requires some { 1 ≤ denominator }
+        requires few { denominator ≤ 1000000 }
+        ensures base { IfOk result (λ sweep. sweep ≡ looks_over denominator cells sweep.rows) }
+        ensures made { let given = map (λ row. row.items) rows.items in IfOk result (λ sweep. AllZip IsPermutation given sweep.rows) }
+        ensures sound { IfOk result IsSweep }
+        ensures faultless { let given = map (λ row. row.items) rows.items in IsOk result ↔ ((fault : LookFault) → HasFault denominator cells given fault → ⊥) }
+        ensures fault { let given = map (λ row. row.items) rows.items in IfErr result (IsFirstFault denominator cells given) }
+        ensures kept { let given = looks_over denominator cells (map (λ row. row.items) rows.items) in IsSweep given → result ≡ Ok given }
+    {
+        put_in_order(denominator, cells, &mut rows)?;
+        Ok(Sweep {
+            denominator,
+            looks: Looks::Footprints(Footprints {
+                cells,
+                rows,
+                changes: None,
+            }),
+        })
+    }
+
+    /// Gives looks other rows in single periods, which it puts in ascending order of cells.
+    ///
+    /// The error is the fault of the first change that has one, and of its faults the first in the order of the variants,
+    /// or that memory ran out.
+    pub fn in_periods(
+        self,
+        alloc: Global,
+        changes: Vec<LookChange>,
+    ) -> Result<Sweep, LookChangeFault>
+        requires { self.changes ≡ [] }
+        ensures base { IfOk result (λ sweep. sweep ≡ with_changes self sweep.changes) }
+        ensures made { let given = map change_of changes.items in IfOk result (λ sweep. AllZip IsSameChange given sweep.changes) }
+        ensures right { IfOk result (λ sweep. HaveRightRows self.denominator (cells_of self) sweep.changes) }
+        ensures sound { IfOk result IsSweep }
+        ensures faultless { let given = map change_of changes.items in IsOk result → (fault : LookChangeFault) → HasChangeFault self.denominator (cells_of self) (positions_of self) given fault → ⊥ }
+        ensures refusal { let given = map change_of changes.items in IfErr result (IsRefusal self.denominator (cells_of self) (positions_of self) given) }
+        ensures kept { let given = map change_of changes.items in HaveAscendingRows given → IfOk result (λ sweep. sweep ≡ with_changes self given) }
+    {
+        let Sweep { denominator, looks } = self;
+        let Footprints {
+            cells,
+            rows,
+            changes: _,
+        } = as_footprints(alloc, looks)?;
+        let changes = make_changes(alloc, denominator, cells, rows.len() as u8, changes)?;
+        Ok(Sweep {
+            denominator,
+            looks: Looks::Footprints(Footprints {
+                cells,
+                rows,
+                changes: Some(changes),
+            }),
+        })
     }
 
     /// What the factors are parts of.
@@ -73,7 +149,10 @@ impl Sweep {
         ensures value { result ≡ positions_of self.now }
         ensures sound { IsSweep self.now }
     {
-        self.overlook.len() as u8
+        match &self.looks {
+            Looks::Plain(overlook) => overlook.len() as u8,
+            Looks::Footprints(prints) => prints.rows.len() as u8,
+        }
     }
 
     /// The number of cells that are looked at.
@@ -81,10 +160,29 @@ impl Sweep {
         ensures value { result ≡ cells_of self.now }
         ensures sound { IsSweep self.now }
     {
-        self.overlook.len() as u8
+        match &self.looks {
+            Looks::Plain(overlook) => overlook.len() as u8,
+            Looks::Footprints(prints) => prints.cells,
+        }
     }
 
-    #[tactic(auto, unfolding(crate::specs::LookParts::factor_of))]
+    /// What a look from position `p` in period `t` covers: the row in force, without a copy.
+    pub fn look(&self, t: u32, p: u8) -> Look<'_>
+        requires first { 1 ≤ t }
+        requires last { t ≤ 32 }
+        requires position { p < positions_of self.now }
+        ensures value { result ≡ look_row self.now t p }
+        ensures sound { IsSweep self.now }
+    {
+        match &self.looks {
+            Looks::Plain(overlook) => Look::one(LookPart {
+                cell: p,
+                part: overlook[p as usize],
+            }),
+            Looks::Footprints(prints) => Look::row(row_in_force(prints, t, p)),
+        }
+    }
+
     /// How much of a target in cell `c` a look from position `p` in period `t` misses, out of the denominator.
     pub fn factor(&self, t: u32, p: u8, c: u8) -> u32
         requires first { 1 ≤ t }
@@ -94,50 +192,27 @@ impl Sweep {
         ensures value { result ≡ factor_of self.now t p c }
         ensures sound { IsSweep self.now }
     {
-        if p == c {
-            self.overlook[p as usize]
-        } else {
-            self.denominator
-        }
-    }
-
-    /// The least overlook part, where every part is that one or the denominator.
-    pub fn one_rate(&self) -> Option<u32>
-        ensures some { IfSome result (IsOneRate self.now) }
-        ensures none { IfNone result ((rate : ℕ) → ¬ IsOneRate self.now rate) }
-        ensures sound { IsSweep self.now }
-    {
-        let rate = least_of(&self.overlook)?;
-        if are_either(&self.overlook, rate, self.denominator) {
-            Some(rate)
-        } else {
-            None
+        match &self.looks {
+            Looks::Plain(overlook) if p == c => overlook[p as usize],
+            Looks::Plain(_) => self.denominator,
+            Looks::Footprints(prints) => {
+                factor_in_row(self.denominator, row_in_force(prints, t, p), c)
+            }
         }
     }
 }
 
-// The least of some parts.
-fn least_of(parts: &[u32]) -> Option<u32>
-    ensures least { IfSome result (λ least. All (λ part. least ≤ part) parts.now) }
-    ensures reached { IfSome result (Contains parts.now) }
-    ensures none { IfNone result (parts.now ≡ []) }
+// Looks as footprints.
+fn as_footprints(alloc: Global, looks: Looks) -> Result<Footprints, NoMemory>
+    requires { (denominator : ℕ) × IsSweep (seen denominator looks) }
+    ensures { IfOk result (λ prints. (denominator : ℕ) → prints_seen denominator prints ≡ seen denominator looks) }
 {
-    parts.iter().copied().min()
-}
-
-// Whether each part is one of these two.
-fn are_either(parts: &[u32], one: u32, other: u32) -> bool
-    ensures { IsTrue result ↔ All (λ part. (part ≡ one) ⊎ (part ≡ other)) parts.now }
-{
-    parts.iter().all(|part| *part == one || *part == other)
-}
-
-// The least cell whose part exceeds the denominator.
-fn first_over(denominator: u32, overlook: &[u32]) -> Option<usize>
-    ensures none { IfNone result ((k : ℕ) → k < length overlook.now → slice_index overlook.now k ≤ denominator) }
-    ensures cell { IfSome result (λ c. c < length overlook.now) }
-    ensures over { IfSome result (λ c. denominator < slice_index overlook.now c) }
-    ensures earlier { IfSome result (λ c. (k : ℕ) → k < c → slice_index overlook.now k ≤ denominator) }
-{
-    overlook.iter().position(|part| *part > denominator)
+    match looks {
+        Looks::Footprints(prints) => Ok(prints),
+        Looks::Plain(overlook) => Ok(Footprints {
+            cells: overlook.len() as u8,
+            rows: own_rows(alloc, &overlook)?,
+            changes: None,
+        }),
+    }
 }

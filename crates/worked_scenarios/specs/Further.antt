@@ -18,6 +18,7 @@ two_rates = waiting_with 3 0
 abbrev pub four_cells : Problem
 four_cells = record {
   names = (97 ∷ []) ∷ (98 ∷ []) ∷ (99 ∷ []) ∷ (100 ∷ []) ∷ [];
+  position_names = (97 ∷ []) ∷ (98 ∷ []) ∷ (99 ∷ []) ∷ (100 ∷ []) ∷ [];
   cells = 4;
   positions = 4;
   horizon = 2;

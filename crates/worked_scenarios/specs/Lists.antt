@@ -9,6 +9,7 @@ use Rattle.worked_scenarios.specs.declared.lists.Lists.{Lists}
 abbrev pub problem_of : Lists → Problem
 problem_of s = record {
   names = s.names.items;
+  position_names = s.positions.items;
   cells = length s.drift.items;
   positions = length s.moves.items;
   horizon = s.horizon;

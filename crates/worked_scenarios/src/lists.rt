@@ -1,6 +1,7 @@
 //! Scenarios of written lists.
 
-ghost use Rattle.std.specs.Prelude.{◌≡◌, ◌≤◌, [], ◌∷◌, IfOk};
+ghost use Rattle.std.specs.Prelude.{◌≡◌, ◌≤◌, ◌+◌, [], ◌∷◌, map, IfOk};
+ghost use Rattle.std.specs.List.{range_with_len};
 ghost use Rattle.search_model.specs.Problem.{IsProblem};
 ghost use Rattle.search_model.specs.Parts.{problem_of as parts_problem};
 ghost use Rattle.worked_scenarios.specs.Lists.{problem_of};
@@ -14,24 +15,27 @@ use sweep_table::Sweep;
 /// What a scenario is made of, as lists.
 #[derive(Drop)]
 pub(crate) struct Lists {
+    /// One name a cell.
     pub names: Vec<Name>,
+    /// One name a position.
+    pub positions: Vec<Name>,
     pub horizon: u32,
     pub start: u8,
     pub total: u32,
     /// Per cell, the target's part in period 1.
     pub first: Vec<u32>,
-    /// Per cell, the cells that the searcher goes to.
+    /// Per position, the positions that the searcher goes to.
     pub moves: Vec<Vec<u8>>,
     pub drift_denominator: u32,
     /// Per cell, the cells that the target goes to.
     pub drift: Vec<Vec<DriftPart>>,
     pub look_denominator: u32,
-    /// Per cell, the part that a look there misses.
+    /// Per position, the part that a look at the cell of its number misses.
     pub overlook: Vec<u32>,
 }
 
 /// The name of a small letter.
-pub(crate) fn letter(b: u8) -> Name
+fn letter(b: u8) -> Name
     requires { (97 ≤ b) × (b ≤ 122) }
     ensures { result ≡ b ∷ [] }
 {
@@ -39,6 +43,18 @@ pub(crate) fn letter(b: u8) -> Name
         Some(name) => name,
         None => unreachable!(),
     }
+}
+
+/// The names a, b, c, and so on.
+pub(crate) fn letters(alloc: Global, count: u8) -> Result<Vec<Name>, AllocError>
+    requires { count ≤ 26 }
+    ensures { IfOk result (λ names. names.items ≡ map (λ k. (97 + k) ∷ []) (range_with_len 0 count)) }
+{
+    let mut names = Vec::new(alloc);
+    for k in 0..count {
+        names.push(letter(b'a' + k))?;
+    }
+    Ok(names)
 }
 
 /// The row of a cell that keeps all of a target.
@@ -75,6 +91,7 @@ fn parts_of(lists: Lists) -> Parts
     };
     Parts {
         names: lists.names,
+        positions: lists.positions,
         horizon: lists.horizon,
         start: lists.start,
         total: lists.total,

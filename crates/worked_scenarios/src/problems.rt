@@ -5,7 +5,7 @@ ghost use Rattle.search_model.specs.Problem.{IsProblem};
 ghost use Rattle.search_model.specs.Worked.{one_cell as one_cell_problem, two_cells as two_cells_problem, waiting_target as waiting_target_problem, waiting_longer as waiting_longer_problem};
 ghost use Rattle.worked_scenarios.specs.Further.{waiting_with, two_rates as two_rates_problem, four_cells as four_cells_problem};
 
-use crate::lists::{Lists, either, letter, scenario_of, stays};
+use crate::lists::{Lists, either, letters, scenario_of, stays};
 use exact_parts::NoMemory;
 use search_model::Scenario;
 use std::alloc::Global;
@@ -15,7 +15,8 @@ pub fn one_cell(alloc: Global) -> Result<Scenario, NoMemory>
     ensures { IfOk result (λ sc. sc ≡ one_cell_problem) }
 {
     Ok(scenario_of(Lists {
-        names: vec![in alloc; letter(b'a')]?,
+        names: letters(alloc, 1)?,
+        positions: letters(alloc, 1)?,
         horizon: 1,
         start: 0,
         total: 1,
@@ -33,7 +34,8 @@ pub fn two_cells(alloc: Global) -> Result<Scenario, NoMemory>
     ensures { IfOk result (λ sc. sc ≡ two_cells_problem) }
 {
     Ok(scenario_of(Lists {
-        names: vec![in alloc; letter(b'a'), letter(b'b')]?,
+        names: letters(alloc, 2)?,
+        positions: letters(alloc, 2)?,
         horizon: 2,
         start: 0,
         total: 2,
@@ -58,7 +60,8 @@ fn waiting(alloc: Global, periods: u32, middle: u32) -> Result<Scenario, NoMemor
         vec![in alloc; 1, 2]?,
     ]?;
     Ok(scenario_of(Lists {
-        names: vec![in alloc; letter(b'a'), letter(b'b'), letter(b'c')]?,
+        names: letters(alloc, 3)?,
+        positions: letters(alloc, 3)?,
         horizon: periods,
         start: 1,
         total: 1,
@@ -110,7 +113,8 @@ pub fn four_cells(alloc: Global) -> Result<Scenario, NoMemory>
         stays(alloc, 3)?,
     ]?;
     Ok(scenario_of(Lists {
-        names: vec![in alloc; letter(b'a'), letter(b'b'), letter(b'c'), letter(b'd')]?,
+        names: letters(alloc, 4)?,
+        positions: letters(alloc, 4)?,
         horizon: 2,
         start: 1,
         total: 9,

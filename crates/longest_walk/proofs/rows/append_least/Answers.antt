@@ -8,10 +8,10 @@ use Rattle.longest_walk.proofs.rows.append_least.Goals as goal
 
 pub loop-t-preserved : goal.loop-t-preserved
 loop-t-preserved c =
-    let cells : c.from-cells.result ≡ length c.args.grid.now = c.from-cells.ensures ∙ c.cells.ensures.value in
-    let step = rw (cells, c.moves.ensures.value) at c.least_move-at.ensures in
+    let positions : c.from-positions.result ≡ length c.args.grid.now = c.from-positions.ensures ∙ c.cells.ensures.value in
+    let step = rw (positions, c.moves.ensures.value) at c.least_move-at.ensures in
     record {
-      cell = move_within c.args.grid.now c.cells.ensures.sound c.loop-t.at c.least_move-at.result c.loop-t.invariant.cell step.move;
+      position = move_within c.args.grid.now c.cells.ensures.sound c.loop-t.at c.least_move-at.result c.loop-t.invariant.position step.move;
       long = rw (c.push.ensures, length-append) (omega arith);
       kept = rw c.push.ensures (Starts-pushed c.args.to.now c.loop-t.to c.least_move-at.result c.loop-t.invariant.kept);
       least = λ rewards y filled rest.
@@ -19,7 +19,7 @@ loop-t-preserved c =
           (c.loop-t.invariant.least rewards (c.least_move-at.result ∷ y) filled
           (IsLeastBest-step c.args.grid.now c.cells.ensures.sound c.args.horizon rewards c.args.sums.now c.loop-t.t c.loop-t.at c.least_move-at.result y
           (HasSums-later c.args.grid.now (length c.args.grid.now) c.args.horizon rewards c.args.sums.now (length c.args.to.now) c.loop-t.t (omega arith) filled)
-          (omega arith) c.loop-t.invariant.cell step rest));
+          (omega arith) c.loop-t.invariant.position step rest));
     }
 
 pub returns-clause-least : goal.returns-clause-least

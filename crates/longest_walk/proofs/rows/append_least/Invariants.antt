@@ -5,10 +5,10 @@ use Rattle.search_model.specs.Reference.{IsLeastBest}
 use Rattle.longest_walk.specs.Tables.{HasSums}
 use Rattle.longest_walk.proofs.rows.append_least.Given as goal
 
--- what was there, the cells so far, and the least walk from the last of them
+-- what was there, the positions so far, and the least walk from the last of them
 abbrev pub invariant-loop-t : goal.invariant-loop-t
 invariant-loop-t l = record {
-  cell : l.at < length l.grid;
+  position : l.at < length l.grid;
   long : length l.to ≡ l.t;
   kept : Starts l.fn.to l.to;
   least : (rewards y : List ℕ) → HasSums l.grid (length l.grid) l.horizon rewards (length l.fn.to) l.sums →

@@ -5,4 +5,4 @@ use Rattle.longest_walk.proofs.rows.greatest_at.Given as goal
 
 -- the best so far, or the greatest of what is left
 abbrev pub invariant-loop-d : goal.invariant-loop-d
-invariant-loop-d l = max l.best (greatest (sums_at l.sums l.row (drop l.d-index l.cells))) ≡ greatest (sums_at l.sums l.row l.cells)
+invariant-loop-d l = max l.best (greatest (sums_at l.sums l.row (drop l.d-index l.moves))) ≡ greatest (sums_at l.sums l.row l.moves)

@@ -16,7 +16,7 @@ pub fill-requires-clause-fits : goal.fill-requires-clause-fits
 fill-requires-clause-fits c =
     let w = c.in_ok-walk.walk in
     let small : All (λ x. x ≤ 1000) c.args.asked.now.rewards.now = c.if-not-is_within.ensures.small refl in
-    let most = highest_below w.cells 1000 (entry_at w.cells c.args.asked.now.rewards.now) (w.horizon - c.len.result) (c.len.result + 1)
-    (λ t q from to within. small_at c.args.asked.now.rewards.now ((t - 1) * w.cells + q) small) in
+    let most = highest_below w.positions 1000 (entry_at w.positions c.args.asked.now.rewards.now) (w.horizon - c.len.result) (c.len.result + 1)
+    (λ t q from to within. small_at c.args.asked.now.rewards.now ((t - 1) * w.positions + q) small) in
     let few : w.horizon ≤ 32 = omega (arith, c.if-not-is_within.ensures.horizon refl, c.in_ok-walk.ensures) in
     omega (arith, most, few)

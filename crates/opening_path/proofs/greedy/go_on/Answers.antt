@@ -3,8 +3,8 @@ use Rattle.std.proofs.lemmas.List.{length-map}
 use Rattle.opening_path.proofs.Openings.{move_is_position, opened_further}
 use Rattle.opening_path.proofs.greedy.go_on.Goals as goal
 
-pub look-requires-clause-cell : goal.look-requires-clause-cell
-look-requires-clause-cell c = move_is_position c.args.sc.now c.args.prefix.now _ c.cells-sound.ensures.sound c.requires.opened.follows c.best_move-best.ensures.least.move
+pub look-requires-clause-position : goal.look-requires-clause-position
+look-requires-clause-position c = move_is_position c.args.sc.now c.args.prefix.now _ c.cells-sound.ensures.sound c.requires.opened.follows c.best_move-best.ensures.least.move
 
 pub push-requires : goal.push-requires
 push-requires c =

@@ -20,4 +20,4 @@ returns c =
     let drawn = c.in_ok-drawn.ensures in
     let drift = c.in_ok-drift.ensures ∙ ap (λ n. drift_over 12 (spread_rows 12 n (side_moves 5 5))) drawn.spread in
     let sweep = c.in_ok-sweep.ensures ∙ ap (λ n. parts_over 6 (replicate 25 n)) drawn.overlook in
-    is_made c.args.number _ c.in_ok-grid_names.ensures refl refl refl drawn.start c.from.ensures drawn.first (c.grid-2.view_is ∙ c.in_ok-grid.ensures) drift sweep
+    is_made c.args.number _ c.in_ok-grid_names.ensures c.in_ok-grid_names-2.ensures refl refl refl drawn.start c.from.ensures drawn.first (c.grid-2.view_is ∙ c.in_ok-grid.ensures) drift sweep

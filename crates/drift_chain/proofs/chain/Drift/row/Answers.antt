@@ -1,13 +1,28 @@
-use Rattle.std.proofs.Common.{◌≡◌, ◌<◌, length, map, [], ap, arith}
+use Rattle.std.proofs.Common.{◌≡◌, ◌<◌, ◌∙◌, [], length, map, ap, sym, get_or, arith}
 use Rattle.std.proofs.Math.ListN.{length-map}
 use Rattle.std.proofs.lemmas.List.{get_or-map}
-use Rattle.drift_chain.specs.DriftRows.{row_of}
+use Rattle.std.specs.List.{find}
+use Rattle.std.specs.Option.{option_map}
+use Rattle.drift_chain.specs.DriftRows.{DriftRowChange, drift_cells, is_change}
+use Rattle.drift_chain.specs.Changes.{drift_by, changes_in}
+use Rattle.drift_chain.proofs.DriftChanges.{row_of-base, row_of-or}
 use Rattle.drift_chain.proofs.chain.Drift.row.Goals as goal
 
-pub returns-clause-value : goal.returns-clause-value
-unfolding row_of
-returns-clause-value c =
-    let rows = c.self.inside.rows.items in
-    let is : map (λ row. row.items) rows ≡ c.args.self.now.rows = ap (λ d. d.rows) c.self.view_is in
-    let cell : c.args.c < length rows = omega (arith, c.requires.cell, ap length is, length-map rows (λ row. row.items)) in
-    rw (← c.self.view_is, get_or-map (λ row. row.items) rows c.args.c c.index.result.now [] cell, ← c.index.ensures) c.deref.ensures.value
+pub returns-in-Some-clause-value : goal.returns-in-Some-clause-value
+returns-in-Some-clause-value c =
+    let inside = c.self.inside in
+    let rows = map (λ row. row.items) inside.rows.items in
+    let drift = drift_by inside.denominator rows inside.changes in
+    let cell : c.args.c < length inside.rows.items = omega (arith, c.requires.cell, ap drift_cells c.self.view_is, length-map inside.rows.items (λ row. row.items)) in
+    let own : c.deref-own.result.now ≡ get_or rows c.args.c [] = c.deref-own.ensures.value ∙ ap (λ row. row.items) c.index.ensures ∙ sym (get_or-map (λ row. row.items) inside.rows.items c.args.c c.index.result.now [] cell) in
+    let told = c.row.ensures ∙ sym (ap (λ table. option_map (λ (change : DriftRowChange). change.row) (find (is_change c.args.t c.args.c) (changes_in table))) c.in-Some.is) in
+    rw (← c.self.view_is, c.unwrap_or.ensures) (row_of-or drift c.args.t c.args.c c.row.result c.deref-own.result told own)
+
+pub returns-in-None-clause-value : goal.returns-in-None-clause-value
+returns-in-None-clause-value c =
+    let inside = c.self.inside in
+    let rows = map (λ row. row.items) inside.rows.items in
+    let drift = drift_by inside.denominator rows inside.changes in
+    let cell : c.args.c < length inside.rows.items = omega (arith, c.requires.cell, ap drift_cells c.self.view_is, length-map inside.rows.items (λ row. row.items)) in
+    let own : c.deref-own.result.now ≡ get_or rows c.args.c [] = c.deref-own.ensures.value ∙ ap (λ row. row.items) c.index.ensures ∙ sym (get_or-map (λ row. row.items) inside.rows.items c.args.c c.index.result.now [] cell) in
+    rw (← c.self.view_is) (own ∙ sym (row_of-base drift c.args.t c.args.c (ap (λ table. find (is_change c.args.t c.args.c) (changes_in table)) c.in-None.is)))

@@ -10,12 +10,12 @@ use Rattle.longest_walk.proofs.walk.Walk.fill.Goals as goal
 
 pub returns-clause-filled : goal.returns-clause-filled
 returns-clause-filled c =
-    let w : Tables = record { cells = c.self.inside.cells; horizon = c.self.inside.horizon; from = c.args.from; best = c.greatest_at-self-inside.result; sums = (with_items c.self.inside.sums c.fill_rows.new.sums).items } in
+    let w : Tables = record { positions = c.self.inside.positions; horizon = c.self.inside.horizon; from = c.args.from; best = c.greatest_at-self-inside.result; sums = (with_items c.self.inside.sums c.fill_rows.new.sums).items } in
     let stored : w.sums ≡ c.fill_rows.new.sums = with_items_is c.self.inside.sums c.fill_rows.new.sums (c.fill_rows.auto.sums ∙ c.deref_mut.ensures.len) in
-    let cells : c.self.inside.cells ≡ c.args.self.now.cells = ap (λ (w : Tables). w.cells) c.self.view_is in
+    let positions : c.self.inside.positions ≡ c.args.self.now.positions = ap (λ (w : Tables). w.positions) c.self.view_is in
     let horizon : c.self.inside.horizon ≡ c.args.self.now.horizon = ap (λ (w : Tables). w.horizon) c.self.view_is in
     let filled = subst (λ sums. HasSums c.args.grid.now (length c.args.grid.now) c.self.inside.horizon c.args.rewards.now c.args.k sums) (sym stored) c.fill_rows.ensures in
-    let best : w.best ≡ greatest (sums_at w.sums (c.args.k * w.cells) (moves_from c.args.grid.now c.args.from)) =
+    let best : w.best ≡ greatest (sums_at w.sums (c.args.k * w.positions) (moves_from c.args.grid.now c.args.from)) =
     rw (c.deref.ensures.value, c.from.ensures, c.moves.ensures.value) at c.greatest_at-self-inside.ensures in
-    IsFilled-from c.args.grid.now c.moves.ensures.sound w c.args.rewards.now c.args.k (c.requires.cells ∙ sym cells) filled
-    (omega (arith, horizon, c.requires.period)) (omega (arith, cells, c.requires.from)) best
+    IsFilled-from c.args.grid.now c.moves.ensures.sound w c.args.rewards.now c.args.k (c.requires.positions ∙ sym positions) filled
+    (omega (arith, horizon, c.requires.period)) (omega (arith, positions, c.requires.from)) best

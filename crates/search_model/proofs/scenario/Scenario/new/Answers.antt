@@ -1,8 +1,10 @@
-use Rattle.std.proofs.Common.{◌≡◌, sum, sym, ◌∙◌, ap, refl, arith}
+use Rattle.std.proofs.Common.{◌≡◌, length, sum, refl, ap, arith}
 use Rattle.std.proofs.lemmas.Bool.{false≢true}
 use Rattle.exact_parts.specs.Width.{Fits}
+use Rattle.drift_chain.specs.DriftRows.{drift_cells}
+use Rattle.search_model.specs.Names.{AreNames}
 use Rattle.search_model.specs.Faults.{WithinLimits, SizesAgree}
-use Rattle.search_model.proofs.FaultLemmas.{double_is_first, wide_is_first, no_fault}
+use Rattle.search_model.proofs.FaultLemmas.{double_is_first, wide_is_first, double_position_is_first, no_fault}
 use Rattle.search_model.proofs.scenario.Scenario.new.Goals as goal
 
 pub returns-in-Some-clause-fault : goal.returns-in-Some-clause-fault
@@ -24,15 +26,27 @@ returns-then-not-fits-clause-fault c =
     let wide : Fits s.total s.drift.denominator s.sweep.denominator s.horizon → ⊥ = rw (← c.denominator-d.ensures.value, ← c.denominator-g.ensures.value) (λ narrow. false≢true (c.if-not-fits.ensures.1 narrow)) in
     wide_is_first s limits sizes (λ out. omega (arith, out, c.if-parts-cells.false, c.cells.ensures.value)) total differ wide
 
+pub returns-in-Some-first_repeated-clause-fault : goal.returns-in-Some-first_repeated-clause-fault
+returns-in-Some-first_repeated-clause-fault c =
+    let s = c.args.parts in
+    let limits : WithinLimits s = c.if-not-within_limits.ensures.0 refl in
+    let sizes : SizesAgree s = c.if-not-sizes_agree.ensures.0 refl in
+    let total : sum s.first.items ≡ s.total = omega (arith, c.if-sum_of-from.false, c.sum_of.ensures, c.from.ensures, ap sum c.deref.ensures.value) in
+    let narrow : Fits s.total s.drift.denominator s.sweep.denominator s.horizon = rw (← c.denominator-d.ensures.value, ← c.denominator-g.ensures.value) (c.if-not-fits.ensures.0 refl) in
+    let differ = rw c.deref-2.ensures.value at c.in_default.ensures.none in
+    let found = rw c.deref-3.ensures.value at c.in-Some-first_repeated.ensures.some in
+    double_position_is_first s limits sizes (λ out. omega (arith, out, c.if-parts-cells.false, c.cells.ensures.value)) total differ narrow c.in-Some-first_repeated.p found.0 found.1
+
 pub returns-clause-sound : goal.returns-clause-sound
 returns-clause-sound c =
     let s = c.args.parts in
     let limits : WithinLimits s = c.if-not-within_limits.ensures.0 refl in
     let sizes : SizesAgree s = c.if-not-sizes_agree.ensures.0 refl in
     let total : sum s.first.items ≡ s.total = omega (arith, c.if-sum_of-from.false, c.sum_of.ensures, c.from.ensures, ap sum c.deref.ensures.value) in
-    let differ = rw c.deref-2.ensures.value at c.in_default.ensures.none in
     let narrow : Fits s.total s.drift.denominator s.sweep.denominator s.horizon = rw (← c.denominator-d.ensures.value, ← c.denominator-g.ensures.value) (c.if-not-fits.ensures.0 refl) in
-    no_fault s limits sizes (λ out. omega (arith, out, c.if-parts-cells.false, c.cells.ensures.value)) total differ narrow
+    let differ = rw c.deref-2.ensures.value at c.in_default.ensures.none in
+    let apart = rw c.deref-3.ensures.value at c.in_default-first_repeated.ensures.none in
+    no_fault s limits sizes (λ out. omega (arith, out, c.if-parts-cells.false, c.cells.ensures.value)) total differ narrow apart
 
 pub invariant_of-result : goal.invariant_of-result
 invariant_of-result c =
@@ -41,14 +55,17 @@ invariant_of-result c =
     let sizes : SizesAgree s = c.if-not-sizes_agree.ensures.0 refl in
     let total : sum s.first.items ≡ s.total = omega (arith, c.if-sum_of-from.false, c.sum_of.ensures, c.from.ensures, ap sum c.deref.ensures.value) in
     let narrow : Fits s.total s.drift.denominator s.sweep.denominator s.horizon = rw (← c.denominator-d.ensures.value, ← c.denominator-g.ensures.value) (c.if-not-fits.ensures.0 refl) in
+    let names : AreNames (drift_cells s.drift) s.names.items =
+    record { count = sizes.names; each = rw c.deref-2.ensures.value at c.in_default.ensures.names; differ = rw c.deref-2.ensures.value at c.in_default.ensures.none } in
+    let positions : AreNames (length s.grid) s.positions.items =
+    record { count = sizes.position_names; each = rw c.deref-3.ensures.value at c.in_default-first_repeated.ensures.names; differ = rw c.deref-3.ensures.value at c.in_default-first_repeated.ensures.none } in
     record {
       horizon = limits.horizon;
       total = limits.total;
       cells = c.denominator-d.ensures.sound.size;
-      positions = sizes.grid;
-      names_length = sizes.names;
-      names = rw c.deref-2.ensures.value at c.in_default.ensures.names;
-      names_differ = rw c.deref-2.ensures.value at c.in_default.ensures.none;
+      positions = c.cells.ensures.sound.size;
+      names = names;
+      position_names = positions;
       start = omega (arith, c.if-parts-cells.false, c.cells.ensures.value);
       first_length = sizes.first;
       first_total = total;
@@ -57,7 +74,7 @@ invariant_of-result c =
       drift = c.denominator-d.ensures.sound;
       drift_cells = refl;
       sweep = c.denominator-g.ensures.sound;
-      sweep_positions = sizes.positions ∙ sym sizes.grid;
+      sweep_positions = sizes.positions;
       sweep_cells = sizes.cells;
       fits = narrow;
     }

@@ -1,0 +1,142 @@
+-- Drifts with changes, change by change.
+use Rattle.std.proofs.Common.{ℕ, ◌<◌, ◌≤◌, ◌≡◌, ◌∙◌, Option, Some, None, List, [], length, get_or, take, map, refl, sym, ap, arith, slice_index_or, Bor, inl, inr}
+use Rattle.std.proofs.Math.ListN.{length-map}
+use Rattle.std.proofs.lemmas.List.{get_or-map, get_or_default, get_or-take, length-take, same_lists}
+use Rattle.std.proofs.lemmas.List.Elements.{All-get_or, All-from_get_or}
+use Rattle.std.specs.List.{find}
+use Rattle.std.specs.Option.{option_map, option_map_or, unwrap_or}
+use Rattle.period_index.specs.PeriodKeys.{PeriodKey, place_of}
+use Rattle.period_index.proofs.Places.{place_of-Some, place_of-first}
+use Rattle.drift_chain.specs.declared.part.DriftPart.{DriftPart}
+use Rattle.drift_chain.specs.declared.changes.ChangeFault.{ChangeFault}
+use Rattle.drift_chain.specs.declared.changes.ChangeFault.TheVariants.{NoMemory}
+use Rattle.drift_chain.specs.DriftRows.{DriftRowChange, DriftRows, drift_cells, drift_with, row_of, is_change, IsSameKey, IsDriftRow, AreChanges, IsDrift}
+use Rattle.drift_chain.specs.ChangeFaults.{change_key, change_at, AreSameChanges, HasChangeFault, change_number, IsRefusal, IsRightAfter, AreRight}
+use Rattle.drift_chain.proofs.ChangeKeys.{row_found, no_row_found}
+use Rattle.drift_chain.proofs.ChangeOrder.{no_fault_there, place_inside}
+use Rattle.drift_chain.proofs.Drifts.{same_row}
+use Rattle.drift_chain.proofs.SameChanges.{none, same_length, same_key, same_entries, HasChangeFault-same}
+
+-- the row in force: that of the change that is found, or the cell's own
+pub row_of-changed : (drift : DriftRows) (t c : ℕ) (change : DriftRowChange) → find (is_change t c) drift.changes ≡ Some change → row_of drift t c ≡ change.row
+unfolding row_of
+row_of-changed drift t c change found = ap (λ told. option_map_or (λ change. change.row) told (slice_index_or drift.rows c [])) found
+
+pub row_of-base : (drift : DriftRows) (t c : ℕ) → find (is_change t c) drift.changes ≡ None → row_of drift t c ≡ slice_index_or drift.rows c []
+unfolding row_of
+row_of-base drift t c found = ap (λ told. option_map_or (λ change. change.row) told (slice_index_or drift.rows c [])) found
+
+-- the same, by the place that is told of the key
+pub row_of-told : (drift : DriftRows) (t c k : ℕ) → place_of (map change_key drift.changes) t c ≡ Some k → row_of drift t c ≡ (change_at drift.changes k).row
+unfolding change_at
+row_of-told drift t c k told = row_of-changed drift t c _ (row_found drift.changes t c k none told)
+
+pub row_of-untold : (drift : DriftRows) (t c : ℕ) → place_of (map change_key drift.changes) t c ≡ None → row_of drift t c ≡ slice_index_or drift.rows c []
+row_of-untold drift t c told = row_of-base drift t c (no_row_found drift.changes t c told)
+
+-- the changes of a drift are right, one behind the other
+module _ (drift : DriftRows) (h : IsDrift drift) (i : ℕ) (inside : i < length drift.changes) where
+  change : DriftRowChange
+  change = change_at drift.changes i
+
+  is : change ≡ get_or drift.changes i none
+  unfolding change change_at
+  is = refl
+
+  within : (1 ≤ change.period) × (change.period ≤ 31) × (change.cell < drift_cells drift)
+  within = rw is (All-get_or (λ change. (1 ≤ change.period) × (change.period ≤ 31) × (change.cell < drift_cells drift)) drift.changes i none inside h.changes.within)
+
+  differs : (k : ℕ) (d : DriftRowChange) → k < i → ¬ IsSameKey (get_or drift.changes k d) change
+  differs k d before same = h.changes.differ k i d before inside (rw (get_or_default drift.changes i d none inside, ← is) same)
+
+  told : place_of (map change_key drift.changes) change.period change.cell ≡ Some i
+  told =
+      place_of-first (map change_key drift.changes) change.period change.cell i (change_key none) (rw (length-map drift.changes change_key) inside)
+      (get_or-map change_key drift.changes i none (change_key none) inside ∙ ap change_key (sym is))
+      (λ k before same.
+      let key : change_key (get_or drift.changes k none) ≡ change_key change = sym (get_or-map change_key drift.changes k none (change_key none) (omega (arith, before, inside))) ∙ same in
+      differs k none before (ap (λ key. key.period) key, ap (λ key. key.row) key))
+
+  pub right_change : IsRightAfter drift.denominator (drift_cells drift) (take i drift.changes) (change_at drift.changes i)
+  unfolding change
+  right_change = record {
+    period = (within.0, within.1);
+    cell = within.2;
+    other = λ k d lt same.
+        let before : k < i = omega (arith, lt, length-take i drift.changes) in
+        differs k d before (rw (← get_or-take i drift.changes k d before) same);
+    row = rw (← row_of-told drift change.period change.cell i told) (h.each change.period change.cell within.2);
+  }
+
+pub AreRight-from_drift : (drift : DriftRows) → IsDrift drift → AreRight drift.denominator (drift_cells drift) drift.changes
+AreRight-from_drift drift h = λ i inside. right_change drift h i inside
+
+-- and right changes of a drift without any make a drift
+module _ (drift : DriftRows) (changes : List DriftRowChange) (h : IsDrift drift) (plain : drift.changes ≡ []) (right : AreRight drift.denominator (drift_cells drift) changes) where
+  row_right : (t c : ℕ) → c < drift_cells drift → (told : Option ℕ) → place_of (map change_key changes) t c ≡ told → IsDriftRow drift.denominator (drift_cells drift) (row_of (drift_with drift changes) t c)
+  row_right t c inside (Some k) told =
+      let at = place_of-Some (map change_key changes) t c k (change_key none) told in
+      rw (row_of-told (drift_with drift changes) t c k told) (right k (omega (arith, at.0, length-map changes change_key))).row
+  row_right t c inside None told =
+      let base : row_of (drift_with drift changes) t c ≡ row_of drift t c = row_of-untold (drift_with drift changes) t c told ∙ sym (row_of-base drift t c (ap (find (is_change t c)) plain)) in
+      rw base (h.each t c inside)
+
+  changes_right : AreChanges (drift_cells drift) changes
+  unfolding change_at
+  changes_right = record {
+    within = All-from_get_or (λ change. (1 ≤ change.period) × (change.period ≤ 31) × (change.cell < drift_cells drift)) changes none (λ k inside.
+        let at = right k inside in (at.period.0, at.period.1, at.cell));
+    differ = λ i j d before inside same.
+        (right j inside).other i d (omega (arith, before, inside, length-take j changes)) (rw (get_or-take j changes i d before, ← get_or_default changes j d none inside) same);
+  }
+
+  pub IsDrift-from_changes : IsDrift (drift_with drift changes)
+  IsDrift-from_changes = record {
+    denominator = h.denominator;
+    size = h.size;
+    each = λ t c inside. row_right t c inside (place_of (map change_key changes) t c) refl;
+    changes = changes_right;
+  }
+
+-- right changes have no fault, however their rows are ordered
+pub faultless_changes : (denominator cells : ℕ) (given made : List DriftRowChange) → AreSameChanges given made → AreRight denominator cells made → (fault : ChangeFault) → HasChangeFault denominator cells given fault → ⊥
+faultless_changes denominator cells given made same right fault has =
+    let there = HasChangeFault-same denominator cells given made same fault has in
+    no_fault_there denominator cells made fault (right (change_number fault) (place_inside denominator cells made fault there)) there
+
+-- right changes with the same entries are the same
+same_change : (denominator cells : ℕ) (given made : List DriftRowChange) → AreRight denominator cells given → AreRight denominator cells made → AreSameChanges given made →
+    (i : ℕ) → i < length given → get_or made i none ≡ get_or given i none
+unfolding change_at
+same_change denominator cells given made right right' same i inside =
+    let key : change_key (change_at made i) ≡ change_key (change_at given i) = same_key given made same i inside in
+    let row : (change_at given i).row ≡ (change_at made i).row =
+    same_row denominator cells cells _ _ (right i inside).row (right' i (rw (same_length given made same) inside)).row (same_entries given made same i inside) in
+    ap (λ (k : PeriodKey). record { period = k.period; cell = k.row; row = (change_at made i).row }) key ∙ ap (λ (r : List DriftPart). record { period = (change_at given i).period; cell = (change_at given i).cell; row = r }) (sym row)
+
+pub same_changes : (denominator cells : ℕ) (given made : List DriftRowChange) → AreRight denominator cells given → AreRight denominator cells made → AreSameChanges given made → made ≡ given
+same_changes denominator cells given made right right' same =
+    same_lists made given (same_length given made same) (λ i d inside.
+    let there : i < length given = rw (← same_length given made same) inside in
+    get_or_default made i d none inside ∙ same_change denominator cells given made right right' same i there ∙ get_or_default given i none d there)
+
+-- a refusal of changes that would make a drift is for want of memory
+pub refused_for_memory : (drift : DriftRows) (given : List DriftRowChange) (fault : ChangeFault) → IsDrift (drift_with drift given) → IsRefusal drift.denominator (drift_cells drift) given fault → fault ≡ NoMemory
+refused_for_memory drift given fault h (inl wanting) = wanting
+refused_for_memory drift given fault h (inr first) =
+    let right = AreRight-from_drift (drift_with drift given) h in
+    absurd (no_fault_there drift.denominator (drift_cells drift) given fault (right (change_number fault) (place_inside drift.denominator (drift_cells drift) given fault first.there)) first.there)
+
+-- the row in force, as the code finds it
+row_or : (told : Option (Bor (List DriftPart))) (own : Bor (List DriftPart)) (found : Option DriftRowChange) (base : List DriftPart) →
+    option_map (λ row. row.now) told ≡ option_map (λ change. change.row) found → own.now ≡ base → (unwrap_or told own).now ≡ option_map_or (λ change. change.row) found base
+row_or None own None base same is = is
+row_or None own (Some change) base same is = absurd (let wrong : ⊥ = cc in wrong)
+row_or (Some row) own None base same is = absurd (let wrong : ⊥ = cc in wrong)
+row_or (Some row) own (Some change) base same is = cc
+
+pub row_of-or : (drift : DriftRows) (t c : ℕ) (told : Option (Bor (List DriftPart))) (own : Bor (List DriftPart)) →
+    option_map (λ row. row.now) told ≡ option_map (λ change. change.row) (find (is_change t c) drift.changes) → own.now ≡ slice_index_or drift.rows c [] →
+    (unwrap_or told own).now ≡ row_of drift t c
+unfolding row_of
+row_of-or drift t c told own same base = row_or told own (find (is_change t c) drift.changes) (slice_index_or drift.rows c []) same base

@@ -1,0 +1,2 @@
+pub mod PeriodKeys
+pub mod Slots
