@@ -1,11 +1,11 @@
 -- An input is answered or refused, and refused in one way.
-use Rattle.std.proofs.Common.{ℕ, ◌≡◌, Bool, List, Result, Ok, Err, Some, sym, ap, subst}
+use Rattle.std.proofs.Common.{ℕ, ◌≡◌, List, Result, Ok, Err, Some, sym, ap, subst}
 use Rattle.search_model.specs.Problem.{Problem}
 use Rattle.scenario_text.specs.declared.kind.TextFault.{TextFault}
 use Rattle.scenario_text.specs.Reading.{Front, front_of}
 use Rattle.plan_command.proofs.Apart.{same_front, same_rest}
 use Rattle.plan_command.specs.declared.request.Request.{Request}
-use Rattle.plan_command.specs.declared.request.Request.TheVariants.{Plan, Check, Report, Make, Drill}
+use Rattle.plan_command.specs.declared.request.Request.TheVariants.{Plan, Check, Report, Make, Drill, Convert}
 use Rattle.plan_command.specs.declared.status.Status.{Status}
 use Rattle.plan_command.specs.declared.status.Stop.{Stop}
 use Rattle.plan_command.specs.declared.status.Stop.TheVariants as stops
@@ -17,7 +17,7 @@ use Rattle.plan_command.specs.Plans.{IsPlanRest, HasFault}
 use Rattle.plan_command.specs.Complete.{IsByText}
 use Rattle.plan_command.proofs.Reading.{plan_or_fault, one_plan_fault, same_plan}
 use Rattle.tree_format.specs.declared.kind.PlanFault.{PlanFault}
-use Rattle.plan_command.specs.Commands.{IsInput, IsRejected, HasBadPlan, Answers, Refuses}
+use Rattle.plan_command.specs.Commands.{IsInput, IsRejected, HasBadPlan, LacksAccepted, Answers, Refuses}
 
 -- a text is read or has a fault
 pub read_or_not : (read : Result Front TextFault) (front : Front) (fault : TextFault) → read ≡ Ok front → read ≡ Err fault → ⊥
@@ -89,6 +89,18 @@ drilled_refuses input number workers stops.NoMemory h = h
 drilled_refuses input number workers (stops.TooManyNodes limit) h = h
 drilled_refuses input number workers stops.TooLong h = h
 
+-- an input that is a scenario and an accepted plan lacks none
+pub accepted_or_lacking : (input : List ℕ) (p : Problem) (plan : APlan) (stop : Stop) → IsInput input p plan → Accepts p plan → LacksAccepted input stop → ⊥
+accepted_or_lacking input p plan (stops.BadScenario fault) is accepts lacks = no_front_fault input p plan fault is lacks
+accepted_or_lacking input p plan (stops.BadPlan fault) is accepts lacks = no_fault_behind input p plan fault is lacks
+accepted_or_lacking input p plan (stops.Rejected at) is accepts lacks = not_rejected input p plan at is accepts lacks
+accepted_or_lacking input p plan stops.Usage is accepts lacks = lacks
+accepted_or_lacking input p plan (stops.TooManyNodes limit) is accepts lacks = lacks
+accepted_or_lacking input p plan stops.ReadFault is accepts lacks = lacks
+accepted_or_lacking input p plan stops.WriteFault is accepts lacks = lacks
+accepted_or_lacking input p plan stops.NoMemory is accepts lacks = lacks
+accepted_or_lacking input p plan stops.TooLong is accepts lacks = lacks
+
 -- an input that is answered isn't refused for its text
 pub answers_or_refuses : (request : Request) (input : List ℕ) (status : Status) (text : List ℕ) (stop : Stop) → IsByText stop → Answers request input status text → Refuses request input stop → ⊥
 answers_or_refuses (Plan workers nodes) input status text (stops.BadScenario fault) by answers refuses = let found = answers.1 in read_or_not _ found.1.front fault found.1.read refuses
@@ -97,11 +109,10 @@ answers_or_refuses (Plan workers nodes) input status text (stops.Rejected at) by
 answers_or_refuses Check input status text (stops.BadScenario fault) by answers refuses = no_front_fault input answers.0 answers.1 fault answers.2 refuses
 answers_or_refuses Check input status text (stops.BadPlan fault) by answers refuses = no_fault_behind input answers.0 answers.1 fault answers.2 refuses
 answers_or_refuses Check input status text (stops.Rejected at) by answers refuses = refuses
-answers_or_refuses (Report json) input status text (stops.BadScenario fault) by (done, (p, plan, is, accepts, same)) refuses = no_front_fault input p plan fault is refuses
-answers_or_refuses (Report json) input status text (stops.BadPlan fault) by (done, (p, plan, is, accepts, same)) refuses = no_fault_behind input p plan fault is refuses
-answers_or_refuses (Report json) input status text (stops.Rejected at) by (done, (p, plan, is, accepts, same)) refuses = not_rejected input p plan at is accepts refuses
+answers_or_refuses (Report json) input status text stop by (done, (p, plan, is, accepts, told)) lacks = accepted_or_lacking input p plan stop is accepts lacks
 answers_or_refuses (Make number) input status text stop by answers refuses = made_refuses input number stop refuses
 answers_or_refuses (Drill number workers) input status text stop by answers refuses = drilled_refuses input number workers stop refuses
+answers_or_refuses Convert input status text stop by (done, (p, plan, is, accepts, told)) lacks = accepted_or_lacking input p plan stop is accepts lacks
 answers_or_refuses request input status text stops.Usage by answers refuses = by
 answers_or_refuses request input status text (stops.TooManyNodes limit) by answers refuses = by
 answers_or_refuses request input status text stops.ReadFault by answers refuses = by
@@ -131,7 +142,7 @@ text_fault input a b h g = ap (λ (f : TextFault). stops.BadScenario f) (one_fau
 plan_fault : (input : List ℕ) (a b : PlanFault) → HasBadPlan input a → HasBadPlan input b → stops.BadPlan a ≡ stops.BadPlan b
 plan_fault input a b h g = ap (λ (f : PlanFault). stops.BadPlan f) (one_behind input a b h g)
 
--- so it is for a plan, for a check and for a report
+-- so it is for a plan, for a check, and for what needs an accepted plan
 plan_refused_once : (input : List ℕ) (workers nodes : ℕ) (a b : Stop) → Refuses (Plan workers nodes) input a → Refuses (Plan workers nodes) input b → IsByText b → a ≡ b
 plan_refused_once input workers nodes (stops.BadScenario a) (stops.BadScenario b) h g by = ap (λ (f : TextFault). stops.BadScenario f) (one_fault _ a b h g)
 plan_refused_once input workers nodes (stops.TooManyNodes limit) (stops.BadScenario fault) h g by = absurd (no_scenario_first input workers nodes limit fault g h)
@@ -171,33 +182,34 @@ check_refused_once input a stops.NoMemory h g = absurd g
 check_refused_once input a stops.TooLong h g = absurd g
 check_refused_once input a (stops.Rejected at) h g = absurd g
 
-report_refused_once : (input : List ℕ) (json : Bool) (a b : Stop) → Refuses (Report json) input a → Refuses (Report json) input b → a ≡ b
-report_refused_once input json (stops.BadScenario a) (stops.BadScenario b) h g = text_fault input a b h g
-report_refused_once input json (stops.BadScenario fault) (stops.BadPlan other) h g = absurd (no_front_first input fault other h g)
-report_refused_once input json (stops.BadPlan other) (stops.BadScenario fault) h g = absurd (no_front_first input fault other g h)
-report_refused_once input json (stops.BadPlan a) (stops.BadPlan b) h g = plan_fault input a b h g
-report_refused_once input json (stops.Rejected a) (stops.Rejected b) h g = ap (λ (r : RejectAt). stops.Rejected r) (one_rejection input a b h g)
-report_refused_once input json (stops.Rejected at) (stops.BadScenario fault) h g = absurd (no_front_fault input h.0 h.1 fault h.2 g)
-report_refused_once input json (stops.BadScenario fault) (stops.Rejected at) h g = absurd (no_front_fault input g.0 g.1 fault g.2 h)
-report_refused_once input json (stops.Rejected at) (stops.BadPlan fault) h g = absurd (no_fault_behind input h.0 h.1 fault h.2 g)
-report_refused_once input json (stops.BadPlan fault) (stops.Rejected at) h g = absurd (no_fault_behind input g.0 g.1 fault g.2 h)
-report_refused_once input json stops.Usage b h g = absurd h
-report_refused_once input json (stops.TooManyNodes limit) b h g = absurd h
-report_refused_once input json stops.ReadFault b h g = absurd h
-report_refused_once input json stops.WriteFault b h g = absurd h
-report_refused_once input json stops.NoMemory b h g = absurd h
-report_refused_once input json stops.TooLong b h g = absurd h
-report_refused_once input json a stops.Usage h g = absurd g
-report_refused_once input json a (stops.TooManyNodes limit) h g = absurd g
-report_refused_once input json a stops.ReadFault h g = absurd g
-report_refused_once input json a stops.WriteFault h g = absurd g
-report_refused_once input json a stops.NoMemory h g = absurd g
-report_refused_once input json a stops.TooLong h g = absurd g
+lacks_once : (input : List ℕ) (a b : Stop) → LacksAccepted input a → LacksAccepted input b → a ≡ b
+lacks_once input (stops.BadScenario a) (stops.BadScenario b) h g = text_fault input a b h g
+lacks_once input (stops.BadScenario fault) (stops.BadPlan other) h g = absurd (no_front_first input fault other h g)
+lacks_once input (stops.BadPlan other) (stops.BadScenario fault) h g = absurd (no_front_first input fault other g h)
+lacks_once input (stops.BadPlan a) (stops.BadPlan b) h g = plan_fault input a b h g
+lacks_once input (stops.Rejected a) (stops.Rejected b) h g = ap (λ (r : RejectAt). stops.Rejected r) (one_rejection input a b h g)
+lacks_once input (stops.Rejected at) (stops.BadScenario fault) h g = absurd (no_front_fault input h.0 h.1 fault h.2 g)
+lacks_once input (stops.BadScenario fault) (stops.Rejected at) h g = absurd (no_front_fault input g.0 g.1 fault g.2 h)
+lacks_once input (stops.Rejected at) (stops.BadPlan fault) h g = absurd (no_fault_behind input h.0 h.1 fault h.2 g)
+lacks_once input (stops.BadPlan fault) (stops.Rejected at) h g = absurd (no_fault_behind input g.0 g.1 fault g.2 h)
+lacks_once input stops.Usage b h g = absurd h
+lacks_once input (stops.TooManyNodes limit) b h g = absurd h
+lacks_once input stops.ReadFault b h g = absurd h
+lacks_once input stops.WriteFault b h g = absurd h
+lacks_once input stops.NoMemory b h g = absurd h
+lacks_once input stops.TooLong b h g = absurd h
+lacks_once input a stops.Usage h g = absurd g
+lacks_once input a (stops.TooManyNodes limit) h g = absurd g
+lacks_once input a stops.ReadFault h g = absurd g
+lacks_once input a stops.WriteFault h g = absurd g
+lacks_once input a stops.NoMemory h g = absurd g
+lacks_once input a stops.TooLong h g = absurd g
 
 -- an input that is refused for its text is refused in no other way
 pub refuses_once : (request : Request) (input : List ℕ) (a b : Stop) → IsByText b → Refuses request input a → Refuses request input b → a ≡ b
 refuses_once (Plan workers nodes) input a b by h g = plan_refused_once input workers nodes a b h g by
 refuses_once Check input a b by h g = check_refused_once input a b h g
-refuses_once (Report json) input a b by h g = report_refused_once input json a b h g
+refuses_once (Report json) input a b by h g = lacks_once input a b h g
 refuses_once (Make number) input a b by h g = absurd (made_refuses input number a h)
 refuses_once (Drill number workers) input a b by h g = absurd (drilled_refuses input number workers a h)
+refuses_once Convert input a b by h g = lacks_once input a b h g

@@ -1,5 +1,5 @@
 -- What is due to a scenario with few live prefixes, and to a plan that is accepted or isn't.
-use Rattle.std.proofs.Common.{ℕ, ◌≡◌, Bool, List, [], inl, inr, refl, sym, ap, subst, ◌∙◌}
+use Rattle.std.proofs.Common.{ℕ, ◌≡◌, List, [], inl, inr, refl, sym, ap, subst, ◌∙◌}
 use Rattle.search_model.specs.Problem.{Problem}
 use Rattle.search_model.specs.Order.{standing_of}
 use Rattle.search_model.specs.Opening.{IsOpening}
@@ -8,21 +8,21 @@ use Rattle.bound_tree.specs.declared.plan.Plan.{Plan as APlan}
 use Rattle.bound_tree.specs.Accepts.{Accepts}
 use Rattle.opening_path.proofs.OneOpening.{one_opening}
 use Rattle.bound_tree.specs.Close.{HasMoreLive}
-use Rattle.tree_format.specs.PlanText.{IsPlanText}
+use Rattle.tree_format.specs.PlanText.{IsPlanText2}
 use Rattle.tree_checker.specs.declared.verdict.RejectAt.{RejectAt}
 use Rattle.plan_command.specs.declared.request.Request.{Request}
-use Rattle.plan_command.specs.declared.request.Request.TheVariants.{Plan, Check, Report, Make, Drill}
+use Rattle.plan_command.specs.declared.request.Request.TheVariants.{Plan, Check, Report, Make, Drill, Convert}
 use Rattle.plan_command.specs.declared.status.Status.{Status}
 use Rattle.plan_command.specs.declared.status.Status.TheVariants as statuses
 use Rattle.plan_command.specs.declared.status.Stop.{Stop}
 use Rattle.plan_command.specs.declared.status.Stop.TheVariants as stops
 use Rattle.plan_command.specs.Lines.{status_of}
 use Rattle.plan_command.specs.Plans.{IsPlanRest}
-use Rattle.plan_command.specs.Commands.{Refuses, IsTooLarge, IsInput, IsRejected, IsChecked, IsVerdict}
+use Rattle.plan_command.specs.Commands.{Answers, Refuses, IsTooLarge, IsInput, IsRejected, IsChecked, IsVerdict, NeedsAccepted, LacksAccepted}
 use Rattle.plan_command.specs.Complete.{IsDue, IsFeasible, IsAcceptable, IsRejectable, IsUnlessNoMemory}
 use Rattle.plan_command.specs.Laws.{PlannedIsAccepted}
 use Rattle.plan_command.proofs.Apart.{same_scenario}
-use Rattle.plan_command.proofs.Exclusive.{read_or_not, read_alike, answers_or_refuses, not_rejected, no_front_fault, no_fault_behind}
+use Rattle.plan_command.proofs.Exclusive.{read_or_not, read_alike, answers_or_refuses, accepted_or_lacking, no_front_fault, no_fault_behind}
 
 -- a scenario isn't too large where its live prefixes are few
 not_too_large : (p : Problem) (input opening : List ℕ) (limit : ℕ) → IsTextOf p input → IsOpening p opening → (HasMoreLive p (standing_of p opening) limit → ⊥) → IsTooLarge input limit → ⊥
@@ -58,6 +58,7 @@ feasible_due Check input status feasible due = absurd feasible
 feasible_due (Report json) input status feasible due = absurd feasible
 feasible_due (Make number) input status feasible due = absurd feasible
 feasible_due (Drill number workers) input status feasible due = absurd feasible
+feasible_due Convert input status feasible due = absurd feasible
 
 -- the refusals of a check
 refused_check : (p : Problem) (input : List ℕ) (plan : APlan) (stop : Stop) → IsInput input p plan → Refuses Check input stop → ⊥
@@ -71,17 +72,43 @@ refused_check p input plan stops.WriteFault is refuses = refuses
 refused_check p input plan stops.NoMemory is refuses = refuses
 refused_check p input plan stops.TooLong is refuses = refuses
 
--- the refusals of a report: only a plan that isn't accepted
-refused_report : (p : Problem) (input : List ℕ) (json : Bool) (plan : APlan) (stop : Stop) → IsInput input p plan → Refuses (Report json) input stop → (at : RejectAt) × (stop ≡ stops.Rejected at) × IsRejected input at
-refused_report p input json plan (stops.BadScenario fault) is refuses = absurd (no_front_fault input p plan fault is refuses)
-refused_report p input json plan (stops.BadPlan fault) is refuses = absurd (no_fault_behind input p plan fault is refuses)
-refused_report p input json plan (stops.Rejected at) is refuses = (at, refl, refuses)
-refused_report p input json plan stops.Usage is refuses = absurd refuses
-refused_report p input json plan (stops.TooManyNodes limit) is refuses = absurd refuses
-refused_report p input json plan stops.ReadFault is refuses = absurd refuses
-refused_report p input json plan stops.WriteFault is refuses = absurd refuses
-refused_report p input json plan stops.NoMemory is refuses = absurd refuses
-refused_report p input json plan stops.TooLong is refuses = absurd refuses
+-- where a plan is read, only that it isn't accepted
+lacking_plan : (p : Problem) (input : List ℕ) (plan : APlan) (stop : Stop) → IsInput input p plan → LacksAccepted input stop → (at : RejectAt) × (stop ≡ stops.Rejected at) × IsRejected input at
+lacking_plan p input plan (stops.BadScenario fault) is lacks = absurd (no_front_fault input p plan fault is lacks)
+lacking_plan p input plan (stops.BadPlan fault) is lacks = absurd (no_fault_behind input p plan fault is lacks)
+lacking_plan p input plan (stops.Rejected at) is lacks = (at, refl, lacks)
+lacking_plan p input plan stops.Usage is lacks = absurd lacks
+lacking_plan p input plan (stops.TooManyNodes limit) is lacks = absurd lacks
+lacking_plan p input plan stops.ReadFault is lacks = absurd lacks
+lacking_plan p input plan stops.WriteFault is lacks = absurd lacks
+lacking_plan p input plan stops.NoMemory is lacks = absurd lacks
+lacking_plan p input plan stops.TooLong is lacks = absurd lacks
+
+-- what needs an accepted plan answers with the status Done,
+needs_done : (r : Request) (input : List ℕ) (status : Status) (text : List ℕ) → NeedsAccepted r → Answers r input status text → status ≡ statuses.Done
+needs_done (Report json) input status text needs answers = answers.0
+needs_done Convert input status text needs answers = answers.0
+needs_done (Plan workers nodes) input status text needs answers = absurd needs
+needs_done Check input status text needs answers = absurd needs
+needs_done (Make number) input status text needs answers = absurd needs
+needs_done (Drill number workers) input status text needs answers = absurd needs
+
+-- and refuses what lacks one
+needs_lacks : (r : Request) (input : List ℕ) (stop : Stop) → NeedsAccepted r → Refuses r input stop → LacksAccepted input stop
+needs_lacks (Report json) input stop needs refuses = refuses
+needs_lacks Convert input stop needs refuses = refuses
+needs_lacks (Plan workers nodes) input stop needs refuses = absurd needs
+needs_lacks Check input stop needs refuses = absurd needs
+needs_lacks (Make number) input stop needs refuses = absurd needs
+needs_lacks (Drill number workers) input stop needs refuses = absurd needs
+
+needs_rejects : (r : Request) (input : List ℕ) (at : RejectAt) → NeedsAccepted r → IsRejected input at → Refuses r input (stops.Rejected at)
+needs_rejects (Report json) input at needs rejected = rejected
+needs_rejects Convert input at needs rejected = rejected
+needs_rejects (Plan workers nodes) input at needs rejected = absurd needs
+needs_rejects Check input at needs rejected = absurd needs
+needs_rejects (Make number) input at needs rejected = absurd needs
+needs_rejects (Drill number workers) input at needs rejected = absurd needs
 
 -- the verdict of an input as that on its plan
 verdict_here : (p : Problem) (input : List ℕ) (plan : APlan) (status : Status) (text : List ℕ) → IsInput input p plan → IsChecked input status text → IsVerdict p plan status text
@@ -101,16 +128,15 @@ check_due p input plan status is accepts (inl (out, checked)) = inl (accepted_ve
 check_due p input plan status is accepts (inr (inl (stop, refuses, same))) = absurd (refused_check p input plan stop is refuses)
 check_due p input plan status is accepts (inr (inr none)) = inr none
 
--- and reported
-report_due : (p : Problem) (input : List ℕ) (json : Bool) (plan : APlan) (status : Status) → IsInput input p plan → Accepts p plan → IsDue (Report json) input status → IsUnlessNoMemory statuses.Done status
-report_due p input json plan status is accepts (inl (out, answers)) = inl answers.0
-report_due p input json plan status is accepts (inr (inl (stop, refuses, same))) =
-    let turned = refused_report p input json plan stop is refuses in absurd (not_rejected input p plan turned.0 is accepts turned.2)
-report_due p input json plan status is accepts (inr (inr none)) = inr none
+-- and reported, or written anew
+needs_due : (r : Request) (p : Problem) (input : List ℕ) (plan : APlan) (status : Status) → NeedsAccepted r → IsInput input p plan → Accepts p plan → IsDue r input status → IsUnlessNoMemory statuses.Done status
+needs_due r p input plan status needs is accepts (inl (out, answers)) = inl (needs_done r input status out needs answers)
+needs_due r p input plan status needs is accepts (inr (inl (stop, refuses, same))) = absurd (accepted_or_lacking input p plan stop is accepts (needs_lacks r input stop needs refuses))
+needs_due r p input plan status needs is accepts (inr (inr none)) = inr none
 
 pub judge_accepts : (request : Request) (input : List ℕ) (status : Status) → IsAcceptable request input → IsDue request input status → IsUnlessNoMemory statuses.Done status
 judge_accepts request input status (inl check, (p, plan, is, accepts)) due = check_due p input plan status is accepts (subst (λ r. IsDue r input status) check due)
-judge_accepts request input status (inr (json, report), (p, plan, is, accepts)) due = report_due p input json plan status is accepts (subst (λ r. IsDue r input status) report due)
+judge_accepts request input status (inr needs, (p, plan, is, accepts)) due = needs_due request p input plan status needs is accepts due
 
 -- a plan that isn't accepted is rejected, unless memory runs out
 check_rejects : (input : List ℕ) (at : RejectAt) (status : Status) → IsRejected input at → IsDue Check input status → IsUnlessNoMemory statuses.Rejected status
@@ -118,21 +144,21 @@ check_rejects input at status (p, plan, is, turned, reason) (inl (out, checked))
 check_rejects input at status (p, plan, is, turned, reason) (inr (inl (stop, refuses, same))) = absurd (refused_check p input plan stop is refuses)
 check_rejects input at status rejected (inr (inr none)) = inr none
 
-report_rejects : (input : List ℕ) (json : Bool) (at : RejectAt) (status : Status) → IsRejected input at → IsDue (Report json) input status → IsUnlessNoMemory statuses.Rejected status
-report_rejects input json at status rejected (inl (out, answers)) = absurd (answers_or_refuses (Report json) input status out (stops.Rejected at) tt answers rejected)
-report_rejects input json at status (p, plan, is, turns, reason) (inr (inl (stop, refuses, same))) =
-    let turned = refused_report p input json plan stop is refuses in inl (same ∙ ap status_of turned.1)
-report_rejects input json at status rejected (inr (inr none)) = inr none
+needs_turned : (r : Request) (input : List ℕ) (at : RejectAt) (status : Status) → NeedsAccepted r → IsRejected input at → IsDue r input status → IsUnlessNoMemory statuses.Rejected status
+needs_turned r input at status needs rejected (inl (out, answers)) = absurd (answers_or_refuses r input status out (stops.Rejected at) tt answers (needs_rejects r input at needs rejected))
+needs_turned r input at status needs (p, plan, is, turns, reason) (inr (inl (stop, refuses, same))) =
+    let turned = lacking_plan p input plan stop is (needs_lacks r input stop needs refuses) in inl (same ∙ ap status_of turned.1)
+needs_turned r input at status needs rejected (inr (inr none)) = inr none
 
 pub judge_rejects : (request : Request) (input : List ℕ) (status : Status) → IsRejectable request input → IsDue request input status → IsUnlessNoMemory statuses.Rejected status
 judge_rejects request input status (inl check, (at, rejected)) due = check_rejects input at status rejected (subst (λ r. IsDue r input status) check due)
-judge_rejects request input status (inr (json, report), (at, rejected)) due = report_rejects input json at status rejected (subst (λ r. IsDue r input status) report due)
+judge_rejects request input status (inr needs, (at, rejected)) due = needs_turned request input at status needs rejected due
 
 -- what is planned is accepted
 pub planned_is_accepted : PlannedIsAccepted
 planned_is_accepted p input text both status is (q, other, (plan, certified, spelled)) begins due =
     let same : q ≡ p = same_scenario q p input other is in
-    let P : Problem → Type 0 = λ z. Accepts z plan × IsPlanText z plan text in
+    let P : Problem → Type 0 = λ z. Accepts z plan × IsPlanText2 z plan text in
     let here = subst P same (certified.accepted, spelled) in
-    let rest : IsPlanRest p text plan = record { blanks = []; only = refl; text = text; spelled = inl here.1; whole = refl } in
+    let rest : IsPlanRest p text plan = record { blanks = []; only = refl; text = text; spelled = inr here.1; whole = refl } in
     check_due p both plan status (text, begins, rest) here.0 due

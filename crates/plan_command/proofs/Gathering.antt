@@ -2,7 +2,7 @@
 use Rattle.std.proofs.Common.{ℕ, ◌≡◌, ◌≢◌, ◌+◌, ◌-◌, ◌<◌, inl, inr, List, [], ◌∷◌, ◌++◌, length, get_or, take, ap, ◌∙◌, subst, arith, below_more}
 use Rattle.std.proofs.Math.Seq.{take-append-add}
 use Rattle.std.proofs.lemmas.Bool.{cases_lt}
-use Rattle.std.proofs.lemmas.List.{take-append-le, same_from_push, length-append, length-take}
+use Rattle.std.proofs.lemmas.List.{take-append-le, same_from_push, length-append}
 use Rattle.scenario_text.specs.Laws.{EndsWithEnd}
 use Rattle.plan_command.specs.Intakes.{HasNoEnd, HasNoEndBefore}
 use Rattle.plan_command.proofs.Judging.{gathered_byte}
@@ -29,9 +29,6 @@ pub ruleset gather_steps = (gathered_byte, none_at_first)
 
 some_bytes : (text : List ℕ) → EndsWithEnd text → 0 < length text
 some_bytes text h = omega (arith, ap length h.feed.1, length-append h.feed.0 (10 ∷ []))
-
-pub none_of_nothing : HasNoEnd []
-none_of_nothing n le h = absurd (omega (arith, some_bytes (take n []) h, length-take {A = ℕ} n []))
 
 pub none_more : (bytes piece : List ℕ) → HasNoEnd bytes → HasNoEndBefore bytes piece (length piece + 1) → HasNoEnd (bytes ++ piece)
 none_more bytes piece before on n le h = elim (cases_lt (length bytes) n) [

@@ -8,9 +8,8 @@ use Rattle.tree_format.specs.declared.plan_item.PlanItem.{PlanItem}
 use Rattle.tree_format.specs.declared.plan_item.PlanItem.TheVariants.{Head, Node, End}
 use Rattle.tree_format.specs.Feeding.{items_of, Tells}
 use Rattle.tree_format.proofs.FedLaws.{items_in_order}
-use Rattle.tree_checker.specs.declared.tables.BoundTables.{BoundTables}
 use Rattle.tree_checker.specs.Reasons.{first_reason}
-use Rattle.tree_checker.specs.Progress.{Progress, at_start, after_head, reason_if, reason_at_end, IsUnderWay, IsMadeFor}
+use Rattle.tree_checker.specs.Progress.{Progress, reason_if, reason_at_end, IsUnderWay, IsMadeFor}
 use Rattle.plan_command.specs.Intakes.{nodes_in, LeadsToReason, HasHeard, IsNextItem}
 
 -- The records among items.
@@ -29,24 +28,6 @@ nodes_in-plan : (rs : List TreeNode) → nodes_in (map (λ r. Node r) rs ++ End 
 nodes_in-plan rs = nodes_in-append (map (λ r. Node r) rs) (End ∷ []) ∙ append-nil _ ∙ nodes_in-nodes rs
 
 -- One item more.
-
-pub none_heard : (p : Problem) (path : List ℕ) (tables : BoundTables) (checker : Progress) → checker ≡ at_start tables → IsUnderWay p checker → IsMadeFor p checker → HasHeard p [] path checker
-none_heard p path tables checker is under_way made = record {
-  under_way = under_way;
-  made_for = made;
-  line = let line : checker.line ≡ 5 = ap (λ (g : Progress). g.line) is in omega (arith, line);
-  reason = tt;
-}
-
-pub head_heard : (p : Problem) (told : List PlanItem) (s : Standing) (w n : ℕ) (tables : BoundTables) (checker : Progress) → told ≡ [] → checker ≡ after_head p tables s w → IsUnderWay p checker → IsMadeFor p checker →
-    HasHeard p (told ++ Head s w n ∷ []) s.path checker
-head_heard p told s w n tables checker first is under_way made =
-    subst (λ (items : List PlanItem). HasHeard p (items ++ Head s w n ∷ []) s.path checker) (sym first) (record {
-      under_way = under_way;
-      made_for = made;
-      line = let line : checker.line ≡ 5 = ap (λ (g : Progress). g.line) is in omega (arith, line);
-      reason = (refl, λ later. ap (λ (g : Progress). reason_if p g later) is);
-    })
 
 leads_on : (p : Problem) (told : List PlanItem) (r : TreeNode) (path : List ℕ) (old new : Progress) → ((rs : List TreeNode) → reason_if p new rs ≡ reason_if p old (r ∷ rs)) → LeadsToReason p told path old → LeadsToReason p (told ++ Node r ∷ []) path new
 leads_on p [] r path old new next leads = tt

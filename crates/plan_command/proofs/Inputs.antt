@@ -11,7 +11,7 @@ use Rattle.plan_command.specs.declared.answer.Answer.{Answer}
 use Rattle.plan_command.specs.declared.intake.Intake.{Intake}
 use Rattle.plan_command.specs.declared.intake.Judgement.{Judgement}
 use Rattle.plan_command.specs.declared.request.Request.{Request}
-use Rattle.plan_command.specs.declared.request.Request.TheVariants.{Plan, Check, Report, Make, Drill}
+use Rattle.plan_command.specs.declared.request.Request.TheVariants.{Plan, Check, Report, Make, Drill, Convert}
 use Rattle.plan_command.specs.declared.status.Status.{Status}
 use Rattle.plan_command.specs.declared.status.Stop.{Stop}
 use Rattle.plan_command.specs.declared.status.Stop.TheVariants as stops
@@ -29,6 +29,7 @@ no_usage Check input refuses = refuses
 no_usage (Report json) input refuses = refuses
 no_usage (Make number) input refuses = refuses
 no_usage (Drill number workers) input refuses = refuses
+no_usage Convert input refuses = refuses
 
 no_read_fault : (request : Request) (input : List ℕ) → Refuses request input stops.ReadFault → ⊥
 no_read_fault (Plan workers nodes) input refuses = refuses
@@ -36,6 +37,7 @@ no_read_fault Check input refuses = refuses
 no_read_fault (Report json) input refuses = refuses
 no_read_fault (Make number) input refuses = refuses
 no_read_fault (Drill number workers) input refuses = refuses
+no_read_fault Convert input refuses = refuses
 
 no_write_fault : (request : Request) (input : List ℕ) → Refuses request input stops.WriteFault → ⊥
 no_write_fault (Plan workers nodes) input refuses = refuses
@@ -43,6 +45,7 @@ no_write_fault Check input refuses = refuses
 no_write_fault (Report json) input refuses = refuses
 no_write_fault (Make number) input refuses = refuses
 no_write_fault (Drill number workers) input refuses = refuses
+no_write_fault Convert input refuses = refuses
 
 never_too_long : (request : Request) (input : List ℕ) → Refuses request input stops.TooLong → ⊥
 never_too_long (Plan workers nodes) input refuses = refuses
@@ -50,6 +53,7 @@ never_too_long Check input refuses = refuses
 never_too_long (Report json) input refuses = refuses
 never_too_long (Make number) input refuses = refuses
 never_too_long (Drill number workers) input refuses = refuses
+never_too_long Convert input refuses = refuses
 
 -- what a request makes of the input that was read
 pub made_read : (request : Request) (limits : Option ℕ) (before after : Source) (input : List ℕ) (made : Result Answer Stop) → Reads limits before after input → MakesOf request input made → ReadsAnd limits before after (MakesOf request) made
@@ -152,6 +156,7 @@ spelled_asked words Check spelled = tt
 spelled_asked words (Report json) spelled = tt
 spelled_asked words (Make number) spelled = spelled.0
 spelled_asked words (Drill number workers) spelled = (spelled.0, spelled.1)
+spelled_asked words Convert spelled = tt
 
 -- how a run ends that made an answer and wrote it, or a front of it
 pub ends_served : (words : List (List ℕ)) (request : Request) (before after : Shown) (answer : Answer) (result : Result Status Stop) → Spells words request →

@@ -8,7 +8,7 @@ use Rattle.bound_tree.specs.Accepts.{Accepts}
 use Rattle.bound_tree.proofs.Accepted.{accepted_plan_is_best}
 use Rattle.tree_checker.specs.declared.verdict.RejectAt.{RejectAt}
 use Rattle.plan_command.specs.declared.request.Request.{Request}
-use Rattle.plan_command.specs.declared.request.Request.TheVariants.{Plan, Check, Report, Make, Drill}
+use Rattle.plan_command.specs.declared.request.Request.TheVariants.{Plan, Check, Report, Make, Drill, Convert}
 use Rattle.plan_command.specs.declared.status.Status.{Status}
 use Rattle.plan_command.specs.declared.status.Status.TheVariants as statuses
 use Rattle.plan_command.specs.declared.status.Stop.{Stop}
@@ -18,7 +18,7 @@ use Rattle.plan_command.specs.Lines.{status_of, rejection_of}
 use Rattle.plan_command.specs.Inputs.{Source}
 use Rattle.plan_command.specs.Commands.{IsInput, IsRejected, IsVerdict, Refuses}
 use Rattle.plan_command.specs.Run.{Call, Delivered, Refused, CutOff, Ends, delivered, stopped, ending_of, status_at}
-use Rattle.plan_command.specs.Promises.{ReadsAll, Writes, Plans, ReadsBest, Affirms, Reports, Rejects, Makes, Drills}
+use Rattle.plan_command.specs.Promises.{ReadsAll, Writes, Plans, ReadsBest, Affirms, Reports, Converts, Rejects, Makes, Drills}
 use Rattle.plan_command.specs.Complete.{IsUnlessNoMemory}
 use Rattle.plan_command.proofs.WordForms.{spelled_once}
 use Rattle.plan_command.proofs.Exclusive.{made_refuses, drilled_refuses}
@@ -71,6 +71,14 @@ module _ (c : Call) where
       let plan = told.1 in
       (p, plan, best_of p plan d.input (d.read.taken, d.read.ended) told.2 told.3, subst (λ t. Writes c t) told.4 d.written)
 
+  pub converted_input : (status : Status) → Ends c (delivered status) → status ≡ statuses.Done → Converts c
+  converted_input status ends done asked =
+      let d = delivered_to Convert status ends asked in
+      let told = d.answers.1 in
+      let p = told.0 in
+      let plan = told.1 in
+      (p, plan, best_of p plan d.input (d.read.taken, d.read.ended) told.2 told.3, (d.text, told.4, d.written))
+
   -- of what is delivered only a check's answer is a rejection
   rejected_by : (r : Request) (status : Status) → Spells c.words r → Delivered r c.before c.after status → status ≡ statuses.Rejected → Rejects c
   rejected_by (Plan workers nodes) status spelled d rejected = absurd (done_or_rejected (sym d.answers.0 ∙ rejected))
@@ -81,17 +89,19 @@ module _ (c : Call) where
   rejected_by (Report json) status spelled d rejected = absurd (done_or_rejected (sym d.answers.0 ∙ rejected))
   rejected_by (Make number) status spelled d rejected = absurd (done_or_rejected (sym d.answers.0 ∙ rejected))
   rejected_by (Drill number workers) status spelled d rejected = absurd (done_or_rejected (sym d.answers.0 ∙ rejected))
+  rejected_by Convert status spelled d rejected = absurd (done_or_rejected (sym d.answers.0 ∙ rejected))
 
   pub rejected_input : (status : Status) → Ends c (delivered status) → status ≡ statuses.Rejected → Rejects c
   rejected_input status (r, spelled, whole) rejected = rejected_by r status spelled whole rejected
 
-  -- and of what stops a run, only the rejection of a report
+  -- and of what stops a run, only the rejection of a plan that has to be accepted
   stopped_by : (r : Request) (at : RejectAt) → Spells c.words r → Refused r c.before c.after (stops.Rejected at) → Rejects c
   stopped_by (Plan workers nodes) at spelled refused = absurd refused.refuses
   stopped_by Check at spelled refused = absurd refused.refuses
-  stopped_by (Report json) at spelled refused = (refused.input, at, (refused.read.taken, refused.read.ended), refused.refuses, inr (json, spelled, refused.unwritten))
+  stopped_by (Report json) at spelled refused = (refused.input, at, (refused.read.taken, refused.read.ended), refused.refuses, inr (Report json, tt, spelled, refused.unwritten))
   stopped_by (Make number) at spelled refused = absurd refused.refuses
   stopped_by (Drill number workers) at spelled refused = absurd refused.refuses
+  stopped_by Convert at spelled refused = (refused.input, at, (refused.read.taken, refused.read.ended), refused.refuses, inr (Convert, tt, spelled, refused.unwritten))
 
   pub stopped_input : (stop : Stop) → Ends c (stopped stop) → status_of stop ≡ statuses.Rejected → Rejects c
   stopped_input (stops.Rejected at) (r, spelled, refused) e = stopped_by r at spelled refused
@@ -133,6 +143,7 @@ module _ (c : Call) where
   delivered_unread (Report json) status e d = let bad : ⊥ = cc in absurd bad
   delivered_unread (Make number) status e d = d.answers.0
   delivered_unread (Drill number workers) status e d = d.answers.0
+  delivered_unread Convert status e d = let bad : ⊥ = cc in absurd bad
 
   unread_refuses : (r : Request) (input : List ℕ) (stop : Stop) → limit_of r ≡ None → Refuses r input stop → ⊥
   unread_refuses (Plan workers nodes) input stop e h = let bad : ⊥ = cc in absurd bad
@@ -140,6 +151,7 @@ module _ (c : Call) where
   unread_refuses (Report json) input stop e h = let bad : ⊥ = cc in absurd bad
   unread_refuses (Make number) input stop e h = made_refuses input number stop h
   unread_refuses (Drill number workers) input stop e h = drilled_refuses input number workers stop h
+  unread_refuses Convert input stop e h = let bad : ⊥ = cc in absurd bad
 
   unread_limit : (o : Option ℕ) (limit : ℕ) → o ≡ None → o ≡ Some limit → ⊥
   unread_limit o limit e h = let bad : ⊥ = cc in bad

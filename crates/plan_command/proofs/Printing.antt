@@ -6,11 +6,13 @@ use Rattle.search_model.specs.Problem.{Problem, IsProblem}
 use Rattle.search_model.specs.Legal.{Follows, IsLegal}
 use Rattle.search_model.proofs.PlainSteps.{positions_follow}
 use Rattle.bound_tree.specs.declared.node.Kind.{Kind}
-use Rattle.bound_tree.specs.declared.node.Kind.TheVariants.{Branch, Whole, Mean, Tangent}
+use Rattle.bound_tree.specs.declared.node.Kind.TheVariants.{Branch, Whole, Mean, Tangent, Edge}
 use Rattle.bound_tree.specs.declared.node.TreeNode.{TreeNode}
 use Rattle.bound_tree.specs.declared.plan.Plan.{Plan}
 use Rattle.bound_tree.specs.Accepts.{IsGoodKind, expected_by, AreEaten, Accepts}
 use Rattle.bound_tree.proofs.Rooms.{legal_expected}
+use Rattle.bound_tree.proofs.Placing.{eaten_are_in_place}
+use Rattle.bound_tree.specs.Places.{AreInPlace}
 use Rattle.tree_format.specs.PlanText.{ArePositions, IsPrintableKind, IsPrintableRecord, IsPrintable}
 
 module _ (p : Problem) (sound : IsProblem p) (s : Standing) where
@@ -22,6 +24,7 @@ module _ (p : Problem) (sound : IsProblem p) (s : Standing) where
   kind_printable q (Whole n) good = tt
   kind_printable q (Mean b) good = tt
   kind_printable q (Tangent b whole) good = let path = good.1.2.path in (follows_positions whole path.follows, path.whole)
+  kind_printable q (Edge b) good = tt
 
   -- a branch that is good is shorter than the horizon
   branch_is_short : (q : List ℕ) (kind : Kind) → IsGoodKind p s q kind → kind ≡ Branch → length q < p.horizon
@@ -29,6 +32,7 @@ module _ (p : Problem) (sound : IsProblem p) (s : Standing) where
   branch_is_short q (Whole n) good e = let bad : ⊥ = cc in absurd bad
   branch_is_short q (Mean b) good e = let bad : ⊥ = cc in absurd bad
   branch_is_short q (Tangent b whole) good e = let bad : ⊥ = cc in absurd bad
+  branch_is_short q (Edge b) good e = let bad : ⊥ = cc in absurd bad
 
   -- records that are eaten can be written
   eaten_printable : (qs : List (List ℕ)) (rs : List TreeNode) → All (IsLegal p) qs → AreEaten p s qs rs → All (IsPrintableRecord p) rs
@@ -52,3 +56,6 @@ accepted_printable p plan sound accepts few =
       few = few;
       records = eaten_printable p sound plan.standing ([] ∷ []) plan.tree (All-cons (IsLegal p) [] [] empty (All-nil (IsLegal p))) accepts.tree;
     }
+
+pub accepted_in_place : (p : Problem) (plan : Plan) → Accepts p plan → AreInPlace p ([] ∷ []) plan.tree
+accepted_in_place p plan accepts = eaten_are_in_place p plan.standing ([] ∷ []) plan.tree accepts.tree

@@ -1,9 +1,8 @@
 -- What stands before the plan text.
-use Rattle.std.proofs.Common.{ℕ, suc, zero, ◌≡◌, ◌<◌, ◌≤◌, ◌+◌, true, false, List, [], ◌∷◌, ◌++◌, length, get_or, take, drop, refl, sym, ap, ◌∙◌, arith}
+use Rattle.std.proofs.Common.{ℕ, suc, zero, ◌≡◌, ◌<◌, ◌+◌, true, false, List, [], ◌∷◌, ◌++◌, length, get_or, take, drop, refl, sym, ap, ◌∙◌, arith}
 use Rattle.std.specs.List.{list_all}
 use Rattle.std.proofs.lemmas.Bool.{and_parts}
-use Rattle.std.proofs.lemmas.List.{append-nil, take-append-drop, take_all}
-use Rattle.plan_command.specs.Spaces.{is_space, starts_with_space, SkipsSpaces}
+use Rattle.plan_command.specs.Spaces.{is_space, starts_with_space}
 
 -- one more blank
 pub spaces_more : (text : List ℕ) (i : ℕ) → i < length text → list_all is_space (take i text) ≡ true → is_space (get_or text i 0) ≡ true → list_all is_space (take (i + 1) text) ≡ true
@@ -20,17 +19,9 @@ starts_at [] i lt = absurd (omega (arith, lt))
 starts_at (c ∷ cs) zero lt = refl
 starts_at (c ∷ cs) (suc i) lt = starts_at cs i (omega (arith, lt))
 
--- blanks up to a byte that is none
-pub skips_to : (text : List ℕ) (i : ℕ) → i < length text → list_all is_space (take i text) ≡ true → is_space (get_or text i 0) ≡ false → SkipsSpaces text (drop i text)
-skips_to text i lt all here = record { blanks = take i text; only = all; whole = sym (take-append-drop i text); stops = starts_at text i lt ∙ here }
-
 dropped_all : (text : List ℕ) → drop (length text) text ≡ []
 dropped_all [] = refl
 dropped_all (c ∷ cs) = dropped_all cs
-
--- blanks alone
-pub skips_all : (text : List ℕ) (i : ℕ) → length text ≤ i → list_all is_space (take i text) ≡ true → SkipsSpaces text (drop (length text) text)
-skips_all text i le all = record { blanks = text; only = ap (list_all is_space) (sym (take_all i text le)) ∙ all; whole = rw (dropped_all text) (sym (append-nil text)); stops = rw (dropped_all text) refl }
 
 -- of two ways to skip blanks to what begins with none, both skip the same
 pub skipped_alike : (xs ys rest more : List ℕ) → list_all is_space xs ≡ true → list_all is_space ys ≡ true → starts_with_space rest ≡ false → starts_with_space more ≡ false → xs ++ rest ≡ ys ++ more → rest ≡ more

@@ -1,21 +1,17 @@
 -- What is told of a verdict.
-use Rattle.std.proofs.Common.{ℕ, ◌≡◌, Bool, List, Option, Result, Ok, Err, Some, None, refl, sym, ap, subst, ◌∙◌, inl, inr}
-use Rattle.std.specs.Prelude.{codes}
+use Rattle.std.proofs.Common.{ℕ, ◌≡◌, Bool, List, Option, Result, Ok, Err, Some, None, sym, ap, subst, ◌∙◌}
 use Rattle.search_model.specs.Problem.{Problem}
 use Rattle.search_model.specs.Legal.{IsPath}
 use Rattle.bound_tree.specs.declared.plan.Plan.{Plan}
 use Rattle.tree_checker.specs.declared.verdict.RejectAt.{RejectAt}
-use Rattle.tree_checker.specs.declared.verdict.Verdict.{Verdict}
 use Rattle.tree_checker.specs.declared.verdict.Verdict.TheVariants.{Accepted, Rejected}
 use Rattle.tree_checker.specs.Reasons.{verdict_of}
 use Rattle.plan_command.specs.declared.answer.Answer.{Answer}
 use Rattle.plan_command.specs.declared.intake.Judgement.{Judgement}
 use Rattle.plan_command.specs.declared.request.Request.TheVariants.{Check, Report}
-use Rattle.plan_command.specs.declared.status.Status.TheVariants as statuses
 use Rattle.plan_command.specs.declared.status.Stop.{Stop}
 use Rattle.plan_command.specs.declared.status.Stop.TheVariants as stops
-use Rattle.plan_command.specs.Lines.{rejection_of}
-use Rattle.plan_command.specs.Commands.{IsVerdict, IsReported, report_of}
+use Rattle.plan_command.specs.Commands.{IsReported, report_of}
 use Rattle.plan_command.specs.Checks.{TellsVerdict}
 use Rattle.plan_command.specs.Makes.{MakesOf}
 use Rattle.plan_command.specs.Intakes.{IsVerdictOn, Judges}
@@ -26,13 +22,6 @@ reason_is (Some other) at e = let same : other ≡ at = cc in ap Some same
 
 never_both : (at : RejectAt) → Rejected at ≡ Accepted → ⊥
 never_both at e = let bad : ⊥ = cc in bad
-
-module _ (p : Problem) (plan : Plan) (verdict : Verdict) (text : List ℕ) (on : IsVerdictOn p plan verdict) where
-  pub accepted_told : verdict ≡ Accepted → text ≡ codes "accepted\n" → IsVerdict p plan statuses.Done text
-  accepted_told is e = inl (on.accepted.0 is, refl, e)
-
-  pub rejected_told : (at : RejectAt) → verdict ≡ Rejected at → text ≡ rejection_of at → IsVerdict p plan statuses.Rejected text
-  rejected_told at is e = inr ((λ accepts. never_both at (sym is ∙ on.accepted.1 accepts)), refl, (at, reason_is _ at (sym is ∙ on.exact), e))
 
 module _ (input : List ℕ) (judged : Judgement) where
   pub check_made : (made : Result Answer Stop) → ((p : Problem) (plan : Plan) → IsVerdictOn p plan judged.verdict → TellsVerdict p plan made) → Judges input (Ok judged) → MakesOf Check input made

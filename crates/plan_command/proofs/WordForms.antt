@@ -11,9 +11,9 @@ use Rattle.exact_parts.specs.declared.number.Number.TheVariants.{NotPlain, Above
 use Rattle.exact_parts.specs.Decimal.{Spells as SpellsNumber, number_at}
 use Rattle.exact_parts.proofs.Decimals.{spells-number_at, spelled_text, number_at-decimal}
 use Rattle.plan_command.specs.declared.request.Request.{Request}
-use Rattle.plan_command.specs.declared.request.Request.TheVariants.{Plan, Check, Report, Make, Drill}
+use Rattle.plan_command.specs.declared.request.Request.TheVariants.{Plan, Check, Report, Make, Drill, Convert}
 use Rattle.plan_command.specs.Words.{Spells, SpellNone, SpellsPlan, IsCrew}
-use Rattle.plan_command.specs.WordReading.{at_least, number_within, workers_in, nodes_in, number_in, asks, asks_both, plan_with_one, plan_with_two, plan_at, check_at, report_at, make_at, drill_at, request_at}
+use Rattle.plan_command.specs.WordReading.{at_least, number_within, workers_in, nodes_in, number_in, asks, asks_both, plan_with_one, plan_with_two, plan_at, alone_at, report_at, make_at, drill_at, request_at}
 
 some_tells : {X : Type 0} (x y : X) → Some x ≡ Some y → x ≡ y
 some_tells x y e = cc
@@ -140,9 +140,9 @@ plan_told (a ∷ b ∷ c ∷ []) r e = absurd (none_of_some r e)
 plan_told (a ∷ b ∷ c ∷ d ∷ []) r e = two_told a b c d r e
 plan_told (a ∷ b ∷ c ∷ d ∷ f ∷ words) r e = absurd (none_of_some r e)
 
-check_told : (words : List (List ℕ)) → Told (codes "check") words (check_at words)
-check_told [] r e = subst (Spells (codes "check" ∷ [])) (some_tells Check r e) refl
-check_told (a ∷ words) r e = absurd (none_of_some r e)
+alone_told : (command : List ℕ) (request : Request) (words : List (List ℕ)) → Spells (command ∷ []) request → Told command words (alone_at request words)
+alone_told command request [] spelled r e = subst (Spells (command ∷ [])) (some_tells request r e) spelled
+alone_told command request (a ∷ words) spelled r e = absurd (none_of_some r e)
 
 report_told : (words : List (List ℕ)) → Told (codes "report") words (report_at words)
 report_told [] r e = subst (Spells (codes "report" ∷ [])) (some_tells (Report false) r e) refl
@@ -193,11 +193,12 @@ read_is_spelled [] r e = absurd (none_of_some r e)
 read_is_spelled (command ∷ words) r e =
     let T = Told command words in
     cond_both (bytes_eq command (codes "plan")) _ _ T (behind command _ words _ (plan_told words))
-    (λ p. cond_both (bytes_eq command (codes "check")) _ _ T (behind command _ words _ (check_told words))
+    (λ p. cond_both (bytes_eq command (codes "check")) _ _ T (behind command _ words _ (alone_told (codes "check") Check words refl))
     (λ c. cond_both (bytes_eq command (codes "report")) _ _ T (behind command _ words _ (report_told words))
     (λ t. cond_both (bytes_eq command (codes "make")) _ _ T (behind command _ words _ (make_told words))
     (λ m. cond_both (bytes_eq command (codes "drill")) _ _ T (behind command _ words _ (drill_told words))
-    (λ d r e. absurd (none_of_some r e)))))) r e
+    (λ d. cond_both (bytes_eq command (codes "convert")) _ _ T (behind command _ words _ (alone_told (codes "convert") Convert words refl))
+    (λ c r e. absurd (none_of_some r e))))))) r e
 
 -- the options of a plan that is spelled are read
 plan_read : (options : List (List ℕ)) (workers nodes : ℕ) → IsCrew workers → 1 ≤ nodes → nodes ≤ 1048576 → SpellsPlan options workers nodes → plan_at options ≡ Some (Plan workers nodes)
@@ -220,6 +221,7 @@ spelled_is_read words (Make n) (small, is) = rw is (ap (asks (λ n. Make n)) (an
 spelled_is_read words (Drill n w) (small, crew, inl (is, four)) = rw is (rw four (ap (asks (λ n. Drill n 4)) (any_of_text n small)))
 spelled_is_read words (Drill n w) (small, crew, inr is) =
     rw is (ap (λ (o : Option ℕ). asks_both (λ n w. Drill n w) o (workers_in (decimal w))) (any_of_text n small) ∙ ap (asks (λ w. Drill n w)) (workers_of_text w crew))
+spelled_is_read words Convert is = rw is refl
 
 -- words spell at most one request
 pub spelled_once : (words : List (List ℕ)) (r s : Request) → Spells words r → Spells words s → r ≡ s

@@ -1,6 +1,7 @@
 -- Lists of so many words.
 use Rattle.std.proofs.Common.{ℕ, ◌≡◌, ◌≤◌, ◌<◌, List, [], ◌∷◌, length, get_or, map, None, sym, ap, ◌∙◌, arith, refl}
-use Rattle.plan_command.specs.WordReading.{plan_at, check_at, report_at, make_at, drill_at}
+use Rattle.plan_command.specs.declared.request.Request.{Request}
+use Rattle.plan_command.specs.WordReading.{plan_at, alone_at, report_at, make_at, drill_at}
 
 module _ {X Y : Type 0} (f : X → Y) where
   pub none_of : (xs : List X) → length xs < 1 → map f xs ≡ []
@@ -34,9 +35,9 @@ module _ {X : Type 0} (f : X → List ℕ) where
   plan_other (a ∷ b ∷ c ∷ d ∷ []) none two four = absurd (four refl)
   plan_other (a ∷ b ∷ c ∷ d ∷ e ∷ xs) none two four = refl
 
-  pub check_other : (xs : List X) → (length xs ≡ 0 → ⊥) → None ≡ check_at (map f xs)
-  check_other [] none = absurd (none refl)
-  check_other (a ∷ xs) none = refl
+  pub alone_other : (request : Request) (xs : List X) → (length xs ≡ 0 → ⊥) → None ≡ alone_at request (map f xs)
+  alone_other request [] none = absurd (none refl)
+  alone_other request (a ∷ xs) none = refl
 
   pub report_other : (xs : List X) → (length xs ≡ 0 → ⊥) → (length xs ≡ 2 → ⊥) → None ≡ report_at (map f xs)
   report_other [] none two = absurd (none refl)
@@ -56,4 +57,4 @@ module _ {X : Type 0} (f : X → List ℕ) where
   drill_other (a ∷ b ∷ c ∷ []) one three = absurd (three refl)
   drill_other (a ∷ b ∷ c ∷ d ∷ xs) one three = refl
 
-pub ruleset word_steps = (none_of, one_of, two_of, three_of, four_of, plan_other, check_other, report_other, make_other, drill_other)
+pub ruleset word_steps = (none_of, one_of, two_of, three_of, four_of, plan_other, alone_other, report_other, make_other, drill_other)

@@ -9,7 +9,7 @@ use Rattle.scenario_text.specs.Canonical.{canonical_text}
 use Rattle.bound_tree.specs.declared.plan.Plan.{Plan as APlan}
 use Rattle.bound_tree.specs.Accepts.{Accepts}
 use Rattle.bound_tree.specs.Close.{HasMoreLive}
-use Rattle.tree_format.specs.PlanText.{IsPlanText}
+use Rattle.tree_format.specs.PlanText.{IsPlanText2}
 use Rattle.tree_format.specs.declared.kind.PlanFault.{PlanFault}
 use Rattle.tree_checker.specs.declared.verdict.RejectAt.{RejectAt}
 use Rattle.tree_checker.specs.Reasons.{first_reason}
@@ -17,7 +17,7 @@ use Rattle.mission_report.specs.Report.{report_text}
 use Rattle.mission_report.specs.Json.{report_json}
 use Rattle.scenario_maker.specs.Made.{made_problem}
 use Rattle.plan_command.specs.declared.request.Request.{Request}
-use Rattle.plan_command.specs.declared.request.Request.TheVariants.{Plan, Check, Report, Make, Drill}
+use Rattle.plan_command.specs.declared.request.Request.TheVariants.{Plan, Check, Report, Make, Drill, Convert}
 use Rattle.plan_command.specs.declared.status.Status.{Status}
 use Rattle.plan_command.specs.declared.status.Status.TheVariants as statuses
 use Rattle.plan_command.specs.declared.status.Stop.{Stop}
@@ -26,10 +26,10 @@ use Rattle.plan_command.specs.Lines.{rejection_of}
 use Rattle.plan_command.specs.Plans.{IsCertified, BeginsWith, IsPlanRest, HasFault}
 use Rattle.plan_command.specs.Drills.{drill_text}
 
--- the text of a certified plan of the input's scenario
+-- the text of version 2 of a certified plan of the input's scenario
 abbrev pub IsPlanned : List ℕ → List ℕ → Type 0
 IsPlanned input text =
-    (p : Problem) × IsTextOf p input × ((plan : APlan) × IsCertified p plan × IsPlanText p plan text)
+    (p : Problem) × IsTextOf p input × ((plan : APlan) × IsCertified p plan × IsPlanText2 p plan text)
 
 -- the input is a scenario and this plan
 abbrev pub IsInput : List ℕ → Problem → APlan → Type 0
@@ -59,6 +59,10 @@ abbrev pub IsReported : Bool → List ℕ → List ℕ → Type 0
 IsReported json input text =
     (p : Problem) × (plan : APlan) × IsInput input p plan × Accepts p plan × (text ≡ report_of json p plan.standing.path)
 
+-- the input is a scenario and an accepted plan, and this is the plan's text of version 2
+abbrev pub IsConverted : List ℕ → List ℕ → Type 0
+IsConverted input text = (p : Problem) × (plan : APlan) × IsInput input p plan × Accepts p plan × IsPlanText2 p plan text
+
 -- the summary of a drill: the best path of the scenario that is made from the number
 abbrev pub IsDrilled : ℕ → List ℕ → Type 0
 IsDrilled number text = (path : List ℕ) × IsBest (made_problem number) path × (text ≡ drill_text number (made_problem number) path)
@@ -70,6 +74,7 @@ Answers Check input status text = IsChecked input status text
 Answers (Report json) input status text = (status ≡ statuses.Done) × IsReported json input text
 Answers (Make number) input status text = (status ≡ statuses.Done) × (text ≡ canonical_text (made_problem number))
 Answers (Drill number workers) input status text = (status ≡ statuses.Done) × IsDrilled number text
+Answers Convert input status text = (status ≡ statuses.Done) × IsConverted input text
 
 -- the input is the text of a scenario with more live prefixes under its opening than the limit
 abbrev pub IsTooLarge : List ℕ → ℕ → Type 0
@@ -79,6 +84,19 @@ IsTooLarge input limit = (p : Problem) × IsTextOf p input × ((opening : List �
 abbrev pub HasBadPlan : List ℕ → PlanFault → Type 0
 HasBadPlan input fault = (p : Problem) × ((rest : List ℕ) × BeginsWith p input rest × HasFault p rest fault)
 
+-- `report` or `convert`: what it writes it writes of an accepted plan
+abbrev pub NeedsAccepted : Request → Type 0
+NeedsAccepted (Report json) = Unit {0}
+NeedsAccepted Convert = Unit {0}
+NeedsAccepted _ = ⊥
+
+-- what is wrong with an input that has to be a scenario and an accepted plan
+abbrev pub LacksAccepted : List ℕ → Stop → Type 0
+LacksAccepted input (stops.BadScenario fault) = front_of input ≡ Err fault
+LacksAccepted input (stops.BadPlan fault) = HasBadPlan input fault
+LacksAccepted input (stops.Rejected at) = IsRejected input at
+LacksAccepted input _ = ⊥
+
 -- the request refuses the input; too many nodes are told only where there are too many live prefixes
 abbrev pub Refuses : Request → List ℕ → Stop → Type 0
 Refuses (Plan workers nodes) input (stops.BadScenario fault) = alone_of input ≡ Err fault
@@ -87,9 +105,7 @@ Refuses (Plan workers nodes) input _ = ⊥
 Refuses Check input (stops.BadScenario fault) = front_of input ≡ Err fault
 Refuses Check input (stops.BadPlan fault) = HasBadPlan input fault
 Refuses Check input _ = ⊥
-Refuses (Report json) input (stops.BadScenario fault) = front_of input ≡ Err fault
-Refuses (Report json) input (stops.BadPlan fault) = HasBadPlan input fault
-Refuses (Report json) input (stops.Rejected at) = IsRejected input at
-Refuses (Report json) input _ = ⊥
+Refuses (Report json) input stop = LacksAccepted input stop
 Refuses (Make number) input _ = ⊥
 Refuses (Drill number workers) input _ = ⊥
+Refuses Convert input stop = LacksAccepted input stop

@@ -1,5 +1,5 @@
 -- When a run answers its input, or refuses it.
-use Rattle.std.specs.Prelude.{◌≡◌, ℕ, ◌<◌, ◌≤◌, ◌⊎◌, Bool, List, Some, length}
+use Rattle.std.specs.Prelude.{◌≡◌, ℕ, ◌<◌, ◌≤◌, ◌⊎◌, List, Some, length}
 use Rattle.byte_ports.specs.Causes.{Rose}
 use Rattle.search_model.specs.Problem.{Problem}
 use Rattle.search_model.specs.Order.{standing_of}
@@ -10,14 +10,14 @@ use Rattle.bound_tree.specs.Accepts.{Accepts}
 use Rattle.bound_tree.specs.Close.{HasMoreLive}
 use Rattle.tree_checker.specs.declared.verdict.RejectAt.{RejectAt}
 use Rattle.plan_command.specs.declared.request.Request.{Request}
-use Rattle.plan_command.specs.declared.request.Request.TheVariants.{Plan, Check, Report}
+use Rattle.plan_command.specs.declared.request.Request.TheVariants.{Plan, Check}
 use Rattle.plan_command.specs.declared.status.Status.{Status}
 use Rattle.plan_command.specs.declared.status.Status.TheVariants.{NoMemory}
 use Rattle.plan_command.specs.declared.status.Stop.{Stop}
 use Rattle.plan_command.specs.declared.status.Stop.TheVariants as stops
 use Rattle.plan_command.specs.Words.{Spells, limit_of}
 use Rattle.plan_command.specs.Lines.{status_of}
-use Rattle.plan_command.specs.Commands.{Answers, Refuses, IsInput, IsRejected}
+use Rattle.plan_command.specs.Commands.{Answers, Refuses, IsInput, IsRejected, NeedsAccepted}
 use Rattle.plan_command.specs.Run.{Call}
 
 -- the request reads an input, and this one is within its limit
@@ -46,9 +46,9 @@ IsFeasible (Plan workers nodes) input =
     (p : Problem) × IsTextOf p input × ((opening : List ℕ) × IsOpening p opening × (HasMoreLive p (standing_of p opening) nodes → ⊥))
 IsFeasible _ input = ⊥
 
--- `check` or `report`
+-- `check`, `report` or `convert`
 abbrev pub IsJudge : Request → Type 0
-IsJudge request = (request ≡ Check) ⊎ ((json : Bool) × (request ≡ Report json))
+IsJudge request = (request ≡ Check) ⊎ NeedsAccepted request
 
 -- one of these of a scenario and a plan that is accepted
 abbrev pub IsAcceptable : Request → List ℕ → Type 0

@@ -40,7 +40,7 @@ rejection_of at = codes "rejected " ++ decimal at.line ++ 32 ∷ (reason_name_of
 
 unfoldable pub line_of : Stop → List ℕ
 line_of (Rejected at) = rejection_of at
-line_of Usage = codes "usage: osp plan [--workers N] [--nodes N] / check / report [--json yes] / make NUMBER / drill NUMBER [--workers N]\n"
+line_of Usage = codes "usage: osp plan [--workers N] [--nodes N] / check / report [--json yes] / make NUMBER / drill NUMBER [--workers N] / convert\n"
 line_of (BadScenario fault) = codes "bad scenario: line " ++ decimal fault.line ++ 32 ∷ (name_of fault.kind ++ 10 ∷ [])
 line_of (BadPlan fault) = codes "bad plan: line " ++ decimal fault.line ++ 32 ∷ (plan_name_of fault.kind ++ 10 ∷ [])
 line_of ReadFault = codes "read fault\n"

@@ -7,7 +7,7 @@ use Rattle.bound_tree.specs.declared.plan.Plan.{Plan as APlan}
 use Rattle.bound_tree.specs.Close.{HasMoreLive}
 use Rattle.plan_command.specs.declared.answer.Answer.{Answer}
 use Rattle.plan_command.specs.declared.request.Request.{Request}
-use Rattle.plan_command.specs.declared.request.Request.TheVariants.{Plan, Check, Report, Make, Drill}
+use Rattle.plan_command.specs.declared.request.Request.TheVariants.{Plan, Check, Report, Make, Drill, Convert}
 use Rattle.plan_command.specs.declared.status.Stop.{Stop}
 use Rattle.plan_command.specs.declared.status.Stop.TheVariants as stops
 use Rattle.plan_command.specs.Words.{IsCrew}
@@ -21,6 +21,7 @@ IsAsked Check = Unit {0}
 IsAsked (Report json) = Unit {0}
 IsAsked (Make number) = number < 2 ^ 64
 IsAsked (Drill number workers) = (number < 2 ^ 64) × IsCrew workers
+IsAsked Convert = Unit {0}
 
 -- an answer, or a refusal, or memory ran out
 abbrev pub MakesOf : Request → List ℕ → Result Answer Stop → Type 0

@@ -14,7 +14,7 @@ use Rattle.plan_command.specs.Spaces.{is_space, SkipsSpaces}
 use Rattle.bound_tree.specs.Close.{LetsBranch}
 
 -- the best path, with records that are accepted for its exact value and the whole weight; no branch has a prefix that the
--- opening closes by a bound
+-- opening closes by its mean, tangent or edge bound
 pub record IsCertified (p : Problem) (plan : Plan) : Type 0 where
   pub best : IsBest p plan.standing.path
   pub accepted : Accepts p plan

@@ -9,15 +9,15 @@ use Rattle.scenario_text.specs.Scenarios.{IsTextOf}
 use Rattle.scenario_text.specs.Canonical.{canonical_text}
 use Rattle.bound_tree.specs.declared.plan.Plan.{Plan as APlan}
 use Rattle.bound_tree.specs.Accepts.{Accepts}
-use Rattle.tree_format.specs.PlanText.{IsPlanText}
+use Rattle.tree_format.specs.PlanText.{IsPlanText2}
 use Rattle.tree_checker.specs.declared.verdict.RejectAt.{RejectAt}
 use Rattle.scenario_maker.specs.Made.{made_problem}
 use Rattle.plan_command.specs.declared.request.Request.{Request}
-use Rattle.plan_command.specs.declared.request.Request.TheVariants.{Plan, Check, Report, Make, Drill}
+use Rattle.plan_command.specs.declared.request.Request.TheVariants.{Plan, Check, Report, Make, Drill, Convert}
 use Rattle.plan_command.specs.Words.{Spells, limit_of}
 use Rattle.plan_command.specs.Lines.{rejection_of}
 use Rattle.plan_command.specs.Plans.{IsCertified}
-use Rattle.plan_command.specs.Commands.{IsInput, IsRejected, report_of, IsDrilled}
+use Rattle.plan_command.specs.Commands.{IsInput, IsRejected, report_of, IsDrilled, NeedsAccepted}
 use Rattle.plan_command.specs.Run.{Call}
 
 -- the source was read to its end, and these are its bytes
@@ -36,13 +36,13 @@ Writes c text = Appends c.before.wrote c.after.wrote text
 abbrev pub WritesNothing : Call → Type 0
 WritesNothing c = c.after.wrote ≡ c.before.wrote
 
--- where a plan was asked for, the input is the text of a scenario alone, and `out` grew by plan text: the best path of that
--- scenario, its exact value and the whole weight, and records that are accepted; no branch has a prefix that the opening
--- closes by a bound
+-- where a plan was asked for, the input is the text of a scenario alone, and `out` grew by plan text of version 2: the best
+-- path of that scenario, its exact value and the whole weight, and records that are accepted; no branch has a prefix that the
+-- opening closes by its mean, tangent or edge bound
 abbrev pub Plans : Call → Type 0
 Plans c = (workers nodes : ℕ) → Spells c.words (Plan workers nodes) →
     (p : Problem) × (input : List ℕ) × IsTextOf p input × ReadsAll c input
-    × ((plan : APlan) × (text : List ℕ) × IsCertified p plan × IsPlanText p plan text × Writes c text)
+    × ((plan : APlan) × (text : List ℕ) × IsCertified p plan × IsPlanText2 p plan text × Writes c text)
 
 -- the input is a scenario and a plan that is accepted, so that its path is the best
 abbrev pub ReadsBest : Call → Problem → APlan → Type 0
@@ -57,9 +57,13 @@ abbrev pub Reports : Call → Type 0
 Reports c = (json : Bool) → Spells c.words (Report json) →
     (p : Problem) × (plan : APlan) × ReadsBest c p plan × Writes c (report_of json p plan.standing.path)
 
--- the reason was written where a check was asked for, and nothing where a report was
+-- where a new text of the plan was asked for, it read such an input, and `out` grew by the plan's one text of version 2
+abbrev pub Converts : Call → Type 0
+Converts c = Spells c.words Convert → (p : Problem) × (plan : APlan) × ReadsBest c p plan × ((text : List ℕ) × IsPlanText2 p plan text × Writes c text)
+
+-- the reason was written where a check was asked for, and nothing where a report or a new text was
 abbrev pub WritesReason : Call → RejectAt → Type 0
-WritesReason c at = (Spells c.words Check × Writes c (rejection_of at)) ⊎ ((json : Bool) × Spells c.words (Report json) × WritesNothing c)
+WritesReason c at = (Spells c.words Check × Writes c (rejection_of at)) ⊎ ((request : Request) × NeedsAccepted request × Spells c.words request × WritesNothing c)
 
 -- the input is a scenario and a plan that isn't accepted, for this first reason
 abbrev pub Rejects : Call → Type 0

@@ -5,7 +5,7 @@ use Rattle.exact_parts.specs.declared.number.Number.{Number}
 use Rattle.exact_parts.specs.declared.number.Number.TheVariants.{NotPlain, Above, Of}
 use Rattle.exact_parts.specs.Decimal.{number_at}
 use Rattle.plan_command.specs.declared.request.Request.{Request}
-use Rattle.plan_command.specs.declared.request.Request.TheVariants.{Plan, Check, Report, Make, Drill}
+use Rattle.plan_command.specs.declared.request.Request.TheVariants.{Plan, Check, Report, Make, Drill, Convert}
 
 -- the number that a word spells, where it is within these limits
 abbrev pub at_least : ℕ → Number → Option ℕ
@@ -50,9 +50,10 @@ plan_at (name ∷ value ∷ []) = plan_with_one name value
 plan_at (name ∷ value ∷ other ∷ number ∷ []) = plan_with_two name value other number
 plan_at _ = None
 
-abbrev pub check_at : List (List ℕ) → Option Request
-check_at [] = Some Check
-check_at (word ∷ words) = None
+-- a request that has no words behind its command
+abbrev pub alone_at : Request → List (List ℕ) → Option Request
+alone_at request [] = Some request
+alone_at request (word ∷ words) = None
 
 abbrev pub report_at : List (List ℕ) → Option Request
 report_at [] = Some (Report false)
@@ -74,7 +75,8 @@ unfoldable pub request_at : List (List ℕ) → Option Request
 request_at [] = None
 request_at (command ∷ words) =
     if bytes_eq command (codes "plan") then plan_at words else
-    (if bytes_eq command (codes "check") then check_at words else
+    (if bytes_eq command (codes "check") then alone_at Check words else
     (if bytes_eq command (codes "report") then report_at words else
     (if bytes_eq command (codes "make") then make_at words else
-    (if bytes_eq command (codes "drill") then drill_at words else None))))
+    (if bytes_eq command (codes "drill") then drill_at words else
+    (if bytes_eq command (codes "convert") then alone_at Convert words else None)))))

@@ -4,7 +4,7 @@ use Rattle.std.specs.declared.option.Option.{Option}
 use Rattle.std.specs.declared.option.Option.TheVariants.{Some, None}
 use Rattle.std.specs.Fmt.{decimal}
 use Rattle.plan_command.specs.declared.request.Request.{Request}
-use Rattle.plan_command.specs.declared.request.Request.TheVariants.{Plan, Check, Report, Make, Drill}
+use Rattle.plan_command.specs.declared.request.Request.TheVariants.{Plan, Check, Report, Make, Drill, Convert}
 
 -- an option: its name, and the decimal text of its number
 abbrev pub option : List ℕ → ℕ → List (List ℕ)
@@ -42,6 +42,7 @@ Spells words (Drill number workers) =
     (number < 2 ^ 64) × IsCrew workers
     × (((words ≡ codes "drill" ∷ decimal number ∷ []) × (workers ≡ 4))
     ⊎ (words ≡ codes "drill" ∷ decimal number ∷ workers_option workers))
+Spells words Convert = words ≡ codes "convert" ∷ []
 
 -- the words spell no request
 abbrev pub SpellNone : List (List ℕ) → Type 0
@@ -54,3 +55,4 @@ limit_of Check = Some 336592896
 limit_of (Report json) = Some 336592896
 limit_of (Make number) = None
 limit_of (Drill number workers) = None
+limit_of Convert = Some 336592896

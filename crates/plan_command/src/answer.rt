@@ -15,7 +15,7 @@ use search_workers::{Found, Gate, SearchStop, search};
 use std::alloc::AllocError;
 use std::sync::Wait;
 use std::thread::Threads;
-use tree_format::print_plan;
+use tree_format::print_plan_2;
 
 /// A text for `out`, and the status once it is written.
 #[derive(Debug, Drop)]
@@ -78,7 +78,7 @@ pub fn plan_from_opening<R: AllocGlobal + Threads + Wait + Sync, G: Gate>(
     }
 }
 
-/// The scenario's best path with its exact value, and the tree that shows why no path is better.
+/// The scenario's best path with its exact value, and the tree that shows why no path is better, as text of version 2.
 pub fn answer_plan<R: AllocGlobal + Threads + Wait + Sync, G: Gate>(
     rt: &R,
     workers: u32,
@@ -97,7 +97,7 @@ pub fn answer_plan<R: AllocGlobal + Threads + Wait + Sync, G: Gate>(
     };
     let plan = plan_from_opening(rt, &sc, workers, nodes, gate)?;
     let mut text = Vec::new(rt.alloc());
-    print_plan(&mut text, &sc, &plan)?;
+    print_plan_2(&mut text, &sc, &plan)?;
     Ok(Answer {
         status: Status::Done,
         text,

@@ -1,8 +1,9 @@
 //! The commands `make` and `drill`, which read nothing.
 
-ghost use Rattle.std.specs.Prelude.{◌≡◌, [], IfOk};
+ghost use Rattle.std.specs.Prelude.{◌≡◌, ◌∷◌, [], IfOk};
 ghost use Rattle.search_model.specs.Tracks.{value_of};
 ghost use Rattle.bound_tree.specs.Accepts.{Accepts};
+ghost use Rattle.bound_tree.specs.Places.{AreInPlace};
 ghost use Rattle.tree_format.specs.PlanText.{IsPrintable, ArePositions};
 ghost use Rattle.plan_command.specs.declared.request.Request.{Request};
 ghost use Rattle.plan_command.specs.Drills.{drill_text};
@@ -24,7 +25,7 @@ use std::alloc::Global;
 use std::sync::Wait;
 use std::thread::Threads;
 use tree_checker::{Verdict, check};
-use tree_format::{PlanStop, print_plan, push_names, push_number, read_plan};
+use tree_format::{PlanStop, print_plan_2, push_names, push_number, read_plan};
 
 /// The text of the scenario that is made from a number.
 pub fn answer_make(alloc: Global, number: u64) -> Result<Answer, Stop>
@@ -50,6 +51,7 @@ fn plan_of_few<R: AllocGlobal + Threads + Wait + Sync, G: Gate>(
     requires few { IsTooMany sc.now 1048576 → ⊥ }
     ensures certified { IfOk result (IsCertified sc.now) }
     ensures printable { IfOk result (IsPrintable sc.now) }
+    ensures in_place { IfOk result (λ plan. AreInPlace sc.now ([] ∷ []) plan.tree) }
 {
     let _sound = sc.horizon();
     match plan_from_opening(rt, sc, workers, MOST_NODES, gate) {
@@ -59,13 +61,14 @@ fn plan_of_few<R: AllocGlobal + Threads + Wait + Sync, G: Gate>(
     }
 }
 
-/// A plan as it is read from its own text.
+/// A plan as it is read from its own text of version 2.
 fn read_again(alloc: Global, sc: &Scenario, plan: &Plan) -> Result<Plan, NoMemory>
-    requires { IsPrintable sc.now plan.now }
+    requires printable { IsPrintable sc.now plan.now }
+    requires in_place { AreInPlace sc.now ([] ∷ []) plan.now.tree }
     ensures { IfOk result (λ again. again ≡ plan.now) }
 {
     let mut text = Vec::new(alloc);
-    print_plan(&mut text, sc, plan)?;
+    print_plan_2(&mut text, sc, plan)?;
     match read_plan(alloc, sc, &text) {
         Ok(again) => Ok(again),
         Err(PlanStop::NoMemory) => Err(NoMemory),

@@ -8,6 +8,7 @@ ghost use Rattle.plan_command.specs.Words.{IsCrew, limit_of};
 
 use crate::answer::{Answer, answer_plan};
 use crate::checking::{answer_check, answer_report};
+use crate::converting::answer_convert;
 use crate::drilling::{answer_drill, answer_make};
 use crate::intake::{Intake, Judgement};
 use crate::request::Request;
@@ -87,6 +88,17 @@ fn report_input<S: Source>(alloc: Global, json: bool, source: &mut S) -> Result<
     }
 }
 
+/// What `convert` makes of its input, which is kept whole.
+fn convert_input<S: Source>(alloc: Global, source: &mut S) -> Result<Answer, Stop>
+    ensures { ReadsAnd (Some 336592896) (source_view S.left S.faults source.old)
+        (source_view S.left S.faults source.new) (MakesOf Request.Convert) result }
+{
+    match read_input(alloc, source, MOST_JUDGED) {
+        Ok(input) => answer_convert(alloc, &input),
+        Err(stop) => Err(stop),
+    }
+}
+
 /// What `plan` makes of its input.
 fn plan_input<R: AllocGlobal + Threads + Wait + Sync, S: Source, G: Gate>(
     rt: &R,
@@ -123,5 +135,6 @@ pub fn answer_for<R: AllocGlobal + Threads + Wait + Sync, S: Source, G: Gate>(
         Request::Report { json } => report_input(rt.alloc(), json, source),
         Request::Make { number } => answer_make(rt.alloc(), number),
         Request::Drill { number, workers } => answer_drill(rt, number, workers, gate),
+        Request::Convert => convert_input(rt.alloc(), source),
     }
 }

@@ -3,6 +3,7 @@
 
 mod answer;
 mod checking;
+mod converting;
 mod drilling;
 #[cfg(test)]
 mod hostile_tests;

@@ -59,7 +59,7 @@ fn put_line(stop: Stop, to: &mut [u8; ROOM]) -> usize
         Stop::Usage => append(
             to,
             0,
-            b"usage: osp plan [--workers N] [--nodes N] / check / report [--json yes] / make NUMBER / drill NUMBER [--workers N]\n",
+            b"usage: osp plan [--workers N] [--nodes N] / check / report [--json yes] / make NUMBER / drill NUMBER [--workers N] / convert\n",
         ),
         Stop::BadScenario(fault) => put_fault(
             to,

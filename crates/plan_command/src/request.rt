@@ -12,6 +12,8 @@ pub enum Request {
     Make { number: u64 },
     /// `drill NUMBER [--workers N]`: make a scenario, plan it, read the plan again and check it. Nothing is read.
     Drill { number: u64, workers: u32 },
+    /// `convert`: the accepted plan that follows the scenario in the input, as its text of version 2.
+    Convert,
 }
 
 /// How many workers a search has where no option says so.

@@ -1,15 +1,10 @@
 //! Where the text of a scenario ends.
 
 ghost use Rattle.std.specs.Prelude.{◌≡◌, ◌≢◌, ◌↔◌, ◌++◌, ℕ, List, IsTrue, MatchOption};
-ghost use Rattle.text_rows.specs.Fields.{is_blank as is_blank_lem};
 ghost use Rattle.scenario_text.specs.Laws.{EndsWithEnd};
 ghost use Rattle.plan_command.specs.Ends.{EndsInBlanks, BeginsLine};
 
-fn is_blank(c: u8) -> bool
-    ensures { result ≡ is_blank_lem c }
-{
-    c == b' ' || c == b'\t' || c == b'\r'
-}
+use text_rows::is_blank;
 
 /// What stands before all the blanks at the end.
 #[tactic(auto, using(crate::proofs::EndWords::blank_steps))]

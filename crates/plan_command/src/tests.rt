@@ -10,7 +10,10 @@ use std::thread::Threads;
 const ONE_CELL: &str =
     "scenario 1\nhorizon 1\nparts 1 1 2\ncell a\nstart a\nfirst a 1\nmoves a a\ndrift a a 1\noverlook a 1\nend\n";
 
+// Each plan as a text of version 1, and as that of version 2, which `plan` writes.
 const ONE_CELL_PLAN: &str = "plan 1\npath a\nchance 1 2\nnodes 2\nB\nW 1 0\nend\n";
+
+const ONE_CELL_PLAN_2: &str = "plan 2\npath a\nchance 1 2\nnodes 2\nB\nW 1\nend\n";
 
 pub const TWO_CELLS: &str =
     "scenario 1\nhorizon 2\nparts 2 2 2\ncell a\ncell b\nstart a\nfirst a 1 b 1\nmoves a a b\nmoves b a b\ndrift a a 1 b 1\ndrift b a 1 b 1\noverlook a 0\noverlook b 0\nend\n";
@@ -18,12 +21,18 @@ pub const TWO_CELLS: &str =
 pub const TWO_CELLS_PLAN: &str =
     "plan 1\npath a a\nchance 12 16\nnodes 5\nB\nB 0\nW 12 0 0\nW 12 0 1\nM 12 1\nend\n";
 
+pub const TWO_CELLS_PLAN_2: &str =
+    "plan 2\npath a a\nchance 12 16\nnodes 5\nB\nB\nW 12\nW 12\nM 12\nend\n";
+
 // Three cells in a row; the target waits in the last one, the searcher begins in the middle.
 const WAITING: &str =
     "scenario 1\nhorizon 2\nparts 1 1 2\ncell a\ncell b\ncell c\nstart b\nfirst c 1\nmoves a a b\nmoves b a b c\nmoves c b c\ndrift a a 1\ndrift b b 1\ndrift c c 1\nrate 1\nend\n";
 
 const WAITING_PLAN: &str =
     "plan 1\npath c c\nchance 3 4\nnodes 6\nB\nM 0 0\nM 2 1\nB 2\nW 2 2 1\nW 3 2 2\nend\n";
+
+const WAITING_PLAN_2: &str =
+    "plan 2\npath c c\nchance 3 4\nnodes 6\nB\nM 0\nM 2\nB\nW 2\nW 3\nend\n";
 
 // The same without bounds: a record for each legal prefix.
 const WAITING_LISTED: &str =
@@ -36,9 +45,15 @@ const WAITING_LONGER: &str =
 const WAITING_LONGER_PLAN: &str =
     "plan 1\npath c c c\nchance 7 8\nnodes 8\nB\nM 4 0\nT 12 1 1 2 2\nB 2\nM 6 2 1\nB 2 2\nW 6 2 2 1\nW 7 2 2 2\nend\n";
 
-// The same where looks differ: there is no one rate.
+const WAITING_LONGER_PLAN_2: &str =
+    "plan 2\npath c c c\nchance 7 8\nnodes 8\nB\nM 4\nT 12 1 2 2\nB\nM 6\nB\nW 6\nW 7\nend\n";
+
+// The same where looks differ: there is no one rate, and an edge bound closes what a tangent closed.
 const WAITING_UNEVEN: &str =
     "scenario 1\nhorizon 3\nparts 1 1 2\ncell a\ncell b\ncell c\nstart b\nfirst c 1\nmoves a a b\nmoves b a b c\nmoves c b c\ndrift a a 1\ndrift b b 1\ndrift c c 1\noverlook a 1\noverlook b 0\noverlook c 1\nend\n";
+
+const WAITING_UNEVEN_PLAN_2: &str =
+    "plan 2\npath c c c\nchance 7 8\nnodes 8\nB\nM 4\nE 6\nB\nM 6\nB\nW 6\nW 7\nend\n";
 
 // The greedy searcher stays at the near cell; the best path goes to the far ones.
 const FAR_CELLS: &str =
@@ -46,6 +61,9 @@ const FAR_CELLS: &str =
 
 const FAR_CELLS_PLAN: &str =
     "plan 1\npath c d\nchance 6 9\nnodes 7\nB\nB 0\nW 3 0 0\nW 3 0 1\nB 2\nW 2 2 2\nW 6 2 3\nend\n";
+
+const FAR_CELLS_PLAN_2: &str =
+    "plan 2\npath c d\nchance 6 9\nnodes 7\nB\nB\nW 3\nW 3\nB\nW 2\nW 6\nend\n";
 
 const FAR_CELLS_SHORTER_PLAN: &str =
     "plan 1\npath c d\nchance 6 9\nnodes 5\nB\nM 3 0\nB 2\nW 2 2 2\nW 6 2 3\nend\n";
@@ -57,12 +75,15 @@ const OUT_OF_REACH: &str =
 const OUT_OF_REACH_PLAN: &str =
     "plan 1\npath a a\nchance 0 4\nnodes 5\nB\nB 0\nW 0 0 0\nW 0 0 1\nM 0 1\nend\n";
 
+const OUT_OF_REACH_PLAN_2: &str =
+    "plan 2\npath a a\nchance 0 4\nnodes 5\nB\nB\nW 0\nW 0\nM 0\nend\n";
+
 // One cell and the greatest numbers: the whole weight has 113 bits.
 const WIDE: &str =
     "scenario 1\nhorizon 6\nparts 4 1024 1024\ncell a\nstart a\nfirst a 4\nmoves a a\ndrift a a 1024\nrate 512\nend\n";
 
 const WIDE_PLAN_HEAD: &str =
-    "plan 1\npath a a a a a a\nchance 5111167220120220946834707324076032 5192296858534827628530496329220096\nnodes 7\n";
+    "plan 2\npath a a a a a a\nchance 5111167220120220946834707324076032 5192296858534827628530496329220096\nnodes 7\n";
 
 // A record for each legal prefix of the two cells.
 const TWO_CELLS_LISTED: &str =
@@ -82,7 +103,7 @@ const SEVEN: &str =
     "scenario 1\nhorizon 8\nparts 1 20 10\ngrid 7 7\nstart r0c0\nfirst r3c3 1\nspread 4\nrate 3\nend\n";
 
 const USAGE: &str =
-    "usage: osp plan [--workers N] [--nodes N] / check / report [--json yes] / make NUMBER / drill NUMBER [--workers N]\n";
+    "usage: osp plan [--workers N] [--nodes N] / check / report [--json yes] / make NUMBER / drill NUMBER [--workers N] / convert\n";
 
 /// A run: its words, the two parts of its input, and how it is to end.
 #[derive(Drop)]
@@ -235,16 +256,17 @@ fn unspelled<'a>(words: &'a str) -> Row<'a> {
 #[test]
 fn plans(rt: HostRuntime) -> Result<(), Fail> {
     let rows = [
-        planned("plan", ONE_CELL, ONE_CELL_PLAN),
-        planned("plan", TWO_CELLS, TWO_CELLS_PLAN),
-        planned("plan", WAITING, WAITING_PLAN),
-        planned("plan", WAITING_LONGER, WAITING_LONGER_PLAN),
-        planned("plan", OUT_OF_REACH, OUT_OF_REACH_PLAN),
-        planned("plan --workers 1", TWO_CELLS, TWO_CELLS_PLAN),
-        planned("plan --workers 2", TWO_CELLS, TWO_CELLS_PLAN),
-        planned("plan --workers 16", TWO_CELLS, TWO_CELLS_PLAN),
-        planned("plan --workers 1", FAR_CELLS, FAR_CELLS_PLAN),
-        planned("plan --nodes 5 --workers 3", TWO_CELLS, TWO_CELLS_PLAN),
+        planned("plan", ONE_CELL, ONE_CELL_PLAN_2),
+        planned("plan", TWO_CELLS, TWO_CELLS_PLAN_2),
+        planned("plan", WAITING, WAITING_PLAN_2),
+        planned("plan", WAITING_LONGER, WAITING_LONGER_PLAN_2),
+        planned("plan", WAITING_UNEVEN, WAITING_UNEVEN_PLAN_2),
+        planned("plan", OUT_OF_REACH, OUT_OF_REACH_PLAN_2),
+        planned("plan --workers 1", TWO_CELLS, TWO_CELLS_PLAN_2),
+        planned("plan --workers 2", TWO_CELLS, TWO_CELLS_PLAN_2),
+        planned("plan --workers 16", TWO_CELLS, TWO_CELLS_PLAN_2),
+        planned("plan --workers 1", FAR_CELLS, FAR_CELLS_PLAN_2),
+        planned("plan --nodes 5 --workers 3", TWO_CELLS, TWO_CELLS_PLAN_2),
         refused(
             "plan --nodes 4",
             TWO_CELLS,
@@ -273,6 +295,7 @@ fn words_of_no_request(rt: HostRuntime) -> Result<(), Fail> {
         unspelled("make 18446744073709551616"),
         unspelled("drill --workers 2 5"),
         unspelled("check --workers 2"),
+        unspelled("convert 1"),
     ];
     assert!(rt; all_end(&rt, &rows)?);
     Ok(())
@@ -328,6 +351,7 @@ fn checks(rt: HostRuntime) -> Result<(), Fail> {
         accepted(WAITING, WAITING_PLAN),
         accepted(WAITING, WAITING_LISTED),
         accepted(WAITING_LONGER, WAITING_LONGER_PLAN),
+        accepted(WAITING_UNEVEN, WAITING_UNEVEN_PLAN_2),
         accepted(FAR_CELLS, FAR_CELLS_PLAN),
         accepted(FAR_CELLS, FAR_CELLS_SHORTER_PLAN),
         accepted(OUT_OF_REACH, OUT_OF_REACH_PLAN),
@@ -392,6 +416,11 @@ fn rejections(rt: HostRuntime) -> Result<(), Fail> {
             "rejected 11 WholeWrong\n",
         ),
         rejected(
+            WAITING_UNEVEN,
+            "plan 2\npath c c c\nchance 7 8\nnodes 8\nB\nM 4\nE 5\nB\nM 6\nB\nW 6\nW 7\nend\n",
+            "rejected 7 BoundWrong\n",
+        ),
+        rejected(
             WAITING,
             "plan 1\npath a c\nchance 3 4\nnodes 6\nB\nM 0 0\nM 2 1\nB 2\nW 2 2 1\nW 3 2 2\nend\n",
             "rejected 2 PathIllegal\n",
@@ -440,8 +469,8 @@ fn plans_with_faults(rt: HostRuntime) -> Result<(), Fail> {
     Ok(())
 }
 
-/// A row in which a plan is reported.
-fn reported<'a>(words: &'a str, scenario: &'a str, plan: &'a str, out: &'a str) -> Row<'a> {
+/// A row in which a plan is reported or converted.
+fn told<'a>(words: &'a str, scenario: &'a str, plan: &'a str, out: &'a str) -> Row<'a> {
     Row {
         words,
         scenario,
@@ -455,9 +484,9 @@ fn reported<'a>(words: &'a str, scenario: &'a str, plan: &'a str, out: &'a str) 
 #[test]
 fn reports(rt: HostRuntime) -> Result<(), Fail> {
     let rows = [
-        reported("report", TWO_CELLS, TWO_CELLS_PLAN, TWO_CELLS_REPORT),
-        reported("report", FAR_CELLS, FAR_CELLS_PLAN, FAR_CELLS_REPORT),
-        reported(
+        told("report", TWO_CELLS, TWO_CELLS_PLAN, TWO_CELLS_REPORT),
+        told("report", FAR_CELLS, FAR_CELLS_PLAN, FAR_CELLS_REPORT),
+        told(
             "report --json yes",
             TWO_CELLS,
             TWO_CELLS_PLAN,
@@ -469,6 +498,54 @@ fn reports(rt: HostRuntime) -> Result<(), Fail> {
             "plan 1\npath a b\nchance 12 16\nnodes 5\nB\nB 0\nW 12 0 0\nW 12 0 1\nM 12 1\nend\n",
             Status::Rejected,
             "rejected 7 NotCut\n",
+        ),
+    ];
+    assert!(rt; all_end(&rt, &rows)?);
+    Ok(())
+}
+
+#[test]
+fn conversions(rt: HostRuntime) -> Result<(), Fail> {
+    let rows = [
+        told(
+            "convert",
+            WAITING_LONGER,
+            WAITING_LONGER_PLAN,
+            WAITING_LONGER_PLAN_2,
+        ),
+        told(
+            "convert",
+            WAITING_UNEVEN,
+            WAITING_UNEVEN_PLAN_2,
+            WAITING_UNEVEN_PLAN_2,
+        ),
+        refused(
+            "convert",
+            TWO_CELLS,
+            "plan 1\npath a b\nchance 12 16\nnodes 5\nB\nB 0\nW 12 0 0\nW 12 0 1\nM 12 1\nend\n",
+            Status::Rejected,
+            "rejected 7 NotCut\n",
+        ),
+        refused(
+            "convert",
+            TWO_CELLS,
+            "plan 2\npath a a\nchance 11 16\nnodes 5\nB\nB\nW 12\nW 12\nM 12\nend\n",
+            Status::Rejected,
+            "rejected 3 ValueWrong\n",
+        ),
+        refused(
+            "convert",
+            TWO_CELLS,
+            "plan 1\npath a a\nchance 12 16\nnodes 5\nE 12\n",
+            Status::BadPlan,
+            "bad plan: line 5 BadLine\n",
+        ),
+        refused(
+            "convert",
+            "scenario 1\nhorizon 33\n",
+            ONE_CELL_PLAN,
+            Status::BadScenario,
+            "bad scenario: line 2 OverLimit\n",
         ),
     ];
     assert!(rt; all_end(&rt, &rows)?);
@@ -588,7 +665,7 @@ fn faults(rt: HostRuntime) -> Result<(), Fail> {
         scenario: TWO_CELLS,
         plan: "",
         status: Status::WriteFault,
-        out: "plan 1\npath a a\nchance 12 16\nnod",
+        out: "plan 2\npath a a\nchance 12 16\nnod",
         err: "write fault\n",
     };
     assert!(rt; ends(&rt, &write, &[], &[3])?);
@@ -623,7 +700,7 @@ fn an_input_at_the_limit_and_past_it(rt: HostRuntime) -> Result<(), Fail> {
         &[],
         &[],
     )?;
-    assert_eq!(rt; longest.out.as_slice(), TWO_CELLS_PLAN.as_bytes());
+    assert_eq!(rt; longest.out.as_slice(), TWO_CELLS_PLAN_2.as_bytes());
     let longer = ended(
         &rt,
         "plan",

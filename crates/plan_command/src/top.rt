@@ -9,7 +9,7 @@ ghost use Rattle.plan_command.specs.declared.status.Stop.{Stop};
 ghost use Rattle.plan_command.specs.Words.{Spells, SpellNone, limit_of};
 ghost use Rattle.plan_command.specs.Commands.{Refuses};
 ghost use Rattle.plan_command.specs.Run.{call, err_view, Ends, Ending, ending_of, status_at, line_at, Says, IsCutOff, IsRefusal};
-ghost use Rattle.plan_command.specs.Promises.{Plans, Affirms, Reports, Rejects, Makes, Drills, TakesTooMuch, FailsToRead};
+ghost use Rattle.plan_command.specs.Promises.{Plans, Affirms, Reports, Converts, Rejects, Makes, Drills, TakesTooMuch, FailsToRead};
 ghost use Rattle.plan_command.specs.Complete.{IsHeard, IsUndisturbed, IsWithin, IsLonger, IsFeasible, IsAcceptable, IsRejectable, IsUnlessNoMemory, IsStopDue, IsDue, IsByText};
 
 use crate::line::say;
@@ -52,7 +52,7 @@ pub fn run<R: AllocGlobal + Threads + Wait + Sync, S: Source, K: Sink, E: Sink, 
         × Says (err_view E.wrote E.faults E.wants err.old) (err_view E.wrote E.faults E.wants err.new) (line_at end) }
 
     // `plan` at Done, for every number of workers and every interleaving: it read the text of a scenario alone, and wrote a
-    // plan of it: the best path with its exact value, and records that are accepted.
+    // plan of it as text of version 2: the best path with its exact value, and records that are accepted.
     ensures planned { result ≡ Status.Done → Plans
         (call (map string_bytes words.now) S.left S.faults K.wrote K.faults source.old source.new out.old out.new) }
     // `check` at Done: it read a scenario and a plan that is accepted, so that its path is the best, and wrote `accepted`.
@@ -60,6 +60,9 @@ pub fn run<R: AllocGlobal + Threads + Wait + Sync, S: Source, K: Sink, E: Sink, 
         (call (map string_bytes words.now) S.left S.faults K.wrote K.faults source.old source.new out.old out.new) }
     // `report` at Done: it read the same, and wrote the report of the plan's path, as lines or as JSON.
     ensures reported { result ≡ Status.Done → Reports
+        (call (map string_bytes words.now) S.left S.faults K.wrote K.faults source.old source.new out.old out.new) }
+    // `convert` at Done: it read the same, and wrote the one text of version 2 of that plan, whichever version it read.
+    ensures converted { result ≡ Status.Done → Converts
         (call (map string_bytes words.now) S.left S.faults K.wrote K.faults source.old source.new out.old out.new) }
     // `make` at Done: it wrote the canonical text of the scenario that the number makes.
     ensures made { result ≡ Status.Done → Makes
@@ -69,7 +72,7 @@ pub fn run<R: AllocGlobal + Threads + Wait + Sync, S: Source, K: Sink, E: Sink, 
         (call (map string_bytes words.now) S.left S.faults K.wrote K.faults source.old source.new out.old out.new) }
 
     // Rejected comes only where the input is a scenario and a plan that isn't accepted, for this first reason: `check` wrote
-    // it to `out`, and at `report` nothing was written there.
+    // it to `out`, and at `report` and `convert` nothing was written there.
     ensures rejected { result ≡ Status.Rejected → Rejects
         (call (map string_bytes words.now) S.left S.faults K.wrote K.faults source.old source.new out.old out.new) }
     // Usage comes exactly where the words spell no request, and nothing is read then.
@@ -102,7 +105,7 @@ pub fn run<R: AllocGlobal + Threads + Wait + Sync, S: Source, K: Sink, E: Sink, 
     // So the plan of a scenario with no more live prefixes under its opening than the limit is written,
     ensures finishes { (request : Request) (input : List ℕ) → IsUndisturbed
         (call (map string_bytes words.now) S.left S.faults K.wrote K.faults source.old source.new out.old out.new) request input → IsFeasible request input → IsUnlessNoMemory Status.Done result }
-    // a plan that is accepted is told to be, or reported,
+    // a plan that is accepted is told to be, reported, or written anew,
     ensures accepts { (request : Request) (input : List ℕ) → IsUndisturbed
         (call (map string_bytes words.now) S.left S.faults K.wrote K.faults source.old source.new out.old out.new) request input → IsAcceptable request input → IsUnlessNoMemory Status.Done result }
     // and one that isn't is rejected.

@@ -3,7 +3,7 @@
 ghost use Rattle.std.specs.Prelude.{◌≡◌, ◌≤◌, [], ◌∷◌, map, codes, IfSome, IfNone, string_bytes};
 ghost use Rattle.std.specs.Str.{bytes_eq};
 ghost use Rattle.plan_command.specs.Words.{Spells, SpellNone};
-ghost use Rattle.plan_command.specs.WordReading.{number_within, workers_in, nodes_in, number_in, plan_with_one, plan_with_two, plan_at, check_at, report_at, make_at, drill_at, request_at};
+ghost use Rattle.plan_command.specs.WordReading.{number_within, workers_in, nodes_in, number_in, plan_with_one, plan_with_two, plan_at, alone_at, report_at, make_at, drill_at, request_at};
 
 use crate::request::{MOST_NODES, MOST_WORKERS, Request, WORKERS};
 use exact_parts::{Number, number_of};
@@ -102,13 +102,13 @@ fn plan_request(words: &[String]) -> Option<Request>
     }
 }
 
-/// The words behind `check`.
+/// A request that has no words behind its command.
 #[tactic(auto, using(crate::proofs::WordLists::word_steps))]
-fn check_request(words: &[String]) -> Option<Request>
-    ensures { result ≡ check_at (map string_bytes words.now) }
+fn request_alone(request: Request, words: &[String]) -> Option<Request>
+    ensures { result ≡ alone_at request (map string_bytes words.now) }
 {
     if words.is_empty() {
-        Some(Request::Check)
+        Some(request)
     } else {
         None
     }
@@ -190,13 +190,15 @@ fn command_request(command: &str, words: &[String]) -> Option<Request>
     if is_word(command, "plan") {
         plan_request(words)
     } else if is_word(command, "check") {
-        check_request(words)
+        request_alone(Request::Check, words)
     } else if is_word(command, "report") {
         report_request(words)
     } else if is_word(command, "make") {
         make_request(words)
     } else if is_word(command, "drill") {
         drill_request(words)
+    } else if is_word(command, "convert") {
+        request_alone(Request::Convert, words)
     } else {
         None
     }

@@ -2,7 +2,7 @@ use Rattle.std.proofs.Common.{Ok, Err, refl, sym, ◌∙◌}
 use Rattle.plan_command.specs.Run.{delivered}
 use Rattle.plan_command.proofs.Endings.{ends_as_due, ends_refused, ends_longer, says_nothing}
 use Rattle.plan_command.proofs.Finishing.{feasible_due, judge_accepts, judge_rejects}
-use Rattle.plan_command.proofs.Outcomes.{planned_input, accepted_input, reported_input, rejected_input, stopped_input, made_text, drilled_text, write_failed, ends_unread}
+use Rattle.plan_command.proofs.Outcomes.{planned_input, accepted_input, reported_input, converted_input, rejected_input, stopped_input, made_text, drilled_text, write_failed, ends_unread}
 use Rattle.plan_command.proofs.top.run.Goals as goal
 
 pub returns-in-Ok-clause-ended : goal.returns-in-Ok-clause-ended
@@ -16,6 +16,9 @@ returns-in-Ok-clause-accepted g c = λ done. accepted_input _ c.in-Ok.status c.i
 
 pub returns-in-Ok-clause-reported : goal.returns-in-Ok-clause-reported
 returns-in-Ok-clause-reported g c = λ done. reported_input _ c.in-Ok.status c.in-Ok.ensures.ends done
+
+pub returns-in-Ok-clause-converted : goal.returns-in-Ok-clause-converted
+returns-in-Ok-clause-converted g c = λ done. converted_input _ c.in-Ok.status c.in-Ok.ensures.ends done
 
 pub returns-in-Ok-clause-made : goal.returns-in-Ok-clause-made
 returns-in-Ok-clause-made g c = λ done. made_text _ c.in-Ok.status c.in-Ok.ensures.ends done
