@@ -47,7 +47,7 @@ spread 1
 rate 3
 end
 """
-USAGE = "usage: osp plan [--workers N] [--nodes N] / check / report [--json yes] / make NUMBER / drill NUMBER [--workers N]"
+USAGE = "usage: osp plan [--workers N] [--nodes N] / check / report [--json yes] / make NUMBER / drill NUMBER [--workers N] / convert"
 
 
 def rows():
