@@ -240,7 +240,7 @@ class PlanReader:
     """Takes the lines of a plan, one after another."""
 
     # For each letter, whether a number stands before its cells, and the least and most horizons of cells.
-    RECORDS = {b"B": (0, 0, 1), b"W": (1, 0, 1), b"M": (1, 0, 1), b"T": (1, 1, 2)}
+    RECORDS = {b"B": (0, 0, 1), b"W": (1, 0, 1), b"M": (1, 0, 1), b"T": (1, 1, 2), b"E": (1, 0, 1)}
 
     def __init__(self, sc):
         self.sc = sc
@@ -282,7 +282,7 @@ class PlanReader:
         self.plan.path = [self.sc.names.index(it) for it in fields]
 
     def take_record(self, word, fields):
-        need(word in self.RECORDS, "BadLine")
+        need(word in self.RECORDS and (self.second or word != b"E"), "BadLine")
         count, least, most = self.RECORDS[word]
         most = least if self.second else most
         need(count + least * self.sc.horizon <= len(fields) <= count + most * self.sc.horizon, "BadLine")
@@ -303,13 +303,13 @@ class PlanReader:
         return prefix
 
 
-def in_version_2(text, sc):
-    """The text of version 2 of a plan whose text of version 1 this is, where its records have the expected prefixes."""
-    lines = text.split(b"\n")
-    records = [line.split(b" ") for line in lines[4:-2]]
-    kept = {b"B": lambda it: it[:1], b"W": lambda it: it[:2], b"M": lambda it: it[:2], b"T": lambda it: it[:2] + it[-sc.horizon :]}
-    short = [b" ".join(kept[it[0]](it)) for it in records]
-    return b"\n".join([b"plan 2", *lines[1:4], *short, b"end", b""])
+def in_version_1(text, sc):
+    """The text of version 1 of a plan whose text of version 2 this is, or that text where a record is an edge bound."""
+    plan = read_plan(text, sc)
+    if any(letter == b"E" for letter, *_ in plan.records):
+        return text
+    rows = ([letter, *([] if bound is None else [b"%d" % bound]), *(b"%d" % it for it in prefix + path)] for letter, bound, prefix, path in plan.records)
+    return b"\n".join([b"plan 1", *text.split(b"\n")[1:4], *(b" ".join(it) for it in rows), b"end", b""])
 
 
 def read_plan(text, sc):

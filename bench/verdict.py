@@ -41,6 +41,29 @@ def mean(sc, prefix):
     return found + greatest(sc, prefix[-1] if prefix else sc.start, rewards)
 
 
+def edge(sc, prefix):
+    """The edge bound: each later look counts as if the look just before it were the only other later look."""
+    d, g = sc.parts[1:]
+    found, belief = after(sc, prefix)
+    masses = [belief]
+    for _ in range(len(prefix) + 1, sc.horizon):
+        masses.append(spread(sc, masses[-1]))
+    rest = [0] * len(belief)
+    for at in range(sc.horizon, len(prefix) + 1, -1):
+        before, here = masses[at - len(prefix) - 2 : at - len(prefix)]
+        scale = d ** (sc.horizon - at) * g ** (sc.horizon - len(prefix) - 2)
+        rest = [max(seen(sc, before, here, it, to) * scale + rest[to] for to in sc.moves[it]) for it in range(len(rest))]
+    scale = d ** (sc.horizon - len(prefix) - 1) * g ** (sc.horizon - len(prefix) - 1)
+    start = prefix[-1] if prefix else sc.start
+    return found + max(paths.looked(sc, belief, it) * scale + rest[it] for it in sc.moves[start])
+
+
+def seen(sc, before, here, cell, to):
+    """What a look at a cell finds in one period, behind a look at another cell in the period before."""
+    taken = paths.looked(sc, before, cell) * sc.drift[cell].get(to, 0)
+    return (here[to] * sc.parts[2] - taken) * (sc.parts[2] - sc.looks[to])
+
+
 def factors(sc, cell):
     """How often a look at a cell misses, by where the target is."""
     return [sc.looks[it] if it == cell else sc.parts[2] for it in range(len(sc.names))]
@@ -82,6 +105,11 @@ def is_cut(bound, value, prefix, path):
     return bound < value or bound == value and prefix > path[: len(prefix)]
 
 
+def right(sc, letter, prefix, path):
+    """The bound that a record of this letter has to state."""
+    return {b"M": mean, b"E": edge}[letter](sc, prefix) if letter in (b"M", b"E") else tangent(sc, prefix, path)
+
+
 def reason(sc, plan, letter, bound, prefix, path):
     """What is wrong with a record in itself, if anything."""
     if (letter == b"W") != (len(prefix) == sc.horizon) or letter == b"W" and bound != paths.value(sc, prefix):
@@ -92,7 +120,7 @@ def reason(sc, plan, letter, bound, prefix, path):
         return "NoOneRate"
     if letter == b"T" and not (paths.is_path(sc, path) and path[: len(prefix)] == prefix):
         return "ReferenceWrong"
-    if letter != b"B" and bound != (mean(sc, prefix) if letter == b"M" else tangent(sc, prefix, path)):
+    if letter != b"B" and bound != right(sc, letter, prefix, path):
         return "BoundWrong"
     value = plan.value * (sc.parts[2] if letter == b"T" else 1)
     return "NotCut" if letter != b"B" and not is_cut(bound, value, prefix, plan.path) else None

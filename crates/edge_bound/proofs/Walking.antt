@@ -12,7 +12,7 @@ use Rattle.list_laws.proofs.Agreeing.{map_agree}
 use Rattle.longest_walk.proofs.Steps.{greatest_walks-suc, All-moves}
 use Rattle.edge_bound.specs.Moves.{greatest_moves, HasSums}
 
-sum_moves-cons : (r : ℕ → ℕ → ℕ → ℕ) (t a b : ℕ) (y : List ℕ) → sum_moves r t a (b ∷ y) ≡ r t a b + sum_moves r (t + 1) b y
+pub sum_moves-cons : (r : ℕ → ℕ → ℕ → ℕ) (t a b : ℕ) (y : List ℕ) → sum_moves r t a (b ∷ y) ≡ r t a b + sum_moves r (t + 1) b y
 unfolding sum_moves
 sum_moves-cons r t a b y = refl
 

@@ -1,10 +1,13 @@
 //! The tables of the edge bound.
 
-ghost use Rattle.std.specs.Prelude.{◌≡◌, ◌<◌, ◌≤◌, ◌+◌, ◌*◌, length, IfOk};
-ghost use Rattle.search_model.specs.Legal.{IsLegal};
+ghost use Rattle.std.specs.Prelude.{◌≡◌, ◌<◌, ◌≤◌, ◌+◌, ◌*◌, length, take, IfOk};
+ghost use Rattle.search_model.specs.Legal.{IsLegal, IsPath};
+ghost use Rattle.search_model.specs.Tracks.{value_of};
 ghost use Rattle.search_model.specs.Edge.{edge_of};
 ghost use Rattle.belief_update.specs.Trails.{IsPast};
+ghost use Rattle.edge_bound.specs.Onward.{IsTableFor};
 
+use crate::along::sum_after;
 use crate::masses::fill_masses;
 use crate::rows::{best_first, fill_sums};
 use belief_update::{Belief, follow, value_by};
@@ -41,6 +44,59 @@ impl Model for Edge {
     ghost view = { λ e. record { belief = e.belief; masses = e.masses.items; sums = e.sums.items; earlier = e.earlier.items } };
 }
 
+/// The value of a prefix and the masses of the periods after it, by a belief after the prefix, in the period of its last
+/// look or in the next one. The belief goes on without looks.
+fn start_by(belief: &mut Belief, masses: &mut [u128], sc: &Scenario, prefix: &Path) -> u128
+    requires belief { IsPast sc.now prefix.now belief.old }
+    requires near { belief.old.period ≤ length prefix.now + 1 }
+    requires size { length masses.old ≡ sc.now.horizon * sc.now.cells }
+    requires legal { IsLegal sc.now prefix.now }
+    requires short { length prefix.now < sc.now.horizon }
+    ensures value { result ≡ value_of sc.now prefix.now }
+    ensures masses { IsTableFor sc.now prefix.now masses.new }
+    ensures belief { length belief.new.masses ≡ sc.now.cells }
+{
+    belief.advance(sc);
+    let value = value_by(sc, belief, prefix);
+    fill_masses(masses, sc, belief, prefix);
+    value
+}
+
+/// The greatest of a prefix's value with the rewards of its continuations, by the masses of the periods after it.
+fn bound_from(
+    value: u128,
+    masses: &[u128],
+    sums: &mut [u128],
+    earlier: &mut [u128],
+    sc: &Scenario,
+    prefix: &Path,
+) -> u128
+    requires value { value ≡ value_of sc.now prefix.now }
+    requires masses { IsTableFor sc.now prefix.now masses.now }
+    requires width { length sums.old ≡ sc.now.positions }
+    requires room { length earlier.old ≡ sc.now.positions }
+    requires legal { IsLegal sc.now prefix.now }
+    requires short { length prefix.now < sc.now.horizon }
+    ensures { result ≡ edge_of sc.now prefix.now }
+{
+    let _sound = sc.cells();
+    fill_sums(sums, earlier, sc, prefix, masses);
+    value + best_first(sc, prefix, masses, sums)
+}
+
+/// A prefix's value with the rewards of one path that extends it, by the masses of the periods after it.
+fn sum_from(value: u128, masses: &[u128], sc: &Scenario, prefix: &Path, path: &Path) -> u128
+    requires value { value ≡ value_of sc.now prefix.now }
+    requires masses { IsTableFor sc.now prefix.now masses.now }
+    requires short { length prefix.now < sc.now.horizon }
+    requires path { IsPath sc.now path.now }
+    requires begins { take (length prefix.now) path.now ≡ prefix.now }
+    ensures { result ≤ edge_of sc.now prefix.now }
+{
+    let _sound = sc.cells();
+    value + sum_after(sc, prefix, masses, path.cells())
+}
+
 /// The edge bound of a prefix, by a belief after it, in the period of its last look or in the next one. The belief goes
 /// on without looks.
 fn bound_by(
@@ -61,12 +117,8 @@ fn bound_by(
     ensures bound { result ≡ edge_of sc.now prefix.now }
     ensures belief { length belief.new.masses ≡ sc.now.cells }
 {
-    let _sound = sc.cells();
-    belief.advance(sc);
-    let value = value_by(sc, belief, prefix);
-    fill_masses(masses, sc, belief, prefix);
-    fill_sums(sums, earlier, sc, prefix, masses);
-    value + best_first(sc, prefix, masses, sums)
+    let value = start_by(belief, masses, sc, prefix);
+    bound_from(value, masses, sums, earlier, sc, prefix)
 }
 
 impl Edge {
@@ -124,5 +176,43 @@ impl Edge {
             sc,
             prefix,
         )
+    }
+
+    /// The same bound; or else, where a path that extends the prefix shows that the bound is at least `enough`, a number
+    /// from that up to the bound, which takes less time. Takes no memory.
+    pub fn bound_or_enough(
+        &mut self,
+        sc: &Scenario,
+        ahead: &Belief,
+        prefix: &Path,
+        path: &Path,
+        enough: u128,
+    ) -> u128
+        requires made { IsMadeFor sc.now self.old }
+        requires legal { IsLegal sc.now prefix.now }
+        requires short { length prefix.now < sc.now.horizon }
+        requires ahead { IsPast sc.now prefix.now ahead.now }
+        requires near { ahead.now.period ≤ length prefix.now + 1 }
+        requires path { IsPath sc.now path.now }
+        requires begins { take (length prefix.now) path.now ≡ prefix.now }
+        ensures bound { result < enough → result ≡ edge_of sc.now prefix.now }
+        ensures enough { enough ≤ result → enough ≤ edge_of sc.now prefix.now }
+        ensures made { IsMadeFor sc.now self.new }
+    {
+        self.belief.copy_from(ahead);
+        let value = start_by(&mut self.belief, &mut self.masses, sc, prefix);
+        let shown = sum_from(value, &self.masses, sc, prefix, path);
+        if shown < enough {
+            bound_from(
+                value,
+                &self.masses,
+                &mut self.sums,
+                &mut self.earlier,
+                sc,
+                prefix,
+            )
+        } else {
+            shown
+        }
     }
 }

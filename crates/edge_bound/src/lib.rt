@@ -2,6 +2,7 @@
 //! by the look just before it.
 #![tactic(auto)]
 
+mod along;
 mod edge;
 mod laws;
 mod masses;

@@ -3,12 +3,14 @@
 ghost use Rattle.std.specs.Prelude.{◌≡◌, ◌<◌, ◌≤◌, ◌+◌, ℕ, length, IfOk, IsFalse};
 ghost use Rattle.search_model.specs.Legal.{IsLegal, moves_after};
 ghost use Rattle.search_model.specs.Bounds.{IsRate, mean_of};
+ghost use Rattle.search_model.specs.Reference.{IsReference};
+ghost use Rattle.belief_update.specs.Trails.{IsPast, IsTrailOf};
 ghost use Rattle.bound_tree.specs.Close.{IsClosed, IsExact, IsLeftOpen};
 ghost use Rattle.bound_tree.specs.Cut.{is_cut};
-ghost use Rattle.mean_bound.specs.Means.{IsFilledFor};
+ghost use Rattle.mean_bound.specs.Means.{IsMadeFor as IsMeanFor, IsFilledFor};
 ghost use Rattle.path_node.specs.Room.{IsMadeFor, TellsRate};
 
-use belief_update::{Trail, value_by};
+use belief_update::{Belief, Trail, value_by};
 use bound_tree::{Kind, TreeNode, cuts, in_parts};
 use edge_bound::Edge;
 use exact_parts::NoMemory;
@@ -59,20 +61,54 @@ impl Scratch {
     }
 }
 
+/// The belief ahead of the look that comes after a prefix, where the trail is along it.
+fn ahead_of<'a>(trail: &'a Trail, sc: &Scenario, prefix: &Path) -> &'a Belief
+    requires trail { IsTrailOf sc.now trail.now }
+    requires there { trail.now.prefix ≡ prefix.now }
+    requires shorter { length prefix.now < sc.now.horizon }
+    ensures past { IsPast sc.now prefix.now result.now }
+    ensures near { result.now.period ≤ length prefix.now + 1 }
+{
+    let _along = sc;
+    trail.ahead(prefix.len())
+}
+
+/// The least path of the greatest sum of rewards after a prefix, by the rewards that its mean bound took.
+fn reference_of(mean: &Mean, sc: &Scenario, prefix: &Path) -> Path
+    requires made { IsMeanFor sc.now mean.now }
+    requires filled { IsFilledFor sc.now prefix.now mean.now }
+    ensures { IsReference sc.now prefix.now result }
+{
+    let mut reference = *prefix;
+    mean.reference(sc, &mut reference);
+    reference
+}
+
 /// Closes a prefix that neither its mean bound nor a tangent bound rules out: by its edge bound, if the standing cuts
-/// that.
-fn close_by_edge(scratch: &mut Scratch, sc: &Scenario, prefix: &Path, standing: &Standing) -> Kind
+/// that. No standing cuts a bound above its value, and mostly the reference alone shows that the bound is.
+fn close_by_edge(
+    scratch: &mut Scratch,
+    sc: &Scenario,
+    prefix: &Path,
+    reference: &Path,
+    standing: &Standing,
+) -> Kind
     requires made { IsMadeFor sc.now scratch.old }
     requires there { scratch.old.trail.prefix ≡ prefix.now }
     requires legal { IsLegal sc.now prefix.now }
     requires shorter { length prefix.now < sc.now.horizon }
+    requires reference { IsReference sc.now prefix.now reference.now }
     requires open { IsLeftOpen sc.now standing.now prefix.now }
     requires exact { IsExact sc.now standing.now }
     ensures closed { IsClosed sc.now standing.now prefix.now result }
     ensures made { IsMadeFor sc.now scratch.new }
 {
-    let ahead = scratch.trail.ahead(prefix.len());
-    let edge = scratch.edge.bound_after(sc, ahead, prefix);
+    let _sound = sc.cells();
+    let ahead = ahead_of(&scratch.trail, sc, prefix);
+    let enough = standing.value + 1;
+    let edge = scratch
+        .edge
+        .bound_or_enough(sc, ahead, prefix, reference, enough);
     if cuts(standing, edge, prefix) {
         Kind::Edge(edge)
     } else {
@@ -80,35 +116,34 @@ fn close_by_edge(scratch: &mut Scratch, sc: &Scenario, prefix: &Path, standing: 
     }
 }
 
-/// Closes a prefix whose mean bound isn't cut, where the looks have one rate: by its tangent bound at the least path of
-/// the greatest sum of rewards, if the standing cuts that.
+/// Closes a prefix whose mean bound isn't cut, where the looks have one rate: by its tangent bound at the reference, if
+/// the standing cuts that.
 fn close_by_tangent(
     scratch: &mut Scratch,
     sc: &Scenario,
     prefix: &Path,
+    reference: &Path,
     standing: &Standing,
 ) -> Kind
     requires made { IsMadeFor sc.now scratch.old }
-    requires filled { IsFilledFor sc.now prefix.now scratch.old.mean }
     requires there { scratch.old.trail.prefix ≡ prefix.now }
     requires rate { (rate : ℕ) × IsRate sc.now rate }
     requires legal { IsLegal sc.now prefix.now }
     requires shorter { length prefix.now < sc.now.horizon }
+    requires reference { IsReference sc.now prefix.now reference.now }
     requires free { IsFalse (is_cut (mean_of sc.now prefix.now) prefix.now standing.now) }
     requires exact { IsExact sc.now standing.now }
     ensures closed { IsClosed sc.now standing.now prefix.now result }
     ensures made { IsMadeFor sc.now scratch.new }
 {
     let _sound = sc.cells();
-    let mut reference = *prefix;
-    scratch.mean.reference(sc, &mut reference);
-    let ahead = scratch.trail.ahead(prefix.len());
-    let tangent = scratch.tangent.bound_after(sc, ahead, prefix, &reference);
+    let ahead = ahead_of(&scratch.trail, sc, prefix);
+    let tangent = scratch.tangent.bound_after(sc, ahead, prefix, reference);
     let finer = in_parts(standing, sc.sweep().denominator());
     if cuts(&finer, tangent, prefix) {
-        Kind::Tangent(tangent, reference)
+        Kind::Tangent(tangent, *reference)
     } else {
-        close_by_edge(scratch, sc, prefix, standing)
+        close_by_edge(scratch, sc, prefix, reference, standing)
     }
 }
 
@@ -122,15 +157,16 @@ fn close_shorter(scratch: &mut Scratch, sc: &Scenario, prefix: &Path, standing: 
     ensures closed { IsClosed sc.now standing.now prefix.now result }
     ensures made { IsMadeFor sc.now scratch.new }
 {
-    let ahead = scratch.trail.ahead(prefix.len());
+    let ahead = ahead_of(&scratch.trail, sc, prefix);
     let mean = scratch.mean.bound_after(sc, ahead, prefix);
     if cuts(standing, mean, prefix) {
         return Kind::Mean(mean);
     }
+    let reference = reference_of(&scratch.mean, sc, prefix);
     if scratch.has_rate {
-        close_by_tangent(scratch, sc, prefix, standing)
+        close_by_tangent(scratch, sc, prefix, &reference, standing)
     } else {
-        close_by_edge(scratch, sc, prefix, standing)
+        close_by_edge(scratch, sc, prefix, &reference, standing)
     }
 }
 

@@ -1,13 +1,13 @@
 -- Records that have the prefixes that are expected, one after the other.
-use Rattle.std.proofs.Common.{◌≡◌, ℕ, ◌≤◌, ◌<◌, ◌+◌, List, [], ◌∷◌, length, drop, get_or, Some, None, refl, sym, subst, ◌∙◌}
+use Rattle.std.proofs.Common.{◌≡◌, ℕ, ◌<◌, ◌+◌, List, [], ◌∷◌, length, drop, get_or, Some, None, refl, sym, subst, ◌∙◌}
 use Rattle.std.specs.Prelude.{All, ◌↔◌}
-use Rattle.std.proofs.lemmas.List.{drop_all, drop_more}
+use Rattle.std.proofs.lemmas.List.{drop_more}
 use Rattle.search_model.specs.Problem.{Problem}
 use Rattle.search_model.specs.Legal.{IsLegal}
 use Rattle.bound_tree.specs.declared.node.TreeNode.{TreeNode}
 use Rattle.bound_tree.specs.Places.{AreInPlace, first_of, expected_behind}
 use Rattle.tree_format.specs.Placing.{IsTaken, IsOutOfPlace}
-use Rattle.tree_format.proofs.Spelled.{empty_legal, legal_behind}
+use Rattle.tree_format.proofs.Spelled.{legal_behind}
 
 -- a record that has the first of the prefixes
 pub taken : (p : Problem) (old new : List (List ℕ)) (q : List ℕ) (r : TreeNode) → first_of old ≡ Some q → q ≡ r.prefix → (All (IsLegal p) old → new ≡ expected_behind p old r.kind) → IsTaken p old r new

@@ -1,0 +1,11 @@
+use Rattle.std.proofs.Common.{◌-◌, length, arith}
+use Rattle.search_model.proofs.EdgeRewards.{weights-fit}
+use Rattle.edge_bound.proofs.Fitting.{edge_sums-within}
+use Rattle.edge_bound.proofs.edge.bound_from.Goals as goal
+
+pub overflow_add-result : goal.overflow_add-result
+overflow_add-result c =
+    let p = c.args.sc.now in
+    let q = c.args.prefix.now in
+    let sound = c.cells-sound.ensures.sound in
+    rw (c.requires.value, c.best_first.ensures) (omega (arith, edge_sums-within p sound q, weights-fit p sound (p.horizon - length q) (omega arith)))

@@ -1,0 +1,35 @@
+use Rattle.std.proofs.Common.{◌≡◌, ◌<◌, ◌≤◌, ◌+◌, ◌∙◌, inl, inr, sym, ap, arith, IsFalse}
+use Rattle.std.proofs.lemmas.Bool.{cases_lt}
+use Rattle.search_model.specs.Edge.{edge_of}
+use Rattle.search_model.proofs.Totals.{whole_weight-fits}
+use Rattle.bound_tree.specs.Cut.{is_cut}
+use Rattle.bound_tree.proofs.Tangents.{reference_extends}
+use Rattle.path_node.proofs.Cutting.{cut-within, above-open}
+use Rattle.path_node.proofs.node.close_by_edge.Goals as goal
+use Rattle.path_node.proofs.node.close_by_edge.Goals.{then-cuts, else-cuts}
+
+pub overflow_add-enough : goal.overflow_add-enough
+overflow_add-enough c = omega (arith, c.requires.exact.value, whole_weight-fits c.args.sc.now c.cells-sound.ensures.sound)
+
+pub bound_or_enough-edge-requires-clause-path : goal.bound_or_enough-edge-requires-clause-path
+bound_or_enough-edge-requires-clause-path c = (reference_extends c.args.sc.now c.args.prefix.now c.cells-sound.ensures.sound c.requires.legal c.args.reference.now c.requires.reference).path
+
+pub returns-clause-closed : goal.returns-clause-closed
+returns-clause-closed c =
+    let p = c.args.sc.now in
+    let q = c.args.prefix.now in
+    let s = c.args.standing.now in
+    let edge = c.bound_or_enough-edge.result in
+    elim c.if-cuts.branch [
+      | then-cuts w ↦
+          let cut = sym c.cuts.ensures ∙ w.if-cuts.true in
+          let least = cut-within edge q s cut in
+          rw w.result-is (c.requires.shorter, c.requires.open, c.bound_or_enough-edge.ensures.bound (omega (arith, least)), cut)
+      | else-cuts w ↦
+          let free : IsFalse (is_cut edge q s) = sym c.cuts.ensures ∙ w.if-cuts.false in
+          let left : IsFalse (is_cut (edge_of p q) q s) = elim (cases_lt edge (s.value + 1)) [
+            | inl below ↦ sym (ap (λ n. is_cut n q s) (c.bound_or_enough-edge.ensures.bound below)) ∙ free
+            | inr enough ↦ let above = c.bound_or_enough-edge.ensures.enough enough in above-open (edge_of p q) q s (omega (arith, above))
+          ] in
+          rw w.result-is (c.requires.shorter, c.requires.open, left)
+    ]
