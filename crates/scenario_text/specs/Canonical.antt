@@ -1,62 +1,60 @@
 -- The canonical text of a problem: each line its fields with one blank between and a line feed.
-use Rattle.std.specs.Prelude.{ℕ, ◌==◌, if◌then◌else◌, List, [], ◌∷◌, ◌++◌, map, length, codes, false, Some}
-use Rattle.std.specs.List.{flat_map, range_with_len}
-use Rattle.std.specs.Fmt.{decimal}
+use Rattle.std.specs.Prelude.{ℕ, ◌==◌, ◌&&◌, ◌-◌, not, Bool, false, if◌then◌else◌, List, [], ◌∷◌, map, filter, length, Some}
+use Rattle.std.specs.Str.{bytes_eq}
+use Rattle.std.specs.List.{flat_map, list_all, pointwise, range_with_len}
 use Rattle.text_rows.specs.Rows.{text_of}
 use Rattle.drift_chain.specs.declared.part.DriftPart.{DriftPart}
 use Rattle.drift_chain.specs.DriftRows.{row_of}
-use Rattle.search_grid.specs.Moves.{moves_from}
-use Rattle.sweep_table.specs.LookParts.{factor_of}
-use Rattle.search_model.specs.Problem.{Problem, first_of, position_name}
+use Rattle.sweep_table.specs.LookParts.{look_row, factor_of}
+use Rattle.search_model.specs.Problem.{Problem, first_of}
 use Rattle.scenario_text.specs.declared.draft.Stage.TheVariants.{Ended}
-use Rattle.scenario_text.specs.declared.draft.TextVersion.TheVariants.{One}
-use Rattle.scenario_text.specs.State.{State}
+use Rattle.scenario_text.specs.declared.draft.TextVersion.TheVariants.{One, Two}
+use Rattle.scenario_text.specs.State.{State, PeriodRow}
+use Rattle.scenario_text.specs.StateRows.{state_rows}
 use Rattle.scenario_text.specs.Reading.{Front}
-use Rattle.scenario_text.specs.RowFields.{entry_fields, cell_row, moves_of, drift_of, overlook_of}
-
--- `NAME PART NAME PART ..`
-abbrev pub pair_fields : Problem → List DriftPart → List (List ℕ)
-pair_fields p entries = entry_fields p.names entries
 
 -- the cells with a positive first part, ascending
 abbrev pub first_entries : Problem → List DriftPart
 first_entries p = flat_map (λ c. if first_of p c == 0 then [] else record { cell = c; part = first_of p c } ∷ []) (range_with_len 0 p.cells)
 
-abbrev pub moves_row : Problem → ℕ → List (List ℕ)
-moves_row p q = moves_of p.position_names q (moves_from p.moves q)
+-- the cells that a look from position a in period t covers, ascending: those of which it doesn't miss all
+abbrev pub covered : Problem → ℕ → ℕ → List DriftPart
+covered p t a = map (λ e. record { cell = e.cell; part = e.part }) (filter (λ e. not (e.part == p.sweep.denominator)) (look_row p.sweep t a))
 
-abbrev pub drift_row : Problem → ℕ → List (List ℕ)
-drift_row p c = drift_of p.names c (row_of p.drift 1 c)
+-- the same entries in the same order
+abbrev pub is_same_row : List DriftPart → List DriftPart → Bool
+is_same_row xs ys = pointwise (λ x y. (x.cell == y.cell) && (x.part == y.part)) xs ys
 
--- the overlook part of a position is the factor at the cell of its number
-abbrev pub overlook_row : Problem → ℕ → List (List ℕ)
-overlook_row p q = overlook_of p.position_names q (factor_of p.sweep 1 q q)
+-- the rows of period t that aren't those of period 1, by their owners
+abbrev pub other_rows : (ℕ → ℕ → List DriftPart) → ℕ → ℕ → List PeriodRow
+other_rows row owners t = flat_map (λ c. if is_same_row (row t c) (row 1 c) then [] else record { period = t; own = c; row = row t c } ∷ []) (range_with_len 0 owners)
 
--- the rows of all cells, and the end
-abbrev pub table_rows : Problem → List (List (List ℕ))
-table_rows p =
-    map (moves_row p) (range_with_len 0 p.positions)
-    ++ (map (drift_row p) (range_with_len 0 p.cells)
-    ++ (map (overlook_row p) (range_with_len 0 p.positions)
-    ++ ((codes "end" ∷ []) ∷ [])))
+-- and of the periods 2 to the last one, by periods and owners
+abbrev pub later_rows : (ℕ → ℕ → List DriftPart) → ℕ → ℕ → List PeriodRow
+later_rows row owners last = flat_map (other_rows row owners) (range_with_len 2 (last - 1))
 
--- the lines, each as its fields
-abbrev pub scenario_rows : Problem → List (List (List ℕ))
-scenario_rows p =
-    (codes "scenario" ∷ codes "1" ∷ [])
-    ∷ (codes "horizon" ∷ decimal p.horizon ∷ [])
-    ∷ (codes "parts" ∷ decimal p.total ∷ decimal p.drift.denominator ∷ decimal p.sweep.denominator ∷ [])
-    ∷ (map cell_row p.names
-    ++ ((codes "start" ∷ position_name p p.start ∷ [])
-    ∷ (codes "first" ∷ pair_fields p (first_entries p))
-    ∷ table_rows p))
+-- the target drifts after each period but the last one
+abbrev pub drift_changes : Problem → List PeriodRow
+drift_changes p = later_rows (row_of p.drift) p.cells (p.horizon - 1)
 
-unfoldable pub canonical_text : Problem → List ℕ
-canonical_text p = text_of (scenario_rows p)
+-- and is looked for in each period
+abbrev pub look_changes : Problem → List PeriodRow
+look_changes p = later_rows (covered p) p.positions p.horizon
 
--- what the canonical text says, read to its end
-abbrev pub state_of_problem : Problem → State
-state_of_problem p = record {
+-- a look from position a covers no cell but the one of its number
+abbrev pub covers_itself : Problem → ℕ → Bool
+covers_itself p a = list_all (λ e. e.cell == a) (covered p 1 a)
+
+-- whether a text of version 1 can say the problem: the positions are the cells with the same names, nothing depends on the
+-- period, and each look covers the cell of its position's number alone
+unfoldable pub is_plain : Problem → Bool
+is_plain p =
+    pointwise bytes_eq p.position_names p.names
+    && ((length (drift_changes p) == 0) && ((length (look_changes p) == 0) && list_all (covers_itself p) (range_with_len 0 p.positions)))
+
+-- what the canonical text says, read to its end, where version 1 can say it
+abbrev pub plain_state : Problem → State
+plain_state p = record {
   stage = Ended;
   version = One;
   horizon = p.horizon;
@@ -76,6 +74,24 @@ state_of_problem p = record {
   look_rows = [];
 }
 
+-- and where it can't: the rows of period 1, and those of later periods that differ from them
+abbrev pub full_state : Problem → State
+full_state p = record (plain_state p) {
+  version = Two;
+  positions = p.position_names;
+  overlook = [];
+  looks = map (λ a. Some (covered p 1 a)) (range_with_len 0 p.positions);
+  drift_rows = drift_changes p;
+  look_rows = look_changes p;
+}
+
+unfoldable pub state_of_problem : Problem → State
+state_of_problem p = if is_plain p then plain_state p else full_state p
+
+-- the lines that say it
+unfoldable pub canonical_text : Problem → List ℕ
+canonical_text p = text_of (state_rows (state_of_problem p))
+
 -- its lines up to the last one
 abbrev pub front_of_problem : Problem → Front
-front_of_problem p = record { state = state_of_problem p; line = length (scenario_rows p) }
+front_of_problem p = record { state = state_of_problem p; line = length (state_rows (state_of_problem p)) }

@@ -1,11 +1,13 @@
 -- The canonical text reads back, and a text spells one scenario.
-use Rattle.std.specs.Prelude.{◌≡◌, ◌↔◌, ℕ, List, [], ◌∷◌, ◌++◌, map, length, Ok, codes}
-use Rattle.std.specs.List.{range_with_len}
-use Rattle.sweep_table.specs.LookParts.{factor_of, parts_over}
+use Rattle.std.specs.Prelude.{◌≡◌, ◌≢◌, ◌↔◌, ◌<◌, ◌≤◌, ℕ, List, [], ◌∷◌, ◌++◌, length, Ok, codes}
+use Rattle.drift_chain.specs.DriftRows.{row_of}
+use Rattle.sweep_table.specs.LookParts.{factor_of}
 use Rattle.search_model.specs.Problem.{Problem, IsProblem}
+use Rattle.search_model.specs.Same.{AreSame}
 use Rattle.text_rows.specs.Lines.{lines_of}
 use Rattle.text_rows.specs.Fields.{fields_of}
 use Rattle.scenario_text.specs.Reading.{Front, front_of}
+use Rattle.scenario_text.specs.declared.draft.TextVersion.TheVariants.{One}
 use Rattle.scenario_text.specs.State.{State}
 use Rattle.scenario_text.specs.Canonical.{canonical_text, state_of_problem}
 use Rattle.scenario_text.specs.Scenarios.{Says, IsFront, IsTextOf}
@@ -22,20 +24,21 @@ EveryTextSpellsOne = (text : List ℕ) (front : Front) → front_of text ≡ Ok 
 -- period, and each look covers the cell of its position's number alone
 pub record IsPlain (p : Problem) : Type 0 where
   pub positions : p.position_names ≡ p.names
-  pub steady : p.drift.changes ≡ []
-  pub looks : p.sweep ≡ parts_over p.sweep.denominator (map (λ q. factor_of p.sweep 1 q q) (range_with_len 0 p.positions))
+  pub drift : (t c : ℕ) → 1 ≤ t → t < p.horizon → c < p.cells → row_of p.drift t c ≡ row_of p.drift 1 c
+  pub looks : (t a c : ℕ) → 1 ≤ t → t ≤ p.horizon → a < p.positions → c < p.cells → factor_of p.sweep t a c ≡ factor_of p.sweep 1 a c
+  pub own : (a c : ℕ) → a < p.positions → c < p.cells → a ≢ c → factor_of p.sweep 1 a c ≡ p.sweep.denominator
 
--- what the canonical text of a problem says is that problem
-abbrev pub CanonicalSays : Type 0
-CanonicalSays = (p : Problem) → IsProblem p → IsPlain p → Says (state_of_problem p) p
+-- the canonical text is of version 1 exactly where such a text can say the problem
+abbrev pub CanonicalVersion : Type 0
+CanonicalVersion = (p : Problem) → IsProblem p → ((state_of_problem p).version ≡ One) ↔ IsPlain p
 
--- the canonical text of a problem is a text of that problem alone
-abbrev pub CanonicalReadsBack : Type 0
-CanonicalReadsBack = (p : Problem) → IsProblem p → IsPlain p → IsTextOf p (canonical_text p)
-
--- and so it is with all of its bytes, whatever follows it
+-- the canonical text of a problem is a text of the same problem, and what follows it is left
 abbrev pub CanonicalFrontReadsBack : Type 0
-CanonicalFrontReadsBack = (p : Problem) (rest : List ℕ) → IsProblem p → IsPlain p → IsFront (canonical_text p ++ rest) p (length (canonical_text p))
+CanonicalFrontReadsBack = (p : Problem) (rest : List ℕ) → IsProblem p → (q : Problem) × AreSame p q × IsFront (canonical_text p ++ rest) q (length (canonical_text p))
+
+-- and of that problem alone
+abbrev pub CanonicalReadsBack : Type 0
+CanonicalReadsBack = (p : Problem) → IsProblem p → (q : Problem) × AreSame p q × IsTextOf q (canonical_text p)
 
 -- the last line has the one word `end`, and its line feed
 pub record EndsWithEnd (text : List ℕ) : Type 0 where

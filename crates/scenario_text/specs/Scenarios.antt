@@ -1,18 +1,49 @@
 -- The scenario that a text spells.
 use Rattle.std.specs.Prelude.{ℕ, ◌≡◌, ◌+◌, ◌<◌, List, [], map, length, unwrap_or, Result, Ok, Err}
+use Rattle.std.specs.List.{AllZip}
+use Rattle.std.specs.List.Sorted.{IsPermutation}
 use Rattle.search_grid.specs.Faults.{HasSameMoves}
-use Rattle.drift_chain.specs.DriftRows.{part_in}
+use Rattle.drift_chain.specs.declared.part.DriftPart.{DriftPart}
+use Rattle.drift_chain.specs.DriftRows.{DriftRowChange, part_in}
 use Rattle.drift_chain.specs.Faults.{HasSameParts}
-use Rattle.sweep_table.specs.LookParts.{parts_over}
+use Rattle.drift_chain.specs.ChangeFaults.{AreSameChanges}
+use Rattle.sweep_table.specs.declared.part.LookPart.{LookPart}
+use Rattle.sweep_table.specs.LookParts.{LookParts, LookRowChange, misses, parts_over}
+use Rattle.sweep_table.specs.Changes.{IsSameChange}
 use Rattle.search_model.specs.Problem.{Problem, IsProblem, first_of}
 use Rattle.scenario_text.specs.declared.stop.TextStop.{TextStop}
 use Rattle.scenario_text.specs.declared.stop.TextStop.TheVariants.{Fault, NoMemory}
 use Rattle.text_rows.specs.Lines.{after_lines}
-use Rattle.scenario_text.specs.State.{State, positions_in}
+use Rattle.scenario_text.specs.declared.draft.TextVersion.{TextVersion}
+use Rattle.scenario_text.specs.declared.draft.TextVersion.TheVariants.{One, Two}
+use Rattle.scenario_text.specs.State.{State, PeriodRow, positions_in}
 use Rattle.scenario_text.specs.Reading.{Front, front_of, alone_of}
 
--- the problem is what was read; its moves and drift entries are those of the rows, in ascending order, and the drift is the
--- same in every period
+-- a drift row of one period, as a drift has it
+abbrev pub drift_change_of : PeriodRow → DriftRowChange
+drift_change_of r = record { period = r.period; cell = r.own; row = r.row }
+
+-- the entries of a look row, as a sweep has them
+abbrev pub look_parts : List DriftPart → List LookPart
+look_parts row = map (λ e. misses e.cell e.part) row
+
+-- a look row of one period, as a sweep has it
+abbrev pub look_change_of : PeriodRow → LookRowChange
+look_change_of r = record { period = r.period; position = r.own; row = look_parts r.row }
+
+-- in version 2 the looks are those of the rows, and of the rows of single periods, with their entries in any order
+pub record AreLooksOf (s : State) (sweep : LookParts) : Type 0 where
+  pub denominator : sweep.denominator ≡ s.look
+  pub cells : sweep.cells ≡ length s.names
+  pub rows : AllZip IsPermutation (map (λ row. look_parts (unwrap_or row [])) s.looks) sweep.rows
+  pub changes : AllZip IsSameChange (map look_change_of s.look_rows) sweep.changes
+
+-- in version 1 each look covers the cell of its position's number alone, with its overlook part
+abbrev pub SaysLooks : TextVersion → State → LookParts → Type 0
+SaysLooks One s sweep = sweep ≡ parts_over s.look (map (λ o. unwrap_or o 0) s.overlook)
+SaysLooks Two s sweep = AreLooksOf s sweep
+
+-- the problem is what was read; its moves, drift entries and looks are those of the rows, in ascending order
 pub record Says (s : State) (p : Problem) : Type 0 where
   pub sound : IsProblem p
   pub names : p.names ≡ s.names
@@ -24,8 +55,8 @@ pub record Says (s : State) (p : Problem) : Type 0 where
   pub moves : HasSameMoves s.moves p.moves
   pub denominator : p.drift.denominator ≡ s.drift
   pub parts : HasSameParts s.parts p.drift.rows
-  pub steady : p.drift.changes ≡ []
-  pub sweep : p.sweep ≡ parts_over s.look (map (λ o. unwrap_or o 0) s.overlook)
+  pub changes : AreSameChanges (map drift_change_of s.drift_rows) p.drift.changes
+  pub sweep : SaysLooks s.version s p.sweep
 
 -- the text of this scenario, up to its line `end`, stands at the front, and has so many bytes
 pub record IsFront (text : List ℕ) (p : Problem) (n : ℕ) : Type 0 where
