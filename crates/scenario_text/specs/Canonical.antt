@@ -1,7 +1,8 @@
 -- The canonical text of a problem: each line its fields with one blank between and a line feed.
 use Rattle.std.specs.Prelude.{ℕ, ◌==◌, ◌&&◌, ◌-◌, not, Bool, false, if◌then◌else◌, List, [], ◌∷◌, map, filter, length, Some}
 use Rattle.std.specs.Str.{bytes_eq}
-use Rattle.std.specs.List.{flat_map, list_all, pointwise, range_with_len}
+use Rattle.std.specs.Cmp.Lexicographic.{pointwise}
+use Rattle.std.specs.List.{flat_map, list_all, range_with_len}
 use Rattle.text_rows.specs.Rows.{text_of}
 use Rattle.drift_chain.specs.declared.part.DriftPart.{DriftPart}
 use Rattle.drift_chain.specs.DriftRows.{row_of}
