@@ -10,9 +10,8 @@ ghost use Rattle.drift_chain.specs.Changes.{IsIndexOf};
 
 use crate::faults::row_fault;
 use crate::part::DriftPart;
-use exact_parts::NoMemory;
 use period_index::PeriodIndex;
-use std::alloc::Global;
+use std::alloc::{AllocError, Global};
 use std::marker::Model;
 
 /// The last period that a drift's row can be for.
@@ -41,12 +40,12 @@ pub enum ChangeFault {
     NoMemory,
 }
 
-impl From<NoMemory> for ChangeFault {
+impl From<AllocError> for ChangeFault {
     ghost use Rattle.drift_chain.specs.declared.changes.ChangeFault.TheVariants.{NoMemory};
 
     ghost from_gives = { λ _ e. e ≡ NoMemory };
 
-    fn from(_refused: NoMemory) -> ChangeFault {
+    fn from(_refused: AllocError) -> ChangeFault {
         ChangeFault::NoMemory
     }
 }

@@ -4,8 +4,7 @@ ghost use Rattle.std.specs.Prelude.{◌≡◌, ℕ, ◌+◌, ◌-◌, ◌*◌, �
 ghost use Rattle.period_index.specs.PeriodKeys.{IsPeriodKeys, IsWithin, place_of, with_key};
 ghost use Rattle.period_index.specs.Slots.{slot_of};
 
-use exact_parts::NoMemory;
-use std::alloc::Global;
+use std::alloc::{AllocError, Global};
 use std::marker::Model;
 
 /// Keys, each of a period and a row, and for each of them its place in the order in which they were added.
@@ -30,7 +29,7 @@ impl Model for PeriodIndex {
 
 impl PeriodIndex {
     /// An index over periods 1 to `periods` and rows 0 to `rows - 1`, with no key yet. Only this call takes memory.
-    pub fn new(alloc: Global, periods: u32, rows: u8) -> Result<PeriodIndex, NoMemory>
+    pub fn new(alloc: Global, periods: u32, rows: u8) -> Result<PeriodIndex, AllocError>
         requires periods { (1 ≤ periods) × (periods ≤ 32) }
         requires rows { (1 ≤ rows) × (rows ≤ 200) }
         ensures { IfOk result (λ index. index ≡ record { periods = periods; rows = rows; keys = [] }) }

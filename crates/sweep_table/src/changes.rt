@@ -9,9 +9,8 @@ ghost use Rattle.sweep_table.specs.Forms.{index_over};
 
 use crate::faults::{has_double, has_out, has_over};
 use crate::part::{LookChange, LookPart};
-use exact_parts::NoMemory;
 use period_index::PeriodIndex;
-use std::alloc::Global;
+use std::alloc::{AllocError, Global};
 
 /// The most periods in which looks may change.
 pub(crate) const MOST_PERIODS: u32 = 32;
@@ -31,13 +30,13 @@ pub enum LookChangeFault {
     NoMemory,
 }
 
-impl From<NoMemory> for LookChangeFault {
+impl From<AllocError> for LookChangeFault {
     ghost use Rattle.std.specs.Prelude.{◌≡◌};
     ghost use Rattle.sweep_table.specs.declared.changes.LookChangeFault.TheVariants.{NoMemory};
 
     ghost from_gives = { λ _ e. e ≡ NoMemory };
 
-    fn from(_no_memory: NoMemory) -> LookChangeFault {
+    fn from(_refused: AllocError) -> LookChangeFault {
         LookChangeFault::NoMemory
     }
 }

@@ -8,8 +8,7 @@ ghost use Rattle.sweep_table.specs.Forms.{prints_seen, IsIndexed};
 
 use crate::changes::Changes;
 use crate::part::LookPart;
-use exact_parts::NoMemory;
-use std::alloc::Global;
+use std::alloc::{AllocError, Global};
 
 // Per position its base row, and the rows of single periods; all in ascending order of cells.
 #[derive(Debug, Drop)]
@@ -36,7 +35,7 @@ pub(crate) fn row_in_force(prints: &Footprints, t: u32, p: u8) -> &[LookPart]
 }
 
 // The rows of looks that each cover the searcher's own cell alone.
-pub(crate) fn own_rows(alloc: Global, overlook: &[u32]) -> Result<Vec<Vec<LookPart>>, NoMemory>
+pub(crate) fn own_rows(alloc: Global, overlook: &[u32]) -> Result<Vec<Vec<LookPart>>, AllocError>
     requires { length overlook.now ≤ 200 }
     ensures { IfOk result (λ rows. map (λ row. row.items) rows.items ≡ map (own_row overlook.now) (range_with_len 0 (length overlook.now))) }
 {
@@ -48,7 +47,7 @@ pub(crate) fn own_rows(alloc: Global, overlook: &[u32]) -> Result<Vec<Vec<LookPa
 }
 
 // The row of one cell.
-fn row_of_one(alloc: Global, cell: u8, part: u32) -> Result<Vec<LookPart>, NoMemory>
+fn row_of_one(alloc: Global, cell: u8, part: u32) -> Result<Vec<LookPart>, AllocError>
     ensures { IfOk result (λ row. row.items ≡ misses cell part ∷ []) }
 {
     Ok(vec![in alloc; LookPart { cell, part }]?)

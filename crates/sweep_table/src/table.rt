@@ -11,8 +11,7 @@ use crate::faults::{LookFault, MOST_CELLS, SweepFault, first_over, put_in_order}
 use crate::footprints::{Footprints, factor_in_row, own_rows, row_in_force};
 use crate::look::Look;
 use crate::part::{LookChange, LookPart};
-use exact_parts::NoMemory;
-use std::alloc::Global;
+use std::alloc::{AllocError, Global};
 use std::marker::Model;
 
 /// The look factors, as parts of one denominator.
@@ -213,7 +212,7 @@ impl Sweep {
 }
 
 // Looks as footprints.
-fn as_footprints(alloc: Global, looks: Looks) -> Result<Footprints, NoMemory>
+fn as_footprints(alloc: Global, looks: Looks) -> Result<Footprints, AllocError>
     requires { (denominator : ℕ) × IsSweep (seen denominator looks) }
     ensures { IfOk result (λ prints. (denominator : ℕ) → prints_seen denominator prints ≡ seen denominator looks) }
 {
