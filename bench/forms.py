@@ -46,14 +46,28 @@ def need(holds, kind):
 
 
 class Scenario:
-    """A scenario: names of cells, horizon, denominators, start, and by cell its first part, moves, drift and overlook part."""
+    """A scenario: names of cells and of positions, horizon, denominators, start; by cell its first part and its drift; by position
+    its moves, and what a look from there covers; and the rows of single periods."""
+
+    def __init__(self):
+        self.names, self.positions, self.moves, self.drift, self.looks = [], [], {}, {}, {}
+        self.drift_in, self.looks_in = {}, {}
+
+    def row(self, t, cell):
+        """Where the target goes from a cell in the step after period t, with its parts."""
+        return self.drift_in.get((t, cell), self.drift[cell])
+
+    def look(self, t, position):
+        """The cells that a look from a position in period t covers, with the parts that it misses."""
+        return self.looks_in.get((t, position), self.looks[position])
 
     def key(self):
         """All that its plans depend on."""
-        rows = (tuple(self.moves[it]) for it in range(len(self.names)))
-        drift = (tuple(sorted(self.drift[it].items())) for it in range(len(self.names)))
-        looks = (self.looks[it] for it in range(len(self.names)))
-        return self.horizon, self.parts, tuple(self.names), self.start, tuple(self.first), tuple(rows), tuple(drift), tuple(looks)
+        moves = (tuple(self.moves[it]) for it in range(len(self.positions)))
+        drift = (tuple(sorted(self.row(t, it).items())) for t in range(1, self.horizon) for it in range(len(self.names)))
+        looks = (tuple(sorted(self.look(t, it).items())) for t in range(1, self.horizon + 1) for it in range(len(self.positions)))
+        names = tuple(self.names), tuple(self.positions)
+        return self.horizon, self.parts, names, self.start, tuple(self.first), tuple(moves), tuple(drift), tuple(looks)
 
 
 class ScenarioReader:
@@ -74,16 +88,23 @@ class ScenarioReader:
         b"spread": lambda n: n == 1,
         b"rate": lambda n: n == 1,
         b"end": lambda n: n == 0,
+        b"position": lambda n: n == 1,
+        b"driftin": lambda n: n >= 4 and n % 2 == 0,
+        b"look": lambda n: n % 2 == 1,
+        b"lookin": lambda n: n >= 2 and n % 2 == 0,
     }
-    ROWS = [b"moves", b"drift", b"overlook", b"spread", b"rate", b"end"]
+    # The rows of each version.
+    ROWS = {
+        1: [b"moves", b"drift", b"overlook", b"spread", b"rate", b"end"],
+        2: [b"moves", b"drift", b"driftin", b"look", b"lookin", b"end"],
+    }
 
     def __init__(self):
         self.due = [b"scenario"]
         self.ended = False
         self.grid = None
-        self.numbers = {}
+        self.numbers, self.places = {}, {}
         self.sc = Scenario()
-        self.sc.names, self.sc.moves, self.sc.drift, self.sc.looks = [], {}, {}, {}
 
     def take(self, line):
         line = line.strip(b" \t\r")
@@ -95,12 +116,17 @@ class ScenarioReader:
         need(self.FIELDS[word](len(fields)), "BadLine")
         getattr(self, "take_" + word.decode())(fields)
 
-    def cells(self, names):
-        need(all(it in self.numbers for it in names), "UnknownName")
-        return [self.numbers[it] for it in names]
+    def known(self, positions, cells):
+        """The numbers of names that stand in the places of positions, and of those in the places of cells."""
+        need(all(it in self.places for it in positions) and all(it in self.numbers for it in cells), "UnknownName")
+        return [self.places[it] for it in positions], [self.numbers[it] for it in cells]
 
     def take_scenario(self, fields):
-        need(fields == [b"1"], "BadLine")
+        need(fields in ([b"1"], [b"2"]), "BadLine")
+        self.version = int(fields[0])
+        if self.version == 1:
+            # The positions are the cells.
+            self.places, self.sc.positions = self.numbers, self.sc.names
         self.due = [b"horizon"]
 
     def take_horizon(self, fields):
@@ -109,19 +135,24 @@ class ScenarioReader:
 
     def take_parts(self, fields):
         self.sc.parts = tuple(numbers(fields, 1, MOST_PART))
-        self.due = [b"cell", b"grid"]
+        self.due = [b"cell", b"grid"] if self.version == 1 else [b"cell"]
 
     def take_cell(self, fields):
+        self.add_named(fields, self.numbers, self.sc.names)
+        self.due = [b"cell", b"start" if self.version == 1 else b"position"]
+
+    def take_position(self, fields):
+        self.add_named(fields, self.places, self.sc.positions)
+        self.due = [b"position", b"start"]
+
+    @staticmethod
+    def add_named(fields, numbers, names):
         (name,) = fields
         need(NAME.match(name), "BadLine")
-        need(len(name) <= 24 and len(self.sc.names) < MOST_CELLS, "OverLimit")
-        need(name not in self.numbers, "DoubleName")
-        self.add_cell(name)
-        self.due = [b"cell", b"start"]
-
-    def add_cell(self, name):
-        self.numbers[name] = len(self.sc.names)
-        self.sc.names.append(name)
+        need(len(name) <= 24 and len(names) < MOST_CELLS, "OverLimit")
+        need(name not in numbers, "DoubleName")
+        numbers[name] = len(names)
+        names.append(name)
 
     def take_grid(self, fields):
         rows, columns = numbers(fields, 1, 200)
@@ -129,7 +160,7 @@ class ScenarioReader:
         self.grid = rows, columns
         for row in range(rows):
             for column in range(columns):
-                self.add_cell(b"r%dc%d" % (row, column))
+                self.add_named([b"r%dc%d" % (row, column)], self.numbers, self.sc.names)
         for cell in range(rows * columns):
             self.sc.moves[cell] = sorted([cell, *self.sides(cell)])
         self.due = [b"start"]
@@ -141,41 +172,70 @@ class ScenarioReader:
         return [r * columns + c for r, c in around if 0 <= r < rows and 0 <= c < columns]
 
     def take_start(self, fields):
-        (self.sc.start,) = self.cells(fields)
+        (self.sc.start,), _ = self.known(fields, [])
         self.due = [b"first"]
 
     def take_first(self, fields):
         parts = numbers(fields[1::2], 1, MOST_PART)
-        cells = self.cells(fields[0::2])
+        _, cells = self.known([], fields[0::2])
         need(len(set(cells)) == len(cells), "DoubleName")
         need(sum(parts) == self.sc.parts[0], "WrongSum")
         self.sc.first = [0] * len(self.sc.names)
         for cell, part in zip(cells, parts):
             self.sc.first[cell] = part
-        self.due = self.ROWS
+        self.due = self.ROWS[self.version]
 
     def take_moves(self, fields):
         need(len(fields) - 1 <= MOST_MOVES, "OverLimit")
-        cell, *moves = self.cells(fields)
+        (position, *moves), _ = self.known(fields, [])
         need(len(set(moves)) == len(moves), "DoubleName")
-        need(cell not in self.sc.moves, "DoubleRow")
+        need(position not in self.sc.moves, "DoubleRow")
         need(moves, "NoMove")
-        self.sc.moves[cell] = sorted(moves)
+        self.sc.moves[position] = sorted(moves)
 
     def take_drift(self, fields):
         parts = numbers(fields[2::2], 1, MOST_PART)
-        cell, *cells = self.cells([fields[0], *fields[1::2]])
+        _, (cell, *cells) = self.known([], [fields[0], *fields[1::2]])
+        self.add_drift(self.sc.drift, cell, cells, parts)
+
+    def take_driftin(self, fields):
+        (period, *parts) = self.with_period(fields[0], self.sc.horizon - 1, fields[3::2], 1)
+        _, (cell, *cells) = self.known([], [fields[1], *fields[2::2]])
+        self.add_drift(self.sc.drift_in, (period, cell), cells, parts)
+
+    def add_drift(self, rows, place, cells, parts):
         need(len(set(cells)) == len(cells), "DoubleName")
-        need(cell not in self.sc.drift, "DoubleRow")
+        need(place not in rows, "DoubleRow")
         need(sum(parts) == self.sc.parts[1], "WrongSum")
-        self.sc.drift[cell] = dict(zip(cells, parts))
+        rows[place] = dict(zip(cells, parts))
+
+    @staticmethod
+    def with_period(period, last, parts, least):
+        """The number of a period, and those of parts; each kind of fault is asked of all before the next."""
+        found = [number(period, 1, last), *(number(it, least, MOST_PART) for it in parts)]
+        need(not any(over for _, over in found), "OverLimit")
+        return [it for it, _ in found]
+
+    def take_look(self, fields):
+        parts = numbers(fields[2::2], 0, MOST_PART)
+        (position,), cells = self.known(fields[:1], fields[1::2])
+        self.add_look(self.sc.looks, position, cells, parts)
+
+    def take_lookin(self, fields):
+        (period, *parts) = self.with_period(fields[0], self.sc.horizon, fields[3::2], 0)
+        (position,), cells = self.known(fields[1:2], fields[2::2])
+        self.add_look(self.sc.looks_in, (period, position), cells, parts)
+
+    def add_look(self, rows, place, cells, parts):
+        need(len(set(cells)) == len(cells), "DoubleName")
+        need(place not in rows, "DoubleRow")
+        need(all(it <= self.sc.parts[2] for it in parts), "PartOver")
+        rows[place] = dict(zip(cells, parts))
 
     def take_overlook(self, fields):
         (part,) = numbers(fields[1:], 0, MOST_PART)
-        (cell,) = self.cells(fields[:1])
-        need(cell not in self.sc.looks, "DoubleRow")
-        need(part <= self.sc.parts[2], "PartOver")
-        self.sc.looks[cell] = part
+        _, (cell,) = self.known([], fields[:1])
+        self.add_look(self.sc.looks, cell, [cell], [part])
 
     def take_spread(self, fields):
         need(self.grid, "BadLine")
@@ -192,11 +252,11 @@ class ScenarioReader:
         (part,) = numbers(fields, 0, MOST_PART)
         need(not self.sc.looks, "DoubleRow")
         need(part <= self.sc.parts[2], "PartOver")
-        self.sc.looks = dict.fromkeys(range(len(self.sc.names)), part)
+        self.sc.looks = {it: {it: part} for it in range(len(self.sc.names))}
 
     def take_end(self, fields):
-        count = len(self.sc.names)
-        need(all(len(it) == count for it in (self.sc.moves, self.sc.drift, self.sc.looks)), "MissingRow")
+        need(len(self.sc.drift) == len(self.sc.names), "MissingRow")
+        need(all(len(it) == len(self.sc.positions) for it in (self.sc.moves, self.sc.looks)), "MissingRow")
         a, d, g = self.sc.parts
         t = self.sc.horizon
         need((t + 10) * a * d ** (t - 1) * g ** (t + 1) < 2**127, "TooWide")
@@ -239,12 +299,12 @@ def wide(field):
 class PlanReader:
     """Takes the lines of a plan, one after another."""
 
-    # For each letter, whether a number stands before its cells, and the least and most horizons of cells.
+    # For each letter, whether a number stands before its positions, and the least and most horizons of positions.
     RECORDS = {b"B": (0, 0, 1), b"W": (1, 0, 1), b"M": (1, 0, 1), b"T": (1, 1, 2), b"E": (1, 0, 1)}
 
     def __init__(self, sc):
         self.sc = sc
-        self.cells = {b"%d" % it: it for it in range(len(sc.names))}
+        self.positions = {b"%d" % it: it for it in range(len(sc.positions))}
         self.plan = Plan()
         self.plan.records = []
         self.ended = False
@@ -278,8 +338,8 @@ class PlanReader:
 
     def take_path(self, word, fields):
         need(word == b"path" and 1 <= len(fields) <= 32, "BadLine")
-        need(all(it in self.sc.names for it in fields), "UnknownName")
-        self.plan.path = [self.sc.names.index(it) for it in fields]
+        need(all(it in self.sc.positions for it in fields), "UnknownName")
+        self.plan.path = [self.sc.positions.index(it) for it in fields]
 
     def take_record(self, word, fields):
         need(word in self.RECORDS and (self.second or word != b"E"), "BadLine")
@@ -287,13 +347,13 @@ class PlanReader:
         most = least if self.second else most
         need(count + least * self.sc.horizon <= len(fields) <= count + most * self.sc.horizon, "BadLine")
         bound = wide(fields[0]) if count else None
-        need(all(it in self.cells for it in fields[count:]), "BadNumber")
+        need(all(it in self.positions for it in fields[count:]), "BadNumber")
         need(len(self.plan.records) < self.plan.nodes, "WrongCount")
         need(not self.second or self.expected, "NoPlace")
-        cells = [self.cells[it] for it in fields[count:]]
-        ends = len(cells) - least * self.sc.horizon
-        prefix = self.place(word) if self.second else cells[:ends]
-        self.plan.records.append((word, bound, prefix, cells[ends:]))
+        named = [self.positions[it] for it in fields[count:]]
+        ends = len(named) - least * self.sc.horizon
+        prefix = self.place(word) if self.second else named[:ends]
+        self.plan.records.append((word, bound, prefix, named[ends:]))
 
     def place(self, word):
         """The prefix of a record of version 2: the one that is expected."""

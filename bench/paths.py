@@ -8,35 +8,37 @@ def weight(sc):
 
 
 def is_path(sc, path):
-    """Whether a list of cells follows the moves from the start, as long as the horizon."""
+    """Whether a list of positions follows the moves from the start, as long as the horizon."""
     at = sc.start
-    for cell in path:
-        if cell not in sc.moves[at]:
+    for position in path:
+        if position not in sc.moves[at]:
             return False
-        at = cell
+        at = position
     return len(path) == sc.horizon
 
 
-def looked(sc, belief, cell):
-    """What a look at a cell finds, before the masses missed so far get the look's denominator."""
-    return belief[cell] * (sc.parts[2] - sc.looks[cell])
+def looked(sc, belief, t, position):
+    """What a look from a position in period t finds in each cell that it covers, before the masses missed so far get the look's
+    denominator."""
+    return {cell: belief[cell] * (sc.parts[2] - part) for cell, part in sc.look(t, position).items()}
 
 
-def drifted(sc, belief):
-    """The masses one period later, where a look finds nothing anywhere."""
+def drifted(sc, belief, t):
+    """The masses of the period after period t, where a look finds nothing anywhere."""
     after = [0] * len(belief)
     for cell, mass in enumerate(belief):
         if mass:
-            for to, part in sc.drift[cell].items():
+            for to, part in sc.row(t, cell).items():
                 after[to] += mass * part * sc.parts[2]
     return after
 
 
-def without(sc, after, cell, found):
-    """The masses one period later, without what the look at a cell found."""
+def without(sc, after, t, found):
+    """The masses of the period after period t, without what a look found in period t."""
     left = list(after)
-    for to, part in sc.drift[cell].items():
-        left[to] -= found * part
+    for cell, mass in found.items():
+        for to, part in sc.row(t, cell).items():
+            left[to] -= mass * part
     return left
 
 
@@ -47,12 +49,12 @@ def scale(sc, length):
 
 def value(sc, path):
     """The value of a path: how much of the whole weight it finds."""
-    belief, found = sc.first, 0
-    for at, cell in enumerate(path, 1):
-        here = looked(sc, belief, cell)
-        found += here * scale(sc, at)
-        belief = without(sc, drifted(sc, belief), cell, here)
-    return found
+    belief, total = sc.first, 0
+    for t, position in enumerate(path, 1):
+        found = looked(sc, belief, t, position)
+        total += sum(found.values()) * scale(sc, t)
+        belief = without(sc, drifted(sc, belief, t), t, found)
+    return total
 
 
 def counts(sc, most):
@@ -61,8 +63,8 @@ def counts(sc, most):
     found = [1]
     while len(found) <= sc.horizon and found[-1] <= most:
         after = {}
-        for cell, count in ways.items():
-            for to in sc.moves[cell]:
+        for position, count in ways.items():
+            for to in sc.moves[position]:
                 after[to] = after.get(to, 0) + count
         ways = after
         found.append(sum(ways.values()))
@@ -73,17 +75,17 @@ def best(sc):
     """The greatest value of a path, and the first path in ascending order that has it."""
     top = None
 
-    def walk(prefix, found, belief):
+    def walk(prefix, total, belief):
         nonlocal top
-        at = len(prefix) + 1
-        after = drifted(sc, belief) if at < sc.horizon else None
-        for cell in sc.moves[prefix[-1] if prefix else sc.start]:
-            here = looked(sc, belief, cell)
-            total = found + here * scale(sc, at)
+        t = len(prefix) + 1
+        after = drifted(sc, belief, t) if t < sc.horizon else None
+        for position in sc.moves[prefix[-1] if prefix else sc.start]:
+            found = looked(sc, belief, t, position)
+            more = total + sum(found.values()) * scale(sc, t)
             if after is not None:
-                walk([*prefix, cell], total, without(sc, after, cell, here))
-            elif top is None or total > top[0]:
-                top = total, [*prefix, cell]
+                walk([*prefix, position], more, without(sc, after, t, found))
+            elif top is None or more > top[0]:
+                top = more, [*prefix, position]
 
     walk([], 0, sc.first)
     return top

@@ -2,102 +2,109 @@
 import paths
 
 
-def greatest(sc, cell, rewards):
-    """The greatest sum of rewards of a walk from a cell, which has a reward by cell for each period."""
-    later = [0] * len(sc.names)
+def greatest(sc, position, rewards):
+    """The greatest sum of rewards of a walk from a position, which has a reward by position for each period."""
+    later = [0] * len(sc.positions)
     for here in reversed(rewards):
         later = [max(here[to] + later[to] for to in sc.moves[it]) for it in range(len(later))]
-    return later[cell]
+    return later[position]
 
 
 def after(sc, prefix):
     """The value of a prefix, and the masses in the period behind it."""
-    belief, found = sc.first, 0
-    for at, cell in enumerate(prefix, 1):
-        here = paths.looked(sc, belief, cell)
-        found += here * paths.scale(sc, at)
-        belief = paths.without(sc, paths.drifted(sc, belief), cell, here)
-    return found, belief
+    belief, total = sc.first, 0
+    for t, position in enumerate(prefix, 1):
+        found = paths.looked(sc, belief, t, position)
+        total += sum(found.values()) * paths.scale(sc, t)
+        belief = paths.without(sc, paths.drifted(sc, belief, t), t, found)
+    return total, belief
 
 
-def spread(sc, belief):
-    """The masses one period later, without a look."""
+def spread(sc, belief, t):
+    """The masses of the period after period t, without a look."""
     later = [0] * len(belief)
     for cell, mass in enumerate(belief):
-        for to, part in sc.drift[cell].items():
+        for to, part in sc.row(t, cell).items():
             later[to] += mass * part
     return later
+
+
+def found(sc, belief, t, position):
+    """What a look from a position in period t finds in all."""
+    return sum(paths.looked(sc, belief, t, position).values())
 
 
 def mean(sc, prefix):
     """The mean bound: each later look counts as if there were no other later look."""
     d, g = sc.parts[1:]
-    found, belief = after(sc, prefix)
+    total, belief = after(sc, prefix)
     rewards = []
-    for at in range(len(prefix) + 1, sc.horizon + 1):
-        scale = d ** (sc.horizon - at) * g ** (sc.horizon - len(prefix) - 1)
-        rewards.append([paths.looked(sc, belief, it) * scale for it in range(len(belief))])
-        belief = spread(sc, belief)
-    return found + greatest(sc, prefix[-1] if prefix else sc.start, rewards)
+    for t in range(len(prefix) + 1, sc.horizon + 1):
+        scale = d ** (sc.horizon - t) * g ** (sc.horizon - len(prefix) - 1)
+        rewards.append([found(sc, belief, t, it) * scale for it in range(len(sc.positions))])
+        belief = spread(sc, belief, t)
+    return total + greatest(sc, prefix[-1] if prefix else sc.start, rewards)
 
 
 def edge(sc, prefix):
     """The edge bound: each later look counts as if the look just before it were the only other later look."""
     d, g = sc.parts[1:]
-    found, belief = after(sc, prefix)
+    total, belief = after(sc, prefix)
     masses = [belief]
-    for _ in range(len(prefix) + 1, sc.horizon):
-        masses.append(spread(sc, masses[-1]))
-    rest = [0] * len(belief)
-    for at in range(sc.horizon, len(prefix) + 1, -1):
-        before, here = masses[at - len(prefix) - 2 : at - len(prefix)]
-        scale = d ** (sc.horizon - at) * g ** (sc.horizon - len(prefix) - 2)
-        rest = [max(seen(sc, before, here, it, to) * scale + rest[to] for to in sc.moves[it]) for it in range(len(rest))]
-    scale = d ** (sc.horizon - len(prefix) - 1) * g ** (sc.horizon - len(prefix) - 1)
+    for t in range(len(prefix) + 1, sc.horizon):
+        masses.append(spread(sc, masses[-1], t))
+    rest = [0] * len(sc.positions)
+    for t in range(sc.horizon, len(prefix) + 1, -1):
+        before, here = masses[t - len(prefix) - 2 : t - len(prefix)]
+        scale = d ** (sc.horizon - t) * g ** (sc.horizon - len(prefix) - 2)
+        rest = [max(seen(sc, before, here, t, it, to) * scale + rest[to] for to in sc.moves[it]) for it in range(len(rest))]
+    t = len(prefix) + 1
+    scale = (d * g) ** (sc.horizon - t)
     start = prefix[-1] if prefix else sc.start
-    return found + max(paths.looked(sc, belief, it) * scale + rest[it] for it in sc.moves[start])
+    return total + max(found(sc, belief, t, it) * scale + rest[it] for it in sc.moves[start])
 
 
-def seen(sc, before, here, cell, to):
-    """What a look at a cell finds in one period, behind a look at another cell in the period before."""
-    taken = paths.looked(sc, before, cell) * sc.drift[cell].get(to, 0)
-    return (here[to] * sc.parts[2] - taken) * (sc.parts[2] - sc.looks[to])
+def seen(sc, before, here, t, position, to):
+    """What a look from a position finds in period t, behind a look from another position in the period before."""
+    left = paths.without(sc, [it * sc.parts[2] for it in here], t - 1, paths.looked(sc, before, t - 1, position))
+    return found(sc, left, t, to)
 
 
-def factors(sc, cell):
-    """How often a look at a cell misses, by where the target is."""
-    return [sc.looks[it] if it == cell else sc.parts[2] for it in range(len(sc.names))]
+def factors(sc, t, position):
+    """How often a look from a position misses in period t, by where the target is."""
+    look = sc.look(t, position)
+    return [look.get(it, sc.parts[2]) for it in range(len(sc.names))]
 
 
 def gains(sc, path):
-    """What one more look finds that all looks of a path missed, by period and cell."""
-    g = sc.parts[2]
+    """What one more look finds that all looks of a path missed, by period and position."""
     count = len(sc.names)
     before = [sc.first]
-    for cell in path[:-1]:
-        before.append(spread(sc, [mass * it for mass, it in zip(before[-1], factors(sc, cell))]))
+    for t, position in enumerate(path[:-1], 1):
+        before.append(spread(sc, [mass * it for mass, it in zip(before[-1], factors(sc, t, position))], t))
     behind = [[1] * count]
-    for cell in reversed(path[1:]):
-        missed = [mass * it for mass, it in zip(behind[0], factors(sc, cell))]
-        behind.insert(0, [sum(part * missed[to] for to, part in sc.drift[it].items()) for it in range(count)])
-    found = []
-    for cell, mass, rest in zip(path, before, behind):
-        miss = factors(sc, cell)
-        found.append([(g - sc.looks[it]) * mass[it] * miss[it] * rest[it] for it in range(count)])
-    return found
+    for t in range(len(path) - 1, 0, -1):
+        missed = [mass * it for mass, it in zip(behind[0], factors(sc, t + 1, path[t]))]
+        behind.insert(0, [sum(part * missed[to] for to, part in sc.row(t, it).items()) for it in range(count)])
+    gained = []
+    for t, (position, mass, rest) in enumerate(zip(path, before, behind), 1):
+        left = [here * miss * later for here, miss, later in zip(mass, factors(sc, t, position), rest)]
+        gained.append([found(sc, left, t, it) for it in range(len(sc.positions))])
+    return gained
 
 
 def tangent(sc, prefix, path):
     """The tangent bound at a path: its value, and what a change of its looks behind the prefix brings at most."""
     rewards = gains(sc, path)[len(prefix) :]
-    own = sum(reward[cell] for reward, cell in zip(rewards, path[len(prefix) :]))
+    own = sum(reward[it] for reward, it in zip(rewards, path[len(prefix) :]))
     best = greatest(sc, prefix[-1] if prefix else sc.start, rewards)
     return sc.parts[2] * paths.value(sc, path) + best - own
 
 
 def has_one_rate(sc):
     """Whether all looks that can find miss alike."""
-    return len(set(sc.looks.values()) - {sc.parts[2]}) <= 1
+    looks = [sc.look(t, it) for t in range(1, sc.horizon + 1) for it in range(len(sc.positions))]
+    return len({part for look in looks for part in look.values()} - {sc.parts[2]}) <= 1
 
 
 def is_cut(bound, value, prefix, path):
