@@ -125,6 +125,19 @@ def texts_of_examples():
     return texts, wrong
 
 
+def texts_of_limits():
+    """As many cells and positions as there may be. One position covers nothing, two cover all cells, and miss half of what is
+    there; the least of these two is written."""
+    cells, positions = [f"c{it}" for it in range(200)], [f"p{it}" for it in range(200)]
+    everywhere = "".join(f" {it} 1" for it in cells)
+    lines = ["scenario 2", "horizon 1", "parts 200 1 2", *(f"cell {it}" for it in cells), *(f"position {it}" for it in positions)]
+    lines += ["start p0", f"first{everywhere}", "moves p0 p2 p1 p0", *(f"moves {it} {it}" for it in positions[1:])]
+    lines += [f"drift {it} {it} 1" for it in cells]
+    lines += ["look p0", f"look p1{everywhere}", f"look p2{everywhere}", *(f"look {it}" for it in positions[3:]), "end"]
+    plan = "plan 2\npath p1\nchance 200 400\nnodes 4\nB\nW 0\nW 200\nW 200\nend\n"
+    return [Text("200 cells, and 200 positions to look from", PLAN, "".join(f"{it}\n" for it in lines).encode(), 0, plan)]
+
+
 # A command of a document, from the top of the repository: `$ ./osp WORDS < FILE`, or `$ cat FILES | ./osp WORDS`,
 # perhaps with `| head -n N` behind it.
 COMMAND = re.compile(r"(?:cat (?P<files>[^|<>;]+) \| )?\./osp(?P<words>(?: [\w-]+)*)(?: < (?P<file>\S+))?(?: \| head -n (?P<lines>\d+))?")
