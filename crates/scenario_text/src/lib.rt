@@ -20,6 +20,7 @@ mod reading;
 mod rows;
 mod scenarios;
 mod shorthands;
+mod steady;
 mod stop;
 mod sweeps;
 mod taking;
@@ -29,7 +30,7 @@ mod tests;
 
 pub use kind::{TextFault, TextKind, text_kind_name};
 pub use laws::{
-    canonical_front_reads_back, canonical_text_reads_back, canonical_text_says,
+    canonical_front_reads_back, canonical_text_reads_back, canonical_version,
     every_text_spells_one, first_fault_decides, first_fault_decides_alone, front_ignores_rest,
     grid_in_rows, grid_reads_on, kinds_in_order, one_problem_a_text, rate_in_rows,
     silent_lines_add_nothing, spread_in_rows, worked_texts, worked_texts_of_version_2,
