@@ -169,7 +169,7 @@ module _ (s : State) (h : IsSound s) (ended : s.stage ≡ due.Ended) where
   prints_right two =
       let long = looks_long s h ended two in
       let rows = looks.rows_right (length s.names) s.look s.looks h.positions.covered (omega (arith, long, some_position s h ended)) (omega (arith, long, few_positions s h ended)) (some_cell s h ended) h.few (look_limits s h ended) in
-      IsSweep-with_changes (looks_over s.look (length s.names) (map looks.row_in_order s.looks)) rows (map looks.change_in_order s.look_rows) changes_right_here
+      IsSweep-with_changes (looks_over s.look (length s.names) (map looks.row_in_order s.looks)) refl rows (map looks.change_in_order s.look_rows) changes_right_here
 
   prints_said : s.version ≡ Two → AreLooksOf s prints
   unfolding prints cells
