@@ -27,6 +27,8 @@ mod taking;
 mod taking_line;
 #[cfg(test)]
 mod tests;
+#[cfg(test)]
+mod period_tests;
 
 pub use kind::{TextFault, TextKind, text_kind_name};
 pub use laws::{
