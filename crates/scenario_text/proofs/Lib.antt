@@ -32,6 +32,10 @@ pub mod SoundHeads
 pub mod SoundLines
 pub mod Soundness
 pub mod Places
+pub mod Periods
+pub mod RowsInOrder
+pub mod PeriodDrifts
+pub mod PeriodLooks
 pub mod Assembled
 pub mod FrontLines
 pub mod EndLines

@@ -59,8 +59,8 @@ pub fn worked_texts()
     ensures { WorkedTexts }
 {}
 
-/// Lines of version 2, behind that of the version, with what they say, and faults of each kind, worked by hand.
-pub fn worked_lines_of_version_2()
+/// Texts of version 2 with what they say, and faults of each kind, worked by hand.
+pub fn worked_texts_of_version_2()
     ensures { WorkedTwo }
 {}
 
