@@ -12,7 +12,10 @@ use Rattle.search_model.specs.Problem.{Problem, IsProblem}
 use Rattle.scenario_text.specs.declared.draft.TextVersion.{TextVersion}
 use Rattle.scenario_text.specs.declared.draft.TextVersion.TheVariants.{One, Two}
 use Rattle.scenario_text.specs.State.{State}
-use Rattle.scenario_text.specs.Canonical.{covered, is_same_row, is_as_first, is_steady, covers_itself, is_plain, plain_state, full_state, state_of_problem}
+use Rattle.scenario_text.specs.Canonical.{covered, is_same_row, is_as_first, is_steady, covers_itself, is_plain, plain_state, full_state, state_of_problem, canonical_text}
+use Rattle.scenario_text.specs.StateRows.{state_rows}
+use Rattle.scenario_text.specs.Printing.{plain_text, full_text}
+use Rattle.text_rows.specs.Rows.{text_of}
 use Rattle.scenario_text.specs.Laws.{IsPlain, CanonicalVersion}
 use Rattle.scenario_text.proofs.SameRows.{all_from, all_each, same_row, row_same, same_names, names_same, factors_same, covered_same, covers_itself-from, covers_itself-each}
 
@@ -24,6 +27,15 @@ state_plain p plain = rw plain refl
 pub state_full : (p : Problem) → is_plain p ≡ false → state_of_problem p ≡ full_state p
 unfolding state_of_problem
 state_full p full = rw full refl
+
+-- and the text
+pub text_plain : (p : Problem) → is_plain p ≡ true → canonical_text p ≡ plain_text p
+unfolding canonical_text
+text_plain p plain = ap (λ (s : State). text_of (state_rows s)) (state_plain p plain)
+
+pub text_full : (p : Problem) → is_plain p ≡ false → canonical_text p ≡ full_text p
+unfolding canonical_text
+text_full p full = ap (λ (s : State). text_of (state_rows s)) (state_full p full)
 
 -- rows that are steady, period by period
 pub steady_each : (row : ℕ → ℕ → List DriftPart) (owners last t c : ℕ) → is_steady row owners last ≡ true → 1 ≤ t → t ≤ last → c < owners → row t c ≡ row 1 c

@@ -1,5 +1,5 @@
 -- The lines of the canonical text, in the pieces in which they are printed.
-use Rattle.std.proofs.Common.{◌≡◌, ◌≢◌, ◌≤◌, ◌<◌, ◌-◌, ℕ, Bool, true, false, cond, List, [], ◌∷◌, ◌++◌, map, filter, length, Some, None, refl, sym, ap, ◌∙◌, append_assoc, arith}
+use Rattle.std.proofs.Common.{◌≡◌, ◌≢◌, ◌≤◌, ◌<◌, ◌-◌, ℕ, Bool, true, false, cond, List, [], ◌∷◌, ◌++◌, map, filter, length, Some, None, refl, sym, ap, ◌∙◌, append_assoc, arith, subst, All}
 use Rattle.std.specs.Prelude.{codes, ◌==◌, if◌then◌else◌, not, slice_index_or, unwrap_or}
 use Rattle.std.specs.Fmt.{decimal}
 use Rattle.std.specs.List.{flat_map, range_with_len}
@@ -33,6 +33,10 @@ pub factor_of-beyond : (sweep : LookParts) → IsSweep sweep → (t q c : ℕ) �
 unfolding factor_of
 factor_of-beyond sweep sound t q c past =
     factor_in-none sweep.denominator (look_row sweep t q) c (All-weaker (λ entry. entry.cell < cells_of sweep) (λ entry. entry.cell ≢ c) (λ entry lt same. omega (arith, past)) (look_row sweep t q) (sound.each t q).within)
+
+-- a look covers cells
+pub covered_cells : (p : Problem) → IsProblem p → (t q : ℕ) → All (λ entry. entry.cell < p.cells) (look_row p.sweep t q)
+covered_cells p h t q = subst (λ (n : ℕ). All (λ entry. entry.cell < n) (look_row p.sweep t q)) h.sweep_cells (h.sweep.each t q).within
 
 -- a line: its first field, the others, the line feed
 line_of-spaced : (f : List ℕ) (fs : List (List ℕ)) → line_of (f ∷ fs) ≡ f ++ (spaced fs ++ 10 ∷ [])

@@ -78,6 +78,9 @@ each_name xs ys long each = names_same xs ys (same_named xs ys long (λ c lt. (b
         let tail : xs ≡ ys = same_named xs ys (omega (arith, long)) (λ c lt. each (suc c) (omega (arith, lt))) in
         rw (head, tail) refl
 
+pub own_name : (xs ys : List (List ℕ)) (c : ℕ) → xs ≡ ys → bytes_eq (name_in xs c) (name_in ys c) ≡ true
+own_name xs ys c same = (bytes_eq-Decides (name_in xs c) (name_in ys c)).1 (ap (λ (names : List (List ℕ)). name_in names c) same)
+
 -- What a row of looks doesn't miss all of.
 
 abbrev pub kept : ℕ → List LookPart → List LookPart

@@ -149,6 +149,7 @@ fn have_cell_names(sc: &Scenario) -> bool
 
 /// Whether a text of version 1 can say a scenario: the positions are the cells with the same names, nothing depends on the
 /// period, and each look covers the cell of its position's number alone.
+#[tactic(auto, unfolding(crate::specs::Canonical::is_plain))]
 pub fn is_plain(sc: &Scenario) -> bool
     ensures value { result ≡ is_plain_lem sc.now }
     ensures sound { IsProblem sc.now }
