@@ -12,6 +12,7 @@ pub mod Determined
 pub mod FirstParts
 pub mod SameRows
 pub mod Plain
+pub mod LaterRows
 pub mod NamesApart
 pub mod PairTexts
 pub mod RowsRead
@@ -49,3 +50,6 @@ pub mod Ordered
 pub mod RowsBack
 pub mod HeadsBack
 pub mod OneScenario
+pub mod CanonicalState
+pub mod CanonicalSame
+pub mod Back

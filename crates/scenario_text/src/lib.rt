@@ -29,6 +29,8 @@ mod taking_line;
 mod tests;
 #[cfg(test)]
 mod period_tests;
+#[cfg(test)]
+mod printing_tests;
 
 pub use kind::{TextFault, TextKind, text_kind_name};
 pub use laws::{

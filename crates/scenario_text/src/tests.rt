@@ -49,7 +49,7 @@ pub fn have_faults(rt: &impl AllocGlobal, head: &str, rows: &[Row]) -> Result<bo
 }
 
 /// The canonical text of a scenario's text.
-fn canonical(rt: &impl AllocGlobal, head: &str, rest: &[u8]) -> Result<Vec<u8>, Fail> {
+pub fn canonical(rt: &impl AllocGlobal, head: &str, rest: &[u8]) -> Result<Vec<u8>, Fail> {
     let text = joined(rt.alloc(), head, rest)?;
     let sc = match read_scenario_alone(rt.alloc(), &text) {
         Ok(sc) => sc,
