@@ -5,6 +5,8 @@ mod course;
 mod json;
 mod laws;
 mod lines;
+#[cfg(test)]
+mod position_tests;
 mod report;
 #[cfg(test)]
 mod tests;

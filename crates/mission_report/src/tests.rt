@@ -5,13 +5,13 @@ use std::test::Fail;
 use worked_scenarios::{four_cells, two_cells};
 
 #[derive(Clone, Copy)]
-enum Form {
+pub(crate) enum Form {
     Text,
     Json,
 }
 
 // The report of a path.
-fn report_of(alloc: Global, sc: &Scenario, cells: &[u8], form: Form) -> Result<Vec<u8>, Fail> {
+pub(crate) fn report_of(alloc: Global, sc: &Scenario, cells: &[u8], form: Form) -> Result<Vec<u8>, Fail> {
     let path = Path::of(cells).ok_or("no path")?;
     if path.len() != sc.horizon() as usize || !sc.is_legal(&path) {
         return Err(Fail::from("no path of the scenario"));

@@ -20,6 +20,8 @@ mod places;
 mod placing;
 mod plan_item;
 mod plan_line;
+#[cfg(test)]
+mod position_tests;
 mod printing;
 mod reading;
 mod record_lines;

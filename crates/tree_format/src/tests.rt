@@ -108,7 +108,7 @@ const WITH_EDGE: &[u8] =
     b"plan 2\npath c c c\nchance 7 8\nnodes 8\nB\nM 4\nE 6\nB\nM 6\nB\nW 6\nW 7\nend\n";
 
 // Whether a text is a plan's, and the plan prints back to the same bytes behind what stood there.
-fn prints_back(alloc: Global, sc: &Scenario, text: &[u8]) -> Result<bool, Fail> {
+pub(crate) fn prints_back(alloc: Global, sc: &Scenario, text: &[u8]) -> Result<bool, Fail> {
     let mut out = Vec::from_slice(alloc, b"!")?;
     match read_plan(alloc, sc, text) {
         Ok(plan) => {
@@ -128,7 +128,7 @@ fn prints_back(alloc: Global, sc: &Scenario, text: &[u8]) -> Result<bool, Fail> 
 }
 
 // The same of version 2.
-fn prints_back_2(alloc: Global, sc: &Scenario, text: &[u8]) -> Result<bool, Fail> {
+pub(crate) fn prints_back_2(alloc: Global, sc: &Scenario, text: &[u8]) -> Result<bool, Fail> {
     let mut out = Vec::from_slice(alloc, b"!")?;
     match read_plan(alloc, sc, text) {
         Ok(plan) => {
