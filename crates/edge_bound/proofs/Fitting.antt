@@ -18,7 +18,10 @@ use Rattle.list_laws.proofs.Sums.{sum_by-range-part}
 use Rattle.search_model.proofs.Greatest.{greatest_below}
 use Rattle.belief_update.specs.Masses.{mass_of, masses_of, looks_to}
 use Rattle.belief_update.proofs.Missed.{missed_by_masses_hold}
+use Rattle.edge_bound.specs.Found.{found_of}
+use Rattle.edge_bound.specs.Onward.{mass_after_look, going_on}
 use Rattle.edge_bound.specs.Moves.{greatest_moves}
+use Rattle.edge_bound.proofs.Discounts.{reward_is, edge_reward_is, mass_comes, taken_of_mass}
 use Rattle.edge_bound.proofs.Walking.{greatest_moves-zero}
 
 -- what bounds each sum of a walk bounds the greatest
@@ -43,11 +46,37 @@ module _ (p : Problem) (sound : IsProblem p) (q : List ℕ) where
       let parts : all * drifts * g ^ (p.horizon - length q) ≡ all * g * (drifts * g ^ n) = rw more (omega arith) in
       omega (arith, own, scaled, missed, whole, parts)
 
+  -- and so is what comes to a cell of one other
+  pub going_on-within : (t d c : ℕ) → length q + 2 ≤ t → t ≤ p.horizon → d < p.cells → c < p.cells → going_on p q t d c ≤ whole_weight p
+  going_on-within t d c later last to from =
+      let one = sum_by-range-part p.cells (going_on p q t d) c from in
+      let some = le-times (mass_of p (looks_to t q) d) p.sweep.denominator sound.sweep.denominator.0 in
+      omega (arith, one, some, mass_comes p q t later d, mass-within t d (omega (arith, later)) last to)
+
+  -- and what comes to a cell of what a look finds
+  pub taken-within : (t a d : ℕ) → length q + 2 ≤ t → t ≤ p.horizon → d < p.cells → found_of p (t - 1) a (going_on p q t d) ≤ whole_weight p
+  taken-within t a d later last to = omega (arith, taken_of_mass p q t later sound a d, mass-within t d (omega (arith, later)) last to)
+
   -- no edge reward is above the whole weight
   pub edge_reward-within : (t a b : ℕ) → 2 ≤ p.horizon - length q → edge_reward_of p q t a b ≤ whole_weight p
   edge_reward-within t a b some = omega (arith, edge_reward-le p sound q t a b some, reward-within p sound q t b (omega (arith, some)))
 
-  -- nor is a sum of them above so many times the whole weight
+  -- nor is what a look finds after one in the period before
+  pub found_after-within : (t a b : ℕ) → length q + 2 ≤ t → t ≤ p.horizon → found_of p t b (mass_after_look p q t a) ≤ whole_weight p
+  found_after-within t a b later last =
+      let parts = some_parts p sound (p.horizon - t) (p.horizon - (length q + 2)) in
+      let times = le-times (found_of p t b (mass_after_look p q t a)) (p.drift.denominator ^ (p.horizon - t) * p.sweep.denominator ^ (p.horizon - (length q + 2))) parts in
+      omega (arith, times, edge_reward_is p sound q t a b later last, edge_reward-within t a b (omega (arith, later, last)))
+
+  -- nor what the first look after the prefix finds
+  pub found_first-within : (b : ℕ) → length q < p.horizon → found_of p (length q + 1) b (mass_of p (looks_to (length q + 1) q)) ≤ whole_weight p
+  found_first-within b short =
+      let t = length q + 1 in
+      let parts = some_parts p sound (p.horizon - t) (p.horizon - t) in
+      let times = le-times (found_of p t b (mass_of p (looks_to t q))) (p.drift.denominator ^ (p.horizon - t) * p.sweep.denominator ^ (p.horizon - t)) parts in
+      omega (arith, times, reward_is p sound q t b (omega arith) (omega (arith, short)), reward-within p sound q t b short)
+
+  -- nor is a sum of edge rewards above so many times the whole weight
   sum_moves-within : 2 ≤ p.horizon - length q → (t a : ℕ) (y : List ℕ) → sum_moves (edge_reward_of p q) t a y ≤ length y * whole_weight p
   unfolding sum_moves
   sum_moves-within some t a [] = omega arith

@@ -1,3 +1,4 @@
+pub mod Found
 pub mod Onward
 pub mod Moves
 pub mod Edges

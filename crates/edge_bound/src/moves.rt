@@ -1,54 +1,90 @@
 //! What looks find of the masses after a prefix, with and without a look just before.
 
-ghost use Rattle.std.specs.Prelude.{◌≡◌, ◌<◌, ◌≤◌, ◌+◌, ◌-◌, ◌*◌, ◌^◌, length};
-ghost use Rattle.sweep_table.specs.LookParts.{factor_of};
+ghost use Rattle.std.specs.Prelude.{◌≡◌, ◌<◌, ◌≤◌, ◌+◌, ◌-◌, ◌*◌, ◌^◌, length, All};
+ghost use Rattle.sweep_table.specs.LookParts.{look_row};
 ghost use Rattle.search_model.specs.Bounds.{reward_of};
 ghost use Rattle.search_model.specs.Edge.{edge_reward_of};
-ghost use Rattle.longest_walk.specs.Sums.{entry_at};
-ghost use Rattle.edge_bound.specs.Onward.{IsTableFor, mass_after_look};
+ghost use Rattle.belief_update.specs.Masses.{mass_of, looks_to};
+ghost use Rattle.edge_bound.specs.Onward.{IsTableFor, going_on, mass_after_look};
+ghost use Rattle.edge_bound.specs.Found.{found_of};
 ghost use Rattle.edge_bound.specs.Moves.{IsLater};
 
 use search_model::{Path, Scenario};
+use sweep_table::Look;
 
-/// The mass of a cell in period `t`.
-fn mass_at(sc: &Scenario, masses: &[u128], t: u32, a: u8) -> u128
-    requires size { length masses.now ≡ sc.now.horizon * sc.now.cells }
-    requires first { 1 ≤ t }
+/// The mass of cell `c` in period `t`, with no look after the prefix.
+fn mass_at(sc: &Scenario, prefix: &Path, masses: &[u128], t: u32, c: u8) -> u128
+    requires later { length prefix.now < t }
     requires last { t ≤ sc.now.horizon }
-    requires cell { a < sc.now.cells }
-    ensures { result ≡ entry_at sc.now.cells masses.now t a }
+    requires cell { c < sc.now.cells }
+    requires masses { IsTableFor sc.now prefix.now masses.now }
+    ensures { result ≡ mass_of sc.now (looks_to t prefix.now) c }
 {
-    masses[(t as usize - 1) * usize::from(sc.cells()) + usize::from(a)]
+    masses[(t as usize - 1) * usize::from(sc.cells()) + usize::from(c)]
 }
 
-/// What a look in period `t` finds of a target in its own cell, out of the denominator.
-fn found_part(sc: &Scenario, t: u32, a: u8) -> u128
+/// The cells that a look from position `a` in period `t` covers, with the parts that it misses.
+fn look_from(sc: &Scenario, t: u32, a: u8) -> Look<'_>
     requires first { 1 ≤ t }
     requires last { t ≤ sc.now.horizon }
     requires position { a < sc.now.positions }
-    ensures { result ≡ sc.now.sweep.denominator - factor_of sc.now.sweep t a a }
+    ensures row { result ≡ look_row sc.now.sweep t a }
+    ensures cells { All (λ entry. entry.cell < sc.now.cells) result }
+    ensures parts { All (λ entry. entry.part ≤ sc.now.sweep.denominator) result }
 {
     let _sound = sc.cells();
-    u128::from(sc.sweep().denominator() - sc.sweep().factor(t, a, a))
+    sc.sweep().look(t, a)
 }
 
-/// The mass of cell `b` in period `t` after a look from position `a` in the period before: the mass without that look,
-/// less what comes to it of what the look found.
-fn left(sc: &Scenario, prefix: &Path, masses: &[u128], t: u32, a: u8, b: u8) -> u128
+/// What comes to cell `d` in period `t` of the mass of cell `c` in the period before.
+fn mass_going_on(sc: &Scenario, prefix: &Path, masses: &[u128], t: u32, c: u8, d: u8) -> u128
+    requires period { IsLater sc.now prefix.now t }
+    requires from { c < sc.now.cells }
+    requires to { d < sc.now.cells }
+    requires masses { IsTableFor sc.now prefix.now masses.now }
+    ensures { result ≡ going_on sc.now prefix.now t d c }
+{
+    let _sound = sc.cells();
+    mass_at(sc, prefix, masses, t - 1, c) * u128::from(sc.drift().part(t - 1, c, d))
+}
+
+/// What comes to cell `d` in period `t` of what a look from position `a` in the period before finds, in all cells that it
+/// covers.
+fn taken(sc: &Scenario, prefix: &Path, masses: &[u128], t: u32, a: u8, d: u8) -> u128
     requires period { IsLater sc.now prefix.now t }
     requires from { a < sc.now.positions }
-    requires to { b < sc.now.positions }
+    requires to { d < sc.now.cells }
     requires masses { IsTableFor sc.now prefix.now masses.now }
-    ensures { result ≡ mass_after_look sc.now prefix.now t a b }
+    requires fits { found_of sc.now (t - 1) a (going_on sc.now prefix.now t d) < 2 ^ 127 }
+    ensures { result ≡ found_of sc.now (t - 1) a (going_on sc.now prefix.now t d) }
 {
     let _sound = sc.cells();
-    let found = mass_at(sc, masses, t - 1, a) * found_part(sc, t - 1, a);
-    let taken = found * u128::from(sc.drift().part(t - 1, a, b));
-    mass_at(sc, masses, t, b) * u128::from(sc.sweep().denominator()) - taken
+    let whole = sc.sweep().denominator();
+    let look = look_from(sc, t - 1, a);
+    let mut sum = 0;
+    for entry in look.parts() {
+        let mass = mass_going_on(sc, prefix, masses, t, entry.cell, d);
+        sum += mass * u128::from(whole - entry.part);
+    }
+    sum
 }
 
-/// What a look at `b` in period `t` finds after a look at `a` in the period before; times the parts of what is to come
-/// it is the edge reward.
+/// The mass of cell `d` in period `t` after a look from position `a` in the period before: the mass without that look,
+/// less what comes to it of what the look found.
+fn left(sc: &Scenario, prefix: &Path, masses: &[u128], t: u32, a: u8, d: u8) -> u128
+    requires period { IsLater sc.now prefix.now t }
+    requires from { a < sc.now.positions }
+    requires to { d < sc.now.cells }
+    requires masses { IsTableFor sc.now prefix.now masses.now }
+    ensures { result ≡ mass_after_look sc.now prefix.now t a d }
+{
+    let _sound = sc.cells();
+    let found = taken(sc, prefix, masses, t, a, d);
+    mass_at(sc, prefix, masses, t, d) * u128::from(sc.sweep().denominator()) - found
+}
+
+/// What a look from `b` in period `t` finds after a look from `a` in the period before, in all cells that it covers; times
+/// the parts of what is to come it is the edge reward.
 pub(crate) fn found_after(
     sc: &Scenario,
     prefix: &Path,
@@ -65,10 +101,18 @@ pub(crate) fn found_after(
         ≡ edge_reward_of sc.now prefix.now t a b }
 {
     let _sound = sc.cells();
-    left(sc, prefix, masses, t, a, b) * found_part(sc, t, b)
+    let whole = sc.sweep().denominator();
+    let look = look_from(sc, t, b);
+    let mut sum = 0;
+    for entry in look.parts() {
+        let mass = left(sc, prefix, masses, t, a, entry.cell);
+        sum += mass * u128::from(whole - entry.part);
+    }
+    sum
 }
 
-/// What the first look after a prefix finds at `b`; times the parts of what is to come it is the reward.
+/// What the first look after a prefix finds from `b`, in all cells that it covers; times the parts of what is to come it
+/// is the reward.
 pub(crate) fn found_first(sc: &Scenario, prefix: &Path, masses: &[u128], b: u8) -> u128
     requires short { length prefix.now < sc.now.horizon }
     requires to { b < sc.now.positions }
@@ -79,5 +123,12 @@ pub(crate) fn found_first(sc: &Scenario, prefix: &Path, masses: &[u128], b: u8) 
 {
     let _sound = sc.cells();
     let t = prefix.len() as u32 + 1;
-    mass_at(sc, masses, t, b) * found_part(sc, t, b)
+    let whole = sc.sweep().denominator();
+    let look = look_from(sc, t, b);
+    let mut sum = 0;
+    for entry in look.parts() {
+        let mass = mass_at(sc, prefix, masses, t, entry.cell);
+        sum += mass * u128::from(whole - entry.part);
+    }
+    sum
 }

@@ -7,15 +7,14 @@ use Rattle.mean_bound.specs.Means.{MeanState, IsMadeFor as IsMeanFor}
 use Rattle.tangent_bound.specs.Room.{TangentRoom, IsMadeFor as IsTangentFor}
 use Rattle.edge_bound.specs.Edges.{EdgeState, IsMadeFor as IsEdgeFor}
 
--- the beliefs along the prefix that was closed last, the tables of the bounds, and whether the looks have one rate
+-- the beliefs along the prefix that was closed last, and the tables of the bounds
 pub record NodeTables : Type 0 where
   pub trail : TrailState
   pub mean : MeanState
   pub tangent : TangentRoom
   pub edge : EdgeState
-  pub has_rate : Bool
 
--- whether the problem has one rate
+-- whether a problem has one rate
 abbrev pub TellsRate : Problem → Bool → Type 0
 TellsRate p true = (rate : ℕ) × IsRate p rate
 TellsRate p false = (rate : ℕ) → ¬ IsRate p rate
@@ -26,4 +25,3 @@ pub record IsMadeFor (p : Problem) (s : NodeTables) : Type 0 where
   pub mean : IsMeanFor p s.mean
   pub tangent : IsTangentFor p s.tangent
   pub edge : IsEdgeFor p s.edge
-  pub rate : TellsRate p s.has_rate

@@ -8,6 +8,7 @@ ghost use Rattle.belief_update.specs.Trails.{IsPast, IsTrailOf};
 ghost use Rattle.bound_tree.specs.Close.{IsClosed, IsExact, IsLeftOpen};
 ghost use Rattle.bound_tree.specs.Cut.{is_cut};
 ghost use Rattle.mean_bound.specs.Means.{IsMadeFor as IsMeanFor, IsFilledFor};
+ghost use Rattle.tangent_bound.specs.Room.{IsMadeFor as IsTangentFor};
 ghost use Rattle.path_node.specs.Room.{IsMadeFor, TellsRate};
 
 use belief_update::{Belief, Trail, value_by};
@@ -28,7 +29,6 @@ pub struct Scratch {
     mean: Mean,
     tangent: Tangent,
     edge: Edge,
-    has_rate: bool,
 }
 
 impl Model for Scratch {
@@ -36,14 +36,16 @@ impl Model for Scratch {
 
     ghost Value = { NodeTables };
 
-    ghost view = { λ s. record { trail = s.trail; mean = s.mean; tangent = s.tangent; edge = s.edge; has_rate = s.has_rate } };
+    ghost view = { λ s. record { trail = s.trail; mean = s.mean; tangent = s.tangent; edge = s.edge } };
 }
 
-/// Whether the looks of a scenario have one rate.
-fn has_rate(sc: &Scenario) -> bool
+/// Whether the looks of a scenario have one rate, which the tables of its tangent bound keep.
+fn has_rate(tangent: &Tangent, sc: &Scenario) -> bool
+    requires { IsTangentFor sc.now tangent.now }
     ensures { TellsRate sc.now result }
 {
-    sc.sweep().one_rate(sc.horizon()).is_some()
+    let _of = sc;
+    tangent.rate().is_some()
 }
 
 impl Scratch {
@@ -56,7 +58,6 @@ impl Scratch {
             mean: Mean::tables(alloc, sc)?,
             tangent: Tangent::tables(alloc, sc)?,
             edge: Edge::tables(alloc, sc)?,
-            has_rate: has_rate(sc),
         })
     }
 }
@@ -163,7 +164,7 @@ fn close_shorter(scratch: &mut Scratch, sc: &Scenario, prefix: &Path, standing: 
         return Kind::Mean(mean);
     }
     let reference = reference_of(&scratch.mean, sc, prefix);
-    if scratch.has_rate {
+    if has_rate(&scratch.tangent, sc) {
         close_by_tangent(scratch, sc, prefix, &reference, standing)
     } else {
         close_by_edge(scratch, sc, prefix, &reference, standing)

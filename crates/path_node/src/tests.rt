@@ -2,10 +2,13 @@ ghost use Rattle.path_node.specs.Room.{IsMadeFor};
 
 use super::*;
 use bound_tree::Kind;
+use drift_chain::{Drift, DriftPart};
 use exact_parts::NoMemory;
-use search_model::{Path, Scenario, Standing, value};
+use search_grid::Grid;
+use search_model::{Name, Parts, Path, Scenario, Standing, value};
 use std::alloc::Global;
 use std::test::Fail;
+use sweep_table::{LookPart, Sweep};
 
 // Holds of what may be shared between threads and moved to one.
 fn crosses_threads<T: Send + Sync + Drop>(_value: T) {}
@@ -51,21 +54,25 @@ fn closed(sc: &Scenario, scratch: &mut Scratch, prefix: &[u8], best: &[u8]) -> O
     }
 }
 
-// Whether the records of some prefixes tell this under the path that waits with the target, which finds 7 of 8.
+// Whether the records of some prefixes tell this under the standing of a path.
 fn are_closed(
     alloc: Global,
     sc: &Scenario,
+    best: &[u8],
     rows: &[(&[u8], char, u128, &[u8])],
 ) -> Result<bool, NoMemory> {
     let mut scratch = Scratch::tables(alloc, sc)?;
     for (prefix, letter, number, reference) in rows {
-        match closed(sc, &mut scratch, prefix, &[2, 2, 2]) {
+        match closed(sc, &mut scratch, prefix, best) {
             Some((is, n, x)) if is == *letter && n == *number && x.cells() == *reference => {}
             _ => return Ok(false),
         }
     }
     Ok(true)
 }
+
+// The path that waits with the target, which finds 7 of 8.
+const WAITS: &[u8] = &[2, 2, 2];
 
 #[test]
 fn prefixes_are_closed_by_each_kind(rt: HostRuntime) -> Result<(), Fail> {
@@ -77,7 +84,7 @@ fn prefixes_are_closed_by_each_kind(rt: HostRuntime) -> Result<(), Fail> {
         (&[2], 'B', 0, &[]),
         (&[2, 2, 1], 'W', 6, &[]),
     ];
-    assert!(rt; are_closed(rt.alloc(), &sc, &rows)?);
+    assert!(rt; are_closed(rt.alloc(), &sc, WAITS, &rows)?);
     Ok(())
 }
 
@@ -89,7 +96,38 @@ fn looks_of_two_rates_have_no_tangent(rt: HostRuntime) -> Result<(), Fail> {
         (&[1], 'E', 6, &[]),
         (&[2], 'B', 0, &[]),
     ];
-    assert!(rt; are_closed(rt.alloc(), &sc, &rows)?);
+    assert!(rt; are_closed(rt.alloc(), &sc, WAITS, &rows)?);
     crosses_threads(Scratch::tables(rt.alloc(), &sc)?);
+    Ok(())
+}
+
+// One cell, and two positions: from the base a look covers nothing, from the air it covers the cell, and misses 1 of 2.
+fn base_and_air(alloc: Global) -> Result<Scenario, Fail> {
+    let cell = Name::new(b"a").ok_or("no name")?;
+    let base = Name::new(b"base").ok_or("no name")?;
+    let air = Name::new(b"air").ok_or("no name")?;
+    let moves = vec![in alloc; vec![in alloc; 0, 1]?, vec![in alloc; 1]?]?;
+    let drifts = vec![in alloc; vec![in alloc; DriftPart { cell: 0, part: 1 }]?]?;
+    let looks = vec![in alloc; Vec::new(alloc), vec![in alloc; LookPart { cell: 0, part: 1 }]?]?;
+    Ok(Scenario::new(Parts {
+        names: vec![in alloc; cell]?,
+        positions: vec![in alloc; base, air]?,
+        horizon: 1,
+        start: 0,
+        total: 1,
+        first: vec![in alloc; 1]?,
+        grid: Grid::new(moves)?,
+        drift: Drift::new(1, drifts)?,
+        sweep: Sweep::footprints(2, 1, looks)?,
+    })?)
+}
+
+// The look from the air finds 1 of 2, which is the whole of each bound of the empty prefix.
+#[test]
+fn more_positions_than_cells_are_closed(rt: HostRuntime) -> Result<(), Fail> {
+    let sc = base_and_air(rt.alloc())?;
+    let rows: [(&[u8], char, u128, &[u8]); 3] =
+        [(&[], 'B', 0, &[]), (&[0], 'W', 0, &[]), (&[1], 'W', 1, &[])];
+    assert!(rt; are_closed(rt.alloc(), &sc, &[1], &rows)?);
     Ok(())
 }

@@ -1,12 +1,14 @@
 -- The rate that is found among a problem's look factors is their one rate.
-use Rattle.std.proofs.Common.{◌≡◌, ◌⊎◌, ◌≤◌, ◌<◌, ◌-◌, ℕ, Bool, true, false, cond, ◌&&◌, ◌||◌, ◌==◌, nat_le, leb-true, le-leb, eqb-true, eq-eqb, List, [], ◌∷◌, map, Option, Some, None, IfSome, IfNone, inl, inr, sym, refl, ap, ◌∙◌, subst, arith, Contains}
+use Rattle.std.proofs.Common.{◌≡◌, ◌⊎◌, ◌≤◌, ◌<◌, ◌-◌, ℕ, Bool, true, false, cond, ◌&&◌, ◌||◌, ◌==◌, nat_le, leb-true, le-leb, eqb-true, eq-eqb, List, [], ◌∷◌, map, Option, Some, None, inl, inr, sym, refl, ap, ◌∙◌, subst, arith, Contains}
 use Rattle.std.specs.List.{find, list_all, range_with_len, flat_map}
+use Rattle.std.proofs.lemmas.Option.{none-some}
 use Rattle.std.proofs.lemmas.Bool.{and_parts, and_from, or_cases, or_left, or_right, true≢false}
-use Rattle.sweep_table.specs.LookParts.{factor_of, IsOneRate}
-use Rattle.search_model.specs.Problem.{Problem, IsProblem}
+use Rattle.sweep_table.specs.LookParts.{factor_of}
+use Rattle.search_model.specs.Problem.{Problem}
 use Rattle.search_model.specs.Bounds.{IsRate}
 use Rattle.list_laws.proofs.Members.{Contains-head, Contains-tail, Contains-nil, Contains-cons_cases, Contains-map, Contains-map_cases, Contains-flat_map, Contains-flat_map_cases, list_all-contains}
-use Rattle.search_model.proofs.Rates.{one_rate_is_rate, one_rate}
+use Rattle.search_model.proofs.Rates.{one_rate}
+use Rattle.tangent_bound.specs.Room.{IsRateFound}
 use Rattle.tree_checker.specs.Rate.{factors_of, is_rate_of, one_rate_of}
 use Rattle.tree_checker.specs.Laws.{FindsOneRate}
 use Rattle.list_laws.proofs.Ranges.{Contains-range, Contains-range_cases}
@@ -132,11 +134,11 @@ module _ (p : Problem) where
 pub finds_one_rate : FindsOneRate
 finds_one_rate p rate = (found_rate p rate, finds_rate p rate)
 
-none_or_some : (p : Problem) (o : Option ℕ) → o ≡ one_rate_of p → ((rate : ℕ) → IsOneRate p.sweep p.horizon rate → ⊥) → IsProblem p → one_rate_of p ≡ None
-none_or_some p None is none sound = sym is
-none_or_some p (Some rate) is none sound = absurd (none rate ((one_rate_is_rate p rate sound).1 ((finds_one_rate p rate).0 (sym is))))
+none_or_some : (p : Problem) (o : Option ℕ) → o ≡ one_rate_of p → ((rate : ℕ) → IsRate p rate → ⊥) → None ≡ o
+none_or_some p None is none = refl
+none_or_some p (Some rate) is none = absurd (none rate ((finds_one_rate p rate).0 (sym is)))
 
--- the sweep's one rate is the one that is found
-pub sweep_rate_is_found : (p : Problem) (r : Option ℕ) → IsProblem p → IfSome r (IsOneRate p.sweep p.horizon) → IfNone r ((rate : ℕ) → IsOneRate p.sweep p.horizon rate → ⊥) → r ≡ one_rate_of p
-sweep_rate_is_found p (Some rate) sound some none = sym ((finds_one_rate p rate).1 ((one_rate_is_rate p rate sound).0 some))
-sweep_rate_is_found p None sound some none = sym (none_or_some p (one_rate_of p) refl none sound)
+-- the rate that the tables of the tangent bound keep is the one that is found
+pub kept_rate_is_found : (p : Problem) (kept : Option ℕ) → IsRateFound p kept → kept ≡ one_rate_of p
+kept_rate_is_found p (Some rate) told = sym ((finds_one_rate p rate).1 ((told rate).0 refl))
+kept_rate_is_found p None told = none_or_some p (one_rate_of p) refl (λ rate is. none-some rate ((told rate).1 is))

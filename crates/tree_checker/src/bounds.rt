@@ -71,13 +71,6 @@ pub(crate) fn edge_reason(
     }
 }
 
-/// The rate of all looks, where they have one.
-fn one_rate(sc: &Scenario) -> Option<u32>
-    ensures { result ≡ one_rate_of sc.now }
-{
-    sc.sweep().one_rate(sc.horizon())
-}
-
 /// A path with its value, that in parts of the looks' denominator for each.
 fn finer(sc: &Scenario, standing: &Standing) -> Standing
     requires exact { IsExact sc.now standing.now }
@@ -103,7 +96,7 @@ fn tangent_reason_at(
     ensures reason { result ≡ first_failed (tangent_tests sc.now standing.now prefix.now bound reference.now (one_rate_of sc.now)) }
     ensures made { AreMadeFor sc.now tables.new }
 {
-    let Some(rate) = one_rate(sc) else {
+    let Some(rate) = tables.one_rate(sc) else {
         return Some(Why::NoOneRate);
     };
     if !is_path_from(sc, prefix, reference) {

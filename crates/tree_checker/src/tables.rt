@@ -5,6 +5,7 @@ ghost use Rattle.search_model.specs.Legal.{IsLegal, IsPath};
 ghost use Rattle.search_model.specs.Tracks.{value_of};
 ghost use Rattle.search_model.specs.Bounds.{mean_of, IsRate, tangent_of};
 ghost use Rattle.search_model.specs.Edge.{edge_of};
+ghost use Rattle.tree_checker.specs.Rate.{one_rate_of};
 ghost use Rattle.tree_checker.specs.Tables.{AreMadeFor};
 
 use belief_update::{Trail, value_by};
@@ -60,6 +61,15 @@ impl BoundTables {
         self.trail.go_to(sc, prefix);
         let ahead = self.trail.ahead(prefix.len());
         self.mean.bound_after(sc, ahead, prefix)
+    }
+
+    /// The rate of all looks, where they have one. It was found when the tables were made.
+    pub(crate) fn one_rate(&self, sc: &Scenario) -> Option<u32>
+        requires { AreMadeFor sc.now self.now }
+        ensures { result ≡ one_rate_of sc.now }
+    {
+        let _of = sc;
+        self.tangent.rate()
     }
 
     /// The tangent bound of a legal prefix that is shorter than the horizon, at a path that begins with it, where the

@@ -6,7 +6,7 @@ use search_grid::Grid;
 use search_model::{Name, Parts, Path, Scenario, Standing};
 use std::alloc::Global;
 use std::test::Fail;
-use sweep_table::Sweep;
+use sweep_table::{LookPart, Sweep};
 
 // The worked scenarios, with no clauses: these would put each problem whole into every goal of a test over it.
 fn one_cell(alloc: Global) -> Result<Scenario, NoMemory> {
@@ -435,6 +435,60 @@ fn plans_with_edge_bounds(rt: HostRuntime) -> Result<(), Fail> {
         said_of_one(alloc, &sc, Kind::Edge(8))?,
         rejected(5, Why::NotCut)
     );
+    Ok(())
+}
+
+// One cell, and two positions: from the base a look covers nothing, from the air it covers the cell, and misses 1 of 2.
+fn base_and_air(alloc: Global) -> Result<Scenario, Fail> {
+    let cell = Name::new(b"a").ok_or("no name")?;
+    let base = Name::new(b"base").ok_or("no name")?;
+    let air = Name::new(b"air").ok_or("no name")?;
+    let moves = vec![in alloc; vec![in alloc; 0, 1]?, vec![in alloc; 1]?]?;
+    let drifts = vec![in alloc; vec![in alloc; DriftPart { cell: 0, part: 1 }]?]?;
+    let looks = vec![in alloc; Vec::new(alloc), vec![in alloc; LookPart { cell: 0, part: 1 }]?]?;
+    Ok(Scenario::new(Parts {
+        names: vec![in alloc; cell]?,
+        positions: vec![in alloc; base, air]?,
+        horizon: 1,
+        start: 0,
+        total: 1,
+        first: vec![in alloc; 1]?,
+        grid: Grid::new(moves)?,
+        drift: Drift::new(1, drifts)?,
+        sweep: Sweep::footprints(2, 1, looks)?,
+    })?)
+}
+
+#[test]
+fn plans_of_more_positions_than_cells(rt: HostRuntime) -> Result<(), Fail> {
+    let sc = base_and_air(rt.alloc())?;
+    let rows: [(&[u8], u128, &[(&[u8], Option<u128>)], Verdict); 4] = [
+        (
+            &[1],
+            1,
+            &[(&[], B), (&[0], Some(0)), (&[1], Some(1))],
+            Verdict::Accepted,
+        ),
+        // Position 0 covers no cell, and the cell of its number neither.
+        (
+            &[1],
+            1,
+            &[(&[], B), (&[0], Some(1)), (&[1], Some(1))],
+            rejected(6, Why::WholeWrong),
+        ),
+        // The path from the air finds more.
+        (
+            &[0],
+            0,
+            &[(&[], B), (&[0], Some(0)), (&[1], Some(1))],
+            rejected(7, Why::NotCut),
+        ),
+        // There is no third position.
+        (&[2], 1, &[(&[], B)], rejected(2, Why::PathIllegal)),
+    ];
+    for (path, value, records, verdict) in rows {
+        assert_eq!(rt; said(rt.alloc(), &sc, path, value, 2, records)?, verdict);
+    }
     Ok(())
 }
 

@@ -1,29 +1,37 @@
-use Rattle.std.proofs.Common.{◌≡◌, ◌+◌, ◌-◌, ◌*◌, ◌^◌, length, arith}
-use Rattle.exact_parts.proofs.Widths.{le-times}
-use Rattle.search_model.specs.Edge.{edge_reward_of}
-use Rattle.search_model.proofs.Totals.{whole_weight-fits, some_parts}
+use Rattle.std.proofs.Common.{◌≡◌, ◌+◌, ◌*◌, ◌≤◌, ◌∙◌, refl, arith, sum_by}
+use Rattle.std.proofs.lemmas.List.{take_all}
+use Rattle.std.proofs.lemmas.List.Sums.{sum_by_more_le}
+use Rattle.sweep_table.specs.LookParts.{look_row}
+use Rattle.search_model.specs.Tracks.{whole_weight}
+use Rattle.search_model.proofs.Totals.{whole_weight-fits}
+use Rattle.edge_bound.specs.Found.{found_in, found_of}
+use Rattle.edge_bound.specs.Onward.{mass_after_look}
 use Rattle.edge_bound.proofs.Discounts.{edge_reward_is}
-use Rattle.edge_bound.proofs.Fitting.{edge_reward-within}
+use Rattle.edge_bound.proofs.Fitting.{found_after-within}
 use Rattle.edge_bound.proofs.moves.found_after.Goals as goal
 
--- times the parts of what is to come it is the edge reward
-reward : (c : goal.After-found_part) → let p = c.args.sc.now in let q = c.args.prefix.now in
-    c.left.result * c.found_part.result * (p.drift.denominator ^ (p.horizon - c.args.t) * p.sweep.denominator ^ (p.horizon - (length q + 2))) ≡ edge_reward_of p q c.args.t c.args.a c.args.b
-reward c =
-    let p = c.args.sc.now in
-    let sound = c.cells-sound.ensures.sound in
-    let is = edge_reward_is p sound c.args.prefix.now c.args.t c.args.a c.args.b c.requires.period.later c.requires.period.last (omega (arith, c.requires.to, sound.positions)) in
-    rw (c.left.ensures, c.found_part.ensures) (omega (arith, is))
-
-pub overflow_mul-result : goal.overflow_mul-result
-overflow_mul-result c =
+-- what is found so far and in one cell more is within the whole weight
+within : (c : goal.After-from) → c.loop-entry.sum + c.left-mass.result * c.from.result ≤ whole_weight c.args.sc.now
+within c =
     let p = c.args.sc.now in
     let q = c.args.prefix.now in
-    let sound = c.cells-sound.ensures.sound in
-    let parts = some_parts p sound (p.horizon - c.args.t) (p.horizon - (length q + 2)) in
-    let within = le-times (c.left.result * c.found_part.result) (p.drift.denominator ^ (p.horizon - c.args.t) * p.sweep.denominator ^ (p.horizon - (length q + 2))) parts in
-    let most = edge_reward-within p sound q c.args.t c.args.a c.args.b (omega (arith, c.requires.period.later, c.requires.period.last)) in
-    omega (arith, within, reward c, most, whole_weight-fits p sound)
+    let row : c.parts-entry-items.result.now ≡ look_row p.sweep c.args.t c.args.b = c.parts-entry-items.ensures ∙ c.look_from-look.ensures.row in
+    let most = found_after-within p c.cells-sound.ensures.sound q c.args.t c.args.a c.args.b c.requires.period.later c.requires.period.last in
+    let more = sum_by_more_le (found_in p (mass_after_look p q c.args.t c.args.a)) c.parts-entry-items.result.now c.loop-entry.entry-index (record { cell = 0; part = 0 }) c.loop-entry-test.true in
+    let all = rw (← row) at most in
+    rw (c.loop-entry.invariant, c.left-mass.ensures, c.from.ensures, c.denominator-whole.ensures.value, c.sweep.ensures) (omega (arith, more, all))
+
+pub overflow_mul-sum : goal.overflow_mul-sum
+overflow_mul-sum c = omega (arith, within c, whole_weight-fits c.args.sc.now c.cells-sound.ensures.sound)
+
+pub overflow_add-sum : goal.overflow_add-sum
+overflow_add-sum c = omega (arith, within c, whole_weight-fits c.args.sc.now c.cells-sound.ensures.sound)
 
 pub returns : goal.returns
-returns c = reward c
+returns c =
+    let p = c.args.sc.now in
+    let q = c.args.prefix.now in
+    let mass = mass_after_look p q c.args.t c.args.a in
+    let row : c.parts-entry-items.result.now ≡ look_row p.sweep c.args.t c.args.b = c.parts-entry-items.ensures ∙ c.look_from-look.ensures.row in
+    let found : c.loop-entry.sum ≡ found_of p c.args.t c.args.b mass = c.loop-entry.invariant ∙ rw (take_all c.loop-entry.entry-index c.parts-entry-items.result.now c.loop-entry-test.false, row) refl in
+    rw (found, edge_reward_is p c.cells-sound.ensures.sound q c.args.t c.args.a c.args.b c.requires.period.later c.requires.period.last) refl

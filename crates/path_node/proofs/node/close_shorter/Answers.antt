@@ -8,7 +8,7 @@ pub close_by_edge-requires-clause-open : goal.close_by_edge-requires-clause-open
 close_by_edge-requires-clause-open c =
     let p = c.args.sc.now in
     let q = c.args.prefix.now in
-    let none = subst (TellsRate p) c.if-scratch.false (rw (← c.scratch.view_is) at c.requires.made.rate) in
+    let none = subst (TellsRate p) c.if-has_rate.false c.has_rate.ensures in
     record {
       mean = rw c.bound_after-mean.ensures.bound at (sym c.cuts.ensures ∙ c.if-cuts.false);
       tangent = λ b whole tangent. absurd (tangent_needs_rate p q b whole none tangent);
