@@ -1,5 +1,5 @@
 -- Texts that are appended one after the other.
-use Rattle.std.proofs.Common.{◌≡◌, ℕ, suc, zero, ◌+◌, ◌<◌, ◌≤◌, List, [], ◌∷◌, ◌++◌, length, get_or, take, drop, refl, sym, ap, ◌∙◌, subst, arith, add-one, zero-add}
+use Rattle.std.proofs.Common.{◌≡◌, ℕ, suc, zero, ◌+◌, ◌-◌, ◌<◌, ◌≤◌, List, [], ◌∷◌, ◌++◌, length, get_or, take, drop, refl, sym, ap, ◌∙◌, subst, arith, add-one, zero-add}
 use Rattle.std.specs.Prelude.{Result, OnErr}
 use Rattle.std.specs.List.{flat_map, range_with_len}
 use Rattle.std.proofs.lemmas.List.{drop_more, take-append-drop}
@@ -93,3 +93,23 @@ one_in_range f k old out new e more =
     let same : 0 + k ≡ k = omega arith in
     let whole : flat_map f (range_with_len 0 (k + 1)) ≡ flat_map f (range_with_len 0 k) ++ f k = rw last (rw same (flat_map-append f (range_with_len 0 k) (k ∷ []) ∙ ap (λ (t : List ℕ). flat_map f (range_with_len 0 k) ++ t) (append-nil (f k)))) in
     rw whole (then_more old out new (flat_map f (range_with_len 0 k)) (f k) e more)
+
+-- and of a range from another number on
+pub front_in_range_from : (f : ℕ → List ℕ) (a n t : ℕ) (old out new : List ℕ) → a ≤ t → t < a + n → out ≡ old ++ flat_map f (range_with_len a (t - a)) → AppendsFront out new (f t) → AppendsFront old new (flat_map f (range_with_len a n))
+front_in_range_from f a n t old out new low high e h =
+    let k = t - a in
+    let inside : k < n = omega arith in
+    let place : a + k ≡ t = omega arith in
+    let cut : take k (range_with_len a n) ≡ range_with_len a k = take-range k n a (omega arith) in
+    let at : get_or (range_with_len a n) k 0 ≡ t = get_or-range_with_len a n k 0 inside ∙ place in
+    let long : length (range_with_len a n) ≡ n = length-range_with_len a n in
+    front_at f (range_with_len a n) k 0 old out new (omega arith) (e ∙ ap (λ (cs : List ℕ). old ++ flat_map f cs) (sym cut)) (rw at h)
+
+pub one_in_range_from : (f : ℕ → List ℕ) (a t : ℕ) (old out new : List ℕ) → a ≤ t → out ≡ old ++ flat_map f (range_with_len a (t - a)) → new ≡ out ++ f t → new ≡ old ++ flat_map f (range_with_len a (t + 1 - a))
+one_in_range_from f a t old out new low e more =
+    let k = t - a in
+    let place : a + k ≡ t = omega arith in
+    let next : t + 1 - a ≡ suc k = omega arith in
+    let last : range_with_len a (t + 1 - a) ≡ range_with_len a k ++ t ∷ [] = rw next (range_with_len-push k a ∙ ap (λ (c : ℕ). range_with_len a k ++ c ∷ []) place) in
+    let whole : flat_map f (range_with_len a (t + 1 - a)) ≡ flat_map f (range_with_len a k) ++ f t = rw last (flat_map-append f (range_with_len a k) (t ∷ []) ∙ ap (λ (x : List ℕ). flat_map f (range_with_len a k) ++ x) (append-nil (f t))) in
+    rw whole (then_more old out new (flat_map f (range_with_len a k)) (f t) e more)

@@ -1,15 +1,35 @@
 -- What was read is one problem.
-use Rattle.std.proofs.Common.{◌≡◌, ℕ, ◌<◌, List, length, refl, sym, ap, ◌∙◌, subst, arith}
+use Rattle.std.proofs.Common.{◌≡◌, ℕ, zero, suc, ◌+◌, ◌<◌, Option, Some, None, List, [], ◌∷◌, length, map, refl, sym, ap, ◌∙◌, subst, arith}
+use Rattle.std.specs.Prelude.{◌==◌, ◌&&◌, ◌≤◌, All, sum_by, slice_index_or, unwrap_or, option_map}
+use Rattle.std.specs.List.{AllZip, find}
+use Rattle.std.specs.List.Sorted.{IsPermutation, IsStrictlyIncreasing}
+use Rattle.std.specs.Option.{option_map_or}
+use Rattle.std.proofs.lemmas.Bool.{ne_eqb}
 use Rattle.std.proofs.lemmas.Grind.{same_number_lists}
+use Rattle.std.proofs.lemmas.List.{same_lists, get_or_default}
+use Rattle.std.proofs.lemmas.List.Elements.{All-head, All-tail}
 use Rattle.std.proofs.lemmas.List.Sorted.{IsPermutation-sym, IsPermutation-trans}
+use Rattle.std.proofs.lemmas.List.Sums.{sum_by-cons}
 use Rattle.drift_chain.specs.declared.part.DriftPart.{DriftPart}
-use Rattle.drift_chain.specs.DriftRows.{drift_over, IsDrift}
+use Rattle.drift_chain.specs.DriftRows.{DriftRows, DriftRowChange, drift_cells, is_change, row_of, IsDrift, IsDriftRow}
 use Rattle.drift_chain.specs.Faults.{HasSameParts, parts_from}
-use Rattle.drift_chain.proofs.DriftChanges.{plain_drift}
-use Rattle.drift_chain.proofs.Drifts.{same_drift}
+use Rattle.drift_chain.specs.ChangeFaults.{change_key, rows_in, AreRight, AreSameChanges}
+use Rattle.drift_chain.proofs.DriftChanges.{row_of-base, AreRight-from_drift, same_changes}
+use Rattle.drift_chain.proofs.Drifts.{same_row}
 use Rattle.search_grid.specs.Faults.{HasSameMoves}
 use Rattle.search_grid.specs.Moves.{moves_from}
 use Rattle.search_grid.proofs.Grids.{same_grid}
+use Rattle.sweep_table.specs.declared.part.LookPart.{LookPart}
+use Rattle.sweep_table.specs.LookParts.{LookParts, LookRowChange, is_for, look_row, IsSweep}
+use Rattle.sweep_table.specs.Faults.{row_at}
+use Rattle.sweep_table.specs.Changes.{IsSameChange}
+use Rattle.sweep_table.proofs.Changed.{same_changes as same_look_changes}
+use Rattle.sweep_table.proofs.Rows.{same_rows as same_look_rows}
+
+use Rattle.scenario_text.specs.declared.draft.TextVersion.{TextVersion}
+use Rattle.scenario_text.specs.declared.draft.TextVersion.TheVariants.{One, Two}
+use Rattle.scenario_text.specs.State.{State}
+use Rattle.scenario_text.specs.Scenarios.{SaysLooks, AreLooksOf}
 use Rattle.scenario_text.specs.Laws.{OneProblem}
 use Rattle.search_model.proofs.SameParts.{same_problem}
 
@@ -30,11 +50,80 @@ parts_shared given xs ys g h = record {
       IsPermutation-trans (parts_from xs c) (parts_from given c) (parts_from ys c) (IsPermutation-sym (parts_from given c) (parts_from xs c) (g.parts c there)) (h.parts c there);
 }
 
-same_rows : (d e : ℕ) (xs ys : List (List DriftPart)) → d ≡ e → IsDrift (drift_over d xs) → IsDrift (drift_over e ys) → HasSameParts xs ys → drift_over d xs ≡ drift_over e ys
-same_rows d e xs ys same right right' parts =
-    let left : IsDrift (drift_over e xs) = subst (λ (n : ℕ). IsDrift (drift_over n xs)) same right in
-    let rows : ys ≡ xs = same_drift e xs ys left right' parts in
-    rw (same, rows) refl
+-- The drift: no change is for period 0, so that the base rows are in force there.
+none_at_0 : (cells c : ℕ) (changes : List DriftRowChange) → All (λ change. (1 ≤ change.period) × (change.period ≤ 31) × (change.cell < cells)) changes → find (is_change 0 c) changes ≡ None
+none_at_0 cells c [] within = refl
+none_at_0 cells c (change ∷ changes) within =
+    let first = All-head (λ change. (1 ≤ change.period) × (change.period ≤ 31) × (change.cell < cells)) change changes within in
+    let rest = All-tail (λ change. (1 ≤ change.period) × (change.period ≤ 31) × (change.cell < cells)) change changes within in
+    rw (ne_eqb change.period 0 (λ e. omega (arith, e, first.0))) (none_at_0 cells c changes rest)
+
+base_right : (drift : DriftRows) → IsDrift drift → (c : ℕ) → c < length drift.rows → IsDriftRow drift.denominator (length drift.rows) (parts_from drift.rows c)
+unfolding parts_from
+base_right drift h c inside = subst (IsDriftRow drift.denominator (length drift.rows)) (row_of-base drift 0 c (none_at_0 (length drift.rows) c drift.changes h.changes.within)) (h.each 0 c inside)
+
+same_base : (x y : DriftRows) → IsDrift x → IsDrift y → x.denominator ≡ y.denominator → HasSameParts x.rows y.rows → x.rows ≡ y.rows
+unfolding parts_from
+same_base x y g h over same =
+    same_lists x.rows y.rows (sym same.cells) (λ c d inside.
+    let there : c < length y.rows = omega (arith, same.cells, inside) in
+    let theirs = subst (λ (n : ℕ). IsDriftRow n (length y.rows) (parts_from y.rows c)) (sym over) (base_right y h c there) in
+    let row : parts_from x.rows c ≡ parts_from y.rows c = same_row x.denominator _ _ _ _ (base_right x g c inside) theirs (same.parts c inside) in
+    get_or_default x.rows c d [] inside ∙ row ∙ get_or_default y.rows c [] d there)
+
+-- changes with the entries of the same changes
+steps_shared : (given xs ys : List DriftRowChange) → AreSameChanges given xs → AreSameChanges given ys → AreSameChanges xs ys
+steps_shared given xs ys g h = record { keys = h.keys ∙ sym g.keys; rows = parts_shared (rows_in given) (rows_in xs) (rows_in ys) g.rows h.rows }
+
+same_drifts : (given : List DriftRowChange) (rows : List (List DriftPart)) (x y : DriftRows) → IsDrift x → IsDrift y → x.denominator ≡ y.denominator → HasSameParts rows x.rows → HasSameParts rows y.rows →
+    AreSameChanges given x.changes → AreSameChanges given y.changes → x ≡ y
+same_drifts given rows x y g h over parts parts' changes changes' =
+    let base = same_base x y g h over (parts_shared rows x.rows y.rows parts parts') in
+    let theirs = subst (λ (d : ℕ). AreRight d (length x.rows) y.changes) (sym over) (subst (λ (n : ℕ). AreRight y.denominator n y.changes) (sym (ap length base)) (AreRight-from_drift y h)) in
+    let steps = same_changes x.denominator (length x.rows) x.changes y.changes (AreRight-from_drift x g) theirs (steps_shared given x.changes y.changes changes changes') in
+    λ i. record { denominator = over i; rows = base i; changes = (sym steps) i }
+
+-- The looks: no change is for a period above all of theirs, and there the base rows are in force.
+none_above : (t p : ℕ) (changes : List LookRowChange) → sum_by (λ c. c.period) changes < t → find (is_for t p) changes ≡ None
+none_above t p [] above = refl
+none_above t p (change ∷ changes) above =
+    let step = sum_by-cons (λ (c : LookRowChange). c.period) change changes in
+    rw (ne_eqb change.period t (λ e. omega (arith, e, step, above))) (none_above t p changes (omega (arith, step, above)))
+
+look_base : (sweep : LookParts) (t p : ℕ) → find (is_for t p) sweep.changes ≡ None → look_row sweep t p ≡ slice_index_or sweep.rows p []
+unfolding look_row
+look_base sweep t p found = ap (λ (told : Option LookRowChange). unwrap_or (option_map (λ change. change.row) told) (slice_index_or sweep.rows p [])) found
+
+base_ascends : (sweep : LookParts) → IsSweep sweep → (p : ℕ) → IsStrictlyIncreasing (map (λ entry. entry.cell) (row_at sweep.rows p))
+unfolding row_at
+base_ascends sweep h p =
+    let t = 1 + sum_by (λ (c : LookRowChange). c.period) sweep.changes in
+    let row = h.each t p in
+    subst (λ (r : List LookPart). IsStrictlyIncreasing (map (λ entry. entry.cell) r)) (look_base sweep t p (none_above t p sweep.changes (omega arith))) row.ascending
+
+-- what has the elements of one list, row by row
+shared : {X : Type 0} (R : X → X → Type 0) → ((x y z : X) → R x y → R x z → R y z) → (given xs ys : List X) → AllZip R given xs → AllZip R given ys → AllZip R xs ys
+shared R both [] [] [] g h = tt
+shared R both [] [] (y ∷ ys) g h = absurd h
+shared R both [] (x ∷ xs) ys g h = absurd g
+shared R both (z ∷ given) [] ys g h = absurd g
+shared R both (z ∷ given) (x ∷ xs) [] g h = absurd h
+shared R both (z ∷ given) (x ∷ xs) (y ∷ ys) g h = (both z x y g.0 h.0, shared R both given xs ys g.1 h.1)
+
+same_entries : {X : Type 0} (given xs ys : List X) → IsPermutation given xs → IsPermutation given ys → IsPermutation xs ys
+same_entries given xs ys g h = IsPermutation-trans xs given ys (IsPermutation-sym given xs g) h
+
+same_change : (given x y : LookRowChange) → IsSameChange given x → IsSameChange given y → IsSameChange x y
+same_change given x y g h = (h.0 ∙ sym g.0, h.1 ∙ sym g.1, same_entries given.row x.row y.row g.2 h.2)
+
+same_looks : (v : TextVersion) (s : State) (x y : LookParts) → IsSweep x → IsSweep y → SaysLooks v s x → SaysLooks v s y → x ≡ y
+same_looks One s x y right right' g h = g ∙ sym h
+same_looks Two s x y right right' g h =
+    let rows = same_look_rows x.rows y.rows (shared IsPermutation same_entries _ x.rows y.rows g.rows h.rows) (λ p inside. base_ascends x right p) (λ p inside. base_ascends y right' p) in
+    let changes = same_look_changes x.changes y.changes (shared IsSameChange same_change _ x.changes y.changes g.changes h.changes) g.ascending h.ascending in
+    let over = g.denominator ∙ sym h.denominator in
+    let cells = g.cells ∙ sym h.cells in
+    λ i. record { denominator = over i; cells = cells i; rows = (sym rows) i; changes = (sym changes) i }
 
 pub one_problem : OneProblem
 one_problem s p q g h =
@@ -46,9 +135,6 @@ one_problem s p q g h =
     let here : c < p.cells = omega (arith, g.sound.first_length) in
     g.first c here ∙ sym (h.first c (omega (arith, cells)))) in
     let moves : q.moves ≡ p.moves = same_grid p.moves q.moves g.sound.grid h.sound.grid (moves_shared s.moves p.moves q.moves g.moves h.moves) in
-    let drift : p.drift ≡ q.drift =
-    sym (plain_drift p.drift g.steady)
-    ∙ same_rows p.drift.denominator q.drift.denominator p.drift.rows q.drift.rows (g.denominator ∙ sym h.denominator) (rw (plain_drift p.drift g.steady) g.sound.drift) (rw (plain_drift q.drift h.steady) h.sound.drift)
-    (parts_shared s.parts p.drift.rows q.drift.rows g.parts h.parts)
-    ∙ plain_drift q.drift h.steady in
-    same_problem p q names position_names cells positions (g.horizon ∙ sym h.horizon) (g.start ∙ sym h.start) (g.total ∙ sym h.total) firsts (sym moves) drift (g.sweep ∙ sym h.sweep)
+    let drift : p.drift ≡ q.drift = same_drifts _ s.parts p.drift q.drift g.sound.drift h.sound.drift (g.denominator ∙ sym h.denominator) g.parts h.parts g.changes h.changes in
+    let sweep : p.sweep ≡ q.sweep = same_looks s.version s p.sweep q.sweep g.sound.sweep h.sound.sweep g.sweep h.sweep in
+    same_problem p q names position_names cells positions (g.horizon ∙ sym h.horizon) (g.start ∙ sym h.start) (g.total ∙ sym h.total) firsts (sym moves) drift sweep

@@ -2,11 +2,9 @@
 use Rattle.std.proofs.Common.{◌≡◌, ℕ, ◌<◌, ◌≤◌, true, List, [], ◌∷◌, map, arith}
 use Rattle.std.specs.Prelude.{All}
 use Rattle.std.proofs.lemmas.Grind.{common_steps}
-use Rattle.std.proofs.lemmas.List.Elements.{All-head, All-tail, All-get_or}
+use Rattle.std.proofs.lemmas.List.Elements.{All-head, All-tail}
 use Rattle.drift_chain.specs.declared.part.DriftPart.{DriftPart}
 use Rattle.search_model.specs.Names.{IsName, is_name_byte, name_in}
-use Rattle.search_model.specs.Problem.{Problem, IsProblem, cell_name}
-use Rattle.scenario_text.specs.Canonical.{pair_fields}
 use Rattle.scenario_text.specs.RowFields.{entry_fields}
 use Rattle.text_rows.specs.Fields.{is_field_byte}
 use Rattle.text_rows.proofs.RowTexts.{IsField, AreFields, field_by, IsField-decimal, AreFields-map}
@@ -16,9 +14,6 @@ name_byte_is_field c h = grind (arith, common_steps)
 
 pub IsField-name : (name : List ℕ) → IsName name → IsField name
 IsField-name name h = field_by is_name_byte name_byte_is_field name (omega (arith, h.some)) h.bytes
-
-pub IsField-cell_name : (p : Problem) → IsProblem p → (c : ℕ) → c < p.cells → IsField (cell_name p c)
-IsField-cell_name p h c lt = IsField-name (cell_name p c) (All-get_or IsName p.names c [] (omega (arith, h.names.count)) h.names.each)
 
 -- where so many cells have names
 module _ (names : List (List ℕ)) (cells : ℕ) (field : (c : ℕ) → c < cells → IsField (name_in names c)) where
@@ -36,10 +31,3 @@ module _ (names : List (List ℕ)) (cells : ℕ) (field : (c : ℕ) → c < cell
       AreFields-entries es (All-tail (λ e. e.cell < cells) e es within) (All-tail (λ e. e.part ≤ 1000000) e es small),
     ),
   )
-
--- the names of some cells of a problem, and the pairs of some entries
-pub AreFields-names : (p : Problem) → IsProblem p → (cs : List ℕ) → All (λ c. c < p.cells) cs → AreFields (map (cell_name p) cs)
-AreFields-names p h = AreFields-named p.names p.cells (IsField-cell_name p h)
-
-pub AreFields-pairs : (p : Problem) → IsProblem p → (es : List DriftPart) → All (λ e. e.cell < p.cells) es → All (λ e. e.part ≤ 1000000) es → AreFields (pair_fields p es)
-AreFields-pairs p h = AreFields-entries p.names p.cells (IsField-cell_name p h)

@@ -10,13 +10,14 @@ pub mod Printed
 pub mod Loop
 pub mod Determined
 pub mod FirstParts
-pub mod CanonicalSaid
+pub mod SameRows
+pub mod Plain
+pub mod LaterRows
 pub mod NamesApart
 pub mod PairTexts
 pub mod RowsRead
 pub mod HeadLines
 pub mod RowLines
-pub mod Back
 pub mod Columns
 pub mod GridNames
 pub mod Spreads
@@ -32,6 +33,10 @@ pub mod SoundHeads
 pub mod SoundLines
 pub mod Soundness
 pub mod Places
+pub mod Periods
+pub mod RowsInOrder
+pub mod PeriodDrifts
+pub mod PeriodLooks
 pub mod Assembled
 pub mod FrontLines
 pub mod EndLines
@@ -45,3 +50,6 @@ pub mod Ordered
 pub mod RowsBack
 pub mod HeadsBack
 pub mod OneScenario
+pub mod CanonicalState
+pub mod CanonicalSame
+pub mod Back

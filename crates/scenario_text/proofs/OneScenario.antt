@@ -1,36 +1,43 @@
 -- A text that reads spells one scenario.
 use Rattle.std.proofs.Common.{◌≡◌, ℕ, zero, suc, add-one, ◌+◌, ◌<◌, ◌≤◌, List, [], ◌∷◌, map, length, get_or, set, replicate, Result, Ok, Err, refl, sym, ap, ◌∙◌, subst, arith}
-use Rattle.std.specs.Prelude.{sum_by, unwrap_or}
+use Rattle.std.specs.Prelude.{◌-◌, sum_by, unwrap_or}
 use Rattle.std.specs.List.{range_with_len}
-use Rattle.std.specs.List.Sorted.{IsPermutation, IsStrictlyIncreasing}
-use Rattle.std.proofs.lemmas.List.{map-id, take_all}
+use Rattle.std.specs.List.Sorted.{IsPermutation}
+use Rattle.std.proofs.lemmas.List.{take_all}
 use Rattle.std.proofs.lemmas.List.FromFn.{length-map-range_with_len, get_or-map-range_with_len}
-use Rattle.std.proofs.lemmas.List.Sorted.{length_permutation, All-permutation, sum_by-IsPermutation}
 use Rattle.drift_chain.specs.declared.part.DriftPart.{DriftPart}
-use Rattle.drift_chain.proofs.Drifts.{AreChanges-none}
-use Rattle.drift_chain.specs.DriftRows.{drift_over, part_in, row_of, IsDriftRow, IsDrift}
+use Rattle.drift_chain.specs.DriftRows.{DriftRowChange, drift_over, drift_with, part_in, IsDriftRow, IsDrift}
 use Rattle.drift_chain.specs.Faults.{parts_from, HasSameParts}
+use Rattle.drift_chain.specs.ChangeFaults.{AreRight, AreSameChanges}
+use Rattle.drift_chain.proofs.Drifts.{IsDrift-from_rows}
+use Rattle.drift_chain.proofs.DriftChanges.{IsDrift-from_changes}
 use Rattle.search_grid.specs.Moves.{moves_from, IsMoveRow, IsGrid}
 use Rattle.search_grid.specs.Faults.{HasSameMoves}
-use Rattle.sweep_table.specs.LookParts.{parts_over}
+use Rattle.sweep_table.specs.LookParts.{LookParts, looks_over, parts_over, IsSweep}
+use Rattle.sweep_table.specs.Changes.{with_changes, HaveRightRows}
+use Rattle.sweep_table.proofs.Changed.{IsSweep-with_changes, ascending_from_right}
 use Rattle.search_model.specs.Problem.{Problem}
 use Rattle.scenario_text.specs.declared.draft.Stage.{Stage}
 use Rattle.scenario_text.specs.declared.draft.Stage.TheVariants as due
+use Rattle.scenario_text.specs.declared.draft.TextVersion.{TextVersion}
+use Rattle.scenario_text.specs.declared.draft.TextVersion.TheVariants.{One, Two}
 use Rattle.scenario_text.specs.declared.kind.TextKind.{TextKind}
 use Rattle.scenario_text.specs.declared.kind.TextFault.{TextFault}
 use Rattle.text_rows.specs.Lines.{lines_of}
 use Rattle.text_rows.proofs.Results.{err_ok}
 use Rattle.scenario_text.specs.State.{State, blank_state, positions_in}
 use Rattle.scenario_text.specs.Reading.{Front, line_at, lines_at, go_on, unless_ended}
-use Rattle.scenario_text.specs.Scenarios.{Says}
+use Rattle.scenario_text.specs.Scenarios.{Says, SaysLooks, AreLooksOf, drift_change_of}
 use Rattle.scenario_text.specs.Sound.{AreEntries, AreMoves, IsSound}
 use Rattle.scenario_text.specs.Laws.{EveryTextSpellsOne}
-use Rattle.list_laws.proofs.Rising.{increasing_from_ascends}
-use Rattle.scenario_text.proofs.Assembled.{cells_moves, moves_of, parts_at, some_cell, drift_limits, first_entries, Made, problem_says}
+use Rattle.scenario_text.proofs.Assembled.{moves_of, parts_at, horizon_limits, some_cell, some_position, few_positions, few_steps, drift_limits, look_limits, looks_long, overlook_right, first_entries, Made, problem_says}
 use Rattle.scenario_text.proofs.Determined.{one_problem}
 use Rattle.scenario_text.proofs.FrontLines.{front_ended}
-use Rattle.scenario_text.proofs.Ordered.{in_order, in_order_same, in_order_rises}
+use Rattle.scenario_text.proofs.Ordered.{in_order, in_order_same}
+use Rattle.scenario_text.proofs.PeriodDrifts as drifts
+use Rattle.scenario_text.proofs.PeriodLooks as looks
 use Rattle.scenario_text.proofs.Places.{Placed, Placed-none, Placed-more}
+use Rattle.scenario_text.proofs.RowsInOrder.{cells_in_order, moves_in_order, entries_in_order}
 use Rattle.scenario_text.proofs.Soundness.{blank_sound, line_sound}
 
 -- What is read up to the end is sound.
@@ -63,51 +70,50 @@ module _ (s : State) (h : IsSound s) (ended : s.stage ≡ due.Ended) where
   cells : ℕ
   cells = length s.names
 
+  positions : ℕ
+  positions = length (positions_in s)
+
   moves_row : ℕ → List ℕ
-  moves_row c = in_order (λ m. m) (moves_from s.moves c)
+  moves_row q = in_order (λ m. m) (moves_from s.moves q)
 
   drift_row : ℕ → List DriftPart
-  drift_row c = in_order (λ e. e.cell) (parts_from s.parts c)
+  drift_row c = cells_in_order (parts_from s.parts c)
 
   all_moves : List (List ℕ)
-  all_moves = map moves_row (range_with_len 0 cells)
+  all_moves = map moves_row (range_with_len 0 positions)
 
   all_parts : List (List DriftPart)
   all_parts = map drift_row (range_with_len 0 cells)
 
-  long_moves : length all_moves ≡ cells
+  long_moves : length all_moves ≡ positions
   unfolding all_moves
-  long_moves = length-map-range_with_len moves_row 0 cells
+  long_moves = length-map-range_with_len moves_row 0 positions
 
   long_parts : length all_parts ≡ cells
   unfolding all_parts
   long_parts = length-map-range_with_len drift_row 0 cells
 
-  moves_in : (c : ℕ) → c < cells → moves_from all_moves c ≡ moves_row c
+  moves_in : (q : ℕ) → q < positions → moves_from all_moves q ≡ moves_row q
   unfolding all_moves moves_from
-  moves_in c lt = get_or-map-range_with_len moves_row 0 cells c c [] lt (omega arith)
+  moves_in q lt = get_or-map-range_with_len moves_row 0 positions q q [] lt (omega arith)
 
   parts_in : (c : ℕ) → c < cells → parts_from all_parts c ≡ drift_row c
   unfolding all_parts parts_from
   parts_in c lt = get_or-map-range_with_len drift_row 0 cells c c [] lt (omega arith)
 
-  row_in : (t c : ℕ) → row_of (drift_over s.drift all_parts) t c ≡ parts_from all_parts c
-  unfolding row_of parts_from
-  row_in t c = refl
-
-  moves_given : (c : ℕ) → c < cells → AreMoves cells (moves_from s.moves c)
-  unfolding cells
-  moves_given c lt = moves_of s h ended c (omega (arith, lt, cells_moves s h ended))
+  moves_given : (q : ℕ) → q < positions → AreMoves positions (moves_from s.moves q)
+  unfolding positions
+  moves_given q lt = moves_of s h ended q (omega (arith, lt, h.moves_length))
 
   parts_given : (c : ℕ) → c < cells → AreEntries cells s.drift (parts_from s.parts c)
   unfolding cells
   parts_given c lt = parts_at s h ended c (omega (arith, lt, h.parts_length))
 
   same_moves : HasSameMoves s.moves all_moves
-  unfolding cells moves_row
+  unfolding positions moves_row
   same_moves = record {
-    cells = long_moves ∙ sym (cells_moves s h ended);
-    moves = λ c lt. subst (IsPermutation (moves_from s.moves c)) (sym (moves_in c (omega (arith, lt, cells_moves s h ended)))) (in_order_same (λ m. m) (moves_from s.moves c));
+    cells = long_moves ∙ sym h.moves_length;
+    moves = λ q lt. subst (IsPermutation (moves_from s.moves q)) (sym (moves_in q (omega (arith, lt, h.moves_length)))) (in_order_same (λ m. m) (moves_from s.moves q));
   }
 
   same_parts : HasSameParts s.parts all_parts
@@ -117,48 +123,69 @@ module _ (s : State) (h : IsSound s) (ended : s.stage ≡ due.Ended) where
     parts = λ c lt. subst (IsPermutation (parts_from s.parts c)) (sym (parts_in c (omega (arith, lt, h.parts_length)))) (in_order_same (λ e. e.cell) (parts_from s.parts c));
   }
 
-  right_moves : (c : ℕ) → c < cells → IsMoveRow cells (moves_row c)
+  right_moves : (q : ℕ) → q < positions → IsMoveRow positions (moves_row q)
   unfolding moves_row
-  right_moves c lt =
-      let given = moves_given c lt in
-      let xs = moves_from s.moves c in
-      let same = in_order_same (λ m. m) xs in
-      let long = length_permutation xs (in_order (λ m. m) xs) same in
-      record {
-        some = omega (arith, long, given.some);
-        few = omega (arith, long, given.few);
-        ascending = subst IsStrictlyIncreasing (map-id (in_order (λ m. m) xs)) (increasing_from_ascends (λ m. m) _ (in_order_rises (λ m. m) xs given.once));
-        within = All-permutation (λ d. d < cells) xs (in_order (λ m. m) xs) same given.within;
-      }
+  right_moves q lt = moves_in_order positions (moves_from s.moves q) (moves_given q lt)
 
   right_parts : (c : ℕ) → c < cells → IsDriftRow s.drift cells (drift_row c)
   unfolding drift_row
-  right_parts c lt =
-      let given = parts_given c lt in
-      let es = parts_from s.parts c in
-      let same = in_order_same (λ e. e.cell) es in
-      record {
-        within = All-permutation (λ e. e.cell < cells) es (in_order (λ e. e.cell) es) same given.within;
-        positive = All-permutation (λ e. 1 ≤ e.part) es (in_order (λ e. e.cell) es) same given.positive;
-        ascending = increasing_from_ascends (λ e. e.cell) _ (in_order_rises (λ e. e.cell) es given.once);
-        total = sum_by-IsPermutation (λ e. e.part) es (in_order (λ e. e.cell) es) same ∙ given.total;
-      }
+  right_parts c lt = entries_in_order cells s.drift (parts_from s.parts c) (parts_given c lt)
 
   grid : IsGrid all_moves
-  unfolding cells
+  unfolding positions
   grid = record {
-    size = (omega (arith, long_moves, some_cell s h ended), omega (arith, long_moves, h.few));
-    each = λ c lt. let inside : c < cells = omega (arith, lt, long_moves) in subst (λ (n : ℕ). IsMoveRow n (moves_from all_moves c)) (sym long_moves) (subst (IsMoveRow cells) (sym (moves_in c inside)) (right_moves c inside));
+    size = (omega (arith, long_moves, some_position s h ended), omega (arith, long_moves, few_positions s h ended));
+    each = λ q lt. let inside : q < positions = omega (arith, lt, long_moves) in subst (λ (n : ℕ). IsMoveRow n (moves_from all_moves q)) (sym long_moves) (subst (IsMoveRow positions) (sym (moves_in q inside)) (right_moves q inside));
   }
 
-  drift : IsDrift (drift_over s.drift all_parts)
+  base : IsDrift (drift_over s.drift all_parts)
   unfolding cells
-  drift = record {
-    denominator = drift_limits s h ended;
-    size = (omega (arith, long_parts, some_cell s h ended), omega (arith, long_parts, h.few));
-    each = λ t c lt. let inside : c < cells = omega (arith, lt, long_parts) in subst (λ (n : ℕ). IsDriftRow s.drift n (row_of (drift_over s.drift all_parts) t c)) (sym long_parts) (subst (IsDriftRow s.drift cells) (sym (row_in t c ∙ parts_in c inside)) (right_parts c inside));
-    changes = AreChanges-none (length all_parts);
-  }
+  base =
+      IsDrift-from_rows s.drift all_parts cells (sym long_parts) (drift_limits s h ended) (some_cell s h ended, h.few) (λ c lt. subst (IsDriftRow s.drift cells) (sym (parts_in c lt)) (right_parts c lt))
+
+  all_steps : List DriftRowChange
+  all_steps = map drifts.change_in_order s.drift_rows
+
+  right_steps : AreRight s.drift (length all_parts) all_steps
+  unfolding all_steps cells
+  right_steps = subst (λ (n : ℕ). AreRight s.drift n (map drifts.change_in_order s.drift_rows)) (sym long_parts) (drifts.right_in_order s.drift (length s.names) (s.horizon - 1) s.drift_rows h.changes.drifts (few_steps s h ended))
+
+  same_steps : AreSameChanges (map drift_change_of s.drift_rows) all_steps
+  unfolding all_steps
+  same_steps = drifts.same_in_order s.drift (length s.names) (s.horizon - 1) s.drift_rows h.changes.drifts (few_steps s h ended)
+
+  drift : IsDrift (drift_with (drift_over s.drift all_parts) all_steps)
+  drift = IsDrift-from_changes (drift_over s.drift all_parts) all_steps base refl right_steps
+
+  -- The looks.
+  prints : LookParts
+  prints = with_changes (looks_over s.look cells (map looks.row_in_order s.looks)) (map looks.change_in_order s.look_rows)
+
+  changes_right_here : HaveRightRows s.look (length s.names) (map looks.change_in_order s.look_rows)
+  changes_right_here = looks.changes_right s.look (length s.names) (length (positions_in s)) s.horizon s.look_rows h.changes.looks (omega (arith, horizon_limits s h ended))
+
+  prints_right : s.version ≡ Two → IsSweep prints
+  unfolding prints cells
+  prints_right two =
+      let long = looks_long s h ended two in
+      let rows = looks.rows_right (length s.names) s.look s.looks h.positions.covered (omega (arith, long, some_position s h ended)) (omega (arith, long, few_positions s h ended)) (some_cell s h ended) h.few (look_limits s h ended) in
+      IsSweep-with_changes (looks_over s.look (length s.names) (map looks.row_in_order s.looks)) refl rows (map looks.change_in_order s.look_rows) changes_right_here
+
+  prints_said : s.version ≡ Two → AreLooksOf s prints
+  unfolding prints cells
+  prints_said two =
+      let long = looks_long s h ended two in
+      record {
+        denominator = refl;
+        cells = refl;
+        rows = looks.rows_same (length s.names) s.look s.looks h.positions.covered (omega (arith, long, some_position s h ended)) (omega (arith, long, few_positions s h ended)) (some_cell s h ended) h.few;
+        changes = looks.changes_same s.look (length s.names) (length (positions_in s)) s.horizon s.look_rows h.changes.looks (omega (arith, horizon_limits s h ended));
+        ascending = ascending_from_right s.look (length s.names) (map looks.change_in_order s.look_rows) changes_right_here;
+      }
+
+  sweep_in : (v : TextVersion) → s.version ≡ v → (sweep : LookParts) × IsSweep sweep × SaysLooks v s sweep
+  sweep_in One one = (parts_over s.look (map (λ o. unwrap_or o 0) s.overlook), overlook_right s h ended one, refl)
+  sweep_in Two two = (prints, prints_right two, prints_said two)
 
   -- The first parts, cell by cell.
   placed : (i : ℕ) → i ≤ length s.first → (parts : List ℕ) × Placed cells s.first i parts
@@ -176,6 +203,7 @@ module _ (s : State) (h : IsSound s) (ended : s.stage ≡ due.Ended) where
   said_once =
       let first = placed (length s.first) (omega arith) in
       let whole = take_all (length s.first) s.first (omega arith) in
+      let sweep = sweep_in s.version refl in
       let p : Problem = record {
         names = s.names;
         position_names = positions_in s;
@@ -186,8 +214,8 @@ module _ (s : State) (h : IsSound s) (ended : s.stage ≡ due.Ended) where
         total = s.total;
         first = first.0;
         moves = all_moves;
-        drift = drift_over s.drift all_parts;
-        sweep = parts_over s.look (map (λ o. unwrap_or o 0) s.overlook);
+        drift = drift_with (drift_over s.drift all_parts) all_steps;
+        sweep = sweep.0;
       } in
       let made : Made s h ended p = record {
         names = refl;
@@ -204,9 +232,10 @@ module _ (s : State) (h : IsSound s) (ended : s.stage ≡ due.Ended) where
         grid = grid;
         denominator = refl;
         parts = same_parts;
-        steady = refl;
+        changes = same_steps;
         drift = drift;
-        sweep = refl;
+        looks = sweep.2;
+        sweep = sweep.1;
       } in
       (p, problem_says s h ended p made)
 

@@ -4,24 +4,16 @@ use Rattle.std.specs.Prelude.{All, is_none}
 use Rattle.std.specs.List.{list_any}
 use Rattle.std.proofs.lemmas.Bool.{le-ltb, le-leb, eq-eqb}
 use Rattle.std.proofs.lemmas.List.Elements.{All-head, All-tail}
-use Rattle.std.proofs.lemmas.List.Sums.{get_or-le-sum_by}
 use Rattle.exact_parts.specs.declared.number.Number.TheVariants.{Of}
 use Rattle.exact_parts.proofs.Decimals.{number_at-decimal}
 use Rattle.drift_chain.specs.declared.part.DriftPart.{DriftPart}
-use Rattle.drift_chain.specs.DriftRows.{IsDriftRow}
 use Rattle.search_model.specs.Names.{name_in}
-use Rattle.search_model.specs.Problem.{Problem, IsProblem}
 use Rattle.scenario_text.specs.declared.pair.Pair.{Pair}
 use Rattle.scenario_text.specs.Fields.{cell_named, are_pairs, is_bad, is_over}
 use Rattle.scenario_text.specs.ByCells.{pairs_of, entries_of, has_double}
 use Rattle.scenario_text.proofs.EntryRows.{AreSaid, parts_any, any_unknown, twice, entries_alike}
-use Rattle.scenario_text.specs.Canonical.{pair_fields}
 use Rattle.scenario_text.specs.RowFields.{entry_fields}
-use Rattle.scenario_text.proofs.Ascending.{has_double-rising}
-use Rattle.scenario_text.proofs.NamesApart.{cell_named-at}
-use Rattle.std.proofs.lemmas.List.Kept.{AllPairs-from_increasing}
 
--- the text of a number within a limit says that number
 -- what an entry's pair says
 abbrev pub said : DriftPart → Pair
 said e = record { cell = Some e.cell; part = Of e.part }
@@ -33,9 +25,6 @@ pairs_of-named names cells found (e ∷ es) within small =
     let cell = found e.cell (All-head (λ e. e.cell < cells) e es within) in
     let part = number_at-decimal 1000000 e.part (All-head (λ e. e.part ≤ 1000000) e es small) (omega arith) in
     rw (cell, part, pairs_of-named names cells found es (All-tail (λ e. e.cell < cells) e es within) (All-tail (λ e. e.part ≤ 1000000) e es small)) refl
-
-pub pairs_of-entries : (p : Problem) → IsProblem p → (es : List DriftPart) → All (λ e. e.cell < p.cells) es → All (λ e. e.part ≤ 1000000) es → pairs_of p.names (pair_fields p es) ≡ map said es
-pairs_of-entries p h = pairs_of-named p.names p.cells (cell_named-at p h)
 
 none_bad : (least : ℕ) (es : List DriftPart) → All (λ e. least ≤ e.part) es → list_any (λ x. is_bad least x.part) (map said es) ≡ false
 none_bad least [] positive = refl
@@ -78,27 +67,9 @@ module _ (names : List (List ℕ)) (cells : ℕ) (found : (c : ℕ) → c < cell
         entries = sym (entries_alike names fields) ∙ ap entries_of pairs ∙ entries_said es;
       }
 
-  -- and a row in order, with a denominator within the limits
-  pub AreSaid-row : (denominator : ℕ) (es : List DriftPart) → IsDriftRow denominator cells es → denominator ≤ 1000000 → AreSaid names 1 (entry_fields names es) es
-  AreSaid-row denominator es row le =
-      AreSaid-named 1 es row.within (λ i d lt. omega (arith, get_or-le-sum_by (λ e. e.part) es i d lt, row.total)) row.positive (has_double-rising (map (λ e. e.cell) es) (AllPairs-from_increasing (map (λ e. e.cell) es) row.ascending))
-
--- it isn't empty
-pub some_entry : (denominator cells : ℕ) (es : List DriftPart) → IsDriftRow denominator cells es → 1 ≤ denominator → 0 < length es
-some_entry denominator cells [] row low = absurd (omega (arith, row.total))
-some_entry denominator cells (e ∷ es) row low = omega arith
-
 pub are_pairs-named : (names : List (List ℕ)) (es : List DriftPart) → 0 < length es → are_pairs (entry_fields names es) ≡ true
 are_pairs-named names es some =
     let long = length-entry_fields names es in
     let two = le-leb 2 (length (entry_fields names es)) (omega arith) in
     let even = eq-eqb (length (entry_fields names es) % 2) 0 (omega arith) in
     rw (two, even) refl
-
-pub are_pairs-entries : (p : Problem) (es : List DriftPart) → 0 < length es → are_pairs (pair_fields p es) ≡ true
-are_pairs-entries p es some = are_pairs-named p.names es some
-
--- and no part exceeds the denominator
-pub parts_within : (denominator cells most : ℕ) (es : List DriftPart) → IsDriftRow denominator cells es → denominator ≤ most → All (λ e. e.part ≤ most) es
-parts_within denominator cells most es row le =
-    λ i d lt. omega (arith, get_or-le-sum_by (λ e. e.part) es i d lt, row.total)

@@ -1,6 +1,6 @@
 -- The lines before the rows keep what holds of all that lines give.
 use Rattle.std.proofs.Common.{◌≡◌, ℕ, ◌<◌, ◌≤◌, ◌+◌, ◌-◌, ◌*◌, Bool, true, false, List, [], ◌∷◌, ◌++◌, length, Option, Some, None, Result, Ok, refl, sym, ap, ◌∙◌, arith, subst, inl, inr, ◌⊎◌}
-use Rattle.std.specs.Prelude.{not, ◌&&◌, ◌||◌, ◌==◌, nat_lt, nat_le, is_none, is_some, unwrap_or, All, Contains, codes, sum_by}
+use Rattle.std.specs.Prelude.{if◌then◌else◌, not, ◌&&◌, ◌||◌, ◌==◌, nat_lt, nat_le, is_none, is_some, unwrap_or, All, Contains, codes, sum_by}
 use Rattle.std.specs.List.{list_all, list_any}
 use Rattle.std.proofs.lemmas.Bool.{ltb-false, leb-false, or_parts, not-false, eqb-true}
 use Rattle.std.proofs.lemmas.List.{length-replicate, length_push}
@@ -94,34 +94,54 @@ changed_on v a b t c p d g drift_rows look_rows before h = record { early = λ l
 below : (a b : Stage) (n : ℕ) → a ≡ b → place_of b ≤ n → place_of a ≤ n
 below a b n e le = subst (λ st. place_of st ≤ n) (sym e) le
 
--- `scenario 1`
-version_taken : (s : State) → s.stage ≡ due.Version → IsSound s → IsSound (record s { stage = due.Horizon })
-version_taken s at h = record {
-  settled = record { horizon = λ le. absurd (omega arith); total = λ le. absurd (omega arith); drift = λ le. absurd (omega arith); look = λ le. absurd (omega arith) };
-  few = h.few;
-  names = h.names;
-  differ = h.differ;
-  positions = positions_on s.version s.stage due.Horizon _ _ _ _ (λ le. below s.stage due.Version 2 at (omega arith)) h.positions;
-  moves_length = h.moves_length;
-  parts_length = h.parts_length;
-  overlook_length = h.overlook_length;
-  start = λ le. absurd (omega arith);
-  first = λ le. absurd (omega arith);
-  moves = h.moves;
-  empty = λ le. h.empty (early s.stage due.Version at (omega arith));
-  changes = none_changed s.version _ s.stage due.Horizon _ _ _ _ _ _ _ _ _ _ _ _ (below s.stage due.Version 4 at (omega arith)) h.changes;
-  plain = h.plain;
-  cells = λ is. absurd (no_grid s.stage due.Version s.gridded at (λ e. let bad : ⊥ = cc in bad) (omega arith) (λ g. (h.cells g).1) is);
-  own = h.own;
-  parts = h.parts;
-  overlook = h.overlook;
-  whole = λ e. absurd (let bad : ⊥ = cc in bad);
-  fits = λ e. absurd (let bad : ⊥ = cc in bad);
-}
+-- `scenario 1`, or `scenario 2`: nothing else was read
+none_by_version : (v : TextVersion) (xs ys : List (List ℕ)) → length xs ≡ 0 → length ys ≡ 0 → length (by_version v xs ys) ≡ 0
+none_by_version One xs ys none none' = none
+none_by_version Two xs ys none none' = none'
+
+version_taken : (s : State) (v : TextVersion) → s.stage ≡ due.Version → IsSound s → IsSound (record s { stage = due.Horizon; version = v })
+version_taken s v at h =
+    let unnamed = h.empty (early s.stage due.Version at (omega arith)) in
+    let unplaced = h.positions.empty (early s.stage due.Version at (omega arith)) in
+    let were = none_by_version s.version s.names s.positions unnamed unplaced in
+    let are = none_by_version v s.names s.positions unnamed unplaced in
+    let nowhere = none_by_version s.version s.names [] unnamed refl in
+    let still = none_by_version v s.names [] unnamed refl in
+    record {
+      settled = record { horizon = λ le. absurd (omega arith); total = λ le. absurd (omega arith); drift = λ le. absurd (omega arith); look = λ le. absurd (omega arith) };
+      few = h.few;
+      names = h.names;
+      differ = h.differ;
+      positions = record {
+        few = h.positions.few;
+        names = h.positions.names;
+        differ = h.positions.differ;
+        looks_length = h.positions.looks_length;
+        covered = h.positions.covered;
+        empty = λ le. unplaced;
+        cells_alone = λ one. unplaced;
+      };
+      moves_length = h.moves_length ∙ were ∙ sym are;
+      parts_length = h.parts_length;
+      overlook_length = h.overlook_length ∙ nowhere ∙ sym still;
+      start = λ le. absurd (omega arith);
+      first = λ le. absurd (omega arith);
+      moves = subst (λ (n : ℕ). All (λ row. (length row ≡ 0) ⊎ AreMoves n row) s.moves) (were ∙ sym are) h.moves;
+      empty = λ le. unnamed;
+      changes = none_changed s.version _ s.stage due.Horizon _ _ _ _ _ _ _ _ _ _ _ _ (below s.stage due.Version 4 at (omega arith)) h.changes;
+      cells = λ is. absurd (no_grid s.stage due.Version s.gridded at (λ e. let bad : ⊥ = cc in bad) (omega arith) (λ g. (h.cells g).1) is);
+      own = h.own;
+      parts = h.parts;
+      overlook = h.overlook;
+      whole = λ e. absurd (let bad : ⊥ = cc in bad);
+      fits = λ e. absurd (let bad : ⊥ = cc in bad);
+    }
 
 pub version_sound : (s : State) (fields : List (List ℕ)) (t : State) → s.stage ≡ due.Version → IsSound s → row_at Scenario s fields ≡ Ok t → IsSound t
 version_sound s [] t at h e = absurd (err_ok BadLine t e)
-version_sound s (version ∷ []) t at h e = sound_ok _ t (not_refused (not (is_word version (codes "1") && true)) BadLine (Ok (record s { stage = due.Horizon })) t e).1 (version_taken s at h)
+version_sound s (version ∷ []) t at h e =
+    let v = if is_word version (codes "1") then One else Two in
+    sound_ok _ t (not_refused (not ((is_word version (codes "1") || is_word version (codes "2")) && true)) BadLine (Ok (record s { stage = due.Horizon; version = v })) t e).1 (version_taken s v at h)
 version_sound s (version ∷ more ∷ fields) t at h e = absurd (err_ok BadLine t e)
 
 -- `horizon T`
@@ -140,7 +160,6 @@ horizon_taken s n at within h = record {
   moves = h.moves;
   empty = λ le. h.empty (early s.stage due.Horizon at (omega arith));
   changes = none_changed s.version _ s.stage due.Parts _ _ _ _ _ _ _ _ _ _ _ _ (below s.stage due.Horizon 4 at (omega arith)) h.changes;
-  plain = h.plain;
   cells = λ is. absurd (no_grid s.stage due.Horizon s.gridded at (λ e. let bad : ⊥ = cc in bad) (omega arith) (λ g. (h.cells g).1) is);
   own = h.own;
   parts = h.parts;
@@ -186,7 +205,6 @@ parts_taken s a d g at first drift look none h = record {
   moves = h.moves;
   empty = λ le. absurd (omega arith);
   changes = none_changed s.version _ s.stage due.Cells _ _ _ _ _ _ _ _ _ _ _ _ (below s.stage due.Parts 4 at (omega arith)) h.changes;
-  plain = h.plain;
   cells = λ is. absurd (no_grid s.stage due.Parts s.gridded at (λ e. let bad : ⊥ = cc in bad) (omega arith) (λ g. (h.cells g).1) is);
   own = h.own;
   parts = λ k row lt. absurd (omega (arith, lt, h.parts_length, none));
@@ -286,7 +304,6 @@ module _ (s : State) (name : List ℕ) (at : s.stage ≡ due.Cells) (is_name : I
         parts = wider_parts;
         overlook = All-push (IsPart s.look) s.overlook None h.overlook tt;
         changes = none_changed s.version _ s.stage s.stage _ _ _ _ _ _ _ _ _ _ _ _ (below s.stage due.Cells 4 at (omega arith)) h.changes;
-        plain = refl;
         whole = λ e. absurd (let bad : due.Cells ≡ due.Ended = sym at ∙ e in let none : ⊥ = cc in none);
         fits = λ e. absurd (let bad : due.Cells ≡ due.Ended = sym at ∙ e in let none : ⊥ = cc in none);
       }
@@ -309,7 +326,6 @@ module _ (s : State) (name : List ℕ) (at : s.stage ≡ due.Cells) (is_name : I
         parts = wider_parts;
         overlook = h.overlook;
         changes = none_changed s.version _ s.stage s.stage _ _ _ _ _ _ _ _ _ _ _ _ (below s.stage due.Cells 4 at (omega arith)) h.changes;
-        plain = let bad : One ≡ Two = sym h.plain ∙ two in absurd (let none : ⊥ = cc in none);
         whole = λ e. absurd (let bad : due.Cells ≡ due.Ended = sym at ∙ e in let none : ⊥ = cc in none);
         fits = λ e. absurd (let bad : due.Cells ≡ due.Ended = sym at ∙ e in let none : ⊥ = cc in none);
       }
@@ -372,7 +388,6 @@ position_taken s name two at is_name few new h =
       parts = h.parts;
       overlook = h.overlook;
       changes = none_changed s.version _ s.stage due.Positions _ _ _ _ _ _ _ _ _ _ _ _ (omega (arith, at)) h.changes;
-      plain = h.plain;
       whole = λ e. absurd (let bad : ⊥ = cc in bad);
       fits = λ e. absurd (let bad : ⊥ = cc in bad);
     }
@@ -423,7 +438,6 @@ grid_taken s rows cols one at some_row some_col few h =
       empty = λ le. absurd (omega arith);
       cells = λ is. (one, inl refl);
       changes = none_changed s.version _ s.stage due.Start _ _ _ _ _ _ _ _ _ _ _ _ (below s.stage due.Cells 4 at (omega arith)) h.changes;
-      plain = h.plain;
       own = λ is c lt. own_once rows cols c lt;
       parts = All-replicate (λ row. (length row ≡ 0) ⊎ AreEntries n s.drift row) (rows * cols) [] (inl refl);
       overlook = All-replicate (IsPart s.look) (rows * cols) None tt;
@@ -467,7 +481,6 @@ start_taken s c past within h = record {
   parts = h.parts;
   overlook = h.overlook;
   changes = none_changed s.version _ s.stage due.First _ _ _ _ _ _ _ _ _ _ _ _ (omega (arith, past)) h.changes;
-  plain = h.plain;
   whole = λ e. absurd (let bad : ⊥ = cc in bad);
   fits = λ e. absurd (let bad : ⊥ = cc in bad);
 }
@@ -500,7 +513,6 @@ first_taken s entries at are h = record {
   empty = λ le. absurd (omega arith);
   cells = λ is. ((h.cells is).0, inr (omega arith));
   changes = none_changed s.version _ s.stage due.Rows _ _ _ _ _ _ _ _ _ _ _ _ (below s.stage due.First 4 at (omega arith)) h.changes;
-  plain = h.plain;
   own = h.own;
   parts = h.parts;
   overlook = h.overlook;

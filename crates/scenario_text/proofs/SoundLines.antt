@@ -56,7 +56,6 @@ moves_taken s c row at within none are h = record {
   parts = h.parts;
   overlook = h.overlook;
   changes = h.changes;
-  plain = h.plain;
   whole = λ e. not_ended s.stage at e;
   fits = λ e. not_ended s.stage at e;
 }
@@ -103,7 +102,6 @@ parts_set s c row at are h = record {
   parts = All-set (λ row. (length row ≡ 0) ⊎ AreEntries (length s.names) s.drift row) s.parts c row (inr are) h.parts;
   overlook = h.overlook;
   changes = h.changes;
-  plain = h.plain;
   whole = λ e. not_ended s.stage at e;
   fits = λ e. not_ended s.stage at e;
 }
@@ -189,7 +187,6 @@ drift_row_added s r two at rows h = record {
   parts = h.parts;
   overlook = h.overlook;
   changes = record { early = λ le. absurd (rows_only s at le); every_period = λ one. absurd (let bad : One ≡ Two = sym one ∙ two in let none : ⊥ = cc in none); drifts = rows; looks = h.changes.looks };
-  plain = h.plain;
   whole = λ e. not_ended s.stage at e;
   fits = λ e. not_ended s.stage at e;
 }
@@ -245,7 +242,6 @@ look_set s q row at are h = record {
   parts = h.parts;
   overlook = h.overlook;
   changes = h.changes;
-  plain = h.plain;
   whole = λ e. not_ended s.stage at e;
   fits = λ e. not_ended s.stage at e;
 }
@@ -286,7 +282,6 @@ look_row_added s r two at rows h = record {
   parts = h.parts;
   overlook = h.overlook;
   changes = record { early = λ le. absurd (rows_only s at le); every_period = λ one. absurd (let bad : One ≡ Two = sym one ∙ two in let none : ⊥ = cc in none); drifts = h.changes.drifts; looks = rows };
-  plain = h.plain;
   whole = λ e. not_ended s.stage at e;
   fits = λ e. not_ended s.stage at e;
 }
@@ -334,7 +329,6 @@ overlook_set s c part at le h = record {
   parts = h.parts;
   overlook = All-set (IsPart s.look) s.overlook c (Some part) le h.overlook;
   changes = h.changes;
-  plain = h.plain;
   whole = λ e. not_ended s.stage at e;
   fits = λ e. not_ended s.stage at e;
 }
@@ -375,7 +369,6 @@ spread_taken s part one at gridded narrow h =
       parts = All-spread_rows (length s.names) s.drift part s.moves moves (h.own gridded) narrow;
       overlook = h.overlook;
       changes = h.changes;
-      plain = h.plain;
       whole = λ e. not_ended s.stage at e;
       fits = λ e. not_ended s.stage at e;
     }
@@ -412,7 +405,6 @@ rate_taken s part one at le h = record {
   parts = h.parts;
   overlook = All-replicate (IsPart s.look) (length s.names) (Some part) le;
   changes = h.changes;
-  plain = h.plain;
   whole = λ e. not_ended s.stage at e;
   fits = λ e. not_ended s.stage at e;
 }
@@ -448,7 +440,6 @@ end_taken s at whole fits h = record {
   parts = h.parts;
   overlook = h.overlook;
   changes = changed_on s.version s.stage due.Ended _ _ _ _ _ _ _ (λ le. absurd (omega arith)) h.changes;
-  plain = h.plain;
   whole = λ e. whole;
   fits = λ e. fits;
 }

@@ -18,7 +18,7 @@ use Rattle.scenario_text.proofs.SoundFields.{none_pass}
 use Rattle.list_laws.proofs.Sums.{sum_by-map}
 
 -- The moves of a grid.
-AreMoves-from_row : (cells : ℕ) (row : List ℕ) → IsMoveRow cells row → AreMoves cells row
+pub AreMoves-from_row : (cells : ℕ) (row : List ℕ) → IsMoveRow cells row → AreMoves cells row
 AreMoves-from_row cells row h = record {
   some = h.some;
   few = h.few;

@@ -54,7 +54,6 @@ blank_sound = record {
   parts = All-nil (λ row. (length row ≡ 0) ⊎ AreEntries 0 0 row);
   overlook = All-nil (IsPart 0);
   changes = record { early = λ le. (refl, refl); every_period = λ one. (refl, refl); drifts = none_period 0 0 (AreEntries 0 0); looks = none_period 0 0 (AreLooks 0 0) };
-  plain = refl;
   whole = λ e. absurd (let bad : ⊥ = cc in bad);
   fits = λ e. absurd (let bad : ⊥ = cc in bad);
 }

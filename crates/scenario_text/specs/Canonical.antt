@@ -42,7 +42,15 @@ drift_changes p = later_rows (row_of p.drift) p.cells (p.horizon - 1)
 abbrev pub look_changes : Problem → List PeriodRow
 look_changes p = later_rows (covered p) p.positions p.horizon
 
--- a look from position a covers no cell but the one of its number
+-- whether the rows of period t are those of period 1
+abbrev pub is_as_first : (ℕ → ℕ → List DriftPart) → ℕ → ℕ → Bool
+is_as_first row owners t = list_all (λ c. is_same_row (row t c) (row 1 c)) (range_with_len 0 owners)
+
+-- and whether those of the periods 2 to the last one are
+abbrev pub is_steady : (ℕ → ℕ → List DriftPart) → ℕ → ℕ → Bool
+is_steady row owners last = list_all (is_as_first row owners) (range_with_len 2 (last - 1))
+
+-- whether a look from position a in period 1 covers no cell but the one of its number
 abbrev pub covers_itself : Problem → ℕ → Bool
 covers_itself p a = list_all (λ e. e.cell == a) (covered p 1 a)
 
@@ -51,7 +59,7 @@ covers_itself p a = list_all (λ e. e.cell == a) (covered p 1 a)
 unfoldable pub is_plain : Problem → Bool
 is_plain p =
     pointwise bytes_eq p.position_names p.names
-    && ((length (drift_changes p) == 0) && ((length (look_changes p) == 0) && list_all (covers_itself p) (range_with_len 0 p.positions)))
+    && (is_steady (row_of p.drift) p.cells (p.horizon - 1) && (is_steady (covered p) p.positions p.horizon && list_all (covers_itself p) (range_with_len 0 p.positions)))
 
 -- what the canonical text says, read to its end, where version 1 can say it
 abbrev pub plain_state : Problem → State

@@ -1,12 +1,13 @@
 -- What a line without a fault adds to what was read.
-use Rattle.std.specs.Prelude.{ℕ, ◌*◌, ◌-◌, Bool, true, if◌then◌else◌, List, [], ◌∷◌, ◌++◌, map, length, set, replicate, Option, Some, None, unwrap_or, Result, Ok, Err}
+use Rattle.std.specs.Prelude.{ℕ, ◌*◌, ◌-◌, Bool, true, if◌then◌else◌, List, [], ◌∷◌, ◌++◌, map, length, set, replicate, Option, Some, None, unwrap_or, Result, Ok, Err, codes}
 use Rattle.search_grid.specs.Sides.{side_moves}
 use Rattle.search_model.specs.Grids.{grid_names, spread_rows}
 use Rattle.scenario_text.specs.declared.draft.Stage.TheVariants as due
 use Rattle.scenario_text.specs.declared.kind.TextKind.{TextKind}
-use Rattle.text_rows.specs.Fields.{behind_first}
+use Rattle.text_rows.specs.Fields.{behind_first, is_word}
 use Rattle.scenario_text.specs.Fields.{cell_named, entries_in}
 use Rattle.scenario_text.specs.State.{State, by_version, positions_in}
+use Rattle.scenario_text.specs.declared.draft.TextVersion.TheVariants.{One, Two}
 use Rattle.scenario_text.specs.declared.line.Line.{Line}
 use Rattle.scenario_text.specs.declared.line.Line.TheVariants.{Scenario, Horizon, Parts, Cell, Position, Grid, Start, First, Moves, Drift, DriftIn, Overlook, Spread, Rate, Look, LookIn, End}
 use Rattle.scenario_text.specs.KindTable.{value, part, tests, line_of}
@@ -47,7 +48,7 @@ with_cells s rows cols =
 
 -- what each line adds, by the fields behind its keyword
 abbrev pub adds : Line → State → List (List ℕ) → State
-adds Scenario s fields = record s { stage = due.Horizon }
+adds Scenario s (version ∷ []) = record s { stage = due.Horizon; version = if is_word version (codes "1") then One else Two }
 adds Horizon s (t ∷ []) = record s { stage = due.Parts; horizon = value 32 t }
 adds Parts s (a ∷ d ∷ g ∷ []) = record s { stage = due.Cells; total = part a; drift = part d; look = part g }
 adds Cell s (name ∷ []) = with_name s name

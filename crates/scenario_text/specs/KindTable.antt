@@ -234,9 +234,9 @@ lacks_row s =
 abbrev pub is_narrow : State → Bool
 is_narrow s = nat_lt ((s.horizon + 10) * s.total * s.drift ^ (s.horizon - 1) * s.look ^ (s.horizon + 1)) (2 ^ 127)
 
--- the version isn't `1`, a cell's name holds a byte that names don't have, or `spread` stands without `grid`
+-- the version is neither `1` nor `2`, a cell's name holds a byte that names don't have, or `spread` stands without `grid`
 abbrev pub is_ill : State → Line → List (List ℕ) → Bool
-is_ill s Scenario fields = not (list_all (λ f. is_word f (codes "1")) fields)
+is_ill s Scenario fields = not (list_all (λ f. is_word f (codes "1") || is_word f (codes "2")) fields)
 is_ill s Cell fields = not (list_all (list_all is_name_byte) fields)
 is_ill s Position fields = not (list_all (list_all is_name_byte) fields)
 is_ill s Spread fields = not s.gridded

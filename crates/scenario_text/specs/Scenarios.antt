@@ -9,7 +9,7 @@ use Rattle.drift_chain.specs.Faults.{HasSameParts}
 use Rattle.drift_chain.specs.ChangeFaults.{AreSameChanges}
 use Rattle.sweep_table.specs.declared.part.LookPart.{LookPart}
 use Rattle.sweep_table.specs.LookParts.{LookParts, LookRowChange, misses, parts_over}
-use Rattle.sweep_table.specs.Changes.{IsSameChange}
+use Rattle.sweep_table.specs.Changes.{HaveAscendingRows, IsSameChange}
 use Rattle.search_model.specs.Problem.{Problem, IsProblem, first_of}
 use Rattle.scenario_text.specs.declared.stop.TextStop.{TextStop}
 use Rattle.scenario_text.specs.declared.stop.TextStop.TheVariants.{Fault, NoMemory}
@@ -31,12 +31,13 @@ look_parts row = map (λ e. misses e.cell e.part) row
 abbrev pub look_change_of : PeriodRow → LookRowChange
 look_change_of r = record { period = r.period; position = r.own; row = look_parts r.row }
 
--- in version 2 the looks are those of the rows, and of the rows of single periods, with their entries in any order
+-- in version 2 the looks are those of the rows, and of the rows of single periods, with their entries in ascending order
 pub record AreLooksOf (s : State) (sweep : LookParts) : Type 0 where
   pub denominator : sweep.denominator ≡ s.look
   pub cells : sweep.cells ≡ length s.names
   pub rows : AllZip IsPermutation (map (λ row. look_parts (unwrap_or row [])) s.looks) sweep.rows
   pub changes : AllZip IsSameChange (map look_change_of s.look_rows) sweep.changes
+  pub ascending : HaveAscendingRows sweep.changes
 
 -- in version 1 each look covers the cell of its position's number alone, with its overlook part
 abbrev pub SaysLooks : TextVersion → State → LookParts → Type 0

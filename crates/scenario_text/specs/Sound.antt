@@ -103,6 +103,5 @@ pub record IsSound (s : State) : Type 0 where
   pub parts : All (λ row. (length row ≡ 0) ⊎ AreEntries (length s.names) s.drift row) s.parts
   pub overlook : All (IsPart s.look) s.overlook
   pub changes : AreChanges s.version s.stage s.horizon (length s.names) (length (positions_in s)) s.drift s.look s.drift_rows s.look_rows
-  pub plain : s.version ≡ One
   pub whole : s.stage ≡ Ended → lacks_row s ≡ false
   pub fits : s.stage ≡ Ended → Fits s.total s.drift s.look s.horizon

@@ -1,23 +1,19 @@
--- Worked texts of version 2, behind their first line: what their lines add, and faults of each kind.
-use Rattle.std.specs.Prelude.{ℕ, ◌≡◌, ◌-◌, false, List, [], ◌∷◌, ◌++◌, take, Some, Result, Ok, Err, codes}
+-- Worked texts of version 2: what their lines add, and faults of each kind.
+use Rattle.std.specs.Prelude.{ℕ, ◌≡◌, ◌-◌, false, List, [], ◌∷◌, ◌++◌, take, Some, Ok, codes}
 use Rattle.drift_chain.specs.declared.part.DriftPart.{DriftPart}
-use Rattle.scenario_text.specs.declared.draft.Stage.TheVariants.{Horizon, Ended}
+use Rattle.scenario_text.specs.declared.draft.Stage.TheVariants.{Ended}
 use Rattle.scenario_text.specs.declared.draft.TextVersion.TheVariants.{Two}
 use Rattle.scenario_text.specs.declared.kind.TextKind.{TextKind}
 use Rattle.scenario_text.specs.declared.kind.TextKind.TheVariants.{BadLine, BadNumber, OverLimit, UnknownName, DoubleName, MissingRow, DoubleRow, WrongSum, PartOver, NoMove}
 use Rattle.scenario_text.specs.declared.kind.TextFault.{TextFault}
-use Rattle.scenario_text.specs.State.{State, PeriodRow, blank_state}
-use Rattle.scenario_text.specs.Reading.{Front, lines_at}
-use Rattle.scenario_text.specs.Worked.{entry, IsWrong}
-
--- what some lines say, the second of a text of version 2 and those behind it
-abbrev pub said_two : List (List ℕ) → Result Front TextFault
-said_two lines = lines_at (record blank_state { stage = Horizon; version = Two }) 2 lines
+use Rattle.scenario_text.specs.State.{State, PeriodRow}
+use Rattle.scenario_text.specs.Worked.{entry, said, HasFault, IsWrong}
 
 -- one position from which a look covers two cells, another way in period 2
 abbrev pub by_positions : List (List ℕ)
 by_positions =
-    codes "horizon 2"
+    codes "scenario 2"
+    ∷ codes "horizon 2"
     ∷ codes "parts 1 2 2"
     ∷ codes "cell a"
     ∷ codes "cell b"
@@ -57,12 +53,13 @@ positions_say = record {
 
 -- with a row of drift for period 1, and the look's row behind that of its period
 abbrev pub by_periods : List (List ℕ)
-by_periods = take 10 by_positions ++ codes "lookin 2 w b 0" ∷ codes "driftin 1 a a 2" ∷ codes "look w a 1 b 1" ∷ codes "end" ∷ []
+by_periods = take 11 by_positions ++ codes "lookin 2 w b 0" ∷ codes "driftin 1 a a 2" ∷ codes "look w a 1 b 1" ∷ codes "end" ∷ []
 
 -- two positions, from one of which a look covers nothing
 abbrev pub by_base : List (List ℕ)
 by_base =
-    codes "horizon 1"
+    codes "scenario 2"
+    ∷ codes "horizon 1"
     ∷ codes "parts 1 1 2"
     ∷ codes "cell a"
     ∷ codes "position base"
@@ -101,7 +98,8 @@ base_says = record {
 -- a cell and a position that have one name, which is a keyword
 abbrev pub by_keyword : List (List ℕ)
 by_keyword =
-    codes "horizon 1"
+    codes "scenario 2"
+    ∷ codes "horizon 1"
     ∷ codes "parts 1 1 2"
     ∷ codes "cell end"
     ∷ codes "position -"
@@ -125,18 +123,15 @@ keyword_says = record base_says {
   looks = Some (entry 0 2 ∷ []) ∷ Some (entry 0 0 ∷ []) ∷ [];
 }
 
-abbrev pub HasFaultTwo : List (List ℕ) → ℕ → TextKind → Type 0
-HasFaultTwo lines number kind = said_two lines ≡ Err (record { line = number; kind = kind })
-
 -- the lines of the text by positions up to one of this number are right, and this line in its place isn't
 abbrev pub IsWrongTwo : ℕ → List ℕ → TextKind → Type 0
-IsWrongTwo n line kind = HasFaultTwo (take (n - 2) by_positions ++ line ∷ []) n kind
+IsWrongTwo n line kind = HasFault (take (n - 1) by_positions ++ line ∷ []) n kind
 
 pub record WorkedTwo : Type 0 where
-  pub positions : said_two (by_positions ++ codes "end" ∷ []) ≡ Ok (record { state = positions_say; line = 14 })
-  pub periods : said_two by_periods ≡ Ok (record { state = record positions_say { drift_rows = in_period 1 0 (entry 0 2 ∷ []) ∷ [] }; line = 15 })
-  pub base : said_two by_base ≡ Ok (record { state = base_says; line = 14 })
-  pub keyword : said_two by_keyword ≡ Ok (record { state = keyword_says; line = 14 })
+  pub positions : said (by_positions ++ codes "end" ∷ []) ≡ Ok (record { state = positions_say; line = 14 })
+  pub periods : said by_periods ≡ Ok (record { state = record positions_say { drift_rows = in_period 1 0 (entry 0 2 ∷ []) ∷ [] }; line = 15 })
+  pub base : said by_base ≡ Ok (record { state = base_says; line = 14 })
+  pub keyword : said by_keyword ≡ Ok (record { state = keyword_says; line = 14 })
   pub position_first : IsWrongTwo 4 (codes "position w") BadLine
   pub grid : IsWrongTwo 6 (codes "grid 1 1") BadLine
   pub start_first : IsWrongTwo 6 (codes "start w") BadLine
@@ -182,9 +177,9 @@ pub record WorkedTwo : Type 0 where
   pub driftin_of_position : IsWrongTwo 13 (codes "driftin 1 w a 2") UnknownName
   pub driftin_twice : IsWrongTwo 13 (codes "driftin 1 a a 1 a 1") DoubleName
   pub driftin_sum : IsWrongTwo 13 (codes "driftin 1 a a 1") WrongSum
-  pub driftin_again : HasFaultTwo (by_positions ++ codes "driftin 1 a a 2" ∷ codes "driftin 1 a b 1" ∷ []) 15 DoubleRow
-  pub driftin_horizon_1 : HasFaultTwo (take 10 by_base ++ codes "driftin 1 a a 1" ∷ []) 12 OverLimit
-  pub driftin_horizon_0 : HasFaultTwo (take 10 by_base ++ codes "driftin 0 a a 1" ∷ []) 12 BadNumber
+  pub driftin_again : HasFault (by_positions ++ codes "driftin 1 a a 2" ∷ codes "driftin 1 a b 1" ∷ []) 15 DoubleRow
+  pub driftin_horizon_1 : HasFault (take 11 by_base ++ codes "driftin 1 a a 1" ∷ []) 12 OverLimit
+  pub driftin_horizon_0 : HasFault (take 11 by_base ++ codes "driftin 0 a a 1" ∷ []) 12 BadNumber
   pub position_of_one : IsWrong 4 (codes "position w") BadLine
   pub driftin_of_one : IsWrong 7 (codes "driftin 1 a a 2") BadLine
   pub look_of_one : IsWrong 7 (codes "look a a 1") BadLine

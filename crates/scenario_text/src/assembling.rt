@@ -1,13 +1,10 @@
 //! The scenario that a draft says.
 
-ghost use Rattle.std.specs.Prelude.{[], ◌≡◌, ◌<◌, ◌≤◌, ℕ, List, All, map, length, slice_index, sum, sum_by, unwrap_or, IfOk};
+ghost use Rattle.std.specs.Prelude.{◌≡◌, ◌<◌, ℕ, All, map, length, slice_index, sum, sum_by, IfOk};
 ghost use Rattle.search_grid.specs.declared.faults.GridFault.{GridFault};
 ghost use Rattle.search_grid.specs.Moves.{IsGrid};
 ghost use Rattle.search_grid.specs.Faults.{HasSameMoves, HasFault as HasGridFault};
-ghost use Rattle.drift_chain.specs.declared.faults.DriftFault.{DriftFault};
-ghost use Rattle.drift_chain.specs.DriftRows.{part_in, IsDrift};
-ghost use Rattle.drift_chain.specs.Faults.{HasSameParts, HasFault as HasDriftFault};
-ghost use Rattle.sweep_table.specs.LookParts.{parts_over, IsSweep};
+ghost use Rattle.drift_chain.specs.DriftRows.{part_in};
 ghost use Rattle.search_model.specs.Names.{IsName};
 ghost use Rattle.search_model.specs.Parts.{problem_of};
 ghost use Rattle.search_model.specs.Problem.{IsProblem};
@@ -17,12 +14,13 @@ ghost use Rattle.scenario_text.specs.Sound.{IsSound, AreEntries};
 ghost use Rattle.scenario_text.specs.Scenarios.{Says};
 
 use crate::draft::{Draft, TextVersion};
-use drift_chain::{Drift, DriftPart};
+use crate::drifts::{base_drift, changed_drift, drift_changes};
+use crate::sweeps::sweep_of;
+use drift_chain::DriftPart;
 use indexmap::IndexSet;
 use search_grid::Grid;
 use search_model::{Name, Parts, Scenario};
 use std::alloc::{AllocError, Global};
-use sweep_table::Sweep;
 
 fn names_of(alloc: Global, keys: &IndexSet<Vec<u8>>) -> Result<Vec<Name>, AllocError>
     requires { All IsName (map (λ n. n.items) keys.now.keys) }
@@ -53,12 +51,6 @@ fn parts_of(alloc: Global, cells: usize, entries: &[DriftPart]) -> Result<Vec<u3
     Ok(parts)
 }
 
-fn overlook_of(alloc: Global, parts: &[Option<u32>]) -> Result<Vec<u32>, AllocError>
-    ensures { IfOk result (λ v. v.items ≡ map (λ o. unwrap_or o 0) parts.now) }
-{
-    parts.iter().map(|o| o.unwrap_or(0)).collect(alloc)
-}
-
 fn grid_of(rows: Vec<Vec<u8>>) -> Grid
     requires { (fault : GridFault) → HasGridFault (map (λ row. row.items) rows.items) fault → ⊥ }
     ensures made { HasSameMoves (map (λ row. row.items) rows.items) result }
@@ -66,33 +58,6 @@ fn grid_of(rows: Vec<Vec<u8>>) -> Grid
 {
     match Grid::new(rows) {
         Ok(grid) => grid,
-        Err(_) => unreachable!(),
-    }
-}
-
-fn drift_of(denominator: u32, rows: Vec<Vec<DriftPart>>) -> Drift
-    requires some_denominator { 1 ≤ denominator }
-    requires most_denominator { denominator ≤ 1000000 }
-    requires some_row { 1 ≤ length rows.items }
-    requires most_rows { length rows.items ≤ 200 }
-    requires faultless { (fault : DriftFault) → HasDriftFault denominator (map (λ row. row.items) rows.items) fault → ⊥ }
-    ensures denominator { result.denominator ≡ denominator }
-    ensures made { HasSameParts (map (λ row. row.items) rows.items) result.rows }
-    ensures steady { result.changes ≡ [] }
-    ensures sound { IsDrift result }
-{
-    match Drift::new(denominator, rows) {
-        Ok(drift) => drift,
-        Err(_) => unreachable!(),
-    }
-}
-
-fn sweep_of(denominator: u32, overlook: Vec<u32>) -> Sweep
-    requires { IsSweep (parts_over denominator overlook.items) }
-    ensures { result ≡ parts_over denominator overlook.items }
-{
-    match Sweep::new(denominator, overlook) {
-        Ok(sweep) => sweep,
         Err(_) => unreachable!(),
     }
 }
@@ -127,7 +92,9 @@ fn model_parts(alloc: Global, draft: Draft) -> Result<Parts, AllocError>
     let names = names_of(alloc, &draft.names)?;
     let positions = position_names(alloc, &draft)?;
     let first = parts_of(alloc, draft.names.len(), &draft.first)?;
-    let overlook = overlook_of(alloc, &draft.overlook)?;
+    let sweep = sweep_of(alloc, &draft)?;
+    let changes = drift_changes(alloc, draft.drift_rows)?;
+    let drift = changed_drift(alloc, base_drift(draft.drift, draft.parts), changes)?;
     Ok(Parts {
         names,
         positions,
@@ -136,8 +103,8 @@ fn model_parts(alloc: Global, draft: Draft) -> Result<Parts, AllocError>
         total: draft.total,
         first,
         grid: grid_of(draft.moves),
-        drift: drift_of(draft.drift, draft.parts),
-        sweep: sweep_of(draft.look, overlook),
+        drift,
+        sweep,
     })
 }
 

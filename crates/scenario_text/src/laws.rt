@@ -1,6 +1,6 @@
 //! What the definitions of the text say together.
 
-ghost use Rattle.scenario_text.specs.Laws.{OneProblem, EveryTextSpellsOne, CanonicalSays, CanonicalReadsBack, CanonicalFrontReadsBack, FrontIgnoresRest};
+ghost use Rattle.scenario_text.specs.Laws.{OneProblem, EveryTextSpellsOne, CanonicalVersion, CanonicalReadsBack, CanonicalFrontReadsBack, FrontIgnoresRest};
 ghost use Rattle.scenario_text.specs.Worked.{WorkedTexts};
 ghost use Rattle.scenario_text.specs.WorkedTwo.{WorkedTwo};
 ghost use Rattle.scenario_text.specs.InRows.{GridInRows, GridReadsOn, RateInRows, SpreadInRows};
@@ -12,13 +12,13 @@ pub fn one_problem_a_text()
     ensures { OneProblem }
 {}
 
-/// What the canonical text of a plain problem says is that problem.
-#[tactic(auto, using(crate::proofs::CanonicalSaid::canonical_says))]
-pub fn canonical_text_says()
-    ensures { CanonicalSays }
+/// The canonical text is of version 1 exactly where such a text can say the problem.
+#[tactic(auto, using(crate::proofs::Plain::canonical_version))]
+pub fn canonical_version()
+    ensures { CanonicalVersion }
 {}
 
-/// The canonical text of a plain problem is a text of that problem alone.
+/// The canonical text of a problem is a text of the same problem.
 #[tactic(auto, using(crate::proofs::Back::canonical_reads_back))]
 pub fn canonical_text_reads_back()
     ensures { CanonicalReadsBack }
@@ -59,8 +59,8 @@ pub fn worked_texts()
     ensures { WorkedTexts }
 {}
 
-/// Lines of version 2, behind that of the version, with what they say, and faults of each kind, worked by hand.
-pub fn worked_lines_of_version_2()
+/// Texts of version 2 with what they say, and faults of each kind, worked by hand.
+pub fn worked_texts_of_version_2()
     ensures { WorkedTwo }
 {}
 

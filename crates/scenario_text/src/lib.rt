@@ -6,6 +6,7 @@ mod cell_names;
 mod cells;
 mod digits;
 mod draft;
+mod drifts;
 mod kind;
 mod laws;
 mod line;
@@ -19,18 +20,24 @@ mod reading;
 mod rows;
 mod scenarios;
 mod shorthands;
+mod steady;
 mod stop;
+mod sweeps;
 mod taking;
 mod taking_line;
 #[cfg(test)]
 mod tests;
+#[cfg(test)]
+mod period_tests;
+#[cfg(test)]
+mod printing_tests;
 
 pub use kind::{TextFault, TextKind, text_kind_name};
 pub use laws::{
-    canonical_front_reads_back, canonical_text_reads_back, canonical_text_says,
+    canonical_front_reads_back, canonical_text_reads_back, canonical_version,
     every_text_spells_one, first_fault_decides, first_fault_decides_alone, front_ignores_rest,
     grid_in_rows, grid_reads_on, kinds_in_order, one_problem_a_text, rate_in_rows,
-    silent_lines_add_nothing, spread_in_rows, worked_lines_of_version_2, worked_texts,
+    silent_lines_add_nothing, spread_in_rows, worked_texts, worked_texts_of_version_2,
 };
 pub use printing::print_scenario;
 pub use scenarios::{read_scenario, read_scenario_alone};

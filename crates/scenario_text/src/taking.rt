@@ -20,13 +20,19 @@ use crate::pairs::{Scan, check_pairs, scan_some_pairs, total_of};
 use crate::stop::LineStop;
 use std::alloc::Global;
 
-/// `scenario 1`
+/// `scenario 1`, or `scenario 2`
 pub fn take_version(draft: &mut Draft, fields: &[&[u8]]) -> Result<(), LineStop>
     ensures { TakesLine draft.new result (row_at Line.Scenario (state_of draft.old) (map (λ f. f.now) fields.now)) }
 {
     match fields {
         [version] if *version == b"1".as_slice() => {
             draft.stage = Stage::Horizon;
+            draft.version = TextVersion::One;
+            Ok(())
+        }
+        [version] if *version == b"2".as_slice() => {
+            draft.stage = Stage::Horizon;
+            draft.version = TextVersion::Two;
             Ok(())
         }
         _ => Err(LineStop::Fault(TextKind::BadLine)),

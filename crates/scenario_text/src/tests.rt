@@ -21,16 +21,16 @@ const ONE: &str = "scenario 1\nhorizon 1\nparts 1 1 2\ncell a\nstart a\nfirst a 
 const PAIR: &str = "scenario 1\nhorizon 1\nparts 1 2 2\ngrid 1 2\nstart r0c0\nfirst r0c0 1\n";
 
 /// A text behind its head, and the line and the kind of its first fault.
-type Row<'a> = (&'a [u8], u64, TextKind);
+pub type Row<'a> = (&'a [u8], u64, TextKind);
 
-fn joined(alloc: Global, head: &str, rest: &[u8]) -> Result<Vec<u8>, Fail> {
+pub fn joined(alloc: Global, head: &str, rest: &[u8]) -> Result<Vec<u8>, Fail> {
     let mut text = head.as_bytes().to_vec(alloc)?;
     text.extend_from_slice(rest)?;
     Ok(text)
 }
 
 /// Whether a text has this first fault, alone and at the front, but for what follows its line `end`.
-fn has_fault(rt: &impl AllocGlobal, head: &str, row: Row) -> Result<bool, Fail> {
+pub fn has_fault(rt: &impl AllocGlobal, head: &str, row: Row) -> Result<bool, Fail> {
     let (rest, line, kind) = row;
     let text = joined(rt.alloc(), head, rest)?;
     let fault = TextStop::Fault(TextFault { line, kind });
@@ -39,7 +39,7 @@ fn has_fault(rt: &impl AllocGlobal, head: &str, row: Row) -> Result<bool, Fail> 
     Ok(alone && (front || kind == TextKind::Rest))
 }
 
-fn have_faults(rt: &impl AllocGlobal, head: &str, rows: &[Row]) -> Result<bool, Fail> {
+pub fn have_faults(rt: &impl AllocGlobal, head: &str, rows: &[Row]) -> Result<bool, Fail> {
     for row in rows {
         if !has_fault(rt, head, *row)? {
             return Ok(false);
@@ -49,7 +49,7 @@ fn have_faults(rt: &impl AllocGlobal, head: &str, rows: &[Row]) -> Result<bool, 
 }
 
 /// The canonical text of a scenario's text.
-fn canonical(rt: &impl AllocGlobal, head: &str, rest: &[u8]) -> Result<Vec<u8>, Fail> {
+pub fn canonical(rt: &impl AllocGlobal, head: &str, rest: &[u8]) -> Result<Vec<u8>, Fail> {
     let text = joined(rt.alloc(), head, rest)?;
     let sc = match read_scenario_alone(rt.alloc(), &text) {
         Ok(sc) => sc,
@@ -166,10 +166,12 @@ fn cells_may_have_any_name(rt: HostRuntime) -> Result<(), Fail> {
 
 #[test]
 fn faults_of_the_head(rt: HostRuntime) -> Result<(), Fail> {
-    let rows: [Row; 36] = [
+    let rows: [Row; 38] = [
         (b"", 1, TextKind::EarlyEnd),
         (b"# x\n\n", 3, TextKind::EarlyEnd),
-        (b"scenario 2\n", 1, TextKind::BadLine),
+        (b"scenario 2\n", 2, TextKind::EarlyEnd),
+        (b"scenario 3\n", 1, TextKind::BadLine),
+        (b"scenario 02\n", 1, TextKind::BadLine),
         (b"scenario 01\n", 1, TextKind::BadLine),
         (b"Scenario 1\n", 1, TextKind::BadLine),
         (b"scenario\n", 1, TextKind::BadLine),

@@ -1,30 +1,34 @@
 use Rattle.std.proofs.Common.{◌≡◌, ℕ, ◌<◌, List, map, length, refl, sym, ap, ◌∙◌, arith, subst, Vec, Global}
-use Rattle.std.specs.Prelude.{slice_index, sum_by, unwrap_or}
+use Rattle.std.specs.Prelude.{slice_index, sum_by}
 use Rattle.std.proofs.lemmas.List.{length-map}
 use Rattle.drift_chain.specs.declared.part.DriftPart.{DriftPart}
-use Rattle.drift_chain.specs.DriftRows.{part_in}
-use Rattle.sweep_table.specs.LookParts.{parts_over, IsSweep}
-use Rattle.scenario_text.specs.State.{state_of}
-use Rattle.scenario_text.proofs.Assembled.{no_grid_fault, no_drift_fault, IsSweep-read, problem_says}
+use Rattle.drift_chain.specs.DriftRows.{DriftRows, DriftRowChange, drift_cells, part_in}
+use Rattle.drift_chain.specs.Faults.{HasSameParts}
+use Rattle.drift_chain.specs.ChangeFaults.{AreSameChanges}
+use Rattle.scenario_text.specs.State.{State, state_of}
+use Rattle.scenario_text.proofs.Assembled.{no_grid_fault, no_drift_fault, no_drift_change_fault, problem_says}
 use Rattle.scenario_text.proofs.assembling.model_parts.Goals as goal
 
 pub grid_of-requires : goal.grid_of-requires
 grid_of-requires c = no_grid_fault (state_of c.args.draft) c.requires.sound c.requires.whole
 
-pub drift_of-requires-clause-faultless : goal.drift_of-requires-clause-faultless
-drift_of-requires-clause-faultless c = no_drift_fault (state_of c.args.draft) c.requires.sound c.requires.whole
+pub base_drift-requires-clause-faultless : goal.base_drift-requires-clause-faultless
+base_drift-requires-clause-faultless c = no_drift_fault (state_of c.args.draft) c.requires.sound c.requires.whole
 
-pub sweep_of-requires : goal.sweep_of-requires
-sweep_of-requires c =
-    let P : List ℕ → Type 0 = λ xs. IsSweep (parts_over c.args.draft.look xs) in
-    subst P (sym (c.in_ok-overlook.ensures ∙ ap (map (λ o. unwrap_or o 0)) c.deref-2.ensures.value)) (IsSweep-read (state_of c.args.draft) c.requires.sound c.requires.whole)
+pub changed_drift-requires-clause-faultless : goal.changed_drift-requires-clause-faultless
+changed_drift-requires-clause-faultless c =
+    let s : State = state_of c.args.draft in
+    let cells : drift_cells c.base_drift.result ≡ length s.names = c.base_drift.ensures.made.cells ∙ c.requires.sound.parts_length in
+    rw (c.base_drift.ensures.denominator, cells, c.in_ok-changes.ensures) (no_drift_change_fault s c.requires.sound c.requires.whole)
 
 pub returns : goal.returns
 returns c =
     let f : Vec ℕ Global → List ℕ = λ n. n.items in
+    let g : Vec DriftPart Global → List DriftPart = λ row. row.items in
     let long : c.len.result ≡ length (map f c.args.draft.names.keys) = c.len.ensures.len ∙ sym (length-map c.args.draft.names.keys f) in
     let P : List DriftPart → Type 0 = λ es. (d : ℕ) → d < c.len.result → slice_index c.in_ok-first.first.items d ≡ part_in es d in
     let each = subst P c.deref.ensures.value c.in_ok-first.ensures.parts in
+    let base = c.in_ok-drift.ensures.base in
     problem_says (state_of c.args.draft) c.requires.sound c.requires.whole _ (record {
       names = c.in_ok-names.ensures;
       position_names = c.in_ok-positions.ensures;
@@ -38,9 +42,10 @@ returns c =
       first_total = c.in_ok-first.ensures.total ∙ ap (λ (es : List DriftPart). sum_by (λ e. e.part) es) c.deref.ensures.value;
       moves = c.grid_of.ensures.made;
       grid = c.grid_of.ensures.sound;
-      denominator = c.drift_of.ensures.denominator;
-      parts = c.drift_of.ensures.made;
-      steady = c.drift_of.ensures.steady;
-      drift = c.drift_of.ensures.sound;
-      sweep = c.sweep_of.ensures ∙ ap (λ (xs : List ℕ). parts_over c.args.draft.look xs) (c.in_ok-overlook.ensures ∙ ap (map (λ o. unwrap_or o 0)) c.deref-2.ensures.value);
+      denominator = ap (λ (x : DriftRows). x.denominator) base ∙ c.base_drift.ensures.denominator;
+      parts = subst (HasSameParts (map g c.args.draft.parts.items)) (sym (ap (λ (x : DriftRows). x.rows) base)) c.base_drift.ensures.made;
+      changes = subst (λ (cs : List DriftRowChange). AreSameChanges cs c.in_ok-drift.drift.changes) c.in_ok-changes.ensures c.in_ok-drift.ensures.made;
+      drift = c.in_ok-drift.ensures.sound;
+      looks = c.in_ok-sweep.ensures.looks;
+      sweep = c.in_ok-sweep.ensures.sound;
     })

@@ -1,21 +1,29 @@
-use Rattle.std.proofs.lemmas.Result.{on_ok_weaker, on_err_weaker}
-use Rattle.scenario_text.proofs.Appending.{front_of_three-first, front_of_three-second, front_of_three-third, three_appended}
-use Rattle.exact_parts.proofs.AppendLemmas.{at_refusal}
-use Rattle.scenario_text.proofs.Printed.{canonical_text-pieces}
+use Rattle.std.proofs.Common.{◌≡◌, true, false, rules}
+use Rattle.scenario_text.specs.Canonical.{is_plain}
+use Rattle.scenario_text.proofs.Plain.{plain_names, text_plain, text_full}
 use Rattle.scenario_text.proofs.printing.print_scenario.Goals as goal
 
-pub returns-in_err-print_front-clause-no_memory : goal.returns-in_err-print_front-clause-no_memory
-returns-in_err-print_front-clause-no_memory c =
-    at_refusal _ _ (front_of_three-first _ _ (canonical_text-pieces c.args.sc.now) c.in_err-print_front.ensures.no_memory)
+pub print_plain-requires-clause-names : goal.print_plain-requires-clause-names
+print_plain-requires-clause-names c =
+    let plain : is_plain c.args.sc.now ≡ true = search rules in
+    plain_names c.args.sc.now plain
 
-pub returns-in_err-print_rows-clause-no_memory : goal.returns-in_err-print_rows-clause-no_memory
-returns-in_err-print_rows-clause-no_memory c =
-    at_refusal _ _ (front_of_three-second _ _ _ (canonical_text-pieces c.args.sc.now) c.in_ok-print_front.ensures.ok c.in_err-print_rows.ensures.no_memory)
+pub returns-then-is_plain-clause-ok : goal.returns-then-is_plain-clause-ok
+returns-then-is_plain-clause-ok c =
+    let plain : is_plain c.args.sc.now ≡ true = search rules in
+    rw (text_plain c.args.sc.now plain) c.print_plain.ensures.ok
 
-pub returns-clause-ok : goal.returns-clause-ok
-returns-clause-ok c =
-    on_ok_weaker _ (three_appended _ _ _ _ (canonical_text-pieces c.args.sc.now) c.in_ok-print_front.ensures.ok c.in_ok-print_rows.ensures.ok) c.push_all.ensures.ok
+pub returns-then-is_plain-clause-no_memory : goal.returns-then-is_plain-clause-no_memory
+returns-then-is_plain-clause-no_memory c =
+    let plain : is_plain c.args.sc.now ≡ true = search rules in
+    rw (text_plain c.args.sc.now plain) c.print_plain.ensures.no_memory
 
-pub returns-clause-no_memory : goal.returns-clause-no_memory
-returns-clause-no_memory c =
-    on_err_weaker _ (front_of_three-third _ _ _ _ (canonical_text-pieces c.args.sc.now) c.in_ok-print_front.ensures.ok c.in_ok-print_rows.ensures.ok) c.push_all.ensures.no_memory
+pub returns-else-is_plain-clause-ok : goal.returns-else-is_plain-clause-ok
+returns-else-is_plain-clause-ok c =
+    let full : is_plain c.args.sc.now ≡ false = search rules in
+    rw (text_full c.args.sc.now full) c.print_full.ensures.ok
+
+pub returns-else-is_plain-clause-no_memory : goal.returns-else-is_plain-clause-no_memory
+returns-else-is_plain-clause-no_memory c =
+    let full : is_plain c.args.sc.now ≡ false = search rules in
+    rw (text_full c.args.sc.now full) c.print_full.ensures.no_memory

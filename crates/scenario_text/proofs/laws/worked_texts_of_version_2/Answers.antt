@@ -1,5 +1,5 @@
 use Rattle.scenario_text.proofs.WorkedTexts.{worked_two}
-use Rattle.scenario_text.proofs.laws.worked_lines_of_version_2.Goals as goal
+use Rattle.scenario_text.proofs.laws.worked_texts_of_version_2.Goals as goal
 
 pub returns : goal.returns
 returns c = worked_two

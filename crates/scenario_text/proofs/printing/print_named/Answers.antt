@@ -1,0 +1,19 @@
+use Rattle.std.specs.Prelude.{map}
+use Rattle.text_rows.specs.Rows.{text_of}
+use Rattle.scenario_text.specs.declared.draft.TextVersion.TheVariants.{Two}
+use Rattle.scenario_text.specs.StateRows.{position_row}
+use Rattle.scenario_text.specs.Printing.{front_text}
+use Rattle.std.proofs.lemmas.Result.{on_err_weaker}
+use Rattle.scenario_text.proofs.Appending.{front_of_first, front_of_second}
+use Rattle.exact_parts.proofs.AppendLemmas.{at_refusal}
+use Rattle.scenario_text.proofs.printing.print_named.Goals as goal
+
+pub returns-in_err-print_front-clause-no_memory : goal.returns-in_err-print_front-clause-no_memory
+returns-in_err-print_front-clause-no_memory c =
+    let p = c.args.sc.now in
+    at_refusal _ _ (front_of_first _ _ (front_text Two p) (text_of (map position_row p.position_names)) c.in_err-print_front.ensures.no_memory)
+
+pub returns-clause-no_memory : goal.returns-clause-no_memory
+returns-clause-no_memory c =
+    let p = c.args.sc.now in
+    on_err_weaker _ (front_of_second _ _ _ (front_text Two p) (text_of (map position_row p.position_names)) c.in_ok-print_front.ensures.ok) c.print_positions.ensures.no_memory

@@ -1,0 +1,15 @@
+use Rattle.std.proofs.Common.{◌≡◌, ◌-◌, false, sym, arith, rules}
+use Rattle.scenario_text.specs.Canonical.{is_as_first, covered}
+use Rattle.scenario_text.proofs.SameRows.{all_from, all_but_one}
+use Rattle.scenario_text.proofs.steady.are_looks_steady.Goals as goal
+
+pub returns-then-not-looks_as_first : goal.returns-then-not-looks_as_first
+returns-then-not-looks_as_first c =
+    let p = c.args.sc.now in
+    let other : is_as_first (covered p) p.positions c.loop-t.t ≡ false = search rules in
+    sym (all_but_one (is_as_first (covered p) p.positions) (p.horizon - 1) 2 c.loop-t.t (omega arith) (omega (arith, c.horizon-t-end.ensures.value)) other)
+
+pub returns : goal.returns
+returns c =
+    let p = c.args.sc.now in
+    sym (all_from (is_as_first (covered p) p.positions) (p.horizon - 1) 2 (λ u low high. c.loop-t.invariant u low (omega (arith, low, high, c.horizon-t-end.ensures.value))))

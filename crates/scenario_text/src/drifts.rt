@@ -1,0 +1,70 @@
+//! The drift that a draft says.
+
+ghost use Rattle.std.specs.Prelude.{[], ◌≡◌, ◌≤◌, map, length, IfOk};
+ghost use Rattle.drift_chain.specs.declared.faults.DriftFault.{DriftFault};
+ghost use Rattle.drift_chain.specs.declared.changes.ChangeFault.{ChangeFault as ChangeFaultLem};
+ghost use Rattle.drift_chain.specs.DriftRows.{IsDrift, drift_cells, drift_with};
+ghost use Rattle.drift_chain.specs.Faults.{HasSameParts, HasFault};
+ghost use Rattle.drift_chain.specs.ChangeFaults.{AreSameChanges, HasChangeFault, row_change};
+ghost use Rattle.scenario_text.specs.State.{period_row_of};
+ghost use Rattle.scenario_text.specs.Scenarios.{drift_change_of};
+
+use crate::draft::RowIn;
+use drift_chain::{ChangeFault, Drift, DriftChange, DriftPart};
+use std::alloc::{AllocError, Global};
+
+/// The rows of single periods, as a drift takes them.
+pub fn drift_changes(alloc: Global, rows: Vec<RowIn>) -> Result<Vec<DriftChange>, AllocError>
+    ensures { IfOk result (λ v. map row_change v.items ≡ map drift_change_of (map period_row_of rows.items)) }
+{
+    let mut changes = Vec::new(alloc);
+    for row in rows {
+        changes.push(DriftChange {
+            period: row.period,
+            cell: row.own,
+            row: row.row,
+        })?;
+    }
+    Ok(changes)
+}
+
+/// The drift of these rows in every period.
+pub fn base_drift(denominator: u32, rows: Vec<Vec<DriftPart>>) -> Drift
+    requires some_denominator { 1 ≤ denominator }
+    requires most_denominator { denominator ≤ 1000000 }
+    requires some_row { 1 ≤ length rows.items }
+    requires most_rows { length rows.items ≤ 200 }
+    requires faultless { (fault : DriftFault) → HasFault denominator (map (λ row. row.items) rows.items) fault → ⊥ }
+    ensures denominator { result.denominator ≡ denominator }
+    ensures made { HasSameParts (map (λ row. row.items) rows.items) result.rows }
+    ensures steady { result.changes ≡ [] }
+    ensures sound { IsDrift result }
+{
+    match Drift::new(denominator, rows) {
+        Ok(drift) => drift,
+        Err(_) => unreachable!(),
+    }
+}
+
+/// The drift with these rows in single periods.
+pub fn changed_drift(
+    alloc: Global,
+    drift: Drift,
+    changes: Vec<DriftChange>,
+) -> Result<Drift, AllocError>
+    requires steady { drift.changes ≡ [] }
+    requires sound { IsDrift drift }
+    requires faultless { (fault : ChangeFaultLem) → HasChangeFault drift.denominator (drift_cells drift) (map row_change changes.items) fault → ⊥ }
+    ensures base { IfOk result (λ changed. changed ≡ drift_with drift changed.changes) }
+    ensures made { IfOk result (λ changed. AreSameChanges (map row_change changes.items) changed.changes) }
+    ensures sound { IfOk result IsDrift }
+{
+    if changes.is_empty() {
+        return Ok(drift);
+    }
+    match drift.in_periods(alloc, changes) {
+        Ok(changed) => Ok(changed),
+        Err(ChangeFault::NoMemory) => Err(AllocError),
+        Err(_) => unreachable!(),
+    }
+}
