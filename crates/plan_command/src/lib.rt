@@ -12,6 +12,8 @@ mod intake;
 mod judge;
 mod laws;
 mod line;
+#[cfg(test)]
+mod position_tests;
 mod request;
 mod scenario_end;
 mod serving;

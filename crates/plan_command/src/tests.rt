@@ -107,7 +107,7 @@ const USAGE: &str =
 
 /// A run: its words, the two parts of its input, and how it is to end.
 #[derive(Drop)]
-struct Row<'a> {
+pub struct Row<'a> {
     words: &'a str,
     scenario: &'a str,
     plan: &'a str,
@@ -177,7 +177,7 @@ fn ends<R: AllocGlobal + Threads + Wait + Sync>(
 }
 
 /// Whether all of these runs end so.
-fn all_end<R: AllocGlobal + Threads + Wait + Sync>(rt: &R, rows: &[Row]) -> Result<bool, Fail> {
+pub fn all_end<R: AllocGlobal + Threads + Wait + Sync>(rt: &R, rows: &[Row]) -> Result<bool, Fail> {
     for row in rows {
         if !ends(rt, row, &[], &[])? {
             return Ok(false);
@@ -187,7 +187,7 @@ fn all_end<R: AllocGlobal + Threads + Wait + Sync>(rt: &R, rows: &[Row]) -> Resu
 }
 
 /// A row in which a scenario is planned.
-fn planned<'a>(words: &'a str, scenario: &'a str, out: &'a str) -> Row<'a> {
+pub fn planned<'a>(words: &'a str, scenario: &'a str, out: &'a str) -> Row<'a> {
     Row {
         words,
         scenario,
@@ -211,7 +211,7 @@ fn judged<'a>(scenario: &'a str, plan: &'a str, status: Status, out: &'a str) ->
 }
 
 /// A row in which a plan is accepted.
-fn accepted<'a>(scenario: &'a str, plan: &'a str) -> Row<'a> {
+pub fn accepted<'a>(scenario: &'a str, plan: &'a str) -> Row<'a> {
     judged(scenario, plan, Status::Done, "accepted\n")
 }
 
@@ -239,12 +239,12 @@ fn refused<'a>(
 }
 
 /// A row in which the plan's text has a fault.
-fn bad_plan<'a>(scenario: &'a str, plan: &'a str, err: &'a str) -> Row<'a> {
+pub fn bad_plan<'a>(scenario: &'a str, plan: &'a str, err: &'a str) -> Row<'a> {
     refused("check", scenario, plan, Status::BadPlan, err)
 }
 
 /// A row in which the scenario's text has a fault.
-fn bad<'a>(scenario: &'a str, err: &'a str) -> Row<'a> {
+pub fn bad<'a>(scenario: &'a str, err: &'a str) -> Row<'a> {
     refused("plan", scenario, "", Status::BadScenario, err)
 }
 
@@ -470,7 +470,7 @@ fn plans_with_faults(rt: HostRuntime) -> Result<(), Fail> {
 }
 
 /// A row in which a plan is reported or converted.
-fn told<'a>(words: &'a str, scenario: &'a str, plan: &'a str, out: &'a str) -> Row<'a> {
+pub fn told<'a>(words: &'a str, scenario: &'a str, plan: &'a str, out: &'a str) -> Row<'a> {
     Row {
         words,
         scenario,

@@ -3,6 +3,7 @@
 ghost use Rattle.std.specs.Prelude.{◌≡◌, ◌+◌, ◌<◌, ◌≤◌, ◌++◌, ◌∷◌, [], length, map, vec_len, vec_capacity, slice_get, MatchOption, Contains, Some};
 ghost use Rattle.search_core.specs.Counts.{SameItems};
 
+use bound_tree::push_prefix;
 use search_model::Path;
 
 /// The first place of a prefix in a list.
@@ -26,19 +27,6 @@ pub(crate) fn take_out(list: &mut Vec<Path>, place: usize) -> Path
     ensures len { vec_len list.new + 1 ≡ vec_len list.old }
 {
     list.swap_remove(place)
-}
-
-/// Adds a prefix to a list that has room.
-pub(crate) fn push_prefix(list: &mut Vec<Path>, prefix: Path)
-    requires { vec_len list.old < vec_capacity list.old }
-    ensures items { list.new.items ≡ list.old.items ++ prefix ∷ [] }
-    ensures capacity { vec_capacity list.old ≤ vec_capacity list.new }
-    ensures len { vec_len list.new ≡ vec_len list.old + 1 }
-{
-    match list.push(prefix) {
-        Ok(()) => {}
-        Err(_) => unreachable!(),
-    }
 }
 
 /// A prefix with one position more.

@@ -9,8 +9,8 @@ ghost use Rattle.search_core.specs.Balance.{IsBalanced};
 ghost use Rattle.search_core.specs.Steps.{started, IsAllowed, Goes, Steps, Answers, MissesPool, MissesHands, MissesStanding};
 
 use crate::event::{CoreEvent, CoreFault};
-use crate::lists::{place_of, push_children, push_prefix, take_out};
-use bound_tree::{Kind, TreeNode};
+use crate::lists::{place_of, push_children, take_out};
+use bound_tree::{Kind, TreeNode, push_prefix};
 use exact_parts::NoMemory;
 use search_model::{Path, Scenario, Standing};
 use std::alloc::{AllocError, Global};
