@@ -2,19 +2,17 @@
 use Rattle.std.proofs.Common.{ℕ, ◌<◌, ◌≤◌, ◌≡◌, ◌≢◌, ◌==◌, ◌⊎◌, ◌∙◌, List, length, map, sym, subst, arith, sum_by, if◌then◌else◌, All, Any, inl, inr}
 use Rattle.std.specs.List.Sorted.{IsPermutation, IsStrictlyIncreasing}
 use Rattle.std.proofs.lemmas.Bool.{cases_lt}
-use Rattle.std.proofs.lemmas.List.Sorted.{sum_by-IsPermutation, Contains-permutation, IsPermutation-sym}
+use Rattle.std.proofs.lemmas.List.Sorted.{sum_by-IsPermutation, IsPermutation-sym}
 use Rattle.drift_chain.specs.declared.part.DriftPart.{DriftPart}
 use Rattle.drift_chain.specs.declared.faults.DriftFault.{DriftFault}
 use Rattle.drift_chain.specs.declared.faults.DriftFault.TheVariants.{OutOfRange, ZeroPart, DoubleEntry, WrongSum, NoMemory}
 use Rattle.drift_chain.specs.DriftRows.{drift_over, IsDriftRow, IsDrift}
 use Rattle.drift_chain.specs.Faults.{parts_from, HasSameParts, HasDouble, HasFault, IsNotAfter, IsFirstFault, IsFirstOfRow}
 use Rattle.list_laws.proofs.Ascending.{Ascends-from_keys, count_at-le}
+use Rattle.list_laws.proofs.Reordered.{Any-permutation}
 use Rattle.drift_chain.proofs.Drifts.{right_rows}
 
 -- the order of the entries in a row makes and mends no fault
-pub Any-permutation : {X : Type 0} (P : X → Type 0) (xs ys : List X) → IsPermutation xs ys → Any P xs → Any P ys
-Any-permutation P xs ys same any = let there = Contains-permutation xs ys any.1 same (any.0, any.2, any.3) in (there.0, any.1, there.1, there.2, any.4)
-
 pub HasDouble-permutation : (xs ys : List DriftPart) → IsPermutation xs ys → HasDouble xs → HasDouble ys
 HasDouble-permutation xs ys same double = (double.0, rw (sum_by-IsPermutation (λ entry. if entry.cell == double.0 then 1 else 0) xs ys same) double.1)
 

@@ -10,7 +10,8 @@ use Rattle.drift_chain.specs.declared.changes.ChangeFault.TheVariants.{PeriodOut
 use Rattle.drift_chain.specs.DriftRows.{DriftRowChange, IsSameKey}
 use Rattle.drift_chain.specs.Faults.{parts_from}
 use Rattle.drift_chain.specs.ChangeFaults.{change_key, rows_in, change_at, AreSameChanges, IsBadRow, HasChangeFault, IsFirstChangeFault, IsRefusal}
-use Rattle.drift_chain.proofs.NamedFaults.{Any-permutation, HasDouble-permutation, wrong_sum-permutation}
+use Rattle.list_laws.proofs.Reordered.{Any-permutation}
+use Rattle.drift_chain.proofs.NamedFaults.{HasDouble-permutation, wrong_sum-permutation}
 
 abbrev pub none : DriftRowChange
 none = record { period = 0; cell = 0; row = [] }

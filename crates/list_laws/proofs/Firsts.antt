@@ -1,7 +1,7 @@
 -- The first element that passes a test.
-use Rattle.std.proofs.Common.{◌≡◌, ◌<◌, ℕ, Bool, true, false, List, length, get_or, Some, None, refl, arith}
+use Rattle.std.proofs.Common.{◌≡◌, ◌<◌, ◌≤◌, ℕ, Bool, true, false, List, length, get_or, Some, None, refl, sym, ◌∙◌, arith, inl, inr}
 use Rattle.std.specs.List.{position, position_or_len}
-use Rattle.std.proofs.lemmas.Bool.{lt-ltb, le-ltb}
+use Rattle.std.proofs.lemmas.Bool.{lt-ltb, le-ltb, cases_lt, cond-true}
 use Rattle.std.proofs.lemmas.List.Sums.{position_or_len_is}
 
 -- the first place that passes a test is found
@@ -15,3 +15,11 @@ pub position-none : {X : Type 0} (p : X → Bool) (xs : List X) (d : X) → ((k 
 position-none p xs d fails =
     let at : position_or_len p xs ≡ length xs = position_or_len_is p xs (length xs) d (omega arith) fails (λ lt. absurd (omega arith)) in
     rw (at, le-ltb (length xs) (length xs) (omega arith)) refl
+
+-- where none is found, all places are passed
+pub position-past : {X : Type 0} (p : X → Bool) (xs : List X) → position p xs ≡ None → length xs ≤ position_or_len p xs
+position-past p xs told =
+    elim (cases_lt (position_or_len p xs) (length xs)) [
+      | inl inside ↦ let bad : Some (position_or_len p xs) ≡ None = sym (cond-true _ _ _ (lt-ltb _ _ inside)) ∙ told in absurd (let wrong : ⊥ = cc in wrong)
+      | inr past ↦ past
+    ]

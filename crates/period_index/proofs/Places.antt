@@ -9,7 +9,7 @@ use Rattle.std.proofs.lemmas.List.Sums.{fails_before_first}
 use Rattle.std.proofs.lemmas.Option.{cond_some, slice_get_past}
 use Rattle.std.proofs.lemmas.List.Folds.{find_at}
 use Rattle.std.proofs.lemmas.List.Quantifiers.{position-Some}
-use Rattle.list_laws.proofs.Firsts.{position-first, position-none}
+use Rattle.list_laws.proofs.Firsts.{position-first, position-none, position-past}
 use Rattle.period_index.specs.PeriodKeys.{PeriodKey, key_of, is_key, place_of}
 
 -- the test of a key is true at that key, and at no other
@@ -46,18 +46,10 @@ pub place_of-absent : (keys : List PeriodKey) (t r : ℕ) (d : PeriodKey) → ((
 unfolding place_of
 place_of-absent keys t r d none = position-none (is_key t r) keys d (λ k lt. is_key-false t r _ (none k lt))
 
--- where nothing is told, all places are passed
-no_place : {X : Type 0} (p : X → Bool) (xs : List X) → position p xs ≡ None → length xs ≤ position_or_len p xs
-no_place p xs told =
-    elim (cases_lt (position_or_len p xs) (length xs)) [
-      | inl inside ↦ let bad : Some (position_or_len p xs) ≡ None = sym (cond-true _ _ _ (lt-ltb _ _ inside)) ∙ told in absurd (let wrong : ⊥ = cc in wrong)
-      | inr past ↦ past
-    ]
-
 -- where none is told, the key is not there
 pub place_of-None : (keys : List PeriodKey) (t r : ℕ) (d : PeriodKey) → place_of keys t r ≡ None → (k : ℕ) → k < length keys → get_or keys k d ≢ key_of t r
 unfolding place_of
-place_of-None keys t r d told k lt = is_key-other t r _ (fails_before_first (is_key t r) keys k d (omega (arith, no_place (is_key t r) keys told)))
+place_of-None keys t r d told k lt = is_key-other t r _ (fails_before_first (is_key t r) keys k d (omega (arith, position-past (is_key t r) keys told)))
 
 -- with one more key, a key that was there keeps its place
 pub place_of-kept : (keys : List PeriodKey) (key : PeriodKey) (t r i : ℕ) → place_of keys t r ≡ Some i → place_of (keys ++ key ∷ []) t r ≡ Some i
@@ -103,5 +95,5 @@ pub found-None : {X : Type 0} (f : X → PeriodKey) (xs : List X) (t r : ℕ) �
 unfolding place_of
 found-None f xs t r told =
     let at = position_or_len-map (is_key t r) f xs in
-    let past = no_place (is_key t r) (map f xs) told in
+    let past = position-past (is_key t r) (map f xs) told in
     find_at (λ x. is_key t r (f x)) xs ∙ slice_get_past xs _ (omega (arith, at, past, length-map xs f))

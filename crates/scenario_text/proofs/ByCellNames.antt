@@ -3,6 +3,7 @@ use Rattle.std.specs.Str.{bytes_eq}
 use Rattle.std.proofs.Common.{◌≤◌, ◌≡◌, ℕ, Bool, true, false, cond, List, [], ◌∷◌, length, map, Option, Some, None, Result, Ok, Err, refl, sym, ap, ◌∙◌, inl, inr, get_or}
 use Rattle.std.specs.Prelude.{if◌then◌else◌, ◌&&◌, ◌||◌, ◌==◌, nat_lt, is_none, is_some, set, unwrap_or}
 use Rattle.std.specs.List.{list_any}
+use Rattle.std.proofs.Math.Bool.{or-false}
 use Rattle.std.proofs.lemmas.Bool.{le-ltb, eq-eqb, ne_eqb, cases_eq, or_parts, false_from_ne_true}
 use Rattle.std.proofs.lemmas.List.{length-map}
 use Rattle.std.proofs.lemmas.List.Quantifiers.{position-Some}
@@ -17,10 +18,6 @@ use Rattle.scenario_text.specs.State.{State, positions_in}
 use Rattle.scenario_text.specs.Grammar.{position_of, unless_any, row_at}
 use Rattle.scenario_text.specs.declared.line.Line.TheVariants.{Moves}
 use Rattle.scenario_text.specs.KindTable.{stands_twice, holds_of, has_moves}
-
-or_false : (a : Bool) → (a || false) ≡ a
-or_false true = refl
-or_false false = refl
 
 -- the row of moves, by its positions
 abbrev pub with_moves : State → Option ℕ → List (Option ℕ) → Result State TextKind
@@ -117,7 +114,7 @@ pub moves_by_cells : (s : State) (name : List ℕ) (moves : List (List ℕ)) →
 moves_by_cells s name moves =
     let own = cell_named (positions_in s) name in
     moves_of_cells s moves own
-    ∙ ap (λ (b : Bool). table_of false false (nat_lt 64 (length moves)) b (stands_twice moves) false (holds_of own (has_moves s)) false false (length moves == 0) false (moves_made s moves own)) (sym (or_false (is_none own || list_any (λ f. is_none (cell_named (positions_in s) f)) moves)))
+    ∙ ap (λ (b : Bool). table_of false false (nat_lt 64 (length moves)) b (stands_twice moves) false (holds_of own (has_moves s)) false false (length moves == 0) false (moves_made s moves own)) (sym (or-false (is_none own || list_any (λ f. is_none (cell_named (positions_in s) f)) moves)))
 
 -- the moves of a line, by the positions that were looked up
 module _ (s : State) (fields : List (List ℕ)) where

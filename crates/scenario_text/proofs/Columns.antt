@@ -10,19 +10,12 @@ use Rattle.std.proofs.lemmas.List.Folds.{list_any_none}
 use Rattle.std.proofs.lemmas.List.Sums.{fails_before_first}
 use Rattle.search_grid.specs.Moves.{moves_from}
 use Rattle.indexmap.specs.IndexSet.{insert_key}
+use Rattle.list_laws.proofs.Firsts.{position-past}
 use Rattle.list_laws.proofs.Mapped.{list_any-map}
 
 -- where no place is found, no element passes
-none_before : {X : Type 0} (p : X → Bool) (xs : List X) → position p xs ≡ None → length xs ≤ position_or_len p xs
-none_before p xs e =
-    elim (cases_order (position_or_len p xs) (length xs)) [
-      | inl same ↦ omega arith
-      | inr (inl below) ↦ absurd (let test = lt-ltb (position_or_len p xs) (length xs) below in let some = rw test at e in cc)
-      | inr (inr above) ↦ omega arith
-    ]
-
 pub none_passes : {X : Type 0} (p : X → Bool) (xs : List X) → position p xs ≡ None → list_any p xs ≡ false
-none_passes p xs e = list_any_none p xs (λ k d lt. fails_before_first p xs k d (omega (arith, none_before p xs e)))
+none_passes p xs e = list_any_none p xs (λ k d lt. fails_before_first p xs k d (omega (arith, position-past p xs e)))
 
 -- a name that isn't there goes last
 pub inserted_last : {K : Type 0} (eq : K → K → Bool) (view : K → List ℕ) (keys : List K) (name : K) → ((k : K) → eq name k ≡ bytes_eq (view name) (view k)) → position (bytes_eq (view name)) (map view keys) ≡ None → map view (insert_key eq keys name) ≡ map view keys ++ view name ∷ []

@@ -1,7 +1,8 @@
 -- Lines with entries give the rows of the table, once their pairs were scanned.
 use Rattle.std.proofs.Common.{◌≡◌, ℕ, ◌+◌, ◌-◌, Bool, true, false, cond, List, [], ◌∷◌, ◌++◌, take, drop, length, map, get_or, Option, Some, None, Result, Ok, Err, refl, sym, ap, subst, ◌∙◌, arith, ◌≤◌, set}
 use Rattle.std.specs.Prelude.{not, ◌||◌, ◌==◌, nat_lt, is_none, unwrap_or, sum_by, slice_index_or}
-use Rattle.std.proofs.lemmas.Bool.{eq-eqb, le-ltb}
+use Rattle.std.proofs.Math.Bool.{or-false}
+use Rattle.std.proofs.lemmas.Bool.{eq-eqb, le-ltb, or_parts}
 use Rattle.std.specs.List.{list_any}
 use Rattle.std.proofs.lemmas.List.Sums.{sum_by-cons}
 use Rattle.exact_parts.specs.declared.number.Number.{Number}
@@ -26,10 +27,6 @@ use Rattle.scenario_text.specs.KindTable.{pair_names, pair_parts, stands_twice, 
 use Rattle.scenario_text.specs.Grammar.{row_at}
 use Rattle.scenario_text.proofs.ByCellNames.{twice_alike}
 use Rattle.scenario_text.proofs.FirstFields.{front_none, front_some}
-
-or_false : (a : Bool) → (a || false) ≡ a
-or_false true = refl
-or_false false = refl
 
 -- The pairs of fields are what the table asks of their names and their parts.
 module _ (names : List (List ℕ)) where
@@ -122,10 +119,6 @@ pairs_told false false false false d' rest after double goes = let once : false 
 flags_alike : (b b' o o' u u' d : Bool) (rest : Result State TextKind) → b ≡ b' → o ≡ o' → u ≡ u' → names_first b' o' u' d rest ≡ names_first b o u d rest
 flags_alike b b' o o' u u' d rest e f g = rw (e, f, g) refl
 
-right_part : (a b : Bool) → (a || b) ≡ false → b ≡ false
-right_part true b e = absurd (let bad : ⊥ = cc in bad)
-right_part false b e = e
-
 -- a row whose pairs were scanned: before them a number may be bad or over its limit, and the owner is named
 scanned : (names : List (List ℕ)) (least : ℕ) (fields : List (List ℕ)) (scan : Scan) (bad over : Bool) (own : Option ℕ) (rest : Result State TextKind) (after : ℕ → Result State TextKind) → SeenIn names least fields scan
     → ((c : ℕ) → own ≡ Some c → scan.entries.items ≡ entries_in names fields → rest ≡ after c)
@@ -134,8 +127,8 @@ scanned : (names : List (List ℕ)) (least : ℕ) (fields : List (List ℕ)) (sc
 scanned names least fields scan bad over own rest after h goes =
     flags_alike _ _ _ _ _ _ (stands_twice (pair_names fields)) rest (ap (λ (b : Bool). bad || b) h.bad) (ap (λ (b : Bool). over || b) h.over) (ap (λ (b : Bool). is_none own || b) h.unknown)
     ∙ owner_told (bad || scan.bad) (over || scan.over) scan.unknown scan.double (stands_twice (pair_names fields)) own rest after
-    (λ x y u. h.double (right_part bad scan.bad x) (right_part over scan.over y) u)
-    (λ c is x y u d. goes c is (h.entries (right_part bad scan.bad x) (right_part over scan.over y) u d))
+    (λ x y u. h.double (or_parts bad scan.bad x).1 (or_parts over scan.over y).1 u)
+    (λ c is x y u d. goes c is (h.entries (or_parts bad scan.bad x).1 (or_parts over scan.over y).1 u d))
 
 -- What follows the names of each row.
 
@@ -173,13 +166,13 @@ same_test f g names fields own c entries is same =
 
 -- the last test of the numbers has no more to it
 over_last : (b o u d : Bool) (rest : Result State TextKind) → names_first b (o || false) u d rest ≡ names_first b o u d rest
-over_last b o u d rest = ap (λ (x : Bool). names_first b x u d rest) (or_false o)
+over_last b o u d rest = ap (λ (x : Bool). names_first b x u d rest) (or-false o)
 
 over_later : (b x o u d : Bool) (rest : Result State TextKind) → names_first b ((x || o) || false) u d rest ≡ names_first b (x || o) u d rest
-over_later b x o u d rest = ap (λ (y : Bool). names_first b y u d rest) (or_false (x || o))
+over_later b x o u d rest = ap (λ (y : Bool). names_first b y u d rest) (or-false (x || o))
 
 owner_first : (b o x u d : Bool) (rest : Result State TextKind) → names_first b o ((x || false) || u) d rest ≡ names_first b o (x || u) d rest
-owner_first b o x u d rest = ap (λ (y : Bool). names_first b o (y || u) d rest) (or_false x)
+owner_first b o x u d rest = ap (λ (y : Bool). names_first b o (y || u) d rest) (or-false x)
 
 module _ (s : State) (fields : List (List ℕ)) (scan : Scan) where
   pub first_scanned : are_pairs fields ≡ true → HasSeen 1 (pairs_of s.names fields) scan →

@@ -3,7 +3,8 @@ use Rattle.std.proofs.Common.{◌≡◌, ℕ, suc, ◌<◌, ◌%◌, Bool, true,
 use Rattle.std.specs.Prelude.{◌||◌, ◌&&◌, ◌==◌, nat_le, is_some, is_none, unwrap_or, Result, Ok, Err, OnOk}
 use Rattle.std.specs.List.{list_any, onto_first}
 use Rattle.std.proofs.lemmas.List.{append-nil, map_push}
-use Rattle.std.proofs.lemmas.Bool.{eq-eqb, ne_eqb, le-leb, eqb-true}
+use Rattle.std.proofs.Math.Bool.{or-false}
+use Rattle.std.proofs.lemmas.Bool.{eq-eqb, ne_eqb, le-leb, eqb-true, or_parts}
 use Rattle.drift_chain.specs.declared.part.DriftPart.{DriftPart}
 use Rattle.scenario_text.specs.declared.pair.Pair.{Pair}
 use Rattle.scenario_text.specs.declared.pairs.Scan.{Scan}
@@ -14,18 +15,6 @@ use Rattle.scenario_text.specs.Fields.{is_bad, is_over, number_in, cell_named, a
 use Rattle.scenario_text.specs.ByCells.{stands_in, has_double, entries_of, pairs_of}
 use Rattle.scenario_text.specs.Scanning.{HasSeen, IsMarked, IsAdded}
 use Rattle.scenario_text.specs.Gives.{Scans, ScansSome}
-
-or_false : (a : Bool) → (a || false) ≡ a
-or_false true = refl
-or_false false = refl
-
-or_left : (a b : Bool) → (a || b) ≡ false → a ≡ false
-or_left true b e = e
-or_left false b e = refl
-
-or_right : (a b : Bool) → (a || b) ≡ false → b ≡ false
-or_right true b e = absurd cc
-or_right false b e = e
 
 or_assoc : (a b c : Bool) → ((a || b) || c) ≡ (a || (b || c))
 or_assoc true b c = refl
@@ -42,7 +31,7 @@ and_false true = refl
 and_false false = refl
 
 any_push : {X : Type 0} (p : X → Bool) (xs : List X) (y : X) → list_any p (xs ++ y ∷ []) ≡ (list_any p xs || p y)
-any_push p [] y = or_false (p y)
+any_push p [] y = or-false (p y)
 any_push p (x ∷ xs) y = ap (λ b. p x || b) (any_push p xs y) ∙ sym (or_assoc (p x) (list_any p xs) (p y))
 
 -- A cell more.
@@ -62,16 +51,16 @@ stands_both (Some c) (Some d) = rw (eqb_sym d c) refl
 
 stands_first : (c d : Option ℕ) (cs : List (Option ℕ)) → stands_in c (d ∷ cs) ≡ (stands_in c (d ∷ []) || stands_in c cs)
 stands_first None d cs = refl
-stands_first (Some c) d cs = ap (λ b. b || stands_in (Some c) cs) (sym (or_false (is_some d && unwrap_or d 0 == c)))
+stands_first (Some c) d cs = ap (λ b. b || stands_in (Some c) cs) (sym (or-false (is_some d && unwrap_or d 0 == c)))
 
 stands_push : (c d : Option ℕ) (cs : List (Option ℕ)) → stands_in c (cs ++ d ∷ []) ≡ (stands_in c cs || stands_in c (d ∷ []))
 stands_push None d cs = refl
-stands_push (Some c) d cs = any_push (λ d. is_some d && unwrap_or d 0 == c) cs d ∙ ap (λ b. stands_in (Some c) cs || b) (sym (or_false (is_some d && unwrap_or d 0 == c)))
+stands_push (Some c) d cs = any_push (λ d. is_some d && unwrap_or d 0 == c) cs d ∙ ap (λ b. stands_in (Some c) cs || b) (sym (or-false (is_some d && unwrap_or d 0 == c)))
 
 -- a cell more stands twice if it stands among the others
 pub double_push : (cs : List (Option ℕ)) (c : Option ℕ) → has_double (cs ++ c ∷ []) ≡ (has_double cs || stands_in c cs)
 unfolding has_double
-double_push [] c = or_false (stands_in c [])
+double_push [] c = or-false (stands_in c [])
 double_push (a ∷ cs) c =
     rw (stands_push a c cs, double_push cs c, stands_first c a cs, stands_both a c) (crossed (stands_in a cs) (stands_in c (a ∷ [])) (has_double cs) (stands_in c cs))
 
@@ -83,8 +72,8 @@ some_cell (Some c) e = refl
 pub has_entry : (done : List Pair) (cell : ℕ) → list_any (λ x. is_none x.cell) done ≡ false → list_any (λ e. e.cell == cell) (entries_of done) ≡ stands_in (Some cell) (map (λ x. x.cell) done)
 has_entry [] cell known = refl
 has_entry (x ∷ done) cell known =
-    let here : is_some x.cell ≡ true = some_cell x.cell (or_left _ _ known) in
-    let rest = has_entry done cell (or_right _ _ known) in
+    let here : is_some x.cell ≡ true = some_cell x.cell ((or_parts _ _ known).0) in
+    let rest = has_entry done cell (or_parts _ _ known).1 in
     rw (here, rest) refl
 
 -- A pair more.
@@ -97,7 +86,7 @@ marked_any : {X : Type 0} (p : X → Bool) (done : List X) (x : X) (old new : Bo
 marked_any p done x old new seen e = e ∙ ap (λ b. b || p x) seen ∙ sym (any_push p done x)
 
 was_false : (old new more : Bool) → new ≡ (old || more) → new ≡ false → old ≡ false
-was_false old new more e f = or_left old more (sym e ∙ f)
+was_false old new more e f = (or_parts old more (sym e ∙ f)).0
 
 cells_push : (done : List Pair) (x : Pair) → has_double (map (λ x. x.cell) (done ++ x ∷ [])) ≡ (has_double (map (λ x. x.cell) done) || stands_in x.cell (map (λ x. x.cell) done))
 cells_push done x = rw (map_push (λ (x : Pair). x.cell) done x) (double_push (map (λ x. x.cell) done) x.cell)
@@ -123,12 +112,12 @@ seen_marked least done x old new m any h = record {
 -- a pair more, where nothing is wrong so far
 pub seen_added : (least : ℕ) (done : List Pair) (x : Pair) (cell : ℕ) (old marked new : Scan) → x.cell ≡ Some cell → IsMarked least old x marked → (marked.bad || (marked.over || (marked.unknown || marked.double))) ≡ false → IsAdded marked (record { cell = cell; part = number_in x.part }) new → HasSeen least done old → HasSeen least (done ++ x ∷ []) new
 seen_added least done x cell old marked new is m none a h =
-    let b0 : marked.bad ≡ false = or_left _ _ none in
-    let none_1 : (marked.over || (marked.unknown || marked.double)) ≡ false = or_right marked.bad (marked.over || (marked.unknown || marked.double)) none in
-    let o0 : marked.over ≡ false = or_left _ _ none_1 in
-    let none_2 : (marked.unknown || marked.double) ≡ false = or_right marked.over (marked.unknown || marked.double) none_1 in
-    let u0 : marked.unknown ≡ false = or_left _ _ none_2 in
-    let d0 : marked.double ≡ false = or_right marked.unknown marked.double none_2 in
+    let b0 : marked.bad ≡ false = (or_parts _ _ none).0 in
+    let none_1 : (marked.over || (marked.unknown || marked.double)) ≡ false = (or_parts marked.bad (marked.over || (marked.unknown || marked.double)) none).1 in
+    let o0 : marked.over ≡ false = (or_parts _ _ none_1).0 in
+    let none_2 : (marked.unknown || marked.double) ≡ false = (or_parts marked.over (marked.unknown || marked.double) none_1).1 in
+    let u0 : marked.unknown ≡ false = (or_parts _ _ none_2).0 in
+    let d0 : marked.double ≡ false = (or_parts marked.unknown marked.double none_2).1 in
     let b : old.bad ≡ false = was_false _ _ _ m.bad b0 in
     let o : old.over ≡ false = was_false _ _ _ m.over o0 in
     let u : old.unknown ≡ false = was_false _ _ _ m.unknown u0 in

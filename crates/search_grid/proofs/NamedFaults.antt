@@ -3,17 +3,15 @@ use Rattle.std.proofs.Common.{ℕ, ◌+◌, ◌<◌, ◌≤◌, ◌≡◌, ◌==
 use Rattle.std.specs.List.Sorted.{IsPermutation}
 use Rattle.std.proofs.lemmas.Bool.{cases_lt}
 use Rattle.std.proofs.lemmas.List.Kept.{AllPairs-from_increasing}
-use Rattle.std.proofs.lemmas.List.Sorted.{length_permutation, sum_by-IsPermutation, Contains-permutation, IsPermutation-sym}
+use Rattle.std.proofs.lemmas.List.Sorted.{length_permutation, sum_by-IsPermutation, IsPermutation-sym}
 use Rattle.search_grid.specs.declared.faults.GridFault.{GridFault}
 use Rattle.search_grid.specs.declared.faults.GridFault.TheVariants.{CellCount, NoMove, TooManyMoves, OutOfRange, DoubleMove, NoMemory}
 use Rattle.search_grid.specs.Moves.{moves_from, IsMoveRow, IsGrid}
 use Rattle.search_grid.specs.Faults.{HasSameMoves, HasDouble, HasFault, IsNotAfter, IsFirstFault, IsFirstOfRow}
 use Rattle.list_laws.proofs.Ascending.{count_at-le}
+use Rattle.list_laws.proofs.Reordered.{Any-permutation}
 
 -- the order of the moves in a row makes and mends no fault
-Any-permutation : (P : ℕ → Type 0) (xs ys : List ℕ) → IsPermutation xs ys → Any P xs → Any P ys
-Any-permutation P xs ys same any = let there = Contains-permutation xs ys any.1 same (any.0, any.2, any.3) in (there.0, any.1, there.1, there.2, any.4)
-
 HasDouble-permutation : (xs ys : List ℕ) → IsPermutation xs ys → HasDouble xs → HasDouble ys
 HasDouble-permutation xs ys same double = (double.0, rw (sum_by-IsPermutation (λ move. if move == double.0 then 1 else 0) xs ys same) double.1)
 
