@@ -61,13 +61,16 @@ front_cut p rest h = (Reads-problem p h).cut rest
 
 pub canonical_front_reads_back : CanonicalFrontReadsBack
 canonical_front_reads_back p rest h =
-    let said = same_said p h in
-    (said.0, said.1, record {
-      front = front_of_problem p;
-      read = front_read p rest h;
-      says = said.2;
-      bytes = ap (λ (t : List ℕ). length (canonical_text p) + length t) (front_cut p rest h) ∙ sym (length-append (canonical_text p) rest);
-    })
+    let said = same_said p h in (
+      said.0,
+      said.1,
+      record {
+        front = front_of_problem p;
+        read = front_read p rest h;
+        says = said.2;
+        bytes = ap (λ (t : List ℕ). length (canonical_text p) + length t) (front_cut p rest h) ∙ sym (length-append (canonical_text p) rest);
+      },
+    )
 
 nothing_more : (number : ℕ) → first_said number (lines_of []) ≡ None
 unfolding first_said lines_of
@@ -78,9 +81,12 @@ canonical_reads_back p h =
     let said = same_said p h in
     let text : canonical_text p ++ [] ≡ canonical_text p = append-nil (canonical_text p) in
     let read : front_of (canonical_text p) ≡ Ok (front_of_problem p) = rw text at (front_read p [] h) in
-    let cut : after_lines (length (state_rows (state_of_problem p))) (canonical_text p) ≡ [] = rw text at (front_cut p [] h) in
-    (said.0, said.1, record {
-      front = front_of_problem p;
-      read = rw (read, cut, nothing_more (length (state_rows (state_of_problem p)) + 1)) refl;
-      says = said.2;
-    })
+    let cut : after_lines (length (state_rows (state_of_problem p))) (canonical_text p) ≡ [] = rw text at (front_cut p [] h) in (
+      said.0,
+      said.1,
+      record {
+        front = front_of_problem p;
+        read = rw (read, cut, nothing_more (length (state_rows (state_of_problem p)) + 1)) refl;
+        says = said.2;
+      },
+    )

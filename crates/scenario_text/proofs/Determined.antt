@@ -25,7 +25,6 @@ use Rattle.sweep_table.specs.Faults.{row_at}
 use Rattle.sweep_table.specs.Changes.{IsSameChange}
 use Rattle.sweep_table.proofs.Changed.{same_changes as same_look_changes}
 use Rattle.sweep_table.proofs.Rows.{same_rows as same_look_rows}
-
 use Rattle.scenario_text.specs.declared.draft.TextVersion.{TextVersion}
 use Rattle.scenario_text.specs.declared.draft.TextVersion.TheVariants.{One, Two}
 use Rattle.scenario_text.specs.State.{State}

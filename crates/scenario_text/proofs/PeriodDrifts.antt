@@ -53,7 +53,7 @@ module _ (denominator cells last : ℕ) (rows : List PeriodRow) (h : ArePeriodRo
       let lt = inside i bad.0 in
       let same = ap (λ (c : DriftRowChange). c.period) (at i lt) in
       let span = h.periods i nothing lt in
-      elim (bad.1) [ | inl none ↦ omega (arith, none, same, span.0) | inr far ↦ omega (arith, far, same, span.1, most) ]
+      elim (bad.1) [ inl none ↦ omega (arith, none, same, span.0) | inr far ↦ omega (arith, far, same, span.1, most) ]
   no_change_fault (CellOutOfRange i) bad =
       let lt = inside i bad.0 in
       let same = ap (λ (c : DriftRowChange). c.cell) (at i lt) in

@@ -131,7 +131,7 @@ module _ (denominator cells positions last : ℕ) (rows : List PeriodRow) (h : A
       let lt = inside i bad.0 in
       let same = ap (λ (c : LookRowChange). c.period) (at i lt) in
       let span = h.periods i nothing lt in
-      elim (bad.1) [ | inl none ↦ omega (arith, none, same, span.0) | inr far ↦ omega (arith, far, same, span.1, most) ]
+      elim (bad.1) [ inl none ↦ omega (arith, none, same, span.0) | inr far ↦ omega (arith, far, same, span.1, most) ]
   no_change_fault (PositionOutOfRange i) bad =
       let lt = inside i bad.0 in
       let same = ap (λ (c : LookRowChange). c.position) (at i lt) in

@@ -31,7 +31,7 @@ look_of names positions q row = codes "look" ∷ name_in positions q ∷ entry_f
 abbrev pub look_in_of : List (List ℕ) → List (List ℕ) → PeriodRow → List (List ℕ)
 look_in_of names positions r = codes "lookin" ∷ decimal r.period ∷ name_in positions r.own ∷ entry_fields names r.row
 
--- the row of each position and cell that was read, and the end; a state of version 1 has no row of one version 2 sort, and the other way round
+-- the row of each position and cell that was read, and the end; a state has no row of a sort that only texts of the other version have
 abbrev pub look_in_rows : State → List (List (List ℕ))
 look_in_rows s = map (look_in_of s.names (positions_in s)) s.look_rows ++ ((codes "end" ∷ []) ∷ [])
 

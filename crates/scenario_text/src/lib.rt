@@ -14,8 +14,12 @@ mod number_field;
 mod pair;
 mod pairs;
 mod period_rows;
+#[cfg(test)]
+mod period_tests;
 mod pieces;
 mod printing;
+#[cfg(test)]
+mod printing_tests;
 mod reading;
 mod rows;
 mod scenarios;
@@ -27,10 +31,6 @@ mod taking;
 mod taking_line;
 #[cfg(test)]
 mod tests;
-#[cfg(test)]
-mod period_tests;
-#[cfg(test)]
-mod printing_tests;
 
 pub use kind::{TextFault, TextKind, text_kind_name};
 pub use laws::{

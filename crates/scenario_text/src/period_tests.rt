@@ -18,8 +18,7 @@ const ROWS: &str =
     "scenario 2\nhorizon 2\nparts 1 2 2\ncell a\ncell b\nposition w\nstart w\nfirst a 1\nmoves w w\ndrift a a 1 b 1\ndrift b b 2\nlook w a 1 b 1\n";
 
 // Seven lines of one period, in which a cell and a position have one name.
-const ALONE: &str =
-    "scenario 2\nhorizon 1\nparts 1 1 2\ncell a\nposition a\nstart a\nfirst a 1\n";
+const ALONE: &str = "scenario 2\nhorizon 1\nparts 1 1 2\ncell a\nposition a\nstart a\nfirst a 1\n";
 
 /// The scenario of a text.
 fn read(rt: &impl AllocGlobal, head: &str, rest: &[u8]) -> Result<Scenario, Fail> {
@@ -121,7 +120,11 @@ fn faults_of_the_positions(rt: HostRuntime) -> Result<(), Fail> {
         (b"position w\nstart a\n", 7, TextKind::UnknownName),
         (b"position w\nstart v\n", 7, TextKind::UnknownName),
         (b"position w\nstart w\nposition v\n", 8, TextKind::BadLine),
-        (b"position w\nstart w\nfirst w 1\n", 8, TextKind::UnknownName),
+        (
+            b"position w\nstart w\nfirst w 1\n",
+            8,
+            TextKind::UnknownName,
+        ),
         (
             b"position w\nstart w\nfirst a 1 a 1\n",
             8,
@@ -281,7 +284,11 @@ fn lines_of_version_2_in_version_1(rt: HostRuntime) -> Result<(), Fail> {
         (b"position a\n", 5, TextKind::BadLine),
         (b"position b\n", 5, TextKind::BadLine),
         (b"start a\nfirst a 1\nlook a a 1\n", 7, TextKind::BadLine),
-        (b"start a\nfirst a 1\nlookin 1 a a 1\n", 7, TextKind::BadLine),
+        (
+            b"start a\nfirst a 1\nlookin 1 a a 1\n",
+            7,
+            TextKind::BadLine,
+        ),
         (
             b"start a\nfirst a 1\ndriftin 1 a a 1\n",
             7,
@@ -294,13 +301,11 @@ fn lines_of_version_2_in_version_1(rt: HostRuntime) -> Result<(), Fail> {
 
 #[test]
 fn the_widest_scenario_with_positions_and_one_past_it(rt: HostRuntime) -> Result<(), Fail> {
-    let rows =
-        b"start a\nfirst a 4\nmoves a a\ndrift a a 1024\nlook a a 512\nend\n";
+    let rows = b"start a\nfirst a 4\nmoves a a\ndrift a a 1024\nlook a a 512\nend\n";
     let wide = "scenario 2\nhorizon 6\nparts 4 1024 1024\ncell a\nposition a\n";
     let sc = read(&rt, wide, rows)?;
     assert_eq!(rt; sc.weight(), 5_192_296_858_534_827_628_530_496_329_220_096);
-    let past =
-        b"start a\nfirst a 8\nmoves a a\ndrift a a 1024\nlook a a 512\nend\n";
+    let past = b"start a\nfirst a 8\nmoves a a\ndrift a a 1024\nlook a a 512\nend\n";
     let wider = "scenario 2\nhorizon 6\nparts 8 1024 1024\ncell a\nposition a\n";
     assert!(rt; has_fault(&rt, wider, (past, 11, TextKind::TooWide))?);
     Ok(())

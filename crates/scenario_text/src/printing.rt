@@ -22,22 +22,14 @@ use search_model::Scenario;
 use sweep_table::LookPart;
 
 /// The lines of the version and the horizon.
-fn push_horizon(
-    out: &mut Vec<u8>,
-    version: TextVersion,
-    horizon: u32,
-) -> Result<(), NoMemory>
+fn push_horizon(out: &mut Vec<u8>, version: TextVersion, horizon: u32) -> Result<(), NoMemory>
     ensures ok { OnOk result (out.new.items ≡ out.old.items ++ horizon_text version horizon) }
     ensures no_memory { OnErr result (AppendsFront out.old.items out.new.items (horizon_text version horizon)) }
 {
     let horizon = Digits::of(horizon);
     match version {
-        TextVersion::One => {
-            push_all(out, &[b"scenario 1\nhorizon ", horizon.bytes(), b"\n"])
-        }
-        TextVersion::Two => {
-            push_all(out, &[b"scenario 2\nhorizon ", horizon.bytes(), b"\n"])
-        }
+        TextVersion::One => { push_all(out, &[b"scenario 1\nhorizon ", horizon.bytes(), b"\n"]) }
+        TextVersion::Two => { push_all(out, &[b"scenario 2\nhorizon ", horizon.bytes(), b"\n"]) }
     }
 }
 

@@ -11,6 +11,7 @@ type Printed<'a> = (&'a [u8], &'a [u8]);
 // Two positions that are the cells, over two periods: of version 2, and the same of version 1, up to the rows.
 const OWN: &str =
     "scenario 2\nhorizon 2\nparts 1 2 2\ncell a\ncell b\nposition a\nposition b\nstart b\nfirst a 1\nmoves a a b\nmoves b a b\n";
+
 const PLAIN: &str =
     "scenario 1\nhorizon 2\nparts 1 2 2\ncell a\ncell b\nstart b\nfirst a 1\nmoves a a b\nmoves b a b\n";
 

@@ -104,11 +104,7 @@ fn base_sweep(denominator: u32, cells: u8, rows: Vec<Vec<LookPart>>) -> Sweep
 }
 
 /// The sweep with these rows in single periods.
-fn changed_sweep(
-    alloc: Global,
-    sweep: Sweep,
-    changes: Vec<LookChange>,
-) -> Result<Sweep, AllocError>
+fn changed_sweep(alloc: Global, sweep: Sweep, changes: Vec<LookChange>) -> Result<Sweep, AllocError>
     requires steady { sweep.changes ≡ [] }
     requires sound { IsSweep sweep }
     requires faultless { (fault : LookChangeFaultLem) → HasChangeFault sweep.denominator (cells_of sweep) (positions_of sweep) (map change_of changes.items) fault → ⊥ }
