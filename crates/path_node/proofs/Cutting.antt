@@ -1,6 +1,6 @@
 -- What a standing's value says of which bounds it cuts.
-use Rattle.std.proofs.Common.{ℕ, ◌≡◌, ◌<◌, ◌≤◌, List, true, false, inl, inr, sym, ◌∙◌, arith, ltb-true, eqb-true}
-use Rattle.std.proofs.lemmas.Bool.{or_cases, and_parts, true≢false, false_from_ne_true}
+use Rattle.std.proofs.Common.{ℕ, ◌≡◌, ◌<◌, ◌≤◌, List, true, false, inl, inr, arith, ltb-true, eqb-true}
+use Rattle.std.proofs.lemmas.Bool.{or_cases, and_parts, false_from_ne_true}
 use Rattle.search_model.specs.declared.standing.Standing.{Standing}
 use Rattle.bound_tree.specs.Cut.{is_cut}
 

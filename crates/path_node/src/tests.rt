@@ -108,7 +108,10 @@ fn base_and_air(alloc: Global) -> Result<Scenario, Fail> {
     let air = Name::new(b"air").ok_or("no name")?;
     let moves = vec![in alloc; vec![in alloc; 0, 1]?, vec![in alloc; 1]?]?;
     let drifts = vec![in alloc; vec![in alloc; DriftPart { cell: 0, part: 1 }]?]?;
-    let looks = vec![in alloc; Vec::new(alloc), vec![in alloc; LookPart { cell: 0, part: 1 }]?]?;
+    let looks = vec![in alloc;
+        Vec::new(alloc),
+        vec![in alloc; LookPart { cell: 0, part: 1 }]?,
+    ]?;
     Ok(Scenario::new(Parts {
         names: vec![in alloc; cell]?,
         positions: vec![in alloc; base, air]?,
@@ -126,8 +129,11 @@ fn base_and_air(alloc: Global) -> Result<Scenario, Fail> {
 #[test]
 fn more_positions_than_cells_are_closed(rt: HostRuntime) -> Result<(), Fail> {
     let sc = base_and_air(rt.alloc())?;
-    let rows: [(&[u8], char, u128, &[u8]); 3] =
-        [(&[], 'B', 0, &[]), (&[0], 'W', 0, &[]), (&[1], 'W', 1, &[])];
+    let rows: [(&[u8], char, u128, &[u8]); 3] = [
+        (&[], 'B', 0, &[]),
+        (&[0], 'W', 0, &[]),
+        (&[1], 'W', 1, &[]),
+    ];
     assert!(rt; are_closed(rt.alloc(), &sc, &[1], &rows)?);
     Ok(())
 }

@@ -445,7 +445,10 @@ fn base_and_air(alloc: Global) -> Result<Scenario, Fail> {
     let air = Name::new(b"air").ok_or("no name")?;
     let moves = vec![in alloc; vec![in alloc; 0, 1]?, vec![in alloc; 1]?]?;
     let drifts = vec![in alloc; vec![in alloc; DriftPart { cell: 0, part: 1 }]?]?;
-    let looks = vec![in alloc; Vec::new(alloc), vec![in alloc; LookPart { cell: 0, part: 1 }]?]?;
+    let looks = vec![in alloc;
+        Vec::new(alloc),
+        vec![in alloc; LookPart { cell: 0, part: 1 }]?,
+    ]?;
     Ok(Scenario::new(Parts {
         names: vec![in alloc; cell]?,
         positions: vec![in alloc; base, air]?,
@@ -469,7 +472,7 @@ fn plans_of_more_positions_than_cells(rt: HostRuntime) -> Result<(), Fail> {
             &[(&[], B), (&[0], Some(0)), (&[1], Some(1))],
             Verdict::Accepted,
         ),
-        // Position 0 covers no cell, and the cell of its number neither.
+        // The base covers no cell, though there is one of its number.
         (
             &[1],
             1,

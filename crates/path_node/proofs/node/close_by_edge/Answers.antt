@@ -1,4 +1,4 @@
-use Rattle.std.proofs.Common.{◌≡◌, ◌<◌, ◌≤◌, ◌+◌, ◌∙◌, inl, inr, sym, ap, arith, IsFalse}
+use Rattle.std.proofs.Common.{◌+◌, ◌∙◌, inl, inr, sym, ap, arith, IsFalse}
 use Rattle.std.proofs.lemmas.Bool.{cases_lt}
 use Rattle.search_model.specs.Edge.{edge_of}
 use Rattle.search_model.proofs.Totals.{whole_weight-fits}
