@@ -275,11 +275,15 @@ fn footprint_bounds() -> Bounds {
 
 #[test]
 fn prefixes_have_the_worked_bounds_after_others(rt: HostRuntime) -> Result<(), Fail> {
-    let waits = waiting(rt.alloc())?;
-    assert!(rt; have_bounds(rt.alloc(), &waits, waiting_bounds())?);
-    let drifts = drifting(rt.alloc())?;
-    assert!(rt; have_bounds(rt.alloc(), &drifts, drifting_bounds())?);
-    crosses_threads(Edge::tables(rt.alloc(), &waits)?);
+    let sc = waiting(rt.alloc())?;
+    assert!(rt; have_bounds(rt.alloc(), &sc, waiting_bounds())?);
+    Ok(())
+}
+
+#[test]
+fn a_drifting_target_has_the_worked_bounds(rt: HostRuntime) -> Result<(), Fail> {
+    let sc = drifting(rt.alloc())?;
+    assert!(rt; have_bounds(rt.alloc(), &sc, drifting_bounds())?);
     Ok(())
 }
 
@@ -287,5 +291,12 @@ fn prefixes_have_the_worked_bounds_after_others(rt: HostRuntime) -> Result<(), F
 fn looks_at_several_cells_have_the_worked_bounds(rt: HostRuntime) -> Result<(), Fail> {
     let sc = footprints(rt.alloc())?;
     assert!(rt; have_bounds(rt.alloc(), &sc, footprint_bounds())?);
+    Ok(())
+}
+
+#[test]
+fn tables_may_be_shared_between_threads(rt: HostRuntime) -> Result<(), Fail> {
+    let sc = waiting(rt.alloc())?;
+    crosses_threads(Edge::tables(rt.alloc(), &sc)?);
     Ok(())
 }
