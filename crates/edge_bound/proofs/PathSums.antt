@@ -1,5 +1,5 @@
 -- The sum of edge rewards along a path, one look after the other.
-use Rattle.std.proofs.Common.{ℕ, ◌+◌, ◌-◌, ◌<◌, ◌≤◌, ◌≡◌, List, ◌∷◌, ◌++◌, map, length, take, drop, slice_index, refl, sym, ap, ◌∙◌, subst, arith, Contains}
+use Rattle.std.proofs.Common.{ℕ, ◌+◌, ◌-◌, ◌<◌, ◌≤◌, ◌≡◌, List, ◌++◌, map, length, take, drop, slice_index, refl, sym, ap, ◌∙◌, subst, arith, Contains}
 use Rattle.search_model.specs.Problem.{Problem}
 use Rattle.search_model.specs.Legal.{Follows, IsPath, last_of, continuations}
 use Rattle.search_model.specs.Bounds.{greatest}

@@ -1,6 +1,6 @@
-use Rattle.std.proofs.Common.{◌≡◌, ◌+◌, ◌*◌, ◌≤◌, ◌∙◌, length, refl, arith, sum_by}
+use Rattle.std.proofs.Common.{◌≡◌, ◌+◌, ◌*◌, ◌≤◌, ◌∙◌, length, refl, arith}
 use Rattle.std.proofs.lemmas.List.{take_all}
-use Rattle.std.proofs.lemmas.List.Sums.{sum_by_more, sum_by_more_le}
+use Rattle.std.proofs.lemmas.List.Sums.{sum_by_more_le}
 use Rattle.sweep_table.specs.LookParts.{look_row}
 use Rattle.search_model.specs.Tracks.{whole_weight}
 use Rattle.search_model.proofs.Totals.{whole_weight-fits}
@@ -27,13 +27,6 @@ overflow_mul-sum c = omega (arith, within c, whole_weight-fits c.args.sc.now c.c
 pub overflow_add-sum : goal.overflow_add-sum
 overflow_add-sum c = omega (arith, within c, whole_weight-fits c.args.sc.now c.cells-sound.ensures.sound)
 
-pub loop-entry-preserved : goal.loop-entry-preserved
-loop-entry-preserved c =
-    let p = c.args.sc.now in
-    let q = c.args.prefix.now in
-    let more = sum_by_more (found_in p (mass_of p (looks_to (length q + 1) q))) c.parts-entry-items.result.now c.loop-entry.entry-index (record { cell = 0; part = 0 }) c.loop-entry-test.true in
-    rw (more, c.loop-entry.invariant, c.mass_at-mass.ensures, c.from.ensures, c.denominator-whole.ensures.value, c.sweep.ensures, c.len.ensures.value) refl
-
 pub returns : goal.returns
 returns c =
     let p = c.args.sc.now in
@@ -41,5 +34,5 @@ returns c =
     let t = length q + 1 in
     let mass = mass_of p (looks_to t q) in
     let row : c.parts-entry-items.result.now ≡ look_row p.sweep (length c.args.prefix.now + 1) c.args.b = c.parts-entry-items.ensures ∙ (rw c.len.ensures.value at c.look_from-look.ensures.row) in
-    let found : c.loop-entry.sum ≡ found_of p t c.args.b mass = c.loop-entry.invariant ∙ rw (take_all c.loop-entry.entry-index c.parts-entry-items.result.now c.loop-entry-test.false, row) refl in
+    let found : c.loop-entry.sum ≡ found_of p t c.args.b mass = c.loop-entry.invariant ∙ rw (take_all c.loop-entry.entry-index c.parts-entry-items.result.now c.loop-entry-test.false, row, c.len.ensures.value) refl in
     rw found (reward_is p c.cells-sound.ensures.sound q t c.args.b (omega arith) (omega (arith, c.requires.short)))
