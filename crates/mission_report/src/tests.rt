@@ -11,7 +11,12 @@ pub(crate) enum Form {
 }
 
 // The report of a path.
-pub(crate) fn report_of(alloc: Global, sc: &Scenario, cells: &[u8], form: Form) -> Result<Vec<u8>, Fail> {
+pub(crate) fn report_of(
+    alloc: Global,
+    sc: &Scenario,
+    cells: &[u8],
+    form: Form,
+) -> Result<Vec<u8>, Fail> {
     let path = Path::of(cells).ok_or("no path")?;
     if path.len() != sc.horizon() as usize || !sc.is_legal(&path) {
         return Err(Fail::from("no path of the scenario"));
