@@ -199,7 +199,7 @@ module _ (p : Problem) (h : IsProblem p) where
   abbrev full : Problem
   full = record p { drift = full_drift; sweep = full_looks }
 
-  pub full_says : Says (full_state p) full
+  full_says : Says (full_state p) full
   full_says = record {
     sound = record {
       horizon = h.horizon;
@@ -233,7 +233,7 @@ module _ (p : Problem) (h : IsProblem p) where
     sweep = full_looks_said;
   }
 
-  pub full_same : AreSame p full
+  full_same : AreSame p full
   full_same = record {
     names = refl;
     position_names = refl;
@@ -296,7 +296,7 @@ module _ (p : Problem) (h : IsProblem p) where
     abbrev one : Problem
     one = record p { drift = plain_drift; sweep = plain_looks }
 
-    pub plain_says : Says (plain_state p) one
+    plain_says : Says (plain_state p) one
     plain_says = record {
       sound = record {
         horizon = h.horizon;
@@ -330,7 +330,7 @@ module _ (p : Problem) (h : IsProblem p) where
       sweep = refl;
     }
 
-    pub plain_same : AreSame p one
+    plain_same : AreSame p one
     plain_same = record {
       names = refl;
       position_names = refl;

@@ -27,7 +27,7 @@ use Rattle.scenario_text.proofs.SameRows.{kept, kept_rises}
 use Rattle.scenario_text.proofs.SoundRows.{AreMoves-from_row, moves_at}
 
 -- what holds of what a function makes of each number of a range
-pub all_made : {X : Type 0} (Q : X → Type 0) (f : ℕ → X) (n : ℕ) → ((k : ℕ) → k < n → Q (f k)) → All Q (map f (range_with_len 0 n))
+all_made : {X : Type 0} (Q : X → Type 0) (f : ℕ → X) (n : ℕ) → ((k : ℕ) → k < n → Q (f k)) → All Q (map f (range_with_len 0 n))
 all_made Q f n each k d inside =
     let lt : k < n = omega (arith, inside, length-map-range_with_len f 0 n) in
     subst Q (sym (get_or-map-range_with_len f 0 n k k d lt (omega arith))) (each k lt)

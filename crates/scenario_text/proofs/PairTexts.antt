@@ -18,7 +18,7 @@ use Rattle.scenario_text.specs.RowFields.{entry_fields}
 abbrev pub said : DriftPart → Pair
 said e = record { cell = Some e.cell; part = Of e.part }
 
-pub pairs_of-named : (names : List (List ℕ)) (cells : ℕ) → ((c : ℕ) → c < cells → cell_named names (name_in names c) ≡ Some c) → (es : List DriftPart) → All (λ e. e.cell < cells) es → All (λ e. e.part ≤ 1000000) es → pairs_of names (entry_fields names es) ≡ map said es
+pairs_of-named : (names : List (List ℕ)) (cells : ℕ) → ((c : ℕ) → c < cells → cell_named names (name_in names c) ≡ Some c) → (es : List DriftPart) → All (λ e. e.cell < cells) es → All (λ e. e.part ≤ 1000000) es → pairs_of names (entry_fields names es) ≡ map said es
 unfolding pairs_of
 pairs_of-named names cells found [] within small = refl
 pairs_of-named names cells found (e ∷ es) within small =

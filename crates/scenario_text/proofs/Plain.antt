@@ -38,7 +38,7 @@ unfolding canonical_text
 text_full p full = ap (λ (s : State). text_of (state_rows s)) (state_full p full)
 
 -- rows that are steady, period by period
-pub steady_each : (row : ℕ → ℕ → List DriftPart) (owners last t c : ℕ) → is_steady row owners last ≡ true → 1 ≤ t → t ≤ last → c < owners → row t c ≡ row 1 c
+steady_each : (row : ℕ → ℕ → List DriftPart) (owners last t c : ℕ) → is_steady row owners last ≡ true → 1 ≤ t → t ≤ last → c < owners → row t c ≡ row 1 c
 steady_each row owners last t c all low high inside =
     elim (cases_eq t 1) [
       | inl first ↦ ap (λ (k : ℕ). row k c) first
@@ -47,7 +47,7 @@ steady_each row owners last t c all low high inside =
           same_row (row t c) (row 1 c) (all_each (λ c. is_same_row (row t c) (row 1 c)) owners 0 c period (omega arith) (omega (arith, inside)))
     ]
 
-pub steady_from : (row : ℕ → ℕ → List DriftPart) (owners last : ℕ) → ((t c : ℕ) → 1 ≤ t → t ≤ last → c < owners → row t c ≡ row 1 c) → is_steady row owners last ≡ true
+steady_from : (row : ℕ → ℕ → List DriftPart) (owners last : ℕ) → ((t c : ℕ) → 1 ≤ t → t ≤ last → c < owners → row t c ≡ row 1 c) → is_steady row owners last ≡ true
 steady_from row owners last each =
     all_from (is_as_first row owners) (last - 1) 2 (λ t low high.
     all_from (λ c. is_same_row (row t c) (row 1 c)) owners 0 (λ c from inside. row_same (row t c) (row 1 c) (each t c (omega (arith, low)) (omega (arith, low, high)) (omega (arith, inside)))))
@@ -70,7 +70,7 @@ module _ (p : Problem) (h : IsProblem p) where
         own = λ a c position cell other. covers_itself-each p h a (all_each (covers_itself p) p.positions 0 a looks.1 (omega arith) (omega (arith, position))) c (λ same. other (sym same));
       }
 
-  pub is_plain_from : IsPlain p → is_plain p ≡ true
+  is_plain_from : IsPlain p → is_plain p ≡ true
   unfolding is_plain
   is_plain_from plain =
       and_from (pointwise bytes_eq p.position_names p.names) _ (names_same p.position_names p.names plain.positions)

@@ -127,7 +127,7 @@ chance_text-pieces p =
 -- The lines of names and of rows.
 
 -- the lines of some names, by their numbers
-pub name_lines : (row : List ℕ → List (List ℕ)) (names : List (List ℕ)) (n : ℕ) → length names ≡ n → text_of (map row names) ≡ flat_map (λ c. line_of (row (name_in names c))) (range_with_len 0 n)
+name_lines : (row : List ℕ → List (List ℕ)) (names : List (List ℕ)) (n : ℕ) → length names ≡ n → text_of (map row names) ≡ flat_map (λ c. line_of (row (name_in names c))) (range_with_len 0 n)
 name_lines row names n long =
     ap text_of (fill_by_all (λ c. row (name_in names c)) (map row names) n [] (length-map names row ∙ long) (λ k lt. get_or-map row names k [] [] (omega (arith, long))))
     ∙ text_of-map (λ c. row (name_in names c)) (range_with_len 0 n)

@@ -87,21 +87,21 @@ abbrev pub kept : ℕ → List LookPart → List LookPart
 kept g row = filter (λ e. not (e.part == g)) row
 
 -- a row without its first entry gives all other cells the same factor
-pub factor_in-other : (g : ℕ) (e : LookPart) (row : List LookPart) (c : ℕ) → e.cell ≢ c → factor_in g (e ∷ row) c ≡ factor_in g row c
+factor_in-other : (g : ℕ) (e : LookPart) (row : List LookPart) (c : ℕ) → e.cell ≢ c → factor_in g (e ∷ row) c ≡ factor_in g row c
 unfolding factor_in
 factor_in-other g e row c apart = rw (ne_eqb e.cell c apart) refl
 
-pub factor_in-own : (g : ℕ) (e : LookPart) (row : List LookPart) (c : ℕ) → e.cell ≡ c → factor_in g (e ∷ row) c ≡ e.part
+factor_in-own : (g : ℕ) (e : LookPart) (row : List LookPart) (c : ℕ) → e.cell ≡ c → factor_in g (e ∷ row) c ≡ e.part
 unfolding factor_in
 factor_in-own g e row c same = rw (eq-eqb e.cell c same) refl
 
 -- and its own cell all
-pub factor_in-behind : (g : ℕ) (e : LookPart) (row : List LookPart) → Ascends (λ e. e.cell) (e ∷ row) → factor_in g row e.cell ≡ g
+factor_in-behind : (g : ℕ) (e : LookPart) (row : List LookPart) → Ascends (λ e. e.cell) (e ∷ row) → factor_in g row e.cell ≡ g
 factor_in-behind g e row up =
     factor_in-none g row e.cell (All-weaker (λ d. e.cell < d.cell) (λ d. d.cell ≢ e.cell) (λ d lt same. omega (arith, lt, same)) row (Ascends-head (λ e. e.cell) e row up))
 
 -- what is left out doesn't change a factor
-pub factor_in-kept : (g : ℕ) (row : List LookPart) (c : ℕ) → Ascends (λ e. e.cell) row → factor_in g (kept g row) c ≡ factor_in g row c
+factor_in-kept : (g : ℕ) (row : List LookPart) (c : ℕ) → Ascends (λ e. e.cell) row → factor_in g (kept g row) c ≡ factor_in g row c
 factor_in-kept g [] c up = refl
 factor_in-kept g (e ∷ row) c up =
     let rest = factor_in-kept g row c (Ascends-tail (λ e. e.cell) e row up) in
@@ -128,7 +128,7 @@ absent g c e row lt up =
     factor_in-other g e row c (λ same. omega (arith, lt, same)) ∙ factor_in-none g row c (All-weaker (λ d. e.cell < d.cell) (λ d. d.cell ≢ c) (λ d more same. omega (arith, lt, more, same)) row (Ascends-head (λ e. e.cell) e row up))
 
 -- rows of the same factors, that miss all of no cell, are the same
-pub same_factors : (g : ℕ) (xs ys : List LookPart) → Ascends (λ e. e.cell) xs → Ascends (λ e. e.cell) ys → All (λ e. e.part ≢ g) xs → All (λ e. e.part ≢ g) ys → ((c : ℕ) → factor_in g xs c ≡ factor_in g ys c) → xs ≡ ys
+same_factors : (g : ℕ) (xs ys : List LookPart) → Ascends (λ e. e.cell) xs → Ascends (λ e. e.cell) ys → All (λ e. e.part ≢ g) xs → All (λ e. e.part ≢ g) ys → ((c : ℕ) → factor_in g xs c ≡ factor_in g ys c) → xs ≡ ys
 same_factors g [] [] up up' some some' each = refl
 same_factors g [] (y ∷ ys) up up' some some' each =
     absurd (All-head (λ e. e.part ≢ g) y ys some' (sym (factor_in-own g y ys y.cell refl) ∙ sym (each y.cell) ∙ nothing g y.cell))
@@ -165,12 +165,12 @@ module _ (p : Problem) (h : IsProblem p) where
   pub kept_rises : (t a : ℕ) → Ascends (λ e. e.cell) (kept p.sweep.denominator (look_row p.sweep t a))
   kept_rises t a = AllPairs-filter (λ x y. x.cell < y.cell) (λ e. not (e.part == p.sweep.denominator)) (look_row p.sweep t a) (Ascends-from_keys (λ e. e.cell) (look_row p.sweep t a) (h.sweep.each t a).ascending)
 
-  pub kept_some : (t a : ℕ) → All (λ e. e.part ≢ p.sweep.denominator) (kept p.sweep.denominator (look_row p.sweep t a))
+  kept_some : (t a : ℕ) → All (λ e. e.part ≢ p.sweep.denominator) (kept p.sweep.denominator (look_row p.sweep t a))
   kept_some t a =
       All-weaker {X = LookPart} (λ e. not (e.part == p.sweep.denominator) ≡ true) (λ e. e.part ≢ p.sweep.denominator) (λ e passes all. true≢false (sym passes ∙ rw (eq-eqb e.part p.sweep.denominator all) refl)) (kept p.sweep.denominator (look_row p.sweep t a)) (filter_passes (λ e. not (e.part == p.sweep.denominator)) (look_row p.sweep t a))
 
   -- what is covered has the factors of the look
-  pub kept_factor : (t a c : ℕ) → factor_in p.sweep.denominator (kept p.sweep.denominator (look_row p.sweep t a)) c ≡ factor_of p.sweep t a c
+  kept_factor : (t a c : ℕ) → factor_in p.sweep.denominator (kept p.sweep.denominator (look_row p.sweep t a)) c ≡ factor_of p.sweep t a c
   unfolding factor_of
   kept_factor t a c = factor_in-kept p.sweep.denominator (look_row p.sweep t a) c (Ascends-from_keys (λ e. e.cell) (look_row p.sweep t a) (h.sweep.each t a).ascending)
 
