@@ -1,5 +1,5 @@
 -- What the canonical text says is the same search.
-use Rattle.std.proofs.Common.{◌≡◌, ℕ, ◌+◌, ◌-◌, ◌<◌, ◌≤◌, Bool, true, false, List, [], ◌∷◌, map, length, get_or, Option, Some, None, refl, sym, ap, ◌∙◌, subst, arith, inl, inr, All, ◌⊎◌}
+use Rattle.std.proofs.Common.{◌≡◌, ℕ, ◌-◌, ◌<◌, ◌≤◌, List, [], ◌∷◌, map, length, Option, Some, None, refl, sym, ap, ◌∙◌, subst, arith, inl, inr, All, ◌⊎◌}
 use Rattle.std.specs.Prelude.{unwrap_or, slice_index_or, slice_index, max}
 use Rattle.std.specs.List.{AllZip, find, range_with_len}
 use Rattle.std.specs.List.Sorted.{IsPermutation, IsStrictlyIncreasing}
@@ -11,11 +11,11 @@ use Rattle.std.proofs.lemmas.List.FromFn.{length-map-range_with_len, get_or-map-
 use Rattle.std.proofs.lemmas.List.Sorted.{IsPermutation-refl}
 use Rattle.list_laws.proofs.Rising.{increasing_from_ascends}
 use Rattle.drift_chain.specs.declared.part.DriftPart.{DriftPart}
-use Rattle.drift_chain.specs.DriftRows.{DriftRows, DriftRowChange, drift_cells, row_of, is_change, IsDriftRow, IsDrift}
+use Rattle.drift_chain.specs.DriftRows.{DriftRows, DriftRowChange, row_of, is_change, IsDriftRow, IsDrift}
 use Rattle.drift_chain.proofs.DriftChanges.{row_of-base}
 use Rattle.drift_chain.proofs.Drifts.{IsDrift-from_rows}
 use Rattle.drift_chain.specs.Faults.{HasSameParts, parts_from}
-use Rattle.drift_chain.specs.ChangeFaults.{change_key, rows_in, AreSameChanges}
+use Rattle.drift_chain.specs.ChangeFaults.{rows_in}
 use Rattle.search_grid.specs.Faults.{HasSameMoves}
 use Rattle.search_grid.specs.Moves.{moves_from}
 use Rattle.sweep_table.specs.declared.part.LookPart.{LookPart}
@@ -28,12 +28,12 @@ use Rattle.scenario_text.specs.State.{State, PeriodRow}
 use Rattle.scenario_text.specs.Canonical.{covered, drift_changes, look_changes, is_plain, plain_state, full_state, state_of_problem}
 use Rattle.scenario_text.specs.Laws.{IsPlain}
 use Rattle.scenario_text.specs.Scenarios.{drift_change_of, look_parts, look_change_of, AreLooksOf, Says}
-use Rattle.scenario_text.specs.Sound.{AreEntries, AreLooks, ArePeriodRows}
-use Rattle.scenario_text.proofs.CanonicalState.{drift_row, look_of_row}
+use Rattle.scenario_text.specs.Sound.{AreEntries, ArePeriodRows}
+use Rattle.scenario_text.proofs.CanonicalState.{drift_row}
 use Rattle.scenario_text.proofs.FirstParts.{part_in-first}
 use Rattle.scenario_text.proofs.LaterRows.{is_row_of, in_force, some_row, none_owner, all_later, are_period_rows}
 use Rattle.scenario_text.proofs.Periods.{nothing, alone}
-use Rattle.scenario_text.proofs.Plain.{plain_names, plain_is, state_plain, state_full}
+use Rattle.scenario_text.proofs.Plain.{plain_is, state_plain, state_full}
 use Rattle.scenario_text.proofs.SameRows.{kept, kept_rises, covered_parts, covered_factor}
 
 -- What is the same as it is.

@@ -1,9 +1,8 @@
 -- What the canonical text says is sound.
-use Rattle.std.proofs.Common.{◌≡◌, ◌≢◌, ℕ, ◌+◌, ◌-◌, ◌<◌, ◌≤◌, Bool, true, false, cond, List, [], ◌∷◌, map, length, get_or, Option, Some, None, refl, sym, ap, ◌∙◌, subst, arith, inl, inr, All, ◌⊎◌}
+use Rattle.std.proofs.Common.{◌≡◌, ◌≢◌, ℕ, ◌-◌, ◌<◌, ◌≤◌, Bool, false, cond, List, [], ◌∷◌, map, length, get_or, Option, Some, refl, sym, ap, ◌∙◌, subst, arith, inr, All, ◌⊎◌}
 use Rattle.std.specs.Prelude.{◌==◌, is_none, count_by}
 use Rattle.std.specs.List.{list_any, range_with_len}
 use Rattle.std.proofs.lemmas.Bool.{ne_eqb}
-use Rattle.std.proofs.lemmas.List.{length-map, get_or_default}
 use Rattle.std.proofs.lemmas.List.Elements.{All-map, All-nil, All-weaker, All-filter, All-from_get_or, All-head, All-tail}
 use Rattle.std.proofs.lemmas.List.FromFn.{length-map-range_with_len, get_or-map-range_with_len}
 use Rattle.list_laws.proofs.Ascending.{Ascends-from_keys, count_at-le}
@@ -15,10 +14,6 @@ use Rattle.sweep_table.specs.declared.part.LookPart.{LookPart}
 use Rattle.sweep_table.specs.LookParts.{look_row, factor_of}
 use Rattle.sweep_table.proofs.Factors.{factor_of-le}
 use Rattle.search_model.specs.Problem.{Problem, IsProblem}
-use Rattle.scenario_text.specs.declared.draft.Stage.TheVariants as due
-use Rattle.scenario_text.specs.declared.draft.TextVersion.TheVariants.{One, Two}
-use Rattle.scenario_text.specs.KindTable.{lacks_row}
-use Rattle.scenario_text.specs.State.{State}
 use Rattle.scenario_text.specs.Canonical.{first_entries, covered, drift_changes, look_changes, plain_state, full_state}
 use Rattle.scenario_text.specs.Sound.{AreEntries, AreLooks, AreMoves, IsPart, IsLook, ArePeriodRows, IsSound}
 use Rattle.scenario_text.proofs.FirstParts.{IsDriftRow-first}

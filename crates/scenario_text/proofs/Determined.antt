@@ -1,9 +1,8 @@
 -- What was read is one problem.
-use Rattle.std.proofs.Common.{◌≡◌, ℕ, zero, suc, ◌+◌, ◌<◌, Option, Some, None, List, [], ◌∷◌, length, map, refl, sym, ap, ◌∙◌, subst, arith}
-use Rattle.std.specs.Prelude.{◌==◌, ◌&&◌, ◌≤◌, All, sum_by, slice_index_or, unwrap_or, option_map}
+use Rattle.std.proofs.Common.{◌≡◌, ℕ, ◌+◌, ◌<◌, Option, None, List, [], ◌∷◌, length, map, refl, sym, ap, ◌∙◌, subst, arith}
+use Rattle.std.specs.Prelude.{◌≤◌, All, sum_by, slice_index_or, unwrap_or, option_map}
 use Rattle.std.specs.List.{AllZip, find}
 use Rattle.std.specs.List.Sorted.{IsPermutation, IsStrictlyIncreasing}
-use Rattle.std.specs.Option.{option_map_or}
 use Rattle.std.proofs.lemmas.Bool.{ne_eqb}
 use Rattle.std.proofs.lemmas.Grind.{same_number_lists}
 use Rattle.std.proofs.lemmas.List.{same_lists, get_or_default}
@@ -11,9 +10,9 @@ use Rattle.std.proofs.lemmas.List.Elements.{All-head, All-tail}
 use Rattle.std.proofs.lemmas.List.Sorted.{IsPermutation-sym, IsPermutation-trans}
 use Rattle.std.proofs.lemmas.List.Sums.{sum_by-cons}
 use Rattle.drift_chain.specs.declared.part.DriftPart.{DriftPart}
-use Rattle.drift_chain.specs.DriftRows.{DriftRows, DriftRowChange, drift_cells, is_change, row_of, IsDrift, IsDriftRow}
+use Rattle.drift_chain.specs.DriftRows.{DriftRows, DriftRowChange, is_change, IsDrift, IsDriftRow}
 use Rattle.drift_chain.specs.Faults.{HasSameParts, parts_from}
-use Rattle.drift_chain.specs.ChangeFaults.{change_key, rows_in, AreRight, AreSameChanges}
+use Rattle.drift_chain.specs.ChangeFaults.{rows_in, AreRight, AreSameChanges}
 use Rattle.drift_chain.proofs.DriftChanges.{row_of-base, AreRight-from_drift, same_changes}
 use Rattle.drift_chain.proofs.Drifts.{same_row}
 use Rattle.search_grid.specs.Faults.{HasSameMoves}
@@ -28,7 +27,7 @@ use Rattle.sweep_table.proofs.Rows.{same_rows as same_look_rows}
 use Rattle.scenario_text.specs.declared.draft.TextVersion.{TextVersion}
 use Rattle.scenario_text.specs.declared.draft.TextVersion.TheVariants.{One, Two}
 use Rattle.scenario_text.specs.State.{State}
-use Rattle.scenario_text.specs.Scenarios.{SaysLooks, AreLooksOf}
+use Rattle.scenario_text.specs.Scenarios.{SaysLooks}
 use Rattle.scenario_text.specs.Laws.{OneProblem}
 use Rattle.search_model.proofs.SameParts.{same_problem}
 

@@ -1,12 +1,10 @@
 -- The drift rows of single periods are right changes of a drift.
-use Rattle.std.proofs.Common.{◌≡◌, ℕ, ◌<◌, ◌≤◌, List, [], map, length, get_or, take, refl, sym, ap, ◌∙◌, arith, subst, inl, inr}
-use Rattle.std.specs.Prelude.{◌==◌, sum_by, All}
-use Rattle.std.specs.List.Sorted.{IsPermutation}
+use Rattle.std.proofs.Common.{◌≡◌, ℕ, ◌<◌, ◌≤◌, List, [], map, length, get_or, take, sym, ap, ◌∙◌, arith, subst, inl, inr}
 use Rattle.std.proofs.lemmas.List.{length-map, length-take, get_or-map, get_or-take}
 use Rattle.drift_chain.specs.declared.part.DriftPart.{DriftPart}
 use Rattle.drift_chain.specs.declared.changes.ChangeFault.{ChangeFault}
 use Rattle.drift_chain.specs.declared.changes.ChangeFault.TheVariants.{PeriodOutOfRange, CellOutOfRange, DoubleChange, BadRow, NoMemory}
-use Rattle.drift_chain.specs.DriftRows.{DriftRowChange, IsDriftRow}
+use Rattle.drift_chain.specs.DriftRows.{DriftRowChange}
 use Rattle.drift_chain.specs.Faults.{parts_from}
 use Rattle.drift_chain.specs.ChangeFaults.{change_key, change_at, rows_in, AreSameChanges, AreRight, HasChangeFault, IsBadRow}
 use Rattle.drift_chain.proofs.PartRows.{parts_from-map}

@@ -1,10 +1,10 @@
 -- The look rows, and those of single periods, are right rows and right changes of a sweep.
-use Rattle.std.proofs.Common.{◌≡◌, ℕ, zero, suc, ◌<◌, ◌≤◌, cond, List, [], ◌∷◌, map, length, get_or, take, Option, Some, None, refl, sym, ap, ◌∙◌, arith, subst, inl, inr}
+use Rattle.std.proofs.Common.{◌≡◌, ℕ, ◌<◌, ◌≤◌, cond, List, [], ◌∷◌, map, length, get_or, Option, Some, None, refl, sym, ap, ◌∙◌, arith, subst, inl, inr}
 use Rattle.std.specs.Prelude.{◌==◌, count_by, unwrap_or, All}
 use Rattle.std.specs.List.{AllZip}
-use Rattle.std.specs.List.Sorted.{IsPermutation, IsStrictlyIncreasing}
+use Rattle.std.specs.List.Sorted.{IsPermutation}
 use Rattle.std.proofs.lemmas.List.{length-map, get_or-map}
-use Rattle.std.proofs.lemmas.List.Elements.{All-map, All-nil, All-weaker}
+use Rattle.std.proofs.lemmas.List.Elements.{All-map, All-nil}
 use Rattle.std.proofs.lemmas.List.Sorted.{IsPermutation-map}
 use Rattle.drift_chain.specs.declared.part.DriftPart.{DriftPart}
 use Rattle.sweep_table.specs.declared.part.LookPart.{LookPart}
@@ -12,7 +12,7 @@ use Rattle.sweep_table.specs.declared.faults.LookFault.{LookFault}
 use Rattle.sweep_table.specs.declared.faults.LookFault.TheVariants as looks
 use Rattle.sweep_table.specs.declared.changes.LookChangeFault.{LookChangeFault}
 use Rattle.sweep_table.specs.declared.changes.LookChangeFault.TheVariants.{PeriodOutOfRange, PositionOutOfRange, DoubleChange, BadRow, NoMemory}
-use Rattle.sweep_table.specs.LookParts.{LookRowChange, LookParts, looks_over, misses, IsLookRow, IsSweep}
+use Rattle.sweep_table.specs.LookParts.{LookRowChange, looks_over, misses, IsLookRow, IsSweep}
 use Rattle.sweep_table.specs.Faults.{row_at, HasFault, HasOut, HasDouble, HasOver}
 use Rattle.sweep_table.specs.Changes.{change_at, HasChangeFault, HaveRightRows, IsBadRow, IsSameChange}
 use Rattle.sweep_table.proofs.Rows.{IsSweep-from_rows, row_at-map}

@@ -18,15 +18,14 @@ use Rattle.sweep_table.specs.LookParts.{LookParts, cells_of, look_row, factor_of
 use Rattle.sweep_table.proofs.Factors.{factor_in-none}
 use Rattle.search_model.specs.Names.{name_in}
 use Rattle.search_model.specs.Problem.{Problem, IsProblem, first_of, cell_name, position_name}
-use Rattle.scenario_text.specs.declared.draft.TextVersion.{TextVersion}
 use Rattle.scenario_text.specs.declared.draft.TextVersion.TheVariants.{One, Two}
 use Rattle.scenario_text.specs.State.{PeriodRow}
-use Rattle.scenario_text.specs.Canonical.{first_entries, covered, is_same_row, other_rows, later_rows, drift_changes, look_changes, plain_state, full_state}
+use Rattle.scenario_text.specs.Canonical.{first_entries, covered, is_same_row, other_rows, later_rows, drift_changes, look_changes}
 use Rattle.scenario_text.specs.RowFields.{entry_fields, cell_row, moves_of, drift_of, overlook_of}
 use Rattle.scenario_text.specs.StateRows.{version_row, position_row, drift_in_of, look_of, look_in_of}
 use Rattle.scenario_text.proofs.Appending.{IsThree}
 use Rattle.scenario_text.proofs.Ranges.{map-range-same}
-use Rattle.scenario_text.specs.Printing.{line_of, name_text, entry_text, first_text, covered_text, moves_text, drift_text, overlook_text, look_text, drift_in_text, look_in_text, drift_change_text, look_change_text, drift_period_text, look_period_text, drift_changes_text, look_changes_text, cell_text, position_text, chance_text, head_text, front_text, named_text, body_text, overlook_end_text, look_end_text, changes_text, plain_text, full_text}
+use Rattle.scenario_text.specs.Printing.{line_of, name_text, entry_text, first_text, covered_text, moves_text, drift_text, look_text, drift_in_text, look_in_text, drift_changes_text, cell_text, position_text, chance_text, head_text, front_text, named_text, body_text, overlook_end_text, look_end_text, changes_text, plain_text, full_text}
 
 -- of a cell that there isn't a look misses all
 pub factor_of-beyond : (sweep : LookParts) → IsSweep sweep → (t q c : ℕ) → cells_of sweep ≤ c → factor_of sweep t q c ≡ sweep.denominator

@@ -11,7 +11,6 @@ use Rattle.sweep_table.specs.LookParts.{factor_of}
 use Rattle.search_model.specs.Problem.{Problem, first_of, cell_name, position_name}
 use Rattle.scenario_text.specs.declared.draft.TextVersion.{TextVersion}
 use Rattle.scenario_text.specs.declared.draft.TextVersion.TheVariants.{Two}
-use Rattle.scenario_text.specs.State.{PeriodRow}
 use Rattle.scenario_text.specs.Canonical.{first_entries, covered, is_same_row, plain_state, full_state}
 use Rattle.scenario_text.specs.RowFields.{entry_fields, cell_row, moves_of, drift_of, overlook_of}
 use Rattle.scenario_text.specs.StateRows.{version_row, position_row, drift_in_of, look_of, look_in_of, state_rows}

@@ -5,7 +5,6 @@ use Rattle.scenario_text.specs.declared.draft.Stage.TheVariants.{Ended}
 use Rattle.scenario_text.specs.declared.draft.TextVersion.TheVariants.{Two}
 use Rattle.scenario_text.specs.declared.kind.TextKind.{TextKind}
 use Rattle.scenario_text.specs.declared.kind.TextKind.TheVariants.{BadLine, BadNumber, OverLimit, UnknownName, DoubleName, MissingRow, DoubleRow, WrongSum, PartOver, NoMove}
-use Rattle.scenario_text.specs.declared.kind.TextFault.{TextFault}
 use Rattle.scenario_text.specs.State.{State, PeriodRow}
 use Rattle.scenario_text.specs.Worked.{entry, said, HasFault, IsWrong}
 

@@ -1,4 +1,4 @@
-use Rattle.std.proofs.Common.{◌≡◌, ◌≢◌, sym, arith, rules}
+use Rattle.std.proofs.Common.{◌≡◌, sym, arith, rules}
 use Rattle.std.proofs.lemmas.Bool.{false_from_ne_true}
 use Rattle.sweep_table.specs.LookParts.{factor_of}
 use Rattle.scenario_text.specs.Canonical.{covered}

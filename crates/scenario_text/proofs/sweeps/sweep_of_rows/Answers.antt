@@ -1,4 +1,4 @@
-use Rattle.std.proofs.Common.{◌≡◌, ℕ, [], List, map, length, sym, ap, ◌∙◌, subst, unwrap_or, Option, Vec, Global}
+use Rattle.std.proofs.Common.{◌≡◌, ℕ, [], List, map, length, sym, ap, ◌∙◌, unwrap_or, Option, Vec, Global}
 use Rattle.std.specs.Option.{option_map}
 use Rattle.std.specs.List.Sorted.{IsPermutation}
 use Rattle.std.proofs.lemmas.List.{length-map}
