@@ -51,6 +51,7 @@ use Rattle.scenario_text.proofs.SoundFields.{not_refused}
 use Rattle.scenario_text.proofs.SoundHeads.{no_grid}
 use Rattle.scenario_text.proofs.SoundNames.{IsName-grid, grid_count, All-grid_names, grid_differ}
 use Rattle.scenario_text.proofs.Soundness.{reached_sound}
+use Rattle.scenario_text.proofs.RowsBack.{moves_begins}
 
 -- lines behind others
 taken_behind : (lines more : List (List ℕ)) (s t u : State) → AreTaken s lines t → AreTaken t more u → AreTaken s (lines ++ more) u
@@ -207,10 +208,6 @@ rows_due s rows cols moves = record s { stage = due.Rows; names = grid_names row
 -- the moves of all its cells, one line each
 abbrev move_lines : ℕ → ℕ → List (List ℕ)
 move_lines rows cols = for_each (rows * cols) (λ c. moves_of (grid_names rows cols) c (moves_beside rows cols c))
-
-moves_begins : (version : TextVersion) (named : Bool) → line_due version due.Rows named (codes "moves") ≡ Some Moves
-moves_begins One named = refl
-moves_begins Two named = refl
 
 moves_read : (s : State) (rows cols : ℕ) → s.version ≡ One → 1 ≤ rows → 1 ≤ cols → rows * cols ≤ 200 → AreTaken (rows_due s rows cols (replicate (rows * cols) [])) (move_lines rows cols) (rows_due s rows cols (side_moves rows cols))
 unfolding side_moves

@@ -44,7 +44,7 @@ by_both P One x y a b = a
 by_both P Two x y a b = b
 
 -- rows that stand in both versions
-moves_begins : (version : TextVersion) (named : Bool) → line_due version due.Rows named (codes "moves") ≡ Some Moves
+pub moves_begins : (version : TextVersion) (named : Bool) → line_due version due.Rows named (codes "moves") ≡ Some Moves
 moves_begins One named = refl
 moves_begins Two named = refl
 
