@@ -1,6 +1,6 @@
 //! Searches held against a plain one, which lists all paths and sums each over all tracks of the target.
 
-ghost use Rattle.std.specs.Prelude.{◌≤◌, ◌<◌, IfOk};
+ghost use Rattle.std.specs.Prelude.{◌≡◌, ◌≤◌, ◌<◌, [], IfOk};
 ghost use Rattle.bound_tree.specs.Close.{IsExact};
 
 use crate::{OpenGate, SearchStop, search};
@@ -92,11 +92,14 @@ fn move_row(alloc: Global, draws: &mut Draws, position: u8) -> Result<Vec<u8>, A
     Ok(row)
 }
 
-fn drifts(alloc: Global, draws: &mut Draws) -> Result<Drift, Fail> {
-    let mut rows = Vec::new(alloc);
-    for _ in 0..CELLS {
-        rows.push(drift_row(alloc, draws)?)?;
-    }
+fn drifts(alloc: Global, draws: &mut Draws) -> Result<Drift, Fail>
+    ensures { IfOk result (λ drift. drift.changes ≡ []) }
+{
+    let rows = vec![in alloc;
+        drift_row(alloc, draws)?,
+        drift_row(alloc, draws)?,
+        drift_row(alloc, draws)?,
+    ]?;
     Ok(Drift::new(PARTS, rows)?)
 }
 
@@ -115,7 +118,9 @@ fn drift_changes(alloc: Global, draws: &mut Draws) -> Result<Vec<DriftChange>, A
     Ok(changes)
 }
 
-fn looks(alloc: Global, draws: &mut Draws) -> Result<Sweep, Fail> {
+fn looks(alloc: Global, draws: &mut Draws) -> Result<Sweep, Fail>
+    ensures { IfOk result (λ sweep. sweep.changes ≡ []) }
+{
     let mut rows = Vec::new(alloc);
     for _ in 0..POSITIONS {
         rows.push(look_row(alloc, draws)?)?;
