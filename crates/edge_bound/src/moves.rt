@@ -48,9 +48,9 @@ fn mass_going_on(sc: &Scenario, prefix: &Path, masses: &[u128], t: u32, c: u8, d
     mass_at(sc, prefix, masses, t - 1, c) * u128::from(sc.drift().part(t - 1, c, d))
 }
 
-/// What comes to cell `d` in period `t` of what a look from position `a` in the period before finds, in all cells that it
-/// covers.
-fn taken(sc: &Scenario, prefix: &Path, masses: &[u128], t: u32, a: u8, d: u8) -> u128
+/// What comes to cell `d` in period `t` of what a look from position `a` in the period before finds, cell by cell
+/// of its row.
+fn taken_by_row(sc: &Scenario, prefix: &Path, masses: &[u128], t: u32, a: u8, d: u8) -> u128
     requires period { IsLater sc.now prefix.now t }
     requires from { a < sc.now.positions }
     requires to { d < sc.now.cells }
@@ -69,6 +69,26 @@ fn taken(sc: &Scenario, prefix: &Path, masses: &[u128], t: u32, a: u8, d: u8) ->
     sum
 }
 
+/// What comes to cell `d` in period `t` of what a look from position `a` in the period before finds, in all cells that it
+/// covers.
+fn taken(sc: &Scenario, prefix: &Path, masses: &[u128], t: u32, a: u8, d: u8) -> u128
+    requires period { IsLater sc.now prefix.now t }
+    requires from { a < sc.now.positions }
+    requires to { d < sc.now.cells }
+    requires masses { IsTableFor sc.now prefix.now masses.now }
+    requires fits { found_of sc.now (t - 1) a (going_on sc.now prefix.now t d) < 2 ^ 127 }
+    ensures { result ≡ found_of sc.now (t - 1) a (going_on sc.now prefix.now t d) }
+{
+    let _sound = sc.cells();
+    match sc.sweep().own_part(a) {
+        Some(part) => {
+            let mass = mass_going_on(sc, prefix, masses, t, a, d);
+            mass * u128::from(sc.sweep().denominator() - part)
+        }
+        None => taken_by_row(sc, prefix, masses, t, a, d),
+    }
+}
+
 /// The mass of cell `d` in period `t` after a look from position `a` in the period before: the mass without that look,
 /// less what comes to it of what the look found.
 fn left(sc: &Scenario, prefix: &Path, masses: &[u128], t: u32, a: u8, d: u8) -> u128
@@ -81,6 +101,26 @@ fn left(sc: &Scenario, prefix: &Path, masses: &[u128], t: u32, a: u8, d: u8) -> 
     let _sound = sc.cells();
     let found = taken(sc, prefix, masses, t, a, d);
     mass_at(sc, prefix, masses, t, d) * u128::from(sc.sweep().denominator()) - found
+}
+
+/// What a look from `b` in period `t` finds after a look from `a` in the period before, cell by cell of its row.
+fn found_after_by_row(sc: &Scenario, prefix: &Path, masses: &[u128], t: u32, a: u8, b: u8) -> u128
+    requires period { IsLater sc.now prefix.now t }
+    requires from { a < sc.now.positions }
+    requires to { b < sc.now.positions }
+    requires masses { IsTableFor sc.now prefix.now masses.now }
+    ensures { result * (sc.now.drift.denominator ^ (sc.now.horizon - t) * sc.now.sweep.denominator ^ (sc.now.horizon - (length prefix.now + 2)))
+        ≡ edge_reward_of sc.now prefix.now t a b }
+{
+    let _sound = sc.cells();
+    let whole = sc.sweep().denominator();
+    let look = look_from(sc, t, b);
+    let mut sum = 0;
+    for entry in look.parts() {
+        let mass = left(sc, prefix, masses, t, a, entry.cell);
+        sum += mass * u128::from(whole - entry.part);
+    }
+    sum
 }
 
 /// What a look from `b` in period `t` finds after a look from `a` in the period before, in all cells that it covers; times
@@ -101,14 +141,13 @@ pub(crate) fn found_after(
         ≡ edge_reward_of sc.now prefix.now t a b }
 {
     let _sound = sc.cells();
-    let whole = sc.sweep().denominator();
-    let look = look_from(sc, t, b);
-    let mut sum = 0;
-    for entry in look.parts() {
-        let mass = left(sc, prefix, masses, t, a, entry.cell);
-        sum += mass * u128::from(whole - entry.part);
+    match sc.sweep().own_part(b) {
+        Some(part) => {
+            let mass = left(sc, prefix, masses, t, a, b);
+            mass * u128::from(sc.sweep().denominator() - part)
+        }
+        None => found_after_by_row(sc, prefix, masses, t, a, b),
     }
-    sum
 }
 
 /// What the first look after a prefix finds from `b`, in all cells that it covers; times the parts of what is to come it

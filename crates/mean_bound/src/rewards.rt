@@ -7,8 +7,8 @@ ghost use Rattle.mean_bound.specs.Rewards.{HasRewards, found_of};
 use belief_update::{Belief, later_parts};
 use search_model::{Path, Scenario};
 
-/// What a look from position `a` finds of the masses, in all cells that it covers.
-fn found(sc: &Scenario, belief: &Belief, a: u8) -> u128
+/// What a look from position `a` finds of the masses, cell by cell of its row.
+fn found_by_row(sc: &Scenario, belief: &Belief, a: u8) -> u128
     requires period { (1 ≤ belief.now.period) × (belief.now.period ≤ sc.now.horizon) }
     requires cells { length belief.now.masses ≡ sc.now.cells }
     requires position { a < sc.now.positions }
@@ -24,6 +24,22 @@ fn found(sc: &Scenario, belief: &Belief, a: u8) -> u128
         sum += belief.at(entry.cell) * u128::from(whole - entry.part);
     }
     sum
+}
+
+/// What a look from position `a` finds of the masses, in all cells that it covers.
+fn found(sc: &Scenario, belief: &Belief, a: u8) -> u128
+    requires period { (1 ≤ belief.now.period) × (belief.now.period ≤ sc.now.horizon) }
+    requires cells { length belief.now.masses ≡ sc.now.cells }
+    requires position { a < sc.now.positions }
+    requires fits { found_of sc.now belief.now a < 2 ^ 127 }
+    ensures { result ≡ found_of sc.now belief.now a }
+{
+    let _sound = sc.cells();
+    let sweep = sc.sweep();
+    match sweep.own_part(a) {
+        Some(part) => belief.at(a) * u128::from(sweep.denominator() - part),
+        None => found_by_row(sc, belief, a),
+    }
 }
 
 /// Writes the rewards of one period, which begin at place `row`: what a look from each position finds of the masses,

@@ -1,6 +1,6 @@
 //! The table of look factors.
 
-ghost use Rattle.std.specs.Prelude.{◌≡◌, ℕ, ◌<◌, ◌≤◌, ◌↔◌, [], map, false, IfOk, IfErr, IsOk, IsErrOf};
+ghost use Rattle.std.specs.Prelude.{◌≡◌, ℕ, ◌<◌, ◌≤◌, ◌↔◌, [], ◌∷◌, map, false, IfSome, IfOk, IfErr, IsOk, IsErrOf};
 ghost use Rattle.std.specs.List.{AllZip};
 ghost use Rattle.std.specs.List.Sorted.{IsPermutation};
 ghost use Rattle.sweep_table.specs.LookParts.{IsSweep};
@@ -42,7 +42,7 @@ impl Model for Sweep {
 
 impl Sweep {
     ghost use Rattle.std.specs.Prelude.{Ok};
-    ghost use Rattle.sweep_table.specs.LookParts.{factor_of, look_row, positions_of, cells_of, parts_over, looks_over};
+    ghost use Rattle.sweep_table.specs.LookParts.{factor_of, look_row, misses, positions_of, cells_of, parts_over, looks_over};
     ghost use Rattle.sweep_table.specs.Faults.{HasWrongCount, IsFirstOver, HasFault, IsFirstFault};
     ghost use Rattle.sweep_table.specs.Changes.{change_of, with_changes, IsSameChange, HaveAscendingRows, HaveRightRows, HasChangeFault, IsRefusal};
 
@@ -172,6 +172,18 @@ impl Sweep {
         match &self.looks {
             Looks::Plain(_) => false,
             Looks::Footprints(prints) => prints.changes.is_some(),
+        }
+    }
+
+    /// The overlook part of position `p`, where each look from there covers the cell of the position's number alone. It
+    /// spares who asks the row: `None` says nothing of what is covered.
+    pub fn own_part(&self, p: u8) -> Option<u32>
+        requires { p < positions_of self.now }
+        ensures row { IfSome result (λ part. (t : ℕ) → look_row self.now t p ≡ misses p part ∷ []) }
+    {
+        match &self.looks {
+            Looks::Plain(overlook) => Some(overlook[p as usize]),
+            Looks::Footprints(_) => None,
         }
     }
 

@@ -32,8 +32,8 @@ fn missed(sc: &Scenario, belief: &Belief, backward: &Backward, t: u32, entry: Lo
     }
 }
 
-/// What the reference misses of all tracks that a look from position `a` covers in period `t`.
-fn covered(sc: &Scenario, belief: &Belief, backward: &Backward, t: u32, a: u8) -> u128
+/// What the reference misses of all tracks that a look from position `a` covers in period `t`, cell by cell of its row.
+fn covered_by_row(sc: &Scenario, belief: &Belief, backward: &Backward, t: u32, a: u8) -> u128
     requires met { (path : List ℕ) × IsMet sc.now path t belief.now backward.now }
     requires first { 1 ≤ t }
     requires last { t ≤ sc.now.horizon }
@@ -47,6 +47,21 @@ fn covered(sc: &Scenario, belief: &Belief, backward: &Backward, t: u32, a: u8) -
         sum += missed(sc, belief, backward, t, *entry);
     }
     sum
+}
+
+/// What the reference misses of all tracks that a look from position `a` covers in period `t`.
+fn covered(sc: &Scenario, belief: &Belief, backward: &Backward, t: u32, a: u8) -> u128
+    requires met { (path : List ℕ) × IsMet sc.now path t belief.now backward.now }
+    requires first { 1 ≤ t }
+    requires last { t ≤ sc.now.horizon }
+    requires position { a < sc.now.positions }
+    ensures { (path : List ℕ) → IsMet sc.now path t belief.now backward.now → result ≡ missed_by_look sc.now path t a }
+{
+    let _sound = sc.cells();
+    match sc.sweep().own_part(a) {
+        Some(part) => missed(sc, belief, backward, t, LookPart { cell: a, part }),
+        None => covered_by_row(sc, belief, backward, t, a),
+    }
 }
 
 /// What one more look from position `a` in period `t` finds of what the reference misses, where the belief is after the

@@ -1,8 +1,5 @@
-use Rattle.std.proofs.Common.{◌≡◌, ◌+◌, ◌*◌, ◌≤◌, ◌∙◌, refl, arith}
-use Rattle.std.proofs.lemmas.List.{take_all}
-use Rattle.std.proofs.lemmas.List.Sums.{sum_by_more_le}
-use Rattle.sweep_table.specs.LookParts.{look_row}
-use Rattle.search_model.specs.Tracks.{whole_weight}
+use Rattle.std.proofs.Common.{◌≡◌, ◌*◌, sym, refl, arith}
+use Rattle.search_model.proofs.LookRows.{own_cell, own_part-le, sum_own}
 use Rattle.search_model.proofs.Totals.{whole_weight-fits}
 use Rattle.edge_bound.specs.Found.{found_in, found_of}
 use Rattle.edge_bound.specs.Onward.{mass_after_look}
@@ -10,28 +7,31 @@ use Rattle.edge_bound.proofs.Discounts.{edge_reward_is}
 use Rattle.edge_bound.proofs.Fitting.{found_after-within}
 use Rattle.edge_bound.proofs.moves.found_after.Goals as goal
 
--- what is found so far and in one cell more is within the whole weight
-within : (c : goal.After-from) → c.loop-entry.sum + c.left-mass.result * c.from.result ≤ whole_weight c.args.sc.now
-within c =
+pub left-mass-requires-clause-to : goal.left-mass-requires-clause-to
+left-mass-requires-clause-to c =
+    own_cell c.args.sc.now c.cells-sound.ensures.sound c.args.t c.args.b _ c.sweep.ensures _ c.in-Some.ensures.row
+
+pub overflow_sub-denominator : goal.overflow_sub-denominator
+overflow_sub-denominator c =
+    rw (c.denominator.ensures.value, c.sweep-in-Some.ensures)
+    (own_part-le c.args.sc.now c.cells-sound.ensures.sound c.args.t c.args.b _ c.sweep.ensures _ c.in-Some.ensures.row)
+
+-- what is found in the one cell is all that the look finds
+found_is : (c : goal.After-from) → c.left-mass.result * c.from.result ≡ found_of c.args.sc.now c.args.t c.args.b (mass_after_look c.args.sc.now c.args.prefix.now c.args.t c.args.a)
+found_is c =
     let p = c.args.sc.now in
-    let q = c.args.prefix.now in
-    let row : c.parts-entry-items.result.now ≡ look_row p.sweep c.args.t c.args.b = c.parts-entry-items.ensures ∙ c.look_from-look.ensures.row in
-    let most = found_after-within p c.cells-sound.ensures.sound q c.args.t c.args.a c.args.b c.requires.period.later c.requires.period.last in
-    let more = sum_by_more_le (found_in p (mass_after_look p q c.args.t c.args.a)) c.parts-entry-items.result.now c.loop-entry.entry-index (record { cell = 0; part = 0 }) c.loop-entry-test.true in
-    let all = rw (← row) at most in
-    rw (c.loop-entry.invariant, c.left-mass.ensures, c.from.ensures, c.denominator-whole.ensures.value, c.sweep.ensures) (omega (arith, more, all))
+    let mass = mass_after_look p c.args.prefix.now c.args.t c.args.a in
+    let whole = sum_own p c.cells-sound.ensures.sound c.args.t c.args.b _ c.sweep.ensures _ c.in-Some.ensures.row (found_in p mass) in
+    rw (whole, c.left-mass.ensures, c.from.ensures, c.denominator.ensures.value, c.sweep-in-Some.ensures) refl
 
-pub overflow_mul-sum : goal.overflow_mul-sum
-overflow_mul-sum c = omega (arith, within c, whole_weight-fits c.args.sc.now c.cells-sound.ensures.sound)
-
-pub overflow_add-sum : goal.overflow_add-sum
-overflow_add-sum c = omega (arith, within c, whole_weight-fits c.args.sc.now c.cells-sound.ensures.sound)
-
-pub returns : goal.returns
-returns c =
+pub overflow_mul-result : goal.overflow_mul-result
+overflow_mul-result c =
     let p = c.args.sc.now in
-    let q = c.args.prefix.now in
-    let mass = mass_after_look p q c.args.t c.args.a in
-    let row : c.parts-entry-items.result.now ≡ look_row p.sweep c.args.t c.args.b = c.parts-entry-items.ensures ∙ c.look_from-look.ensures.row in
-    let found : c.loop-entry.sum ≡ found_of p c.args.t c.args.b mass = c.loop-entry.invariant ∙ rw (take_all c.loop-entry.entry-index c.parts-entry-items.result.now c.loop-entry-test.false, row) refl in
-    rw (found, edge_reward_is p c.cells-sound.ensures.sound q c.args.t c.args.a c.args.b c.requires.period.later c.requires.period.last) refl
+    let sound = c.cells-sound.ensures.sound in
+    let most = found_after-within p sound c.args.prefix.now c.args.t c.args.a c.args.b c.requires.period.later c.requires.period.last in
+    omega (arith, found_is c, most, whole_weight-fits p sound)
+
+pub returns-in-Some : goal.returns-in-Some
+returns-in-Some c =
+    rw (found_is c)
+    (sym (edge_reward_is c.args.sc.now c.cells-sound.ensures.sound c.args.prefix.now c.args.t c.args.a c.args.b c.requires.period.later c.requires.period.last))

@@ -1,12 +1,12 @@
-use Rattle.mean_bound.proofs.Found.{entry_cell, entry_part}
+use Rattle.search_model.proofs.LookRows.{own_cell, own_part-le}
 use Rattle.mean_bound.proofs.rewards.found.Goals as goal
 
 pub at-requires : goal.at-requires
 at-requires c =
     rw c.requires.cells
-    (entry_cell c.args.sc.now c.cells-sound.ensures.sound _ _ c.args.a _ _ c.sweep-sweep.ensures c.look-look.ensures.value c.parts-entry-items.ensures c.loop-entry.entry-index (record { cell = 0; part = 0 }) c.loop-entry-test.true)
+    (own_cell c.args.sc.now c.cells-sound.ensures.sound c.args.belief.now.period c.args.a _ c.sweep-sweep.ensures _ c.in-Some.ensures.row)
 
-pub overflow_sub-whole : goal.overflow_sub-whole
-overflow_sub-whole c =
-    rw (c.denominator-whole.ensures.value, c.sweep-sweep.ensures)
-    (entry_part c.args.sc.now c.cells-sound.ensures.sound _ _ c.args.a _ _ c.sweep-sweep.ensures c.look-look.ensures.value c.parts-entry-items.ensures c.loop-entry.entry-index (record { cell = 0; part = 0 }) c.loop-entry-test.true)
+pub overflow_sub-denominator : goal.overflow_sub-denominator
+overflow_sub-denominator c =
+    rw (c.denominator.ensures.value, c.sweep-sweep.ensures)
+    (own_part-le c.args.sc.now c.cells-sound.ensures.sound c.args.belief.now.period c.args.a _ c.sweep-sweep.ensures _ c.in-Some.ensures.row)

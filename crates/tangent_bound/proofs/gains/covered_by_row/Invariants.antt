@@ -1,6 +1,6 @@
 use Rattle.std.proofs.Common.{ℕ, ◌≡◌, List, sum_by, take}
 use Rattle.tangent_bound.specs.Gains.{IsMet, missed_at}
-use Rattle.tangent_bound.proofs.gains.covered.Given as goal
+use Rattle.tangent_bound.proofs.gains.covered_by_row.Given as goal
 
 -- what is missed in the cells so far
 abbrev pub invariant-loop-entry : goal.invariant-loop-entry
