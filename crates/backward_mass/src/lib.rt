@@ -4,8 +4,6 @@
 mod backward;
 mod laws;
 mod periods;
-#[cfg(test)]
-mod tests;
 
 pub use backward::Backward;
 pub use laws::{gain_by_cell, look_apart, missed_by_cell, missed_in_each_period, worked_masses};

@@ -5,8 +5,6 @@ mod belief;
 mod count;
 mod laws;
 mod steps;
-#[cfg(test)]
-mod tests;
 mod trail;
 mod values;
 

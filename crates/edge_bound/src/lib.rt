@@ -8,8 +8,6 @@ mod laws;
 mod masses;
 mod moves;
 mod rows;
-#[cfg(test)]
-mod tests;
 
 pub use edge::Edge;
 pub use laws::worked_edges;

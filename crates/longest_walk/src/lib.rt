@@ -4,8 +4,6 @@
 
 mod laws;
 mod rows;
-#[cfg(test)]
-mod tests;
 mod walk;
 
 pub use laws::{highest_above, highest_below, same_rewards_same_sum, worked_walks};

@@ -4,7 +4,5 @@
 
 mod mean;
 mod rewards;
-#[cfg(test)]
-mod tests;
 
 pub use mean::Mean;

@@ -3,8 +3,6 @@
 
 mod greedy;
 mod laws;
-#[cfg(test)]
-mod tests;
 
 pub use greedy::opening;
 pub use laws::one_opening;

@@ -4,7 +4,5 @@
 mod gains;
 mod steps;
 mod tangent;
-#[cfg(test)]
-mod tests;
 
 pub use tangent::Tangent;

@@ -1,5 +1,0 @@
-use Rattle.mean_bound.specs.Means.{IsMadeFor}
-use Rattle.mean_bound.proofs.tests.have_bounds.Given as goal
-
-abbrev pub invariant-loop-cells : goal.invariant-loop-cells
-invariant-loop-cells l = IsMadeFor l.sc l.mean

@@ -1,5 +1,0 @@
-use Rattle.tangent_bound.specs.Room.{IsMadeFor}
-use Rattle.tangent_bound.proofs.tests.have_bounds.Given as goal
-
-abbrev pub invariant-loop-prefix : goal.invariant-loop-prefix
-invariant-loop-prefix l = IsMadeFor l.sc l.tangent
