@@ -2,13 +2,11 @@
 use Rattle.std.proofs.Common.{ℕ, ◌+◌, ◌<◌, ◌≤◌, ◌≡◌, ◌∙◌, List, [], ◌∷◌, ◌++◌, length, take, map, refl, sym, ap, arith, below_more, All, Any, inl, inr}
 use Rattle.std.proofs.lemmas.Bool.{cases_lt}
 use Rattle.std.proofs.lemmas.List.{map-append, take_more, take_all}
-use Rattle.period_index.specs.PeriodKeys.{PeriodKeys, with_key}
 use Rattle.drift_chain.specs.declared.part.DriftPart.{DriftPart}
 use Rattle.drift_chain.specs.declared.changes.ChangeFault.{ChangeFault}
 use Rattle.drift_chain.specs.declared.changes.ChangeFault.TheVariants.{PeriodOutOfRange, CellOutOfRange, DoubleChange, BadRow, NoMemory}
 use Rattle.drift_chain.specs.DriftRows.{DriftRowChange, IsSameKey, IsDriftRow}
 use Rattle.drift_chain.specs.ChangeFaults.{change_key, change_at, IsNoPeriod, IsBadRow, HasChangeFault, change_number, kind_number, IsFirstChangeFault, IsRightAfter, IsFirstOfChange}
-use Rattle.drift_chain.specs.Changes.{IsIndexOf}
 use Rattle.drift_chain.proofs.NamedFaults.{none_out, none_zero, none_double, not_after}
 
 -- what is right has no fault
@@ -82,24 +80,20 @@ module _ (denominator cells : ℕ) (changes : List DriftRowChange) (i : ℕ) (be
       rw h.0 (named (BadRow i) refl (inside, h.5) (record { period = λ less. (h.1, h.2); cell = λ less. h.3; other = λ less. h.4; last = omega arith }))
   first_from_change NoMemory inside h = absurd h
 
--- the changes before place i are right, and the index has their keys
-pub record RightBefore (denominator cells : ℕ) (changes : List DriftRowChange) (index : PeriodKeys) (i : ℕ) : Type 0 where
-  pub periods : index.periods ≡ 31
-  pub rows : index.rows ≡ cells
-  pub keys : index.keys ≡ map change_key (take i changes)
+-- the changes before place i are right, and the keys are theirs
+pub record RightBefore (denominator cells : ℕ) (changes : List DriftRowChange) (keys : List (ℕ × ℕ)) (i : ℕ) : Type 0 where
+  pub keys_are : keys ≡ map change_key (take i changes)
   pub right : (k : ℕ) → k < i → IsRightAfter denominator cells (take k changes) (change_at changes k)
 
-pub RightBefore-more : (denominator cells : ℕ) (changes : List DriftRowChange) (index : PeriodKeys) (i : ℕ) → i < length changes → IsRightAfter denominator cells (take i changes) (change_at changes i) →
-    RightBefore denominator cells changes index i → RightBefore denominator cells changes (with_key index (change_at changes i).period (change_at changes i).cell) (i + 1)
+pub RightBefore-more : (denominator cells : ℕ) (changes : List DriftRowChange) (keys : List (ℕ × ℕ)) (i : ℕ) → i < length changes → IsRightAfter denominator cells (take i changes) (change_at changes i) →
+    RightBefore denominator cells changes keys i → RightBefore denominator cells changes (keys ++ change_key (change_at changes i) ∷ []) (i + 1)
 unfolding change_at
-RightBefore-more denominator cells changes index i inside here so_far =
+RightBefore-more denominator cells changes keys i inside here so_far =
     let next = take_more changes i (record { period = 0; cell = 0; row = [] }) inside in
     record {
-      periods = so_far.periods;
-      rows = so_far.rows;
-      keys = ap (λ keys. keys ++ change_key (change_at changes i) ∷ []) so_far.keys ∙ sym (ap (map change_key) next ∙ map-append change_key (take i changes) (change_at changes i ∷ []));
+      keys_are = ap (λ keys. keys ++ change_key (change_at changes i) ∷ []) so_far.keys_are ∙ sym (ap (map change_key) next ∙ map-append change_key (take i changes) (change_at changes i ∷ []));
       right = below_more _ _ so_far.right here;
     }
 
-pub IsIndexOf-from_all : (denominator cells : ℕ) (changes : List DriftRowChange) (index : PeriodKeys) (i : ℕ) → length changes ≤ i → RightBefore denominator cells changes index i → IsIndexOf changes index
-IsIndexOf-from_all denominator cells changes index i all done = record { periods = done.periods; keys = done.keys ∙ ap (map change_key) (take_all i changes all) }
+pub keys_of_all : (denominator cells : ℕ) (changes : List DriftRowChange) (keys : List (ℕ × ℕ)) (i : ℕ) → length changes ≤ i → RightBefore denominator cells changes keys i → keys ≡ map change_key changes
+keys_of_all denominator cells changes keys i all done = done.keys_are ∙ ap (map change_key) (take_all i changes all)

@@ -5,7 +5,6 @@ use Rattle.std.proofs.lemmas.List.{get_or-map, map-set, set-get_or}
 use Rattle.std.proofs.lemmas.List.Elements.{All-from_get_or, All-get_or}
 use Rattle.std.specs.List.Sorted.{IsPermutation, IsNonDecreasingBy}
 use Rattle.list_laws.proofs.Mapped.{map-map}
-use Rattle.period_index.specs.PeriodKeys.{PeriodKey}
 use Rattle.drift_chain.specs.declared.part.DriftPart.{DriftPart}
 use Rattle.drift_chain.specs.declared.changes.DriftChange.{DriftChange}
 use Rattle.drift_chain.specs.DriftRows.{DriftRowChange}
@@ -29,7 +28,7 @@ SortedBefore-none changes = record { keys = refl; rows = OrderedBefore-none give
 keys-set : (changes : List DriftChange) (i : ℕ) (d v : DriftChange) → change_key (row_change v) ≡ change_key (row_change (get_or changes i d)) → i < length changes →
     map change_key (map row_change (set changes i v)) ≡ map change_key (map row_change changes)
 keys-set changes i d v same inside =
-    let key : DriftChange → PeriodKey = λ change. change_key (row_change change) in
+    let key : DriftChange → ℕ × ℕ = λ change. change_key (row_change change) in
     map-map change_key row_change (set changes i v) ∙ map-set key changes i v ∙ ap (set (map key changes) i) same
     ∙ (rw (← get_or-map key changes i d (key d) inside) (set-get_or (map key changes) i (key d))) ∙ sym (map-map change_key row_change changes)
 

@@ -1,18 +1,16 @@
 -- Drifts with changes, change by change.
-use Rattle.std.proofs.Common.{ℕ, ◌<◌, ◌≤◌, ◌≡◌, ◌∙◌, Option, Some, None, List, [], length, get_or, take, map, refl, sym, ap, arith, slice_index_or, Bor, inl, inr}
-use Rattle.std.proofs.Math.ListN.{length-map}
-use Rattle.std.proofs.lemmas.List.{get_or-map, get_or_default, get_or-take, length-take, same_lists}
+use Rattle.std.proofs.Common.{ℕ, ◌<◌, ◌≤◌, ◌≡◌, ◌∙◌, Option, Some, None, List, [], length, get_or, take, refl, sym, ap, arith, slice_index_or, Bor, inl, inr}
+use Rattle.std.proofs.lemmas.Bool.{eqb-true, eq-eqb, and_parts, and_from, false_from_ne_true}
+use Rattle.std.proofs.lemmas.List.{get_or_default, get_or-take, length-take, same_lists}
 use Rattle.std.proofs.lemmas.List.Elements.{All-get_or, All-from_get_or}
 use Rattle.std.specs.List.{find}
 use Rattle.std.specs.Option.{option_map, option_map_or, unwrap_or}
-use Rattle.period_index.specs.PeriodKeys.{PeriodKey, place_of}
-use Rattle.period_index.proofs.Places.{place_of-Some, place_of-first}
+use Rattle.list_laws.proofs.Firsts.{find-first, found_or_none}
 use Rattle.drift_chain.specs.declared.part.DriftPart.{DriftPart}
 use Rattle.drift_chain.specs.declared.changes.ChangeFault.{ChangeFault}
 use Rattle.drift_chain.specs.declared.changes.ChangeFault.TheVariants.{NoMemory}
 use Rattle.drift_chain.specs.DriftRows.{DriftRowChange, DriftRows, drift_cells, drift_over, drift_with, row_of, is_change, IsSameKey, IsDriftRow, AreChanges, IsDrift}
 use Rattle.drift_chain.specs.ChangeFaults.{change_key, change_at, AreSameChanges, HasChangeFault, change_number, IsRefusal, IsRightAfter, AreRight}
-use Rattle.drift_chain.proofs.ChangeKeys.{row_found, no_row_found}
 use Rattle.drift_chain.proofs.ChangeOrder.{no_fault_there, place_inside}
 use Rattle.drift_chain.proofs.Drifts.{same_row}
 use Rattle.drift_chain.proofs.SameChanges.{none, same_length, same_key, same_entries, HasChangeFault-same}
@@ -30,14 +28,6 @@ pub row_of-base : (drift : DriftRows) (t c : ℕ) → find (is_change t c) drift
 unfolding row_of
 row_of-base drift t c found = ap (λ told. option_map_or (λ change. change.row) told (slice_index_or drift.rows c [])) found
 
--- the same, by the place that is told of the key
-pub row_of-told : (drift : DriftRows) (t c k : ℕ) → place_of (map change_key drift.changes) t c ≡ Some k → row_of drift t c ≡ (change_at drift.changes k).row
-unfolding change_at
-row_of-told drift t c k told = row_of-changed drift t c _ (row_found drift.changes t c k none told)
-
-pub row_of-untold : (drift : DriftRows) (t c : ℕ) → place_of (map change_key drift.changes) t c ≡ None → row_of drift t c ≡ slice_index_or drift.rows c []
-row_of-untold drift t c told = row_of-base drift t c (no_row_found drift.changes t c told)
-
 -- the changes of a drift are right, one behind the other
 module _ (drift : DriftRows) (h : IsDrift drift) (i : ℕ) (inside : i < length drift.changes) where
   change : DriftRowChange
@@ -53,13 +43,11 @@ module _ (drift : DriftRows) (h : IsDrift drift) (i : ℕ) (inside : i < length 
   differs : (k : ℕ) (d : DriftRowChange) → k < i → ¬ IsSameKey (get_or drift.changes k d) change
   differs k d before same = h.changes.differ k i d before inside (rw (get_or_default drift.changes i d none inside, ← is) same)
 
-  told : place_of (map change_key drift.changes) change.period change.cell ≡ Some i
-  told =
-      place_of-first (map change_key drift.changes) change.period change.cell i (change_key none) (rw (length-map drift.changes change_key) inside)
-      (get_or-map change_key drift.changes i none (change_key none) inside ∙ ap change_key (sym is))
-      (λ k before same.
-      let key : change_key (get_or drift.changes k none) ≡ change_key change = sym (get_or-map change_key drift.changes k none (change_key none) (omega (arith, before, inside))) ∙ same in
-      differs k none before (ap (λ key. key.period) key, ap (λ key. key.row) key))
+  found : find (is_change change.period change.cell) drift.changes ≡ Some (get_or drift.changes i none)
+  found =
+      find-first (is_change change.period change.cell) drift.changes i none inside
+      (λ k before. false_from_ne_true _ (λ same. differs k none before (let parts = and_parts _ _ same in (eqb-true _ _ parts.0, eqb-true _ _ parts.1))))
+      (rw (← is) (and_from _ _ (eq-eqb change.period _ refl) (eq-eqb change.cell _ refl)))
 
   pub right_change : IsRightAfter drift.denominator (drift_cells drift) (take i drift.changes) (change_at drift.changes i)
   unfolding change
@@ -69,7 +57,7 @@ module _ (drift : DriftRows) (h : IsDrift drift) (i : ℕ) (inside : i < length 
     other = λ k d lt same.
         let before : k < i = omega (arith, lt, length-take i drift.changes) in
         differs k d before (rw (← get_or-take i drift.changes k d before) same);
-    row = rw (← row_of-told drift change.period change.cell i told) (h.each change.period change.cell within.2);
+    row = rw (is, ← row_of-changed drift change.period change.cell _ found) (h.each change.period change.cell within.2);
   }
 
 pub AreRight-from_drift : (drift : DriftRows) → IsDrift drift → AreRight drift.denominator (drift_cells drift) drift.changes
@@ -77,13 +65,16 @@ AreRight-from_drift drift h = λ i inside. right_change drift h i inside
 
 -- and right changes of a drift without any make a drift
 module _ (drift : DriftRows) (changes : List DriftRowChange) (h : IsDrift drift) (plain : drift.changes ≡ []) (right : AreRight drift.denominator (drift_cells drift) changes) where
-  row_right : (t c : ℕ) → c < drift_cells drift → (told : Option ℕ) → place_of (map change_key changes) t c ≡ told → IsDriftRow drift.denominator (drift_cells drift) (row_of (drift_with drift changes) t c)
-  row_right t c inside (Some k) told =
-      let at = place_of-Some (map change_key changes) t c k (change_key none) told in
-      rw (row_of-told (drift_with drift changes) t c k told) (right k (omega (arith, at.0, length-map changes change_key))).row
-  row_right t c inside None told =
-      let base : row_of (drift_with drift changes) t c ≡ row_of drift t c = row_of-untold (drift_with drift changes) t c told ∙ sym (row_of-base drift t c (ap (find (is_change t c)) plain)) in
-      rw base (h.each t c inside)
+  row_right : (t c : ℕ) → c < drift_cells drift → IsDriftRow drift.denominator (drift_cells drift) (row_of (drift_with drift changes) t c)
+  unfolding change_at
+  row_right t c inside = elim (found_or_none (is_change t c) changes) [
+    | inl (change, there, found) ↦
+        let is : get_or changes there.0 none ≡ change = get_or_default changes there.0 none change there.1 ∙ there.2 in
+        rw (row_of-changed (drift_with drift changes) t c change found, ← is) (right there.0 there.1).row
+    | inr untold ↦
+        let base : row_of (drift_with drift changes) t c ≡ row_of drift t c = row_of-base (drift_with drift changes) t c untold ∙ sym (row_of-base drift t c (ap (find (is_change t c)) plain)) in
+        rw base (h.each t c inside)
+  ]
 
   changes_right : AreChanges (drift_cells drift) changes
   unfolding change_at
@@ -98,7 +89,7 @@ module _ (drift : DriftRows) (changes : List DriftRowChange) (h : IsDrift drift)
   IsDrift-from_changes = record {
     denominator = h.denominator;
     size = h.size;
-    each = λ t c inside. row_right t c inside (place_of (map change_key changes) t c) refl;
+    each = row_right;
     changes = changes_right;
   }
 
@@ -116,7 +107,7 @@ same_change denominator cells given made right right' same i inside =
     let key : change_key (change_at made i) ≡ change_key (change_at given i) = same_key given made same i inside in
     let row : (change_at given i).row ≡ (change_at made i).row =
     same_row denominator cells cells _ _ (right i inside).row (right' i (rw (same_length given made same) inside)).row (same_entries given made same i inside) in
-    ap (λ (k : PeriodKey). record { period = k.period; cell = k.row; row = (change_at made i).row }) key ∙ ap (λ (r : List DriftPart). record { period = (change_at given i).period; cell = (change_at given i).cell; row = r }) (sym row)
+    ap (λ (k : ℕ × ℕ). record { period = k.0; cell = k.1; row = (change_at made i).row }) key ∙ ap (λ (r : List DriftPart). record { period = (change_at given i).period; cell = (change_at given i).cell; row = r }) (sym row)
 
 pub same_changes : (denominator cells : ℕ) (given made : List DriftRowChange) → AreRight denominator cells given → AreRight denominator cells made → AreSameChanges given made → made ≡ given
 same_changes denominator cells given made right right' same =

@@ -40,7 +40,7 @@ double_at changes i change inside any =
 double_from : (changes : List DriftRowChange) (i k : ℕ) (change : DriftRowChange) → i < length changes → k < i → change_key (change_at changes k) ≡ change_key change →
     Any (λ before. IsSameKey before change) (take i changes)
 double_from changes i k change inside before same =
-    (k, change_at changes k, omega (arith, length-take i changes), earlier_at changes i k (change_at changes k) before (omega arith), (ap (λ key. key.period) same, ap (λ key. key.row) same))
+    (k, change_at changes k, omega (arith, length-take i changes), earlier_at changes i k (change_at changes k) before (omega arith), (ap (λ key. key.0) same, ap (λ key. key.1) same))
 
 -- the same changes have the same faults
 module _ (given made : List DriftRowChange) (same : AreSameChanges given made) where
@@ -70,9 +70,9 @@ bad_row-permutation denominator cells xs ys same (inr (inr (inr wrong))) = inr (
 pub HasChangeFault-same : (denominator cells : ℕ) (given made : List DriftRowChange) → AreSameChanges given made → (fault : ChangeFault) →
     HasChangeFault denominator cells given fault → HasChangeFault denominator cells made fault
 HasChangeFault-same denominator cells given made same (PeriodOutOfRange i) has =
-    (rw (same_length given made same) has.0, rw (ap (λ key. key.period) (same_key given made same i has.0)) has.1)
+    (rw (same_length given made same) has.0, rw (ap (λ key. key.0) (same_key given made same i has.0)) has.1)
 HasChangeFault-same denominator cells given made same (CellOutOfRange i) has =
-    (rw (same_length given made same) has.0, rw (ap (λ key. key.row) (same_key given made same i has.0)) has.1)
+    (rw (same_length given made same) has.0, rw (ap (λ key. key.1) (same_key given made same i has.0)) has.1)
 HasChangeFault-same denominator cells given made same (DoubleChange i) has =
     let inside : i < length made = rw (same_length given made same) has.0 in
     let at = double_at given i (change_at given i) has.0 has.1 in

@@ -1,7 +1,6 @@
 -- What is wrong with changes of rows, and which fault of theirs is named.
 use Rattle.std.specs.Prelude.{ℕ, ◌≡◌, ◌≢◌, ◌<◌, ◌≤◌, ◌⊎◌, List, [], length, map, sum_by, slice_index_or, take, All, Any}
 use Rattle.std.specs.List.Sorted.{IsNonDecreasingBy}
-use Rattle.period_index.specs.PeriodKeys.{PeriodKey, key_of}
 use Rattle.drift_chain.specs.declared.part.DriftPart.{DriftPart}
 use Rattle.drift_chain.specs.declared.changes.DriftChange.{DriftChange}
 use Rattle.drift_chain.specs.declared.changes.ChangeFault.{ChangeFault}
@@ -14,8 +13,8 @@ abbrev pub row_change : DriftChange → DriftRowChange
 row_change given = record { period = given.period; cell = given.cell; row = given.row.items }
 
 -- a change's period and cell
-abbrev pub change_key : DriftRowChange → PeriodKey
-change_key change = key_of change.period change.cell
+abbrev pub change_key : DriftRowChange → ℕ × ℕ
+change_key change = (change.period, change.cell)
 
 -- the rows of changes
 abbrev pub rows_in : List DriftRowChange → List (List DriftPart)

@@ -21,14 +21,14 @@ pub struct Drift {
 
 impl Model for Drift {
     ghost use Rattle.std.specs.Prelude.{map};
-    ghost use Rattle.drift_chain.specs.DriftRows.{DriftRows};
-    ghost use Rattle.drift_chain.specs.Changes.{drift_by, AreForDrift};
+    ghost use Rattle.drift_chain.specs.DriftRows.{DriftRows, IsDrift};
+    ghost use Rattle.drift_chain.specs.Changes.{drift_by};
 
     ghost Value = { DriftRows };
 
     ghost view = { λ d. drift_by d.denominator (map (λ row. row.items) d.rows.items) d.changes };
 
-    ghost invariant = { λ d. AreForDrift d.denominator (map (λ row. row.items) d.rows.items) d.changes };
+    ghost invariant = { λ d. IsDrift (drift_by d.denominator (map (λ row. row.items) d.rows.items) d.changes) };
 }
 
 impl Drift {

@@ -1,16 +1,15 @@
 //! Rows of single periods.
 
-ghost use Rattle.std.specs.Prelude.{◌≡◌, ℕ, ◌<◌, ◌≤◌, List, map, IfSome, IfNone, IfOk, IfErr, OnOk};
+ghost use Rattle.std.specs.Prelude.{◌≡◌, ◌≤◌, ◌↔◌, List, [], ◌∷◌, ◌++◌, map, Contains, IsTrue, IfSome, IfNone, IfOk, IfErr, OnOk};
 ghost use Rattle.std.specs.List.{find};
 ghost use Rattle.std.specs.List.Sorted.{IsNonDecreasingBy};
 ghost use Rattle.std.specs.Option.{option_map};
 ghost use Rattle.drift_chain.specs.DriftRows.{DriftRowChange, is_change};
 ghost use Rattle.drift_chain.specs.ChangeFaults.{row_change, change_key, AreSameChanges, HaveRowsInOrder, IsRightAfter, AreRight, IsFirstOfChange, IsRefusal};
-ghost use Rattle.drift_chain.specs.Changes.{IsIndexOf};
 
 use crate::faults::row_fault;
 use crate::part::DriftPart;
-use period_index::PeriodIndex;
+use indexmap::IndexSet;
 use std::alloc::{AllocError, Global};
 use std::marker::Model;
 
@@ -50,23 +49,23 @@ impl From<AllocError> for ChangeFault {
     }
 }
 
-/// Changes, and for each period and cell the place of its change.
+/// Changes, and the period and cell of each at its place.
 #[derive(Debug, Drop)]
 pub(crate) struct Changes {
     list: Vec<DriftChange>,
-    index: PeriodIndex,
+    index: IndexSet<(u32, u8)>,
 }
 
 impl Model for Changes {
-    ghost use Rattle.std.specs.Prelude.{map};
-    ghost use Rattle.drift_chain.specs.ChangeFaults.{row_change};
-    ghost use Rattle.drift_chain.specs.Changes.{ChangeTable, IsIndexOf};
+    ghost use Rattle.std.specs.Prelude.{◌≡◌, List, map};
+    ghost use Rattle.drift_chain.specs.DriftRows.{DriftRowChange};
+    ghost use Rattle.drift_chain.specs.ChangeFaults.{row_change, change_key};
 
-    ghost Value = { ChangeTable };
+    ghost Value = { List DriftRowChange };
 
-    ghost view = { λ c. record { cells = c.index.rows; changes = map row_change c.list.items } };
+    ghost view = { λ c. map row_change c.list.items };
 
-    ghost invariant = { λ c. IsIndexOf (map row_change c.list.items) c.index };
+    ghost invariant = { λ c. c.index.keys ≡ map change_key (map row_change c.list.items) };
 }
 
 impl Changes {
@@ -77,10 +76,9 @@ impl Changes {
         cells: u8,
         mut list: Vec<DriftChange>,
     ) -> Result<Changes, ChangeFault>
-        requires cells { (1 ≤ cells) × (cells ≤ 200) }
-        ensures cells { IfOk result (λ changes. changes.cells ≡ cells) }
-        ensures made { let given = map row_change list.items in IfOk result (λ changes. AreSameChanges given changes.changes) }
-        ensures right { IfOk result (λ changes. AreRight denominator cells changes.changes) }
+        requires { cells ≤ 200 }
+        ensures made { let given = map row_change list.items in IfOk result (AreSameChanges given) }
+        ensures right { IfOk result (AreRight denominator cells) }
         ensures fault { let given = map row_change list.items in IfErr result (IsRefusal denominator cells given) }
     {
         sort_rows(&mut list);
@@ -90,11 +88,9 @@ impl Changes {
 
     /// The row of a cell for a period, if there is a change for both.
     pub(crate) fn row(&self, t: u32, c: u8) -> Option<&[DriftPart]>
-        requires period { (1 ≤ t) × (t ≤ 31) }
-        requires cell { c < self.now.cells }
-        ensures { option_map (λ row. row.now) result ≡ option_map (λ change. change.row) (find (is_change t c) self.now.changes) }
+        ensures { option_map (λ row. row.now) result ≡ option_map (λ change. change.row) (find (is_change t c) self.now) }
     {
-        let place = self.index.place(t, c)?;
+        let place = self.index.get_index_of(&(t, c))?;
         Some(&self.list[place].row)
     }
 }
@@ -109,28 +105,43 @@ fn sort_rows(changes: &mut [DriftChange])
     }
 }
 
-// The index of changes whose rows are in ascending order of cells, if none has a fault.
+// The periods and cells of changes whose rows are in ascending order of cells, if none has a fault.
 fn index_of(
     alloc: Global,
     denominator: u32,
     cells: u8,
     changes: &[DriftChange],
-) -> Result<PeriodIndex, ChangeFault>
-    requires cells { (1 ≤ cells) × (cells ≤ 200) }
+) -> Result<IndexSet<(u32, u8)>, ChangeFault>
+    requires few { cells ≤ 200 }
     requires ascending { HaveRowsInOrder (map row_change changes.now) }
-    ensures cells { IfOk result (λ index. index.rows ≡ cells) }
-    ensures index { IfOk result (IsIndexOf (map row_change changes.now)) }
+    ensures index { IfOk result (λ index. index.keys ≡ map change_key (map row_change changes.now)) }
     ensures right { OnOk result (AreRight denominator cells (map row_change changes.now)) }
     ensures fault { IfErr result (IsRefusal denominator cells (map row_change changes.now)) }
 {
-    let mut index = PeriodIndex::new(alloc, LAST_PERIOD, cells)?;
+    let mut index = IndexSet::new(alloc);
     for (i, change) in changes.iter().enumerate() {
         if let Some(fault) = change_fault(denominator, cells, i, change, &index) {
             return Err(fault);
         }
-        index.add(change.period, change.cell);
+        add_key(&mut index, change)?;
     }
     Ok(index)
+}
+
+// Whether a change's period and cell are among those of an index.
+fn has_key(index: &IndexSet<(u32, u8)>, change: &DriftChange) -> bool
+    ensures { IsTrue result ↔ Contains index.now.keys (change_key (row_change change.now)) }
+{
+    index.contains(&(change.period, change.cell))
+}
+
+// Puts the period and cell of a change last, which no earlier change is for.
+fn add_key(index: &mut IndexSet<(u32, u8)>, change: &DriftChange) -> Result<(), AllocError>
+    requires { ¬ Contains index.old.keys (change_key (row_change change.now)) }
+    ensures { OnOk result (index.new.keys ≡ index.old.keys ++ change_key (row_change change.now) ∷ []) }
+{
+    index.insert((change.period, change.cell))?;
+    Ok(())
 }
 
 // What is wrong with the change at a place, where the index has the keys of those before it.
@@ -139,10 +150,9 @@ fn change_fault(
     cells: u8,
     place: usize,
     change: &DriftChange,
-    index: &PeriodIndex,
+    index: &IndexSet<(u32, u8)>,
 ) -> Option<ChangeFault>
     requires few { cells ≤ 200 }
-    requires index { (index.now.periods ≡ 31) × (index.now.rows ≡ cells) }
     requires ascending { IsNonDecreasingBy (λ entry. entry.cell) change.now.row.items }
     ensures none { IfNone result ((earlier : List DriftRowChange) → index.now.keys ≡ map change_key earlier → IsRightAfter denominator cells earlier (row_change change.now)) }
     ensures some { IfSome result (λ fault. (earlier : List DriftRowChange) → index.now.keys ≡ map change_key earlier
@@ -152,7 +162,7 @@ fn change_fault(
         Some(ChangeFault::PeriodOutOfRange(place))
     } else if change.cell >= cells {
         Some(ChangeFault::CellOutOfRange(place))
-    } else if index.place(change.period, change.cell).is_some() {
+    } else if has_key(index, change) {
         Some(ChangeFault::DoubleChange(place))
     } else if row_fault(denominator, usize::from(cells), change.cell, &change.row).is_some() {
         Some(ChangeFault::BadRow(place))

@@ -1,8 +1,11 @@
 -- The first element that passes a test.
-use Rattle.std.proofs.Common.{◌≡◌, ◌<◌, ◌≤◌, ℕ, Bool, true, false, List, length, get_or, Some, None, refl, sym, ◌∙◌, arith, inl, inr}
-use Rattle.std.specs.List.{position, position_or_len}
+use Rattle.std.proofs.Common.{◌≡◌, ◌<◌, ◌≤◌, ◌⊎◌, ℕ, Bool, true, false, List, [], ◌∷◌, length, get_or, Some, None, refl, sym, ap, ◌∙◌, arith, inl, inr, Contains}
+use Rattle.std.specs.List.{find, position, position_or_len, slice_get}
 use Rattle.std.proofs.lemmas.Bool.{lt-ltb, le-ltb, cases_lt, cond-true}
+use Rattle.std.proofs.lemmas.List.Folds.{find_at}
 use Rattle.std.proofs.lemmas.List.Sums.{position_or_len_is}
+use Rattle.std.proofs.lemmas.Option.{slice_get-get_or}
+use Rattle.list_laws.proofs.Members.{Contains-head, Contains-tail}
 
 -- the first place that passes a test is found
 pub position-first : {X : Type 0} (p : X → Bool) (xs : List X) (i : ℕ) (d : X) → i < length xs → ((k : ℕ) → k < i → p (get_or xs k d) ≡ false) → p (get_or xs i d) ≡ true → position p xs ≡ Some i
@@ -23,3 +26,20 @@ position-past p xs told =
       | inl inside ↦ let bad : Some (position_or_len p xs) ≡ None = sym (cond-true _ _ _ (lt-ltb _ _ inside)) ∙ told in absurd (let wrong : ⊥ = cc in wrong)
       | inr past ↦ past
     ]
+
+-- and is the element that is found
+pub find-first : {X : Type 0} (p : X → Bool) (xs : List X) (i : ℕ) (d : X) → i < length xs → ((k : ℕ) → k < i → p (get_or xs k d) ≡ false) → p (get_or xs i d) ≡ true → find p xs ≡ Some (get_or xs i d)
+find-first p xs i d lt before here =
+    let at : position_or_len p xs ≡ i = position_or_len_is p xs i d (omega arith) before (λ _. here) in
+    find_at p xs ∙ ap (slice_get xs) at ∙ slice_get-get_or xs i d lt
+
+-- what is found stands in the list
+found_next : {X : Type 0} (p : X → Bool) (y : X) (ys : List X) → ((x : X) × Contains ys x × (find p ys ≡ Some x)) ⊎ (find p ys ≡ None) → (b : Bool) → p y ≡ b →
+    ((x : X) × Contains (y ∷ ys) x × (find p (y ∷ ys) ≡ Some x)) ⊎ (find p (y ∷ ys) ≡ None)
+found_next p y ys later true e = inl (y, Contains-head y ys, rw e refl)
+found_next p y ys (inl (x, there, found)) false e = inl (x, Contains-tail y x ys there, rw e found)
+found_next p y ys (inr none) false e = inr (rw e none)
+
+pub found_or_none : {X : Type 0} (p : X → Bool) (xs : List X) → ((x : X) × Contains xs x × (find p xs ≡ Some x)) ⊎ (find p xs ≡ None)
+found_or_none p [] = inr refl
+found_or_none p (y ∷ ys) = found_next p y ys (found_or_none p ys) (p y) refl

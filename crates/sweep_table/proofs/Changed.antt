@@ -1,23 +1,12 @@
 -- Sweeps whose looks change in single periods.
-use Rattle.std.proofs.Common.{ℕ, ◌<◌, ◌≤◌, ◌≡◌, ◌⊎◌, ◌∙◌, Option, Some, None, IfSome, IfNone, ap, arith, List, [], ◌∷◌, length, get_or, slice_index_or, Bool, true, false, refl, sym, subst, Contains, inl, inr}
-use Rattle.std.specs.List.{AllZip, find}
+use Rattle.std.proofs.Common.{ℕ, ◌<◌, ◌≤◌, ◌≡◌, ◌⊎◌, ◌∙◌, Option, Some, None, IfSome, IfNone, ap, arith, List, [], length, get_or, slice_index_or, refl, sym, subst, Contains, inl, inr}
+use Rattle.std.specs.List.{AllZip}
 use Rattle.std.proofs.lemmas.List.{same_lists}
 use Rattle.std.proofs.lemmas.List.Elements.{length_all_zip, AllZip-get_or, All-contains}
-use Rattle.list_laws.proofs.Members.{Contains-head, Contains-tail}
+use Rattle.list_laws.proofs.Firsts.{found_or_none}
 use Rattle.sweep_table.specs.LookParts.{LookRowChange, LookParts, is_for, look_row, factor_in, factor_of, cells_of, IsLookRow, IsSweep, IsOneRate}
 use Rattle.sweep_table.specs.Changes.{with_changes, IsSameChange, HaveRightRows, HaveAscendingRows}
 use Rattle.sweep_table.proofs.Rows.{same_row}
-
--- what is found stands in the list
-found_next : {X : Type 0} (p : X → Bool) (y : X) (ys : List X) → ((x : X) × Contains ys x × (find p ys ≡ Some x)) ⊎ (find p ys ≡ None) → (b : Bool) → p y ≡ b →
-    ((x : X) × Contains (y ∷ ys) x × (find p (y ∷ ys) ≡ Some x)) ⊎ (find p (y ∷ ys) ≡ None)
-found_next p y ys later true e = inl (y, Contains-head y ys, rw e refl)
-found_next p y ys (inl (x, there, found)) false e = inl (x, Contains-tail y x ys there, rw e found)
-found_next p y ys (inr none) false e = inr (rw e none)
-
-found_or_none : {X : Type 0} (p : X → Bool) (xs : List X) → ((x : X) × Contains xs x × (find p xs ≡ Some x)) ⊎ (find p xs ≡ None)
-found_or_none p [] = inr refl
-found_or_none p (y ∷ ys) = found_next p y ys (found_or_none p ys) (p y) refl
 
 -- a row in force is that of a change, or the base row
 row_cases : (sweep : LookParts) (t p : ℕ) → ((change : LookRowChange) × Contains sweep.changes change × (look_row sweep t p ≡ change.row)) ⊎ (look_row sweep t p ≡ slice_index_or sweep.rows p [])

@@ -1,13 +1,16 @@
 -- Footprints with changes, in place of the looks of a sweep without any.
-use Rattle.std.proofs.Common.{ℕ, ◌≡◌, ◌∙◌, Some, List, [], length, map, ap, sym, subst}
+use Rattle.std.proofs.Common.{ℕ, ◌≡◌, ◌∙◌, Some, List, [], length, map, ap, sym, subst, Vec, Global}
+use Rattle.std.proofs.Math.ListN.{length-map}
 use Rattle.std.specs.List.{AllZip}
+use Rattle.sweep_table.specs.declared.part.LookPart.{LookPart}
+use Rattle.sweep_table.specs.declared.changes.LookChangeFault.{LookChangeFault}
 use Rattle.sweep_table.specs.declared.table.Looks.{Looks}
 use Rattle.sweep_table.specs.declared.table.Looks.TheVariants.{Footprints}
 use Rattle.sweep_table.specs.declared.footprints.Footprints.{Footprints as Prints}
 use Rattle.sweep_table.specs.declared.changes.Changes.{Changes}
-use Rattle.sweep_table.specs.LookParts.{LookRowChange, LookParts, cells_of, IsSweep}
-use Rattle.sweep_table.specs.Changes.{change_of, with_changes, IsSameChange, HaveRightRows, HaveAscendingRows}
-use Rattle.sweep_table.specs.Forms.{seen, prints_seen, index_over, IsKept}
+use Rattle.sweep_table.specs.LookParts.{LookRowChange, LookParts, cells_of, positions_of, IsSweep}
+use Rattle.sweep_table.specs.Changes.{change_of, key_of_change, with_changes, IsSameChange, HaveRightRows, HaveAscendingRows, HasChangeFault}
+use Rattle.sweep_table.specs.Forms.{seen, prints_seen, IsKept}
 use Rattle.sweep_table.proofs.Changed.{IsSweep-with_changes, same_changes, ascending_from_right}
 
 -- the changes behind those of the code
@@ -25,6 +28,12 @@ module _ (g : ℕ) (looks : Looks) (self : LookParts) (view : seen g looks ≡ s
   made_seen : prints_seen g (prints_with prints changes) ≡ with_changes self (changes_of changes)
   made_seen = ap (λ (s : LookParts). with_changes s (changes_of changes)) base
 
+  pub made_faultless : (given : List LookRowChange) (n : ℕ) → n ≡ length prints.rows.items → ((fault : LookChangeFault) → HasChangeFault g prints.cells n given fault → ⊥) →
+      (fault : LookChangeFault) → HasChangeFault self.denominator (cells_of self) (positions_of self) given fault → ⊥
+  made_faultless given n size none fault has =
+      let here : HasChangeFault g prints.cells (positions_of (prints_seen g prints)) given fault = subst (λ (s : LookParts). HasChangeFault s.denominator (cells_of s) (positions_of s) given fault) (sym base) has in
+      none fault (subst (λ m. HasChangeFault g prints.cells m given fault) (length-map prints.rows.items (λ (row : Vec LookPart Global). row.items) ∙ sym size) here)
+
   module _ (right : HaveRightRows g prints.cells (changes_of changes)) where
     pub made_right : HaveRightRows self.denominator (cells_of self) (changes_of changes)
     made_right = subst (λ (s : LookParts). HaveRightRows s.denominator (cells_of s) (changes_of changes)) base right
@@ -32,8 +41,8 @@ module _ (g : ℕ) (looks : Looks) (self : LookParts) (view : seen g looks ≡ s
     pub made_sound : IsSweep (seen g looks) → self.changes ≡ [] → IsSweep (prints_seen g (prints_with prints changes))
     made_sound sound none = subst IsSweep (sym made_seen) (IsSweep-with_changes self none (subst IsSweep view sound) (changes_of changes) made_right)
 
-    pub made_kept : IsKept g looks → self.changes ≡ [] → (n : ℕ) → n ≡ length prints.rows.items → changes.index ≡ index_over n (changes_of changes) → IsKept g (Footprints (prints_with prints changes))
-    made_kept kept none n size indexed = record { sound = made_sound kept.sound none; indexed = subst (λ m. changes.index ≡ index_over m (changes_of changes)) size indexed }
+    pub made_kept : IsKept g looks → self.changes ≡ [] → changes.index.keys ≡ map key_of_change (changes_of changes) → IsKept g (Footprints (prints_with prints changes))
+    made_kept kept none indexed = record { sound = made_sound kept.sound none; indexed = indexed }
 
     pub made_same : (given : List LookRowChange) → AllZip IsSameChange given (changes_of changes) → HaveAscendingRows given → prints_seen g (prints_with prints changes) ≡ with_changes self given
     made_same given same up = made_seen ∙ ap (with_changes self) (same_changes given (changes_of changes) same up (ascending_from_right g prints.cells (changes_of changes) right))

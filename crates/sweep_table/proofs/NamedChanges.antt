@@ -1,5 +1,5 @@
 -- Which fault of changes is named.
-use Rattle.std.proofs.Common.{ℕ, ◌+◌, ◌<◌, ◌≤◌, ◌≡◌, ◌⊎◌, ◌∙◌, Option, Some, None, IsSome, is_some, true, List, [], ◌∷◌, ◌++◌, length, map, take, get_or, sym, ap, subst, refl, arith, All, inl, inr, length-take-le, get_or-take}
+use Rattle.std.proofs.Common.{ℕ, ◌+◌, ◌<◌, ◌≤◌, ◌≡◌, ◌⊎◌, ◌∙◌, List, [], ◌∷◌, ◌++◌, length, map, take, get_or, sym, ap, subst, arith, All, Contains, inl, inr, length-take-le, get_or-take}
 use Rattle.std.specs.List.{AllZip}
 use Rattle.std.specs.List.Sorted.{IsPermutation}
 use Rattle.std.proofs.Math.ListN.{length-map}
@@ -7,8 +7,6 @@ use Rattle.std.proofs.lemmas.Bool.{cases_lt}
 use Rattle.std.proofs.lemmas.List.{get_or-map, get_or_default, take_more, map-append}
 use Rattle.std.proofs.lemmas.List.Elements.{length_all_zip, AllZip-get_or}
 use Rattle.std.proofs.lemmas.List.Sorted.{IsPermutation-sym}
-use Rattle.period_index.specs.PeriodKeys.{PeriodKey, PeriodKeys, key_of, place_of, with_key}
-use Rattle.period_index.proofs.Places.{place_of-Some, place_of-None}
 use Rattle.list_laws.proofs.FirstFaults.{named_first}
 use Rattle.list_laws.proofs.Matched.{AllZip-flip}
 use Rattle.list_laws.proofs.Reordered.{Any-permutation}
@@ -17,8 +15,7 @@ use Rattle.sweep_table.specs.declared.part.LookChange.{LookChange}
 use Rattle.sweep_table.specs.declared.changes.LookChangeFault.{LookChangeFault}
 use Rattle.sweep_table.specs.declared.changes.LookChangeFault.TheVariants.{PeriodOutOfRange, PositionOutOfRange, DoubleChange, BadRow, NoMemory}
 use Rattle.sweep_table.specs.LookParts.{LookRowChange, IsLookRow}
-use Rattle.sweep_table.specs.Changes.{change_of, change_at, HasEarlier, IsBadRow, IsSameChange, HasChangeFault, change_rank, IsFirstChangeFault, IsRefusal, HaveRightRows, IsRightChange, IsFirstOfChange}
-use Rattle.sweep_table.specs.Forms.{key_of_change, index_over}
+use Rattle.sweep_table.specs.Changes.{change_of, key_of_change, change_at, HasEarlier, IsBadRow, IsSameChange, HasChangeFault, change_rank, IsFirstChangeFault, IsRefusal, HaveRightRows, IsRightChange, IsFirstOfChange}
 use Rattle.sweep_table.proofs.NamedFaults.{HasDouble-permutation, none_out, none_double, none_over}
 
 -- a right row isn't bad
@@ -72,47 +69,36 @@ IsFirstChangeFault-same g cells positions given made same fault first = record {
 }
 
 -- the keys of the first i changes
-abbrev pub keys_before : List LookRowChange → ℕ → List PeriodKey
+abbrev pub keys_before : List LookRowChange → ℕ → List (ℕ × ℕ)
 keys_before changes i = map key_of_change (take i changes)
 
 length-keys_before : (changes : List LookRowChange) (i : ℕ) → i ≤ length changes → length (keys_before changes i) ≡ i
 length-keys_before changes i inside = length-map (take i changes) key_of_change ∙ length-take-le i changes inside
 
-key_before : (changes : List LookRowChange) (i k : ℕ) (d : PeriodKey) → i ≤ length changes → k < i → get_or (keys_before changes i) k d ≡ key_of_change (change_at changes k)
+key_before : (changes : List LookRowChange) (i k : ℕ) (d : ℕ × ℕ) → i ≤ length changes → k < i → get_or (keys_before changes i) k d ≡ key_of_change (change_at changes k)
 unfolding change_at
 key_before changes i k d inside below =
     let within : k < length (take i changes) = omega (arith, length-take-le i changes inside) in
     get_or-map key_of_change (take i changes) k _ d within ∙ ap key_of_change (get_or-take i changes k _ below)
 
-told_or_not : (o : Option ℕ) → ((i : ℕ) × (o ≡ Some i)) ⊎ (o ≡ None)
-told_or_not None = inr refl
-told_or_not (Some i) = inl (i, refl)
-
 -- a key that stands among those before is that of an earlier change
-earlier_from_place : (changes : List LookRowChange) (i : ℕ) → i ≤ length changes → IsSome (place_of (keys_before changes i) (change_at changes i).period (change_at changes i).position) → HasEarlier changes i
-earlier_from_place changes i inside some =
-    let t = (change_at changes i).period in
-    let p = (change_at changes i).position in
-    elim (told_or_not (place_of (keys_before changes i) t p)) [
-      | inr none ↦ absurd (let e : is_some (place_of (keys_before changes i) t p) ≡ true = some in cc)
-      | inl (k, told) ↦
-          let found = place_of-Some (keys_before changes i) t p k (key_of t p) told in
-          let below : k < i = omega (arith, found.0, length-keys_before changes i inside) in
-          let same : key_of_change (change_at changes k) ≡ key_of t p = sym (key_before changes i k (key_of t p) inside below) ∙ found.1 in
-          (k, below, ap (λ (key : PeriodKey). key.period) same, ap (λ (key : PeriodKey). key.row) same)
-    ]
+earlier_from_key : (changes : List LookRowChange) (i : ℕ) → i ≤ length changes → Contains (keys_before changes i) (key_of_change (change_at changes i)) → HasEarlier changes i
+earlier_from_key changes i inside (k, within, there) =
+    let key = key_of_change (change_at changes i) in
+    let below : k < i = omega (arith, within, length-keys_before changes i inside) in
+    let same : key_of_change (change_at changes k) ≡ key = sym (key_before changes i k key inside below) ∙ there in
+    (k, below, ap (λ (key : ℕ × ℕ). key.0) same, ap (λ (key : ℕ × ℕ). key.1) same)
 
 -- and one that doesn't is that of none
-none_earlier : (changes : List LookRowChange) (i : ℕ) → i ≤ length changes → place_of (keys_before changes i) (change_at changes i).period (change_at changes i).position ≡ None → HasEarlier changes i → ⊥
+none_earlier : (changes : List LookRowChange) (i : ℕ) → i ≤ length changes → ¬ Contains (keys_before changes i) (key_of_change (change_at changes i)) → HasEarlier changes i → ⊥
 none_earlier changes i inside none (k, below, period, position) =
-    let t = (change_at changes i).period in
-    let p = (change_at changes i).position in
+    let key = key_of_change (change_at changes i) in
     let within : k < length (keys_before changes i) = omega (arith, below, length-keys_before changes i inside) in
-    let same : key_of_change (change_at changes k) ≡ key_of t p = λ j. record { period = period j; row = position j } in
-    place_of-None (keys_before changes i) t p (key_of t p) none k within (key_before changes i k (key_of t p) inside below ∙ same)
+    let same : key_of_change (change_at changes k) ≡ key = λ j. (period j, position j) in
+    none (k, within, key_before changes i k key inside below ∙ same)
 
 -- the key of the next change
-pub keys_more : (changes : List LookRowChange) (i : ℕ) → i < length changes → keys_before changes (i + 1) ≡ keys_before changes i ++ key_of (change_at changes i).period (change_at changes i).position ∷ []
+pub keys_more : (changes : List LookRowChange) (i : ℕ) → i < length changes → keys_before changes (i + 1) ≡ keys_before changes i ++ key_of_change (change_at changes i) ∷ []
 unfolding change_at
 keys_more changes i inside = ap (map key_of_change) (take_more changes i _ inside) ∙ map-append key_of_change (take i changes) _
 
@@ -175,7 +161,7 @@ module _ (g cells positions : ℕ) (changes : List LookRowChange) where
         from_3 (BadRow j) has at = omega arith
         from_3 NoMemory has at = absurd has
 
-        module _ (alone : place_of (keys_before changes i) (change_at changes i).period (change_at changes i).position ≡ None) where
+        module _ (alone : ¬ Contains (keys_before changes i) (key_of_change (change_at changes i))) where
           from_4 : (other : LookChangeFault) → HasChangeFault g cells positions changes other → (change_rank other).0 ≡ i → 4 ≤ (change_rank other).1
           from_4 (PeriodOutOfRange j) has at = absurd (late j has.1 (rw at period))
           from_4 (PositionOutOfRange j) has at = let there : (change_at changes j).position < positions = rw at position in omega (arith, has.1, there)
@@ -190,7 +176,7 @@ module _ (g cells positions : ℕ) (changes : List LookRowChange) where
         rw named.0 (record { there = (inside, named.2); first = named_first (HasChangeFault g cells positions changes) change_rank i 2 later (from_2 named.1) })
     first_of_changes (DoubleChange j) named =
         rw named.0 (record {
-          there = (inside, earlier_from_place changes i (omega (arith, inside)) named.3);
+          there = (inside, earlier_from_key changes i (omega (arith, inside)) named.3);
           first = named_first (HasChangeFault g cells positions changes) change_rank i 3 later (from_3 named.1 named.2);
         })
     first_of_changes (BadRow j) named =
@@ -211,25 +197,21 @@ module _ (changes : List LookChange) (i : ℕ) (change : LookChange) (inside : i
   row_of_all P all =
       subst (λ (c : LookRowChange). P c.row) (get_or-map change_of changes i change (change_of change) inside ∙ ap change_of (sym read)) (all i (change_of change) inside-map)
 
-  module _ (g cells positions : ℕ) (index : PeriodKeys) (so_far : index ≡ index_over positions (take i (map change_of changes))) where
-    keys_so_far : index.keys ≡ keys_before (map change_of changes) i
-    keys_so_far = ap (λ (x : PeriodKeys). x.keys) so_far
-
-    pub named_here : (fault : LookChangeFault) → IsFirstOfChange g cells positions index.keys i (change_of change) fault →
+  module _ (keys : List (ℕ × ℕ)) (so_far : keys ≡ keys_before (map change_of changes) i) where
+    pub named_here : (g cells positions : ℕ) (fault : LookChangeFault) → IsFirstOfChange g cells positions keys i (change_of change) fault →
         IsFirstOfChange g cells positions (keys_before (map change_of changes) i) i (change_at (map change_of changes) i) fault
-    named_here fault named = subst (λ (c : LookRowChange). IsFirstOfChange g cells positions (keys_before (map change_of changes) i) i c fault) (sym change_at-map)
-        (subst (λ (keys : List PeriodKey). IsFirstOfChange g cells positions keys i (change_of change) fault) keys_so_far named)
+    named_here g cells positions fault named = subst (λ (c : LookRowChange). IsFirstOfChange g cells positions (keys_before (map change_of changes) i) i c fault) (sym change_at-map)
+        (subst (λ (ks : List (ℕ × ℕ)). IsFirstOfChange g cells positions ks i (change_of change) fault) so_far named)
 
-    pub right_here : IsRightChange g cells positions index.keys (change_of change) → IsRightChange g cells positions (keys_before (map change_of changes) i) (change_at (map change_of changes) i)
-    right_here right = subst (λ (c : LookRowChange). IsRightChange g cells positions (keys_before (map change_of changes) i) c) (sym change_at-map)
-        (subst (λ (keys : List PeriodKey). IsRightChange g cells positions keys (change_of change)) keys_so_far right)
+    pub right_here : (g cells positions : ℕ) → IsRightChange g cells positions keys (change_of change) →
+        IsRightChange g cells positions (keys_before (map change_of changes) i) (change_at (map change_of changes) i)
+    right_here g cells positions right = subst (λ (c : LookRowChange). IsRightChange g cells positions (keys_before (map change_of changes) i) c) (sym change_at-map)
+        (subst (λ (ks : List (ℕ × ℕ)). IsRightChange g cells positions ks (change_of change)) so_far right)
 
-    pub index_more : with_key index change.period change.position ≡ index_over positions (take (i + 1) (map change_of changes))
-    index_more =
-        let key : key_of change.period change.position ≡ key_of (change_at (map change_of changes) i).period (change_at (map change_of changes) i).position =
-        ap (λ (c : LookRowChange). key_of c.period c.position) (sym change_at-map) in
-        let keys = ap (λ (k : PeriodKey). keys_before (map change_of changes) i ++ k ∷ []) key ∙ sym (keys_more (map change_of changes) i inside-map) in
-        ap (λ (x : PeriodKeys). with_key x change.period change.position) so_far ∙ ap (λ (ks : List PeriodKey). record { periods = 32; rows = positions; keys = ks }) keys
+    pub keys_with_here : keys ++ key_of_change (change_of change) ∷ [] ≡ keys_before (map change_of changes) (i + 1)
+    keys_with_here =
+        ap (λ (ks : List (ℕ × ℕ)). ks ++ key_of_change (change_of change) ∷ []) so_far
+        ∙ ap (λ (c : LookRowChange). keys_before (map change_of changes) i ++ key_of_change c ∷ []) (sym change_at-map) ∙ sym (keys_more (map change_of changes) i inside-map)
 
 -- what is answered of changes in order is answered of them as they were given
 pub IsRefusal-same : (g cells positions : ℕ) (given made : List LookRowChange) → AllZip IsSameChange given made → (fault : LookChangeFault) → IsRefusal g cells positions made fault → IsRefusal g cells positions given fault

@@ -27,7 +27,7 @@ module _ (g : ℕ) (looks : Looks) (now : LookParts) (view : seen g looks ≡ no
     pub prints-inside : (p : ℕ) → p < positions_of now → p < length prints.rows.items
     prints-inside p position = omega (arith, ap positions_of prints-seen, length-map prints.rows.items (λ (row : Vec LookPart Global). row.items))
 
-    pub prints-indexed : IsKept g looks → IsIndexed (length prints.rows.items) prints.changes
+    pub prints-indexed : IsKept g looks → IsIndexed prints.changes
     prints-indexed kept = subst AreIndexed form kept.indexed
 
     -- a row in force ascends

@@ -1,17 +1,20 @@
 -- Changes of looks in single periods: when they are right, and which fault of theirs is named.
-use Rattle.std.specs.Prelude.{ℕ, ◌≡◌, ◌<◌, ◌≤◌, ◌⊎◌, None, List, [], length, map, slice_index_or, All, IsSome}
+use Rattle.std.specs.Prelude.{ℕ, ◌≡◌, ◌<◌, ◌≤◌, ◌⊎◌, List, [], length, map, slice_index_or, All, Contains}
 use Rattle.std.specs.List.Sorted.{IsPermutation, IsStrictlyIncreasing}
 use Rattle.sweep_table.specs.declared.part.LookPart.{LookPart}
 use Rattle.sweep_table.specs.declared.part.LookChange.{LookChange}
 use Rattle.sweep_table.specs.declared.changes.LookChangeFault.{LookChangeFault}
 use Rattle.sweep_table.specs.declared.changes.LookChangeFault.TheVariants.{PeriodOutOfRange, PositionOutOfRange, DoubleChange, BadRow, NoMemory}
-use Rattle.period_index.specs.PeriodKeys.{PeriodKey, place_of}
 use Rattle.sweep_table.specs.LookParts.{LookRowChange, LookParts, IsLookRow}
 use Rattle.sweep_table.specs.Faults.{HasOut, HasDouble, HasOver, IsNotAfter}
 
 -- a change as contracts see it
 abbrev pub change_of : LookChange → LookRowChange
 change_of change = record { period = change.period; position = change.position; row = change.row.items }
+
+-- the period and the position of a change
+abbrev pub key_of_change : LookRowChange → ℕ × ℕ
+key_of_change change = (change.period, change.position)
 
 -- a sweep with these changes in place of its own
 abbrev pub with_changes : LookParts → List LookRowChange → LookParts
@@ -67,18 +70,18 @@ abbrev pub HaveAscendingRows : List LookRowChange → Type 0
 HaveAscendingRows changes = All (λ change. IsStrictlyIncreasing (map (λ entry. entry.cell) change.row)) changes
 
 -- one change of looks over so many cells from so many positions, whose key doesn't stand among those before it, is right
-pub record IsRightChange (denominator cells positions : ℕ) (keys : List PeriodKey) (change : LookRowChange) : Type 0 where
+pub record IsRightChange (denominator cells positions : ℕ) (keys : List (ℕ × ℕ)) (change : LookRowChange) : Type 0 where
   pub period : (1 ≤ change.period) × (change.period ≤ 32)
   pub position : change.position < positions
-  pub alone : place_of keys change.period change.position ≡ None
+  pub alone : ¬ Contains keys (key_of_change change)
   pub row : IsLookRow denominator cells change.row
 
 -- the fault that is named of the change at place i
-abbrev pub IsFirstOfChange : ℕ → ℕ → ℕ → List PeriodKey → ℕ → LookRowChange → LookChangeFault → Type 0
+abbrev pub IsFirstOfChange : ℕ → ℕ → ℕ → List (ℕ × ℕ) → ℕ → LookRowChange → LookChangeFault → Type 0
 IsFirstOfChange denominator cells positions keys i change (PeriodOutOfRange j) = (j ≡ i) × ((change.period ≡ 0) ⊎ (32 < change.period))
 IsFirstOfChange denominator cells positions keys i change (PositionOutOfRange j) = (j ≡ i) × ((1 ≤ change.period) × (change.period ≤ 32)) × (positions ≤ change.position)
 IsFirstOfChange denominator cells positions keys i change (DoubleChange j) =
-    (j ≡ i) × ((1 ≤ change.period) × (change.period ≤ 32)) × (change.position < positions) × IsSome (place_of keys change.period change.position)
+    (j ≡ i) × ((1 ≤ change.period) × (change.period ≤ 32)) × (change.position < positions) × Contains keys (key_of_change change)
 IsFirstOfChange denominator cells positions keys i change (BadRow j) =
-    (j ≡ i) × ((1 ≤ change.period) × (change.period ≤ 32)) × (change.position < positions) × (place_of keys change.period change.position ≡ None) × IsBadRow denominator cells change.row
+    (j ≡ i) × ((1 ≤ change.period) × (change.period ≤ 32)) × (change.position < positions) × (¬ Contains keys (key_of_change change)) × IsBadRow denominator cells change.row
 IsFirstOfChange denominator cells positions keys i change NoMemory = ⊥

@@ -1,12 +1,11 @@
 -- The two forms of a sweep, and what contracts see of them.
-use Rattle.std.specs.Prelude.{ℕ, ◌≡◌, Option, Some, None, List, [], length, map}
-use Rattle.period_index.specs.PeriodKeys.{PeriodKey, PeriodKeys}
+use Rattle.std.specs.Prelude.{ℕ, ◌≡◌, Option, Some, None, List, [], map}
 use Rattle.sweep_table.specs.declared.changes.Changes.{Changes}
 use Rattle.sweep_table.specs.declared.footprints.Footprints.{Footprints as Prints}
 use Rattle.sweep_table.specs.declared.table.Looks.{Looks}
 use Rattle.sweep_table.specs.declared.table.Looks.TheVariants.{Plain, Footprints}
 use Rattle.sweep_table.specs.LookParts.{LookRowChange, LookParts, parts_over, IsSweep}
-use Rattle.sweep_table.specs.Changes.{change_of}
+use Rattle.sweep_table.specs.Changes.{change_of, key_of_change}
 
 -- the changes of footprints, if they have any
 abbrev pub changes_in : Option Changes → List LookRowChange
@@ -27,22 +26,14 @@ abbrev pub seen : ℕ → Looks → LookParts
 seen denominator (Plain overlook) = parts_over denominator overlook.items
 seen denominator (Footprints prints) = prints_seen denominator prints
 
--- the key of a change
-abbrev pub key_of_change : LookRowChange → PeriodKey
-key_of_change change = record { period = change.period; row = change.position }
-
--- the index of changes of so many positions
-abbrev pub index_over : ℕ → List LookRowChange → PeriodKeys
-index_over positions changes = record { periods = 32; rows = positions; keys = map key_of_change changes }
-
 -- an index, if there are changes, has their keys in their order
-abbrev pub IsIndexed : ℕ → Option Changes → Type 0
-IsIndexed positions None = Unit {0}
-IsIndexed positions (Some changes) = changes.index ≡ index_over positions (map change_of changes.given.items)
+abbrev pub IsIndexed : Option Changes → Type 0
+IsIndexed None = Unit {0}
+IsIndexed (Some changes) = changes.index.keys ≡ map key_of_change (map change_of changes.given.items)
 
 abbrev pub AreIndexed : Looks → Type 0
 AreIndexed (Plain overlook) = Unit {0}
-AreIndexed (Footprints prints) = IsIndexed (length prints.rows.items) prints.changes
+AreIndexed (Footprints prints) = IsIndexed prints.changes
 
 -- what every sweep keeps
 pub record IsKept (denominator : ℕ) (looks : Looks) : Type 0 where

@@ -1,15 +1,14 @@
 //! Rows of single periods, in place of the base rows.
 
-ghost use Rattle.std.specs.Prelude.{◌≡◌, ◌≤◌, map, IsOk, IfOk, IfErr, IfSome, IfNone, OnOk, MatchBool, All};
+ghost use Rattle.std.specs.Prelude.{◌≡◌, ◌↔◌, [], ◌∷◌, ◌++◌, map, Contains, IsTrue, IsOk, IfOk, IfErr, IfSome, IfNone, OnOk, MatchBool, All};
 ghost use Rattle.std.specs.List.{AllZip};
 ghost use Rattle.std.specs.List.Sorted.{IsNonDecreasingBy};
 ghost use Rattle.sweep_table.specs.LookParts.{IsLookRow};
-ghost use Rattle.sweep_table.specs.Changes.{change_of, IsSameChange, IsBadRow, HaveRightRows, HasChangeFault, IsRefusal, IsRightChange, IsFirstOfChange};
-ghost use Rattle.sweep_table.specs.Forms.{index_over};
+ghost use Rattle.sweep_table.specs.Changes.{change_of, key_of_change, IsSameChange, IsBadRow, HaveRightRows, HasChangeFault, IsRefusal, IsRightChange, IsFirstOfChange};
 
 use crate::faults::{has_double, has_out, has_over};
 use crate::part::{LookChange, LookPart};
-use period_index::PeriodIndex;
+use indexmap::IndexSet;
 use std::alloc::{AllocError, Global};
 
 /// The most periods in which looks may change.
@@ -41,11 +40,11 @@ impl From<AllocError> for LookChangeFault {
     }
 }
 
-// Changes in the order in which they were given, and where the one for a position in a period stands.
+// Changes in the order in which they were given, and the period and position of each at its place.
 #[derive(Debug, Drop)]
 pub(crate) struct Changes {
     pub(crate) given: Vec<LookChange>,
-    pub(crate) index: PeriodIndex,
+    pub(crate) index: IndexSet<(u32, u8)>,
 }
 
 // Makes the changes of looks over so many cells from so many positions, each row put in ascending order.
@@ -56,10 +55,9 @@ pub(crate) fn make_changes(
     positions: u8,
     mut given: Vec<LookChange>,
 ) -> Result<Changes, LookChangeFault>
-    requires { (1 ≤ positions) × (positions ≤ 200) }
     ensures same { let was = map change_of given.items in IfOk result (λ made. AllZip IsSameChange was (map change_of made.given.items)) }
     ensures right { IfOk result (λ made. HaveRightRows denominator cells (map change_of made.given.items)) }
-    ensures indexed { IfOk result (λ made. made.index ≡ index_over positions (map change_of made.given.items)) }
+    ensures indexed { IfOk result (λ made. made.index.keys ≡ map key_of_change (map change_of made.given.items)) }
     ensures faultless { let was = map change_of given.items in IsOk result → (fault : LookChangeFault) → HasChangeFault denominator cells positions was fault → ⊥ }
     ensures refusal { let was = map change_of given.items in IfErr result (IsRefusal denominator cells positions was) }
 {
@@ -78,29 +76,44 @@ fn sort_rows(changes: &mut [LookChange])
     }
 }
 
-// The index of changes whose rows are in ascending order, if they are right.
+// The periods and positions of changes whose rows are in ascending order, if they are right.
 fn index_of(
     alloc: Global,
     denominator: u32,
     cells: u8,
     positions: u8,
     changes: &[LookChange],
-) -> Result<PeriodIndex, LookChangeFault>
-    requires positions { (1 ≤ positions) × (positions ≤ 200) }
-    requires ascending { All (λ change. IsNonDecreasingBy (λ entry. entry.cell) change.row) (map change_of changes.now) }
-    ensures indexed { IfOk result (λ index. index ≡ index_over positions (map change_of changes.now)) }
+) -> Result<IndexSet<(u32, u8)>, LookChangeFault>
+    requires { All (λ change. IsNonDecreasingBy (λ entry. entry.cell) change.row) (map change_of changes.now) }
+    ensures indexed { IfOk result (λ index. index.keys ≡ map key_of_change (map change_of changes.now)) }
     ensures right { OnOk result (HaveRightRows denominator cells (map change_of changes.now)) }
     ensures faultless { IsOk result → (fault : LookChangeFault) → HasChangeFault denominator cells positions (map change_of changes.now) fault → ⊥ }
     ensures refusal { IfErr result (IsRefusal denominator cells positions (map change_of changes.now)) }
 {
-    let mut index = PeriodIndex::new(alloc, MOST_PERIODS, positions)?;
+    let mut index = IndexSet::new(alloc);
     for (i, change) in changes.iter().enumerate() {
         if let Some(fault) = change_fault(denominator, cells, positions, &index, i, change) {
             return Err(fault);
         }
-        index.add(change.period, change.position);
+        add_key(&mut index, change)?;
     }
     Ok(index)
+}
+
+// Whether a change's period and position are among those of an index.
+fn has_key(index: &IndexSet<(u32, u8)>, change: &LookChange) -> bool
+    ensures { IsTrue result ↔ Contains index.now.keys (key_of_change (change_of change.now)) }
+{
+    index.contains(&(change.period, change.position))
+}
+
+// Puts the period and position of a change last, which no earlier change is for.
+fn add_key(index: &mut IndexSet<(u32, u8)>, change: &LookChange) -> Result<(), AllocError>
+    requires { ¬ Contains index.old.keys (key_of_change (change_of change.now)) }
+    ensures { OnOk result (index.new.keys ≡ index.old.keys ++ key_of_change (change_of change.now) ∷ []) }
+{
+    index.insert((change.period, change.position))?;
+    Ok(())
 }
 
 // What is wrong with the change at place `i`, whose row is in ascending order, behind those that the index has.
@@ -108,12 +121,11 @@ fn change_fault(
     denominator: u32,
     cells: u8,
     positions: u8,
-    before: &PeriodIndex,
+    before: &IndexSet<(u32, u8)>,
     i: usize,
     change: &LookChange,
 ) -> Option<LookChangeFault>
-    requires index { (before.now.periods ≡ 32) × (before.now.rows ≡ positions) }
-    requires ascending { IsNonDecreasingBy (λ entry. entry.cell) change.now.row.items }
+    requires { IsNonDecreasingBy (λ entry. entry.cell) change.now.row.items }
     ensures none { IfNone result (IsRightChange denominator cells positions before.now.keys (change_of change.now)) }
     ensures some { IfSome result (IsFirstOfChange denominator cells positions before.now.keys i (change_of change.now)) }
 {
@@ -121,7 +133,7 @@ fn change_fault(
         Some(LookChangeFault::PeriodOutOfRange(i))
     } else if change.position >= positions {
         Some(LookChangeFault::PositionOutOfRange(i))
-    } else if before.place(change.period, change.position).is_some() {
+    } else if has_key(before, change) {
         Some(LookChangeFault::DoubleChange(i))
     } else if is_bad(denominator, cells, &change.row) {
         Some(LookChangeFault::BadRow(i))

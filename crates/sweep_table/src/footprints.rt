@@ -20,14 +20,13 @@ pub(crate) struct Footprints {
 
 // The row in force for a look from position `p` in period `t`.
 pub(crate) fn row_in_force(prints: &Footprints, t: u32, p: u8) -> &[LookPart]
-    requires period { (1 ≤ t) × (t ≤ 32) }
     requires position { p < length prints.now.rows.items }
-    requires indexed { IsIndexed (length prints.now.rows.items) prints.now.changes }
+    requires indexed { IsIndexed prints.now.changes }
     ensures { (denominator : ℕ) → result.now ≡ look_row (prints_seen denominator prints.now) t p }
 {
     match &prints.changes {
         None => &prints.rows[p as usize],
-        Some(changes) => match changes.index.place(t, p) {
+        Some(changes) => match changes.index.get_index_of(&(t, p)) {
             None => &prints.rows[p as usize],
             Some(place) => &changes.given[place].row,
         },

@@ -22,11 +22,8 @@ invariant_of-result c =
     let rows = map (λ row. row.items) inside.rows.items in
     let plain = ap (λ (d : DriftRows). d.changes) c.self.view_is ∙ c.requires in
     let size : c.len.result ≡ length rows = rw (length-map inside.rows.items (λ row. row.items)) (search rules) in
-    let right : AreRight inside.denominator (length rows) c.in_ok-changes.changes.changes = rw (← size) c.in_ok-changes.ensures.right in
-    record {
-      drift = IsDrift-from_changes (drift_by inside.denominator rows inside.changes) c.in_ok-changes.changes.changes c.self.invariant.drift plain right;
-      cells = c.in_ok-changes.ensures.cells ∙ size;
-    }
+    let right : AreRight inside.denominator (length rows) c.in_ok-changes.changes = rw (← size) c.in_ok-changes.ensures.right in
+    IsDrift-from_changes (drift_by inside.denominator rows inside.changes) c.in_ok-changes.changes c.self.invariant plain right
 
 pub returns-clause-sound : goal.returns-clause-sound
 returns-clause-sound c =
@@ -34,13 +31,13 @@ returns-clause-sound c =
     let rows = map (λ row. row.items) inside.rows.items in
     let plain = ap (λ (d : DriftRows). d.changes) c.self.view_is ∙ c.requires in
     let size : c.len.result ≡ length rows = rw (length-map inside.rows.items (λ row. row.items)) (search rules) in
-    let right : AreRight inside.denominator (length rows) c.in_ok-changes.changes.changes = rw (← size) c.in_ok-changes.ensures.right in
-    IsDrift-from_changes (drift_by inside.denominator rows inside.changes) c.in_ok-changes.changes.changes c.self.invariant.drift plain right
+    let right : AreRight inside.denominator (length rows) c.in_ok-changes.changes = rw (← size) c.in_ok-changes.ensures.right in
+    IsDrift-from_changes (drift_by inside.denominator rows inside.changes) c.in_ok-changes.changes c.self.invariant plain right
 
 pub returns-clause-faultless : goal.returns-clause-faultless
 returns-clause-faultless c = λ _ fault has.
     let inside = c.self.inside in
-    let made = c.in_ok-changes.changes.changes in
+    let made = c.in_ok-changes.changes in
     let size : c.len.result ≡ length (map (λ row. row.items) inside.rows.items) = rw (length-map inside.rows.items (λ row. row.items)) (search rules) in
     let here : AreRight inside.denominator (length (map (λ row. row.items) inside.rows.items)) made = rw (← size) c.in_ok-changes.ensures.right in
     let right = subst (λ (d : DriftRows). AreRight d.denominator (drift_cells d) made) c.self.view_is here in
@@ -50,7 +47,7 @@ pub returns-clause-kept : goal.returns-clause-kept
 returns-clause-kept c = λ h.
     let inside = c.self.inside in
     let given = map row_change c.args.changes.items in
-    let made = c.in_ok-changes.changes.changes in
+    let made = c.in_ok-changes.changes in
     let size : c.len.result ≡ length (map (λ row. row.items) inside.rows.items) = rw (length-map inside.rows.items (λ row. row.items)) (search rules) in
     let here : AreRight inside.denominator (length (map (λ row. row.items) inside.rows.items)) made = rw (← size) c.in_ok-changes.ensures.right in
     let right = subst (λ (d : DriftRows). AreRight d.denominator (drift_cells d) made) c.self.view_is here in

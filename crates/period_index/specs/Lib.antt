@@ -1,2 +1,0 @@
-pub mod PeriodKeys
-pub mod Slots
