@@ -33,14 +33,18 @@ fn spread(next: &mut [u128], row: &[DriftPart], mass: u128)
     }
 }
 
-/// Adds what a row sends on of a mass, in no time where there is none.
-fn spread_some(next: &mut [u128], row: &[DriftPart], mass: u128)
-    requires entries { All (λ entry. entry.cell < length next.old) row.now }
-    requires fits { (d : ℕ) → d < length next.old → slice_index next.old d + mass * part_in row.now d < 2 ^ 127 }
-    ensures each { (d : ℕ) → d < length next.old → slice_index next.new d ≡ slice_index next.old d + mass * part_in row.now d }
+/// Adds what the drift sends on of the mass of cell `c` in the step after period `t`; where there is none, no row is looked
+/// for.
+fn spread_from(next: &mut [u128], drift: &Drift, t: u32, c: u8, mass: u128)
+    requires cells { length next.old ≡ drift_cells drift.now }
+    requires first { 1 ≤ t }
+    requires last { t ≤ 31 }
+    requires cell { c < drift_cells drift.now }
+    requires fits { (d : ℕ) → d < length next.old → slice_index next.old d + mass * part_of drift.now t c d < 2 ^ 127 }
+    ensures each { (d : ℕ) → d < length next.old → slice_index next.new d ≡ slice_index next.old d + mass * part_of drift.now t c d }
 {
     if mass > 0 {
-        spread(next, row, mass);
+        spread(next, drift.row(t, c), mass);
     }
 }
 
@@ -55,6 +59,6 @@ pub fn move_on(next: &mut [u128], masses: &[u128], drift: &Drift, t: u32)
 {
     next.fill(0);
     for c in 0..drift.cells() {
-        spread_some(next, drift.row(t, c), masses[c as usize]);
+        spread_from(next, drift, t, c, masses[c as usize]);
     }
 }

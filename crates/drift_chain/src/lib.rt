@@ -10,6 +10,3 @@ pub use chain::Drift;
 pub use changes::{ChangeFault, DriftChange};
 pub use faults::DriftFault;
 pub use part::DriftPart;
-
-#[cfg(test)]
-mod tests;

@@ -50,6 +50,7 @@ fn mass_going_on(sc: &Scenario, prefix: &Path, masses: &[u128], t: u32, c: u8, d
 
 /// What comes to cell `d` in period `t` of what a look from position `a` in the period before finds, cell by cell
 /// of its row.
+#[inline(never)]
 fn taken_by_row(sc: &Scenario, prefix: &Path, masses: &[u128], t: u32, a: u8, d: u8) -> u128
     requires period { IsLater sc.now prefix.now t }
     requires from { a < sc.now.positions }
@@ -104,6 +105,7 @@ fn left(sc: &Scenario, prefix: &Path, masses: &[u128], t: u32, a: u8, d: u8) -> 
 }
 
 /// What a look from `b` in period `t` finds after a look from `a` in the period before, cell by cell of its row.
+#[inline(never)]
 fn found_after_by_row(sc: &Scenario, prefix: &Path, masses: &[u128], t: u32, a: u8, b: u8) -> u128
     requires period { IsLater sc.now prefix.now t }
     requires from { a < sc.now.positions }

@@ -5,8 +5,6 @@ mod no_memory;
 mod number;
 mod percent;
 mod reading;
-#[cfg(test)]
-mod tests;
 mod width;
 mod writing;
 

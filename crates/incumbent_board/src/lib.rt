@@ -13,8 +13,6 @@ mod sending;
 mod sight;
 mod six_words;
 mod starting;
-#[cfg(test)]
-mod tests;
 
 pub use board::Board;
 pub use laws::{seats_stay, words_spell_standings};

@@ -8,6 +8,7 @@ use belief_update::{Belief, later_parts};
 use search_model::{Path, Scenario};
 
 /// What a look from position `a` finds of the masses, cell by cell of its row.
+#[inline(never)]
 fn found_by_row(sc: &Scenario, belief: &Belief, a: u8) -> u128
     requires period { (1 ≤ belief.now.period) × (belief.now.period ≤ sc.now.horizon) }
     requires cells { length belief.now.masses ≡ sc.now.cells }

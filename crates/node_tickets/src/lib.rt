@@ -5,8 +5,6 @@
 mod draw;
 mod hand;
 mod sending;
-#[cfg(test)]
-mod tests;
 mod tickets;
 mod word;
 

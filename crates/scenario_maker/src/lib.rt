@@ -7,8 +7,6 @@ mod laws;
 mod making;
 mod shaping;
 mod sizes;
-#[cfg(test)]
-mod tests;
 
 pub use laws::{
     draws_within_bounds, few_made_prefixes, few_prefixes, made_is_problem, worked_draws,

@@ -5,8 +5,6 @@ mod event;
 mod laws;
 mod lists;
 mod machine;
-#[cfg(test)]
-mod tests;
 
 pub use event::{CoreEvent, CoreFault};
 pub use laws::{

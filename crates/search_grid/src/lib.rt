@@ -8,6 +8,3 @@ mod sides;
 pub use faults::GridFault;
 pub use moves::Grid;
 pub use sides::worked_sides;
-
-#[cfg(test)]
-mod tests;

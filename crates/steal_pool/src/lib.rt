@@ -8,8 +8,6 @@ mod kit;
 mod making;
 mod sending;
 mod settling;
-#[cfg(test)]
-mod tests;
 mod theft;
 mod victim;
 

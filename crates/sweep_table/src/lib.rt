@@ -15,6 +15,3 @@ pub use faults::{LookFault, SweepFault};
 pub use look::Look;
 pub use part::{LookChange, LookPart};
 pub use table::Sweep;
-
-#[cfg(test)]
-mod tests;

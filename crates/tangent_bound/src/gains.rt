@@ -33,6 +33,7 @@ fn missed(sc: &Scenario, belief: &Belief, backward: &Backward, t: u32, entry: Lo
 }
 
 /// What the reference misses of all tracks that a look from position `a` covers in period `t`, cell by cell of its row.
+#[inline(never)]
 fn covered_by_row(sc: &Scenario, belief: &Belief, backward: &Backward, t: u32, a: u8) -> u128
     requires met { (path : List ℕ) × IsMet sc.now path t belief.now backward.now }
     requires first { 1 ≤ t }

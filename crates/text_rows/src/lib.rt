@@ -3,8 +3,6 @@
 
 mod fields;
 mod lines;
-#[cfg(test)]
-mod tests;
 
 pub use fields::{after_field, cut_field, first_fields, is_blank, skip_blanks};
 pub use lines::{cut, cut_line};

@@ -3,8 +3,6 @@
 
 mod gathering;
 mod laws;
-#[cfg(test)]
-mod tests;
 
 pub use gathering::gather;
 pub use laws::{all_hauls_are_joined, done_are_accepted, joined_are_live};

@@ -1,5 +1,0 @@
-use Rattle.incumbent_board.specs.Boards.{IsSameSeat}
-use Rattle.incumbent_board.proofs.tests.offer_and_look.Given as goal
-
-abbrev pub invariant-loop-turn : goal.invariant-loop-turn
-invariant-loop-turn g l = IsSameSeat l.fn.seat l.seat

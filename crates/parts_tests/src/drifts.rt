@@ -1,0 +1,148 @@
+ghost use Rattle.std.specs.Prelude.{◌≡◌, ◌≤◌, [], IfOk};
+
+use drift_chain::{ChangeFault, Drift, DriftChange, DriftFault, DriftPart};
+use std::alloc::{AllocError, Global};
+use std::test::Fail;
+
+// Holds of what may be shared between threads and moved to one.
+fn crosses_threads<T: Send + Sync + Drop>(_value: T) {}
+
+fn row_of(alloc: Global, entries: &[(u8, u32)]) -> Result<Vec<DriftPart>, AllocError> {
+    let mut row = Vec::new(alloc);
+    for (cell, part) in entries {
+        row.push(DriftPart {
+            cell: *cell,
+            part: *part,
+        })?;
+    }
+    Ok(row)
+}
+
+// What is made of so many rows as a drift may have.
+fn drift_of(
+    alloc: Global,
+    denominator: u32,
+    lists: &[&[(u8, u32)]],
+) -> Result<Result<Drift, DriftFault>, Fail>
+    requires { (1 ≤ denominator) × (denominator ≤ 1000000) }
+    ensures { IfOk result (λ made. IfOk made (λ drift. drift.changes ≡ [])) }
+{
+    let mut rows = Vec::new(alloc);
+    for list in lists {
+        rows.push(row_of(alloc, list)?)?;
+    }
+    if rows.is_empty() || rows.len() > 200 {
+        return Err(Fail::from("no drift of so many cells"));
+    }
+    Ok(Drift::new(denominator, rows))
+}
+
+#[test]
+fn entries_come_in_ascending_order(rt: HostRuntime) -> Result<(), Fail> {
+    let drift = drift_of(rt.alloc(), 3, &[&[(1, 1), (0, 2)], &[(1, 3)]])??;
+    assert_eq!(rt; drift.denominator(), 3);
+    assert!(rt; drift.cells() == 2);
+    let parts = [
+        DriftPart { cell: 0, part: 2 },
+        DriftPart { cell: 1, part: 1 },
+    ];
+    assert_eq!(rt; drift.row(1, 0), parts.as_slice());
+    assert_eq!(rt; drift.part(31, 0, 1), 1);
+    assert_eq!(rt; drift.part(31, 1, 0), 0);
+    crosses_threads(drift);
+    Ok(())
+}
+
+// The least row that has a fault is named, and of its faults the first; the sum of a row may exceed 32 bits.
+#[test]
+fn faults_have_their_order(rt: HostRuntime) -> Result<(), Fail> {
+    let cases: [(&[&[(u8, u32)]], DriftFault); 6] = [
+        (&[&[(0, 1)]], DriftFault::WrongSum(0)),
+        (&[&[]], DriftFault::WrongSum(0)),
+        (
+            &[&[(0, u32::MAX), (1, 3)], &[(0, 2)]],
+            DriftFault::WrongSum(0),
+        ),
+        (
+            &[&[(0, 2)], &[(2, 0), (2, 1)], &[(9, 1)]],
+            DriftFault::ZeroPart(1),
+        ),
+        (&[&[(0, 1), (0, 1)]], DriftFault::DoubleEntry(0)),
+        (&[&[(1, 0)]], DriftFault::OutOfRange(0)),
+    ];
+    for (lists, fault) in cases {
+        assert_eq!(rt; drift_of(rt.alloc(), 2, lists)?.err(), Some(fault));
+    }
+    Ok(())
+}
+
+// A change as data: its period, its cell and the entries of its row.
+type Told<'a> = (u32, u8, &'a [(u8, u32)]);
+
+// What is made of these changes of a drift over two cells, each of which keeps the target.
+fn changed(alloc: Global, told: &[Told]) -> Result<Result<Drift, ChangeFault>, Fail> {
+    let mut changes = Vec::new(alloc);
+    for (period, cell, entries) in told {
+        changes.push(DriftChange {
+            period: *period,
+            cell: *cell,
+            row: row_of(alloc, entries)?,
+        })?;
+    }
+    let drift = drift_of(alloc, 2, &[&[(0, 2)], &[(1, 2)]])??;
+    Ok(drift.in_periods(alloc, changes))
+}
+
+#[test]
+fn changes_are_of_their_period_and_cell(rt: HostRuntime) -> Result<(), Fail> {
+    let told: [Told; 3] = [
+        (2, 0, &[(1, 1), (0, 1)]),
+        (31, 1, &[(0, 2)]),
+        (1, 1, &[(0, 1), (1, 1)]),
+    ];
+    let drift = changed(rt.alloc(), &told)??;
+    assert!(rt; drift.cells() == 2);
+    let even = [
+        DriftPart { cell: 0, part: 1 },
+        DriftPart { cell: 1, part: 1 },
+    ];
+    assert_eq!(rt; drift.row(2, 0), even.as_slice());
+    assert_eq!(rt; drift.row(1, 1), even.as_slice());
+    assert_eq!(rt; drift.part(1, 0, 0), 2);
+    assert_eq!(rt; drift.part(3, 0, 0), 2);
+    assert_eq!(rt; drift.part(30, 1, 0), 0);
+    assert_eq!(rt; drift.part(31, 1, 0), 2);
+    crosses_threads(drift);
+    Ok(())
+}
+
+// The least place that has a fault is named, and of its faults the first.
+#[test]
+fn faults_of_changes_have_their_order(rt: HostRuntime) -> Result<(), Fail> {
+    let cases: [(&[Told], Option<ChangeFault>); 8] = [
+        (&[], None),
+        (&[(31, 0, &[(0, 2)]), (1, 0, &[(1, 2)])], None),
+        (&[(0, 0, &[(0, 2)])], Some(ChangeFault::PeriodOutOfRange(0))),
+        (&[(32, 2, &[])], Some(ChangeFault::PeriodOutOfRange(0))),
+        (
+            &[(1, 0, &[(0, 2)]), (1, 2, &[])],
+            Some(ChangeFault::CellOutOfRange(1)),
+        ),
+        (
+            &[(1, 0, &[(0, 2)]), (1, 0, &[])],
+            Some(ChangeFault::DoubleChange(1)),
+        ),
+        (
+            &[(1, 0, &[(0, 1), (0, 1)]), (0, 0, &[])],
+            Some(ChangeFault::BadRow(0)),
+        ),
+        (
+            &[(1, 0, &[(0, 2)]), (1, 1, &[(2, 2)])],
+            Some(ChangeFault::BadRow(1)),
+        ),
+    ];
+    for (told, fault) in cases {
+        assert_eq!(rt; changed(rt.alloc(), told)?.err(), fault);
+    }
+    Ok(())
+}

@@ -1,0 +1,45 @@
+use search_grid::{Grid, GridFault};
+use std::alloc::{AllocError, Global};
+use std::test::Fail;
+
+// Holds of what may be shared between threads and moved to one.
+fn crosses_threads<T: Send + Sync + Drop>(_value: T) {}
+
+fn rows_of(alloc: Global, lists: &[&[u8]]) -> Result<Vec<Vec<u8>>, AllocError> {
+    let mut rows = Vec::new(alloc);
+    for list in lists {
+        rows.push(list.to_vec(alloc)?)?;
+    }
+    Ok(rows)
+}
+
+#[test]
+fn moves_come_in_ascending_order(rt: HostRuntime) -> Result<(), Fail> {
+    let grid = Grid::new(rows_of(rt.alloc(), &[&[1, 0], &[0]])?)?;
+    assert_eq!(rt; grid.cells(), 2);
+    assert_eq!(rt; grid.moves(0), [0, 1].as_slice());
+    assert!(rt; grid.is_move(0, 1));
+    assert!(rt; !grid.is_move(1, 1));
+    let sides = Grid::four_neighbour(rt.alloc(), 3, 3)?;
+    assert!(rt; sides.cells() == 9);
+    assert_eq!(rt; sides.moves(4), [1, 3, 4, 5, 7].as_slice());
+    crosses_threads(grid);
+    Ok(())
+}
+
+// The least cell that has a fault is named, and of its faults the first.
+#[test]
+fn faults_have_their_order(rt: HostRuntime) -> Result<(), Fail> {
+    let cases: [(&[&[u8]], GridFault); 6] = [
+        (&[], GridFault::CellCount),
+        (&[&[0; 64]], GridFault::DoubleMove(0)),
+        (&[&[0; 65]], GridFault::TooManyMoves(0)),
+        (&[&[0], &[0, 0], &[]], GridFault::DoubleMove(1)),
+        (&[&[0], &[], &[5]], GridFault::NoMove(1)),
+        (&[&[1, 0], &[0], &[5]], GridFault::OutOfRange(2)),
+    ];
+    for (lists, fault) in cases {
+        assert_eq!(rt; Grid::new(rows_of(rt.alloc(), lists)?).err(), Some(fault));
+    }
+    Ok(())
+}

@@ -1,0 +1,18 @@
+//! What widths, ports, grids, drift, looks, lines of text and made scenarios answer on worked values, by their public calls
+//! alone. There is no code here but tests: they stand apart so that a crate need not be proved once more for them.
+#![tactic(auto)]
+
+#[cfg(test)]
+mod drifts;
+#[cfg(test)]
+mod grids;
+#[cfg(test)]
+mod makers;
+#[cfg(test)]
+mod ports;
+#[cfg(test)]
+mod rows;
+#[cfg(test)]
+mod sweeps;
+#[cfg(test)]
+mod widths;

@@ -1,0 +1,68 @@
+use exact_parts::{Number, digits, fits, number_of, push_percent, push_u128, read_u128, weight_of};
+use std::test::Fail;
+
+#[test]
+fn widths(rt: HostRuntime) {
+    assert!(rt; fits(4, 1024, 1024, 6));
+    assert!(rt; !fits(8, 1024, 1024, 6));
+    assert_eq!(rt; weight_of(2, 2, 2, 2), 16);
+}
+
+#[test]
+fn texts_are_read(rt: HostRuntime) {
+    let cases: [(&[u8], Option<u128>); 5] = [
+        (b"340282366920938463463374607431768211455", Some(u128::MAX)),
+        (b"340282366920938463463374607431768211456", None),
+        (b"0", Some(0)),
+        (b"01", None),
+        (b"", None),
+    ];
+    for (text, number) in cases {
+        assert_eq!(rt; read_u128(text), number);
+    }
+}
+
+#[test]
+fn a_long_number_is_above(rt: HostRuntime) -> Result<(), Fail> {
+    let nines = vec![in rt.alloc(); b'9'; 100_000]?;
+    assert_eq!(rt; number_of(&nines, u128::MAX), Number::Above);
+    assert_eq!(rt; number_of(b"1000000", 1_000_000), Number::Of(1_000_000));
+    assert_eq!(rt; number_of(b"1000001", 1_000_000), Number::Above);
+    assert_eq!(rt; number_of(b"+1", 1_000_000), Number::NotPlain);
+    Ok(())
+}
+
+#[test]
+fn digits_stand_at_the_front(rt: HostRuntime) {
+    let mut to = [b'.'; 39];
+    assert_eq!(rt; digits(107, &mut to), 3);
+    assert_eq!(rt; &to[..4], b"107.".as_slice());
+}
+
+#[test]
+fn a_number_is_appended(rt: HostRuntime) -> Result<(), Fail> {
+    let mut out = b"n ".to_vec(rt.alloc())?;
+    push_u128(&mut out, u128::MAX).map_err(|_| "no memory")?;
+    assert_eq!(rt;
+        out.as_slice(),
+        b"n 340282366920938463463374607431768211455".as_slice()
+    );
+    Ok(())
+}
+
+#[test]
+fn shares_are_cut_off_after_three_digits(rt: HostRuntime) -> Result<(), Fail> {
+    let cases: [(u128, u128, &[u8]); 5] = [
+        (2, 3, b"66.666"),
+        (1, 16, b"6.250"),
+        (1, 1, b"100.000"),
+        (0, 5, b"0.000"),
+        (1, (1 << 123) - 1, b"0.000"),
+    ];
+    for (v, w, text) in cases {
+        let mut out = Vec::new(rt.alloc());
+        push_percent(&mut out, v, w).map_err(|_| "no memory")?;
+        assert_eq!(rt; out.as_slice(), text);
+    }
+    Ok(())
+}
