@@ -13,6 +13,8 @@ mod judge;
 mod laws;
 mod line;
 #[cfg(test)]
+mod listed_tests;
+#[cfg(test)]
 mod position_tests;
 mod request;
 mod scenario_end;

@@ -590,25 +590,19 @@ fn path_and_chance(alloc: Global, plan: &[u8]) -> Result<Vec<u8>, Fail> {
     let mut both = path.to_vec(alloc)?;
     both.push(b'\n')?;
     both.extend_from_slice(chance)?;
+    both.push(b'\n')?;
     Ok(both)
 }
 
 /// Plans a scenario, and checks the plan: its path and chance.
-fn checked_plan<R: AllocGlobal + Threads + Wait + Sync>(
+pub fn checked_plan<R: AllocGlobal + Threads + Wait + Sync>(
     rt: &R,
     words: &str,
-    scenario: &str,
+    scenario: &[u8],
 ) -> Result<Vec<u8>, Fail> {
     let alloc = rt.alloc();
-    let plan = ended(
-        rt,
-        words,
-        scenario.as_bytes().to_vec(alloc)?,
-        4096,
-        &[],
-        &[],
-    )?;
-    let mut input = scenario.as_bytes().to_vec(alloc)?;
+    let plan = ended(rt, words, scenario.to_vec(alloc)?, 4096, &[], &[])?;
+    let mut input = scenario.to_vec(alloc)?;
     input.extend_from_slice(&plan.out)?;
     let check = ended(rt, "check", input, 4096, &[], &[])?;
     if check.out.as_slice() != b"accepted\n".as_slice() {
@@ -620,9 +614,10 @@ fn checked_plan<R: AllocGlobal + Threads + Wait + Sync>(
 #[test]
 fn many_workers_find_the_same_path(rt: HostRuntime) -> Result<(), Fail> {
     for (scenario, end) in [
-        (SEVEN, " 128000000000000000"),
-        (FAR_CELLS, "path c d\nchance 6 9"),
+        (SEVEN, " 128000000000000000\n"),
+        (FAR_CELLS, "path c d\nchance 6 9\n"),
     ] {
+        let scenario = scenario.as_bytes();
         let one = checked_plan(&rt, "plan --workers 1", scenario)?;
         let two = checked_plan(&rt, "plan --workers 2", scenario)?;
         let many = checked_plan(&rt, "plan --workers 16", scenario)?;
@@ -642,7 +637,7 @@ fn are_planned<R: AllocGlobal + Threads + Wait + Sync>(
     runs: u32,
 ) -> Result<bool, Fail> {
     for _ in 0..runs {
-        if checked_plan(rt, words, scenario)?.as_slice() != expected.as_bytes() {
+        if checked_plan(rt, words, scenario.as_bytes())?.as_slice() != expected.as_bytes() {
             return Ok(false);
         }
     }
@@ -651,7 +646,7 @@ fn are_planned<R: AllocGlobal + Threads + Wait + Sync>(
 
 #[test]
 fn a_hundred_plans_by_two_workers(rt: HostRuntime) -> Result<(), Fail> {
-    let expected = "path c c c\nchance 7 8";
+    let expected = "path c c c\nchance 7 8\n";
     assert!(rt; are_planned(&rt, "plan --workers 2", WAITING_LONGER, expected, 100)?);
     Ok(())
 }

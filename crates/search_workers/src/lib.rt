@@ -13,8 +13,6 @@ mod harvest;
 mod incumbent;
 mod joins;
 mod left;
-#[cfg(test)]
-mod listed_paths;
 mod muster;
 mod rounds;
 mod run;

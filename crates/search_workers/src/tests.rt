@@ -3,44 +3,84 @@ ghost use Rattle.bound_tree.specs.Close.{IsExact};
 
 use super::*;
 use bound_tree::{Kind, TreeNode};
-use drift_chain::{Drift, DriftPart};
 use opening_path::opening;
-use search_grid::Grid;
-use search_model::{Name, Parts, Scenario, Standing};
-use std::alloc::{AllocError, AllocGlobal, Global};
+use search_model::{Scenario, Standing};
+use std::alloc::{AllocGlobal, Global};
 use std::hint;
 use std::sync::Wait;
 use std::sync::atomic::{AtomicU64, Ordering};
 use std::test::Fail;
 use std::thread::Threads;
-use sweep_table::Sweep;
-
-// The even chance of either of two cells.
-fn either(alloc: Global) -> Result<Vec<DriftPart>, AllocError> {
-    [
-        DriftPart { cell: 0, part: 1 },
-        DriftPart { cell: 1, part: 1 },
-    ]
-    .to_vec(alloc)
-}
 
 // Two cells and two periods; the target moves as it likes, and no look misses.
 fn two_cells(alloc: Global) -> Result<Scenario, Fail> {
-    let a = Name::new(b"a").ok_or("no name")?;
-    let b = Name::new(b"b").ok_or("no name")?;
-    let moves = vec![in alloc; vec![in alloc; 0, 1]?, vec![in alloc; 0, 1]?]?;
-    let drifts = vec![in alloc; either(alloc)?, either(alloc)?]?;
-    Ok(Scenario::new(Parts {
-        names: vec![in alloc; a, b]?,
-        positions: vec![in alloc; a, b]?,
-        horizon: 2,
-        start: 0,
-        total: 2,
-        first: vec![in alloc; 1, 1]?,
-        grid: Grid::new(moves)?,
-        drift: Drift::new(2, drifts)?,
-        sweep: Sweep::new(2, vec![in alloc; 0, 0]?)?,
-    })?)
+    Ok(worked_scenarios::two_cells(alloc)?)
+}
+
+// Four cells and two periods: the target stays in the first, third or last, and no look misses. The searcher begins in
+// the second.
+fn four_cells(alloc: Global) -> Result<Scenario, Fail> {
+    Ok(worked_scenarios::four_cells(alloc)?)
+}
+
+// A record of a tree: the letter of its kind, its number if any, and its prefix.
+type Row = (u8, u128, &'static [u8]);
+
+// The records over two cells: of equal values the least path is best.
+const EVEN: [Row; 5] = [
+    (b'B', 0, &[]),
+    (b'B', 0, &[0]),
+    (b'W', 12, &[0, 0]),
+    (b'W', 12, &[0, 1]),
+    (b'M', 12, &[1]),
+];
+
+// The records over four cells where the first cell was closed under the opening.
+const UNDER_THE_OPENING: [Row; 7] = [
+    (b'B', 0, &[]),
+    (b'B', 0, &[0]),
+    (b'W', 3, &[0, 0]),
+    (b'W', 3, &[0, 1]),
+    (b'B', 0, &[2]),
+    (b'W', 2, &[2, 2]),
+    (b'W', 6, &[2, 3]),
+];
+
+// The records over four cells where the first cell was closed under the best path.
+const UNDER_THE_BEST: [Row; 5] = [
+    (b'B', 0, &[]),
+    (b'M', 3, &[0]),
+    (b'B', 0, &[2]),
+    (b'W', 2, &[2, 2]),
+    (b'W', 6, &[2, 3]),
+];
+
+// The letter of a kind, and its number if any.
+fn letter_of(kind: &Kind) -> (u8, u128) {
+    match kind {
+        Kind::Branch => (b'B', 0),
+        Kind::Whole(value) => (b'W', *value),
+        Kind::Mean(bound) => (b'M', *bound),
+        _ => (b'?', 0),
+    }
+}
+
+// Whether these are the records of a tree.
+fn is_tree(nodes: &[TreeNode], rows: &[Row]) -> bool {
+    if nodes.len() != rows.len() {
+        return false;
+    }
+    for (node, (letter, number, prefix)) in nodes.iter().zip(rows) {
+        if letter_of(&node.kind) != (*letter, *number) || node.prefix.cells() != *prefix {
+            return false;
+        }
+    }
+    true
+}
+
+// Whether a standing has this value and this path.
+fn is_standing(standing: &Standing, value: u128, path: &[u8]) -> bool {
+    standing.value == value && standing.path.cells() == path
 }
 
 // The opening, which is exact.
@@ -49,64 +89,6 @@ fn first_of(alloc: Global, sc: &Scenario) -> Result<Standing, Fail>
 {
     let _sound = sc.cells();
     Ok(opening(alloc, sc)?)
-}
-
-// Whether a record is the branch of a prefix.
-fn is_branch(node: &TreeNode, prefix: &[u8]) -> bool {
-    matches!(node.kind, Kind::Branch) && node.prefix.cells() == prefix
-}
-
-// Whether a record is a path with this value.
-fn is_whole(node: &TreeNode, value: u128, path: &[u8]) -> bool {
-    match node.kind {
-        Kind::Whole(found) => found == value && node.prefix.cells() == path,
-        _ => false,
-    }
-}
-
-// Whether a record is a mean bound of this number.
-fn is_mean(node: &TreeNode, bound: u128, prefix: &[u8]) -> bool {
-    match node.kind {
-        Kind::Mean(found) => found == bound && node.prefix.cells() == prefix,
-        _ => false,
-    }
-}
-
-// The target stays where it is.
-fn stay(alloc: Global, cell: u8) -> Result<Vec<DriftPart>, AllocError> {
-    [DriftPart { cell, part: 1 }].to_vec(alloc)
-}
-
-// Four cells and two periods: the target stays in the first, third or last, and no look misses. The searcher begins in
-// the second.
-fn four_cells(alloc: Global) -> Result<Scenario, Fail> {
-    let a = Name::new(b"a").ok_or("no name")?;
-    let b = Name::new(b"b").ok_or("no name")?;
-    let c = Name::new(b"c").ok_or("no name")?;
-    let d = Name::new(b"d").ok_or("no name")?;
-    let moves = vec![in alloc;
-        vec![in alloc; 0, 1]?,
-        vec![in alloc; 0, 2]?,
-        vec![in alloc; 2, 3]?,
-        vec![in alloc; 2, 3]?,
-    ]?;
-    let drifts = vec![in alloc;
-        stay(alloc, 0)?,
-        stay(alloc, 1)?,
-        stay(alloc, 2)?,
-        stay(alloc, 3)?,
-    ]?;
-    Ok(Scenario::new(Parts {
-        names: vec![in alloc; a, b, c, d]?,
-        positions: vec![in alloc; a, b, c, d]?,
-        horizon: 2,
-        start: 1,
-        total: 9,
-        first: vec![in alloc; 3, 0, 2, 4]?,
-        grid: Grid::new(moves)?,
-        drift: Drift::new(1, drifts)?,
-        sweep: Sweep::new(1, vec![in alloc; 0, 0, 0, 0]?)?,
-    })?)
 }
 
 // What some workers find from the opening on.
@@ -126,94 +108,52 @@ fn found_by<R: Threads + Wait + Sync + AllocGlobal, G: Gate>(
     }
 }
 
-// Whether a standing has this value and this path.
-fn is_standing(standing: &Standing, value: u128, path: &[u8]) -> bool {
-    standing.value == value && standing.path.cells() == path
-}
-
-// Whether these are the records over two cells: of equal values the least path is best.
-fn is_even_tree(nodes: &[TreeNode]) -> bool {
-    let [empty, zero, least, other, one] = nodes else {
-        return false;
-    };
-    is_branch(empty, &[])
-        && is_branch(zero, &[0])
-        && is_whole(least, 12, &[0, 0])
-        && is_whole(other, 12, &[0, 1])
-        && is_mean(one, 12, &[1])
-}
-
-// Whether these are the records over four cells where the first cell was closed under the opening.
-fn is_tree_of_the_opening(nodes: &[TreeNode]) -> bool {
-    let [empty, zero, stays, returns, two, waits, goes] = nodes else {
-        return false;
-    };
-    is_branch(empty, &[])
-        && is_branch(zero, &[0])
-        && is_whole(stays, 3, &[0, 0])
-        && is_whole(returns, 3, &[0, 1])
-        && is_branch(two, &[2])
-        && is_whole(waits, 2, &[2, 2])
-        && is_whole(goes, 6, &[2, 3])
-}
-
-// Whether these are the records over four cells where the first cell was closed under the best path.
-fn is_tree_of_the_best(nodes: &[TreeNode]) -> bool {
-    let [empty, zero, two, waits, goes] = nodes else {
-        return false;
-    };
-    is_branch(empty, &[])
-        && is_mean(zero, 3, &[0])
-        && is_branch(two, &[2])
-        && is_whole(waits, 2, &[2, 2])
-        && is_whole(goes, 6, &[2, 3])
-}
-
-// Whether some workers find the least of equal paths.
-fn finds_the_least<R: Threads + Wait + Sync + AllocGlobal>(
+// Whether some workers find the least of equal paths over two cells.
+fn finds_the_least<R: Threads + Wait + Sync + AllocGlobal, G: Gate>(
     rt: &R,
-    sc: &Scenario,
     workers: u32,
+    gate: &G,
 ) -> Result<bool, Fail>
     requires { (1 ≤ workers) × (workers ≤ 16) }
 {
-    let found = found_by(rt, sc, workers, &OpenGate)?;
-    Ok(is_standing(&found.best, 12, &[0, 0]) && is_even_tree(found.tree.nodes()))
-}
-
-#[test]
-fn of_equal_paths_the_least_is_found_by_1_2_and_16_workers(rt: HostRuntime) -> Result<(), Fail> {
     let sc = two_cells(rt.alloc())?;
-    assert!(rt; finds_the_least(&rt, &sc, 1)?);
-    assert!(rt; finds_the_least(&rt, &sc, 2)?);
-    assert!(rt; finds_the_least(&rt, &sc, 16)?);
-    Ok(())
+    let found = found_by(rt, &sc, workers, gate)?;
+    Ok(is_standing(&found.best, 12, &[0, 0]) && is_tree(found.tree.nodes(), &EVEN))
 }
 
-// Whether some workers find the path that is better than the opening, with either tree.
-fn finds_the_better<R: Threads + Wait + Sync + AllocGlobal>(
+// Whether some workers find the path over four cells that is better than the opening, with one of these trees.
+fn finds_the_better<R: Threads + Wait + Sync + AllocGlobal, G: Gate>(
     rt: &R,
-    sc: &Scenario,
     workers: u32,
+    gate: &G,
+    trees: &[&[Row]],
 ) -> Result<bool, Fail>
     requires { (1 ≤ workers) × (workers ≤ 16) }
 {
-    let found = found_by(rt, sc, workers, &OpenGate)?;
-    let nodes = found.tree.nodes();
-    Ok(
-        is_standing(&found.best, 6, &[2, 3])
-            && (is_tree_of_the_opening(nodes) || is_tree_of_the_best(nodes)),
-    )
+    let sc = four_cells(rt.alloc())?;
+    let found = found_by(rt, &sc, workers, gate)?;
+    for tree in trees {
+        if is_tree(found.tree.nodes(), tree) {
+            return Ok(is_standing(&found.best, 6, &[2, 3]));
+        }
+    }
+    Ok(false)
 }
 
 #[test]
-fn a_better_path_is_found_by_1_2_and_16_workers(rt: HostRuntime) -> Result<(), Fail> {
-    let sc = four_cells(rt.alloc())?;
-    let alone = found_by(&rt, &sc, 1, &OpenGate)?;
-    assert!(rt; is_standing(&alone.best, 6, &[2, 3]));
-    assert!(rt; is_tree_of_the_opening(alone.tree.nodes()));
-    assert!(rt; finds_the_better(&rt, &sc, 2)?);
-    assert!(rt; finds_the_better(&rt, &sc, 16)?);
+fn the_best_paths_are_found_by_1_2_and_16_workers(rt: HostRuntime) -> Result<(), Fail> {
+    for workers in [1, 2, 16] {
+        assert!(rt; finds_the_least(&rt, workers, &OpenGate)?);
+        assert!(rt;
+            finds_the_better(
+                &rt,
+                workers,
+                &OpenGate,
+                &[&UNDER_THE_OPENING, &UNDER_THE_BEST]
+            )?
+        );
+    }
+    assert!(rt; finds_the_better(&rt, 1, &OpenGate, &[&UNDER_THE_OPENING])?);
     Ok(())
 }
 
@@ -278,26 +218,16 @@ fn was_kept(gate: &Relay) -> bool {
 }
 
 // Neither worker can go on before the other took a turn: a search that ran one after the other, or alone, would be late.
+// Over four cells worker 1 steals the third cell and finds the best path; worker 0, held until then, rules the first cell
+// out by it.
 #[test]
-fn two_workers_go_beside_each_other(rt: HostRuntime) -> Result<(), Fail> {
-    let sc = two_cells(rt.alloc())?;
+fn two_workers_go_beside_each_other_and_heed_what_they_find(rt: HostRuntime) -> Result<(), Fail> {
     let gate = Relay::new(1);
-    let found = found_by(&rt, &sc, 2, &gate)?;
+    assert!(rt; finds_the_least(&rt, 2, &gate)?);
     assert!(rt; was_kept(&gate));
-    assert!(rt; is_standing(&found.best, 12, &[0, 0]));
-    assert!(rt; is_even_tree(found.tree.nodes()));
-    Ok(())
-}
-
-// Worker 1 steals the third cell and finds the best path. Worker 0, held until then, rules the first cell out by it.
-#[test]
-fn a_worker_heeds_what_another_found(rt: HostRuntime) -> Result<(), Fail> {
-    let sc = four_cells(rt.alloc())?;
     let gate = Relay::new(3);
-    let found = found_by(&rt, &sc, 2, &gate)?;
+    assert!(rt; finds_the_better(&rt, 2, &gate, &[&UNDER_THE_BEST])?);
     assert!(rt; was_kept(&gate));
-    assert!(rt; is_standing(&found.best, 6, &[2, 3]));
-    assert!(rt; is_tree_of_the_best(found.tree.nodes()));
     Ok(())
 }
 
