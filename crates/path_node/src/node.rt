@@ -1,6 +1,7 @@
 //! Closing a prefix.
 
 ghost use Rattle.std.specs.Prelude.{◌≡◌, ◌<◌, ◌≤◌, ◌+◌, ℕ, length, IfOk, IsFalse};
+ghost use Rattle.search_model.specs.Problem.{Problem};
 ghost use Rattle.search_model.specs.Legal.{IsLegal, moves_after};
 ghost use Rattle.search_model.specs.Bounds.{IsRate, mean_of};
 ghost use Rattle.search_model.specs.Reference.{IsReference};
@@ -39,12 +40,10 @@ impl Model for Scratch {
     ghost view = { λ s. record { trail = s.trail; mean = s.mean; tangent = s.tangent; edge = s.edge } };
 }
 
-/// Whether the looks of a scenario have one rate, which the tables of its tangent bound keep.
-fn has_rate(tangent: &Tangent, sc: &Scenario) -> bool
-    requires { IsTangentFor sc.now tangent.now }
-    ensures { TellsRate sc.now result }
+/// Whether the looks of the scenario that the tables of a tangent bound were made for have one rate, which they keep.
+fn has_rate(tangent: &Tangent) -> bool
+    ensures { (p : Problem) → IsTangentFor p tangent.now → TellsRate p result }
 {
-    let _of = sc;
     tangent.rate().is_some()
 }
 
@@ -164,7 +163,7 @@ fn close_shorter(scratch: &mut Scratch, sc: &Scenario, prefix: &Path, standing: 
         return Kind::Mean(mean);
     }
     let reference = reference_of(&scratch.mean, sc, prefix);
-    if has_rate(&scratch.tangent, sc) {
+    if has_rate(&scratch.tangent) {
         close_by_tangent(scratch, sc, prefix, &reference, standing)
     } else {
         close_by_edge(scratch, sc, prefix, &reference, standing)

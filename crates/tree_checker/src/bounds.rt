@@ -96,7 +96,7 @@ fn tangent_reason_at(
     ensures reason { result ≡ first_failed (tangent_tests sc.now standing.now prefix.now bound reference.now (one_rate_of sc.now)) }
     ensures made { AreMadeFor sc.now tables.new }
 {
-    let Some(rate) = tables.one_rate(sc) else {
+    let Some(rate) = tables.one_rate() else {
         return Some(Why::NoOneRate);
     };
     if !is_path_from(sc, prefix, reference) {

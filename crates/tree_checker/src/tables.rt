@@ -1,6 +1,7 @@
 //! The tables of the bounds.
 
 ghost use Rattle.std.specs.Prelude.{◌≡◌, ◌<◌, length, take, IfOk};
+ghost use Rattle.search_model.specs.Problem.{Problem};
 ghost use Rattle.search_model.specs.Legal.{IsLegal, IsPath};
 ghost use Rattle.search_model.specs.Tracks.{value_of};
 ghost use Rattle.search_model.specs.Bounds.{mean_of, IsRate, tangent_of};
@@ -63,12 +64,11 @@ impl BoundTables {
         self.mean.bound_after(sc, ahead, prefix)
     }
 
-    /// The rate of all looks, where they have one. It was found when the tables were made.
-    pub(crate) fn one_rate(&self, sc: &Scenario) -> Option<u32>
-        requires { AreMadeFor sc.now self.now }
-        ensures { result ≡ one_rate_of sc.now }
+    /// The rate of all looks of the scenario that the tables were made for, where they have one. It was found when they
+    /// were made.
+    pub(crate) fn one_rate(&self) -> Option<u32>
+        ensures { (p : Problem) → AreMadeFor p self.now → result ≡ one_rate_of p }
     {
-        let _of = sc;
         self.tangent.rate()
     }
 

@@ -2,4 +2,4 @@ use Rattle.path_node.proofs.Rates.{rate_told}
 use Rattle.path_node.proofs.node.has_rate.Goals as goal
 
 pub returns : goal.returns
-returns c = rw (c.is_some.ensures, c.rate.ensures) (rate_told c.args.sc.now c.args.tangent.now.rate c.requires.rate)
+returns c = λ p made. rw (c.is_some.ensures, c.rate.ensures) (rate_told p c.args.tangent.now.rate made.rate)

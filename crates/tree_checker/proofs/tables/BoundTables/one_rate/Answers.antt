@@ -3,4 +3,4 @@ use Rattle.tree_checker.proofs.Rates.{kept_rate_is_found}
 use Rattle.tree_checker.proofs.tables.BoundTables.one_rate.Goals as goal
 
 pub returns : goal.returns
-returns c = c.rate.ensures ∙ kept_rate_is_found c.args.sc.now c.args.self.now.tangent.rate c.requires.tangent_for.rate
+returns c = λ p made. c.rate.ensures ∙ kept_rate_is_found p c.args.self.now.tangent.rate made.tangent_for.rate
