@@ -27,7 +27,7 @@ position-past p xs told =
       | inr past ↦ past
     ]
 
--- and is the element that is found
+-- the first element that passes is the one that is found
 pub find-first : {X : Type 0} (p : X → Bool) (xs : List X) (i : ℕ) (d : X) → i < length xs → ((k : ℕ) → k < i → p (get_or xs k d) ≡ false) → p (get_or xs i d) ≡ true → find p xs ≡ Some (get_or xs i d)
 find-first p xs i d lt before here =
     let at : position_or_len p xs ≡ i = position_or_len_is p xs i d (omega arith) before (λ _. here) in
