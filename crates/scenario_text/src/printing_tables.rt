@@ -570,9 +570,10 @@ end
 =the same
 ";
 
-/// Texts with what their scenarios hold, as `values` in `tests` tells it. In order: a row of one period is in force there
-/// alone; rows stand in any order; a cell and a position may have one name, also that of a line; the widest scenarios of
-/// both versions; a grid of 200 cells.
+/// Texts with what their scenarios hold. Behind the counts stand the looks of two periods, from two positions of two
+/// cells, and the steps after them; `-` where there is no such cell or position. In order: a row of one period is in force
+/// there alone; rows stand in any order; a cell and a position may have one name, also that of a line; the widest
+/// scenarios of both versions; a grid of 200 cells.
 pub const VALUES: &[u8] = b"=@scenario 2
 horizon 2
 parts 1 2 2
@@ -589,8 +590,10 @@ lookin 2 w b 0
 driftin 1 a a 2
 end
 =cells 2, positions 1, start 0, weight 8
-looks [Some(1), Some(1), None, None] [Some(2), Some(0), None, None]
-steps [Some(2), Some(0), Some(0), Some(2)] [Some(1), Some(1), Some(0), Some(2)]
+ 1 1 - -
+ 2 0 - -
+ 2 0 0 2
+ 1 1 0 2
 @scenario 2
 horizon 2
 parts 1 2 2
@@ -607,8 +610,10 @@ drift b b 2
 moves w w
 drift a b 1 a 1
 end=cells 2, positions 1, start 0, weight 8
-looks [Some(2), Some(0), None, None] [Some(2), Some(2), None, None]
-steps [Some(1), Some(1), Some(1), Some(1)] [Some(1), Some(1), Some(0), Some(2)]
+ 2 0 - -
+ 2 2 - -
+ 1 1 1 1
+ 1 1 0 2
 @scenario 2
 horizon 1
 parts 1 1 2
@@ -624,8 +629,10 @@ look end end 0
 look -
 end
 =cells 1, positions 2, start 1, weight 2
-looks [Some(2), None, Some(0), None] [Some(2), None, Some(0), None]
-steps [Some(1), None, None, None] [Some(1), None, None, None]
+ 2 - 0 -
+ 2 - 0 -
+ 1 - - -
+ 1 - - -
 @scenario 1
 horizon 6
 parts 4 1024 1024
@@ -637,8 +644,10 @@ drift a a 1024
 rate 512
 end
 =cells 1, positions 1, start 0, weight 5192296858534827628530496329220096
-looks [Some(512), None, None, None] [Some(512), None, None, None]
-steps [Some(1024), None, None, None] [Some(1024), None, None, None]
+ 512 - - -
+ 512 - - -
+ 1024 - - -
+ 1024 - - -
 @scenario 2
 horizon 6
 parts 4 1024 1024
@@ -651,8 +660,10 @@ drift a a 1024
 look a a 512
 end
 =cells 1, positions 1, start 0, weight 5192296858534827628530496329220096
-looks [Some(512), None, None, None] [Some(512), None, None, None]
-steps [Some(1024), None, None, None] [Some(1024), None, None, None]
+ 512 - - -
+ 512 - - -
+ 1024 - - -
+ 1024 - - -
 @scenario 1
 horizon 1
 parts 1 1 1
@@ -663,8 +674,10 @@ spread 0
 rate 1
 end
 =cells 200, positions 200, start 0, weight 1
-looks [Some(1), Some(1), Some(1), Some(1)] [Some(1), Some(1), Some(1), Some(1)]
-steps [Some(1), Some(0), Some(0), Some(1)] [Some(1), Some(0), Some(0), Some(1)]
+ 1 1 1 1
+ 1 1 1 1
+ 1 0 0 1
+ 1 0 0 1
 ";
 
 /// A text with what the scenario at its front holds, and how many bytes that takes: a grid of 49 cells before a plan.
@@ -678,5 +691,5 @@ spread 4
 rate 3
 end
 plan 1
-=cells 49, weight 128000000000000000, bytes 88
+=bytes 88, cells 49, positions 49, start 0, weight 128000000000000000
 ";

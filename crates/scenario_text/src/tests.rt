@@ -28,14 +28,18 @@ enum Asked {
 }
 
 fn joined(alloc: Global, head: &[u8], rest: &[u8]) -> Result<Vec<u8>, Fail> {
-    let mut text = head.to_vec(alloc)?;
+    let mut text = Vec::new(alloc);
+    text.extend_from_slice(head)?;
     text.extend_from_slice(rest)?;
     Ok(text)
 }
 
 /// What stands on both sides of `=`.
 fn sides(piece: &[u8]) -> (&[u8], &[u8]) {
-    cut(piece, b'=').unwrap_or((piece, piece))
+    match cut(piece, b'=') {
+        Some(sides) => sides,
+        None => (piece, piece),
+    }
 }
 
 /// How many rows a table has, where each is answered as it says; else the first that isn't.
@@ -96,10 +100,11 @@ fn fault(alloc: Global, text: &[u8]) -> Result<Vec<u8>, Fail> {
 }
 
 fn read(alloc: Global, text: &[u8]) -> Result<Scenario, Fail> {
-    match read_scenario_alone(alloc, text) {
-        Ok(sc) => Ok(sc),
-        Err(_) => Err(Fail::new("a scenario's text was not read")),
-    }
+    Ok(read_scenario_alone(alloc, text)?)
+}
+
+fn read_front(alloc: Global, text: &[u8]) -> Result<(Scenario, usize), Fail> {
+    Ok(read_scenario(alloc, text)?)
 }
 
 fn canonical(alloc: Global, text: &[u8]) -> Result<Vec<u8>, Fail> {
@@ -164,35 +169,49 @@ fn agree(one: &Scenario, other: &Scenario) -> bool {
         && steps(one, 2) == steps(other, 2)
 }
 
-/// What a scenario holds, with its first two periods.
-fn values(alloc: Global, text: &[u8]) -> Result<Vec<u8>, Fail> {
-    let sc = read(alloc, text)?;
+/// What a row of a period holds, `-` where there is no such cell or position.
+fn push_parts(told: &mut Vec<u8>, parts: [Option<u32>; 4]) -> Result<(), Fail> {
+    for part in parts {
+        told.push(b' ')?;
+        match part {
+            Some(part) => push_u128(told, u128::from(part))?,
+            None => told.push(b'-')?,
+        }
+    }
+    told.push(b'\n')?;
+    Ok(())
+}
+
+/// The looks of a scenario's first two periods, and their steps.
+fn push_periods(told: &mut Vec<u8>, sc: &Scenario) -> Result<(), Fail> {
+    push_parts(told, looks(sc, 1))?;
+    push_parts(told, looks(sc, 2))?;
+    push_parts(told, steps(sc, 1))?;
+    push_parts(told, steps(sc, 2))
+}
+
+fn counts(alloc: Global, sc: &Scenario) -> Result<Vec<u8>, Fail> {
+    let (cells, positions, start, weight) = (sc.cells(), sc.positions(), sc.start(), sc.weight());
     let told = format!(in alloc;
-        "cells {}, positions {}, start {}, weight {}\nlooks {:?} {:?}\nsteps {:?} {:?}\n",
-        sc.cells(),
-        sc.positions(),
-        sc.start(),
-        sc.weight(),
-        looks(&sc, 1),
-        looks(&sc, 2),
-        steps(&sc, 1),
-        steps(&sc, 2)
+        "cells {cells}, positions {positions}, start {start}, weight {weight}\n"
     )?;
     Ok(told.into_bytes())
 }
 
-/// What the scenario at the front of a text holds, and how many bytes that takes.
+/// What a scenario holds.
+fn values(alloc: Global, text: &[u8]) -> Result<Vec<u8>, Fail> {
+    let sc = read(alloc, text)?;
+    let mut told = counts(alloc, &sc)?;
+    push_periods(&mut told, &sc)?;
+    Ok(told)
+}
+
+/// How many bytes the scenario at the front takes, and what it holds.
 fn front(alloc: Global, text: &[u8]) -> Result<Vec<u8>, Fail> {
-    let (sc, bytes) = match read_scenario(alloc, text) {
-        Ok(front) => front,
-        Err(_) => return Err(Fail::new("no scenario was read at the front")),
-    };
-    let told = format!(in alloc;
-        "cells {}, weight {}, bytes {bytes}\n",
-        sc.cells(),
-        sc.weight()
-    )?;
-    Ok(told.into_bytes())
+    let (sc, bytes) = read_front(alloc, text)?;
+    let mut told = format!(in alloc; "bytes {bytes}, ")?.into_bytes();
+    told.extend_from_slice(&counts(alloc, &sc)?)?;
+    Ok(told)
 }
 
 #[test]
@@ -221,7 +240,7 @@ fn scenarios_are_read(rt: HostRuntime) -> Result<(), Fail> {
 
 /// A head, and behind it a line for each number below 200, with this word.
 fn numbered(alloc: Global, head: &[u8], word: &[u8]) -> Result<Vec<u8>, Fail> {
-    let mut text = head.to_vec(alloc)?;
+    let mut text = joined(alloc, head, b"")?;
     for n in 0..200u32 {
         text.extend_from_slice(word)?;
         push_u128(&mut text, u128::from(n))?;
