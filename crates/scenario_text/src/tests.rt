@@ -104,7 +104,10 @@ fn read(alloc: Global, text: &[u8]) -> Result<Scenario, Fail> {
 }
 
 fn read_front(alloc: Global, text: &[u8]) -> Result<(Scenario, usize), Fail> {
-    Ok(read_scenario(alloc, text)?)
+    match read_scenario(alloc, text) {
+        Ok(front) => Ok(front),
+        Err(_) => Err(Fail::new("no scenario was read at the front")),
+    }
 }
 
 fn canonical(alloc: Global, text: &[u8]) -> Result<Vec<u8>, Fail> {
