@@ -7,6 +7,8 @@ mod cells;
 mod digits;
 mod draft;
 mod drifts;
+#[cfg(test)]
+mod fault_tables;
 mod kind;
 mod laws;
 mod line;
@@ -14,12 +16,10 @@ mod number_field;
 mod pair;
 mod pairs;
 mod period_rows;
-#[cfg(test)]
-mod period_tests;
 mod pieces;
 mod printing;
 #[cfg(test)]
-mod printing_tests;
+mod printing_tables;
 mod reading;
 mod rows;
 mod scenarios;
