@@ -7,8 +7,6 @@ mod cells;
 mod digits;
 mod draft;
 mod drifts;
-#[cfg(test)]
-mod fault_tables;
 mod kind;
 mod laws;
 mod line;
@@ -18,8 +16,6 @@ mod pairs;
 mod period_rows;
 mod pieces;
 mod printing;
-#[cfg(test)]
-mod printing_tables;
 mod reading;
 mod rows;
 mod scenarios;
@@ -29,8 +25,6 @@ mod stop;
 mod sweeps;
 mod taking;
 mod taking_line;
-#[cfg(test)]
-mod tests;
 
 pub use kind::{TextFault, TextKind, text_kind_name};
 pub use laws::{

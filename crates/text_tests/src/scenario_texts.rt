@@ -3,9 +3,9 @@
 //! A table is a head and rows. Each row begins with `@`, and is a text, `=`, and what is answered of it; without `=` that
 //! is the text again. The head is what all texts begin with, `=`, and what all answers begin with, in the same way.
 
-use super::*;
-use crate::fault_tables::FAULTS;
-use crate::printing_tables::{CANONICAL, FRONT, READ_BACK, VALUES};
+use scenario_text::{TextKind, TextStop, print_scenario, read_scenario, read_scenario_alone, text_kind_name};
+use crate::scenario_faults::FAULTS;
+use crate::scenario_prints::{CANONICAL, FRONT, READ_BACK, VALUES};
 use exact_parts::push_u128;
 use search_model::Scenario;
 use std::alloc::Global;
