@@ -1,12 +1,44 @@
 //! A look and a step of the drift, over plain lists of masses.
 
-ghost use Rattle.std.specs.Prelude.{◌≡◌, ◌<◌, ◌≤◌, ◌+◌, ◌*◌, ◌^◌, ℕ, length, slice_index, sum_by, All};
+ghost use Rattle.std.specs.Prelude.{◌≡◌, ◌<◌, ◌≤◌, ◌+◌, ◌*◌, ◌^◌, ◌∷◌, [], ℕ, length, slice_index, sum_by, All};
 ghost use Rattle.std.specs.List.{range_with_len};
 ghost use Rattle.drift_chain.specs.DriftRows.{part_in, part_of, drift_cells};
-ghost use Rattle.sweep_table.specs.LookParts.{factor_of, positions_of, cells_of};
+ghost use Rattle.sweep_table.specs.LookParts.{factor_in, factor_of, misses, positions_of, cells_of};
 
 use drift_chain::{Drift, DriftPart};
 use sweep_table::Sweep;
+
+/// Multiplies each mass by the factor of a look from position `a` in period `t`, which is looked for in its row.
+#[inline(never)]
+fn weaken_by_row(masses: &mut [u128], sweep: &Sweep, t: u32, a: u8)
+    requires cells { length masses.old ≡ cells_of sweep.now }
+    requires first { 1 ≤ t }
+    requires last { t ≤ 32 }
+    requires position { a < positions_of sweep.now }
+    requires fits { (c : ℕ) → c < length masses.old → slice_index masses.old c * factor_of sweep.now t a c < 2 ^ 127 }
+    ensures each { (c : ℕ) → c < length masses.old → slice_index masses.new c ≡ slice_index masses.old c * factor_of sweep.now t a c }
+{
+    for c in 0..sweep.cells() {
+        masses[c as usize] *= u128::from(sweep.factor(t, a, c));
+    }
+}
+
+/// The factor in cell `c` of a look that covers cell `a` alone, and misses a part of the whole there.
+fn own_factor(whole: u32, a: u8, part: u32, c: usize) -> u32
+    ensures { result ≡ factor_in whole (misses a part ∷ []) c }
+{
+    if c == usize::from(a) { part } else { whole }
+}
+
+/// Multiplies each mass by the factor of a look that covers cell `a` alone, and misses a part of the whole there.
+fn weaken_own(masses: &mut [u128], whole: u32, a: u8, part: u32)
+    requires fits { (c : ℕ) → c < length masses.old → slice_index masses.old c * factor_in whole (misses a part ∷ []) c < 2 ^ 127 }
+    ensures each { (c : ℕ) → c < length masses.old → slice_index masses.new c ≡ slice_index masses.old c * factor_in whole (misses a part ∷ []) c }
+{
+    for c in 0..masses.len() {
+        masses[c] *= u128::from(own_factor(whole, a, part, c));
+    }
+}
 
 /// Multiplies each mass by the factor of a look from position `a` in period `t`.
 pub fn weaken(masses: &mut [u128], sweep: &Sweep, t: u32, a: u8)
@@ -17,8 +49,9 @@ pub fn weaken(masses: &mut [u128], sweep: &Sweep, t: u32, a: u8)
     requires fits { (c : ℕ) → c < length masses.old → slice_index masses.old c * factor_of sweep.now t a c < 2 ^ 127 }
     ensures each { (c : ℕ) → c < length masses.old → slice_index masses.new c ≡ slice_index masses.old c * factor_of sweep.now t a c }
 {
-    for c in 0..sweep.cells() {
-        masses[c as usize] *= u128::from(sweep.factor(t, a, c));
+    match sweep.own_part(a) {
+        Some(part) => weaken_own(masses, sweep.denominator(), a, part),
+        None => weaken_by_row(masses, sweep, t, a),
     }
 }
 

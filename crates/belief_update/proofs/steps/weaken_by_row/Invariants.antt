@@ -1,6 +1,6 @@
 use Rattle.std.proofs.Common.{◌≡◌, ◌<◌, ◌≤◌, ◌*◌, ℕ, slice_index}
 use Rattle.sweep_table.specs.LookParts.{factor_of}
-use Rattle.belief_update.proofs.steps.weaken.Given as goal
+use Rattle.belief_update.proofs.steps.weaken_by_row.Given as goal
 
 abbrev pub invariant-loop-c : goal.invariant-loop-c
 invariant-loop-c l = record {
