@@ -2,9 +2,9 @@ ghost use Rattle.std.specs.Prelude.{◌≡◌, ◌≤◌, [], IfOk};
 ghost use Rattle.belief_update.specs.Trails.{IsTrailOf};
 ghost use Rattle.edge_bound.specs.Edges.{IsMadeFor};
 
-use edge_bound::Edge;
 use belief_update::Trail;
 use drift_chain::{Drift, DriftChange, DriftPart};
+use edge_bound::Edge;
 use exact_parts::NoMemory;
 use search_grid::Grid;
 use search_model::{Name, Parts, Path, Scenario};

@@ -1,8 +1,8 @@
 ghost use Rattle.std.specs.Prelude.{◌≡◌};
 ghost use Rattle.mean_bound.specs.Means.{IsMadeFor};
 
-use mean_bound::Mean;
 use drift_chain::{Drift, DriftPart};
+use mean_bound::Mean;
 use search_grid::Grid;
 use search_model::{Name, Parts, Path, Scenario};
 use std::alloc::{AllocError, Global};

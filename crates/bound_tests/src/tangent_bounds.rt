@@ -1,12 +1,12 @@
 ghost use Rattle.tangent_bound.specs.Room.{IsMadeFor};
 
-use tangent_bound::Tangent;
 use drift_chain::{Drift, DriftPart};
 use search_grid::Grid;
 use search_model::{Name, Parts, Path, Scenario};
 use std::alloc::{AllocError, Global};
 use std::test::Fail;
 use sweep_table::{LookChange, LookPart, Sweep};
+use tangent_bound::Tangent;
 use worked_scenarios::{two_cells, waiting_longer};
 
 // Holds of what may be shared between threads and moved to one.

@@ -1,6 +1,6 @@
 use byte_ports::{
-    MemSink, MemSource, PlainSink, PlainSource, ReadStop, Sink, Source, StdErr, StdIn, StdOut, WriteStop,
-    read_all, write_all,
+    MemSink, MemSource, PlainSink, PlainSource, ReadStop, Sink, Source, StdErr, StdIn, StdOut,
+    WriteStop, read_all, write_all,
 };
 use std::test::Fail;
 

@@ -1,7 +1,7 @@
 //! Texts that are cut from their front.
 
-use text_rows::{after_field, cut, cut_line, first_fields, skip_blanks};
 use std::test::Fail;
+use text_rows::{after_field, cut, cut_line, first_fields, skip_blanks};
 
 #[test]
 fn lines_and_fields_from_the_front(rt: HostRuntime) -> Result<(), Fail> {

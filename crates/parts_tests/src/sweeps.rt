@@ -1,8 +1,8 @@
 ghost use Rattle.std.specs.Prelude.{◌≤◌};
 
-use sweep_table::{LookChange, LookChangeFault, LookFault, LookPart, Sweep, SweepFault};
 use std::alloc::{AllocError, Global};
 use std::test::Fail;
+use sweep_table::{LookChange, LookChangeFault, LookFault, LookPart, Sweep, SweepFault};
 
 // Holds of what may be shared between threads and moved to one.
 fn crosses_threads<T: Send + Sync + Drop>(_value: T) {}

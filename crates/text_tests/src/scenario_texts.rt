@@ -3,10 +3,12 @@
 //! A table is a head and rows. Each row begins with `@`, and is a text, `=`, and what is answered of it; without `=` that
 //! is the text again. The head is what all texts begin with, `=`, and what all answers begin with, in the same way.
 
-use scenario_text::{TextKind, TextStop, print_scenario, read_scenario, read_scenario_alone, text_kind_name};
 use crate::scenario_faults::FAULTS;
 use crate::scenario_prints::{CANONICAL, FRONT, READ_BACK, VALUES};
 use exact_parts::push_u128;
+use scenario_text::{
+    TextKind, TextStop, print_scenario, read_scenario, read_scenario_alone, text_kind_name,
+};
 use search_model::Scenario;
 use std::alloc::Global;
 use std::test::Fail;

@@ -3,9 +3,9 @@ ghost use Rattle.bound_tree.specs.Close.{IsExact};
 ghost use Rattle.search_core.specs.Balance.{IsBalanced};
 ghost use Rattle.search_core.specs.Steps.{IsAllowed};
 
-use search_core::{CoreEvent, CoreFault, CoreState};
 use bound_tree::{Kind, TreeNode};
 use drift_chain::{Drift, DriftPart};
+use search_core::{CoreEvent, CoreFault, CoreState};
 use search_grid::Grid;
 use search_model::{Name, Parts, Path, Scenario, Standing, value};
 use std::alloc::Global;

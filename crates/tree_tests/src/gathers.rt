@@ -2,7 +2,6 @@ ghost use Rattle.std.specs.Prelude.{IfSome};
 ghost use Rattle.bound_tree.specs.Close.{IsExact};
 ghost use Rattle.search_core.specs.Balance.{IsBalanced};
 
-use tree_gather::gather;
 use bound_tree::{BoundTree, Kind, TreeNode};
 use drift_chain::{Drift, DriftPart};
 use search_core::{CoreEvent, CoreState};
@@ -11,6 +10,7 @@ use search_model::{Name, Parts, Path, Scenario, Standing, value};
 use std::alloc::{AllocError, Global};
 use std::test::Fail;
 use sweep_table::Sweep;
+use tree_gather::gather;
 
 // The target stays where it is.
 fn stay(alloc: Global, cell: u8) -> Result<Vec<DriftPart>, AllocError> {

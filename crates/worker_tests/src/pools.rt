@@ -1,10 +1,10 @@
 ghost use Rattle.std.specs.Prelude.{◌≡◌, ◌≢◌, ◌<◌, length};
 ghost use Rattle.steal_pool.specs.Pools.{IsWhole};
 
-use steal_pool::{Kit, Pool, Theft, sent_kit, settle};
 use std::test::Fail;
 use std::thread;
 use std::thread::Threads;
+use steal_pool::{Kit, Pool, Theft, sent_kit, settle};
 
 fn put_at(kits: &mut Vec<Kit<u32>>, place: usize, task: u32) -> Result<(), u32>
     requires whole { IsWhole kits.old.items }

@@ -1,8 +1,8 @@
 ghost use Rattle.std.specs.Prelude.{◌≡◌, ◌<◌, ◌≤◌, ℕ, All, length, slice_index_or};
 ghost use Rattle.node_tickets.specs.Seats.{IsSeatOf, KeepsSeat, AreAllSeats, MayDraw};
 
-use node_tickets::{Draw, TicketSeat, Tickets};
 use exact_parts::NoMemory;
+use node_tickets::{Draw, TicketSeat, Tickets};
 use std::alloc::Global;
 use std::test::Fail;
 use std::thread;
