@@ -2,7 +2,7 @@
 
 ghost use Rattle.std.specs.Prelude.{◌≤◌};
 
-use crate::tests::{Outcome, TWO_CELLS, TWO_CELLS_PLAN, TWO_CELLS_PLAN_2, ended, words_of};
+use crate::trials::{Outcome, ended, text_of, words_of};
 use crate::*;
 use byte_ports::{MemSink, MemSource, Source};
 use std::alloc::Global;
@@ -18,7 +18,7 @@ fn checked<R: AllocGlobal + Threads + Wait + Sync>(
 ) -> Result<Outcome, Fail>
     requires { 1 ≤ most }
 {
-    let mut input = TWO_CELLS.as_bytes().to_vec(rt.alloc())?;
+    let mut input = text_of(rt.alloc(), "@two_cells")?;
     input.extend_from_slice(plan)?;
     ended(rt, "check", input, most, &[], &[])
 }
@@ -46,8 +46,9 @@ fn says<R: AllocGlobal + Threads + Wait + Sync>(
 
 /// The plan of two cells with one line changed, which counts from 1.
 fn changed(alloc: Global, number: usize, line: &[u8]) -> Result<Vec<u8>, Fail> {
+    let plan = text_of(alloc, "@two_cells_plan")?;
     let mut text = Vec::new(alloc);
-    for (i, old) in TWO_CELLS_PLAN.as_bytes().split(|c| *c == b'\n').enumerate() {
+    for (i, old) in plan.split(|c| *c == b'\n').enumerate() {
         if i > 0 {
             text.push(b'\n')?;
         }
@@ -75,66 +76,88 @@ fn long_path(alloc: Global) -> Result<Vec<u8>, Fail> {
     Ok(line)
 }
 
+// The plan of two cells with the line of a number changed, and what a check of it says.
+const CHANGES: [(usize, &str, &str); 16] = [
+    (7, "W 12 0 0", "accepted"),
+    (1, "plan 1\r", "bad plan: line 1 BadLine"),
+    (2, "path a x", "bad plan: line 2 UnknownName"),
+    (2, "path a a a", "rejected 2 PathIllegal"),
+    (4, "nodes 1048577", "bad plan: line 4 TooManyNodes"),
+    (4, "nodes 4", "bad plan: line 9 WrongCount"),
+    (4, "nodes 6", "bad plan: line 10 WrongCount"),
+    (5, "B ", "bad plan: line 5 BadLine"),
+    (5, "M 16", "rejected 5 NotCut"),
+    (5, "M 11", "rejected 5 BoundWrong"),
+    (6, "W 8 0", "rejected 6 WholeWrong"),
+    (
+        7,
+        "W 340282366920938463463374607431768211456 0 0",
+        "bad plan: line 7 BadNumber",
+    ),
+    (7, "W 012 0 0", "bad plan: line 7 BadNumber"),
+    (7, "W 12 0 2", "bad plan: line 7 BadNumber"),
+    (7, "W 12 0 0 0", "bad plan: line 7 BadLine"),
+    (9, "T 12 0 0", "rejected 9 NotChild"),
+];
+
+// Further plans of two cells, and what a check says.
+const PLANS: [(&str, &str); 4] = [
+    (
+        "plan 1 | path a a | chance 12 16 | nodes 0 | end",
+        "rejected 5 MissingChild",
+    ),
+    ("@two_cells_plan_2", "accepted"),
+    (
+        "plan 2 | path a a | chance 12 16 | nodes 6 | B | B | W 12 | W 12 | M 12 | W 12 | end",
+        "bad plan: line 10 NoPlace",
+    ),
+    (
+        "plan 2 | path a a | chance 12 16 | nodes 0 | end",
+        "bad plan: line 5 StillOpen",
+    ),
+];
+
+/// Whether a check of the plan of two cells with this line changed says this.
+fn change_says<R: AllocGlobal + Threads + Wait + Sync>(
+    rt: &R,
+    number: usize,
+    line: &[u8],
+    said: &str,
+) -> Result<bool, Fail> {
+    says(
+        rt,
+        &changed(rt.alloc(), number, line)?,
+        &text_of(rt.alloc(), said)?,
+    )
+}
+
 #[test]
 fn plans_with_a_line_changed(rt: HostRuntime) -> Result<(), Fail> {
-    let alloc = rt.alloc();
-    let path = long_path(alloc)?;
-    let line = long_line(alloc)?;
-    let rows: [(usize, &[u8], &str); 18] = [
-        (7, b"W 12 0 0", "accepted\n"),
-        (1, b"plan 1\r", "bad plan: line 1 BadLine\n"),
-        (2, b"path a x", "bad plan: line 2 UnknownName\n"),
-        (2, &path, "bad plan: line 2 BadLine\n"),
-        (2, b"path a a a", "rejected 2 PathIllegal\n"),
-        (4, b"nodes 1048577", "bad plan: line 4 TooManyNodes\n"),
-        (4, b"nodes 4", "bad plan: line 9 WrongCount\n"),
-        (4, b"nodes 6", "bad plan: line 10 WrongCount\n"),
-        (5, b"B ", "bad plan: line 5 BadLine\n"),
-        (5, b"M 16", "rejected 5 NotCut\n"),
-        (5, b"M 11", "rejected 5 BoundWrong\n"),
-        (6, b"W 8 0", "rejected 6 WholeWrong\n"),
-        (
-            7,
-            b"W 340282366920938463463374607431768211456 0 0",
-            "bad plan: line 7 BadNumber\n",
-        ),
-        (7, &line, "bad plan: line 7 BadNumber\n"),
-        (7, b"W 012 0 0", "bad plan: line 7 BadNumber\n"),
-        (7, b"W 12 0 2", "bad plan: line 7 BadNumber\n"),
-        (7, b"W 12 0 0 0", "bad plan: line 7 BadLine\n"),
-        (9, b"T 12 0 0", "rejected 9 NotChild\n"),
-    ];
-    for (number, line, said) in rows {
-        let plan = changed(alloc, number, line)?;
-        assert!(rt; says(&rt, &plan, said.as_bytes())?, "{said}");
+    for (number, line, said) in CHANGES {
+        assert!(rt; change_says(&rt, number, line.as_bytes(), said)?, "{said}");
     }
-    let none = b"plan 1\npath a a\nchance 12 16\nnodes 0\nend\n";
-    assert!(rt; says(&rt, none, b"rejected 5 MissingChild\n")?);
+    let path = long_path(rt.alloc())?;
+    assert!(rt; change_says(&rt, 2, &path, "bad plan: line 2 BadLine")?);
+    let line = long_line(rt.alloc())?;
+    assert!(rt; change_says(&rt, 7, &line, "bad plan: line 7 BadNumber")?);
     Ok(())
 }
 
 #[test]
-fn plans_of_version_2(rt: HostRuntime) -> Result<(), Fail> {
-    let rows: [(&[u8], &[u8]); 3] = [
-        (TWO_CELLS_PLAN_2.as_bytes(), b"accepted\n"),
-        (
-            b"plan 2\npath a a\nchance 12 16\nnodes 6\nB\nB\nW 12\nW 12\nM 12\nW 12\nend\n",
-            b"bad plan: line 10 NoPlace\n",
-        ),
-        (
-            b"plan 2\npath a a\nchance 12 16\nnodes 0\nend\n",
-            b"bad plan: line 5 StillOpen\n",
-        ),
-    ];
-    for (plan, said) in rows {
-        assert!(rt; says(&rt, plan, said)?);
+fn further_plans(rt: HostRuntime) -> Result<(), Fail> {
+    let alloc = rt.alloc();
+    for (plan, said) in PLANS {
+        assert!(rt;
+            says(&rt, &text_of(alloc, plan)?, &text_of(alloc, said)?)?,
+            "{said}"
+        );
     }
     Ok(())
 }
 
 #[test]
 fn plans_cut_short(rt: HostRuntime) -> Result<(), Fail> {
-    let plan = TWO_CELLS_PLAN.as_bytes();
+    let plan = text_of(rt.alloc(), "@two_cells_plan")?;
     for len in 0..plan.len() {
         let cut = &plan[..len];
         let feeds = cut.iter().filter(|c| **c == b'\n').count();
@@ -148,38 +171,61 @@ fn plans_cut_short(rt: HostRuntime) -> Result<(), Fail> {
     Ok(())
 }
 
+/// Whether a run over two cells whose read of this number fails writes nothing, and says so.
+fn read_fails<R: AllocGlobal + Threads + Wait + Sync>(
+    rt: &R,
+    words: &str,
+    read: u64,
+) -> Result<bool, Fail> {
+    let input = text_of(rt.alloc(), "@two_cells")?;
+    let end = ended(rt, words, input, 16, &[read], &[])?;
+    Ok(
+        end.status == Status::ReadFault
+            && end.out.is_empty()
+            && end.err.as_slice() == b"read fault\n".as_slice(),
+    )
+}
+
 #[test]
 fn each_read_fails(rt: HostRuntime) -> Result<(), Fail> {
-    let alloc = rt.alloc();
     for read in 1..12 {
-        let input = TWO_CELLS.as_bytes().to_vec(alloc)?;
-        let end = ended(&rt, "plan --workers 1", input, 16, &[read], &[])?;
-        assert_eq!(rt; end.status, Status::ReadFault);
-        assert_eq!(rt; end.out.as_slice(), b"".as_slice());
-        assert_eq!(rt; end.err.as_slice(), b"read fault\n".as_slice());
+        assert!(rt; read_fails(&rt, "plan --workers 1", read)?);
     }
+    assert!(rt; read_fails(&rt, "plan", 2)?);
     // Reading goes before the fault of the scenario.
     let bad =
-        b"scenario 1\nhorizon 2\nparts 2 2 2\ncell a\ncell b\nstart c\nfirst a 1 b 1\nmoves a a b\nmoves b a b\ndrift a a 1 b 1\ndrift b a 1 b 1\noverlook a 0\noverlook b 0\nend\n";
-    let mut input = bad.to_vec(alloc)?;
-    input.extend_from_slice(TWO_CELLS_PLAN.as_bytes())?;
+        "scenario 1 | horizon 2 | parts 2 2 2 | cell a | cell b | start c | first a 1 b 1 | moves a a b | moves b a b | drift a a 1 b 1 | drift b a 1 b 1 | overlook a 0 | overlook b 0 | end | @two_cells_plan";
+    let input = text_of(rt.alloc(), bad)?;
     let end = ended(&rt, "check", input, 16, &[5], &[])?;
     assert_eq!(rt; end.status, Status::ReadFault);
     assert_eq!(rt; end.err.as_slice(), b"read fault\n".as_slice());
     Ok(())
 }
 
+/// Whether a plan of two cells, 16 bytes a write, of which this one fails, has written so many bytes.
+fn write_fails<R: AllocGlobal + Threads + Wait + Sync>(
+    rt: &R,
+    words: &str,
+    written: usize,
+    write: u64,
+) -> Result<bool, Fail> {
+    let alloc = rt.alloc();
+    let end = ended(rt, words, text_of(alloc, "@two_cells")?, 16, &[], &[write])?;
+    let plan = text_of(alloc, "@two_cells_plan_2")?;
+    Ok(
+        end.status == Status::WriteFault
+            && end.out.len() == written
+            && plan.starts_with(&end.out)
+            && end.err.as_slice() == b"write fault\n".as_slice(),
+    )
+}
+
 #[test]
 fn each_write_fails(rt: HostRuntime) -> Result<(), Fail> {
-    let alloc = rt.alloc();
     for (written, write) in [(0, 1), (16, 2), (32, 3), (48, 4)] {
-        let input = TWO_CELLS.as_bytes().to_vec(alloc)?;
-        let end = ended(&rt, "plan --workers 1", input, 16, &[], &[write])?;
-        assert_eq!(rt; end.status, Status::WriteFault);
-        assert_eq!(rt; end.out.len(), written);
-        assert!(rt; TWO_CELLS_PLAN_2.as_bytes().starts_with(&end.out));
-        assert_eq!(rt; end.err.as_slice(), b"write fault\n".as_slice());
+        assert!(rt; write_fails(&rt, "plan --workers 1", written, write)?);
     }
+    assert!(rt; write_fails(&rt, "plan", 32, 3)?);
     Ok(())
 }
 

@@ -14,8 +14,6 @@ mod laws;
 mod line;
 #[cfg(test)]
 mod listed_tests;
-#[cfg(test)]
-mod position_tests;
 mod request;
 mod scenario_end;
 mod serving;
@@ -24,6 +22,8 @@ mod status;
 #[cfg(test)]
 mod tests;
 mod top;
+#[cfg(test)]
+mod trials;
 mod words;
 
 pub use laws::what_is_planned_is_accepted;

@@ -1,0 +1,171 @@
+//! Runs over memory for tests, and texts that are written in one line.
+
+ghost use Rattle.std.specs.Prelude.{◌≤◌};
+
+use crate::*;
+use byte_ports::{MemSink, MemSource};
+use std::alloc::{AllocError, AllocGlobal, Global};
+use std::sync::Wait;
+use std::test::Fail;
+use std::thread::Threads;
+
+// Texts with their names; " | " stands for the end of a line, and so does the end of the row.
+//
+// - `two_cells`: of equal paths the least is best.
+// - `waiting`: three cells in a row; the target waits in the last one, the searcher begins in the middle. `_listed` has a
+//   record for each legal prefix, `_longer` one period more; in `_uneven` looks differ: there is no one rate, and an edge
+//   bound closes what a tangent closed.
+// - `far_cells`: the greedy searcher stays at the near cell; the best path goes to the far ones.
+// - `out_of_reach`: the target stands where the searcher can't go.
+// - `wide`: one cell and the greatest numbers; the whole weight has 113 bits.
+// - `tower`: one position that looks at both cells, and in period 2 finds all that is in the second; in `_staying` the
+//   target stays in the first cell.
+// - `from_the_air`: one cell and two positions; a look from the base covers nothing, and one from the air finds half.
+//
+// A name with `_plan` is a plan of version 1, and with `_plan_2` of version 2, which `plan` writes.
+const TEXTS: &str = "\
+one_cell = scenario 1 | horizon 1 | parts 1 1 2 | cell a | start a | first a 1 | moves a a | drift a a 1 | overlook a 1 | end
+one_cell_plan = plan 1 | path a | chance 1 2 | nodes 2 | B | W 1 0 | end
+one_cell_plan_2 = plan 2 | path a | chance 1 2 | nodes 2 | B | W 1 | end
+two_cells = scenario 1 | horizon 2 | parts 2 2 2 | cell a | cell b | start a | first a 1 b 1 | moves a a b | moves b a b | drift a a 1 b 1 | drift b a 1 b 1 | overlook a 0 | overlook b 0 | end
+two_cells_plan = plan 1 | path a a | chance 12 16 | nodes 5 | B | B 0 | W 12 0 0 | W 12 0 1 | M 12 1 | end
+two_cells_plan_2 = plan 2 | path a a | chance 12 16 | nodes 5 | B | B | W 12 | W 12 | M 12 | end
+waiting = scenario 1 | horizon 2 | parts 1 1 2 | cell a | cell b | cell c | start b | first c 1 | moves a a b | moves b a b c | moves c b c | drift a a 1 | drift b b 1 | drift c c 1 | rate 1 | end
+waiting_plan = plan 1 | path c c | chance 3 4 | nodes 6 | B | M 0 0 | M 2 1 | B 2 | W 2 2 1 | W 3 2 2 | end
+waiting_plan_2 = plan 2 | path c c | chance 3 4 | nodes 6 | B | M 0 | M 2 | B | W 2 | W 3 | end
+waiting_listed = plan 1 | path c c | chance 3 4 | nodes 11 | B | B 0 | W 0 0 0 | W 0 0 1 | B 1 | W 0 1 0 | W 0 1 1 | W 2 1 2 | B 2 | W 2 2 1 | W 3 2 2 | end
+waiting_longer = scenario 1 | horizon 3 | parts 1 1 2 | cell a | cell b | cell c | start b | first c 1 | moves a a b | moves b a b c | moves c b c | drift a a 1 | drift b b 1 | drift c c 1 | rate 1 | end
+waiting_longer_plan = plan 1 | path c c c | chance 7 8 | nodes 8 | B | M 4 0 | T 12 1 1 2 2 | B 2 | M 6 2 1 | B 2 2 | W 6 2 2 1 | W 7 2 2 2 | end
+waiting_longer_plan_2 = plan 2 | path c c c | chance 7 8 | nodes 8 | B | M 4 | T 12 1 2 2 | B | M 6 | B | W 6 | W 7 | end
+waiting_uneven = scenario 1 | horizon 3 | parts 1 1 2 | cell a | cell b | cell c | start b | first c 1 | moves a a b | moves b a b c | moves c b c | drift a a 1 | drift b b 1 | drift c c 1 | overlook a 1 | overlook b 0 | overlook c 1 | end
+waiting_uneven_plan_2 = plan 2 | path c c c | chance 7 8 | nodes 8 | B | M 4 | E 6 | B | M 6 | B | W 6 | W 7 | end
+far_cells = scenario 1 | horizon 2 | parts 9 1 1 | cell a | cell b | cell c | cell d | start b | first a 3 c 2 d 4 | moves a a b | moves b a c | moves c c d | moves d c d | drift a a 1 | drift b b 1 | drift c c 1 | drift d d 1 | rate 0 | end
+far_cells_plan = plan 1 | path c d | chance 6 9 | nodes 7 | B | B 0 | W 3 0 0 | W 3 0 1 | B 2 | W 2 2 2 | W 6 2 3 | end
+far_cells_plan_2 = plan 2 | path c d | chance 6 9 | nodes 7 | B | B | W 3 | W 3 | B | W 2 | W 6 | end
+far_cells_shorter_plan = plan 1 | path c d | chance 6 9 | nodes 5 | B | M 3 0 | B 2 | W 2 2 2 | W 6 2 3 | end
+out_of_reach = scenario 1 | horizon 2 | parts 1 1 2 | cell a | cell b | cell z | start a | first z 1 | moves a a b | moves b a b | moves z z | drift a a 1 | drift b b 1 | drift z z 1 | rate 1 | end
+out_of_reach_plan = plan 1 | path a a | chance 0 4 | nodes 5 | B | B 0 | W 0 0 0 | W 0 0 1 | M 0 1 | end
+out_of_reach_plan_2 = plan 2 | path a a | chance 0 4 | nodes 5 | B | B | W 0 | W 0 | M 0 | end
+wide = scenario 1 | horizon 6 | parts 4 1024 1024 | cell a | start a | first a 4 | moves a a | drift a a 1024 | rate 512 | end
+two_cells_listed = plan 1 | path a a | chance 12 16 | nodes 7 | B | B 0 | W 12 0 0 | W 12 0 1 | B 1 | W 12 1 0 | W 12 1 1 | end
+two_cells_report = report 1 | chance 12 16 75.000 | period 1 a 8 50.000 | period 2 a 12 75.000 | left a 0 0.000 | left b 4 25.000 | end
+two_cells_json = {\"chance\":\"12\",\"left\":[{\"cell\":\"a\",\"mass\":\"0\"},{\"cell\":\"b\",\"mass\":\"4\"}],\"path\":[\"a\",\"a\"],\"periods\":[\"8\",\"12\"],\"weight\":\"16\"}
+far_cells_report = report 1 | chance 6 9 66.666 | period 1 c 2 22.222 | period 2 d 6 66.666 | left a 3 33.333 | left b 0 0.000 | left c 0 0.000 | left d 0 0.000 | end
+seven = scenario 1 | horizon 8 | parts 1 20 10 | grid 7 7 | start r0c0 | first r3c3 1 | spread 4 | rate 3 | end
+usage = usage: osp plan [--workers N] [--nodes N] / check / report [--json yes] / make NUMBER / drill NUMBER [--workers N] / convert
+tower = scenario 2 | horizon 2 | parts 1 2 2 | cell a | cell b | position w | start w | first a 1 | moves w w | drift a a 1 b 1 | drift b b 2 | look w a 1 b 1 | lookin 2 w b 0 | end
+tower_plan = plan 1 | path w w | chance 6 8 | nodes 3 | B | B 0 | W 6 0 0 | end
+tower_plan_2 = plan 2 | path w w | chance 6 8 | nodes 3 | B | B | W 6 | end
+tower_staying = scenario 2 | horizon 2 | parts 1 2 2 | cell a | cell b | position w | start w | first a 1 | moves w w | drift a a 1 b 1 | drift b b 2 | look w a 1 b 1 | lookin 2 w b 0 | driftin 1 a a 2 | end
+tower_staying_plan_2 = plan 2 | path w w | chance 4 8 | nodes 3 | B | B | W 4 | end
+from_the_air = scenario 2 | horizon 1 | parts 1 1 2 | cell a | position base | position air | start base | first a 1 | moves base base air | moves air air | drift a a 1 | look base | look air a 1 | end
+from_the_air_plan = plan 1 | path air | chance 1 2 | nodes 3 | B | W 0 0 | W 1 1 | end
+from_the_air_plan_2 = plan 2 | path air | chance 1 2 | nodes 3 | B | W 0 | W 1 | end
+from_the_air_report = report 1 | chance 1 2 50.000 | period 1 air 1 50.000 | left a 1 50.000 | end
+from_the_air_json = {\"chance\":\"1\",\"left\":[{\"cell\":\"a\",\"mass\":\"1\"}],\"path\":[\"air\"],\"periods\":[\"1\"],\"weight\":\"2\"}
+";
+
+/// How a run ended, and what it wrote.
+#[derive(Drop)]
+pub struct Outcome {
+    pub status: Status,
+    pub out: Vec<u8>,
+    pub err: Vec<u8>,
+}
+
+// The text of a name, in one line.
+fn named(name: &str) -> Option<&'static str> {
+    for row in TEXTS.lines() {
+        if let Some((found, text)) = row.split_once(" = ")
+            && found == name
+        {
+            return Some(text);
+        }
+    }
+    None
+}
+
+/// Adds the lines that are written in one.
+fn push_lines(text: &mut Vec<u8>, row: &str) -> Result<(), AllocError> {
+    for line in row.split(" | ") {
+        text.extend_from_slice(line.as_bytes())?;
+        text.push(b'\n')?;
+    }
+    Ok(())
+}
+
+/// A text whose lines are written in one; a line such as `@two_cells` stands for the text of this name.
+pub fn text_of(alloc: Global, row: &str) -> Result<Vec<u8>, Fail> {
+    let mut text = Vec::new(alloc);
+    for line in row.split(" | ") {
+        let lines = match line.strip_prefix('@') {
+            Some(name) => named(name).ok_or("no such text")?,
+            None => line,
+        };
+        push_lines(&mut text, lines)?;
+    }
+    Ok(text)
+}
+
+/// The words of a command line.
+pub fn words_of(alloc: Global, line: &str) -> Result<Vec<String>, Fail> {
+    let mut words = Vec::new(alloc);
+    for word in line.split(' ') {
+        if !word.is_empty() {
+            words.push(String::from_str(alloc, word)?)?;
+        }
+    }
+    Ok(words)
+}
+
+/// Runs a command over memory, `most` bytes a read and a write.
+pub fn ended<R: AllocGlobal + Threads + Wait + Sync>(
+    rt: &R,
+    line: &str,
+    input: Vec<u8>,
+    most: usize,
+    read_fails: &[u64],
+    write_fails: &[u64],
+) -> Result<Outcome, Fail>
+    requires { 1 ≤ most }
+{
+    let alloc = rt.alloc();
+    let words = words_of(alloc, line)?;
+    let mut source = MemSource::new(input, most, read_fails.to_vec(alloc)?);
+    let mut out = MemSink::new(alloc, most, write_fails.to_vec(alloc)?);
+    let mut err = MemSink::new(alloc, most, Vec::new(alloc));
+    let status = run(rt, &words, &mut source, &mut out, &mut err, &OpenGate);
+    Ok(Outcome {
+        status,
+        out: out.wrote().to_vec(alloc)?,
+        err: err.wrote().to_vec(alloc)?,
+    })
+}
+
+/// The path and the chance of a plan, as its text has them.
+fn path_and_chance(alloc: Global, plan: &[u8]) -> Result<Vec<u8>, Fail> {
+    let path = plan.split(|c| *c == b'\n').nth(1).ok_or("no path")?;
+    let chance = plan.split(|c| *c == b'\n').nth(2).ok_or("no chance")?;
+    let mut both = path.to_vec(alloc)?;
+    both.push(b'\n')?;
+    both.extend_from_slice(chance)?;
+    both.push(b'\n')?;
+    Ok(both)
+}
+
+/// Plans a scenario, and checks the plan: its path and chance.
+pub fn checked_plan<R: AllocGlobal + Threads + Wait + Sync>(
+    rt: &R,
+    words: &str,
+    scenario: &[u8],
+) -> Result<Vec<u8>, Fail> {
+    let alloc = rt.alloc();
+    let plan = ended(rt, words, scenario.to_vec(alloc)?, 4096, &[], &[])?;
+    let mut input = scenario.to_vec(alloc)?;
+    input.extend_from_slice(&plan.out)?;
+    let check = ended(rt, "check", input, 4096, &[], &[])?;
+    if check.out.as_slice() != b"accepted\n".as_slice() {
+        return Err(Fail::from("not accepted"));
+    }
+    path_and_chance(alloc, &plan.out)
+}
