@@ -5,25 +5,17 @@ mod answer;
 mod checking;
 mod converting;
 mod drilling;
-#[cfg(test)]
-mod hostile_tests;
 mod input;
 mod intake;
 mod judge;
 mod laws;
 mod line;
-#[cfg(test)]
-mod listed_tests;
 mod request;
 mod scenario_end;
 mod serving;
 mod spaces;
 mod status;
-#[cfg(test)]
-mod tests;
 mod top;
-#[cfg(test)]
-mod trials;
 mod words;
 
 pub use laws::what_is_planned_is_accepted;

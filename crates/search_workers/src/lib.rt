@@ -19,8 +19,6 @@ mod run;
 mod searching;
 mod sending;
 mod stack;
-#[cfg(test)]
-mod tests;
 mod worker;
 
 pub use answer::{Found, Partial, SearchStop};

@@ -3,8 +3,8 @@
 ghost use Rattle.std.specs.Prelude.{◌≤◌};
 
 use crate::trials::{Outcome, ended, text_of, words_of};
-use crate::*;
 use byte_ports::{MemSink, MemSource, Source};
+use plan_command::{OpenGate, Status, run};
 use std::alloc::Global;
 use std::sync::Wait;
 use std::test::Fail;

@@ -1,7 +1,7 @@
 //! Runs held against rows, and against each other.
 
 use crate::trials::{checked_plan, ended, text_of};
-use crate::*;
+use plan_command::{Status, status_code};
 use std::alloc::{AllocGlobal, Global};
 use std::sync::Wait;
 use std::test::Fail;

@@ -1,10 +1,10 @@
 ghost use Rattle.std.specs.Prelude.{◌≤◌, IfOk};
 ghost use Rattle.bound_tree.specs.Close.{IsExact};
 
-use super::*;
 use bound_tree::{Kind, TreeNode};
 use opening_path::opening;
 use search_model::{Scenario, Standing};
+use search_workers::{Found, Gate, OpenGate, Partial, SearchStop, search};
 use std::alloc::{AllocGlobal, Global};
 use std::hint;
 use std::sync::Wait;
