@@ -5,8 +5,6 @@ mod course;
 mod json;
 mod laws;
 mod lines;
-#[cfg(test)]
-mod position_tests;
 mod report;
 #[cfg(test)]
 mod tests;

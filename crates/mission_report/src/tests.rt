@@ -1,35 +1,60 @@
+ghost use Rattle.std.specs.Prelude.{IfSome};
+ghost use Rattle.search_model.specs.Legal.{IsPath};
+
 use super::*;
+use exact_parts::NoMemory;
 use search_model::{Path, Scenario};
 use std::alloc::Global;
 use std::test::Fail;
-use worked_scenarios::{four_cells, two_cells};
+use worked_scenarios::base_and_air;
 
-#[derive(Clone, Copy)]
-pub(crate) enum Form {
-    Text,
-    Json,
+// The worked scenarios, with no clauses: these would put each problem whole into every goal of a test over it.
+fn two_cells(alloc: Global) -> Result<Scenario, NoMemory> {
+    worked_scenarios::two_cells(alloc)
 }
 
-// The report of a path.
-pub(crate) fn report_of(
+fn four_cells(alloc: Global) -> Result<Scenario, NoMemory> {
+    worked_scenarios::four_cells(alloc)
+}
+
+// The path of a scenario that has these positions.
+fn path_of(sc: &Scenario, positions: &[u8]) -> Option<Path>
+    ensures { IfSome result (IsPath sc.now) }
+{
+    let path = Path::of(positions)?;
+    if path.len() == sc.horizon() as usize && sc.is_legal(&path) {
+        Some(path)
+    } else {
+        None
+    }
+}
+
+// Whether the report of a path is this text.
+fn reports(alloc: Global, sc: &Scenario, positions: &[u8], text: &str) -> Result<bool, NoMemory> {
+    let Some(path) = path_of(sc, positions) else {
+        return Ok(false);
+    };
+    let mut out = Vec::new(alloc);
+    push_report(&mut out, sc, &path)?;
+    Ok(out.as_slice() == text.as_bytes())
+}
+
+// The same in JSON.
+fn reports_json(
     alloc: Global,
     sc: &Scenario,
-    cells: &[u8],
-    form: Form,
-) -> Result<Vec<u8>, Fail> {
-    let path = Path::of(cells).ok_or("no path")?;
-    if path.len() != sc.horizon() as usize || !sc.is_legal(&path) {
-        return Err(Fail::from("no path of the scenario"));
-    }
+    positions: &[u8],
+    text: &str,
+) -> Result<bool, NoMemory> {
+    let Some(path) = path_of(sc, positions) else {
+        return Ok(false);
+    };
     let mut out = Vec::new(alloc);
-    match form {
-        Form::Text => push_report(&mut out, sc, &path)?,
-        Form::Json => push_report_json(&mut out, sc, &path)?,
-    }
-    Ok(out)
+    push_report_json(&mut out, sc, &path)?;
+    Ok(out.as_slice() == text.as_bytes())
 }
 
-const TWO_CELLS: &[u8] = b"report 1
+const TWO_CELLS: &str = "report 1
 chance 12 16 75.000
 period 1 a 8 50.000
 period 2 a 12 75.000
@@ -38,10 +63,10 @@ left b 4 25.000
 end
 ";
 
-const TWO_CELLS_JSON: &[u8] =
-    b"{\"chance\":\"12\",\"left\":[{\"cell\":\"a\",\"mass\":\"0\"},{\"cell\":\"b\",\"mass\":\"4\"}],\"path\":[\"a\",\"a\"],\"periods\":[\"8\",\"12\"],\"weight\":\"16\"}\n";
+const TWO_CELLS_JSON: &str =
+    "{\"chance\":\"12\",\"left\":[{\"cell\":\"a\",\"mass\":\"0\"},{\"cell\":\"b\",\"mass\":\"4\"}],\"path\":[\"a\",\"a\"],\"periods\":[\"8\",\"12\"],\"weight\":\"16\"}\n";
 
-const FOUR_CELLS: &[u8] = b"report 1
+const FOUR_CELLS: &str = "report 1
 chance 6 9 66.666
 period 1 c 2 22.222
 period 2 d 6 66.666
@@ -52,18 +77,27 @@ left d 0 0.000
 end
 ";
 
+// The searcher's places have the positions' names, what is left the cells'.
+const FROM_THE_AIR: &str = "report 1
+chance 1 2 50.000
+period 1 air 1 50.000
+left a 1 50.000
+end
+";
+
+const FROM_THE_AIR_JSON: &str =
+    "{\"chance\":\"1\",\"left\":[{\"cell\":\"a\",\"mass\":\"1\"}],\"path\":[\"air\"],\"periods\":[\"1\"],\"weight\":\"2\"}\n";
+
 #[test]
 fn reports_are_as_worked_by_hand(rt: HostRuntime) -> Result<(), Fail> {
-    let two = two_cells(rt.alloc())?;
-    let four = four_cells(rt.alloc())?;
-    let cases: [(&Scenario, &[u8], Form, &[u8]); 3] = [
-        (&two, &[0, 0], Form::Text, TWO_CELLS),
-        (&two, &[0, 0], Form::Json, TWO_CELLS_JSON),
-        (&four, &[2, 3], Form::Text, FOUR_CELLS),
-    ];
-    for (sc, cells, form, text) in cases {
-        let out = report_of(rt.alloc(), sc, cells, form)?;
-        assert_eq!(rt; out.as_slice(), text);
-    }
+    let alloc = rt.alloc();
+    let two = two_cells(alloc)?;
+    assert!(rt; reports(alloc, &two, &[0, 0], TWO_CELLS)?);
+    assert!(rt; reports_json(alloc, &two, &[0, 0], TWO_CELLS_JSON)?);
+    let four = four_cells(alloc)?;
+    assert!(rt; reports(alloc, &four, &[2, 3], FOUR_CELLS)?);
+    let air = base_and_air(alloc)?;
+    assert!(rt; reports(alloc, &air, &[1], FROM_THE_AIR)?);
+    assert!(rt; reports_json(alloc, &air, &[1], FROM_THE_AIR_JSON)?);
     Ok(())
 }

@@ -2,13 +2,11 @@ ghost use Rattle.path_node.specs.Room.{IsMadeFor};
 
 use super::*;
 use bound_tree::Kind;
-use drift_chain::{Drift, DriftPart};
 use exact_parts::NoMemory;
-use search_grid::Grid;
-use search_model::{Name, Parts, Path, Scenario, Standing, value};
+use search_model::{Path, Scenario, Standing, value};
 use std::alloc::Global;
 use std::test::Fail;
-use sweep_table::{LookPart, Sweep};
+use worked_scenarios::base_and_air;
 
 // Holds of what may be shared between threads and moved to one.
 fn crosses_threads<T: Send + Sync + Drop>(_value: T) {}
@@ -99,30 +97,6 @@ fn looks_of_two_rates_have_no_tangent(rt: HostRuntime) -> Result<(), Fail> {
     assert!(rt; are_closed(rt.alloc(), &sc, WAITS, &rows)?);
     crosses_threads(Scratch::tables(rt.alloc(), &sc)?);
     Ok(())
-}
-
-// One cell, and two positions: from the base a look covers nothing, from the air it covers the cell, and misses 1 of 2.
-fn base_and_air(alloc: Global) -> Result<Scenario, Fail> {
-    let cell = Name::new(b"a").ok_or("no name")?;
-    let base = Name::new(b"base").ok_or("no name")?;
-    let air = Name::new(b"air").ok_or("no name")?;
-    let moves = vec![in alloc; vec![in alloc; 0, 1]?, vec![in alloc; 1]?]?;
-    let drifts = vec![in alloc; vec![in alloc; DriftPart { cell: 0, part: 1 }]?]?;
-    let looks = vec![in alloc;
-        Vec::new(alloc),
-        vec![in alloc; LookPart { cell: 0, part: 1 }]?,
-    ]?;
-    Ok(Scenario::new(Parts {
-        names: vec![in alloc; cell]?,
-        positions: vec![in alloc; base, air]?,
-        horizon: 1,
-        start: 0,
-        total: 1,
-        first: vec![in alloc; 1]?,
-        grid: Grid::new(moves)?,
-        drift: Drift::new(1, drifts)?,
-        sweep: Sweep::footprints(2, 1, looks)?,
-    })?)
 }
 
 // The look from the air finds 1 of 2, which is the whole of each bound of the empty prefix.

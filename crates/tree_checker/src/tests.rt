@@ -1,12 +1,17 @@
+//! Verdicts on plans. The rows of a table stand in one text, and one function goes over them, so that a row more costs no
+//! proof. A row has the plan's path, value and weight, its records, and the verdict, with the line of what is rejected; a
+//! line without bars says what the rows below it are for.
+
 use super::*;
 use bound_tree::{BoundTree, Kind, Plan, TreeNode};
 use drift_chain::{Drift, DriftPart};
 use exact_parts::NoMemory;
 use search_grid::Grid;
 use search_model::{Name, Parts, Path, Scenario, Standing};
-use std::alloc::Global;
+use std::alloc::{AllocError, Global};
 use std::test::Fail;
-use sweep_table::{LookPart, Sweep};
+use sweep_table::Sweep;
+use worked_scenarios::base_and_air;
 
 // The worked scenarios, with no clauses: these would put each problem whole into every goal of a test over it.
 fn one_cell(alloc: Global) -> Result<Scenario, NoMemory> {
@@ -30,13 +35,24 @@ fn two_rates(alloc: Global) -> Result<Scenario, NoMemory> {
 }
 
 // A row of the drift over nine cells: of ten parts two stay in cell `c`, and one goes to each other cell.
-fn spread_from(alloc: Global, c: u8) -> Result<Vec<DriftPart>, Fail> {
+fn spread_from(alloc: Global, c: u8) -> Result<Vec<DriftPart>, AllocError> {
     let mut row = Vec::new(alloc);
     for d in 0..9 {
         let part = if c == d { 2 } else { 1 };
         row.push(DriftPart { cell: d, part })?;
     }
     Ok(row)
+}
+
+fn spread(alloc: Global) -> Result<Drift, Fail> {
+    let mut rows = Vec::new(alloc);
+    for c in 0..9 {
+        rows.push(spread_from(alloc, c)?)?;
+    }
+    if rows.len() != 9 {
+        return Err(Fail::from("no drift"));
+    }
+    Ok(Drift::new(10, rows)?)
 }
 
 fn nine_names(alloc: Global) -> Result<Vec<Name>, Fail> {
@@ -59,17 +75,6 @@ fn round_trip(alloc: Global) -> Result<Grid, Fail> {
 // A round trip of nine cells, and twelve periods: there is one path, and the target moves from each cell to all, in 9 ^ 12
 // tracks; half of the looks miss.
 fn nine_cells(alloc: Global) -> Result<Scenario, Fail> {
-    let drifts = vec![in alloc;
-        spread_from(alloc, 0)?,
-        spread_from(alloc, 1)?,
-        spread_from(alloc, 2)?,
-        spread_from(alloc, 3)?,
-        spread_from(alloc, 4)?,
-        spread_from(alloc, 5)?,
-        spread_from(alloc, 6)?,
-        spread_from(alloc, 7)?,
-        spread_from(alloc, 8)?,
-    ]?;
     Ok(Scenario::new(Parts {
         names: nine_names(alloc)?,
         positions: nine_names(alloc)?,
@@ -78,457 +83,221 @@ fn nine_cells(alloc: Global) -> Result<Scenario, Fail> {
         total: 45,
         first: vec![in alloc; 1, 2, 3, 4, 5, 6, 7, 8, 9]?,
         grid: round_trip(alloc)?,
-        drift: Drift::new(10, drifts)?,
+        drift: spread(alloc)?,
         sweep: Sweep::new(2, vec![in alloc; 1; 9]?)?,
     })?)
 }
 
-fn path_of(cells: &[u8]) -> Path {
-    Path::of(cells).unwrap_or(Path::empty())
+// Positions as digits, or `-` for none.
+fn path_of(digits: &str) -> Option<Path> {
+    if digits == "-" {
+        return Some(Path::empty());
+    }
+    let mut path = Path::empty();
+    for c in digits.as_bytes() {
+        if path.len() == 32 {
+            return None;
+        }
+        path.push(c.wrapping_sub(b'0'));
+    }
+    Some(path)
 }
 
-fn kind_of(value: Option<u128>) -> Kind {
-    match value {
-        None => Kind::Branch,
-        Some(n) => Kind::Whole(n),
+fn kind_of(letter: &str, number: u128, reference: Path) -> Option<Kind> {
+    match letter {
+        "B" => Some(Kind::Branch),
+        "W" => Some(Kind::Whole(number)),
+        "M" => Some(Kind::Mean(number)),
+        "T" => Some(Kind::Tangent(number, reference)),
+        "E" => Some(Kind::Edge(number)),
+        _ => None,
     }
 }
 
-fn node_of(prefix: &[u8], kind: Kind) -> TreeNode {
-    TreeNode {
-        prefix: path_of(prefix),
-        kind,
-    }
+// A record as its letter, its prefix, its number where it has one, and the reference of a tangent.
+fn node_of(record: &str) -> Option<TreeNode> {
+    let mut words = record.split(' ');
+    let letter = words.next()?;
+    let prefix = path_of(words.next()?)?;
+    let number = words.next().unwrap_or("0").parse::<u128>().ok()?;
+    let reference = path_of(words.next().unwrap_or("-"))?;
+    let kind = kind_of(letter, number, reference)?;
+    Some(TreeNode { prefix, kind })
 }
 
-fn nodes_of(alloc: Global, records: &[(&[u8], Option<u128>)]) -> Result<Vec<TreeNode>, NoMemory> {
+fn nodes_of(alloc: Global, records: &str) -> Result<Vec<TreeNode>, Fail> {
     let mut nodes = Vec::new(alloc);
-    for (prefix, value) in records {
-        nodes.push(node_of(prefix, kind_of(*value)))?;
+    if records.is_empty() {
+        return Ok(nodes);
+    }
+    for record in records.split(',') {
+        nodes.push(node_of(record).ok_or("no record")?)?;
     }
     Ok(nodes)
 }
 
-// What is said of the plan of this path, value, weight and records.
-fn said_of(
-    alloc: Global,
-    sc: &Scenario,
-    path: &[u8],
-    value: u128,
-    weight: u128,
-    nodes: Vec<TreeNode>,
-) -> Result<Verdict, Fail> {
-    if nodes.len() > 1_000 {
-        return Err(Fail::from("too many records"));
-    }
-    let standing = Standing {
-        path: path_of(path),
-        value,
-    };
-    let plan = Plan {
+// The plan of a path, a value and a weight, and of records.
+fn plan_of(head: &str, nodes: Vec<TreeNode>) -> Option<Plan> {
+    let mut words = head.split(' ');
+    let path = path_of(words.next()?)?;
+    let value = words.next()?.parse::<u128>().ok()?;
+    let weight = words.next()?.parse::<u128>().ok()?;
+    let standing = Standing { path, value };
+    Some(Plan {
         standing,
         weight,
         tree: BoundTree::of(nodes),
+    })
+}
+
+// Whether a verdict is spelled so.
+fn is_told(alloc: Global, verdict: Verdict, told: &str) -> Result<bool, Fail> {
+    match verdict {
+        Verdict::Accepted => Ok(told == "Accepted"),
+        Verdict::Rejected(RejectAt { line, why }) => {
+            let text = format!(in alloc; "{line} {}", why_name(why))?;
+            Ok(text.as_str() == told)
+        }
+    }
+}
+
+// Whether the plan of a row has the row's verdict.
+fn row_is_judged(alloc: Global, sc: &Scenario, row: &str) -> Result<bool, Fail> {
+    let Some((head, rest)) = row.split_once('|') else {
+        return Ok(false);
     };
-    Ok(check(alloc, sc, &plan)?)
-}
-
-// What is said of a plan of branches and whole paths: of each record its prefix, and its value where it is whole.
-fn said(
-    alloc: Global,
-    sc: &Scenario,
-    path: &[u8],
-    value: u128,
-    weight: u128,
-    records: &[(&[u8], Option<u128>)],
-) -> Result<Verdict, Fail> {
+    let (records, told) = rest.split_once('|').ok_or("no verdict")?;
     let nodes = nodes_of(alloc, records)?;
-    said_of(alloc, sc, path, value, weight, nodes)
-}
-
-fn rejected(line: u64, why: Why) -> Verdict {
-    Verdict::Rejected(RejectAt { line, why })
-}
-
-// A branch, and a path of two cells, which all have one value.
-const B: Option<u128> = None;
-
-const W: Option<u128> = Some(12);
-
-#[test]
-fn plans_of_one_cell(rt: HostRuntime) -> Result<(), Fail> {
-    let sc = one_cell(rt.alloc())?;
-    let rows: [(&[u8], u128, u128, &[(&[u8], Option<u128>)], Verdict); 9] = [
-        (&[0], 1, 2, &[(&[], B), (&[0], Some(1))], Verdict::Accepted),
-        (
-            &[],
-            1,
-            2,
-            &[(&[], B), (&[0], Some(1))],
-            rejected(2, Why::PathIllegal),
-        ),
-        (
-            &[0],
-            0,
-            2,
-            &[(&[], B), (&[0], Some(1))],
-            rejected(3, Why::ValueWrong),
-        ),
-        (
-            &[0],
-            1,
-            1,
-            &[(&[], B), (&[0], Some(1))],
-            rejected(3, Why::WeightWrong),
-        ),
-        (&[0], 1, 2, &[], rejected(5, Why::MissingChild)),
-        (&[0], 1, 2, &[(&[], B)], rejected(6, Why::MissingChild)),
-        (
-            &[0],
-            1,
-            2,
-            &[(&[], B), (&[0], B)],
-            rejected(6, Why::WholeWrong),
-        ),
-        (
-            &[0],
-            1,
-            2,
-            &[(&[], B), (&[0], Some(0))],
-            rejected(6, Why::WholeWrong),
-        ),
-        (
-            &[0],
-            1,
-            2,
-            &[(&[], B), (&[0], Some(1)), (&[0], Some(1))],
-            rejected(7, Why::NotChild),
-        ),
-    ];
-    for (path, value, weight, records, verdict) in rows {
-        assert_eq!(rt;
-            said(rt.alloc(), &sc, path, value, weight, records)?,
-            verdict
-        );
+    if nodes.len() > 1_000 {
+        return Err(Fail::from("too many records"));
     }
-    Ok(())
+    let plan = plan_of(head, nodes).ok_or("no plan")?;
+    is_told(alloc, check(alloc, sc, &plan)?, told)
 }
 
-#[test]
-fn plans_of_two_cells(rt: HostRuntime) -> Result<(), Fail> {
-    let sc = two_cells(rt.alloc())?;
-    let rows: [(&[u8], u128, &[(&[u8], Option<u128>)], Verdict); 9] = [
-        (
-            &[0, 0],
-            12,
-            &[
-                (&[], B),
-                (&[0], B),
-                (&[0, 0], W),
-                (&[0, 1], W),
-                (&[1], B),
-                (&[1, 0], W),
-                (&[1, 1], W),
-            ],
-            Verdict::Accepted,
-        ),
-        // The path stands in a cell that there is not.
-        (&[0, 2], 12, &[(&[], B)], rejected(2, Why::PathIllegal)),
-        (&[0, 0], 11, &[(&[], B)], rejected(3, Why::ValueWrong)),
-        // A record before the one that is expected is missing.
-        (
-            &[0, 0],
-            12,
-            &[
-                (&[], B),
-                (&[0], B),
-                (&[0, 0], W),
-                (&[1], B),
-                (&[1, 0], W),
-                (&[1, 1], W),
-            ],
-            rejected(8, Why::MissingChild),
-        ),
-        // The first record has a path that is as good and smaller than the plan's.
-        (
-            &[0, 1],
-            12,
-            &[
-                (&[], B),
-                (&[0], B),
-                (&[0, 0], W),
-                (&[0, 1], W),
-                (&[1], B),
-                (&[1, 0], W),
-                (&[1, 1], W),
-            ],
-            rejected(7, Why::NotCut),
-        ),
-        // A record stands twice.
-        (
-            &[0, 0],
-            12,
-            &[(&[], B), (&[0], B), (&[0, 0], W), (&[0, 0], W)],
-            rejected(8, Why::NotChild),
-        ),
-        // A prefix is whole before the horizon.
-        (
-            &[0, 0],
-            12,
-            &[(&[], B), (&[0], W)],
-            rejected(6, Why::WholeWrong),
-        ),
-        // The greatest child is missing.
-        (
-            &[0, 0],
-            12,
-            &[(&[], B), (&[0], B), (&[0, 0], W), (&[0, 1], W)],
-            rejected(9, Why::MissingChild),
-        ),
-        // A record stands past the end.
-        (
-            &[0, 0],
-            12,
-            &[
-                (&[], B),
-                (&[0], B),
-                (&[0, 0], W),
-                (&[0, 1], W),
-                (&[1], B),
-                (&[1, 0], W),
-                (&[1, 1], W),
-                (&[1, 1], W),
-            ],
-            rejected(12, Why::NotChild),
-        ),
-    ];
-    for (path, value, records, verdict) in rows {
-        assert_eq!(rt; said(rt.alloc(), &sc, path, value, 16, records)?, verdict);
+// How many rows of a table have their verdict.
+fn rows_judged(alloc: Global, sc: &Scenario, table: &str) -> Result<u32, Fail> {
+    let mut count = 0u32;
+    for row in table.split('\n') {
+        if row_is_judged(alloc, sc, row)? {
+            count = count.saturating_add(1);
+        }
     }
-    Ok(())
+    Ok(count)
 }
 
-// What is said of a plan of two cells, with a mean bound that is equal to the value of all paths, and of prefix 1.
-fn said_of_equals(alloc: Global, path: &[u8]) -> Result<Verdict, Fail> {
-    let sc = two_cells(alloc)?;
-    let nodes = vec![in alloc;
-        node_of(&[], Kind::Branch),
-        node_of(&[0], Kind::Branch),
-        node_of(&[0, 0], Kind::Whole(12)),
-        node_of(&[0, 1], Kind::Whole(12)),
-        node_of(&[1], Kind::Mean(12)),
-    ]?;
-    said_of(alloc, &sc, path, 12, 16, nodes)
-}
+const ONE_CELL: &str = "\
+0 1 2|B -,W 0 1|Accepted
+- 1 2|B -,W 0 1|2 PathIllegal
+0 0 2|B -,W 0 1|3 ValueWrong
+0 1 1|B -,W 0 1|3 WeightWrong
+0 1 2||5 MissingChild
+0 1 2|B -|6 MissingChild
+0 1 2|B -,B 0|6 WholeWrong
+0 1 2|B -,W 0 0|6 WholeWrong
+0 1 2|B -,W 0 1,W 0 1|7 NotChild
+";
 
-// What is said of a plan of three cells and two periods whose third record, of prefix 1, has this mean bound.
-fn said_of_mean(alloc: Global, bound: u128) -> Result<Verdict, Fail> {
-    let sc = waiting_target(alloc)?;
-    let nodes = vec![in alloc;
-        node_of(&[], Kind::Branch),
-        node_of(&[0], Kind::Mean(0)),
-        node_of(&[1], Kind::Mean(bound)),
-        node_of(&[2], Kind::Branch),
-        node_of(&[2, 1], Kind::Whole(2)),
-        node_of(&[2, 2], Kind::Whole(3)),
-    ]?;
-    said_of(alloc, &sc, &[2, 2], 3, 4, nodes)
-}
+const TWO_CELLS: &str = "\
+00 12 16|B -,B 0,W 00 12,W 01 12,B 1,W 10 12,W 11 12|Accepted
+The path stands in a cell that there is not.
+02 12 16|B -|2 PathIllegal
+00 11 16|B -|3 ValueWrong
+A record before the one that is expected is missing.
+00 12 16|B -,B 0,W 00 12,B 1,W 10 12,W 11 12|8 MissingChild
+The first record has a path that is as good and smaller than the plan's.
+01 12 16|B -,B 0,W 00 12,W 01 12,B 1,W 10 12,W 11 12|7 NotCut
+A record stands twice.
+00 12 16|B -,B 0,W 00 12,W 00 12|8 NotChild
+A prefix is whole before the horizon.
+00 12 16|B -,W 0 12|6 WholeWrong
+The greatest child is missing.
+00 12 16|B -,B 0,W 00 12,W 01 12|9 MissingChild
+A record stands past the end.
+00 12 16|B -,B 0,W 00 12,W 01 12,B 1,W 10 12,W 11 12,W 11 12|12 NotChild
+The mean bound of prefix 1 is equal to the value of all paths.
+00 12 16|B -,B 0,W 00 12,W 01 12,M 1 12|Accepted
+01 12 16|B -,B 0,W 00 12,W 01 12,M 1 12|7 NotCut
+";
 
-// What is said of a plan of three cells and three periods, whose third record, of prefix 1, is this, and whose record in
-// line 11, of a path, is that.
-fn said_of_third(alloc: Global, sc: &Scenario, third: Kind, path: Kind) -> Result<Verdict, Fail> {
-    let nodes = vec![in alloc;
-        node_of(&[], Kind::Branch),
-        node_of(&[0], Kind::Mean(4)),
-        node_of(&[1], third),
-        node_of(&[2], Kind::Branch),
-        node_of(&[2, 1], Kind::Mean(6)),
-        node_of(&[2, 2], Kind::Branch),
-        node_of(&[2, 2, 1], path),
-        node_of(&[2, 2, 2], Kind::Whole(7)),
-    ]?;
-    said_of(alloc, sc, &[2, 2, 2], 7, 8, nodes)
-}
+// Three cells and two periods.
+const MEAN_BOUNDS: &str = "\
+22 3 4|B -,M 0 0,M 1 2,B 2,W 21 2,W 22 3|Accepted
+22 3 4|B -,M 0 0,M 1 1,B 2,W 21 2,W 22 3|7 BoundWrong
+";
 
-fn tangent_at(bound: u128, reference: &[u8]) -> Kind {
-    Kind::Tangent(bound, path_of(reference))
-}
-
-#[test]
-fn plans_with_mean_bounds(rt: HostRuntime) -> Result<(), Fail> {
-    assert_eq!(rt; said_of_equals(rt.alloc(), &[0, 0])?, Verdict::Accepted);
-    assert_eq!(rt;
-        said_of_equals(rt.alloc(), &[0, 1])?,
-        rejected(7, Why::NotCut)
-    );
-    assert_eq!(rt; said_of_mean(rt.alloc(), 2)?, Verdict::Accepted);
-    assert_eq!(rt; said_of_mean(rt.alloc(), 1)?, rejected(7, Why::BoundWrong));
-    Ok(())
-}
-
-#[test]
-fn plans_with_tangent_bounds(rt: HostRuntime) -> Result<(), Fail> {
-    let alloc = rt.alloc();
-    let sc = waiting_longer(alloc)?;
-    let right = tangent_at(12, &[1, 2, 2]);
-    let whole = Kind::Whole(6);
-    let rows = [
-        (right, whole, Verdict::Accepted),
-        // The path of the tangent doesn't begin with the prefix.
-        (
-            tangent_at(12, &[2, 2, 2]),
-            whole,
-            rejected(7, Why::ReferenceWrong),
-        ),
-        // It isn't as long as the horizon.
-        (
-            tangent_at(12, &[1, 2]),
-            whole,
-            rejected(7, Why::ReferenceWrong),
-        ),
-        // The bound is wrong, and isn't cut either.
-        (
-            tangent_at(14, &[1, 2, 2]),
-            whole,
-            rejected(7, Why::BoundWrong),
-        ),
-        // The mean bound is right, and isn't cut.
-        (Kind::Mean(8), whole, rejected(7, Why::NotCut)),
-        (right, Kind::Whole(5), rejected(11, Why::WholeWrong)),
-    ];
-    for (third, path, verdict) in rows {
-        assert_eq!(rt; said_of_third(alloc, &sc, third, path)?, verdict);
-    }
-    Ok(())
-}
-
-// What is said of a plan of three cells and three periods whose only record, of the empty prefix, is this.
-fn said_of_one(alloc: Global, sc: &Scenario, kind: Kind) -> Result<Verdict, Fail> {
-    let nodes = vec![in alloc; node_of(&[], kind)]?;
-    said_of(alloc, sc, &[2, 2, 2], 7, 8, nodes)
-}
+// Three cells and three periods.
+const TANGENT_BOUNDS: &str = "\
+222 7 8|B -,M 0 4,T 1 12 122,B 2,M 21 6,B 22,W 221 6,W 222 7|Accepted
+The path of the tangent doesn't begin with the prefix.
+222 7 8|B -,M 0 4,T 1 12 222,B 2,M 21 6,B 22,W 221 6,W 222 7|7 ReferenceWrong
+It isn't as long as the horizon.
+222 7 8|B -,M 0 4,T 1 12 12,B 2,M 21 6,B 22,W 221 6,W 222 7|7 ReferenceWrong
+The bound is wrong, and isn't cut either.
+222 7 8|B -,M 0 4,T 1 14 122,B 2,M 21 6,B 22,W 221 6,W 222 7|7 BoundWrong
+The mean bound is right, and isn't cut.
+222 7 8|B -,M 0 4,M 1 8,B 2,M 21 6,B 22,W 221 6,W 222 7|7 NotCut
+222 7 8|B -,M 0 4,T 1 12 122,B 2,M 21 6,B 22,W 221 5,W 222 7|11 WholeWrong
+";
 
 // After one look at the waiting target the next one finds half: the prefix 1 has two looks left, which find 4 and 2 of 8,
 // and the empty prefix has three, which are bounded as 4, 2 and 2.
+const EDGE_BOUNDS: &str = "\
+222 7 8|B -,M 0 4,E 1 6,B 2,M 21 6,B 22,W 221 6,W 222 7|Accepted
+222 7 8|B -,M 0 4,E 1 5,B 2,M 21 6,B 22,W 221 6,W 222 7|7 BoundWrong
+A tangent needs one rate.
+222 7 8|B -,M 0 4,T 1 12 122,B 2,M 21 6,B 22,W 221 6,W 222 7|7 NoOneRate
+The prefix of the second edge bound is a path.
+222 7 8|B -,M 0 4,E 1 6,B 2,M 21 6,B 22,E 221 6,W 222 7|11 WholeWrong
+222 7 8|E - 8|5 NotCut
+";
+
+const MORE_POSITIONS_THAN_CELLS: &str = "\
+1 1 2|B -,W 0 0,W 1 1|Accepted
+The base covers no cell, though there is one of its number.
+1 1 2|B -,W 0 1,W 1 1|6 WholeWrong
+The path from the air finds more.
+0 0 2|B -,W 0 0,W 1 1|7 NotCut
+There is no third position.
+2 1 2|B -|2 PathIllegal
+";
+
+const NINE_CELLS: &str = "\
+123456780123 8835288789141930 18432000000000000|B -,B 1,B 12,B 123,B 1234,B 12345,B 123456,B 1234567,B 12345678,B 123456780,B 1234567801,B 12345678012,W 123456780123 8835288789141930|Accepted
+123456780123 8835288789141929 18432000000000000|B -,B 1,B 12,B 123,B 1234,B 12345,B 123456,B 1234567,B 12345678,B 123456780,B 1234567801,B 12345678012,W 123456780123 8835288789141930|3 ValueWrong
+";
+
 #[test]
-fn plans_with_edge_bounds(rt: HostRuntime) -> Result<(), Fail> {
+fn plans_of_cells(rt: HostRuntime) -> Result<(), Fail> {
     let alloc = rt.alloc();
-    let sc = two_rates(alloc)?;
-    let whole = Kind::Whole(6);
-    let rows = [
-        (Kind::Edge(6), whole, Verdict::Accepted),
-        (Kind::Edge(5), whole, rejected(7, Why::BoundWrong)),
-        // A tangent needs one rate.
-        (
-            tangent_at(12, &[1, 2, 2]),
-            whole,
-            rejected(7, Why::NoOneRate),
-        ),
-        // Its prefix is a path.
-        (Kind::Edge(6), Kind::Edge(6), rejected(11, Why::WholeWrong)),
-    ];
-    for (third, path, verdict) in rows {
-        assert_eq!(rt; said_of_third(alloc, &sc, third, path)?, verdict);
-    }
-    assert_eq!(rt;
-        said_of_one(alloc, &sc, Kind::Edge(8))?,
-        rejected(5, Why::NotCut)
-    );
+    assert_eq!(rt; rows_judged(alloc, &one_cell(alloc)?, ONE_CELL)?, 9);
+    assert_eq!(rt; rows_judged(alloc, &two_cells(alloc)?, TWO_CELLS)?, 11);
+    let air = base_and_air(alloc)?;
+    assert_eq!(rt; rows_judged(alloc, &air, MORE_POSITIONS_THAN_CELLS)?, 4);
     Ok(())
-}
-
-// One cell, and two positions: from the base a look covers nothing, from the air it covers the cell, and misses 1 of 2.
-fn base_and_air(alloc: Global) -> Result<Scenario, Fail> {
-    let cell = Name::new(b"a").ok_or("no name")?;
-    let base = Name::new(b"base").ok_or("no name")?;
-    let air = Name::new(b"air").ok_or("no name")?;
-    let moves = vec![in alloc; vec![in alloc; 0, 1]?, vec![in alloc; 1]?]?;
-    let drifts = vec![in alloc; vec![in alloc; DriftPart { cell: 0, part: 1 }]?]?;
-    let looks = vec![in alloc;
-        Vec::new(alloc),
-        vec![in alloc; LookPart { cell: 0, part: 1 }]?,
-    ]?;
-    Ok(Scenario::new(Parts {
-        names: vec![in alloc; cell]?,
-        positions: vec![in alloc; base, air]?,
-        horizon: 1,
-        start: 0,
-        total: 1,
-        first: vec![in alloc; 1]?,
-        grid: Grid::new(moves)?,
-        drift: Drift::new(1, drifts)?,
-        sweep: Sweep::footprints(2, 1, looks)?,
-    })?)
 }
 
 #[test]
-fn plans_of_more_positions_than_cells(rt: HostRuntime) -> Result<(), Fail> {
-    let sc = base_and_air(rt.alloc())?;
-    let rows: [(&[u8], u128, &[(&[u8], Option<u128>)], Verdict); 4] = [
-        (
-            &[1],
-            1,
-            &[(&[], B), (&[0], Some(0)), (&[1], Some(1))],
-            Verdict::Accepted,
-        ),
-        // The base covers no cell, though there is one of its number.
-        (
-            &[1],
-            1,
-            &[(&[], B), (&[0], Some(1)), (&[1], Some(1))],
-            rejected(6, Why::WholeWrong),
-        ),
-        // The path from the air finds more.
-        (
-            &[0],
-            0,
-            &[(&[], B), (&[0], Some(0)), (&[1], Some(1))],
-            rejected(7, Why::NotCut),
-        ),
-        // There is no third position.
-        (&[2], 1, &[(&[], B)], rejected(2, Why::PathIllegal)),
-    ];
-    for (path, value, records, verdict) in rows {
-        assert_eq!(rt; said(rt.alloc(), &sc, path, value, 2, records)?, verdict);
-    }
+fn plans_with_bounds(rt: HostRuntime) -> Result<(), Fail> {
+    let alloc = rt.alloc();
+    assert_eq!(rt;
+        rows_judged(alloc, &waiting_target(alloc)?, MEAN_BOUNDS)?,
+        2
+    );
+    assert_eq!(rt;
+        rows_judged(alloc, &waiting_longer(alloc)?, TANGENT_BOUNDS)?,
+        6
+    );
+    assert_eq!(rt; rows_judged(alloc, &two_rates(alloc)?, EDGE_BOUNDS)?, 5);
     Ok(())
 }
 
+// Also that reasons have their names.
 #[test]
 fn many_tracks_take_no_time(rt: HostRuntime) -> Result<(), Fail> {
-    let sc = nine_cells(rt.alloc())?;
-    let path = [1, 2, 3, 4, 5, 6, 7, 8, 0, 1, 2, 3].as_slice();
-    let value = 8_835_288_789_141_930;
-    let weight = 18_432_000_000_000_000;
-    let records: [(&[u8], Option<u128>); 13] = [
-        (&path[..0], B),
-        (&path[..1], B),
-        (&path[..2], B),
-        (&path[..3], B),
-        (&path[..4], B),
-        (&path[..5], B),
-        (&path[..6], B),
-        (&path[..7], B),
-        (&path[..8], B),
-        (&path[..9], B),
-        (&path[..10], B),
-        (&path[..11], B),
-        (path, Some(value)),
-    ];
-    assert_eq!(rt;
-        said(rt.alloc(), &sc, path, value, weight, &records)?,
-        Verdict::Accepted
-    );
-    assert_eq!(rt;
-        said(rt.alloc(), &sc, path, value - 1, weight, &records)?,
-        rejected(3, Why::ValueWrong)
-    );
-    Ok(())
-}
-
-#[test]
-fn reasons_have_their_names(rt: HostRuntime) {
+    let alloc = rt.alloc();
+    assert_eq!(rt; rows_judged(alloc, &nine_cells(alloc)?, NINE_CELLS)?, 2);
     assert_eq!(rt; why_name(Why::PathIllegal), "PathIllegal");
     assert_eq!(rt; why_name(Why::ReferenceWrong), "ReferenceWrong");
+    Ok(())
 }

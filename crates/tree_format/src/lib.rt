@@ -20,13 +20,13 @@ mod places;
 mod placing;
 mod plan_item;
 mod plan_line;
-#[cfg(test)]
-mod position_tests;
 mod printing;
 mod reading;
 mod record_lines;
 mod records;
 mod stop;
+#[cfg(test)]
+mod test_tables;
 #[cfg(test)]
 mod tests;
 mod writing;

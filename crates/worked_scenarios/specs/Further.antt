@@ -1,5 +1,5 @@
 -- Further small problems.
-use Rattle.std.specs.Prelude.{ℕ, [], ◌∷◌}
+use Rattle.std.specs.Prelude.{ℕ, List, [], ◌∷◌}
 use Rattle.drift_chain.specs.DriftRows.{drift_over}
 use Rattle.sweep_table.specs.LookParts.{parts_over}
 use Rattle.search_model.specs.Problem.{Problem}
@@ -29,3 +29,7 @@ four_cells = record {
   drift = drift_over 1 ((goes_to 0 1 ∷ []) ∷ (goes_to 1 1 ∷ []) ∷ (goes_to 2 1 ∷ []) ∷ (goes_to 3 1 ∷ []) ∷ []);
   sweep = parts_over 1 (0 ∷ 0 ∷ 0 ∷ 0 ∷ []);
 }
+
+-- the positions `base` and `air`
+abbrev pub base_and_air_names : List (List ℕ)
+base_and_air_names = (98 ∷ 97 ∷ 115 ∷ 101 ∷ []) ∷ (97 ∷ 105 ∷ 114 ∷ []) ∷ []
