@@ -1,5 +1,5 @@
-//! What masses, walks, bounds and the opening answer on worked scenarios, by their public calls alone. There is no code
-//! here but tests: they stand apart so that a crate need not be proved once more for them.
+//! What masses, walks, bounds, the opening and the closing of a prefix come to on worked scenarios, by public calls alone.
+//! There is no code here but tests: they stand apart so that a crate need not be proved once more for them.
 #![tactic(auto)]
 
 #[cfg(test)]
@@ -10,6 +10,8 @@ mod beliefs;
 mod edge_bounds;
 #[cfg(test)]
 mod mean_bounds;
+#[cfg(test)]
+mod nodes;
 #[cfg(test)]
 mod openings;
 #[cfg(test)]

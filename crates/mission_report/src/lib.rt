@@ -6,8 +6,6 @@ mod json;
 mod laws;
 mod lines;
 mod report;
-#[cfg(test)]
-mod tests;
 
 pub use json::push_report_json;
 pub use laws::{masses_left_sum, worked_reports};

@@ -2,7 +2,5 @@
 #![tactic(auto)]
 
 mod node;
-#[cfg(test)]
-mod tests;
 
 pub use node::{Scratch, children, close};

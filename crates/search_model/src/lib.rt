@@ -8,8 +8,6 @@ mod path;
 mod plain_value;
 mod scenario;
 mod standing;
-#[cfg(test)]
-mod tests;
 
 pub use laws::{
     bound_sizes, continuations_are, no_tangent_is_cut_off, nothing_is_cut_off, one_best,

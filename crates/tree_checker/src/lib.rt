@@ -8,8 +8,6 @@ mod laws;
 mod path_tests;
 mod reasons;
 mod tables;
-#[cfg(test)]
-mod tests;
 mod verdict;
 
 pub use checker::Checker;

@@ -6,8 +6,6 @@ mod draft;
 mod due;
 mod feed;
 mod feed_laws;
-#[cfg(test)]
-mod feed_tests;
 mod fields;
 mod gathered_line;
 mod head;
@@ -25,10 +23,6 @@ mod reading;
 mod record_lines;
 mod records;
 mod stop;
-#[cfg(test)]
-mod test_tables;
-#[cfg(test)]
-mod tests;
 mod writing;
 
 pub use feed::PlanFeed;

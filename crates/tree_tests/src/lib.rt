@@ -1,8 +1,10 @@
-//! What the records of one worker and of several come to on worked scenarios, by their public calls alone. There is no code
-//! here but tests: they stand apart so that a crate need not be proved once more for them.
+//! What the records of one worker and of several come to on worked scenarios, and the verdicts on plans, by public calls
+//! alone. There is no code here but tests: they stand apart so that a crate need not be proved once more for them.
 #![tactic(auto)]
 
 #[cfg(test)]
 mod cores;
 #[cfg(test)]
 mod gathers;
+#[cfg(test)]
+mod verdicts;

@@ -2,7 +2,6 @@
 //! proof. A row has the plan's path, value and weight, its records, and the verdict, with the line of what is rejected; a
 //! line without bars says what the rows below it are for.
 
-use super::*;
 use bound_tree::{BoundTree, Kind, Plan, TreeNode};
 use drift_chain::{Drift, DriftPart};
 use exact_parts::NoMemory;
@@ -11,6 +10,7 @@ use search_model::{Name, Parts, Path, Scenario, Standing};
 use std::alloc::{AllocError, Global};
 use std::test::Fail;
 use sweep_table::Sweep;
+use tree_checker::{RejectAt, Verdict, Why, check, why_name};
 use worked_scenarios::base_and_air;
 
 // The worked scenarios, with no clauses: these would put each problem whole into every goal of a test over it.

@@ -3,9 +3,8 @@
 
 ghost use Rattle.std.specs.Prelude.{◌≤◌, length, IfSome};
 
-use super::*;
-use crate::feed_tests::tells_as_read;
-use crate::test_tables::{FAULTS, TEXTS};
+use crate::plan_feeds::tells_as_read;
+use crate::plan_tables::{FAULTS, TEXTS};
 use bound_tree::{Kind, Plan, TreeNode};
 use drift_chain::{Drift, DriftPart};
 use search_grid::Grid;
@@ -13,6 +12,10 @@ use search_model::{Name, Parts, Scenario};
 use std::alloc::{AllocError, Global};
 use std::test::Fail;
 use sweep_table::Sweep;
+use tree_format::{
+    Fed, PlanFault, PlanFeed, PlanKind, PlanStop, Step, are_in_place, has_no_edge, plan_kind_name,
+    print_plan, print_plan_2, read_plan,
+};
 use worked_scenarios::base_and_air;
 
 fn names_of(alloc: Global, letters: &str) -> Result<Vec<Name>, Fail> {

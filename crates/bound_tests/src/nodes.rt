@@ -1,8 +1,8 @@
 ghost use Rattle.path_node.specs.Room.{IsMadeFor};
 
-use super::*;
 use bound_tree::Kind;
 use exact_parts::NoMemory;
+use path_node::{Scratch, close};
 use search_model::{Path, Scenario, Standing, value};
 use std::alloc::Global;
 use std::test::Fail;

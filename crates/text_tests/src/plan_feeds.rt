@@ -1,10 +1,10 @@
 //! A text that is fed in pieces tells what reading it at once says.
 
-use super::*;
 use bound_tree::{Kind, Plan, TreeNode};
 use search_model::{Scenario, Standing};
 use std::alloc::Global;
 use std::test::Fail;
+use tree_format::{Fed, PlanFault, PlanFeed, PlanItem, PlanStop, Step, read_plan};
 
 /// What a feed told of a text.
 #[derive(Drop)]

@@ -1,6 +1,6 @@
-use super::*;
 use drift_chain::{Drift, DriftPart};
 use search_grid::Grid;
+use search_model::{ModelFault, Name, Parts, Path, Scenario, Standing, better, starts, value};
 use std::alloc::{AllocError, Global};
 use std::cmp::Ordering;
 use std::test::Fail;

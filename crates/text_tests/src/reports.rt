@@ -1,8 +1,8 @@
 ghost use Rattle.std.specs.Prelude.{IfSome};
 ghost use Rattle.search_model.specs.Legal.{IsPath};
 
-use super::*;
 use exact_parts::NoMemory;
+use mission_report::{push_report, push_report_json};
 use search_model::{Path, Scenario};
 use std::alloc::Global;
 use std::test::Fail;
