@@ -211,9 +211,7 @@ fn several_workers_find_the_same_path(rt: HostRuntime) -> Result<(), Fail> {
 /// Two cells, then line feeds up to so many bytes.
 fn padded(alloc: Global, len: usize) -> Result<Vec<u8>, Fail> {
     let mut input = text_of(alloc, "@two_cells")?;
-    for _ in input.len()..len {
-        input.push(b'\n')?;
-    }
+    input.resize(len, b'\n')?;
     Ok(input)
 }
 
