@@ -89,13 +89,24 @@ const FROM_THE_AIR_JSON: &str =
     "{\"chance\":\"1\",\"left\":[{\"cell\":\"a\",\"mass\":\"1\"}],\"path\":[\"air\"],\"periods\":[\"1\"],\"weight\":\"2\"}\n";
 
 #[test]
-fn reports_are_as_worked_by_hand(rt: HostRuntime) -> Result<(), Fail> {
+fn a_path_over_two_cells_is_reported(rt: HostRuntime) -> Result<(), Fail> {
     let alloc = rt.alloc();
     let two = two_cells(alloc)?;
     assert!(rt; reports(alloc, &two, &[0, 0], TWO_CELLS)?);
     assert!(rt; reports_json(alloc, &two, &[0, 0], TWO_CELLS_JSON)?);
-    let four = four_cells(alloc)?;
-    assert!(rt; reports(alloc, &four, &[2, 3], FOUR_CELLS)?);
+    Ok(())
+}
+
+#[test]
+fn a_path_over_four_cells_is_reported(rt: HostRuntime) -> Result<(), Fail> {
+    let four = four_cells(rt.alloc())?;
+    assert!(rt; reports(rt.alloc(), &four, &[2, 3], FOUR_CELLS)?);
+    Ok(())
+}
+
+#[test]
+fn a_path_from_the_air_is_reported(rt: HostRuntime) -> Result<(), Fail> {
+    let alloc = rt.alloc();
     let air = base_and_air(alloc)?;
     assert!(rt; reports(alloc, &air, &[1], FROM_THE_AIR)?);
     assert!(rt; reports_json(alloc, &air, &[1], FROM_THE_AIR_JSON)?);
