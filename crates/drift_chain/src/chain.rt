@@ -1,8 +1,8 @@
 //! The rows of the drift.
 
-ghost use Rattle.std.specs.Prelude.{◌≡◌, ℕ, ◌<◌, ◌≤◌, ◌↔◌, length, map, IsOk, IfOk, IfErr};
+ghost use Rattle.std.specs.Prelude.{◌≡◌, ℕ, ◌<◌, ◌≤◌, ◌↔◌, [], length, map, slice_index_or, IsOk, IfOk, IfErr};
 ghost use Rattle.std.specs.List.Sorted.{IsStrictlyIncreasing};
-ghost use Rattle.drift_chain.specs.DriftRows.{part_in};
+ghost use Rattle.drift_chain.specs.DriftRows.{DriftRows, part_in, row_of};
 
 use crate::changes::{ChangeFault, Changes, DriftChange};
 use crate::faults::{DriftFault, put_in_order};
@@ -121,7 +121,7 @@ impl Drift {
     {
         let own: &[DriftPart] = &self.rows[c as usize];
         match &self.changes {
-            Some(changes) => changes.row(t, c).unwrap_or(own),
+            Some(changes) => row_in_force(changes, own, t, c),
             None => own,
         }
     }
@@ -137,6 +137,15 @@ impl Drift {
     {
         part_in_row(self.row(t, c), d)
     }
+}
+
+// The row of the change for a period and a cell, or else the cell's own. It stands out of line, so that a loop over the rows
+// of a drift without changes stays tight.
+#[inline(never)]
+fn row_in_force<'a>(changes: &'a Changes, own: &'a [DriftPart], t: u32, c: u8) -> &'a [DriftPart]
+    ensures { (drift : DriftRows) → drift.changes ≡ changes.now → slice_index_or drift.rows c [] ≡ own.now → result.now ≡ row_of drift t c }
+{
+    changes.row(t, c).unwrap_or(own)
 }
 
 // The part that an ascending row gives to cell `d`.

@@ -87,7 +87,6 @@ impl Changes {
     }
 
     /// The row of a cell for a period, if there is a change for both.
-    #[inline(never)]
     pub(crate) fn row(&self, t: u32, c: u8) -> Option<&[DriftPart]>
         ensures { option_map (λ row. row.now) result ≡ option_map (λ change. change.row) (find (is_change t c) self.now) }
     {

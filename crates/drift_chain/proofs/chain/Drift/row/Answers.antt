@@ -2,10 +2,9 @@ use Rattle.std.proofs.Common.{◌≡◌, ◌<◌, ◌∙◌, [], length, map, ap
 use Rattle.std.proofs.Math.ListN.{length-map}
 use Rattle.std.proofs.lemmas.List.{get_or-map}
 use Rattle.std.specs.List.{find}
-use Rattle.std.specs.Option.{option_map}
-use Rattle.drift_chain.specs.DriftRows.{DriftRowChange, drift_cells, is_change}
+use Rattle.drift_chain.specs.DriftRows.{drift_cells, is_change}
 use Rattle.drift_chain.specs.Changes.{drift_by, changes_in}
-use Rattle.drift_chain.proofs.DriftChanges.{row_of-base, row_of-or}
+use Rattle.drift_chain.proofs.DriftChanges.{row_of-base}
 use Rattle.drift_chain.proofs.chain.Drift.row.Goals as goal
 
 pub returns-in-Some-clause-value : goal.returns-in-Some-clause-value
@@ -15,8 +14,7 @@ returns-in-Some-clause-value c =
     let drift = drift_by inside.denominator rows inside.changes in
     let cell : c.args.c < length inside.rows.items = omega (arith, c.requires.cell, ap drift_cells c.self.view_is, length-map inside.rows.items (λ row. row.items)) in
     let own : c.deref-own.result.now ≡ get_or rows c.args.c [] = c.deref-own.ensures.value ∙ ap (λ row. row.items) c.index.ensures ∙ sym (get_or-map (λ row. row.items) inside.rows.items c.args.c c.index.result.now [] cell) in
-    let told = c.row.ensures ∙ sym (ap (λ table. option_map (λ (change : DriftRowChange). change.row) (find (is_change c.args.t c.args.c) (changes_in table))) c.in-Some.is) in
-    rw (← c.self.view_is, c.unwrap_or.ensures) (row_of-or drift c.args.t c.args.c c.row.result c.deref-own.result told own)
+    rw (← c.self.view_is) (c.row_in_force.ensures drift (ap changes_in c.in-Some.is) (sym own))
 
 pub returns-in-None-clause-value : goal.returns-in-None-clause-value
 returns-in-None-clause-value c =
