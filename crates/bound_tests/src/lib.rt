@@ -18,3 +18,5 @@ mod openings;
 mod tangent_bounds;
 #[cfg(test)]
 mod walks;
+#[cfg(test)]
+mod worked;

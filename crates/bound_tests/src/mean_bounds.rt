@@ -1,6 +1,7 @@
 ghost use Rattle.std.specs.Prelude.{◌≡◌};
 ghost use Rattle.mean_bound.specs.Means.{IsMadeFor};
 
+use crate::worked::{two_cells, waiting_longer};
 use drift_chain::{Drift, DriftPart};
 use mean_bound::Mean;
 use search_grid::Grid;
@@ -8,7 +9,6 @@ use search_model::{Name, Parts, Path, Scenario};
 use std::alloc::{AllocError, Global};
 use std::test::Fail;
 use sweep_table::{LookChange, LookPart, Sweep};
-use worked_scenarios::{two_cells, waiting_longer};
 
 // Holds of what may be shared between threads and moved to one.
 fn crosses_threads<T: Send + Sync + Drop>(_value: T) {}

@@ -1,5 +1,6 @@
 ghost use Rattle.path_node.specs.Room.{IsMadeFor};
 
+use crate::worked::{two_rates, waiting_longer};
 use bound_tree::Kind;
 use exact_parts::NoMemory;
 use path_node::{Scratch, close};
@@ -10,16 +11,6 @@ use worked_scenarios::base_and_air;
 
 // Holds of what may be shared between threads and moved to one.
 fn crosses_threads<T: Send + Sync + Drop>(_value: T) {}
-
-// The target that waits, over three periods; with no clause, which would put the whole problem into each goal of a test.
-fn waits(alloc: Global) -> Result<Scenario, NoMemory> {
-    worked_scenarios::waiting_longer(alloc)
-}
-
-// The same target, where no look in the middle misses.
-fn has_two_rates(alloc: Global) -> Result<Scenario, NoMemory> {
-    worked_scenarios::two_rates(alloc)
-}
 
 // A record's letter, its number, and the reference of a tangent.
 type Told = (char, u128, Path);
@@ -74,7 +65,7 @@ const WAITS: &[u8] = &[2, 2, 2];
 
 #[test]
 fn prefixes_are_closed_by_each_kind(rt: HostRuntime) -> Result<(), Fail> {
-    let sc = waits(rt.alloc())?;
+    let sc = waiting_longer(rt.alloc())?;
     let rows: [(&[u8], char, u128, &[u8]); 5] = [
         (&[], 'B', 0, &[]),
         (&[0], 'M', 4, &[]),
@@ -88,7 +79,7 @@ fn prefixes_are_closed_by_each_kind(rt: HostRuntime) -> Result<(), Fail> {
 
 #[test]
 fn looks_of_two_rates_have_no_tangent(rt: HostRuntime) -> Result<(), Fail> {
-    let sc = has_two_rates(rt.alloc())?;
+    let sc = two_rates(rt.alloc())?;
     let rows: [(&[u8], char, u128, &[u8]); 3] = [
         (&[0], 'M', 4, &[]),
         (&[1], 'E', 6, &[]),

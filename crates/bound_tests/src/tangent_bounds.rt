@@ -1,5 +1,6 @@
 ghost use Rattle.tangent_bound.specs.Room.{IsMadeFor};
 
+use crate::worked::{two_cells, waiting_longer};
 use drift_chain::{Drift, DriftPart};
 use search_grid::Grid;
 use search_model::{Name, Parts, Path, Scenario};
@@ -7,7 +8,6 @@ use std::alloc::{AllocError, Global};
 use std::test::Fail;
 use sweep_table::{LookChange, LookPart, Sweep};
 use tangent_bound::Tangent;
-use worked_scenarios::{two_cells, waiting_longer};
 
 // Holds of what may be shared between threads and moved to one.
 fn crosses_threads<T: Send + Sync + Drop>(_value: T) {}

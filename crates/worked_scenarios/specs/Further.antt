@@ -1,9 +1,9 @@
 -- Further small problems.
-use Rattle.std.specs.Prelude.{ℕ, List, [], ◌∷◌}
+use Rattle.std.specs.Prelude.{ℕ, ◌≡◌, List, [], ◌∷◌}
 use Rattle.drift_chain.specs.DriftRows.{drift_over}
 use Rattle.sweep_table.specs.LookParts.{parts_over}
 use Rattle.search_model.specs.Problem.{Problem}
-use Rattle.search_model.specs.Worked.{goes_to, waiting_for}
+use Rattle.search_model.specs.Worked.{goes_to, waiting_for, one_cell, two_cells, waiting_target, waiting_longer}
 
 -- the target that waits, over so many periods, where a look in the middle misses this part of 2
 abbrev pub waiting_with : ℕ → ℕ → Problem
@@ -33,3 +33,22 @@ four_cells = record {
 -- the positions `base` and `air`
 abbrev pub base_and_air_names : List (List ℕ)
 base_and_air_names = (98 ∷ 97 ∷ 115 ∷ 101 ∷ []) ∷ (97 ∷ 105 ∷ 114 ∷ []) ∷ []
+
+-- a problem that is one of these; the words stay whole in the goals of a test over it, where the problem itself would slow each
+unfoldable pub IsOneCell : Problem → Type 0
+IsOneCell p = p ≡ one_cell
+
+unfoldable pub IsTwoCells : Problem → Type 0
+IsTwoCells p = p ≡ two_cells
+
+unfoldable pub IsWaitingTarget : Problem → Type 0
+IsWaitingTarget p = p ≡ waiting_target
+
+unfoldable pub IsWaitingLonger : Problem → Type 0
+IsWaitingLonger p = p ≡ waiting_longer
+
+unfoldable pub IsTwoRates : Problem → Type 0
+IsTwoRates p = p ≡ two_rates
+
+unfoldable pub IsFourCells : Problem → Type 0
+IsFourCells p = p ≡ four_cells

@@ -1,28 +1,14 @@
-use Rattle.std.proofs.Common.{ℕ, List, [], ◌∷◌, sym, subst, ap, refl, length, map, ◌∙◌, Vec, Global}
-use Rattle.drift_chain.specs.declared.part.DriftPart.{DriftPart}
-use Rattle.drift_chain.specs.DriftRows.{drift_over}
-use Rattle.sweep_table.specs.LookParts.{parts_over}
+use Rattle.std.proofs.Common.{sym, subst, ◌∙◌}
 use Rattle.search_model.specs.Problem.{Problem, IsProblem}
-use Rattle.search_model.specs.Worked.{one_cell}
+use Rattle.worked_scenarios.specs.Further.{IsOneCell}
 use Rattle.search_model.proofs.ExampleProblems.{one_cell_sound}
-use Rattle.search_model.proofs.SameParts.{same_problem}
 use Rattle.worked_scenarios.proofs.problems.one_cell.Goals as goal
 
 pub scenario_of-requires : goal.scenario_of-requires
 scenario_of-requires c =
     let P : Problem → Type 0 = λ p. IsProblem p in
-    let rows = c.in_ok-vec-4.ensures.items in
-    let moves = c.in_ok-vec-3.ensures.items in
-    let parts : List (Vec DriftPart Global) → List (List DriftPart) = map (λ row. row.items) in
-    let cells : List (Vec ℕ Global) → List (List ℕ) = map (λ row. row.items) in
-    let same = same_problem _ one_cell
-    c.in_ok-letters.ensures
-    c.in_ok-letters-2.ensures
-    (ap length rows)
-    (ap length moves)
-    refl refl refl
-    c.in_ok-vec.ensures.items
-    (ap cells moves ∙ ap (λ (a : List ℕ). a ∷ []) c.in_ok-vec-2.ensures.items)
-    (ap (λ rows. drift_over 1 (parts rows)) rows ∙ ap (λ (a : List DriftPart). drift_over 1 (a ∷ [])) c.in_ok-stays.ensures)
-    (ap (parts_over 2) c.in_ok-vec-5.ensures.items) in
-    subst P (sym same) one_cell_sound
+    subst P (sym c.in_ok-one_cell_lists.ensures) one_cell_sound
+
+pub returns : goal.returns
+unfolding IsOneCell
+returns c = c.scenario_of.ensures ∙ c.in_ok-one_cell_lists.ensures
