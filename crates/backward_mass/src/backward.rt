@@ -54,7 +54,7 @@ impl Backward {
         requires path { IsPath sc.now path.now }
         ensures { IsFilled sc.now path.now self.new }
     {
-        let _sound = sc.horizon();
+        sc.recall_sound();
         self.fill_from(sc, path, 1);
     }
 

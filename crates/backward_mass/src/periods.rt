@@ -15,7 +15,6 @@ fn next_factor(sc: &Scenario, looks: &[u8], t: u32, d: u8) -> u32
     requires cell { d < sc.now.cells }
     ensures { result ≡ factor_of sc.now.sweep (t + 1) (slice_index looks.now t) d }
 {
-    let _sound = sc.horizon();
     sc.sweep().factor(t + 1, looks[t as usize], d)
 }
 
@@ -46,7 +45,6 @@ fn mass_before(sc: &Scenario, missed: &[u128], t: u32, c: u8) -> u128
     requires cell { c < sc.now.cells }
     ensures { (q : List ℕ) → IsPath sc.now q → IsMissedRow sc.now q t missed.now → result ≡ backward_of sc.now q t c }
 {
-    let _sound = sc.horizon();
     let mut sum = 0;
     for entry in sc.drift().row(t, c) {
         sum += u128::from(entry.part) * missed[usize::from(entry.cell)];

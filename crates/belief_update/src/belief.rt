@@ -82,7 +82,6 @@ impl Belief {
         ensures belief { (looks : List (Option ℕ)) → IsBelief sc.now (looks ++ None ∷ []) self.old → IsBelief sc.now (looks ++ Some position ∷ []) self.new }
         ensures period { self.new.period ≡ self.old.period }
     {
-        let _sound = sc.cells();
         steps::weaken(&mut self.masses, sc.sweep(), self.period, position);
         self.looked = true;
     }
@@ -94,7 +93,6 @@ impl Belief {
         ensures belief { (looks : List (Option ℕ)) → IsBelief sc.now looks self.old → IsBelief sc.now (looks ++ None ∷ []) self.new }
         ensures period { self.new.period ≡ self.old.period + 1 }
     {
-        let _sound = sc.cells();
         steps::move_on(&mut self.next, &self.masses, sc.drift(), self.period);
         std::mem::swap(&mut self.masses, &mut self.next);
         self.period += 1;
@@ -121,7 +119,6 @@ impl Belief {
         ensures belief { (looks : List (Option ℕ)) → IsBelief sc.now looks before.now → IsBelief sc.now (looks ++ None ∷ []) self.new }
         ensures period { self.new.period ≡ before.now.period + 1 }
     {
-        let _sound = sc.cells();
         steps::move_on(&mut self.masses, &before.masses, sc.drift(), before.period);
         self.period = before.period + 1;
         self.looked = false;

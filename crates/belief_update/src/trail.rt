@@ -162,7 +162,7 @@ impl Trail {
         ensures prefix { self.new.prefix ≡ prefix.now }
         ensures counted { steps.new + common_of self.old.prefix prefix.now ≡ steps.old + length prefix.now }
     {
-        let _sound = sc.cells();
+        sc.recall_sound();
         let same = in_common(self.prefix.cells(), prefix.cells());
         go_on(
             sc,

@@ -43,7 +43,7 @@ pub fn follow(sc: &Scenario, belief: &mut Belief, prefix: &Path)
     requires legal { IsLegal sc.now prefix.now }
     ensures { IsAfter sc.now prefix.now belief.new }
 {
-    let _sound = sc.cells();
+    sc.recall_sound();
     look_along(sc, belief, prefix.cells());
 }
 
@@ -64,7 +64,6 @@ pub fn value_by(sc: &Scenario, belief: &Belief, prefix: &Path) -> u128
     requires { IsPast sc.now prefix.now belief.now }
     ensures { result ≡ value_of sc.now prefix.now }
 {
-    let _sound = sc.cells();
     let later = later_parts(sc, belief.period(), prefix.len() as u32);
     sc.weight() - belief.undetected() * later
 }

@@ -16,4 +16,4 @@ pub use laws::{
 pub use node::{Kind, TreeNode};
 pub use plan::Plan;
 pub use stack::{pop_prefix, push_expected, push_prefix};
-pub use tree::BoundTree;
+pub use tree::{BoundTree, MOST_NODES};

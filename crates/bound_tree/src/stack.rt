@@ -63,7 +63,6 @@ pub fn push_expected(stack: &mut Vec<Path>, sc: &Scenario, prefix: &Path, kind: 
 {
     match kind {
         Kind::Branch => {
-            let _sound = sc.horizon();
             push_children(stack, prefix, sc.moves_after(prefix));
         }
         Kind::Whole(_) | Kind::Mean(_) | Kind::Tangent(..) | Kind::Edge(_) => {}

@@ -5,6 +5,9 @@ ghost use Rattle.std.specs.Prelude.{◌≡◌};
 use crate::node::TreeNode;
 use std::marker::Model;
 
+/// The most records that a plan may have.
+pub const MOST_NODES: u64 = 1_048_576;
+
 /// The records of a plan, in the order in which they are written.
 #[derive(Drop)]
 pub struct BoundTree {

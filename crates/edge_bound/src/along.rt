@@ -17,7 +17,7 @@ fn first_reward(sc: &Scenario, prefix: &Path, masses: &[u128], b: u8) -> u128
     requires masses { IsTableFor sc.now prefix.now masses.now }
     ensures { result ≡ reward_of sc.now prefix.now (length prefix.now + 1) b }
 {
-    let _sound = sc.cells();
+    sc.recall_sound();
     let looks = prefix.len() as u32 + 1;
     found_first(sc, prefix, masses, b) * later_parts(sc, looks, looks)
 }
@@ -30,7 +30,7 @@ fn next_reward(sc: &Scenario, prefix: &Path, masses: &[u128], t: u32, a: u8, b: 
     requires masses { IsTableFor sc.now prefix.now masses.now }
     ensures { result ≡ edge_reward_of sc.now prefix.now t a b }
 {
-    let _sound = sc.cells();
+    sc.recall_sound();
     let parts = later_parts(sc, t, prefix.len() as u32 + 2);
     found_after(sc, prefix, masses, t, a, b) * parts
 }
@@ -44,7 +44,7 @@ pub(crate) fn sum_after(sc: &Scenario, prefix: &Path, masses: &[u128], path: &[u
     requires fits { edge_sum sc.now prefix.now (drop (length prefix.now) path.now) < 2 ^ 127 }
     ensures { result ≡ edge_sum sc.now prefix.now (drop (length prefix.now) path.now) }
 {
-    let _sound = sc.cells();
+    sc.recall_sound();
     let k = prefix.len();
     let mut sum = first_reward(sc, prefix, masses, path[k]);
     for n in k + 1..path.len() {

@@ -79,7 +79,7 @@ fn bound_from(
     requires short { length prefix.now < sc.now.horizon }
     ensures { result ≡ edge_of sc.now prefix.now }
 {
-    let _sound = sc.cells();
+    sc.recall_sound();
     fill_sums(sums, earlier, sc, prefix, masses);
     value + best_first(sc, prefix, masses, sums)
 }
@@ -93,7 +93,7 @@ fn sum_from(value: u128, masses: &[u128], sc: &Scenario, prefix: &Path, path: &P
     requires begins { take (length prefix.now) path.now ≡ prefix.now }
     ensures { result ≤ edge_of sc.now prefix.now }
 {
-    let _sound = sc.cells();
+    sc.recall_sound();
     value + sum_after(sc, prefix, masses, path.cells())
 }
 

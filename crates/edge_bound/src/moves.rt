@@ -32,7 +32,6 @@ fn look_from(sc: &Scenario, t: u32, a: u8) -> Look<'_>
     ensures cells { All (λ entry. entry.cell < sc.now.cells) result }
     ensures parts { All (λ entry. entry.part ≤ sc.now.sweep.denominator) result }
 {
-    let _sound = sc.cells();
     sc.sweep().look(t, a)
 }
 
@@ -44,7 +43,6 @@ fn mass_going_on(sc: &Scenario, prefix: &Path, masses: &[u128], t: u32, c: u8, d
     requires masses { IsTableFor sc.now prefix.now masses.now }
     ensures { result ≡ going_on sc.now prefix.now t d c }
 {
-    let _sound = sc.cells();
     mass_at(sc, prefix, masses, t - 1, c) * u128::from(sc.drift().part(t - 1, c, d))
 }
 
@@ -59,7 +57,6 @@ fn taken_by_row(sc: &Scenario, prefix: &Path, masses: &[u128], t: u32, a: u8, d:
     requires fits { found_of sc.now (t - 1) a (going_on sc.now prefix.now t d) < 2 ^ 127 }
     ensures { result ≡ found_of sc.now (t - 1) a (going_on sc.now prefix.now t d) }
 {
-    let _sound = sc.cells();
     let whole = sc.sweep().denominator();
     let look = look_from(sc, t - 1, a);
     let mut sum = 0;
@@ -80,7 +77,6 @@ fn taken(sc: &Scenario, prefix: &Path, masses: &[u128], t: u32, a: u8, d: u8) ->
     requires fits { found_of sc.now (t - 1) a (going_on sc.now prefix.now t d) < 2 ^ 127 }
     ensures { result ≡ found_of sc.now (t - 1) a (going_on sc.now prefix.now t d) }
 {
-    let _sound = sc.cells();
     match sc.sweep().own_part(a) {
         Some(part) => {
             let mass = mass_going_on(sc, prefix, masses, t, a, d);
@@ -99,9 +95,9 @@ fn left(sc: &Scenario, prefix: &Path, masses: &[u128], t: u32, a: u8, d: u8) -> 
     requires masses { IsTableFor sc.now prefix.now masses.now }
     ensures { result ≡ mass_after_look sc.now prefix.now t a d }
 {
-    let _sound = sc.cells();
+    let whole = sc.sweep().denominator();
     let found = taken(sc, prefix, masses, t, a, d);
-    mass_at(sc, prefix, masses, t, d) * u128::from(sc.sweep().denominator()) - found
+    mass_at(sc, prefix, masses, t, d) * u128::from(whole) - found
 }
 
 /// What a look from `b` in period `t` finds after a look from `a` in the period before, cell by cell of its row.
@@ -114,7 +110,6 @@ fn found_after_by_row(sc: &Scenario, prefix: &Path, masses: &[u128], t: u32, a: 
     ensures { result * (sc.now.drift.denominator ^ (sc.now.horizon - t) * sc.now.sweep.denominator ^ (sc.now.horizon - (length prefix.now + 2)))
         ≡ edge_reward_of sc.now prefix.now t a b }
 {
-    let _sound = sc.cells();
     let whole = sc.sweep().denominator();
     let look = look_from(sc, t, b);
     let mut sum = 0;
@@ -142,7 +137,6 @@ pub(crate) fn found_after(
     ensures { result * (sc.now.drift.denominator ^ (sc.now.horizon - t) * sc.now.sweep.denominator ^ (sc.now.horizon - (length prefix.now + 2)))
         ≡ edge_reward_of sc.now prefix.now t a b }
 {
-    let _sound = sc.cells();
     match sc.sweep().own_part(b) {
         Some(part) => {
             let mass = left(sc, prefix, masses, t, a, b);
@@ -162,7 +156,6 @@ pub(crate) fn found_first(sc: &Scenario, prefix: &Path, masses: &[u128], b: u8) 
         result * (sc.now.drift.denominator ^ (sc.now.horizon - (k + 1)) * sc.now.sweep.denominator ^ (sc.now.horizon - (k + 1)))
         ≡ reward_of sc.now prefix.now (k + 1) b }
 {
-    let _sound = sc.cells();
     let t = prefix.len() as u32 + 1;
     let whole = sc.sweep().denominator();
     let look = look_from(sc, t, b);

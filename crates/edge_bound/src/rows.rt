@@ -20,9 +20,8 @@ fn best_move(sc: &Scenario, prefix: &Path, masses: &[u128], sums: &[u128], t: u3
     requires sums { HasSums sc.now prefix.now (t + 1) sums.now }
     ensures { result ≡ greatest_moves sc.now.moves (edge_reward_of sc.now prefix.now) (sc.now.horizon + 1 - t) t a }
 {
-    let _sound = sc.cells();
-    let parts = later_parts(sc, t, prefix.len() as u32 + 2);
     let moves = sc.grid().moves(a);
+    let parts = later_parts(sc, t, prefix.len() as u32 + 2);
     let mut best = 0;
     for b in moves {
         let reward = found_after(sc, prefix, masses, t, a, *b) * parts;
@@ -75,10 +74,9 @@ pub(crate) fn best_first(sc: &Scenario, prefix: &Path, masses: &[u128], sums: &[
     requires sums { HasSums sc.now prefix.now (length prefix.now + 2) sums.now }
     ensures { result ≡ greatest (map (edge_sum sc.now prefix.now) (continuations sc.now prefix.now)) }
 {
-    let _sound = sc.cells();
+    let moves = sc.moves_after(prefix);
     let looks = prefix.len() as u32 + 1;
     let parts = later_parts(sc, looks, looks);
-    let moves = sc.moves_after(prefix);
     let mut best = 0;
     for b in moves {
         let first = found_first(sc, prefix, masses, *b) * parts;

@@ -74,7 +74,6 @@ fn bound_by(
     ensures positions { walk.new.positions ≡ sc.now.positions }
     ensures horizon { walk.new.horizon ≡ sc.now.horizon }
 {
-    let _sound = sc.cells();
     onward.advance_from(sc, row);
     let value = value_by(sc, onward, prefix);
     fill_rewards(rewards, sc, onward, prefix);
@@ -162,7 +161,6 @@ impl Mean {
         requires filled { IsFilledFor sc.now to.old self.now }
         ensures { IsReference sc.now to.old to.new }
     {
-        let _sound = sc.cells();
         self.walk.least_best(sc.grid(), &self.rewards, to);
     }
 }

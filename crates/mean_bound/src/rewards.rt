@@ -16,7 +16,6 @@ fn found_by_row(sc: &Scenario, belief: &Belief, a: u8) -> u128
     requires fits { found_of sc.now belief.now a < 2 ^ 127 }
     ensures { result ≡ found_of sc.now belief.now a }
 {
-    let _sound = sc.cells();
     let sweep = sc.sweep();
     let whole = sweep.denominator();
     let look = sweep.look(belief.period(), a);
@@ -35,7 +34,6 @@ fn found(sc: &Scenario, belief: &Belief, a: u8) -> u128
     requires fits { found_of sc.now belief.now a < 2 ^ 127 }
     ensures { result ≡ found_of sc.now belief.now a }
 {
-    let _sound = sc.cells();
     let sweep = sc.sweep();
     match sweep.own_part(a) {
         Some(part) => belief.at(a) * u128::from(sweep.denominator() - part),

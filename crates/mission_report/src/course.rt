@@ -53,7 +53,7 @@ pub fn follow(alloc: Global, sc: &Scenario, path: &Path) -> Result<Course, NoMem
     requires { IsPath sc.now path.now }
     ensures { IfOk result (IsCourse sc.now path.now) }
 {
-    let _sound = sc.cells();
+    sc.recall_sound();
     let looks = path.cells();
     let mut belief = Belief::start(alloc, sc)?;
     let mut values = Vec::new(alloc);

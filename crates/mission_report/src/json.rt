@@ -47,7 +47,7 @@ fn place_values(alloc: Global, sc: &Scenario, path: &Path) -> Result<Vec<Value>,
     requires { IsPath sc.now path.now }
     ensures { IfOk result (λ values. map view values.items ≡ map (place_value sc.now) path.now) }
 {
-    let _sound = sc.cells();
+    sc.recall_sound();
     let mut values = Vec::new(alloc);
     for a in path.cells() {
         values.push(name_value(alloc, sc.position(*a))?)?;
@@ -105,7 +105,6 @@ fn report_value(alloc: Global, sc: &Scenario, path: &Path) -> Result<Value, NoMe
     requires { IsPath sc.now path.now }
     ensures { IfOk result (λ v. view v ≡ report_value_lem sc.now path.now) }
 {
-    let _sound = sc.cells();
     let course = follow(alloc, sc, path)?;
     let chance = number_value(alloc, value_after(sc, &course.belief))?;
     let left = left_values(alloc, sc, &course.belief)?;

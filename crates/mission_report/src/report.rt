@@ -20,7 +20,6 @@ pub fn push_chance(out: &mut Vec<u8>, sc: &Scenario, value: u128) -> Result<(), 
     ensures ok { OnOk result (out.new.items ≡ out.old.items ++ text_of (chance_row sc.now value ∷ [])) }
     ensures err { OnErr result (AppendsFront out.old.items out.new.items (text_of (chance_row sc.now value ∷ []))) }
 {
-    let _sound = sc.cells();
     let whole = sc.weight();
     push_line(
         out,
@@ -46,7 +45,6 @@ fn push_period(
     ensures ok { OnOk result (out.new.items ≡ out.old.items ++ text_of (period_row sc.now t position value ∷ [])) }
     ensures err { OnErr result (AppendsFront out.old.items out.new.items (text_of (period_row sc.now t position value ∷ []))) }
 {
-    let _sound = sc.cells();
     push_line(
         out,
         b"period",
@@ -66,7 +64,6 @@ fn push_left(out: &mut Vec<u8>, sc: &Scenario, c: u8, mass: u128) -> Result<(), 
     ensures ok { OnOk result (out.new.items ≡ out.old.items ++ text_of (left_row sc.now c mass ∷ [])) }
     ensures err { OnErr result (AppendsFront out.old.items out.new.items (text_of (left_row sc.now c mass ∷ []))) }
 {
-    let _sound = sc.cells();
     push_line(
         out,
         b"left",
@@ -90,7 +87,7 @@ fn push_periods(
     ensures ok { OnOk result (out.new.items ≡ out.old.items ++ text_of (period_rows sc.now path.now)) }
     ensures err { OnErr result (AppendsFront out.old.items out.new.items (text_of (period_rows sc.now path.now))) }
 {
-    let _sound = sc.cells();
+    sc.recall_sound();
     let looks = path.cells();
     for i in 0..looks.len() {
         push_period(out, sc, i as u32 + 1, looks[i], values[i])?;
@@ -122,7 +119,7 @@ pub fn push_report(out: &mut Vec<u8>, sc: &Scenario, path: &Path) -> Result<(), 
     ensures ok { OnOk result (out.new.items ≡ out.old.items ++ report_text sc.now path.now) }
     ensures err { OnErr result (AppendsFront out.old.items out.new.items (report_text sc.now path.now)) }
 {
-    let _sound = sc.cells();
+    sc.recall_sound();
     let course = follow(*out.allocator(), sc, path)?;
     push_line(out, b"report", &[Field::Word(b"1")])?;
     push_chance(out, sc, value_after(sc, &course.belief))?;

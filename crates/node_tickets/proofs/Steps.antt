@@ -11,7 +11,7 @@ use Rattle.atomic_table.specs.Table.{State, Me, Allows, Splits, Joins, keeps, op
 use Rattle.atomic_table.proofs.Lists.{set_else, set_again}
 use Rattle.node_tickets.specs.declared.hand.Hand.{Hand}
 use Rattle.node_tickets.specs.Rule.{hand, high_of, IsCounted}
-use Rattle.node_tickets.specs.Seats.{ALL_SEATS}
+use Rattle.node_tickets.specs.Seats.{ALL_SEATS, MOST_NUMBERS}
 use Rattle.list_laws.proofs.Changed.{All-at, All-flat_map_at, sum_by-set_at, sum_by-else, flat_map-grown, flat_map-beside, flat_map-moved, flat_map-one}
 use Rattle.list_laws.proofs.Exchanges.{IsPermutation-same}
 use Rattle.node_tickets.proofs.Numbers.{high_append, high_push, high_none, range_length}
@@ -54,7 +54,7 @@ begins limit = record {
 }
 
 -- a draw
-pub draws : (limit slots id : ℕ) (me : Me (Unit {0}) Hand) → All (λ n. n < limit) me.0.drawn → 0 < me.0.stands_for → limit ≤ 1048576 →
+pub draws : (limit slots id : ℕ) (me : Me (Unit {0}) Hand) → All (λ n. n < limit) me.0.drawn → 0 < me.0.stands_for → limit ≤ MOST_NUMBERS →
     Allows (IsCounted limit) slots id me 0 (λ n. (n + 1) % 2 ^ 64)
     (λ n after. (after ≡ (hand me.0.stands_for me.0.limit (me.0.drawn ++ n ∷ []), me.1)) × All (λ x. x < n) me.0.drawn)
 draws limit slots id me low some_seat most s h homes at small =

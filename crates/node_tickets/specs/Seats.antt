@@ -24,6 +24,10 @@ pub record SeatView : Type 0 where
 abbrev pub ALL_SEATS : ℕ
 ALL_SEATS = 16
 
+-- the most numbers that tickets give out
+abbrev pub MOST_NUMBERS : ℕ
+MOST_NUMBERS = 1048576
+
 -- it is a seat of these tickets
 abbrev pub IsSeatOf : TicketsView → SeatView → Type 0
 IsSeatOf t seat = (seat.tickets ≡ t.id) × (seat.limit ≡ t.limit)

@@ -3,7 +3,7 @@
 ghost use Rattle.std.specs.Prelude.{◌≡◌, ◌+◌, ◌-◌, ◌<◌, ◌≤◌, ◌++◌, ◌∷◌, [], ◌↔◌, length, min, All, IsPermutation, IfOk};
 ghost use Rattle.std.specs.List.{flat_map, range_with_len, sum_by};
 ghost use Rattle.node_tickets.specs.Draws.{number_drawn, IfNumber, IfFull};
-ghost use Rattle.node_tickets.specs.Seats.{ALL_SEATS, IsSeatOf, AreAllSeats, IsFresh, MayDraw, drawn_by, numbers_of};
+ghost use Rattle.node_tickets.specs.Seats.{ALL_SEATS, MOST_NUMBERS, IsSeatOf, AreAllSeats, IsFresh, MayDraw, drawn_by, numbers_of};
 
 use crate::draw::Draw;
 use crate::word::{Closes, Deals, Draws, Place, Word};
@@ -23,7 +23,7 @@ pub struct Tickets {
 
 impl Model for Tickets {
     ghost use Rattle.std.specs.Prelude.{◌≡◌, ◌≤◌};
-    ghost use Rattle.node_tickets.specs.Seats.{TicketsView};
+    ghost use Rattle.node_tickets.specs.Seats.{TicketsView, MOST_NUMBERS};
 
     ghost Value = { TicketsView };
 
@@ -32,7 +32,7 @@ impl Model for Tickets {
     ghost invariant = { λ t. record {
       one : t.word.shared.table_id.words ≡ 1;
       limit : t.word.shared.key ≡ t.limit;
-      most : t.limit ≤ 1048576;
+      most : t.limit ≤ MOST_NUMBERS;
     } };
 }
 
@@ -74,7 +74,7 @@ impl Tickets {
         seats: u32,
     ) -> Result<(Tickets, Vec<TicketSeat>), NoMemory>
         requires some { 1 ≤ limit }
-        requires most { limit ≤ 1048576 }
+        requires most { limit ≤ MOST_NUMBERS }
         requires some_seats { 1 ≤ seats }
         requires few_seats { seats ≤ 16 }
         ensures limit { IfOk result (λ r. r.0.limit ≡ limit) }

@@ -36,7 +36,6 @@ fn best_move(sc: &Scenario, here: &Belief, trial: &mut Belief, prefix: &Path) ->
     ensures least { LeavesLeast sc.now prefix.now (moves_after sc.now prefix.now) result }
     ensures cells { length trial.new.masses ≡ sc.now.cells }
 {
-    let _sound = sc.cells();
     let moves = sc.moves_after(prefix);
     let mut best = 0;
     let mut least = left_after(sc, here, trial, moves[0]);
@@ -60,7 +59,7 @@ fn go_on(sc: &Scenario, here: &mut Belief, trial: &mut Belief, prefix: &mut Path
     ensures longer { length prefix.new ≡ length prefix.old + 1 }
     ensures cells { length trial.new.masses ≡ sc.now.cells }
 {
-    let _sound = sc.cells();
+    sc.recall_sound();
     let best = best_move(sc, here, trial, prefix);
     here.look(sc, best);
     prefix.push(best);

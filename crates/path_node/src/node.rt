@@ -103,7 +103,7 @@ fn close_by_edge(
     ensures closed { IsClosed sc.now standing.now prefix.now result }
     ensures made { IsMadeFor sc.now scratch.new }
 {
-    let _sound = sc.cells();
+    sc.recall_sound();
     let ahead = ahead_of(&scratch.trail, sc, prefix);
     let enough = standing.value + 1;
     let edge = scratch
@@ -136,10 +136,10 @@ fn close_by_tangent(
     ensures closed { IsClosed sc.now standing.now prefix.now result }
     ensures made { IsMadeFor sc.now scratch.new }
 {
-    let _sound = sc.cells();
+    let whole = sc.sweep().denominator();
     let ahead = ahead_of(&scratch.trail, sc, prefix);
     let tangent = scratch.tangent.bound_after(sc, ahead, prefix, reference);
-    let finer = in_parts(standing, sc.sweep().denominator());
+    let finer = in_parts(standing, whole);
     if cuts(&finer, tangent, prefix) {
         Kind::Tangent(tangent, *reference)
     } else {

@@ -11,6 +11,7 @@ use Rattle.tree_format.proofs.FedLaws.{items_in_order}
 use Rattle.tree_checker.specs.Reasons.{first_reason}
 use Rattle.tree_checker.specs.Progress.{Progress, reason_if, reason_at_end, IsUnderWay, IsMadeFor}
 use Rattle.plan_command.specs.Intakes.{nodes_in, LeadsToReason, HasHeard, IsNextItem}
+use Rattle.bound_tree.specs.Room.{MOST_NODES}
 
 -- The records among items.
 
@@ -102,7 +103,7 @@ head_first p text told s w n sound tells = elim (items_in_order p text (told ++ 
   ]
 ]
 
-pub few_nodes : (p : Problem) (text : List ℕ) (told : List PlanItem) → IsProblem p → Tells p text told → length (nodes_in told) ≤ 1048576
+pub few_nodes : (p : Problem) (text : List ℕ) (told : List PlanItem) → IsProblem p → Tells p text told → length (nodes_in told) ≤ MOST_NODES
 few_nodes p text told sound tells = elim (items_in_order p text told sound tells) [
   | inl none ↦ let count : length (nodes_in told) ≡ 0 = ap (λ (xs : List PlanItem). length (nodes_in xs)) none in omega (arith, count)
   | inr order ↦ elim order.order [

@@ -14,6 +14,7 @@ use Rattle.bound_tree.proofs.Rooms.{legal_expected}
 use Rattle.bound_tree.proofs.Placing.{eaten_are_in_place}
 use Rattle.bound_tree.specs.Places.{AreInPlace}
 use Rattle.tree_format.specs.PlanText.{ArePositions, IsPrintableKind, IsPrintableRecord, IsPrintable}
+use Rattle.bound_tree.specs.Room.{MOST_NODES}
 
 module _ (p : Problem) (sound : IsProblem p) (s : Standing) where
   follows_positions : (q : List ℕ) → Follows p.moves p.start q → ArePositions p q
@@ -46,7 +47,7 @@ module _ (p : Problem) (sound : IsProblem p) (s : Standing) where
       (record { positions = follows_positions r.prefix here.follows; short = here.short; kind = kind_printable r.prefix r.kind eaten.1 })
       (eaten_printable (expected_by p r.prefix r.kind ++ qs) rs more eaten.2)
 
-pub accepted_printable : (p : Problem) (plan : Plan) → IsProblem p → Accepts p plan → length plan.tree ≤ 1048576 → IsPrintable p plan
+pub accepted_printable : (p : Problem) (plan : Plan) → IsProblem p → Accepts p plan → length plan.tree ≤ MOST_NODES → IsPrintable p plan
 accepted_printable p plan sound accepts few =
     let empty : IsLegal p [] = record { follows = tt; short = omega arith } in
     record {

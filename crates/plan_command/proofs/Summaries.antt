@@ -15,6 +15,7 @@ use Rattle.scenario_maker.specs.Made.{made_problem}
 use Rattle.scenario_maker.proofs.Prefixes.{few_made_prefixes}
 use Rattle.plan_command.specs.Drills.{drill_text}
 use Rattle.plan_command.specs.Makes.{IsTooMany}
+use Rattle.bound_tree.specs.Room.{MOST_NODES}
 
 -- the summary, piece by piece as it is written
 abbrev summary_parts : ℕ → Problem → List ℕ → List ℕ
@@ -44,7 +45,7 @@ summary_written number p path a b c d e f g ha hb hc hd he hf hg =
     stands_last {now = g} chance hg
 
 -- a made scenario has few live prefixes
-pub made_few : (number : ℕ) → IsTooMany (made_problem number) 1048576 → ⊥
+pub made_few : (number : ℕ) → IsTooMany (made_problem number) MOST_NODES → ⊥
 made_few number (opening, is, (qs, ascending, live, more)) =
     let legal = All-weaker (IsLive (made_problem number) _) (IsLegal (made_problem number)) (λ q h. h.legal) qs live in
     let few = few_made_prefixes number qs (record { ascending = ascending; legal = legal }) in

@@ -14,6 +14,7 @@ use Rattle.plan_command.specs.declared.request.Request.{Request}
 use Rattle.plan_command.specs.declared.request.Request.TheVariants.{Plan, Check, Report, Make, Drill, Convert}
 use Rattle.plan_command.specs.Words.{Spells, SpellNone, SpellsPlan, IsCrew}
 use Rattle.plan_command.specs.WordReading.{at_least, number_within, workers_in, nodes_in, number_in, asks, asks_both, plan_with_one, plan_with_two, plan_at, alone_at, report_at, make_at, drill_at, request_at}
+use Rattle.bound_tree.specs.Room.{MOST_NODES}
 
 some_tells : {X : Type 0} (x y : X) → Some x ≡ Some y → x ≡ y
 some_tells x y e = cc
@@ -59,8 +60,8 @@ number_of_text least most n wide low high =
 workers_of_text : (n : ℕ) → IsCrew n → workers_in (decimal n) ≡ Some n
 workers_of_text n crew = number_of_text 1 16 n (omega arith) crew.0 crew.1
 
-nodes_of_text : (n : ℕ) → 1 ≤ n → n ≤ 1048576 → nodes_in (decimal n) ≡ Some n
-nodes_of_text n low high = number_of_text 1 1048576 n (omega arith) low high
+nodes_of_text : (n : ℕ) → 1 ≤ n → n ≤ MOST_NODES → nodes_in (decimal n) ≡ Some n
+nodes_of_text n low high = number_of_text 1 MOST_NODES n (omega arith) low high
 
 any_of_text : (n : ℕ) → n < 2 ^ 64 → number_in (decimal n) ≡ Some n
 any_of_text n small = number_of_text 0 18446744073709551615 n (omega arith) (omega arith) (omega (arith, small))
@@ -77,8 +78,8 @@ both_tell request None q r e = absurd (none_of_some r e)
 workers_tell : (n : ℕ) (word : List ℕ) → workers_in word ≡ Some n → IsNumber 1 16 word n
 workers_tell n word e = number_tells 1 16 n word (omega arith) e
 
-nodes_tell : (n : ℕ) (word : List ℕ) → nodes_in word ≡ Some n → IsNumber 1 1048576 word n
-nodes_tell n word e = number_tells 1 1048576 n word (omega arith) e
+nodes_tell : (n : ℕ) (word : List ℕ) → nodes_in word ≡ Some n → IsNumber 1 MOST_NODES word n
+nodes_tell n word e = number_tells 1 MOST_NODES n word (omega arith) e
 
 any_tells : (n : ℕ) (word : List ℕ) → number_in word ≡ Some n → IsNumber 0 18446744073709551615 word n
 any_tells n word e = number_tells 0 18446744073709551615 n word (omega arith) e
@@ -133,7 +134,7 @@ two_told name value other number =
     (λ nor r e. absurd (none_of_some r e)))
 
 plan_told : (words : List (List ℕ)) → Told (codes "plan") words (plan_at words)
-plan_told [] r e = subst (Spells (codes "plan" ∷ [])) (some_tells (Plan 4 1048576) r e) ((omega arith, omega arith), (omega arith, omega arith), ([], refl, inl (refl, refl, refl)))
+plan_told [] r e = subst (Spells (codes "plan" ∷ [])) (some_tells (Plan 4 MOST_NODES) r e) ((omega arith, omega arith), (omega arith, omega arith), ([], refl, inl (refl, refl, refl)))
 plan_told (a ∷ []) r e = absurd (none_of_some r e)
 plan_told (a ∷ b ∷ []) r e = one_told a b r e
 plan_told (a ∷ b ∷ c ∷ []) r e = absurd (none_of_some r e)
@@ -201,9 +202,9 @@ read_is_spelled (command ∷ words) r e =
     (λ c r e. absurd (none_of_some r e))))))) r e
 
 -- the options of a plan that is spelled are read
-plan_read : (options : List (List ℕ)) (workers nodes : ℕ) → IsCrew workers → 1 ≤ nodes → nodes ≤ 1048576 → SpellsPlan options workers nodes → plan_at options ≡ Some (Plan workers nodes)
+plan_read : (options : List (List ℕ)) (workers nodes : ℕ) → IsCrew workers → 1 ≤ nodes → nodes ≤ MOST_NODES → SpellsPlan options workers nodes → plan_at options ≡ Some (Plan workers nodes)
 plan_read options w n crew low high (inl (is, four, all)) = rw is (rw four (rw all refl))
-plan_read options w n crew low high (inr (inl (is, all))) = rw is (rw all (ap (asks (λ w. Plan w 1048576)) (workers_of_text w crew)))
+plan_read options w n crew low high (inr (inl (is, all))) = rw is (rw all (ap (asks (λ w. Plan w MOST_NODES)) (workers_of_text w crew)))
 plan_read options w n crew low high (inr (inr (inl (is, four)))) = rw is (rw four (ap (asks (λ n. Plan 4 n)) (nodes_of_text n low high)))
 plan_read options w n crew low high (inr (inr (inr (inl is)))) =
     rw is (ap (λ (o : Option ℕ). asks_both (λ w n. Plan w n) o (nodes_in (decimal n))) (workers_of_text w crew) ∙ ap (asks (λ n. Plan w n)) (nodes_of_text n low high))

@@ -13,10 +13,11 @@ use Rattle.plan_command.specs.declared.status.Stop.TheVariants as stops
 use Rattle.plan_command.specs.Words.{IsCrew}
 use Rattle.plan_command.specs.Plans.{IsCertified}
 use Rattle.plan_command.specs.Commands.{Answers, Refuses}
+use Rattle.bound_tree.specs.Room.{MOST_NODES}
 
 -- a request whose numbers are within their limits
 abbrev pub IsAsked : Request → Type 0
-IsAsked (Plan workers nodes) = IsCrew workers × ((1 ≤ nodes) × (nodes ≤ 1048576))
+IsAsked (Plan workers nodes) = IsCrew workers × ((1 ≤ nodes) × (nodes ≤ MOST_NODES))
 IsAsked Check = Unit {0}
 IsAsked (Report json) = Unit {0}
 IsAsked (Make number) = number < 2 ^ 64

@@ -6,6 +6,7 @@ use Rattle.exact_parts.specs.declared.number.Number.TheVariants.{NotPlain, Above
 use Rattle.exact_parts.specs.Decimal.{number_at}
 use Rattle.plan_command.specs.declared.request.Request.{Request}
 use Rattle.plan_command.specs.declared.request.Request.TheVariants.{Plan, Check, Report, Make, Drill, Convert}
+use Rattle.bound_tree.specs.Room.{MOST_NODES}
 
 -- the number that a word spells, where it is within these limits
 abbrev pub at_least : ℕ → Number → Option ℕ
@@ -20,7 +21,7 @@ abbrev pub workers_in : List ℕ → Option ℕ
 workers_in word = number_within 1 16 word
 
 abbrev pub nodes_in : List ℕ → Option ℕ
-nodes_in word = number_within 1 1048576 word
+nodes_in word = number_within 1 MOST_NODES word
 
 abbrev pub number_in : List ℕ → Option ℕ
 number_in word = number_within 0 18446744073709551615 word
@@ -36,7 +37,7 @@ asks_both request None n = None
 
 abbrev pub plan_with_one : List ℕ → List ℕ → Option Request
 plan_with_one name value =
-    if bytes_eq name (codes "--workers") then asks (λ w. Plan w 1048576) (workers_in value) else
+    if bytes_eq name (codes "--workers") then asks (λ w. Plan w MOST_NODES) (workers_in value) else
     (if bytes_eq name (codes "--nodes") then asks (λ n. Plan 4 n) (nodes_in value) else None)
 
 abbrev pub plan_with_two : List ℕ → List ℕ → List ℕ → List ℕ → Option Request
@@ -45,7 +46,7 @@ plan_with_two name value other number =
     (if bytes_eq name (codes "--nodes") && bytes_eq other (codes "--workers") then asks_both (λ n w. Plan w n) (nodes_in value) (workers_in number) else None)
 
 abbrev pub plan_at : List (List ℕ) → Option Request
-plan_at [] = Some (Plan 4 1048576)
+plan_at [] = Some (Plan 4 MOST_NODES)
 plan_at (name ∷ value ∷ []) = plan_with_one name value
 plan_at (name ∷ value ∷ other ∷ number ∷ []) = plan_with_two name value other number
 plan_at _ = None

@@ -5,6 +5,7 @@ use Rattle.std.specs.declared.option.Option.TheVariants.{Some, None}
 use Rattle.std.specs.Fmt.{decimal}
 use Rattle.plan_command.specs.declared.request.Request.{Request}
 use Rattle.plan_command.specs.declared.request.Request.TheVariants.{Plan, Check, Report, Make, Drill, Convert}
+use Rattle.bound_tree.specs.Room.{MOST_NODES}
 
 -- an option: its name, and the decimal text of its number
 abbrev pub option : List ℕ → ℕ → List (List ℕ)
@@ -19,8 +20,8 @@ nodes_option n = option (codes "--nodes") n
 -- the options of `plan` stand in any order, each at most once: 4 workers and 1,048,576 records where none says so
 abbrev pub SpellsPlan : List (List ℕ) → ℕ → ℕ → Type 0
 SpellsPlan options workers nodes =
-    ((options ≡ []) × (workers ≡ 4) × (nodes ≡ 1048576))
-    ⊎ (((options ≡ workers_option workers) × (nodes ≡ 1048576))
+    ((options ≡ []) × (workers ≡ 4) × (nodes ≡ MOST_NODES))
+    ⊎ (((options ≡ workers_option workers) × (nodes ≡ MOST_NODES))
     ⊎ (((options ≡ nodes_option nodes) × (workers ≡ 4))
     ⊎ ((options ≡ workers_option workers ++ nodes_option nodes)
     ⊎ (options ≡ nodes_option nodes ++ workers_option workers))))
@@ -32,7 +33,7 @@ IsCrew workers = (1 ≤ workers) × (workers ≤ 16)
 -- the words spell the request
 abbrev pub Spells : List (List ℕ) → Request → Type 0
 Spells words (Plan workers nodes) =
-    IsCrew workers × ((1 ≤ nodes) × (nodes ≤ 1048576))
+    IsCrew workers × ((1 ≤ nodes) × (nodes ≤ MOST_NODES))
     × ((options : List (List ℕ)) × (words ≡ codes "plan" ∷ options) × SpellsPlan options workers nodes)
 Spells words Check = words ≡ codes "check" ∷ []
 Spells words (Report false) = words ≡ codes "report" ∷ []
@@ -48,11 +49,19 @@ Spells words Convert = words ≡ codes "convert" ∷ []
 abbrev pub SpellNone : List (List ℕ) → Type 0
 SpellNone words = (request : Request) → Spells words request → ⊥
 
+-- the most bytes of a scenario that is planned
+abbrev pub MOST_SCENARIO : ℕ
+MOST_SCENARIO = 1048576
+
+-- the most bytes of a scenario with a plan behind it
+abbrev pub MOST_JUDGED : ℕ
+MOST_JUDGED = 336592896
+
 -- how many bytes of input a request may have, where it reads any
 abbrev pub limit_of : Request → Option ℕ
-limit_of (Plan workers nodes) = Some 1048576
-limit_of Check = Some 336592896
-limit_of (Report json) = Some 336592896
+limit_of (Plan workers nodes) = Some MOST_SCENARIO
+limit_of Check = Some MOST_JUDGED
+limit_of (Report json) = Some MOST_JUDGED
 limit_of (Make number) = None
 limit_of (Drill number workers) = None
-limit_of Convert = Some 336592896
+limit_of Convert = Some MOST_JUDGED

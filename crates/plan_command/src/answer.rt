@@ -46,6 +46,7 @@ impl From<AllocError> for Stop {
 
 ghost use Rattle.search_workers.specs.Search.{plan_of};
 ghost use Rattle.plan_command.specs.Makes.{PlansFor};
+ghost use Rattle.bound_tree.specs.Room.{MOST_NODES};
 
 /// The plan of what a search found.
 fn plan_found(sc: &Scenario, found: Found) -> Plan
@@ -67,7 +68,7 @@ pub fn plan_from_opening<R: AllocGlobal + Threads + Wait + Sync, G: Gate>(
     gate: &G,
 ) -> Result<Plan, Stop>
     requires crew { IsCrew workers }
-    requires nodes { (1 ≤ nodes) × (nodes ≤ 1048576) }
+    requires nodes { (1 ≤ nodes) × (nodes ≤ MOST_NODES) }
     ensures { PlansFor sc.now nodes result }
 {
     let first = opening(rt.alloc(), sc)?;
@@ -87,7 +88,7 @@ pub fn answer_plan<R: AllocGlobal + Threads + Wait + Sync, G: Gate>(
     gate: &G,
 ) -> Result<Answer, Stop>
     requires crew { IsCrew workers }
-    requires nodes { (1 ≤ nodes) × (nodes ≤ 1048576) }
+    requires nodes { (1 ≤ nodes) × (nodes ≤ MOST_NODES) }
     ensures { MakesOf (Request.Plan workers nodes) input.now result }
 {
     let sc = match read_scenario_alone(rt.alloc(), input) {

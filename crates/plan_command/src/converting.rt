@@ -47,7 +47,7 @@ fn convert_plan(alloc: Global, sc: &Scenario, plan: &Plan) -> Result<Answer, Sto
 fn convert_rest(alloc: Global, sc: &Scenario, rest: &[u8]) -> Result<Answer, Stop>
     ensures { ConvertsRest sc.now rest.now result }
 {
-    let _sound = sc.cells();
+    sc.recall_sound();
     match read_plan(alloc, sc, skip_spaces(rest)) {
         Ok(plan) => convert_plan(alloc, sc, &plan),
         Err(PlanStop::Fault(fault)) => Err(Stop::BadPlan(fault)),

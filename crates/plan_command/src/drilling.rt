@@ -10,11 +10,11 @@ ghost use Rattle.plan_command.specs.Drills.{drill_text};
 ghost use Rattle.plan_command.specs.Plans.{IsCertified};
 ghost use Rattle.plan_command.specs.Words.{IsCrew};
 ghost use Rattle.plan_command.specs.Makes.{MakesOf, IsTooMany};
+ghost use Rattle.bound_tree.specs.Room.{MOST_NODES};
 
 use crate::answer::{Answer, plan_from_opening};
-use crate::request::MOST_NODES;
 use crate::status::{Status, Stop};
-use bound_tree::Plan;
+use bound_tree::{MOST_NODES, Plan};
 use exact_parts::NoMemory;
 use mission_report::push_chance;
 use scenario_maker::make;
@@ -48,12 +48,12 @@ fn plan_of_few<R: AllocGlobal + Threads + Wait + Sync, G: Gate>(
     gate: &G,
 ) -> Result<Plan, NoMemory>
     requires crew { IsCrew workers }
-    requires few { IsTooMany sc.now 1048576 → ⊥ }
+    requires few { IsTooMany sc.now MOST_NODES → ⊥ }
     ensures certified { IfOk result (IsCertified sc.now) }
     ensures printable { IfOk result (IsPrintable sc.now) }
     ensures in_place { IfOk result (λ plan. AreInPlace sc.now ([] ∷ []) plan.tree) }
 {
-    let _sound = sc.horizon();
+    sc.recall_sound();
     match plan_from_opening(rt, sc, workers, MOST_NODES, gate) {
         Ok(plan) => Ok(plan),
         Err(Stop::NoMemory) => Err(NoMemory),
@@ -110,7 +110,7 @@ fn drilled<R: AllocGlobal + Threads + Wait + Sync, G: Gate>(
     gate: &G,
 ) -> Result<Plan, NoMemory>
     requires crew { IsCrew workers }
-    requires few { IsTooMany sc.now 1048576 → ⊥ }
+    requires few { IsTooMany sc.now MOST_NODES → ⊥ }
     ensures certified { IfOk result (IsCertified sc.now) }
     ensures printable { IfOk result (IsPrintable sc.now) }
 {

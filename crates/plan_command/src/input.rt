@@ -4,7 +4,8 @@ ghost use Rattle.std.specs.Prelude.{◌≡◌, ◌≤◌, ◌<◌, ◌^◌, ℕ,
 ghost use Rattle.plan_command.specs.Inputs.{source_view, InputOf, ReadsAnd};
 ghost use Rattle.plan_command.specs.Intakes.{Judges};
 ghost use Rattle.plan_command.specs.Makes.{MakesOf, IsAsked};
-ghost use Rattle.plan_command.specs.Words.{IsCrew, limit_of};
+ghost use Rattle.plan_command.specs.Words.{IsCrew, limit_of, MOST_SCENARIO, MOST_JUDGED};
+ghost use Rattle.bound_tree.specs.Room.{MOST_NODES};
 
 use crate::answer::{Answer, answer_plan};
 use crate::checking::{answer_check, answer_report};
@@ -55,7 +56,7 @@ fn unread(stop: InputStop) -> Stop
 
 /// The verdict on the plan behind the scenario in the input. Of both only the scenario is kept.
 fn judge_input<S: Source>(alloc: Global, source: &mut S) -> Result<Judgement, Stop>
-    ensures { ReadsAnd (Some 336592896) (source_view S.left S.faults source.old)
+    ensures { ReadsAnd (Some MOST_JUDGED) (source_view S.left S.faults source.old)
         (source_view S.left S.faults source.new) Judges result }
 {
     let mut piece = vec![in alloc; 0; PIECE_LEN]?;
@@ -68,7 +69,7 @@ fn judge_input<S: Source>(alloc: Global, source: &mut S) -> Result<Judgement, St
 
 /// What `check` makes of its input.
 fn check_input<S: Source>(alloc: Global, source: &mut S) -> Result<Answer, Stop>
-    ensures { ReadsAnd (Some 336592896) (source_view S.left S.faults source.old)
+    ensures { ReadsAnd (Some MOST_JUDGED) (source_view S.left S.faults source.old)
         (source_view S.left S.faults source.new) (MakesOf Request.Check) result }
 {
     match judge_input(alloc, source) {
@@ -79,7 +80,7 @@ fn check_input<S: Source>(alloc: Global, source: &mut S) -> Result<Answer, Stop>
 
 /// What `report` makes of its input.
 fn report_input<S: Source>(alloc: Global, json: bool, source: &mut S) -> Result<Answer, Stop>
-    ensures { ReadsAnd (Some 336592896) (source_view S.left S.faults source.old)
+    ensures { ReadsAnd (Some MOST_JUDGED) (source_view S.left S.faults source.old)
         (source_view S.left S.faults source.new) (MakesOf (Request.Report json)) result }
 {
     match judge_input(alloc, source) {
@@ -90,7 +91,7 @@ fn report_input<S: Source>(alloc: Global, json: bool, source: &mut S) -> Result<
 
 /// What `convert` makes of its input, which is kept whole.
 fn convert_input<S: Source>(alloc: Global, source: &mut S) -> Result<Answer, Stop>
-    ensures { ReadsAnd (Some 336592896) (source_view S.left S.faults source.old)
+    ensures { ReadsAnd (Some MOST_JUDGED) (source_view S.left S.faults source.old)
         (source_view S.left S.faults source.new) (MakesOf Request.Convert) result }
 {
     match read_input(alloc, source, MOST_JUDGED) {
@@ -108,8 +109,8 @@ fn plan_input<R: AllocGlobal + Threads + Wait + Sync, S: Source, G: Gate>(
     gate: &G,
 ) -> Result<Answer, Stop>
     requires crew { IsCrew workers }
-    requires nodes { (1 ≤ nodes) × (nodes ≤ 1048576) }
-    ensures { ReadsAnd (Some 1048576) (source_view S.left S.faults source.old)
+    requires nodes { (1 ≤ nodes) × (nodes ≤ MOST_NODES) }
+    ensures { ReadsAnd (Some MOST_SCENARIO) (source_view S.left S.faults source.old)
         (source_view S.left S.faults source.new) (MakesOf (Request.Plan workers nodes)) result }
 {
     match read_input(rt.alloc(), source, MOST_SCENARIO) {

@@ -75,7 +75,7 @@ impl Judge {
         ensures taken { IfOk result (λ used. (before : List ℕ) → HasTakenText before self.old → HasTakenText (before ++ take used text.now) self.new) }
         ensures fault { IfErr result (λ fault. (before : List ℕ) → HasTakenText before self.old → IsDecided self.old.sc (before ++ text.now) fault) }
     {
-        let _sound = self.sc.cells();
+        self.sc.recall_sound();
         let Fed { used, step } = self.feed.feed(&self.sc, text);
         match step {
             Step::More => Ok(used),
@@ -136,7 +136,7 @@ impl Judge {
     pub fn finish(&self) -> Result<Verdict, PlanFault>
         ensures { (rest : List ℕ) → HasTakenRest rest self.now → TellsRest self.now rest result }
     {
-        let _sound = self.sc.cells();
+        self.sc.recall_sound();
         match self.feed.finish() {
             Ok(()) => Ok(self.checker.finish()),
             Err(fault) => Err(fault),

@@ -18,8 +18,9 @@ mod status;
 mod top;
 mod words;
 
+pub use bound_tree::MOST_NODES;
 pub use laws::what_is_planned_is_accepted;
-pub use request::{MOST_NODES, MOST_WORKERS, Request, WORKERS};
+pub use request::{MOST_WORKERS, Request, WORKERS};
 pub use search_workers::{Gate, OpenGate};
 pub use status::{Status, Stop, status_code};
 pub use top::run;

@@ -21,6 +21,3 @@ pub const WORKERS: u32 = 4;
 
 /// The most workers that a search may have.
 pub const MOST_WORKERS: u32 = 16;
-
-/// The most records that a plan may have, and how many it may have where no option says so.
-pub const MOST_NODES: u64 = 1_048_576;

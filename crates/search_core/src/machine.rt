@@ -78,7 +78,7 @@ impl CoreState {
         ensures started { IfOk result (λ c. c ≡ started first) }
         ensures balanced { IfOk result (λ c. IsBalanced sc.now c) }
     {
-        let _sound = sc.horizon();
+        sc.recall_sound();
         let mut hands = Vec::new(alloc);
         hands.push(Path::empty())?;
         let mut standings = Vec::new(alloc);
@@ -147,7 +147,7 @@ impl CoreState {
         requires allowed { IsAllowed sc.now self.old (CoreEvent.Close node.now j) }
         ensures { Answers sc.now self.old (CoreEvent.Close node.now j) result self.new }
     {
-        let _sound = sc.horizon();
+        sc.recall_sound();
         let Some(place) = place_of(&self.hands, &node.prefix) else {
             return Err(CoreFault::NotHeld(node.prefix));
         };
@@ -203,7 +203,7 @@ impl CoreState {
         ensures not_held { (q : List ℕ) → IsErrOf result (CoreFault.NotHeld q) ↔ MissesHands self.old event q }
         ensures no_standing { (j : ℕ) → IsErrOf result (CoreFault.NoStanding j) ↔ MissesStanding self.old event j }
     {
-        let _sound = sc.horizon();
+        sc.recall_sound();
         self.answer(sc, &event)
     }
 }

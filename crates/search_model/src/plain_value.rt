@@ -16,7 +16,6 @@ fn look_factor(sc: &Scenario, t: u32, looks: &[u8], c: u8) -> u32
     requires cell { c < sc.now.cells }
     ensures { result ≡ look_factor_lem sc.now t looks.now c }
 {
-    let _sound = sc.cells();
     match looks {
         [] => sc.sweep().denominator(),
         [a, ..] => sc.sweep().factor(t, *a, c),
@@ -71,6 +70,5 @@ pub fn value(sc: &Scenario, prefix: &Path) -> u128
     requires { IsLegal sc.now prefix.now }
     ensures { result ≡ value_of sc.now prefix.now }
 {
-    let _sound = sc.cells();
     sc.weight() - missed(sc, prefix.cells())
 }

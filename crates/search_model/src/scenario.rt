@@ -183,6 +183,13 @@ impl Scenario {
     ghost use Rattle.search_model.specs.Legal.{IsLegal, moves_after};
     ghost use Rattle.search_model.specs.Tracks.{whole_weight};
 
+    /// Tells a caller's proof what holds of every scenario. Nothing is done.
+    pub fn recall_sound(&self)
+        ensures { IsProblem self.now }
+    {
+        let _ = &self.parts;
+    }
+
     /// The number of cells, 1 to 200.
     pub fn cells(&self) -> u8
         ensures value { result ≡ self.now.cells }
@@ -233,7 +240,8 @@ impl Scenario {
     /// The name of cell `c`.
     pub fn name(&self, c: u8) -> &Name
         requires { c < self.now.cells }
-        ensures { result.now ≡ cell_name self.now c }
+        ensures value { result.now ≡ cell_name self.now c }
+        ensures sound { IsProblem self.now }
     {
         &self.parts.names[c as usize]
     }
@@ -241,35 +249,40 @@ impl Scenario {
     /// The name of position `p`.
     pub fn position(&self, p: u8) -> &Name
         requires { p < self.now.positions }
-        ensures { result.now ≡ position_name self.now p }
+        ensures value { result.now ≡ position_name self.now p }
+        ensures sound { IsProblem self.now }
     {
         &self.parts.positions[p as usize]
     }
 
     /// The searcher's moves.
     pub fn grid(&self) -> &Grid
-        ensures { result.now ≡ self.now.moves }
+        ensures value { result.now ≡ self.now.moves }
+        ensures sound { IsProblem self.now }
     {
         &self.parts.grid
     }
 
     /// The target's drift.
     pub fn drift(&self) -> &Drift
-        ensures { result.now ≡ self.now.drift }
+        ensures value { result.now ≡ self.now.drift }
+        ensures sound { IsProblem self.now }
     {
         &self.parts.drift
     }
 
     /// The searcher's looks.
     pub fn sweep(&self) -> &Sweep
-        ensures { result.now ≡ self.now.sweep }
+        ensures value { result.now ≡ self.now.sweep }
+        ensures sound { IsProblem self.now }
     {
         &self.parts.sweep
     }
 
     /// The whole weight, of which a value is a part: below 2 ^ 127.
     pub fn weight(&self) -> u128
-        ensures { result ≡ whole_weight self.now }
+        ensures value { result ≡ whole_weight self.now }
+        ensures sound { IsProblem self.now }
     {
         weight_of(
             self.parts.total,
@@ -282,7 +295,8 @@ impl Scenario {
     /// The moves after a legal prefix: those of its last position, or of the start.
     pub fn moves_after(&self, prefix: &Path) -> &[u8]
         requires { IsLegal self.now prefix.now }
-        ensures { result.now ≡ moves_after self.now prefix.now }
+        ensures value { result.now ≡ moves_after self.now prefix.now }
+        ensures sound { IsProblem self.now }
     {
         let last = last_or(self.parts.start, prefix.cells());
         self.parts.grid.moves(last)

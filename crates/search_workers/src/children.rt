@@ -31,7 +31,7 @@ pub fn stack_children(stack: &mut Stack, sc: &Scenario, prefix: &Path)
     requires room { length stack.old ≤ 63 * length prefix.now }
     ensures { stack.new ≡ stack.old ++ reverse (children_of sc.now prefix.now) }
 {
-    let _sound = sc.horizon();
+    sc.recall_sound();
     push_children(stack, prefix, children(sc, prefix));
 }
 
@@ -60,7 +60,7 @@ fn share_children(kit: &mut Kit<Path>, stack: &mut Stack, sc: &Scenario, prefix:
     ensures shares { Shares (children_of sc.now prefix.now) (put_of kit.old) stack.old (put_of kit.new) stack.new }
     ensures kit { OnlyPut kit.old kit.new }
 {
-    let _sound = sc.horizon();
+    sc.recall_sound();
     let [least, later @ ..] = children(sc, prefix) else {
         unreachable!()
     };

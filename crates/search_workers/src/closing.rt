@@ -54,7 +54,7 @@ impl Desk {
         ensures order { IsInOrder sc.now board.now.first (desk_view self.new) }
         ensures same { IsSameDesk (desk_view self.old) (desk_view self.new) }
     {
-        let _sound = sc.cells();
+        sc.recall_sound();
         if self.records.reserve(1).is_err() {
             return Closing::NoMemory;
         }
@@ -82,7 +82,7 @@ impl Desk {
         ensures tables { IsMadeFor sc.now self.new.scratch }
         ensures belief { self.new.incumbent.belief ≡ self.old.incumbent.belief }
     {
-        let _sound = sc.cells();
+        sc.recall_sound();
         let Some(prefix) = self.stack.pop() else {
             unreachable!()
         };

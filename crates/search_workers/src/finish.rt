@@ -35,7 +35,7 @@ fn close_one<R: Wait>(
         (MayClose sc.now tickets.now board.now (desk_view desk.new) × (length desk.new.records.items ≡ length desk.old.records.items + 1))
         (λ left. EndsWork left [] (desk_view desk.new)) }
 {
-    let _sound = sc.cells();
+    sc.recall_sound();
     match desk.close_last(rt, sc, tickets, board) {
         Closing::Branches(prefix) => {
             stack_children(&mut desk.stack, sc, &prefix);
@@ -115,7 +115,7 @@ fn take_up_first<R: Wait>(
     ensures settled { IsSettled sc.now tickets.now board.now tasks.new.items (map desk_view desks.new.items) }
     ensures ends { EndsSearch result tasks.new.items (map desk_view desks.new.items) }
 {
-    let _sound = sc.cells();
+    sc.recall_sound();
     let desk = &mut desks[0];
     take_up(desk, tasks, rt, sc, tickets, board)
 }

@@ -7,6 +7,7 @@ ghost use Rattle.node_tickets.specs.Seats.{IsFresh};
 ghost use Rattle.incumbent_board.specs.Boards.{IsNewSeat};
 ghost use Rattle.search_workers.specs.Workers.{IsReady};
 ghost use Rattle.search_workers.specs.Crew.{IsComplete, MayGo};
+ghost use Rattle.bound_tree.specs.Room.{MOST_NODES};
 
 use crate::crew::Member;
 use crate::left::Left;
@@ -73,14 +74,14 @@ pub fn muster(
 ) -> Result<Crew, NoMemory>
     requires exact { IsExact sc.now first.now }
     requires workers { (1 ≤ workers) × (workers ≤ 16) }
-    requires nodes { (1 ≤ nodes) × (nodes ≤ 1048576) }
+    requires nodes { (1 ≤ nodes) × (nodes ≤ MOST_NODES) }
     ensures limit { IfOk result (λ crew. crew.tickets.limit ≡ nodes) }
     ensures first { IfOk result (λ crew. crew.board.first ≡ first.now) }
     ensures many { IfOk result (λ crew. length crew.members.items ≡ workers) }
     ensures complete { IfOk result (λ crew. IsComplete crew.tickets crew.board crew.members.items) }
     ensures ready { IfOk result (λ crew. All (λ m. MayGo sc.now crew.tickets crew.board m.worker) crew.members.items) }
 {
-    let _sound = sc.cells();
+    sc.recall_sound();
     let kits = Pool::make(alloc, workers)?;
     let (tickets, ticket_seats) = Tickets::start(alloc, nodes, workers)?;
     let (board, seats) = Board::start(alloc, *first, workers)?;

@@ -58,7 +58,7 @@ fn step<R: Wait>(
     requires some { 0 < length desk.old.stack }
     ensures { Turns sc.now board.now.first (worker_view kit.old desk.old) result (worker_view kit.new desk.new) }
 {
-    let _sound = sc.cells();
+    sc.recall_sound();
     match desk.close_last(rt, sc, tickets, board) {
         Closing::Branches(prefix) => {
             dispose(kit, &mut desk.stack, sc, &prefix);

@@ -13,6 +13,7 @@ ghost use Rattle.search_workers.specs.Crew.{IsComplete, MayGo, HasGone, LeaveTog
 ghost use Rattle.search_workers.specs.Settled.{IsSettled, EndsSearch};
 ghost use Rattle.search_workers.specs.Harvests.{EndsHarvest};
 ghost use Rattle.search_workers.specs.Search.{plan_of, reached_by, IfFull};
+ghost use Rattle.bound_tree.specs.Room.{MOST_NODES};
 
 use crate::answer::{Found, Partial, SearchStop};
 use crate::crew::{Member, go_all};
@@ -71,7 +72,7 @@ fn wind_up<R: Wait>(
     ensures settled { IfOk result (λ r. IsSettled sc.now tickets.now board.now r.2.items (map desk_view r.1.items)) }
     ensures ends { IfOk result (λ r. EndsSearch r.0 r.2.items (map desk_view r.1.items)) }
 {
-    let _sound = sc.cells();
+    sc.recall_sound();
     let (mut desks, mut tasks) = settle_all(alloc, members)?;
     let end = finish(left, &mut desks, &mut tasks, rt, sc, tickets, board);
     Ok((end, desks, tasks))
@@ -99,7 +100,7 @@ fn conclude<R: Wait>(
     ensures waiting { IfFull result (λ part. 0 < length part.waiting.items) }
     ensures joined { IfFull result (λ part. AreJoined sc.now board.first part.best part.waiting.items part.closed.items) }
 {
-    let _sound = sc.cells();
+    sc.recall_sound();
     let Harvest {
         closed,
         waiting,
@@ -140,7 +141,7 @@ pub fn search<R: Threads + Wait + Sync + AllocGlobal, G: Gate>(
 ) -> Result<Found, SearchStop>
     requires exact { IsExact sc.now first.now }
     requires workers { (1 ≤ workers) × (workers ≤ 16) }
-    requires nodes { (1 ≤ nodes) × (nodes ≤ 1048576) }
+    requires nodes { (1 ≤ nodes) × (nodes ≤ MOST_NODES) }
     ensures best { IfOk result (λ found. IsBest sc.now found.best.path) }
     ensures accepted { IfOk result (λ found. Accepts sc.now (plan_of sc.now found)) }
     ensures branches { IfOk result (λ found. LetsBranch sc.now first.now found.tree) }
@@ -153,7 +154,7 @@ pub fn search<R: Threads + Wait + Sync + AllocGlobal, G: Gate>(
     ensures full_best { IfFull result (λ part. IsExact sc.now part.best × IsAtLeast part.best first.now) }
     ensures full_joined { IfFull result (λ part. AreJoined sc.now first.now part.best part.waiting.items part.closed.items) }
 {
-    let _sound = sc.cells();
+    sc.recall_sound();
     let Crew {
         tickets,
         board,

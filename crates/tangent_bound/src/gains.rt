@@ -24,7 +24,6 @@ fn missed(sc: &Scenario, belief: &Belief, backward: &Backward, t: u32, entry: Lo
     requires cell { entry.cell < sc.now.cells }
     ensures { (path : List ℕ) → IsMet sc.now path t belief.now backward.now → result ≡ missed_at sc.now path t entry }
 {
-    let _sound = sc.cells();
     if entry.part < sc.sweep().denominator() {
         belief.at(entry.cell) * backward.at(t, entry.cell)
     } else {
@@ -41,7 +40,6 @@ fn covered_by_row(sc: &Scenario, belief: &Belief, backward: &Backward, t: u32, a
     requires position { a < sc.now.positions }
     ensures { (path : List ℕ) → IsMet sc.now path t belief.now backward.now → result ≡ missed_by_look sc.now path t a }
 {
-    let _sound = sc.cells();
     let look = sc.sweep().look(t, a);
     let mut sum = 0;
     for entry in look.parts() {
@@ -58,7 +56,6 @@ fn covered(sc: &Scenario, belief: &Belief, backward: &Backward, t: u32, a: u8) -
     requires position { a < sc.now.positions }
     ensures { (path : List ℕ) → IsMet sc.now path t belief.now backward.now → result ≡ missed_by_look sc.now path t a }
 {
-    let _sound = sc.cells();
     match sc.sweep().own_part(a) {
         Some(part) => missed(sc, belief, backward, t, LookPart { cell: a, part }),
         None => covered_by_row(sc, belief, backward, t, a),
@@ -75,7 +72,6 @@ fn gain(sc: &Scenario, rate: u32, belief: &Belief, backward: &Backward, t: u32, 
     requires position { a < sc.now.positions }
     ensures { (path : List ℕ) → IsMet sc.now path t belief.now backward.now → result ≡ gain_of sc.now rate path t a }
 {
-    let _sound = sc.cells();
     let found = sc.sweep().denominator() - rate;
     u128::from(found) * covered(sc, belief, backward, t, a)
 }

@@ -12,7 +12,6 @@ use search_model::{Path, Scenario};
 pub(crate) fn one_rate(sc: &Scenario) -> Option<u32>
     ensures { IsRateFound sc.now result }
 {
-    let _sound = sc.cells();
     sc.sweep().one_rate(sc.horizon())
 }
 
@@ -32,7 +31,7 @@ pub(crate) fn look_on(sc: &Scenario, belief: &mut Belief, path: &Path, looks: u3
     requires more { looks < length path.now }
     ensures { IsAfter sc.now (take (looks + 1) path.now) belief.new }
 {
-    let _sound = sc.cells();
+    sc.recall_sound();
     belief.advance(sc);
     belief.look(sc, path.cells()[looks as usize]);
 }

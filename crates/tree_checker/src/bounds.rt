@@ -76,7 +76,6 @@ fn finer(sc: &Scenario, standing: &Standing) -> Standing
     requires exact { IsExact sc.now standing.now }
     ensures { result ≡ times sc.now.sweep.denominator standing.now }
 {
-    let _sound = sc.horizon();
     in_parts(standing, sc.sweep().denominator())
 }
 

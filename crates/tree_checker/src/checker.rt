@@ -67,7 +67,7 @@ fn take_record(
     ensures capacity { 2048 ≤ vec_capacity expected.new }
     ensures made { AreMadeFor sc.now tables.new }
 {
-    let _sound = sc.horizon();
+    sc.recall_sound();
     let Some(prefix) = pop_prefix(expected) else {
         return Some(RejectAt {
             line,

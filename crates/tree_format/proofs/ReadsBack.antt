@@ -32,6 +32,7 @@ use Rattle.tree_format.proofs.Said.{amount_in-decimal, place_in-decimal, positio
 use Rattle.tree_format.proofs.Loop.{at_line, at_end}
 use Rattle.tree_format.proofs.SpelledLines.{HasPlace}
 use Rattle.bound_tree.specs.Places.{AreInPlace}
+use Rattle.bound_tree.specs.Room.{MOST_NODES}
 
 -- where this is due, a row says this
 pub record Takes (p : Problem) (d : Due) (row : List (List ℕ)) (said : PlanLine) : Type 0 where
@@ -83,13 +84,13 @@ Takes-chance p v expected plan k = record {
   says = rw (amount_in-decimal plan.standing.value k.value, amount_in-decimal plan.weight k.weight) refl;
 }
 
-Takes-count : (p : Problem) (v : TextVersion) (expected : List (List ℕ)) (n : ℕ) → n ≤ 1048576 → Takes p (at_stage v expected due.Count) (count_row n) (Count n)
+Takes-count : (p : Problem) (v : TextVersion) (expected : List (List ℕ)) (n : ℕ) → n ≤ MOST_NODES → Takes p (at_stage v expected due.Count) (count_row n) (Count n)
 Takes-count p v expected n few =
     let small : n < 2 ^ 128 = omega arith in
     record {
       fields = (word (codes "nodes") (omega arith) refl, (IsField-decimal n small, tt));
       goes = λ e. cc;
-      says = rw (amount_in-decimal n small, le-leb n 1048576 few) refl;
+      says = rw (amount_in-decimal n small, le-leb n MOST_NODES few) refl;
     }
 
 -- Records.

@@ -31,6 +31,7 @@ use Rattle.tree_format.specs.Reading.{line_at, stage_line, at_start, with_stage,
 use Rattle.tree_format.specs.ReadingLaws.{OneTextAPlan}
 use Rattle.tree_format.proofs.SpelledLines.{IsVersionLine, version_told, IsPathLine, path_told, IsChanceLine, chance_told, IsCountLine, count_told, HasPlace, IsRecordLine, record_printable, IsEndLine, record_told}
 use Rattle.text_rows.proofs.Splits.{split_joined}
+use Rattle.bound_tree.specs.Room.{MOST_NODES}
 
 -- the rows of the lines that were read
 abbrev pub rows_read : Problem → TextVersion → Stage → Plan → List (List (List ℕ))
@@ -53,7 +54,7 @@ IsPlaced p One expected tree = Unit {0}
 IsPlaced p Two expected tree = (rs : List TreeNode) → AreInPlace p expected rs → AreInPlace p ([] ∷ []) (tree ++ rs)
 
 pub record IsTreeOf (p : Problem) (v : TextVersion) (expected : List (List ℕ)) (left : ℕ) (tree : List TreeNode) : Type 0 where
-  pub few : length tree + left ≤ 1048576
+  pub few : length tree + left ≤ MOST_NODES
   pub printable : All (IsPrintableRecord p) tree
   pub narrow : All (λ r. IsNarrowKind r.kind) tree
   pub lettered : All (λ r. IsLettered v r.kind) tree

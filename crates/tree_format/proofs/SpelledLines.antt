@@ -23,6 +23,7 @@ use Rattle.tree_format.specs.Reading.{all_of, amount_in, place_in, position_name
 use Rattle.text_rows.specs.Fields.{is_word}
 use Rattle.tree_format.proofs.Told.{word_told, amount_told, places_told, names_told}
 use Rattle.text_rows.proofs.Results.{err_ok, same_ok, let_through}
+use Rattle.bound_tree.specs.Room.{MOST_NODES}
 
 -- `plan 1` or `plan 2`
 pub record IsVersionLine (fields : List (List ℕ)) (said : PlanLine) : Type 0 where
@@ -117,17 +118,17 @@ pub record IsCountLine (fields : List (List ℕ)) (said : PlanLine) : Type 0 whe
   pub count : ℕ
   pub row : fields ≡ count_row count
   pub is : said ≡ Count count
-  pub few : count ≤ 1048576
+  pub few : count ≤ MOST_NODES
 
 count_of : (word n : List ℕ) (o : Option ℕ) (said : PlanLine) → word ≡ codes "nodes" → amount_in n ≡ o → count_said o ≡ Ok said → IsCountLine (word ∷ n ∷ []) said
 count_of word n None said is a e = absurd (err_ok BadNumber said e)
 count_of word n (Some k) said is a e =
-    let through = let_through (nat_le k 1048576) TooManyNodes (Ok (Count k)) said e in
+    let through = let_through (nat_le k MOST_NODES) TooManyNodes (Ok (Count k)) said e in
     record {
       count = k;
       row = rw (is, (amount_told n k a).0) refl;
       is = sym (same_ok (Count k) said through.1);
-      few = leb-true k 1048576 through.0;
+      few = leb-true k MOST_NODES through.0;
     }
 
 pub count_told : (fields : List (List ℕ)) (said : PlanLine) → count_line fields ≡ Ok said → IsCountLine fields said

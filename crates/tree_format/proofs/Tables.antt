@@ -21,6 +21,7 @@ use Rattle.tree_format.specs.Reading.{amount_in, place_in, position_named, in_fr
 use Rattle.text_rows.specs.Fields.{is_word, first_alone, behind_first}
 use Rattle.tree_format.specs.KindTable.{bounded_form, tangent_form, node_form, has_form, node_amounts, node_positions, is_bad_number, has_unknown, has_too_many, is_miscounted, lacks_place, awaits_record, has_no_place, is_still_open, KindsByTable}
 use Rattle.text_rows.specs.Kinds.{first_kind, fault_of}
+use Rattle.bound_tree.specs.Room.{MOST_NODES}
 
 -- fields say something together where each does
 front_none : (o : Option ℕ) (os : Option (List ℕ)) → is_none (in_front o os) ≡ (is_none o || is_none os)
@@ -208,10 +209,10 @@ many_table : (few : Bool) (n : ℕ) → fault_of (cond few (Ok (Count n)) (Err T
 many_table true n = refl
 many_table false n = refl
 
-count_table : (form : Bool) (n : Option ℕ) → fault_of (cond form (count_said n) (Err BadLine)) ≡ first_kind ((not form, BadLine) ∷ ((is_none n || false) || false, BadNumber) ∷ (false, UnknownName) ∷ (not (nat_le (unwrap_or n 0) 1048576), TooManyNodes) ∷ (false, WrongCount) ∷ (false, NoPlace) ∷ (false, StillOpen) ∷ [])
+count_table : (form : Bool) (n : Option ℕ) → fault_of (cond form (count_said n) (Err BadLine)) ≡ first_kind ((not form, BadLine) ∷ ((is_none n || false) || false, BadNumber) ∷ (false, UnknownName) ∷ (not (nat_le (unwrap_or n 0) MOST_NODES), TooManyNodes) ∷ (false, WrongCount) ∷ (false, NoPlace) ∷ (false, StillOpen) ∷ [])
 count_table false n = refl
 count_table true None = refl
-count_table true (Some n) = many_table (nat_le n 1048576) n
+count_table true (Some n) = many_table (nat_le n MOST_NODES) n
 
 stage_table : (p : Problem) (v : TextVersion) (stage : Stage) (expected fields : List (List ℕ)) → fault_of (stage_line p v stage expected fields)
     ≡ first_kind ((not (has_form p v stage fields), BadLine) ∷ (is_bad_number p stage fields, BadNumber) ∷ (has_unknown p stage fields, UnknownName) ∷ (has_too_many stage fields, TooManyNodes) ∷ (is_miscounted stage fields, WrongCount) ∷ (has_no_place v stage expected fields, NoPlace) ∷ (is_still_open v stage expected fields, StillOpen) ∷ [])

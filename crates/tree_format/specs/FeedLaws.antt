@@ -12,6 +12,7 @@ use Rattle.tree_format.specs.Reading.{plan_at, summary_of}
 use Rattle.tree_format.specs.Gathering.{nothing_gathered, gathered}
 use Rattle.tree_format.specs.FeedSteps.{Stand}
 use Rattle.tree_format.specs.Feeding.{items_of, HasRead, Tells, IsDecided, IsCutOff}
+use Rattle.bound_tree.specs.Room.{MOST_NODES}
 
 -- the bytes alone decide which items were told and what a feed keeps, and not how they were cut into pieces
 abbrev pub CutAnywhere : Type 0
@@ -41,7 +42,7 @@ pub record AreInOrder (items : List PlanItem) : Type 0 where
   pub weight : ℕ
   pub nodes : ℕ
   pub records : List TreeNode
-  pub few : nodes ≤ 1048576
+  pub few : nodes ≤ MOST_NODES
   pub within : length records ≤ nodes
   pub order : (items ≡ Head standing weight nodes ∷ map (λ r. Node r) records) ⊎ ((length records ≡ nodes) × (items ≡ Head standing weight nodes ∷ (map (λ r. Node r) records ++ End ∷ [])))
 

@@ -16,6 +16,7 @@ use Rattle.tree_format.specs.Faults.{AreSaid, due_behind}
 use Rattle.text_rows.specs.Lines.{HasNoFeed, lines_text}
 use Rattle.tree_format.specs.Reading.{at_start, blank_plan, taken, plan_at}
 use Rattle.tree_format.specs.FeedSteps.{Stand, stand_at}
+use Rattle.bound_tree.specs.Room.{MOST_NODES}
 
 -- the items of a plan: its head, its records in their order, and its end
 abbrev pub items_of : Plan → List PlanItem
@@ -77,7 +78,7 @@ pub record IsHead (p : Problem) (path : List ℕ) (nodes : ℕ) : Type 0 where
   pub positions : ArePositions p path
   pub some : 1 ≤ length path
   pub short : length path ≤ 32
-  pub few : nodes ≤ 1048576
+  pub few : nodes ≤ MOST_NODES
 
 abbrev pub IsItem : Problem → PlanItem → Type 0
 IsItem p (Head standing weight nodes) = IsHead p standing.path nodes

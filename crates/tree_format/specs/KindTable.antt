@@ -13,6 +13,7 @@ use Rattle.tree_format.specs.declared.kind.PlanKind.TheVariants.{BadLine, BadNum
 use Rattle.tree_format.specs.Reading.{amount_in, place_in, position_named, most_positions, has_edges, is_end, line_at}
 use Rattle.text_rows.specs.Fields.{is_word, behind_first, first_alone}
 use Rattle.text_rows.specs.Kinds.{first_kind, fault_of}
+use Rattle.bound_tree.specs.Room.{MOST_NODES}
 
 -- The keyword or letter and the number of fields.
 
@@ -111,7 +112,7 @@ has_unknown p stage fields = list_any (λ f. is_none (position_named p f)) (name
 
 -- a number of records above the limit
 abbrev pub announces_more : List (List ℕ) → Bool
-announces_more (word ∷ n ∷ []) = not (nat_le (unwrap_or (amount_in n) 0) 1048576)
+announces_more (word ∷ n ∷ []) = not (nat_le (unwrap_or (amount_in n) 0) MOST_NODES)
 announces_more _ = false
 
 -- more records are announced than a plan may have

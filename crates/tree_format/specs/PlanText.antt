@@ -11,6 +11,7 @@ use Rattle.bound_tree.specs.declared.plan.Plan.{Plan}
 use Rattle.bound_tree.specs.Places.{AreInPlace}
 use Rattle.tree_format.specs.declared.plan_line.TextVersion.{TextVersion}
 use Rattle.tree_format.specs.declared.plan_line.TextVersion.TheVariants.{One, Two}
+use Rattle.bound_tree.specs.Room.{MOST_NODES}
 
 -- position numbers as fields
 abbrev pub numbers : List ℕ → List (List ℕ)
@@ -95,7 +96,7 @@ pub record IsPrintable (p : Problem) (plan : Plan) : Type 0 where
   pub some : 1 ≤ length plan.standing.path
   pub short : length plan.standing.path ≤ 32
   pub positions : ArePositions p plan.standing.path
-  pub few : length plan.tree ≤ 1048576
+  pub few : length plan.tree ≤ MOST_NODES
   pub records : All (IsPrintableRecord p) plan.tree
 
 -- numbers below 2 to the power 128, as all are that a program holds

@@ -24,6 +24,7 @@ use Rattle.tree_format.specs.declared.kind.PlanFault.{PlanFault}
 use Rattle.tree_format.specs.declared.record_lines.Bounded.{Bounded}
 use Rattle.text_rows.specs.Lines.{pieces_of}
 use Rattle.text_rows.specs.Fields.{exact_fields, is_word}
+use Rattle.bound_tree.specs.Room.{MOST_NODES}
 
 -- Numbers and names.
 
@@ -91,7 +92,7 @@ chance_line _ = Err BadLine
 -- `nodes N`
 abbrev pub count_said : Option ℕ → Result PlanLine PlanKind
 count_said None = Err BadNumber
-count_said (Some n) = if nat_le n 1048576 then Ok (Count n) else Err TooManyNodes
+count_said (Some n) = if nat_le n MOST_NODES then Ok (Count n) else Err TooManyNodes
 
 -- and so here
 abbrev pub count_line : List (List ℕ) → Result PlanLine PlanKind

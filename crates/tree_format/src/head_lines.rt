@@ -6,10 +6,8 @@ ghost use Rattle.tree_format.specs.Reading.{version_said, version_line, path_lin
 use crate::fields::{amount_in, positions_named};
 use crate::kind::PlanKind;
 use crate::plan_line::{PlanLine, TextVersion};
+use bound_tree::MOST_NODES;
 use search_model::Scenario;
-
-/// The most records of a plan.
-const MOST_NODES: u128 = 1_048_576;
 
 /// The version of this number.
 fn version_of(number: &[u8]) -> Result<PlanLine, PlanKind>
@@ -70,7 +68,7 @@ fn announced(count: Option<u128>) -> Result<PlanLine, PlanKind>
 {
     match count {
         None => Err(PlanKind::BadNumber),
-        Some(count) if count > MOST_NODES => Err(PlanKind::TooManyNodes),
+        Some(count) if count > u128::from(MOST_NODES) => Err(PlanKind::TooManyNodes),
         Some(count) => Ok(PlanLine::Count(count as u64)),
     }
 }

@@ -47,7 +47,7 @@ fn open(stack: &mut Vec<Path>, sc: &Scenario, prefix: &Path, kind: &Kind)
     ensures room { HasRoom (reverse stack.new.items) }
     ensures capacity { 2048 ≤ vec_capacity stack.new }
 {
-    let _sound = sc.horizon();
+    sc.recall_sound();
     if has_children(sc, prefix) {
         push_expected(stack, sc, prefix, kind);
     }

@@ -17,7 +17,7 @@ pub fn gather(sc: &Scenario, mut nodes: Vec<TreeNode>) -> BoundTree
     ensures gathered { IsGathered nodes.items result }
     ensures accepted { IsAcceptedWhereGood sc.now nodes.items result }
 {
-    let _sound = sc.horizon();
+    sc.recall_sound();
     nodes.sort_unstable_by(|a, b| a.prefix.cells().cmp(b.prefix.cells()));
     BoundTree::of(nodes)
 }

@@ -61,7 +61,7 @@ fn branch(core: &mut CoreState, sc: &Scenario) -> Result<(), CoreFault>
     requires { IsBalanced sc.now core.old }
     ensures { IsBalanced sc.now core.new }
 {
-    let _sound = sc.horizon();
+    sc.recall_sound();
     let node = TreeNode {
         prefix: Path::empty(),
         kind: Kind::Branch,

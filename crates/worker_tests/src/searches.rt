@@ -1,5 +1,6 @@
 ghost use Rattle.std.specs.Prelude.{◌≤◌, IfOk};
 ghost use Rattle.bound_tree.specs.Close.{IsExact};
+ghost use Rattle.bound_tree.specs.Room.{MOST_NODES};
 
 use bound_tree::{Kind, TreeNode};
 use opening_path::opening;
@@ -87,7 +88,7 @@ fn is_standing(standing: &Standing, value: u128, path: &[u8]) -> bool {
 fn first_of(alloc: Global, sc: &Scenario) -> Result<Standing, Fail>
     ensures { IfOk result (IsExact sc.now) }
 {
-    let _sound = sc.cells();
+    sc.recall_sound();
     Ok(opening(alloc, sc)?)
 }
 
@@ -247,7 +248,7 @@ fn is_right_part<R: Threads + Wait + Sync + AllocGlobal>(
     sc: &Scenario,
     nodes: u64,
 ) -> Result<Option<bool>, Fail>
-    requires { (1 ≤ nodes) × (nodes ≤ 1048576) }
+    requires { (1 ≤ nodes) × (nodes ≤ MOST_NODES) }
 {
     let first = first_of(rt.alloc(), sc)?;
     match search(rt, sc, &first, 1, nodes, &OpenGate) {

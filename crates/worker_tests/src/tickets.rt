@@ -1,5 +1,5 @@
 ghost use Rattle.std.specs.Prelude.{◌≡◌, ◌<◌, ◌≤◌, ℕ, All, length, slice_index_or};
-ghost use Rattle.node_tickets.specs.Seats.{IsSeatOf, KeepsSeat, AreAllSeats, MayDraw};
+ghost use Rattle.node_tickets.specs.Seats.{IsSeatOf, KeepsSeat, AreAllSeats, MayDraw, MOST_NUMBERS};
 
 use exact_parts::NoMemory;
 use node_tickets::{Draw, TicketSeat, Tickets};
@@ -61,7 +61,7 @@ fn drawn_in_threads<R: Threads + Sync>(
     limit: u64,
     seats: u32,
 ) -> Result<u64, NoMemory>
-    requires limit { (1 ≤ limit) × (limit ≤ 1048576) }
+    requires limit { (1 ≤ limit) × (limit ≤ MOST_NUMBERS) }
     requires seats { (1 ≤ seats) × (seats ≤ 16) }
 {
     let (tickets, mut seats) = Tickets::start(alloc, limit, seats)?;

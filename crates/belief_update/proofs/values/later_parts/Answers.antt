@@ -8,18 +8,18 @@ pow-requires c =
     let p = c.args.sc.now in
     let sound = c.horizon-horizon.ensures.sound in
     let fits = drifts_fit p.total p.drift.denominator p.sweep.denominator p.horizon (p.horizon - c.args.t) (omega (arith, sound.total)) (omega (arith, sound.drift.denominator)) (omega (arith, sound.sweep.denominator)) sound.fits (omega (arith, c.requires.first)) in
-    rw (c.from.ensures, c.denominator.ensures.value, c.drift.ensures, c.horizon-horizon.ensures.value) (omega (arith, fits))
+    rw (c.from.ensures, c.denominator.ensures.value, c.drift.ensures.value, c.horizon-horizon.ensures.value) (omega (arith, fits))
 
 pub pow-requires-2 : goal.pow-requires-2
 pow-requires-2 c =
     let p = c.args.sc.now in
     let sound = c.horizon-horizon.ensures.sound in
     let fits = looks_fit p.total p.drift.denominator p.sweep.denominator p.horizon (p.horizon - c.args.k) (omega (arith, sound.total)) (omega (arith, sound.drift.denominator)) (omega (arith, sound.sweep.denominator)) sound.fits (omega arith) in
-    rw (c.from-2.ensures, c.denominator-2.ensures.value, c.sweep.ensures, c.horizon-horizon.ensures.value) (omega (arith, fits))
+    rw (c.from-2.ensures, c.denominator-2.ensures.value, c.sweep.ensures.value, c.horizon-horizon.ensures.value) (omega (arith, fits))
 
 pub overflow_mul-result : goal.overflow_mul-result
 overflow_mul-result c =
     let p = c.args.sc.now in
     let sound = c.horizon-horizon.ensures.sound in
     let fits = powers_fit p sound (p.horizon - c.args.t) (p.horizon - c.args.k) (omega (arith, c.requires.first)) (omega arith) in
-    rw (c.pow.ensures, c.pow-2.ensures, c.from.ensures, c.from-2.ensures, c.denominator.ensures.value, c.denominator-2.ensures.value, c.drift.ensures, c.sweep.ensures, c.horizon-horizon.ensures.value) (omega (arith, fits))
+    rw (c.pow.ensures, c.pow-2.ensures, c.from.ensures, c.from-2.ensures, c.denominator.ensures.value, c.denominator-2.ensures.value, c.drift.ensures.value, c.sweep.ensures.value, c.horizon-horizon.ensures.value) (omega (arith, fits))

@@ -7,16 +7,16 @@ use Rattle.belief_update.proofs.values.value_by.Goals as goal
 -- what the prefix misses
 missed : (c : goal.After-undetected) → c.undetected.result * c.later_parts-later.result ≡ missed_weight c.args.sc.now c.args.prefix.now
 missed c =
-    let is = undetected_is c.args.sc.now c.cells-sound.ensures.sound c.args.prefix.now c.args.belief.now c.requires in
+    let is = undetected_is c.args.sc.now c.weight.ensures.sound c.args.prefix.now c.args.belief.now c.requires in
     rw (c.undetected.ensures, c.later_parts-later.ensures, c.period.ensures, c.len.ensures.value) is
 
 pub overflow_mul-result : goal.overflow_mul-result
 overflow_mul-result c =
-    let fits = missed_weight-fits c.args.sc.now c.cells-sound.ensures.sound c.args.prefix.now in
+    let fits = missed_weight-fits c.args.sc.now c.weight.ensures.sound c.args.prefix.now in
     omega (arith, missed c, fits)
 
 pub overflow_sub-result : goal.overflow_sub-result
-overflow_sub-result c = rw (missed c, c.weight.ensures) (nothing_is_cut_off c.args.sc.now c.args.prefix.now c.cells-sound.ensures.sound)
+overflow_sub-result c = rw (missed c, c.weight.ensures.value) (nothing_is_cut_off c.args.sc.now c.args.prefix.now c.weight.ensures.sound)
 
 pub returns : goal.returns
-returns c = rw (missed c, c.weight.ensures) refl
+returns c = rw (missed c, c.weight.ensures.value) refl

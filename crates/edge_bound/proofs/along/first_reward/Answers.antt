@@ -7,7 +7,7 @@ pub overflow_mul-result : goal.overflow_mul-result
 overflow_mul-result c =
     let p = c.args.sc.now in
     let q = c.args.prefix.now in
-    let sound = c.cells-sound.ensures.sound in
+    let sound = c.recall_sound.ensures in
     let most = reward-within p sound q (length q + 1) c.args.b c.requires.short in
     rw (c.later_parts.ensures, c.len.ensures.value, c.found_first.ensures) (omega (arith, most, whole_weight-fits p sound))
 

@@ -9,6 +9,6 @@ returns c = rw (c.later_parts-parts.ensures, c.len.ensures.value) c.found_after.
 pub overflow_mul-result : goal.overflow_mul-result
 overflow_mul-result c =
     let p = c.args.sc.now in
-    let sound = c.cells-sound.ensures.sound in
+    let sound = c.recall_sound.ensures in
     let most = edge_reward-within p sound c.args.prefix.now c.args.t c.args.a c.args.b (omega (arith, c.requires.period.later, c.requires.period.last)) in
     rw (c.later_parts-parts.ensures, c.len.ensures.value, c.found_after.ensures) (omega (arith, most, whole_weight-fits p sound))

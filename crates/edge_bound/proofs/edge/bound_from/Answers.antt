@@ -7,5 +7,5 @@ pub overflow_add-result : goal.overflow_add-result
 overflow_add-result c =
     let p = c.args.sc.now in
     let q = c.args.prefix.now in
-    let sound = c.cells-sound.ensures.sound in
+    let sound = c.recall_sound.ensures in
     rw (c.requires.value, c.best_first.ensures) (omega (arith, edge_sums-within p sound q, weights-fit p sound (p.horizon - length q) (omega arith)))

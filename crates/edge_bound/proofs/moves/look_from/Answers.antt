@@ -2,8 +2,8 @@ use Rattle.edge_bound.proofs.moves.look_from.Goals as goal
 
 pub returns-clause-cells : goal.returns-clause-cells
 returns-clause-cells c =
-    let sound = c.cells-sound.ensures.sound in
-    rw (c.look.ensures.value, c.sweep.ensures, ← sound.sweep_cells) (sound.sweep.each _ _).within
+    let sound = c.sweep.ensures.sound in
+    rw (c.look.ensures.value, c.sweep.ensures.value, ← sound.sweep_cells) (sound.sweep.each _ _).within
 
 pub returns-clause-parts : goal.returns-clause-parts
-returns-clause-parts c = rw (c.look.ensures.value, c.sweep.ensures) (c.cells-sound.ensures.sound.sweep.each _ _).parts
+returns-clause-parts c = rw (c.look.ensures.value, c.sweep.ensures.value) (c.sweep.ensures.sound.sweep.each _ _).parts

@@ -4,9 +4,9 @@ use Rattle.edge_bound.proofs.moves.taken.Goals as goal
 
 pub mass_going_on-mass-requires-clause-from : goal.mass_going_on-mass-requires-clause-from
 mass_going_on-mass-requires-clause-from c =
-    own_cell c.args.sc.now c.cells-sound.ensures.sound (c.args.t - 1) c.args.a _ c.sweep.ensures _ c.in-Some.ensures.row
+    own_cell c.args.sc.now c.sweep.ensures.sound (c.args.t - 1) c.args.a _ c.sweep.ensures.value _ c.in-Some.ensures.row
 
 pub overflow_sub-denominator : goal.overflow_sub-denominator
 overflow_sub-denominator c =
-    rw (c.denominator.ensures.value, c.sweep-in-Some.ensures)
-    (own_part-le c.args.sc.now c.cells-sound.ensures.sound (c.args.t - 1) c.args.a _ c.sweep.ensures _ c.in-Some.ensures.row)
+    rw (c.denominator.ensures.value, c.sweep-in-Some.ensures.value)
+    (own_part-le c.args.sc.now c.sweep.ensures.sound (c.args.t - 1) c.args.a _ c.sweep.ensures.value _ c.in-Some.ensures.row)

@@ -14,16 +14,16 @@ pub found_first-requires-clause-to : goal.found_first-requires-clause-to
 found_first-requires-clause-to c =
     let p = c.args.sc.now in
     let q = c.args.prefix.now in
-    let sound = c.cells-sound.ensures.sound in
+    let sound = c.moves_after-moves.ensures.sound in
     let here = last_within p.moves sound.grid p.start (omega (arith, sound.start, sound.grid_positions)) q c.requires.legal.follows in
-    let moves : c.moves_after-moves.result.now ≡ moves_from p.moves (last_of p.start q) = c.moves_after-moves.ensures in
+    let moves : c.moves_after-moves.result.now ≡ moves_from p.moves (last_of p.start q) = c.moves_after-moves.ensures.value in
     rw moves (move_there p sound q c.args.sums.now (last_of p.start q) c.loop-b.b-index here (rw moves at c.loop-b-test.true))
 
 pub overflow_mul-first : goal.overflow_mul-first
 overflow_mul-first c =
     let p = c.args.sc.now in
     let q = c.args.prefix.now in
-    let sound = c.cells-sound.ensures.sound in
+    let sound = c.moves_after-moves.ensures.sound in
     let b = slice_index c.moves_after-moves.result.now c.loop-b.b-index in
     let most = reward-within p sound q (length q + 1) b c.requires.short in
     rw (c.later_parts-parts.ensures, c.len.ensures.value, c.found_first.ensures) (omega (arith, most, whole_weight-fits p sound))
@@ -32,9 +32,9 @@ pub bounds-sums-from : goal.bounds-sums-from
 bounds-sums-from c =
     let p = c.args.sc.now in
     let q = c.args.prefix.now in
-    let sound = c.cells-sound.ensures.sound in
+    let sound = c.moves_after-moves.ensures.sound in
     let here = last_within p.moves sound.grid p.start (omega (arith, sound.start, sound.grid_positions)) q c.requires.legal.follows in
-    let moves : c.moves_after-moves.result.now ≡ moves_from p.moves (last_of p.start q) = c.moves_after-moves.ensures in
+    let moves : c.moves_after-moves.result.now ≡ moves_from p.moves (last_of p.start q) = c.moves_after-moves.ensures.value in
     let there = rw (← moves) at (move_there p sound q c.args.sums.now (last_of p.start q) c.loop-b.b-index here (rw moves at c.loop-b-test.true)) in
     omega (arith, there, c.from.ensures, c.requires.width)
 
@@ -42,10 +42,10 @@ pub overflow_add-first : goal.overflow_add-first
 overflow_add-first c =
     let p = c.args.sc.now in
     let q = c.args.prefix.now in
-    let sound = c.cells-sound.ensures.sound in
+    let sound = c.moves_after-moves.ensures.sound in
     let here = last_within p.moves sound.grid p.start (omega (arith, sound.start, sound.grid_positions)) q c.requires.legal.follows in
     let b = slice_index c.moves_after-moves.result.now c.loop-b.b-index in
-    let moves : c.moves_after-moves.result.now ≡ moves_from p.moves (last_of p.start q) = c.moves_after-moves.ensures in
+    let moves : c.moves_after-moves.result.now ≡ moves_from p.moves (last_of p.start q) = c.moves_after-moves.ensures.value in
     let there : b < p.positions = rw moves (move_there p sound q c.args.sums.now (last_of p.start q) c.loop-b.b-index here (rw moves at c.loop-b-test.true)) in
     let most = reward-within p sound q (length q + 1) b c.requires.short in
     let rest = sums_first-within p sound q b c.requires.short in
@@ -64,7 +64,7 @@ returns c =
     let p = c.args.sc.now in
     let q = c.args.prefix.now in
     let f : ℕ → ℕ = λ b. reward_of p q (length q + 1) b + slice_index c.args.sums.now b in
-    let moves : c.moves_after-moves.result.now ≡ moves_after p q = c.moves_after-moves.ensures in
+    let moves : c.moves_after-moves.result.now ≡ moves_after p q = c.moves_after-moves.ensures.value in
     let all = best_all f c.moves_after-moves.result.now c.loop-b.b-index c.loop-b.best _ c.loop-b-test.false c.loop-b.invariant in
     rw moves at all
-    ∙ sym (sums_first p c.cells-sound.ensures.sound q c.args.sums.now c.requires.legal c.requires.short c.requires.sums)
+    ∙ sym (sums_first p c.moves_after-moves.ensures.sound q c.args.sums.now c.requires.legal c.requires.short c.requires.sums)

@@ -11,7 +11,7 @@ use Rattle.edge_bound.proofs.rows.best_move.Goals as goal
 pub overflow_mul-reward : goal.overflow_mul-reward
 overflow_mul-reward c =
     let p = c.args.sc.now in
-    let sound = c.cells-sound.ensures.sound in
+    let sound = c.grid.ensures.sound in
     let b = slice_index c.moves-moves.result.now c.loop-b.b-index in
     let most = edge_reward-within p sound c.args.prefix.now c.args.t c.args.a b (omega (arith, c.requires.period.later, c.requires.period.last)) in
     rw (c.later_parts-parts.ensures, c.len.ensures.value, c.found_after.ensures) (omega (arith, most, whole_weight-fits p sound))
@@ -21,10 +21,10 @@ overflow_add-reward c =
     let p = c.args.sc.now in
     let q = c.args.prefix.now in
     let t = c.args.t in
-    let sound = c.cells-sound.ensures.sound in
+    let sound = c.grid.ensures.sound in
     let some : 2 ≤ p.horizon - length q = omega (arith, c.requires.period.later, c.requires.period.last) in
     let b = slice_index c.moves-moves.result.now c.loop-b.b-index in
-    let moves : c.moves-moves.result.now ≡ moves_from p.moves c.args.a = rw (← c.grid.ensures) c.moves-moves.ensures.value in
+    let moves : c.moves-moves.result.now ≡ moves_from p.moves c.args.a = rw (← c.grid.ensures.value) c.moves-moves.ensures.value in
     let there : b < p.positions = rw moves (move_there p sound q c.args.sums.now c.args.a c.loop-b.b-index (omega (arith, c.requires.from, sound.grid_positions)) (rw moves at c.loop-b-test.true)) in
     let n = p.horizon + 1 - (t + 1) in
     let most = edge_reward-within p sound q t c.args.a b some in
@@ -43,7 +43,7 @@ returns c =
     let p = c.args.sc.now in
     let q = c.args.prefix.now in
     let f : ℕ → ℕ = λ b. edge_reward_of p q c.args.t c.args.a b + slice_index c.args.sums.now b in
-    let moves : c.moves-moves.result.now ≡ moves_from p.moves c.args.a = rw (← c.grid.ensures) c.moves-moves.ensures.value in
+    let moves : c.moves-moves.result.now ≡ moves_from p.moves c.args.a = rw (← c.grid.ensures.value) c.moves-moves.ensures.value in
     let all = best_all f c.moves-moves.result.now c.loop-b.b-index c.loop-b.best _ c.loop-b-test.false c.loop-b.invariant in
     rw moves at all
-    ∙ sym (sums_before p c.cells-sound.ensures.sound q c.args.sums.now c.args.t c.args.a c.requires.period.last c.requires.from c.requires.sums)
+    ∙ sym (sums_before p c.grid.ensures.sound q c.args.sums.now c.args.t c.args.a c.requires.period.last c.requires.from c.requires.sums)

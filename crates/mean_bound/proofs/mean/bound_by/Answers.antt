@@ -21,7 +21,7 @@ fill_rewards-requires-clause-belief c = ready_ahead c.args.sc.now c.args.prefix.
 pub fill-requires-clause-from : goal.fill-requires-clause-from
 fill-requires-clause-from c =
     let p = c.args.sc.now in
-    let sound = c.cells-sound.ensures.sound in
+    let sound = c.grid.ensures.sound in
     let here = last_within p.moves sound.grid p.start (omega (arith, sound.start, sound.grid_positions)) c.args.prefix.now c.requires.legal.follows in
     rw (c.last_or_start-from.ensures, c.requires.positions) (omega (arith, here, sound.grid_positions))
 
@@ -29,7 +29,7 @@ pub fill-requires-clause-fits : goal.fill-requires-clause-fits
 fill-requires-clause-fits c =
     let p = c.args.sc.now in
     let q = c.args.prefix.now in
-    let sound = c.cells-sound.ensures.sound in
+    let sound = c.grid.ensures.sound in
     let rewards = c.fill_rewards.new.rewards in
     let most = highest-le p sound q rewards c.requires.short c.fill_rewards.ensures.rewards in
     let fits : highest_sum p.positions (entry_at p.positions rewards) (p.horizon - length q) (length q + 1) < 2 ^ 127 = omega (arith, most, weights_fit p sound q (p.horizon - length q) (omega arith)) in
@@ -42,20 +42,20 @@ greatest_now : (c : goal.After-greatest) →
 greatest_now c =
     let p = c.args.sc.now in
     let q = c.args.prefix.now in
-    let sound = c.cells-sound.ensures.sound in
+    let sound = c.grid.ensures.sound in
     let rewards = c.fill_rewards.new.rewards in
     let positions : c.fill.new.self.positions ≡ p.positions = c.fill.ensures.positions ∙ c.requires.positions in
     let horizon : c.fill.new.self.horizon ≡ p.horizon = c.fill.ensures.horizon ∙ c.requires.horizon in
     let here = last_within p.moves sound.grid p.start (omega (arith, sound.start, sound.grid_positions)) q c.requires.legal.follows in
     let is = c.greatest.ensures _ _ _ _ c.fill.ensures.filled in
-    rw (positions, horizon, c.grid.ensures, c.last_or_start-from.ensures, c.len.ensures.value) at is
+    rw (positions, horizon, c.grid.ensures.value, c.last_or_start-from.ensures, c.len.ensures.value) at is
     ∙ greatest_is p sound q rewards c.fill_rewards.ensures.rewards c.requires.short (last_of p.start q) here
 
 pub overflow_add-result : goal.overflow_add-result
 overflow_add-result c =
     let p = c.args.sc.now in
     let q = c.args.prefix.now in
-    let sound = c.cells-sound.ensures.sound in
+    let sound = c.grid.ensures.sound in
     let here = last_within p.moves sound.grid p.start (omega (arith, sound.start, sound.grid_positions)) q c.requires.legal.follows in
     let most = greatest-le p sound q (last_of p.start q) c.requires.short here in
     let fits = weights_fit p sound q (p.horizon - length q) (omega arith) in

@@ -4,9 +4,9 @@ use Rattle.mean_bound.proofs.rewards.found.Goals as goal
 pub at-requires : goal.at-requires
 at-requires c =
     rw c.requires.cells
-    (own_cell c.args.sc.now c.cells-sound.ensures.sound c.args.belief.now.period c.args.a _ c.sweep-sweep.ensures _ c.in-Some.ensures.row)
+    (own_cell c.args.sc.now c.sweep-sweep.ensures.sound c.args.belief.now.period c.args.a _ c.sweep-sweep.ensures.value _ c.in-Some.ensures.row)
 
 pub overflow_sub-denominator : goal.overflow_sub-denominator
 overflow_sub-denominator c =
-    rw (c.denominator.ensures.value, c.sweep-sweep.ensures)
-    (own_part-le c.args.sc.now c.cells-sound.ensures.sound c.args.belief.now.period c.args.a _ c.sweep-sweep.ensures _ c.in-Some.ensures.row)
+    rw (c.denominator.ensures.value, c.sweep-sweep.ensures.value)
+    (own_part-le c.args.sc.now c.sweep-sweep.ensures.sound c.args.belief.now.period c.args.a _ c.sweep-sweep.ensures.value _ c.in-Some.ensures.row)

@@ -4,14 +4,14 @@ use Rattle.mission_report.proofs.course.follow.Goals as goal
 
 pub note_look-requires-clause-position : goal.note_look-requires-clause-position
 note_look-requires-clause-position c =
-    let sound = c.cells-sound.ensures.sound in
+    let sound = c.recall_sound.ensures in
     rw c.cells-looks.ensures.value (position_at c.args.sc.now sound c.args.path.now c.requires 0 (omega (arith, sound.horizon)))
 
 pub loop-t-init : goal.loop-t-init
 loop-t-init c =
     let p = c.args.sc.now in
     let q = c.args.path.now in
-    let some : 0 < length q = omega (arith, c.requires.whole, c.cells-sound.ensures.sound.horizon) in
+    let some : 0 < length q = omega (arith, c.requires.whole, c.recall_sound.ensures.horizon) in
     record {
       belief = belief_next p q 0 _ some (rw c.cells-looks.ensures.value at c.note_look.ensures.belief [] c.in_ok-belief.ensures);
       values = rw (c.cells-looks.ensures.value, c.new-values.ensures.items) at c.in_ok-note_look.ensures.value [] c.in_ok-belief.ensures ∙ ap (λ v. v ∷ []) (first_value p q some);
@@ -24,7 +24,7 @@ pub note_look-requires-in-loop-t-clause-position :
     goal.note_look-requires-in-loop-t-clause-position
 note_look-requires-in-loop-t-clause-position c =
     let long = ap length c.cells-looks.ensures.value in
-    rw c.cells-looks.ensures.value (position_at c.args.sc.now c.cells-sound.ensures.sound c.args.path.now c.requires c.loop-t.t (omega (arith, c.loop-t-test.true, c.requires.whole, long)))
+    rw c.cells-looks.ensures.value (position_at c.args.sc.now c.recall_sound.ensures c.args.path.now c.requires c.loop-t.t (omega (arith, c.loop-t-test.true, c.requires.whole, long)))
 
 pub loop-t-preserved : goal.loop-t-preserved
 loop-t-preserved c =
@@ -43,7 +43,7 @@ returns c =
     let p = c.args.sc.now in
     let q = c.args.path.now in
     let long = ap length c.cells-looks.ensures.value in
-    let end : c.loop-t.t ≡ p.horizon = omega (arith, c.loop-t-test.false, c.loop-t.auto.t-end, c.cells-sound.ensures.sound.horizon, c.requires.whole, long) in
+    let end : c.loop-t.t ≡ p.horizon = omega (arith, c.loop-t-test.false, c.loop-t.auto.t-end, c.recall_sound.ensures.horizon, c.requires.whole, long) in
     record {
       values = rw end at c.loop-t.invariant.values;
       belief = rw (take_path p q c.loop-t.t c.requires end) at c.loop-t.invariant.belief;

@@ -4,5 +4,5 @@ use Rattle.mission_report.proofs.report.push_left.Goals as goal
 
 pub push_line-requires : goal.push_line-requires
 push_line-requires c =
-    let share = share_field c.args.sc.now c.cells-sound.ensures.sound c.args.mass c.weight.result c.requires.mass c.weight.ensures in
+    let share = share_field c.args.sc.now c.name.ensures.sound c.args.mass c.weight.result c.requires.mass c.weight.ensures.value in
     three_fields (Word c.bytes.result) (Number c.args.mass) (Share c.args.mass c.weight.result) tt tt share

@@ -4,5 +4,5 @@ use Rattle.mission_report.proofs.report.push_period.Goals as goal
 
 pub push_line-requires : goal.push_line-requires
 push_line-requires c =
-    let share = share_field c.args.sc.now c.cells-sound.ensures.sound c.args.value c.weight.result c.requires.value c.weight.ensures in
+    let share = share_field c.args.sc.now c.position.ensures.sound c.args.value c.weight.result c.requires.value c.weight.ensures.value in
     four_fields (Number c.from.result) (Word c.bytes.result) (Number c.args.value) (Share c.args.value c.weight.result) tt tt tt share

@@ -13,7 +13,7 @@ bounds-values-i c =
 pub push_period-requires-clause-position : goal.push_period-requires-clause-position
 push_period-requires-clause-position c =
     let long = ap length c.cells-looks.ensures.value in
-    rw c.cells-looks.ensures.value (position_at c.args.sc.now c.cells-sound.ensures.sound c.args.path.now c.requires.path c.loop-i.i (omega (arith, c.loop-i-test.true, c.requires.path.whole, long)))
+    rw c.cells-looks.ensures.value (position_at c.args.sc.now c.recall_sound.ensures c.args.path.now c.requires.path c.loop-i.i (omega (arith, c.loop-i-test.true, c.requires.path.whole, long)))
 
 pub push_period-requires-clause-value : goal.push_period-requires-clause-value
 push_period-requires-clause-value c =

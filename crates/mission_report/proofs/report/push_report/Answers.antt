@@ -7,32 +7,32 @@ use Rattle.mission_report.proofs.report.push_report.Goals as goal
 
 pub returns-in_err-push_line-clause-err : goal.returns-in_err-push_line-clause-err
 returns-in_err-push_line-clause-err c =
-    let parts = report_parts c.args.sc.now c.cells-sound.ensures.sound c.args.path.now c.requires c.in_ok-course.course.belief c.in_ok-course.ensures.belief _ refl in
+    let parts = report_parts c.args.sc.now c.recall_sound.ensures c.args.path.now c.requires c.in_ok-course.course.belief c.in_ok-course.ensures.belief _ refl in
     at_refusal _ _ (stands_stopped _ _ (stands_first parts) c.in_err-push_line.ensures.err)
 
 pub returns-in_err-push_chance-clause-err : goal.returns-in_err-push_chance-clause-err
 returns-in_err-push_chance-clause-err c =
     let value = c.value_after.ensures c.args.path.now c.in_ok-course.ensures.belief in
-    let parts = report_parts c.args.sc.now c.cells-sound.ensures.sound c.args.path.now c.requires c.in_ok-course.course.belief c.in_ok-course.ensures.belief c.value_after.result value in
+    let parts = report_parts c.args.sc.now c.recall_sound.ensures c.args.path.now c.requires c.in_ok-course.course.belief c.in_ok-course.ensures.belief c.value_after.result value in
     let version = stands_next _ _ (stands_first parts) c.in_ok-push_line.ensures.ok in
     at_refusal _ _ (stands_stopped _ _ version c.in_err-push_chance.ensures.err)
 
 pub returns-in_err-push_periods-clause-err : goal.returns-in_err-push_periods-clause-err
 returns-in_err-push_periods-clause-err c =
     let value = c.value_after.ensures c.args.path.now c.in_ok-course.ensures.belief in
-    let parts = report_parts c.args.sc.now c.cells-sound.ensures.sound c.args.path.now c.requires c.in_ok-course.course.belief c.in_ok-course.ensures.belief c.value_after.result value in
+    let parts = report_parts c.args.sc.now c.recall_sound.ensures c.args.path.now c.requires c.in_ok-course.course.belief c.in_ok-course.ensures.belief c.value_after.result value in
     let version = stands_next _ _ (stands_first parts) c.in_ok-push_line.ensures.ok in
     let chance = stands_next _ _ version c.in_ok-push_chance.ensures.ok in
     at_refusal _ _ (stands_stopped _ _ chance c.in_err-push_periods.ensures.err)
 
 pub push_masses-requires-clause-parts : goal.push_masses-requires-clause-parts
 push_masses-requires-clause-parts c =
-    masses_parts c.args.sc.now c.cells-sound.ensures.sound c.args.path.now c.in_ok-course.course.belief c.requires c.in_ok-course.ensures.belief
+    masses_parts c.args.sc.now c.recall_sound.ensures c.args.path.now c.in_ok-course.course.belief c.requires c.in_ok-course.ensures.belief
 
 pub returns-in_err-push_masses-clause-err : goal.returns-in_err-push_masses-clause-err
 returns-in_err-push_masses-clause-err c =
     let value = c.value_after.ensures c.args.path.now c.in_ok-course.ensures.belief in
-    let parts = report_parts c.args.sc.now c.cells-sound.ensures.sound c.args.path.now c.requires c.in_ok-course.course.belief c.in_ok-course.ensures.belief c.value_after.result value in
+    let parts = report_parts c.args.sc.now c.recall_sound.ensures c.args.path.now c.requires c.in_ok-course.course.belief c.in_ok-course.ensures.belief c.value_after.result value in
     let version = stands_next _ _ (stands_first parts) c.in_ok-push_line.ensures.ok in
     let chance = stands_next _ _ version c.in_ok-push_chance.ensures.ok in
     let periods = stands_next _ _ chance c.in_ok-push_periods.ensures.ok in
@@ -41,7 +41,7 @@ returns-in_err-push_masses-clause-err c =
 pub returns-clause-ok : goal.returns-clause-ok
 returns-clause-ok c =
     let value = c.value_after.ensures c.args.path.now c.in_ok-course.ensures.belief in
-    let parts = report_parts c.args.sc.now c.cells-sound.ensures.sound c.args.path.now c.requires c.in_ok-course.course.belief c.in_ok-course.ensures.belief c.value_after.result value in
+    let parts = report_parts c.args.sc.now c.recall_sound.ensures c.args.path.now c.requires c.in_ok-course.course.belief c.in_ok-course.ensures.belief c.value_after.result value in
     let version = stands_next _ _ (stands_first parts) c.in_ok-push_line.ensures.ok in
     let chance = stands_next _ _ version c.in_ok-push_chance.ensures.ok in
     let periods = stands_next _ _ chance c.in_ok-push_periods.ensures.ok in
@@ -51,7 +51,7 @@ returns-clause-ok c =
 pub returns-clause-err : goal.returns-clause-err
 returns-clause-err c =
     let value = c.value_after.ensures c.args.path.now c.in_ok-course.ensures.belief in
-    let parts = report_parts c.args.sc.now c.cells-sound.ensures.sound c.args.path.now c.requires c.in_ok-course.course.belief c.in_ok-course.ensures.belief c.value_after.result value in
+    let parts = report_parts c.args.sc.now c.recall_sound.ensures c.args.path.now c.requires c.in_ok-course.course.belief c.in_ok-course.ensures.belief c.value_after.result value in
     let version = stands_next _ _ (stands_first parts) c.in_ok-push_line.ensures.ok in
     let chance = stands_next _ _ version c.in_ok-push_chance.ensures.ok in
     let periods = stands_next _ _ chance c.in_ok-push_periods.ensures.ok in

@@ -9,10 +9,10 @@ use Rattle.path_node.proofs.node.close_by_edge.Goals as goal
 use Rattle.path_node.proofs.node.close_by_edge.Goals.{then-cuts, else-cuts}
 
 pub overflow_add-enough : goal.overflow_add-enough
-overflow_add-enough c = omega (arith, c.requires.exact.value, whole_weight-fits c.args.sc.now c.cells-sound.ensures.sound)
+overflow_add-enough c = omega (arith, c.requires.exact.value, whole_weight-fits c.args.sc.now c.recall_sound.ensures)
 
 pub bound_or_enough-edge-requires-clause-path : goal.bound_or_enough-edge-requires-clause-path
-bound_or_enough-edge-requires-clause-path c = (reference_extends c.args.sc.now c.args.prefix.now c.cells-sound.ensures.sound c.requires.legal c.args.reference.now c.requires.reference).path
+bound_or_enough-edge-requires-clause-path c = (reference_extends c.args.sc.now c.args.prefix.now c.recall_sound.ensures c.requires.legal c.args.reference.now c.requires.reference).path
 
 pub returns-clause-closed : goal.returns-clause-closed
 returns-clause-closed c =

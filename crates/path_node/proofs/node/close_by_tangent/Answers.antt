@@ -10,10 +10,10 @@ use Rattle.tangent_bound.proofs.Sizes.{finer_fits}
 use Rattle.path_node.proofs.node.close_by_tangent.Goals as goal
 
 pub bound_after-tangent-requires-clause-path : goal.bound_after-tangent-requires-clause-path
-bound_after-tangent-requires-clause-path c = (reference_extends c.args.sc.now c.args.prefix.now c.cells-sound.ensures.sound c.requires.legal c.args.reference.now c.requires.reference).path
+bound_after-tangent-requires-clause-path c = (reference_extends c.args.sc.now c.args.prefix.now c.sweep.ensures.sound c.requires.legal c.args.reference.now c.requires.reference).path
 
 pub in_parts-finer-requires : goal.in_parts-finer-requires
-in_parts-finer-requires c = rw (c.denominator.ensures.value, c.sweep.ensures) (finer_fits c.args.sc.now c.args.standing.now.value c.cells-sound.ensures.sound (omega (arith, c.requires.exact.value)))
+in_parts-finer-requires c = rw (c.denominator-whole.ensures.value, c.sweep.ensures.value) (finer_fits c.args.sc.now c.args.standing.now.value c.sweep.ensures.sound (omega (arith, c.requires.exact.value)))
 
 -- a prefix has no other tangent, so it is left open where this one isn't cut
 left_open : (p : Problem) (s : Standing) (q : List ℕ) (b : ℕ) (whole : List ℕ) → IsProblem p → IsLegal p q → IsFalse (is_cut (mean_of p q) q s) →
@@ -30,13 +30,13 @@ close_by_edge-requires-clause-open c =
     let whole = c.args.reference.now in
     let bound = c.bound_after-tangent.result in
     let tangent : IsTangent p q bound whole = record { rate = c.requires.rate.0; is_rate = c.requires.rate.1; reference = c.requires.reference; bound = c.bound_after-tangent.ensures.value c.requires.rate.0 c.requires.rate.1 } in
-    let test : c.cuts.result ≡ is_cut bound q (times p.sweep.denominator c.args.standing.now) = rw (c.in_parts-finer.ensures, c.denominator.ensures.value, c.sweep.ensures) at c.cuts.ensures in
-    left_open p c.args.standing.now q bound whole c.cells-sound.ensures.sound c.requires.legal c.requires.free tangent (sym test ∙ c.if-cuts.false)
+    let test : c.cuts.result ≡ is_cut bound q (times p.sweep.denominator c.args.standing.now) = rw (c.in_parts-finer.ensures, c.denominator-whole.ensures.value, c.sweep.ensures.value) at c.cuts.ensures in
+    left_open p c.args.standing.now q bound whole c.sweep.ensures.sound c.requires.legal c.requires.free tangent (sym test ∙ c.if-cuts.false)
 
 pub returns-then-cuts-clause-closed : goal.returns-then-cuts-clause-closed
 returns-then-cuts-clause-closed c =
     let p = c.args.sc.now in
     let tangent : IsTangent p c.args.prefix.now c.bound_after-tangent.result c.args.reference.now =
     record { rate = c.requires.rate.0; is_rate = c.requires.rate.1; reference = c.requires.reference; bound = c.bound_after-tangent.ensures.value c.requires.rate.0 c.requires.rate.1 } in
-    let test : c.cuts.result ≡ is_cut c.bound_after-tangent.result c.args.prefix.now (times p.sweep.denominator c.args.standing.now) = rw (c.in_parts-finer.ensures, c.denominator.ensures.value, c.sweep.ensures) at c.cuts.ensures in
+    let test : c.cuts.result ≡ is_cut c.bound_after-tangent.result c.args.prefix.now (times p.sweep.denominator c.args.standing.now) = rw (c.in_parts-finer.ensures, c.denominator-whole.ensures.value, c.sweep.ensures.value) at c.cuts.ensures in
     (c.requires.shorter, c.requires.free, tangent, sym test ∙ c.if-cuts.true)

@@ -2,15 +2,16 @@ use Rattle.plan_command.specs.Inputs.{Source}
 use Rattle.plan_command.specs.Intakes.{Judges}
 use Rattle.plan_command.proofs.Inputs.{judged_read, stop_read}
 use Rattle.plan_command.proofs.input.judge_input.Goals as goal
+use Rattle.plan_command.specs.Words.{MOST_JUDGED}
 
 pub returns-in-Ok : goal.returns-in-Ok
 returns-in-Ok g c =
     let before : Source = record { left = g.S.Source.left c.args.source.now; faults = g.S.Source.faults c.args.source.now } in
     let after : Source = record { left = g.S.Source.left c.read_pieces.new.source; faults = g.S.Source.faults c.read_pieces.new.source } in
-    judged_read 336592896 before after c.new-intake.result c.read_pieces.new.receiver c.finish.result c.in-Ok.ensures.ok c.new-intake.ensures c.finish.ensures
+    judged_read MOST_JUDGED before after c.new-intake.result c.read_pieces.new.receiver c.finish.result c.in-Ok.ensures.ok c.new-intake.ensures c.finish.ensures
 
 pub returns : goal.returns
 returns g c =
     let before : Source = record { left = g.S.Source.left c.args.source.now; faults = g.S.Source.faults c.args.source.now } in
     let after : Source = record { left = g.S.Source.left c.read_pieces.new.source; faults = g.S.Source.faults c.read_pieces.new.source } in
-    stop_read 336592896 before after Judges c.in-Err.stop c.unread.result c.unread.ensures.fault c.unread.ensures.too_long c.in-Err.ensures.too_long c.in-Err.ensures.taken c.in-Err.ensures.cause
+    stop_read MOST_JUDGED before after Judges c.in-Err.stop c.unread.result c.unread.ensures.fault c.unread.ensures.too_long c.in-Err.ensures.too_long c.in-Err.ensures.taken c.in-Err.ensures.cause

@@ -7,4 +7,4 @@ pub returns-else-q-cells : goal.returns-else-q-cells
 returns-else-q-cells c =
     let sound = c.cells.ensures.sound in
     let past : cells_of c.args.sc.now.sweep ≤ c.args.q = omega (arith, c.if-q-cells.false, c.cells.ensures.value, sound.sweep_cells) in
-    c.denominator.ensures.value ∙ ap (λ (s : LookParts). s.denominator) c.sweep-else-q-cells.ensures ∙ sym (factor_of-beyond c.args.sc.now.sweep sound.sweep 1 c.args.q c.args.q past)
+    c.denominator.ensures.value ∙ ap (λ (s : LookParts). s.denominator) c.sweep-else-q-cells.ensures.value ∙ sym (factor_of-beyond c.args.sc.now.sweep sound.sweep 1 c.args.q c.args.q past)

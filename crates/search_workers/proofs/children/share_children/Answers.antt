@@ -17,12 +17,12 @@ push-requires c =
     let p = c.args.sc.now in
     let q = c.args.prefix.now in
     let child : ℕ → List ℕ = λ d. q ++ d ∷ [] in
-    let few = few_moves p q c.horizon-sound.ensures.sound c.requires.legal in
+    let few = few_moves p q c.recall_sound.ensures c.requires.legal in
     let moves = c.children.ensures in
     let long : length c.children.result.now ≤ 64 = rw moves few in
     let wait = few_wait _ _ _ _ _ c.put_children.ensures.puts in
     let rest = few_others child c.children.result.now c.in-len1-up.len_at_least in
-    let most = c.horizon-sound.ensures.sound.horizon.1 in
+    let most = c.recall_sound.ensures.horizon.1 in
     omega (arith, wait, rest, long, most, c.requires.shorter, c.requires.room)
 
 pub returns-clause-shares : goal.returns-clause-shares

@@ -13,7 +13,7 @@ returns-in-Branches-clause-works g c =
 pub returns-in-Branches-clause-order : goal.returns-in-Branches-clause-order
 returns-in-Branches-clause-order g c =
     branch_in_order c.args.sc.now c.args.board.now.first (desk_view c.args.desk.now) (desk_view c.close_last.new.self) c.in-Branches.prefix c.stack_children.new.stack
-    c.cells-sound.ensures.sound c.requires.may.legal c.requires.may.order.room c.in-Branches.ensures.order c.in-Branches.ensures.closes.0 c.stack_children.ensures
+    c.recall_sound.ensures c.requires.may.legal c.requires.may.order.room c.in-Branches.ensures.order c.in-Branches.ensures.closes.0 c.stack_children.ensures
 
 pub returns-in-Branches-clause-left : goal.returns-in-Branches-clause-left
 returns-in-Branches-clause-left g c =
@@ -28,7 +28,7 @@ returns-in-Branches-clause-left g c =
           closes.1
           (returns-in-Branches-clause-order g c)
           (branch_legal p c.args.board.now.first old mid c.in-Branches.prefix c.stack_children.new.stack
-          c.cells-sound.ensures.sound c.requires.may.legal c.requires.may.order.room c.in-Branches.ensures.order closes.0 c.stack_children.ensures),
+          c.recall_sound.ensures c.requires.may.legal c.requires.may.order.room c.in-Branches.ensures.order closes.0 c.stack_children.ensures),
       recorded_one old mid new c.in-Branches.prefix Branch closes.0 refl,
     )
 

@@ -10,7 +10,7 @@ take_up-requires-clause-may g c =
 
 pub take_up-requires-clause-legal : goal.take_up-requires-clause-legal
 take_up-requires-clause-legal g c =
-    (all_legal c.args.sc.now c.args.board.now.first c.args.tasks.now.items (map desk_view c.args.desks.now.items) c.cells-sound.ensures.sound c.requires.settled.order c.requires.settled.even).0
+    (all_legal c.args.sc.now c.args.board.now.first c.args.tasks.now.items (map desk_view c.args.desks.now.items) c.recall_sound.ensures c.requires.settled.order c.requires.settled.even).0
 
 pub take_up-requires-clause-empty : goal.take_up-requires-clause-empty
 take_up-requires-clause-empty g c =

@@ -7,7 +7,7 @@ use Rattle.search_workers.proofs.Mustered.{exact_fits, all_may_go}
 use Rattle.search_workers.proofs.muster.muster.Goals as goal
 
 pub start-requires-2-clause-value : goal.start-requires-2-clause-value
-start-requires-2-clause-value c = exact_fits c.args.sc.now c.args.first.now c.cells-sound.ensures.sound c.requires.exact
+start-requires-2-clause-value c = exact_fits c.args.sc.now c.args.first.now c.recall_sound.ensures c.requires.exact
 
 pub returns-clause-ready : goal.returns-clause-ready
 returns-clause-ready c =

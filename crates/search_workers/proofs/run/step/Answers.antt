@@ -9,7 +9,7 @@ pub returns-in-Ends : goal.returns-in-Ends
 returns-in-Ends g c =
     let closes = c.in-Ends.ensures.closes in
     turned_end c.args.sc.now c.args.board.now.first c.args.kit.now (desk_view c.args.desk.now) (desk_view c.close_last.new.self) closes.0.0
-    c.cells-sound.ensures.sound c.requires.ready c.in-Ends.ensures.order c.in-Ends.ensures.same closes.1 closes.0.1 closes.0.2 closes.0.3
+    c.recall_sound.ensures c.requires.ready c.in-Ends.ensures.order c.in-Ends.ensures.same closes.1 closes.0.1 closes.0.2 closes.0.3
 
 pub returns-in-Branches : goal.returns-in-Branches
 returns-in-Branches g c =
@@ -17,7 +17,7 @@ returns-in-Branches g c =
     let p = c.args.sc.now in
     let q = c.in-Branches.prefix in
     turned_branch p c.args.board.now.first c.args.kit.now (desk_view c.args.desk.now) (desk_view c.close_last.new.self) q
-    c.cells-sound.ensures.sound c.requires.ready c.in-Branches.ensures.order c.in-Branches.ensures.same closes.1
+    c.recall_sound.ensures c.requires.ready c.in-Branches.ensures.order c.in-Branches.ensures.same closes.1
     (nat_lt (length q * 2) p.horizon) c.dispose.new.kit c.dispose.new.stack closes.0 c.dispose.ensures
 
 pub returns-in-Full : goal.returns-in-Full

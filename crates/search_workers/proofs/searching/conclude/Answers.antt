@@ -12,7 +12,7 @@ returns-in-Idle-clause-best g c =
     let first = c.args.board.first in
     let harvest = c.args.harvest in
     let joined = subst (λ (qs : List (List ℕ)). AreJoined p first harvest.best qs harvest.closed.items) (subst (λ (e : Left). EndsHarvest e harvest) c.in-Idle.is c.requires.ends) c.requires.joined in
-    (done_are_accepted p first harvest.best harvest.closed.items c.gather.result c.cells-sound.ensures.sound joined c.gather.ensures.gathered).1
+    (done_are_accepted p first harvest.best harvest.closed.items c.gather.result c.recall_sound.ensures joined c.gather.ensures.gathered).1
 
 pub returns-in-Idle-clause-branches : goal.returns-in-Idle-clause-branches
 returns-in-Idle-clause-branches g c =
@@ -20,7 +20,7 @@ returns-in-Idle-clause-branches g c =
     let first = c.args.board.first in
     let harvest = c.args.harvest in
     let joined = subst (λ (qs : List (List ℕ)). AreJoined p first harvest.best qs harvest.closed.items) (subst (λ (e : Left). EndsHarvest e harvest) c.in-Idle.is c.requires.ends) c.requires.joined in
-    (done_are_accepted p first harvest.best harvest.closed.items c.gather.result c.cells-sound.ensures.sound joined c.gather.ensures.gathered).2
+    (done_are_accepted p first harvest.best harvest.closed.items c.gather.result c.recall_sound.ensures joined c.gather.ensures.gathered).2
 
 pub returns-in-Idle-clause-few : goal.returns-in-Idle-clause-few
 returns-in-Idle-clause-few g c =

@@ -18,7 +18,7 @@ conclude-requires-clause-joined g c =
     let harvest = c.in_ok-harvest.harvest in
     let brought = c.in_ok-harvest.ensures in
     let same : c.in_ok-tickets.field-0.board.first ≡ first = search rules in
-    let joined = joined_at p _ _ first harvest.best tasks desks c.cells-sound.ensures.sound c.requires.exact same c.in_ok-end.ensures.settled brought.best in
+    let joined = joined_at p _ _ first harvest.best tasks desks c.recall_sound.ensures c.requires.exact same c.in_ok-end.ensures.settled brought.best in
     subst (λ (s : Standing). AreJoined p s harvest.best harvest.waiting.items harvest.closed.items) (sym same)
     (subst (λ (rs : List TreeNode). AreJoined p first harvest.best harvest.waiting.items rs) (sym brought.closed)
     (subst (λ (qs : List (List ℕ)). AreJoined p first harvest.best qs (closed_at desks)) (sym brought.waiting) joined))
@@ -42,10 +42,10 @@ returns-clause-branches g c =
 
 pub returns-clause-full : goal.returns-clause-full
 returns-clause-full g c =
-    more_live c.args.sc.now c.args.first.now c.args.nodes c.cells-sound.ensures.sound c.conclude.result (search rules) (search rules) (search rules)
+    more_live c.args.sc.now c.args.first.now c.args.nodes c.recall_sound.ensures c.conclude.result (search rules) (search rules) (search rules)
 
 pub returns-clause-full_distinct : goal.returns-clause-full_distinct
-returns-clause-full_distinct g c = distinct_reached c.args.sc.now c.args.first.now c.args.nodes c.cells-sound.ensures.sound c.conclude.result (search rules)
+returns-clause-full_distinct g c = distinct_reached c.args.sc.now c.args.first.now c.args.nodes c.recall_sound.ensures c.conclude.result (search rules)
 
 pub returns-clause-full_live : goal.returns-clause-full_live
-returns-clause-full_live g c = live_reached c.args.sc.now c.args.first.now c.args.nodes c.cells-sound.ensures.sound c.conclude.result (search rules)
+returns-clause-full_live g c = live_reached c.args.sc.now c.args.first.now c.args.nodes c.recall_sound.ensures c.conclude.result (search rules)

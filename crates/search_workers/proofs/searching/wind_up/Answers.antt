@@ -22,4 +22,4 @@ finish-end-requires-clause-left g c =
     let crew = c.args.members.items in
     let settled = settled_crew p t b crew tasks c.requires.complete c.requires.gone c.requires.some c.in_ok-desks.ensures.left in
     subst (LeaveDesks c.args.left) (sym c.in_ok-desks.ensures.desks)
-    (left_desks p t b crew tasks c.args.left c.cells-sound.ensures.sound c.requires.gone settled c.requires.left)
+    (left_desks p t b crew tasks c.args.left c.recall_sound.ensures c.requires.gone settled c.requires.left)

@@ -10,14 +10,14 @@ use Rattle.tangent_bound.proofs.gains.gain.Goals as goal
 found : (c : After-covered) (path : List ℕ) → IsMet c.args.sc.now path c.args.t c.args.belief.now c.args.backward.now →
     c.from.result * c.covered.result ≡ gain_of c.args.sc.now c.args.rate path c.args.t c.args.a
 found c path met =
-    rw (c.covered.ensures path met, c.from.ensures, c.denominator.ensures.value, c.sweep.ensures)
-    (sym (gain_is c.args.sc.now c.cells-sound.ensures.sound path met.path c.args.t c.requires.first c.requires.last c.args.a c.args.rate))
+    rw (c.covered.ensures path met, c.from.ensures, c.denominator.ensures.value, c.sweep.ensures.value)
+    (sym (gain_is c.args.sc.now c.sweep.ensures.sound path met.path c.args.t c.requires.first c.requires.last c.args.a c.args.rate))
 
 pub overflow_mul-result : goal.overflow_mul-result
 overflow_mul-result c =
     let p = c.args.sc.now in
     let (x, met) = c.requires.met in
-    let sound = c.cells-sound.ensures.sound in
+    let sound = c.sweep.ensures.sound in
     omega (arith, found c x met, gain-le p sound x met.path c.args.t c.requires.first c.requires.last c.args.a c.args.rate, most_fits p sound 1 (omega arith))
 
 pub returns : goal.returns

@@ -17,11 +17,11 @@ pub overflow_mul-result : goal.overflow_mul-result
 overflow_mul-result c =
     let p = c.args.sc.now in
     let (x, met) = c.requires.met in
-    let sound = c.cells-sound.ensures.sound in
+    let sound = c.sweep.ensures.sound in
     omega (arith, product c x met, missed_in-le p sound x met.path c.args.t c.requires.first c.requires.last c.args.entry.cell c.requires.cell, whole_weight-fits p sound)
 
 pub returns-then-entry-denominator : goal.returns-then-entry-denominator
 returns-then-entry-denominator c = λ path met.
     let p = c.args.sc.now in
-    let below : c.args.entry.part < p.sweep.denominator = rw (c.denominator.ensures.value, c.sweep.ensures) at c.if-entry-denominator.true in
+    let below : c.args.entry.part < p.sweep.denominator = rw (c.denominator.ensures.value, c.sweep.ensures.value) at c.if-entry-denominator.true in
     rw (lt-ltb c.args.entry.part p.sweep.denominator below) (product c path met)

@@ -6,7 +6,7 @@ use Rattle.tangent_bound.proofs.WholePath.{position_within}
 use Rattle.tangent_bound.proofs.steps.look_on.Goals as goal
 
 pub look-requires-clause-position : goal.look-requires-clause-position
-look-requires-clause-position c = rw c.cells.ensures.value (position_within c.args.sc.now c.cells-sound.ensures.sound c.args.path.now c.requires.path.follows c.args.looks 0 c.requires.more)
+look-requires-clause-position c = rw c.cells.ensures.value (position_within c.args.sc.now c.recall_sound.ensures c.args.path.now c.requires.path.follows c.args.looks 0 c.requires.more)
 
 pub returns : goal.returns
 returns c =

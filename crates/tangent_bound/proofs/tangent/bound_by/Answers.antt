@@ -21,7 +21,7 @@ table c = record { sound = c.positions-positions.ensures.sound; prefix = c.requi
 pub fill-requires-clause-positions : goal.fill-requires-clause-positions
 fill-requires-clause-positions c =
     let sound = c.positions-positions.ensures.sound in
-    rw (c.grid.ensures, c.requires.positions) sound.grid_positions
+    rw (c.grid.ensures.value, c.requires.positions) sound.grid_positions
 
 pub fill-requires-clause-from : goal.fill-requires-clause-from
 fill-requires-clause-from c =
@@ -51,7 +51,7 @@ pub overflow_mul-result : goal.overflow_mul-result
 overflow_mul-result c =
     let p = c.args.sc.now in
     let x = c.args.reference.now in
-    rw (c.from.ensures, c.denominator.ensures.value, c.sweep.ensures, c.value_by-value.ensures)
+    rw (c.from.ensures, c.denominator.ensures.value, c.sweep.ensures.value, c.value_by-value.ensures)
     (omega (arith, value_bounded p x, most_fits p c.positions-positions.ensures.sound 1 (omega arith)))
 
 -- the table at the end
@@ -60,7 +60,7 @@ table_then c = record { sound = c.positions-positions.ensures.sound; prefix = c.
 
 -- the denominator of the looks times the value of the reference
 scaled : (c : goal.After-greatest) → c.from.result * c.value_by-value.result ≡ c.args.sc.now.sweep.denominator * value_of c.args.sc.now c.args.reference.now
-scaled c = rw (c.from.ensures, c.denominator.ensures.value, c.sweep.ensures, c.value_by-value.ensures) refl
+scaled c = rw (c.from.ensures, c.denominator.ensures.value, c.sweep.ensures.value, c.value_by-value.ensures) refl
 
 -- the greatest sum over the walks below the prefix, by the table
 greatest : (c : goal.After-greatest) → let p = c.args.sc.now in let q = c.args.prefix.now in
@@ -68,7 +68,7 @@ greatest : (c : goal.After-greatest) → let p = c.args.sc.now in let q = c.args
 greatest c =
     let positions : c.fill.new.self.positions ≡ c.args.sc.now.positions = c.fill.ensures.positions ∙ c.requires.positions in
     let horizon : c.fill.new.self.horizon ≡ c.args.sc.now.horizon = c.fill.ensures.horizon ∙ c.requires.horizon in
-    rw (positions, horizon, c.grid.ensures, c.last_position.ensures, c.len-k.ensures.value) at
+    rw (positions, horizon, c.grid.ensures.value, c.last_position.ensures, c.len-k.ensures.value) at
     (c.greatest.ensures c.grid.result.now c.fill_after.new.gains c.last_position.result c.len-k.result c.fill.ensures.filled)
 
 -- the sum along the reference, by the table

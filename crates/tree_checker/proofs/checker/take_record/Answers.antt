@@ -17,7 +17,7 @@ pub push_expected-requires-clause-room : goal.push_expected-requires-clause-room
 push_expected-requires-clause-room c = λ branch.
     let rest = c.pop_prefix.new.stack in
     let short = branch_is_short c.args.sc.now c.args.standing.now c.in-Some.prefix c.args.node.now (sym c.in-None.ensures.reason) branch in
-    let left = room_left c.args.sc.now c.in-Some.prefix (reverse rest.items) c.horizon-sound.ensures.sound short (subst HasRoom c.in-Some.ensures.some c.requires.room) in
+    let left = room_left c.args.sc.now c.in-Some.prefix (reverse rest.items) c.recall_sound.ensures short (subst HasRoom c.in-Some.ensures.some c.requires.room) in
     omega (arith, left, length-reverse rest.items, rest.ok.0)
 
 pub returns-in-Some-record_reason-clause-legal : goal.returns-in-Some-record_reason-clause-legal
@@ -35,4 +35,4 @@ pub returns-in-None-clause-room : goal.returns-in-None-clause-room
 returns-in-None-clause-room c =
     let legal = (split_legal c.args.sc.now _ _ _ c.in-Some.ensures.some c.requires.legal).0 in
     subst HasRoom (sym c.push_expected.ensures.items)
-    (room_expected c.args.sc.now c.in-Some.prefix c.args.node.now.kind _ c.horizon-sound.ensures.sound legal (subst HasRoom c.in-Some.ensures.some c.requires.room))
+    (room_expected c.args.sc.now c.in-Some.prefix c.args.node.now.kind _ c.recall_sound.ensures legal (subst HasRoom c.in-Some.ensures.some c.requires.room))

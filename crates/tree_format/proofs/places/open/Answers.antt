@@ -7,4 +7,4 @@ pub returns-then-has_children-clause-room : goal.returns-then-has_children-claus
 returns-then-has_children-clause-room c =
     let may = c.has_children.ensures.0 c.if-has_children.true in
     subst HasRoom (sym c.push_expected.ensures.items)
-    (room_expected c.args.sc.now c.args.prefix.now c.args.kind.now _ c.horizon-sound.ensures.sound may.1 c.requires.room)
+    (room_expected c.args.sc.now c.args.prefix.now c.args.kind.now _ c.recall_sound.ensures may.1 c.requires.room)

@@ -16,8 +16,8 @@ returns-clause-gathered c =
     c.sort_unstable_by.ensures.sorted (λ a b. smaller a.prefix b.prefix) (ranks_by nat_list_cmp_total (λ (r : TreeNode). r.prefix))
     (answers_always _ (λ a r. is_lt r ≡ smaller a.0.now.prefix a.1.0.now.prefix) _ (λ f a r g k. ap is_lt (let e : r ≡ slice_cmp nat_cmp a.0.now.prefix a.1.0.now.prefix = search rules in e))) in
     subst (IsGathered c.args.nodes.items) (sym c.of.ensures)
-    (sorted_is_gathered c.args.sc.now c.args.nodes.items made c.horizon-sound.ensures.sound c.requires c.sort_unstable_by.ensures.permutation sorted)
+    (sorted_is_gathered c.args.sc.now c.args.nodes.items made c.recall_sound.ensures c.requires c.sort_unstable_by.ensures.permutation sorted)
 
 pub returns-clause-accepted : goal.returns-clause-accepted
 returns-clause-accepted c =
-    gathered_is_accepted c.args.sc.now c.args.nodes.items c.of.result c.horizon-sound.ensures.sound c.requires (returns-clause-gathered c)
+    gathered_is_accepted c.args.sc.now c.args.nodes.items c.of.result c.recall_sound.ensures c.requires (returns-clause-gathered c)

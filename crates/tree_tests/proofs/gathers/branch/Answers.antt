@@ -11,4 +11,4 @@ step-requires-clause-allowed c = λ held s at.
     let p = c.args.sc.now in
     let standings = c.args.core.now.standings in
     subst (λ q. IsClosed p s q Branch) (sym c.empty.ensures)
-    (empty_branches p s c.horizon-sound.ensures.sound (All-contains (IsExact p) standings s c.requires.exact (Contains-place standings 0 s at)))
+    (empty_branches p s c.recall_sound.ensures (All-contains (IsExact p) standings s c.requires.exact (Contains-place standings 0 s at)))

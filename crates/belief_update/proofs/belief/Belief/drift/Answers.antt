@@ -12,7 +12,7 @@ move_on-requires-clause-fits c =
     let looks = c.requires.belief.0 in
     let before : IsBelief p looks (record { period = c.self.inside.period; looked = c.self.inside.looked; masses = c.self.inside.masses.items }) = rw c.self.view_is c.requires.belief.1 in
     let more : c.self.inside.period < p.horizon = rw (ap (λ b. b.period) c.self.view_is) c.requires.period in
-    rw (c.deref.ensures.value, c.drift.ensures) (drift_fits p c.cells-sound.ensures.sound looks _ before more)
+    rw (c.deref.ensures.value, c.drift.ensures.value) (drift_fits p c.drift.ensures.sound looks _ before more)
 
 -- what was moved on is the belief in the next period
 made : (c : goal.After-self-3-1) (looks : List (Option ℕ)) → IsBelief c.args.sc.now looks c.args.self.now →
@@ -23,8 +23,8 @@ made c looks given =
     let new = c.move_on.new.next in
     let before : IsBelief p looks (record { period = c.self.inside.period; looked = c.self.inside.looked; masses = old }) = rw c.self.view_is given in
     let more : c.self.inside.period < p.horizon = rw (ap (λ b. b.period) c.self.view_is) c.requires.period in
-    let each : (d : ℕ) → d < length old → slice_index new d ≡ sum_by (λ x. slice_index old x * part_of p.drift c.self.inside.period x d) (range_with_len 0 (length old)) = rw (← c.deref.ensures.value, ← c.drift.ensures) c.move_on.ensures.each in
-    drift_is p c.cells-sound.ensures.sound looks _ new before more (c.move_on.auto.next ∙ ap length c.deref_mut.ensures.value ∙ c.self.invariant.spare) each
+    let each : (d : ℕ) → d < length old → slice_index new d ≡ sum_by (λ x. slice_index old x * part_of p.drift c.self.inside.period x d) (range_with_len 0 (length old)) = rw (← c.deref.ensures.value, ← c.drift.ensures.value) c.move_on.ensures.each in
+    drift_is p c.drift.ensures.sound looks _ new before more (c.move_on.auto.next ∙ ap length c.deref_mut.ensures.value ∙ c.self.invariant.spare) each
 
 pub invariant_of-self : goal.invariant_of-self
 invariant_of-self c =
@@ -32,7 +32,7 @@ invariant_of-self c =
     let after = made c c.requires.belief.0 c.requires.belief.1 in
     rw (c.swap.ensures.x_after, c.swap.ensures.y_after, stored) (record {
       spare = sym (c.move_on.auto.next ∙ ap length c.deref_mut.ensures.value ∙ c.self.invariant.spare);
-      fits = belief_fits c.args.sc.now c.cells-sound.ensures.sound _ _ after;
+      fits = belief_fits c.args.sc.now c.drift.ensures.sound _ _ after;
     })
 
 pub returns-clause-belief : goal.returns-clause-belief

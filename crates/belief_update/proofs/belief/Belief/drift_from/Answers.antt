@@ -13,7 +13,7 @@ move_on-requires-clause-fits c =
     let looks = c.requires.belief.0 in
     let before : IsBelief p looks (record { period = inside.period; looked = inside.looked; masses = inside.masses.items }) = rw c.before-2.view_is c.requires.belief.1 in
     let more : inside.period < p.horizon = rw (ap (λ b. b.period) c.before-2.view_is) c.requires.period in
-    rw (c.deref.ensures.value, c.drift.ensures) (drift_fits p c.cells-sound.ensures.sound looks _ before more)
+    rw (c.deref.ensures.value, c.drift.ensures.value) (drift_fits p c.drift.ensures.sound looks _ before more)
 
 -- what was moved on is the belief in the next period
 made : (c : goal.After-self-3-1) (looks : List (Option ℕ)) → IsBelief c.args.sc.now looks c.args.before.now →
@@ -25,9 +25,9 @@ made c looks given =
     let new = c.move_on.new.next in
     let before : IsBelief p looks (record { period = inside.period; looked = inside.looked; masses = old }) = rw c.before-2.view_is given in
     let more : inside.period < p.horizon = rw (ap (λ b. b.period) c.before-2.view_is) c.requires.period in
-    let each : (d : ℕ) → d < length old → slice_index new d ≡ sum_by (λ x. slice_index old x * part_of p.drift inside.period x d) (range_with_len 0 (length old)) = rw (← c.deref.ensures.value, ← c.drift.ensures) c.move_on.ensures.each in
+    let each : (d : ℕ) → d < length old → slice_index new d ≡ sum_by (λ x. slice_index old x * part_of p.drift inside.period x d) (range_with_len 0 (length old)) = rw (← c.deref.ensures.value, ← c.drift.ensures.value) c.move_on.ensures.each in
     let cells : length c.self.inside.masses.items ≡ p.cells = ap (λ b. length b.masses) c.self.view_is ∙ c.requires.cells in
-    drift_is p c.cells-sound.ensures.sound looks _ new before more (c.move_on.auto.next ∙ ap length c.deref_mut.ensures.value ∙ cells ∙ sym before.cells) each
+    drift_is p c.drift.ensures.sound looks _ new before more (c.move_on.auto.next ∙ ap length c.deref_mut.ensures.value ∙ cells ∙ sym before.cells) each
 
 pub invariant_of-self : goal.invariant_of-self
 invariant_of-self c =
@@ -35,7 +35,7 @@ invariant_of-self c =
     let after = made c c.requires.belief.0 c.requires.belief.1 in
     rw stored (record {
       spare = c.self.invariant.spare ∙ sym (c.move_on.auto.next ∙ ap length c.deref_mut.ensures.value);
-      fits = belief_fits c.args.sc.now c.cells-sound.ensures.sound _ _ after;
+      fits = belief_fits c.args.sc.now c.drift.ensures.sound _ _ after;
     })
 
 pub returns-clause-belief : goal.returns-clause-belief

@@ -13,7 +13,7 @@ go_on-requires-clause-same g c =
 pub go_on-requires-clause-positions : goal.go_on-requires-clause-positions
 go_on-requires-clause-positions g c =
     let p = c.args.sc.now in
-    let sound = c.cells-sound.ensures.sound in
+    let sound = c.recall_sound.ensures in
     rw c.cells-3.ensures.value (positions_follow p sound p.start (omega (arith, sound.start, sound.grid_positions)) c.args.prefix.now c.requires.legal.follows)
 
 pub go_on-requires-clause-rows : goal.go_on-requires-clause-rows

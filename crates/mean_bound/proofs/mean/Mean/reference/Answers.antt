@@ -11,7 +11,7 @@ pub returns : goal.returns
 returns c =
     let p = c.args.sc.now in
     let q = c.args.to.now in
-    let sound = c.cells-sound.ensures.sound in
+    let sound = c.grid.ensures.sound in
     let filled = c.requires.filled in
     let from = last_of p.start q in
     let here : from < length p.moves = last_within p.moves sound.grid p.start (omega (arith, sound.start, sound.grid_positions)) q filled.legal.follows in
@@ -23,5 +23,5 @@ returns c =
     let start : c.self.inside.walk.from ≡ from = ap (λ m. m.walk.from) c.self.view_is ∙ filled.walked.start in
     let rewards : c.deref.result.now ≡ c.args.self.now.rewards = c.deref.ensures.value ∙ ap (λ m. m.rewards) c.self.view_is in
     let least : IsLeastBest p.moves (entry_at p.positions c.args.self.now.rewards) (p.horizon - length q) (length q + 1) from rest =
-    rw (c.grid.ensures, positions, horizon, start, rewards, added) at c.least_best.ensures.least in
+    rw (c.grid.ensures.value, positions, horizon, start, rewards, added) at c.least_best.ensures.least in
     (rest, whole, least_is p sound q c.args.self.now.rewards filled.rewarded filled.short from rest here least)

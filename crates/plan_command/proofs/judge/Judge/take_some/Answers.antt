@@ -6,7 +6,7 @@ pub hear-requires-clause-under_way : goal.hear-requires-clause-under_way
 hear-requires-clause-under_way c = c.requires.begun.1.heard.under_way
 
 pub hear-requires-clause-line : goal.hear-requires-clause-line
-hear-requires-clause-line c = line_left c.requires.begun.0 c.args.self.now c.cells-sound.ensures.sound c.requires.begun.1
+hear-requires-clause-line c = line_left c.requires.begun.0 c.args.self.now c.recall_sound.ensures c.requires.begun.1
 
 pub hear-requires-clause-made : goal.hear-requires-clause-made
 hear-requires-clause-made c = c.requires.begun.1.heard.made_for
@@ -17,7 +17,7 @@ returns-in-More-clause-taken c = λ before h.
 
 pub returns-in-Item-clause-taken : goal.returns-in-Item-clause-taken
 returns-in-Item-clause-taken c = λ before h.
-    text_item before c.args.text.now c.args.self.now c.hear.new.self c.feed-used.new.self c.feed-used.result.used c.feed-used.result.step h c.in-Item.item c.cells-sound.ensures.sound c.in-Item.is c.feed-used.ensures.item c.hear.ensures.heard c.hear.ensures.scenario c.hear.ensures.feed
+    text_item before c.args.text.now c.args.self.now c.hear.new.self c.feed-used.new.self c.feed-used.result.used c.feed-used.result.step h c.in-Item.item c.recall_sound.ensures c.in-Item.is c.feed-used.ensures.item c.hear.ensures.heard c.hear.ensures.scenario c.hear.ensures.feed
 
 pub returns-in-Fault-clause-fault : goal.returns-in-Fault-clause-fault
 returns-in-Fault-clause-fault c = λ before h. text_fault before c.args.text.now c.args.self.now c.feed-used.result.used c.feed-used.result.step c.in-Fault.fault h c.in-Fault.is c.feed-used.ensures.fault

@@ -24,7 +24,7 @@ pub replace_held-requires-clause-shorter : goal.replace_held-requires-clause-sho
 replace_held-requires-clause-shorter c = λ some.
     let held : Contains c.args.self.now.hands c.args.node.now.prefix = Contains-place c.args.self.now.hands c.in-Some.place c.args.node.now.prefix (search rules) in
     let within : c.args.j < length c.args.self.now.standings = search rules in
-    let sound = c.horizon-sound.ensures.sound in
+    let sound = c.recall_sound.ensures in
     let short = held_is_short c.args.sc.now c.args.self.now c.args.node.now c.args.j sound c.requires.balanced c.requires.allowed held within (c.moves_below-moves.ensures.branch some) in
     omega (arith, short, sound.horizon.1)
 

@@ -3,7 +3,7 @@ use Rattle.search_core.proofs.machine.CoreState.step.Goals as goal
 
 pub returns-clause-balanced : goal.returns-clause-balanced
 returns-clause-balanced c =
-    balanced_after c.args.sc.now c.args.self.now c.args.event c.answer.result c.answer.new.self c.horizon-sound.ensures.sound c.requires.balanced c.requires.allowed c.answer.ensures
+    balanced_after c.args.sc.now c.args.self.now c.args.event c.answer.result c.answer.new.self c.recall_sound.ensures c.requires.balanced c.requires.allowed c.answer.ensures
 
 pub returns-clause-not_pooled : goal.returns-clause-not_pooled
 returns-clause-not_pooled c = not_pooled c.args.sc.now c.args.self.now c.answer.new.self c.args.event c.answer.result c.answer.ensures

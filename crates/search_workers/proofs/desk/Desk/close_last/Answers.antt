@@ -25,7 +25,7 @@ returns-in-Number-clause-order g c =
     } in
     let records = c.args.self.now.records in
     closed_in_order p c.args.board.now.first (desk_view c.args.self.now) mid (desk_view c.record_last.new.self) c.in-Number.field-0 c.record_last.result
-    c.cells-sound.ensures.sound c.requires.order
+    c.recall_sound.ensures c.requires.order
     (record {
       few = omega (arith, records.ok.0, records.ok.1, records.small);
       exact = heed.exact;
@@ -69,7 +69,7 @@ returns-in-Full-clause-order g c =
       belief = c.heed.new.self.belief;
     } in
     let records = c.args.self.now.records in
-    still_in_order c.args.sc.now c.args.board.now.first (desk_view c.args.self.now) new c.heed.new.self.standing c.in-Full.field-0 c.cells-sound.ensures.sound c.requires.order
+    still_in_order c.args.sc.now c.args.board.now.first (desk_view c.args.self.now) new c.heed.new.self.standing c.in-Full.field-0 c.recall_sound.ensures c.requires.order
     (record {
       few = omega (arith, records.ok.0, records.ok.1, records.small);
       exact = heed.exact;

@@ -10,7 +10,7 @@ keep_better-requires-clause-stands g c = λ n whole.
     let q = c.in-Some.prefix in
     let s = c.args.self.now.incumbent.standing in
     let closed = subst (IsClosed p s q) whole c.close-node.ensures.closed in
-    rw c.close-node.ensures.prefix (whole_may_stand p c.args.board.now.first s q n c.cells-sound.ensures.sound c.requires.first closed)
+    rw c.close-node.ensures.prefix (whole_may_stand p c.args.board.now.first s q n c.recall_sound.ensures c.requires.first closed)
 
 -- the record that was appended is that of the prefix
 appended : (before after : List TreeNode) (r : TreeNode) (q : List ℕ) → after ≡ before ++ r ∷ [] → r.prefix ≡ q → after ≡ before ++ record { prefix = q; kind = r.kind } ∷ []
