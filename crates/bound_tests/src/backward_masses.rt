@@ -1,57 +1,60 @@
+ghost use Rattle.std.specs.Prelude.{◌≡◌, IfSome};
+ghost use Rattle.search_model.specs.Legal.{IsPath};
+ghost use Rattle.backward_mass.specs.Table.{IsMadeFor};
+
+use crate::scenarios::{crosses_threads, scenario_of};
 use backward_mass::Backward;
-use drift_chain::{Drift, DriftPart};
-use search_grid::Grid;
-use search_model::{Name, Parts, Path, Scenario};
-use std::alloc::{AllocError, Global};
+use search_model::{Path, Scenario};
+use std::alloc::Global;
 use std::test::Fail;
-use sweep_table::Sweep;
+use worked_scenarios::WAITING_LONGER;
 
-// Holds of what may be shared between threads and moved to one.
-fn crosses_threads<T: Send + Sync + Drop>(_value: T) {}
-
-// The row of a cell that keeps all of a target.
-fn stays(alloc: Global, cell: u8) -> Result<Vec<DriftPart>, AllocError> {
-    [DriftPart { cell, part: 1 }].to_vec(alloc)
+// The path of a scenario that has these positions.
+fn path_of(sc: &Scenario, positions: &[u8]) -> Option<Path>
+    ensures { IfSome result (IsPath sc.now) }
+{
+    let path = Path::of(positions)?;
+    if path.len() == sc.horizon() as usize && sc.is_legal(&path) {
+        Some(path)
+    } else {
+        None
+    }
 }
 
-// Three cells in a row and three periods; the target waits in the last cell, and a look there misses 1 of 2.
-fn waiting_longer(alloc: Global) -> Result<Scenario, Fail> {
-    let a = Name::new(b"a").ok_or("no name")?;
-    let b = Name::new(b"b").ok_or("no name")?;
-    let c = Name::new(b"c").ok_or("no name")?;
-    let drifts = vec![in alloc; stays(alloc, 0)?, stays(alloc, 1)?, stays(alloc, 2)?]?;
-    Ok(Scenario::new(Parts {
-        names: vec![in alloc; a, b, c]?,
-        positions: vec![in alloc; a, b, c]?,
-        horizon: 3,
-        start: 1,
-        total: 1,
-        first: vec![in alloc; 0, 0, 1]?,
-        grid: Grid::four_neighbour(alloc, 1, 3)?,
-        drift: Drift::new(1, drifts)?,
-        sweep: Sweep::new(2, vec![in alloc; 1, 1, 1]?)?,
-    })?)
+// Whether the table has these masses of a path after it was filled for another one, and of the other one's later periods.
+fn has_masses(sc: &Scenario, backward: &mut Backward, path: &Path, other: &Path) -> bool
+    requires cells { sc.now.cells ≡ 3 }
+    requires horizon { sc.now.horizon ≡ 3 }
+    requires made { IsMadeFor sc.now backward.old }
+    requires path { IsPath sc.now path.now }
+    requires other { IsPath sc.now other.now }
+{
+    backward.fill(sc, other);
+    backward.fill(sc, path);
+    let filled = backward.at(1, 2) == 1 && backward.at(1, 0) == 4 && backward.at(2, 0) == 2;
+    backward.fill_from(sc, other, 2);
+    filled && backward.at(2, 2) == 2
+}
+
+// The target that waits: the path that goes to it after another one.
+fn table_is_filled_again(alloc: Global) -> Result<bool, Fail> {
+    let sc = scenario_of(alloc, WAITING_LONGER)?;
+    if sc.cells() != 3 || sc.horizon() != 3 {
+        return Ok(false);
+    }
+    let mut backward = Backward::tables(alloc, &sc)?;
+    let Some(path) = path_of(&sc, &[1, 2, 2]) else {
+        return Ok(false);
+    };
+    let Some(other) = path_of(&sc, &[1, 0, 0]) else {
+        return Ok(false);
+    };
+    Ok(has_masses(&sc, &mut backward, &path, &other))
 }
 
 #[test]
 fn a_table_is_filled_again(rt: HostRuntime) -> Result<(), Fail> {
-    let sc = waiting_longer(rt.alloc())?;
-    let mut backward = Backward::tables(rt.alloc(), &sc)?;
-    let other = Path::of(&[1, 0, 0]).ok_or("no path")?;
-    assert!(rt; other.len() == sc.horizon() as usize && sc.is_legal(&other));
-    backward.fill(&sc, &other);
-    let path = Path::of(&[1, 2, 2]).ok_or("no path")?;
-    assert!(rt; path.len() == sc.horizon() as usize && sc.is_legal(&path));
-    backward.fill(&sc, &path);
-    let masses: [(u32, u8, u128); 3] = [(1, 2, 1), (1, 0, 4), (2, 0, 2)];
-    for (t, c, mass) in masses {
-        assert!(rt; t >= 1 && t <= sc.horizon() && c < sc.cells());
-        assert_eq!(rt; backward.at(t, c), mass);
-    }
-    assert!(rt; sc.horizon() == 3);
-    backward.fill_from(&sc, &other, 2);
-    assert!(rt; 2 < sc.cells());
-    assert_eq!(rt; backward.at(2, 2), 2);
-    crosses_threads(backward);
+    assert!(rt; table_is_filled_again(rt.alloc())?);
+    crosses_threads::<Backward>();
     Ok(())
 }

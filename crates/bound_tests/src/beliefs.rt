@@ -1,50 +1,28 @@
 ghost use Rattle.std.specs.Prelude.{◌≡◌, ◌≤◌, ◌+◌, ◌∷◌, [], ◌<◌, IfOk, IsTrue, length};
 ghost use Rattle.search_model.specs.Problem.{Problem};
+ghost use Rattle.belief_update.specs.Belief.{IsBelief};
 ghost use Rattle.belief_update.specs.Trails.{IsTrailOf, common_of};
 
+use crate::scenarios::{crosses_threads, scenario_of};
 use belief_update::{Belief, Steps, Trail, prefix_value};
-use drift_chain::{Drift, DriftPart};
-use search_grid::Grid;
-use search_model::{Name, Parts, Path, Scenario};
-use std::alloc::{AllocError, Global};
+use search_model::{Path, Scenario};
+use std::alloc::Global;
 use std::marker::Brand;
 use std::sync::ledger::{Blank, Ledger};
 use std::test::Fail;
-use sweep_table::Sweep;
+use worked_scenarios::{TWO_CELLS, WAITING_LONGER};
 
-// Holds of what may be shared between threads and moved to one.
-fn crosses_threads<T: Send + Sync + Drop>(_value: T) {}
-
-// The even chance of either of two cells.
-fn either(alloc: Global) -> Result<Vec<DriftPart>, AllocError> {
-    [
-        DriftPart { cell: 0, part: 1 },
-        DriftPart { cell: 1, part: 1 },
-    ]
-    .to_vec(alloc)
-}
-
-// Two cells and two periods; the target moves as it likes, and no look at its cell misses.
+// The two cells, of which contracts see their numbers alone.
 fn two_cells(alloc: Global) -> Result<Scenario, Fail>
     ensures cells { IfOk result (λ sc. sc.cells ≡ 2) }
     ensures positions { IfOk result (λ sc. sc.positions ≡ 2) }
     ensures horizon { IfOk result (λ sc. sc.horizon ≡ 2) }
 {
-    let a = Name::new(b"a").ok_or("no name")?;
-    let b = Name::new(b"b").ok_or("no name")?;
-    let moves = vec![in alloc; vec![in alloc; 0, 1]?, vec![in alloc; 0, 1]?]?;
-    let drifts = vec![in alloc; either(alloc)?, either(alloc)?]?;
-    Ok(Scenario::new(Parts {
-        names: vec![in alloc; a, b]?,
-        positions: vec![in alloc; a, b]?,
-        horizon: 2,
-        start: 0,
-        total: 2,
-        first: vec![in alloc; 1, 1]?,
-        grid: Grid::new(moves)?,
-        drift: Drift::new(2, drifts)?,
-        sweep: Sweep::new(2, vec![in alloc; 0, 0]?)?,
-    })?)
+    let sc = scenario_of(alloc, TWO_CELLS)?;
+    if sc.cells() != 2 || sc.positions() != 2 || sc.horizon() != 2 {
+        return Err(Fail::from("not two cells and two periods"));
+    }
+    Ok(sc)
 }
 
 // Whether a belief over two cells has this period, these masses and this sum.
@@ -57,22 +35,39 @@ fn is_belief(belief: &Belief, period: u32, a: u128, b: u128, undetected: u128) -
         && belief.undetected() == undetected
 }
 
+// Whether a look empties its cell and the drift spreads the rest, in beliefs that have just begun; of two, the second is
+// copied from the first.
+fn look_and_drift(sc: &Scenario, belief: &mut Belief, kept: &mut Belief) -> bool
+    requires cells { sc.now.cells ≡ 2 }
+    requires positions { sc.now.positions ≡ 2 }
+    requires horizon { sc.now.horizon ≡ 2 }
+    requires belief { IsBelief sc.now (None ∷ []) belief.old }
+    requires kept { IsBelief sc.now (None ∷ []) kept.old }
+{
+    let starts = is_belief(belief, 1, 1, 1, 2);
+    belief.look(sc, 0);
+    let looks = is_belief(belief, 1, 0, 2, 2);
+    belief.drift(sc);
+    let drifts = is_belief(belief, 2, 2, 2, 4);
+    kept.copy_from(belief);
+    belief.look(sc, 0);
+    let looks_again = is_belief(belief, 2, 0, 4, 4);
+    let stays = is_belief(kept, 2, 2, 2, 4);
+    belief.reset(sc);
+    let restarts = is_belief(belief, 1, 1, 1, 2);
+    starts && looks && drifts && looks_again && stays && restarts
+}
+
+fn beliefs_look_and_drift(alloc: Global) -> Result<bool, Fail> {
+    let sc = two_cells(alloc)?;
+    let mut belief = Belief::start(alloc, &sc)?;
+    let mut kept = Belief::start(alloc, &sc)?;
+    Ok(look_and_drift(&sc, &mut belief, &mut kept))
+}
+
 #[test]
 fn a_look_empties_its_cell_and_the_drift_spreads_the_rest(rt: HostRuntime) -> Result<(), Fail> {
-    let sc = two_cells(rt.alloc())?;
-    let mut belief = Belief::start(rt.alloc(), &sc)?;
-    let mut kept = Belief::start(rt.alloc(), &sc)?;
-    assert!(rt; is_belief(&belief, 1, 1, 1, 2));
-    belief.look(&sc, 0);
-    assert!(rt; is_belief(&belief, 1, 0, 2, 2));
-    belief.drift(&sc);
-    assert!(rt; is_belief(&belief, 2, 2, 2, 4));
-    kept.copy_from(&belief);
-    belief.look(&sc, 0);
-    assert!(rt; is_belief(&belief, 2, 0, 4, 4));
-    assert!(rt; is_belief(&kept, 2, 2, 2, 4));
-    belief.reset(&sc);
-    assert!(rt; is_belief(&belief, 1, 1, 1, 2));
+    assert!(rt; beliefs_look_and_drift(rt.alloc())?);
     Ok(())
 }
 
@@ -109,42 +104,28 @@ fn have_values(sc: &Scenario, belief: &mut Belief) -> bool
     true
 }
 
+fn prefixes_have_values(alloc: Global) -> Result<bool, Fail> {
+    let sc = two_cells(alloc)?;
+    let mut belief = Belief::start(alloc, &sc)?;
+    Ok(have_values(&sc, &mut belief))
+}
+
 #[test]
 fn prefixes_have_the_worked_values(rt: HostRuntime) -> Result<(), Fail> {
-    let sc = two_cells(rt.alloc())?;
-    let mut belief = Belief::start(rt.alloc(), &sc)?;
-    assert!(rt; have_values(&sc, &mut belief));
-    crosses_threads(belief);
+    assert!(rt; prefixes_have_values(rt.alloc())?);
+    crosses_threads::<Belief>();
     Ok(())
 }
 
-// The row of a cell that keeps all of a target.
-fn stays(alloc: Global, cell: u8) -> Result<Vec<DriftPart>, AllocError> {
-    [DriftPart { cell, part: 1 }].to_vec(alloc)
-}
-
-// Three cells in a row and three periods; the target waits in the last cell, and a look there misses 1 of 2.
+// The target that waits, of which contracts see that there are three cells.
 fn waiting_longer(alloc: Global) -> Result<Scenario, Fail>
-    ensures cells { IfOk result (λ sc. sc.cells ≡ 3) }
+    ensures { IfOk result (λ sc. sc.cells ≡ 3) }
 {
-    let a = Name::new(b"a").ok_or("no name")?;
-    let b = Name::new(b"b").ok_or("no name")?;
-    let c = Name::new(b"c").ok_or("no name")?;
-    let ends = [0, 1].to_vec(alloc)?;
-    let middle = [0, 1, 2].to_vec(alloc)?;
-    let moves = vec![in alloc; ends, middle, [1, 2].to_vec(alloc)?]?;
-    let drifts = vec![in alloc; stays(alloc, 0)?, stays(alloc, 1)?, stays(alloc, 2)?]?;
-    Ok(Scenario::new(Parts {
-        names: vec![in alloc; a, b, c]?,
-        positions: vec![in alloc; a, b, c]?,
-        horizon: 3,
-        start: 1,
-        total: 1,
-        first: vec![in alloc; 0, 0, 1]?,
-        grid: Grid::new(moves)?,
-        drift: Drift::new(1, drifts)?,
-        sweep: Sweep::new(2, vec![in alloc; 1, 1, 1]?)?,
-    })?)
+    let sc = scenario_of(alloc, WAITING_LONGER)?;
+    if sc.cells() != 3 {
+        return Err(Fail::from("not three cells"));
+    }
+    Ok(sc)
 }
 
 // Whether the belief after the first `k` looks has these masses.
@@ -226,11 +207,15 @@ fn rows_are_right<L: Ledger>(sc: &Scenario, trail: &mut Trail, blank: Blank) -> 
     goes_up(sc, trail, &mut steps)
 }
 
+fn trail_has_rows(alloc: Global) -> Result<bool, Fail> {
+    let sc = waiting_longer(alloc)?;
+    let mut trail = Trail::tables(alloc, &sc)?;
+    Ok(rows_are_right::<Brand>(&sc, &mut trail, Blank::new(1)))
+}
+
 #[test]
 fn a_trail_keeps_what_prefixes_have_in_common(rt: HostRuntime) -> Result<(), Fail> {
-    let sc = waiting_longer(rt.alloc())?;
-    let mut trail = Trail::tables(rt.alloc(), &sc)?;
-    assert!(rt; rows_are_right::<Brand>(&sc, &mut trail, Blank::new(1)));
-    crosses_threads(trail);
+    assert!(rt; trail_has_rows(rt.alloc())?);
+    crosses_threads::<Trail>();
     Ok(())
 }

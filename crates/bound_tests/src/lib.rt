@@ -15,8 +15,8 @@ mod nodes;
 #[cfg(test)]
 mod openings;
 #[cfg(test)]
+mod scenarios;
+#[cfg(test)]
 mod tangent_bounds;
 #[cfg(test)]
 mod walks;
-#[cfg(test)]
-mod worked;

@@ -1,16 +1,12 @@
 ghost use Rattle.path_node.specs.Room.{IsMadeFor};
 
-use crate::worked::{two_rates, waiting_longer};
+use crate::scenarios::{crosses_threads, scenario_of};
 use bound_tree::Kind;
-use exact_parts::NoMemory;
 use path_node::{Scratch, close};
 use search_model::{Path, Scenario, Standing, value};
 use std::alloc::Global;
 use std::test::Fail;
-use worked_scenarios::base_and_air;
-
-// Holds of what may be shared between threads and moved to one.
-fn crosses_threads<T: Send + Sync + Drop>(_value: T) {}
+use worked_scenarios::{BASE_AND_AIR, TWO_RATES, WAITING_LONGER};
 
 // A record's letter, its number, and the reference of a tangent.
 type Told = (char, u128, Path);
@@ -43,21 +39,27 @@ fn closed(sc: &Scenario, scratch: &mut Scratch, prefix: &[u8], best: &[u8]) -> O
     }
 }
 
+// A prefix, and what its record tells: the letter, the number, and the reference of a tangent.
+type Row = (&'static [u8], char, u128, &'static [u8]);
+
 // Whether the records of some prefixes tell this under the standing of a path.
-fn are_closed(
-    alloc: Global,
-    sc: &Scenario,
-    best: &[u8],
-    rows: &[(&[u8], char, u128, &[u8])],
-) -> Result<bool, NoMemory> {
-    let mut scratch = Scratch::tables(alloc, sc)?;
+fn tell(sc: &Scenario, scratch: &mut Scratch, best: &[u8], rows: &[Row]) -> bool
+    requires { IsMadeFor sc.now scratch.old }
+{
     for (prefix, letter, number, reference) in rows {
-        match closed(sc, &mut scratch, prefix, best) {
+        match closed(sc, scratch, prefix, best) {
             Some((is, n, x)) if is == *letter && n == *number && x.cells() == *reference => {}
-            _ => return Ok(false),
+            _ => return false,
         }
     }
-    Ok(true)
+    true
+}
+
+// Whether the records of a scenario's prefixes tell this under the standing of a path.
+fn are_closed(alloc: Global, text: &str, best: &[u8], rows: &[Row]) -> Result<bool, Fail> {
+    let sc = scenario_of(alloc, text)?;
+    let mut scratch = Scratch::tables(alloc, &sc)?;
+    Ok(tell(&sc, &mut scratch, best, rows))
 }
 
 // The path that waits with the target, which finds 7 of 8.
@@ -65,40 +67,33 @@ const WAITS: &[u8] = &[2, 2, 2];
 
 #[test]
 fn prefixes_are_closed_by_each_kind(rt: HostRuntime) -> Result<(), Fail> {
-    let sc = waiting_longer(rt.alloc())?;
-    let rows: [(&[u8], char, u128, &[u8]); 5] = [
+    let rows: [Row; 5] = [
         (&[], 'B', 0, &[]),
         (&[0], 'M', 4, &[]),
         (&[1], 'T', 12, &[1, 2, 2]),
         (&[2], 'B', 0, &[]),
         (&[2, 2, 1], 'W', 6, &[]),
     ];
-    assert!(rt; are_closed(rt.alloc(), &sc, WAITS, &rows)?);
+    assert!(rt; are_closed(rt.alloc(), WAITING_LONGER, WAITS, &rows)?);
     Ok(())
 }
 
 #[test]
 fn looks_of_two_rates_have_no_tangent(rt: HostRuntime) -> Result<(), Fail> {
-    let sc = two_rates(rt.alloc())?;
-    let rows: [(&[u8], char, u128, &[u8]); 3] = [
+    let rows: [Row; 3] = [
         (&[0], 'M', 4, &[]),
         (&[1], 'E', 6, &[]),
         (&[2], 'B', 0, &[]),
     ];
-    assert!(rt; are_closed(rt.alloc(), &sc, WAITS, &rows)?);
-    crosses_threads(Scratch::tables(rt.alloc(), &sc)?);
+    assert!(rt; are_closed(rt.alloc(), TWO_RATES, WAITS, &rows)?);
+    crosses_threads::<Scratch>();
     Ok(())
 }
 
 // The look from the air finds 1 of 2, which is the whole of each bound of the empty prefix.
 #[test]
 fn more_positions_than_cells_are_closed(rt: HostRuntime) -> Result<(), Fail> {
-    let sc = base_and_air(rt.alloc())?;
-    let rows: [(&[u8], char, u128, &[u8]); 3] = [
-        (&[], 'B', 0, &[]),
-        (&[0], 'W', 0, &[]),
-        (&[1], 'W', 1, &[]),
-    ];
-    assert!(rt; are_closed(rt.alloc(), &sc, &[1], &rows)?);
+    let rows: [Row; 3] = [(&[], 'B', 0, &[]), (&[0], 'W', 0, &[]), (&[1], 'W', 1, &[])];
+    assert!(rt; are_closed(rt.alloc(), BASE_AND_AIR, &[1], &rows)?);
     Ok(())
 }

@@ -5,6 +5,7 @@ ghost use Rattle.std.specs.Prelude.{◌≤◌, length, IfSome};
 
 use crate::plan_feeds::tells_as_read;
 use crate::plan_tables::{FAULTS, TEXTS};
+use crate::scenario_texts::read;
 use bound_tree::{Kind, Plan, TreeNode};
 use drift_chain::{Drift, DriftPart};
 use search_grid::Grid;
@@ -16,7 +17,7 @@ use tree_format::{
     Fed, PlanFault, PlanFeed, PlanKind, PlanStop, Step, are_in_place, has_no_edge, plan_kind_name,
     print_plan, print_plan_2, read_plan,
 };
-use worked_scenarios::base_and_air;
+use worked_scenarios::BASE_AND_AIR;
 
 fn names_of(alloc: Global, letters: &str) -> Result<Vec<Name>, Fail> {
     let mut names = Vec::new(alloc);
@@ -107,7 +108,7 @@ fn row_scenario(alloc: Global) -> Result<Scenario, Fail> {
 fn scenario_of(alloc: Global, words: &str) -> Result<Scenario, Fail> {
     match words {
         "a row" => row_scenario(alloc),
-        "the air" => Ok(base_and_air(alloc)?),
+        "the air" => read(alloc, BASE_AND_AIR.as_bytes()),
         _ => {
             let (letters, periods) = words.split_once(' ').ok_or("no periods")?;
             even_scenario(alloc, letters, periods.parse::<u32>()?)

@@ -1,21 +1,12 @@
 ghost use Rattle.std.specs.Prelude.{IfSome};
 ghost use Rattle.search_model.specs.Legal.{IsPath};
 
-use exact_parts::NoMemory;
+use crate::scenario_texts::read;
 use mission_report::{push_report, push_report_json};
 use search_model::{Path, Scenario};
 use std::alloc::Global;
 use std::test::Fail;
-use worked_scenarios::base_and_air;
-
-// The worked scenarios, with no clauses: these would put each problem whole into every goal of a test over it.
-fn two_cells(alloc: Global) -> Result<Scenario, NoMemory> {
-    worked_scenarios::two_cells(alloc)
-}
-
-fn four_cells(alloc: Global) -> Result<Scenario, NoMemory> {
-    worked_scenarios::four_cells(alloc)
-}
+use worked_scenarios as worked;
 
 // The path of a scenario that has these positions.
 fn path_of(sc: &Scenario, positions: &[u8]) -> Option<Path>
@@ -29,28 +20,25 @@ fn path_of(sc: &Scenario, positions: &[u8]) -> Option<Path>
     }
 }
 
-// Whether the report of a path is this text.
-fn reports(alloc: Global, sc: &Scenario, positions: &[u8], text: &str) -> Result<bool, NoMemory> {
-    let Some(path) = path_of(sc, positions) else {
+// Whether the report of a scenario's path is this text.
+fn reports(alloc: Global, scenario: &str, positions: &[u8], text: &str) -> Result<bool, Fail> {
+    let sc = read(alloc, scenario.as_bytes())?;
+    let Some(path) = path_of(&sc, positions) else {
         return Ok(false);
     };
     let mut out = Vec::new(alloc);
-    push_report(&mut out, sc, &path)?;
+    push_report(&mut out, &sc, &path)?;
     Ok(out.as_slice() == text.as_bytes())
 }
 
 // The same in JSON.
-fn reports_json(
-    alloc: Global,
-    sc: &Scenario,
-    positions: &[u8],
-    text: &str,
-) -> Result<bool, NoMemory> {
-    let Some(path) = path_of(sc, positions) else {
+fn reports_json(alloc: Global, scenario: &str, positions: &[u8], text: &str) -> Result<bool, Fail> {
+    let sc = read(alloc, scenario.as_bytes())?;
+    let Some(path) = path_of(&sc, positions) else {
         return Ok(false);
     };
     let mut out = Vec::new(alloc);
-    push_report_json(&mut out, sc, &path)?;
+    push_report_json(&mut out, &sc, &path)?;
     Ok(out.as_slice() == text.as_bytes())
 }
 
@@ -90,25 +78,22 @@ const FROM_THE_AIR_JSON: &str =
 
 #[test]
 fn a_path_over_two_cells_is_reported(rt: HostRuntime) -> Result<(), Fail> {
-    let alloc = rt.alloc();
-    let two = two_cells(alloc)?;
-    assert!(rt; reports(alloc, &two, &[0, 0], TWO_CELLS)?);
-    assert!(rt; reports_json(alloc, &two, &[0, 0], TWO_CELLS_JSON)?);
+    let two = worked::TWO_CELLS;
+    assert!(rt; reports(rt.alloc(), two, &[0, 0], TWO_CELLS)?);
+    assert!(rt; reports_json(rt.alloc(), two, &[0, 0], TWO_CELLS_JSON)?);
     Ok(())
 }
 
 #[test]
 fn a_path_over_four_cells_is_reported(rt: HostRuntime) -> Result<(), Fail> {
-    let four = four_cells(rt.alloc())?;
-    assert!(rt; reports(rt.alloc(), &four, &[2, 3], FOUR_CELLS)?);
+    assert!(rt; reports(rt.alloc(), worked::FOUR_CELLS, &[2, 3], FOUR_CELLS)?);
     Ok(())
 }
 
 #[test]
 fn a_path_from_the_air_is_reported(rt: HostRuntime) -> Result<(), Fail> {
-    let alloc = rt.alloc();
-    let air = base_and_air(alloc)?;
-    assert!(rt; reports(alloc, &air, &[1], FROM_THE_AIR)?);
-    assert!(rt; reports_json(alloc, &air, &[1], FROM_THE_AIR_JSON)?);
+    let air = worked::BASE_AND_AIR;
+    assert!(rt; reports(rt.alloc(), air, &[1], FROM_THE_AIR)?);
+    assert!(rt; reports_json(rt.alloc(), air, &[1], FROM_THE_AIR_JSON)?);
     Ok(())
 }

@@ -101,7 +101,8 @@ fn fault(alloc: Global, text: &[u8]) -> Result<Vec<u8>, Fail> {
     Ok(told.into_bytes())
 }
 
-fn read(alloc: Global, text: &[u8]) -> Result<Scenario, Fail> {
+/// The scenario of a text.
+pub(crate) fn read(alloc: Global, text: &[u8]) -> Result<Scenario, Fail> {
     Ok(read_scenario_alone(alloc, text)?)
 }
 

@@ -3,31 +3,13 @@ ghost use Rattle.bound_tree.specs.Close.{IsExact};
 ghost use Rattle.search_core.specs.Balance.{IsBalanced};
 ghost use Rattle.search_core.specs.Steps.{IsAllowed};
 
+use crate::scenarios::scenario_of;
 use bound_tree::{Kind, TreeNode};
-use drift_chain::{Drift, DriftPart};
 use search_core::{CoreEvent, CoreFault, CoreState};
-use search_grid::Grid;
-use search_model::{Name, Parts, Path, Scenario, Standing, value};
+use search_model::{Path, Scenario, Standing, value};
 use std::alloc::Global;
 use std::test::Fail;
-use sweep_table::Sweep;
-
-// One cell, where the target stands and stays; half of the looks miss.
-fn one_cell(alloc: Global) -> Result<Scenario, Fail> {
-    let name = Name::new(b"a").ok_or("no name")?;
-    let stays = vec![in alloc; DriftPart { cell: 0, part: 1 }]?;
-    Ok(Scenario::new(Parts {
-        names: vec![in alloc; name]?,
-        positions: vec![in alloc; name]?,
-        horizon: 1,
-        start: 0,
-        total: 1,
-        first: vec![in alloc; 1]?,
-        grid: Grid::new(vec![in alloc; vec![in alloc; 0]?]?)?,
-        drift: Drift::new(1, vec![in alloc; stays]?)?,
-        sweep: Sweep::new(2, vec![in alloc; 1]?)?,
-    })?)
-}
+use worked_scenarios::ONE_CELL;
 
 // A path with its exact value.
 fn standing_of(sc: &Scenario, path: &Path) -> Option<Standing>
@@ -113,29 +95,57 @@ fn shows(core: &CoreState, pool: &[Path], hands: &[Path], records: usize) -> boo
     core.pool() == pool && core.hands() == hands && core.records().len() == records
 }
 
-#[test]
-fn the_one_path_is_closed(rt: HostRuntime) -> Result<(), Fail> {
-    let sc = one_cell(rt.alloc())?;
+// Whether the steps up to the branch are taken and refused as they are due.
+fn branches(core: &mut CoreState, sc: &Scenario, path: &Path) -> bool
+    requires { IsBalanced sc.now core.old }
+    ensures { IsBalanced sc.now core.new }
+{
+    let begins = shows(core, &[], &[Path::empty()], 0);
+    let refused = is_not_pooled(take(core, sc, path), path);
+    let stays = shows(core, &[], &[Path::empty()], 0);
+    let branched = branch(core, sc).is_ok();
+    begins && refused && stays && branched && shows(core, &[], &[*path], 1)
+}
+
+// Whether the path is put and taken, and isn't closed under a standing that there is not.
+fn goes_round(core: &mut CoreState, sc: &Scenario, whole: &Standing) -> bool
+    requires balanced { IsBalanced sc.now core.old }
+    requires exact { IsExact sc.now whole.now }
+    ensures { IsBalanced sc.now core.new }
+{
+    let kept = put(core, sc, &whole.path).is_ok();
+    let pooled = shows(core, &[whole.path], &[], 1);
+    let taken = take(core, sc, &whole.path).is_ok();
+    let refused = is_no_standing(close_path(core, sc, whole, 1), 1);
+    kept && pooled && taken && refused && shows(core, &[], &[whole.path], 1)
+}
+
+// Whether the path is closed, and not twice.
+fn closes(core: &mut CoreState, sc: &Scenario, whole: &Standing) -> bool
+    requires balanced { IsBalanced sc.now core.old }
+    requires exact { IsExact sc.now whole.now }
+{
+    let closed = close_path(core, sc, whole, 0).is_ok();
+    let done = shows(core, &[], &[], 2);
+    let refused = is_not_held(close_path(core, sc, whole, 0), &whole.path);
+    closed && done && refused && shows(core, &[], &[], 2) && core.standings().len() == 1
+}
+
+// Whether the machine closes the path of one cell, which has the value 1.
+fn path_is_closed(alloc: Global, text: &str) -> Result<bool, Fail> {
+    let sc = scenario_of(alloc, text)?;
     let path = Path::of(&[0]).ok_or("no path")?;
     let Some(whole) = standing_of(&sc, &path) else {
-        return Err("no standing".into());
+        return Ok(false);
     };
-    assert_eq!(rt; whole.value, 1);
-    let mut core = CoreState::start(rt.alloc(), &sc, whole)?;
-    assert!(rt; shows(&core, &[], &[Path::empty()], 0));
-    assert!(rt; is_not_pooled(take(&mut core, &sc, &path), &path));
-    assert!(rt; shows(&core, &[], &[Path::empty()], 0));
-    assert!(rt; branch(&mut core, &sc).is_ok());
-    assert!(rt; shows(&core, &[], &[path], 1));
-    assert!(rt; put(&mut core, &sc, &path).is_ok());
-    assert!(rt; shows(&core, &[path], &[], 1));
-    assert!(rt; take(&mut core, &sc, &path).is_ok());
-    assert!(rt; is_no_standing(close_path(&mut core, &sc, &whole, 1), 1));
-    assert!(rt; shows(&core, &[], &[path], 1));
-    assert!(rt; close_path(&mut core, &sc, &whole, 0).is_ok());
-    assert!(rt; shows(&core, &[], &[], 2));
-    assert!(rt; is_not_held(close_path(&mut core, &sc, &whole, 0), &path));
-    assert!(rt; shows(&core, &[], &[], 2));
-    assert_eq!(rt; core.standings().len(), 1);
+    let mut core = CoreState::start(alloc, &sc, whole)?;
+    let branched = branches(&mut core, &sc, &path);
+    let round = goes_round(&mut core, &sc, &whole);
+    Ok(branched && round && closes(&mut core, &sc, &whole) && whole.value == 1)
+}
+
+#[test]
+fn the_one_path_is_closed(rt: HostRuntime) -> Result<(), Fail> {
+    assert!(rt; path_is_closed(rt.alloc(), ONE_CELL)?);
     Ok(())
 }

@@ -2,39 +2,26 @@ ghost use Rattle.std.specs.Prelude.{IfSome};
 ghost use Rattle.bound_tree.specs.Close.{IsExact};
 ghost use Rattle.search_core.specs.Balance.{IsBalanced};
 
+use crate::scenarios::scenario_of;
 use bound_tree::{BoundTree, Kind, TreeNode};
-use drift_chain::{Drift, DriftPart};
 use search_core::{CoreEvent, CoreState};
-use search_grid::Grid;
-use search_model::{Name, Parts, Path, Scenario, Standing, value};
-use std::alloc::{AllocError, Global};
+use search_model::{Path, Scenario, Standing, value};
+use std::alloc::Global;
 use std::test::Fail;
-use sweep_table::Sweep;
 use tree_gather::gather;
 
-// The target stays where it is.
-fn stay(alloc: Global, cell: u8) -> Result<Vec<DriftPart>, AllocError> {
-    [DriftPart { cell, part: 1 }].to_vec(alloc)
-}
-
 // Two cells and one period; half of the looks miss.
-fn two_cells(alloc: Global) -> Result<Scenario, Fail> {
-    let a = Name::new(b"a").ok_or("no name")?;
-    let b = Name::new(b"b").ok_or("no name")?;
-    let moves = vec![in alloc; vec![in alloc; 0, 1]?, vec![in alloc; 0, 1]?]?;
-    let drifts = vec![in alloc; stay(alloc, 0)?, stay(alloc, 1)?]?;
-    Ok(Scenario::new(Parts {
-        names: vec![in alloc; a, b]?,
-        positions: vec![in alloc; a, b]?,
-        horizon: 1,
-        start: 0,
-        total: 2,
-        first: vec![in alloc; 1, 1]?,
-        grid: Grid::new(moves)?,
-        drift: Drift::new(1, drifts)?,
-        sweep: Sweep::new(2, vec![in alloc; 1, 1]?)?,
-    })?)
-}
+const ONE_PERIOD: &str = "\
+scenario 1
+horizon 1
+parts 2 1 2
+grid 1 2
+start r0c0
+first r0c0 1 r0c1 1
+spread 0
+rate 1
+end
+";
 
 // A path with its exact value.
 fn standing_of(sc: &Scenario, cells: &[u8]) -> Option<Standing>
@@ -87,13 +74,13 @@ fn tree_of(alloc: Global, sc: &Scenario, core: &CoreState) -> Result<BoundTree, 
     Ok(gather(sc, nodes))
 }
 
-// The tree of two paths, of which the greater is closed first.
-fn tree_of_two(
+// Whether the tree of two paths, of which the greater is closed first, has them in ascending order.
+fn are_in_preorder(
     alloc: Global,
     sc: &Scenario,
     less: &Standing,
     more: &Standing,
-) -> Result<BoundTree, Fail>
+) -> Result<bool, Fail>
     requires less { IsExact sc.now less.now }
     requires more { IsExact sc.now more.now }
 {
@@ -102,25 +89,32 @@ fn tree_of_two(
     let greater = close_path(&mut core, sc, more);
     let smaller = close_path(&mut core, sc, less);
     if !branched || !greater || !smaller {
-        return Err("a step was refused".into());
+        return Ok(false);
     }
-    tree_of(alloc, sc, &core)
+    Ok(has_prefixes(&tree_of(alloc, sc, &core)?, &less.path, &more.path))
+}
+
+// Whether a tree has the records of no position, and of these prefixes.
+fn has_prefixes(tree: &BoundTree, second: &Path, third: &Path) -> bool {
+    match tree.nodes() {
+        [first, next, last] => {
+            first.prefix.is_empty() && next.prefix == *second && last.prefix == *third
+        }
+        _ => false,
+    }
+}
+
+// Whether the records of the two paths of a scenario are gathered.
+fn two_paths_are_gathered(alloc: Global, text: &str) -> Result<bool, Fail> {
+    let sc = scenario_of(alloc, text)?;
+    match (standing_of(&sc, &[0]), standing_of(&sc, &[1])) {
+        (Some(less), Some(more)) => are_in_preorder(alloc, &sc, &less, &more),
+        _ => Ok(false),
+    }
 }
 
 #[test]
 fn records_are_gathered_in_preorder(rt: HostRuntime) -> Result<(), Fail> {
-    let sc = two_cells(rt.alloc())?;
-    let Some(less) = standing_of(&sc, &[0]) else {
-        return Err("no standing".into());
-    };
-    let Some(more) = standing_of(&sc, &[1]) else {
-        return Err("no standing".into());
-    };
-    let tree = tree_of_two(rt.alloc(), &sc, &less, &more)?;
-    let nodes = tree.nodes();
-    assert_eq!(rt; nodes.len(), 3);
-    assert!(rt; nodes[0].prefix.is_empty());
-    assert_eq!(rt; nodes[1].prefix.cells(), [0].as_slice());
-    assert_eq!(rt; nodes[2].prefix.cells(), [1].as_slice());
+    assert!(rt; two_paths_are_gathered(rt.alloc(), ONE_PERIOD)?);
     Ok(())
 }

@@ -7,4 +7,6 @@ mod cores;
 #[cfg(test)]
 mod gathers;
 #[cfg(test)]
+mod scenarios;
+#[cfg(test)]
 mod verdicts;

@@ -2,91 +2,52 @@
 //! proof. A row has the plan's path, value and weight, its records, and the verdict, with the line of what is rejected; a
 //! line without bars says what the rows below it are for.
 
+use crate::scenarios::scenario_of;
 use bound_tree::{BoundTree, Kind, Plan, TreeNode};
-use drift_chain::{Drift, DriftPart};
-use exact_parts::NoMemory;
-use search_grid::Grid;
-use search_model::{Name, Parts, Path, Scenario, Standing};
-use std::alloc::{AllocError, Global};
+use search_model::{Path, Scenario, Standing};
+use std::alloc::Global;
 use std::test::Fail;
-use sweep_table::Sweep;
 use tree_checker::{RejectAt, Verdict, Why, check, why_name};
-use worked_scenarios::base_and_air;
-
-// The worked scenarios, with no clauses: these would put each problem whole into every goal of a test over it.
-fn one_cell(alloc: Global) -> Result<Scenario, NoMemory> {
-    worked_scenarios::one_cell(alloc)
-}
-
-fn two_cells(alloc: Global) -> Result<Scenario, NoMemory> {
-    worked_scenarios::two_cells(alloc)
-}
-
-fn waiting_target(alloc: Global) -> Result<Scenario, NoMemory> {
-    worked_scenarios::waiting_target(alloc)
-}
-
-fn waiting_longer(alloc: Global) -> Result<Scenario, NoMemory> {
-    worked_scenarios::waiting_longer(alloc)
-}
-
-fn two_rates(alloc: Global) -> Result<Scenario, NoMemory> {
-    worked_scenarios::two_rates(alloc)
-}
-
-// A row of the drift over nine cells: of ten parts two stay in cell `c`, and one goes to each other cell.
-fn spread_from(alloc: Global, c: u8) -> Result<Vec<DriftPart>, AllocError> {
-    let mut row = Vec::new(alloc);
-    for d in 0..9 {
-        let part = if c == d { 2 } else { 1 };
-        row.push(DriftPart { cell: d, part })?;
-    }
-    Ok(row)
-}
-
-fn spread(alloc: Global) -> Result<Drift, Fail> {
-    let mut rows = Vec::new(alloc);
-    for c in 0..9 {
-        rows.push(spread_from(alloc, c)?)?;
-    }
-    if rows.len() != 9 {
-        return Err(Fail::from("no drift"));
-    }
-    Ok(Drift::new(10, rows)?)
-}
-
-fn nine_names(alloc: Global) -> Result<Vec<Name>, Fail> {
-    let mut names = Vec::new(alloc);
-    for letter in b"abcdefghi" {
-        names.push(Name::new(&[*letter]).ok_or("no name")?)?;
-    }
-    Ok(names)
-}
-
-// The moves of a round trip: each cell leads to the next one alone.
-fn round_trip(alloc: Global) -> Result<Grid, Fail> {
-    let mut moves = Vec::new(alloc);
-    for next in [1, 2, 3, 4, 5, 6, 7, 8, 0] {
-        moves.push(vec![in alloc; next]?)?;
-    }
-    Ok(Grid::new(moves)?)
-}
+use worked_scenarios as worked;
 
 // A round trip of nine cells, and twelve periods: there is one path, and the target moves from each cell to all, in 9 ^ 12
 // tracks; half of the looks miss.
-fn nine_cells(alloc: Global) -> Result<Scenario, Fail> {
-    Ok(Scenario::new(Parts {
-        names: nine_names(alloc)?,
-        positions: nine_names(alloc)?,
-        horizon: 12,
-        start: 0,
-        total: 45,
-        first: vec![in alloc; 1, 2, 3, 4, 5, 6, 7, 8, 9]?,
-        grid: round_trip(alloc)?,
-        drift: spread(alloc)?,
-        sweep: Sweep::new(2, vec![in alloc; 1; 9]?)?,
-    })?)
-}
+const ROUND_TRIP: &str = "\
+scenario 1
+horizon 12
+parts 45 10 2
+cell a
+cell b
+cell c
+cell d
+cell e
+cell f
+cell g
+cell h
+cell i
+start a
+first a 1 b 2 c 3 d 4 e 5 f 6 g 7 h 8 i 9
+moves a b
+moves b c
+moves c d
+moves d e
+moves e f
+moves f g
+moves g h
+moves h i
+moves i a
+drift a a 2 b 1 c 1 d 1 e 1 f 1 g 1 h 1 i 1
+drift b a 1 b 2 c 1 d 1 e 1 f 1 g 1 h 1 i 1
+drift c a 1 b 1 c 2 d 1 e 1 f 1 g 1 h 1 i 1
+drift d a 1 b 1 c 1 d 2 e 1 f 1 g 1 h 1 i 1
+drift e a 1 b 1 c 1 d 1 e 2 f 1 g 1 h 1 i 1
+drift f a 1 b 1 c 1 d 1 e 1 f 2 g 1 h 1 i 1
+drift g a 1 b 1 c 1 d 1 e 1 f 1 g 2 h 1 i 1
+drift h a 1 b 1 c 1 d 1 e 1 f 1 g 1 h 2 i 1
+drift i a 1 b 1 c 1 d 1 e 1 f 1 g 1 h 1 i 2
+rate 1
+end
+";
 
 // Positions as digits, or `-` for none.
 fn path_of(digits: &str) -> Option<Path> {
@@ -175,11 +136,12 @@ fn row_is_judged(alloc: Global, sc: &Scenario, row: &str) -> Result<bool, Fail> 
     is_told(alloc, check(alloc, sc, &plan)?, told)
 }
 
-// How many rows of a table have their verdict.
-fn rows_judged(alloc: Global, sc: &Scenario, table: &str) -> Result<u32, Fail> {
+// How many rows of a table have their verdict, over the scenario of a text.
+fn rows_judged(alloc: Global, scenario: &str, table: &str) -> Result<u32, Fail> {
+    let sc = scenario_of(alloc, scenario)?;
     let mut count = 0u32;
     for row in table.split('\n') {
-        if row_is_judged(alloc, sc, row)? {
+        if row_is_judged(alloc, &sc, row)? {
             count = count.saturating_add(1);
         }
     }
@@ -270,33 +232,31 @@ const NINE_CELLS: &str = "\
 #[test]
 fn plans_of_cells(rt: HostRuntime) -> Result<(), Fail> {
     let alloc = rt.alloc();
-    assert_eq!(rt; rows_judged(alloc, &one_cell(alloc)?, ONE_CELL)?, 9);
-    assert_eq!(rt; rows_judged(alloc, &two_cells(alloc)?, TWO_CELLS)?, 11);
-    let air = base_and_air(alloc)?;
-    assert_eq!(rt; rows_judged(alloc, &air, MORE_POSITIONS_THAN_CELLS)?, 4);
+    assert_eq!(rt; rows_judged(alloc, worked::ONE_CELL, ONE_CELL)?, 9);
+    assert_eq!(rt; rows_judged(alloc, worked::TWO_CELLS, TWO_CELLS)?, 11);
+    assert_eq!(rt;
+        rows_judged(alloc, worked::BASE_AND_AIR, MORE_POSITIONS_THAN_CELLS)?,
+        4
+    );
     Ok(())
 }
 
 #[test]
 fn plans_with_bounds(rt: HostRuntime) -> Result<(), Fail> {
     let alloc = rt.alloc();
+    assert_eq!(rt; rows_judged(alloc, worked::WAITING, MEAN_BOUNDS)?, 2);
     assert_eq!(rt;
-        rows_judged(alloc, &waiting_target(alloc)?, MEAN_BOUNDS)?,
-        2
-    );
-    assert_eq!(rt;
-        rows_judged(alloc, &waiting_longer(alloc)?, TANGENT_BOUNDS)?,
+        rows_judged(alloc, worked::WAITING_LONGER, TANGENT_BOUNDS)?,
         6
     );
-    assert_eq!(rt; rows_judged(alloc, &two_rates(alloc)?, EDGE_BOUNDS)?, 5);
+    assert_eq!(rt; rows_judged(alloc, worked::TWO_RATES, EDGE_BOUNDS)?, 5);
     Ok(())
 }
 
 // Also that reasons have their names.
 #[test]
 fn many_tracks_take_no_time(rt: HostRuntime) -> Result<(), Fail> {
-    let alloc = rt.alloc();
-    assert_eq!(rt; rows_judged(alloc, &nine_cells(alloc)?, NINE_CELLS)?, 2);
+    assert_eq!(rt; rows_judged(rt.alloc(), ROUND_TRIP, NINE_CELLS)?, 2);
     assert_eq!(rt; why_name(Why::PathIllegal), "PathIllegal");
     assert_eq!(rt; why_name(Why::ReferenceWrong), "ReferenceWrong");
     Ok(())

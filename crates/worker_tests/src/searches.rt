@@ -4,6 +4,7 @@ ghost use Rattle.bound_tree.specs.Room.{MOST_NODES};
 
 use bound_tree::{Kind, TreeNode};
 use opening_path::opening;
+use scenario_text::read_scenario_alone;
 use search_model::{Scenario, Standing};
 use search_workers::{Found, Gate, OpenGate, Partial, SearchStop, search};
 use std::alloc::{AllocGlobal, Global};
@@ -12,16 +13,11 @@ use std::sync::Wait;
 use std::sync::atomic::{AtomicU64, Ordering};
 use std::test::Fail;
 use std::thread::Threads;
+use worked_scenarios::{FOUR_CELLS, TWO_CELLS};
 
-// Two cells and two periods; the target moves as it likes, and no look misses.
-fn two_cells(alloc: Global) -> Result<Scenario, Fail> {
-    Ok(worked_scenarios::two_cells(alloc)?)
-}
-
-// Four cells and two periods: the target stays in the first, third or last, and no look misses. The searcher begins in
-// the second.
-fn four_cells(alloc: Global) -> Result<Scenario, Fail> {
-    Ok(worked_scenarios::four_cells(alloc)?)
+// The scenario of a text.
+fn scenario_of(alloc: Global, text: &str) -> Result<Scenario, Fail> {
+    Ok(read_scenario_alone(alloc, text.as_bytes())?)
 }
 
 // A record of a tree: the letter of its kind, its number if any, and its prefix.
@@ -117,7 +113,7 @@ fn finds_the_least<R: Threads + Wait + Sync + AllocGlobal, G: Gate>(
 ) -> Result<bool, Fail>
     requires { (1 ≤ workers) × (workers ≤ 16) }
 {
-    let sc = two_cells(rt.alloc())?;
+    let sc = scenario_of(rt.alloc(), TWO_CELLS)?;
     let found = found_by(rt, &sc, workers, gate)?;
     Ok(is_standing(&found.best, 12, &[0, 0]) && is_tree(found.tree.nodes(), &EVEN))
 }
@@ -131,7 +127,7 @@ fn finds_the_better<R: Threads + Wait + Sync + AllocGlobal, G: Gate>(
 ) -> Result<bool, Fail>
     requires { (1 ≤ workers) × (workers ≤ 16) }
 {
-    let sc = four_cells(rt.alloc())?;
+    let sc = scenario_of(rt.alloc(), FOUR_CELLS)?;
     let found = found_by(rt, &sc, workers, gate)?;
     for tree in trees {
         if is_tree(found.tree.nodes(), tree) {
@@ -242,16 +238,16 @@ fn is_part_of_four(part: &Partial) -> bool {
         && is_standing(&part.best, 12, &[0, 0])
 }
 
-// Whether what one worker has is right where so many nodes have run out; none where they suffice.
+// Whether what one worker has of two cells is right where so many nodes have run out; none where they suffice.
 fn is_right_part<R: Threads + Wait + Sync + AllocGlobal>(
     rt: &R,
-    sc: &Scenario,
     nodes: u64,
 ) -> Result<Option<bool>, Fail>
     requires { (1 ≤ nodes) × (nodes ≤ MOST_NODES) }
 {
-    let first = first_of(rt.alloc(), sc)?;
-    match search(rt, sc, &first, 1, nodes, &OpenGate) {
+    let sc = scenario_of(rt.alloc(), TWO_CELLS)?;
+    let first = first_of(rt.alloc(), &sc)?;
+    match search(rt, &sc, &first, 1, nodes, &OpenGate) {
         Ok(_) => Ok(None),
         Err(SearchStop::NoMemory) => Err("out of memory".into()),
         Err(SearchStop::Full(part)) => Ok(Some(is_part_of_four(&part))),
@@ -260,8 +256,7 @@ fn is_right_part<R: Threads + Wait + Sync + AllocGlobal>(
 
 #[test]
 fn four_nodes_are_too_few_and_five_suffice(rt: HostRuntime) -> Result<(), Fail> {
-    let sc = two_cells(rt.alloc())?;
-    assert_eq!(rt; is_right_part(&rt, &sc, 4)?, Some(true));
-    assert_eq!(rt; is_right_part(&rt, &sc, 5)?, None);
+    assert_eq!(rt; is_right_part(&rt, 4)?, Some(true));
+    assert_eq!(rt; is_right_part(&rt, 5)?, None);
     Ok(())
 }

@@ -1,0 +1,38 @@
+//! A scenario that two files of tests share, and how one is made of its text.
+
+use scenario_text::read_scenario_alone;
+use search_model::Scenario;
+use std::alloc::Global;
+use std::test::Fail;
+
+/// Two periods; the target stays: 1 of 6 in the first cell, 2 in the next, 3 in the last. From `a` a look covers the last
+/// two cells, from `b` the first, and in period 2 the last, too; each misses 1 of 2.
+pub(crate) const WIDE_LOOKS: &str = "\
+scenario 2
+horizon 2
+parts 6 1 2
+cell a
+cell b
+cell c
+position a
+position b
+start a
+first a 1 b 2 c 3
+moves a a b
+moves b a b
+drift a a 1
+drift b b 1
+drift c c 1
+look a b 1 c 1
+look b a 1
+lookin 2 b a 1 c 1
+end
+";
+
+/// The scenario of a text.
+pub(crate) fn scenario_of(alloc: Global, text: &str) -> Result<Scenario, Fail> {
+    Ok(read_scenario_alone(alloc, text.as_bytes())?)
+}
+
+/// Holds of what may be shared between threads and moved to one.
+pub(crate) fn crosses_threads<T: Send + Sync>() {}

@@ -1,2 +1,0 @@
-pub mod FourCells
-pub mod TwoRates
