@@ -24,7 +24,7 @@ pub record IsFilledFrom (p : Problem) (q : List ℕ) (k : ℕ) (b : BackwardTabl
   pub made : IsMadeFor p b
   pub masses : (t c : ℕ) → k ≤ t → t ≤ p.horizon → c < p.cells → mass_at b t c ≡ backward_of p q t c
 
--- so is each number
+-- each number is the backward mass of its cell and period under a path
 abbrev pub IsFilled : Problem → List ℕ → BackwardTable → Type 0
 IsFilled p q b = IsFilledFrom p q 1 b
 

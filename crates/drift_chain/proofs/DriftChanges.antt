@@ -115,9 +115,9 @@ same_changes denominator cells given made right right' same =
     let there : i < length given = rw (← same_length given made same) inside in
     get_or_default made i d none inside ∙ same_change denominator cells given made right right' same i there ∙ get_or_default given i none d there)
 
--- a refusal of changes that would make a drift is for want of memory
+-- changes that would make a drift are refused only where memory ran out
 pub refused_for_memory : (drift : DriftRows) (given : List DriftRowChange) (fault : ChangeFault) → IsDrift (drift_with drift given) → IsRefusal drift.denominator (drift_cells drift) given fault → fault ≡ NoMemory
-refused_for_memory drift given fault h (inl wanting) = wanting
+refused_for_memory drift given fault h (inl no_memory) = no_memory
 refused_for_memory drift given fault h (inr first) =
     let right = AreRight-from_drift (drift_with drift given) h in
     absurd (no_fault_there drift.denominator (drift_cells drift) given fault (right (change_number fault) (place_inside drift.denominator (drift_cells drift) given fault first.there)) first.there)

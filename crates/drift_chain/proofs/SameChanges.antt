@@ -90,5 +90,5 @@ IsFirstChangeFault-same denominator cells given made same fault first = record {
 
 pub IsRefusal-same : (denominator cells : ℕ) (given made : List DriftRowChange) → AreSameChanges given made → (fault : ChangeFault) →
     IsRefusal denominator cells made fault → IsRefusal denominator cells given fault
-IsRefusal-same denominator cells given made same fault (inl wanting) = inl wanting
+IsRefusal-same denominator cells given made same fault (inl no_memory) = inl no_memory
 IsRefusal-same denominator cells given made same fault (inr first) = inr (IsFirstChangeFault-same denominator cells given made same fault first)

@@ -38,7 +38,7 @@ abbrev pub IsBadRow : ℕ → ℕ → List DriftPart → Type 0
 IsBadRow denominator cells row =
     Any (λ entry. cells ≤ entry.cell) row ⊎ (Any (λ entry. entry.part ≡ 0) row ⊎ (HasDouble row ⊎ (sum_by (λ entry. entry.part) row ≢ denominator)))
 
--- changes over a denominator and cells have this fault; want of memory is none of theirs
+-- changes over a denominator and cells have this fault; that memory ran out is no fault of theirs
 abbrev pub HasChangeFault : ℕ → ℕ → List DriftRowChange → ChangeFault → Type 0
 HasChangeFault denominator cells changes (PeriodOutOfRange i) = (i < length changes) × IsNoPeriod (change_at changes i).period
 HasChangeFault denominator cells changes (CellOutOfRange i) = (i < length changes) × (cells ≤ (change_at changes i).cell)

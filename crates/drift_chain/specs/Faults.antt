@@ -18,7 +18,7 @@ pub record HasSameParts (given made : List (List DriftPart)) : Type 0 where
 abbrev pub HasDouble : List DriftPart → Type 0
 HasDouble row = (d : ℕ) × (1 < count_by (λ entry. entry.cell == d) row)
 
--- rows have this fault; want of memory is none of theirs
+-- rows have this fault; that memory ran out is no fault of theirs
 abbrev pub HasFault : ℕ → List (List DriftPart) → DriftFault → Type 0
 HasFault denominator rows (OutOfRange c) = (c < length rows) × Any (λ entry. length rows ≤ entry.cell) (parts_from rows c)
 HasFault denominator rows (ZeroPart c) = (c < length rows) × Any (λ entry. entry.part ≡ 0) (parts_from rows c)

@@ -1,4 +1,4 @@
-//! What the definitions say together.
+//! Laws of what a report says is left, and reports worked by hand.
 
 ghost use Rattle.mission_report.specs.Laws.{LeftIsMissed, FoundAndLeft};
 ghost use Rattle.mission_report.specs.Worked.{WorkedReport, WorkedWaiting};

@@ -1,4 +1,4 @@
--- What the definitions say together.
+-- The law of openings.
 use Rattle.std.specs.Prelude.{ℕ, ◌≡◌, List}
 use Rattle.search_model.specs.Problem.{Problem, IsProblem}
 use Rattle.search_model.specs.Opening.{IsOpening}

@@ -1,4 +1,4 @@
-//! What the definitions say together.
+//! The law of openings.
 
 ghost use Rattle.opening_path.specs.Laws.{OneOpening};
 

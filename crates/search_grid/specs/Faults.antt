@@ -14,7 +14,7 @@ pub record HasSameMoves (given made : List (List ℕ)) : Type 0 where
 abbrev pub HasDouble : List ℕ → Type 0
 HasDouble row = (d : ℕ) × (1 < count_by (λ move. move == d) row)
 
--- rows have this fault; want of memory is none of theirs
+-- rows have this fault; that memory ran out is no fault of theirs
 abbrev pub HasFault : List (List ℕ) → GridFault → Type 0
 HasFault rows CellCount = (length rows ≡ 0) ⊎ (200 < length rows)
 HasFault rows (NoMove c) = (c < length rows) × (length (moves_from rows c) ≡ 0)

@@ -1,4 +1,4 @@
-//! What the definitions say together.
+//! Laws of acceptance and of the one rate.
 
 ghost use Rattle.tree_checker.specs.Laws.{AcceptedWithNoReason, FindsOneRate};
 

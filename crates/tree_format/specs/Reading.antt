@@ -89,12 +89,12 @@ abbrev pub chance_line : List (List ℕ) → Result PlanLine PlanKind
 chance_line (word ∷ value ∷ weight ∷ []) = if is_word word (codes "chance") then chance_said (amount_in value) (amount_in weight) else Err BadLine
 chance_line _ = Err BadLine
 
--- `nodes N`
+-- the number of `nodes N`
 abbrev pub count_said : Option ℕ → Result PlanLine PlanKind
 count_said None = Err BadNumber
 count_said (Some n) = if nat_le n MOST_NODES then Ok (Count n) else Err TooManyNodes
 
--- and so here
+-- the line that says how many records follow
 abbrev pub count_line : List (List ℕ) → Result PlanLine PlanKind
 count_line (word ∷ n ∷ []) = if is_word word (codes "nodes") then count_said (amount_in n) else Err BadLine
 count_line _ = Err BadLine
