@@ -37,19 +37,25 @@ fn has_masses(sc: &Scenario, backward: &mut Backward, path: &Path, other: &Path)
 }
 
 // The target that waits: the path that goes to it after another one.
+fn is_filled_again(alloc: Global, sc: &Scenario) -> Result<bool, Fail>
+    requires cells { sc.now.cells ≡ 3 }
+    requires horizon { sc.now.horizon ≡ 3 }
+{
+    match (path_of(sc, &[1, 2, 2]), path_of(sc, &[1, 0, 0])) {
+        (Some(path), Some(other)) => {
+            let mut backward = Backward::tables(alloc, sc)?;
+            Ok(has_masses(sc, &mut backward, &path, &other))
+        }
+        _ => Ok(false),
+    }
+}
+
 fn table_is_filled_again(alloc: Global) -> Result<bool, Fail> {
     let sc = scenario_of(alloc, WAITING_LONGER)?;
     if sc.cells() != 3 || sc.horizon() != 3 {
         return Ok(false);
     }
-    let mut backward = Backward::tables(alloc, &sc)?;
-    let Some(path) = path_of(&sc, &[1, 2, 2]) else {
-        return Ok(false);
-    };
-    let Some(other) = path_of(&sc, &[1, 0, 0]) else {
-        return Ok(false);
-    };
-    Ok(has_masses(&sc, &mut backward, &path, &other))
+    is_filled_again(alloc, &sc)
 }
 
 #[test]

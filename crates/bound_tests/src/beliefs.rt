@@ -58,11 +58,19 @@ fn look_and_drift(sc: &Scenario, belief: &mut Belief, kept: &mut Belief) -> bool
     starts && looks && drifts && looks_again && stays && restarts
 }
 
+fn beliefs_over(alloc: Global, sc: &Scenario) -> Result<bool, Fail>
+    requires cells { sc.now.cells ≡ 2 }
+    requires positions { sc.now.positions ≡ 2 }
+    requires horizon { sc.now.horizon ≡ 2 }
+{
+    let mut belief = Belief::start(alloc, sc)?;
+    let mut kept = Belief::start(alloc, sc)?;
+    Ok(look_and_drift(sc, &mut belief, &mut kept))
+}
+
 fn beliefs_look_and_drift(alloc: Global) -> Result<bool, Fail> {
     let sc = two_cells(alloc)?;
-    let mut belief = Belief::start(alloc, &sc)?;
-    let mut kept = Belief::start(alloc, &sc)?;
-    Ok(look_and_drift(&sc, &mut belief, &mut kept))
+    beliefs_over(alloc, &sc)
 }
 
 #[test]
@@ -104,10 +112,14 @@ fn have_values(sc: &Scenario, belief: &mut Belief) -> bool
     true
 }
 
+fn values_over(alloc: Global, sc: &Scenario) -> Result<bool, Fail> {
+    let mut belief = Belief::start(alloc, sc)?;
+    Ok(have_values(sc, &mut belief))
+}
+
 fn prefixes_have_values(alloc: Global) -> Result<bool, Fail> {
     let sc = two_cells(alloc)?;
-    let mut belief = Belief::start(alloc, &sc)?;
-    Ok(have_values(&sc, &mut belief))
+    values_over(alloc, &sc)
 }
 
 #[test]
@@ -207,10 +219,16 @@ fn rows_are_right<L: Ledger>(sc: &Scenario, trail: &mut Trail, blank: Blank) -> 
     goes_up(sc, trail, &mut steps)
 }
 
+fn rows_over(alloc: Global, sc: &Scenario) -> Result<bool, Fail>
+    requires { sc.now.cells ≡ 3 }
+{
+    let mut trail = Trail::tables(alloc, sc)?;
+    Ok(rows_are_right::<Brand>(sc, &mut trail, Blank::new(1)))
+}
+
 fn trail_has_rows(alloc: Global) -> Result<bool, Fail> {
     let sc = waiting_longer(alloc)?;
-    let mut trail = Trail::tables(alloc, &sc)?;
-    Ok(rows_are_right::<Brand>(&sc, &mut trail, Blank::new(1)))
+    rows_over(alloc, &sc)
 }
 
 #[test]

@@ -107,11 +107,15 @@ fn have_bounds(sc: &Scenario, edge: &mut Edge, trail: &mut Trail, cases: &[Bound
 }
 
 // Whether the prefixes of a scenario have these bounds.
+fn are_bounded_over(alloc: Global, sc: &Scenario, bounds: &[Bound]) -> Result<bool, Fail> {
+    let mut edge = Edge::tables(alloc, sc)?;
+    let mut trail = Trail::tables(alloc, sc)?;
+    Ok(have_bounds(sc, &mut edge, &mut trail, bounds))
+}
+
 fn are_bounded(alloc: Global, text: &str, bounds: &[Bound]) -> Result<bool, Fail> {
     let sc = scenario_of(alloc, text)?;
-    let mut edge = Edge::tables(alloc, &sc)?;
-    let mut trail = Trail::tables(alloc, &sc)?;
-    Ok(have_bounds(&sc, &mut edge, &mut trail, bounds))
+    are_bounded_over(alloc, &sc, bounds)
 }
 
 // Worked by hand.

@@ -67,6 +67,18 @@ fn have_values(sc: &Scenario, mean: &mut Mean, cases: &[Value]) -> bool
 }
 
 // Whether the prefixes of a scenario have these bounds, then these values, and then the first bound again.
+fn are_bounded_over(
+    alloc: Global,
+    sc: &Scenario,
+    bounds: &[Bound],
+    values: &[Value],
+) -> Result<bool, Fail> {
+    let mut mean = Mean::tables(alloc, sc)?;
+    let first = have_bounds(sc, &mut mean, bounds);
+    let valued = have_values(sc, &mut mean, values);
+    Ok(first && valued && have_bounds(sc, &mut mean, bounds))
+}
+
 fn are_bounded(
     alloc: Global,
     text: &str,
@@ -74,10 +86,7 @@ fn are_bounded(
     values: &[Value],
 ) -> Result<bool, Fail> {
     let sc = scenario_of(alloc, text)?;
-    let mut mean = Mean::tables(alloc, &sc)?;
-    let first = have_bounds(&sc, &mut mean, bounds);
-    let valued = have_values(&sc, &mut mean, values);
-    Ok(first && valued && have_bounds(&sc, &mut mean, bounds))
+    are_bounded_over(alloc, &sc, bounds, values)
 }
 
 #[test]

@@ -56,10 +56,14 @@ fn tell(sc: &Scenario, scratch: &mut Scratch, best: &[u8], rows: &[Row]) -> bool
 }
 
 // Whether the records of a scenario's prefixes tell this under the standing of a path.
+fn are_closed_over(alloc: Global, sc: &Scenario, best: &[u8], rows: &[Row]) -> Result<bool, Fail> {
+    let mut scratch = Scratch::tables(alloc, sc)?;
+    Ok(tell(sc, &mut scratch, best, rows))
+}
+
 fn are_closed(alloc: Global, text: &str, best: &[u8], rows: &[Row]) -> Result<bool, Fail> {
     let sc = scenario_of(alloc, text)?;
-    let mut scratch = Scratch::tables(alloc, &sc)?;
-    Ok(tell(&sc, &mut scratch, best, rows))
+    are_closed_over(alloc, &sc, best, rows)
 }
 
 // The path that waits with the target, which finds 7 of 8.

@@ -43,10 +43,14 @@ fn have_bounds(sc: &Scenario, tangent: &mut Tangent, cases: &[Bound]) -> bool
 }
 
 // Whether the prefixes of a scenario have these bounds.
+fn are_bounded_over(alloc: Global, sc: &Scenario, bounds: &[Bound]) -> Result<bool, Fail> {
+    let mut tangent = Tangent::tables(alloc, sc)?;
+    Ok(have_bounds(sc, &mut tangent, bounds))
+}
+
 fn are_bounded(alloc: Global, text: &str, bounds: &[Bound]) -> Result<bool, Fail> {
     let sc = scenario_of(alloc, text)?;
-    let mut tangent = Tangent::tables(alloc, &sc)?;
-    Ok(have_bounds(&sc, &mut tangent, bounds))
+    are_bounded_over(alloc, &sc, bounds)
 }
 
 #[test]

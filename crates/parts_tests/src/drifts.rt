@@ -37,18 +37,22 @@ fn drift_of(
     Ok(Drift::new(denominator, rows))
 }
 
-#[test]
-fn entries_come_in_ascending_order(rt: HostRuntime) -> Result<(), Fail> {
-    let drift = drift_of(rt.alloc(), 3, &[&[(1, 1), (0, 2)], &[(1, 3)]])??;
-    assert_eq!(rt; drift.denominator(), 3);
-    assert!(rt; drift.cells() == 2);
-    let parts = [
+fn has_entries_in_order(drift: &Drift) -> bool {
+    let entries = [
         DriftPart { cell: 0, part: 2 },
         DriftPart { cell: 1, part: 1 },
     ];
-    assert_eq!(rt; drift.row(1, 0), parts.as_slice());
-    assert_eq!(rt; drift.part(31, 0, 1), 1);
-    assert_eq!(rt; drift.part(31, 1, 0), 0);
+    drift.denominator() == 3
+        && drift.cells() == 2
+        && drift.row(1, 0) == entries.as_slice()
+        && drift.part(31, 0, 1) == 1
+        && drift.part(31, 1, 0) == 0
+}
+
+#[test]
+fn entries_come_in_ascending_order(rt: HostRuntime) -> Result<(), Fail> {
+    let drift = drift_of(rt.alloc(), 3, &[&[(1, 1), (0, 2)], &[(1, 3)]])??;
+    assert!(rt; has_entries_in_order(&drift));
     crosses_threads(drift);
     Ok(())
 }
@@ -79,8 +83,7 @@ fn faults_have_their_order(rt: HostRuntime) -> Result<(), Fail> {
 // A change as data: its period, its cell and the entries of its row.
 type Told<'a> = (u32, u8, &'a [(u8, u32)]);
 
-// What is made of these changes of a drift over two cells, each of which keeps the target.
-fn changed(alloc: Global, told: &[Told]) -> Result<Result<Drift, ChangeFault>, Fail> {
+fn changes_of(alloc: Global, told: &[Told]) -> Result<Vec<DriftChange>, AllocError> {
     let mut changes = Vec::new(alloc);
     for (period, cell, entries) in told {
         changes.push(DriftChange {
@@ -89,8 +92,28 @@ fn changed(alloc: Global, told: &[Told]) -> Result<Result<Drift, ChangeFault>, F
             row: row_of(alloc, entries)?,
         })?;
     }
+    Ok(changes)
+}
+
+// What is made of these changes of a drift over two cells, each of which keeps the target.
+fn changed(alloc: Global, told: &[Told]) -> Result<Result<Drift, ChangeFault>, Fail> {
+    let changes = changes_of(alloc, told)?;
     let drift = drift_of(alloc, 2, &[&[(0, 2)], &[(1, 2)]])??;
     Ok(drift.in_periods(alloc, changes))
+}
+
+fn has_changes_in_their_periods(drift: &Drift) -> bool {
+    let even = [
+        DriftPart { cell: 0, part: 1 },
+        DriftPart { cell: 1, part: 1 },
+    ];
+    drift.cells() == 2
+        && drift.row(2, 0) == even.as_slice()
+        && drift.row(1, 1) == even.as_slice()
+        && drift.part(1, 0, 0) == 2
+        && drift.part(3, 0, 0) == 2
+        && drift.part(30, 1, 0) == 0
+        && drift.part(31, 1, 0) == 2
 }
 
 #[test]
@@ -101,17 +124,7 @@ fn changes_are_of_their_period_and_cell(rt: HostRuntime) -> Result<(), Fail> {
         (1, 1, &[(0, 1), (1, 1)]),
     ];
     let drift = changed(rt.alloc(), &told)??;
-    assert!(rt; drift.cells() == 2);
-    let even = [
-        DriftPart { cell: 0, part: 1 },
-        DriftPart { cell: 1, part: 1 },
-    ];
-    assert_eq!(rt; drift.row(2, 0), even.as_slice());
-    assert_eq!(rt; drift.row(1, 1), even.as_slice());
-    assert_eq!(rt; drift.part(1, 0, 0), 2);
-    assert_eq!(rt; drift.part(3, 0, 0), 2);
-    assert_eq!(rt; drift.part(30, 1, 0), 0);
-    assert_eq!(rt; drift.part(31, 1, 0), 2);
+    assert!(rt; has_changes_in_their_periods(&drift));
     crosses_threads(drift);
     Ok(())
 }

@@ -13,17 +13,29 @@ fn rows_of(alloc: Global, lists: &[&[u8]]) -> Result<Vec<Vec<u8>>, AllocError> {
     Ok(rows)
 }
 
+fn has_moves_in_order(grid: &Grid) -> bool {
+    grid.cells() == 2
+        && grid.moves(0) == [0, 1].as_slice()
+        && grid.is_move(0, 1)
+        && !grid.is_move(1, 1)
+}
+
+fn has_side_neighbours(grid: &Grid) -> bool {
+    grid.cells() == 9 && grid.moves(4) == [1, 3, 4, 5, 7].as_slice()
+}
+
 #[test]
 fn moves_come_in_ascending_order(rt: HostRuntime) -> Result<(), Fail> {
     let grid = Grid::new(rows_of(rt.alloc(), &[&[1, 0], &[0]])?)?;
-    assert_eq!(rt; grid.cells(), 2);
-    assert_eq!(rt; grid.moves(0), [0, 1].as_slice());
-    assert!(rt; grid.is_move(0, 1));
-    assert!(rt; !grid.is_move(1, 1));
-    let sides = Grid::four_neighbour(rt.alloc(), 3, 3)?;
-    assert!(rt; sides.cells() == 9);
-    assert_eq!(rt; sides.moves(4), [1, 3, 4, 5, 7].as_slice());
+    assert!(rt; has_moves_in_order(&grid));
     crosses_threads(grid);
+    Ok(())
+}
+
+#[test]
+fn a_field_has_side_neighbours(rt: HostRuntime) -> Result<(), Fail> {
+    let grid = Grid::four_neighbour(rt.alloc(), 3, 3)?;
+    assert!(rt; has_side_neighbours(&grid));
     Ok(())
 }
 

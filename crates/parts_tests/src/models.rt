@@ -190,69 +190,99 @@ fn waiting(alloc: Global, horizon: u32, start: u8) -> Result<Scenario, Fail> {
     Scenario::new(parts_of(alloc, given)?).map_err(|_| Fail::from("no scenario"))
 }
 
+// Whether a scenario of two periods in which the target waits says what it was made of.
+fn says_its_parts(sc: &Scenario) -> bool {
+    sc.cells() == 3
+        && sc.positions() == 3
+        && sc.horizon() == 2
+        && sc.start() == 1
+        && sc.total() == 1
+        && sc.weight() == 4
+        && sc.first(2) == 1
+        && sc.name(2).bytes() == b"c".as_slice()
+        && sc.position(2).bytes() == b"z".as_slice()
+}
+
 #[test]
 fn a_scenario_is_made_of_its_parts(rt: HostRuntime) -> Result<(), Fail> {
     let sc = waiting(rt.alloc(), 2, 1)?;
-    assert_eq!(rt; sc.positions(), 3);
-    assert_eq!(rt; sc.horizon(), 2);
-    assert_eq!(rt; sc.start(), 1);
-    assert_eq!(rt; sc.total(), 1);
-    assert_eq!(rt; sc.weight(), 4);
-    assert!(rt; sc.cells() == 3);
-    assert_eq!(rt; sc.first(2), 1);
-    assert_eq!(rt; sc.name(2).bytes(), b"c".as_slice());
-    assert_eq!(rt; sc.position(2).bytes(), b"z".as_slice());
+    assert!(rt; says_its_parts(&sc));
     crosses_threads(sc);
     crosses_threads(standing(7, &[2, 2, 2]));
     Ok(())
 }
 
+const LEGAL: [(&[u8], bool); 7] = [
+    (&[], true),
+    (&[0], true),
+    (&[1, 2], true),
+    (&[2], false),
+    (&[0, 2], false),
+    (&[9], false),
+    (&[0, 0, 0], false),
+];
+
+// Whether each prefix is legal or not, as its row says.
+fn are_legal(sc: &Scenario, rows: &[(&[u8], bool)]) -> bool {
+    for (cells, legal) in rows {
+        if sc.is_legal(&standing(0, cells).path) != *legal {
+            return false;
+        }
+    }
+    true
+}
+
 #[test]
 fn legal_prefixes_follow_the_moves(rt: HostRuntime) -> Result<(), Fail> {
     let sc = waiting(rt.alloc(), 2, 0)?;
-    let cases: [(&[u8], bool); 7] = [
-        (&[], true),
-        (&[0], true),
-        (&[1, 2], true),
-        (&[2], false),
-        (&[0, 2], false),
-        (&[9], false),
-        (&[0, 0, 0], false),
-    ];
-    for (cells, legal) in cases {
-        assert_eq!(rt; sc.is_legal(&standing(0, cells).path), legal);
-    }
+    assert!(rt; are_legal(&sc, &LEGAL));
     Ok(())
+}
+
+const MOVES: [(&[u8], &[u8]); 3] = [(&[], &[0, 1, 2]), (&[0], &[0, 1]), (&[1, 2], &[1, 2])];
+
+// Whether each prefix is legal, with the moves of its row.
+fn have_moves(sc: &Scenario, rows: &[(&[u8], &[u8])]) -> bool {
+    for (cells, moves) in rows {
+        let prefix = standing(0, cells).path;
+        if !sc.is_legal(&prefix) || sc.moves_after(&prefix) != *moves {
+            return false;
+        }
+    }
+    true
 }
 
 #[test]
 fn moves_come_from_the_last_position(rt: HostRuntime) -> Result<(), Fail> {
     let sc = waiting(rt.alloc(), 2, 1)?;
-    let cases: [(&[u8], &[u8]); 3] = [(&[], &[0, 1, 2]), (&[0], &[0, 1]), (&[1, 2], &[1, 2])];
-    for (cells, moves) in cases {
-        let prefix = standing(0, cells).path;
-        assert!(rt; sc.is_legal(&prefix));
-        assert_eq!(rt; sc.moves_after(&prefix), moves);
-    }
+    assert!(rt; have_moves(&sc, &MOVES));
     Ok(())
+}
+
+const WORKED: [(&[u8], u128); 6] = [
+    (&[0], 0),
+    (&[2], 4),
+    (&[2, 1], 4),
+    (&[2, 2], 6),
+    (&[2, 2, 1], 6),
+    (&[2, 2, 2], 7),
+];
+
+// Whether each prefix is legal, and has the value of its row.
+fn have_values(sc: &Scenario, rows: &[(&[u8], u128)]) -> bool {
+    for (cells, worked) in rows {
+        let prefix = standing(0, cells).path;
+        if !sc.is_legal(&prefix) || value(sc, &prefix) != *worked {
+            return false;
+        }
+    }
+    true
 }
 
 #[test]
 fn values_are_as_worked_by_hand(rt: HostRuntime) -> Result<(), Fail> {
     let sc = waiting(rt.alloc(), 3, 1)?;
-    let cases: [(&[u8], u128); 6] = [
-        (&[0], 0),
-        (&[2], 4),
-        (&[2, 1], 4),
-        (&[2, 2], 6),
-        (&[2, 2, 1], 6),
-        (&[2, 2, 2], 7),
-    ];
-    for (cells, worked) in cases {
-        let prefix = standing(0, cells).path;
-        assert!(rt; sc.is_legal(&prefix));
-        assert_eq!(rt; value(&sc, &prefix), worked);
-    }
+    assert!(rt; have_values(&sc, &WORKED));
     Ok(())
 }
 

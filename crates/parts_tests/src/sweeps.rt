@@ -1,4 +1,4 @@
-ghost use Rattle.std.specs.Prelude.{◌≤◌};
+ghost use Rattle.std.specs.Prelude.{◌≡◌, [], IfOk};
 
 use std::alloc::{AllocError, Global};
 use std::test::Fail;
@@ -29,7 +29,9 @@ fn halves(
     alloc: Global,
     cells: u8,
     lists: &[Entries],
-) -> Result<Result<Sweep, LookFault>, AllocError> {
+) -> Result<Result<Sweep, LookFault>, AllocError>
+    ensures { IfOk result (λ made. IfOk made (λ sweep. sweep.changes ≡ [])) }
+{
     let mut rows = Vec::new(alloc);
     for list in lists {
         rows.push(row_of(alloc, list)?)?;
@@ -49,33 +51,47 @@ fn changes_of(alloc: Global, lists: &[Changed]) -> Result<Vec<LookChange>, Alloc
     Ok(changes)
 }
 
-// What is made of two positions over two cells, the first covering both and the second none, with changes.
-fn changed(alloc: Global, lists: &[Changed]) -> Result<Result<Sweep, LookChangeFault>, Fail> {
-    let mut rows = Vec::new(alloc);
-    rows.push(row_of(alloc, &[(0, 1), (1, 1)])?)?;
-    rows.push(row_of(alloc, &[])?)?;
-    match Sweep::footprints(2, 2, rows) {
-        Ok(sweep) => Ok(sweep.in_periods(alloc, changes_of(alloc, lists)?)),
+// Two positions over two cells, the first covering both and the second none.
+fn one_covers_both(alloc: Global) -> Result<Sweep, Fail>
+    ensures { IfOk result (λ sweep. sweep.changes ≡ []) }
+{
+    match halves(alloc, 2, &[&[(0, 1), (1, 1)], &[]])? {
+        Ok(sweep) => Ok(sweep),
         Err(_) => Err(Fail::from("no sweep")),
     }
 }
 
+// What is made of these with changes.
+fn changed(alloc: Global, lists: &[Changed]) -> Result<Result<Sweep, LookChangeFault>, Fail> {
+    let changes = changes_of(alloc, lists)?;
+    let sweep = one_covers_both(alloc)?;
+    Ok(sweep.in_periods(alloc, changes))
+}
+
+// Looks at the cells of these parts, out of 2.
+fn looks_of(alloc: Global, parts: &[u32]) -> Result<Sweep, Fail>
+    ensures { IfOk result (λ sweep. sweep.changes ≡ []) }
+{
+    match Sweep::new(2, parts.to_vec(alloc)?) {
+        Ok(sweep) => Ok(sweep),
+        Err(_) => Err(Fail::from("no sweep")),
+    }
+}
+
+fn looks_at_its_own_cells(sweep: &Sweep) -> bool {
+    sweep.denominator() == 2
+        && sweep.positions() == 3
+        && sweep.cells() == 3
+        && sweep.factor(1, 0, 0) == 1
+        && sweep.factor(32, 1, 1) == 2
+        && sweep.factor(1, 0, 1) == 2
+        && sweep.look(1, 2).parts() == [LookPart { cell: 2, part: 1 }].as_slice()
+}
+
 #[test]
 fn a_part_may_be_the_whole_denominator(rt: HostRuntime) -> Result<(), Fail> {
-    let parts = [1, 2, 1].to_vec(rt.alloc())?;
-    let Ok(sweep) = Sweep::new(2, parts) else {
-        return Err(Fail::from("no sweep"));
-    };
-    assert_eq!(rt; sweep.denominator(), 2);
-    assert!(rt; sweep.positions() == 3);
-    assert!(rt; sweep.cells() == 3);
-    assert_eq!(rt; sweep.factor(1, 0, 0), 1);
-    assert_eq!(rt; sweep.factor(32, 1, 1), 2);
-    assert_eq!(rt; sweep.factor(1, 0, 1), 2);
-    assert_eq!(rt;
-        sweep.look(1, 2).parts(),
-        [LookPart { cell: 2, part: 1 }].as_slice()
-    );
+    let sweep = looks_of(rt.alloc(), &[1, 2, 1])?;
+    assert!(rt; looks_at_its_own_cells(&sweep));
     crosses_threads(sweep);
     Ok(())
 }
@@ -87,6 +103,11 @@ fn the_least_cell_over_is_named(rt: HostRuntime) -> Result<(), Fail> {
     Ok(())
 }
 
+// The one rate of looks at cells of these parts.
+fn one_rate_of(alloc: Global, parts: &[u32]) -> Result<Option<u32>, Fail> {
+    Ok(looks_of(alloc, parts)?.one_rate(1))
+}
+
 #[test]
 fn one_rate_is_the_least_part_or_none(rt: HostRuntime) -> Result<(), Fail> {
     let cases: [(&[u32], Option<u32>); 3] = [
@@ -95,10 +116,7 @@ fn one_rate_is_the_least_part_or_none(rt: HostRuntime) -> Result<(), Fail> {
         (&[2, 2, 2], Some(2)),
     ];
     for (parts, rate) in cases {
-        let Ok(sweep) = Sweep::new(2, parts.to_vec(rt.alloc())?) else {
-            return Err(Fail::from("no sweep"));
-        };
-        assert_eq!(rt; sweep.one_rate(1), rate);
+        assert_eq!(rt; one_rate_of(rt.alloc(), parts)?, rate);
     }
     Ok(())
 }
@@ -125,24 +143,61 @@ fn faults_have_their_order(rt: HostRuntime) -> Result<(), Fail> {
     Ok(())
 }
 
+fn looks_at_the_same_cells(sweep: &Sweep) -> bool {
+    let parts = [LookPart { cell: 1, part: 0 }, LookPart { cell: 3, part: 1 }];
+    sweep.positions() == 3
+        && sweep.cells() == 4
+        && sweep.factor(1, 0, 1) == 0
+        && sweep.factor(32, 1, 3) == 1
+        && sweep.factor(1, 1, 0) == 2
+        && sweep.factor(1, 2, 2) == 2
+        && sweep.look(1, 0).parts() == parts.as_slice()
+        && sweep.look(32, 2).parts().is_empty()
+        && sweep.one_rate(1).is_none()
+}
+
 // Two positions cover the same cells, and a third covers none.
 #[test]
 fn positions_need_not_be_cells(rt: HostRuntime) -> Result<(), Fail> {
     let sweep = halves(rt.alloc(), 4, &[&[(3, 1), (1, 0)], &[(1, 0), (3, 1)], &[]])?
         .ok()
         .ok_or("no sweep")?;
-    assert!(rt; sweep.positions() == 3);
-    assert!(rt; sweep.cells() == 4);
-    assert_eq!(rt; sweep.factor(1, 0, 1), 0);
-    assert_eq!(rt; sweep.factor(32, 1, 3), 1);
-    assert_eq!(rt; sweep.factor(1, 1, 0), 2);
-    assert_eq!(rt; sweep.factor(1, 2, 2), 2);
-    let parts = [LookPart { cell: 1, part: 0 }, LookPart { cell: 3, part: 1 }];
-    assert_eq!(rt; sweep.look(1, 0).parts(), parts.as_slice());
-    assert!(rt; sweep.look(32, 2).parts().is_empty());
-    assert_eq!(rt; sweep.one_rate(1), None);
+    assert!(rt; looks_at_the_same_cells(&sweep));
     crosses_threads(sweep);
     Ok(())
+}
+
+// A row in force: its period, its position and its entries.
+const IN_FORCE: [(u32, u8, &[LookPart]); 5] = [
+    (
+        1,
+        0,
+        &[LookPart { cell: 0, part: 1 }, LookPart { cell: 1, part: 1 }],
+    ),
+    (
+        1,
+        1,
+        &[LookPart { cell: 0, part: 2 }, LookPart { cell: 1, part: 1 }],
+    ),
+    (2, 1, &[]),
+    (
+        31,
+        0,
+        &[LookPart { cell: 0, part: 1 }, LookPart { cell: 1, part: 1 }],
+    ),
+    (32, 0, &[LookPart { cell: 1, part: 0 }]),
+];
+
+fn are_in_force(sweep: &Sweep, rows: &[(u32, u8, &[LookPart])]) -> bool {
+    for (period, position, row) in rows {
+        if *period < 1 || *period > 32 || *position >= sweep.positions() {
+            return false;
+        }
+        if sweep.look(*period, *position).parts() != *row {
+            return false;
+        }
+    }
+    true
 }
 
 // A change holds in its period alone, the first and the last included, and one rate is that of the rows in force.
@@ -151,21 +206,8 @@ fn looks_change_in_single_periods(rt: HostRuntime) -> Result<(), Fail> {
     let sweep = changed(rt.alloc(), &[(32, 0, &[(1, 0)]), (1, 1, &[(1, 1), (0, 2)])])?
         .ok()
         .ok_or("no changes")?;
-    let cases: [(u32, u8, Entries); 5] = [
-        (1, 0, &[(0, 1), (1, 1)]),
-        (1, 1, &[(0, 2), (1, 1)]),
-        (2, 1, &[]),
-        (31, 0, &[(0, 1), (1, 1)]),
-        (32, 0, &[(1, 0)]),
-    ];
-    for (period, position, entries) in cases {
-        let row = row_of(rt.alloc(), entries)?;
-        assert!(rt; sweep.positions() == 2);
-        assert!(rt; position < 2 && period >= 1 && period <= 32);
-        assert_eq!(rt; sweep.look(period, position).parts(), row.as_slice());
-    }
-    assert_eq!(rt; sweep.one_rate(31), Some(1));
-    assert_eq!(rt; sweep.one_rate(32), None);
+    assert!(rt; are_in_force(&sweep, &IN_FORCE));
+    assert_eq!(rt; (sweep.one_rate(31), sweep.one_rate(32)), (Some(1), None));
     Ok(())
 }
 
@@ -199,19 +241,23 @@ fn faults_of_changes_have_their_order(rt: HostRuntime) -> Result<(), Fail> {
     Ok(())
 }
 
+fn changes_in_the_second_period(sweep: &Sweep) -> bool {
+    sweep.positions() == 2
+        && sweep.cells() == 2
+        && sweep.factor(1, 0, 0) == 1
+        && sweep.factor(2, 0, 0) == 2
+        && sweep.factor(2, 0, 1) == 0
+        && sweep.factor(3, 1, 1) == 2
+}
+
 #[test]
 fn a_plain_sweep_may_change(rt: HostRuntime) -> Result<(), Fail> {
-    let Ok(plain) = Sweep::new(2, [1, 2].to_vec(rt.alloc())?) else {
-        return Err(Fail::from("no sweep"));
-    };
     let changes = changes_of(rt.alloc(), &[(2, 0, &[(1, 0)])])?;
-    let Ok(sweep) = plain.in_periods(rt.alloc(), changes) else {
-        return Err(Fail::from("no changes"));
-    };
-    assert!(rt; sweep.positions() == 2 && sweep.cells() == 2);
-    assert_eq!(rt; sweep.factor(1, 0, 0), 1);
-    assert_eq!(rt; sweep.factor(2, 0, 0), 2);
-    assert_eq!(rt; sweep.factor(2, 0, 1), 0);
-    assert_eq!(rt; sweep.factor(3, 1, 1), 2);
+    let plain = looks_of(rt.alloc(), &[1, 2])?;
+    let sweep = plain
+        .in_periods(rt.alloc(), changes)
+        .ok()
+        .ok_or("no changes")?;
+    assert!(rt; changes_in_the_second_period(&sweep));
     Ok(())
 }

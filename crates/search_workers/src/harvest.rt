@@ -25,7 +25,28 @@ pub struct Harvest {
     pub seats: Vec<BoardSeat>,
 }
 
-// Adds what a desk has.
+// Adds the lists and the seats of a desk.
+fn add_lists(
+    harvest: &mut Harvest,
+    mut records: Vec<TreeNode>,
+    mut prefixes: Vec<Path>,
+    ticket: TicketSeat,
+    seat: BoardSeat,
+) -> Result<(), NoMemory>
+    ensures closed { OnOk result (harvest.new.closed.items ≡ harvest.old.closed.items ++ records.items) }
+    ensures waiting { OnOk result (harvest.new.waiting.items ≡ harvest.old.waiting.items ++ prefixes.items) }
+    ensures best { OnOk result (harvest.new.best ≡ harvest.old.best) }
+    ensures tickets { OnOk result (harvest.new.tickets.items ≡ harvest.old.tickets.items ++ ticket ∷ []) }
+    ensures seats { OnOk result (harvest.new.seats.items ≡ harvest.old.seats.items ++ seat ∷ []) }
+{
+    harvest.closed.append(&mut records)?;
+    harvest.waiting.append(&mut prefixes)?;
+    harvest.tickets.push(ticket)?;
+    harvest.seats.push(seat)?;
+    Ok(())
+}
+
+// Adds what a desk has. The lists come last, so that nothing else of the desk is held where memory runs out.
 fn add_desk(harvest: &mut Harvest, desk: Desk) -> Result<(), NoMemory>
     ensures { OnOk result (Adds harvest.old (desk_view desk) harvest.new) }
 {
@@ -34,21 +55,17 @@ fn add_desk(harvest: &mut Harvest, desk: Desk) -> Result<(), NoMemory>
         incumbent,
         scratch: _,
         stack,
-        mut records,
+        records,
     } = desk;
     let Incumbent {
         standing,
         seat,
         belief: _,
     } = incumbent;
-    harvest.closed.append(&mut records)?;
-    harvest.waiting.append(&mut stack.into_prefixes())?;
-    harvest.tickets.push(ticket)?;
-    harvest.seats.push(seat)?;
     if better(&standing, &harvest.best) {
         harvest.best = standing;
     }
-    Ok(())
+    add_lists(harvest, records, stack.into_prefixes(), ticket, seat)
 }
 
 /// What all desks have, and the tasks left, in a search from the standing `first`.

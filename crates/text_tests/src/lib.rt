@@ -5,6 +5,8 @@
 #[cfg(test)]
 mod plan_feeds;
 #[cfg(test)]
+mod plan_scenarios;
+#[cfg(test)]
 mod plan_tables;
 #[cfg(test)]
 mod plan_texts;

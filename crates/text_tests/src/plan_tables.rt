@@ -147,7 +147,7 @@ nodes 2
 T 12 0 0
 T 340282366920938463463374607431768211455 1 0 1 1
 end
-== a row: prints back
+== row 3: prints back
 plan 2
 path c c c
 chance 7 8
@@ -161,7 +161,7 @@ B
 W 6
 W 7
 end
-== a row: prints back
+== row 3: prints back
 plan 2
 path c c c
 chance 7 8

@@ -1,120 +1,17 @@
 //! Texts that are read and print back, and texts that have a fault, by line and kind. The rows of a table stand in one text,
 //! and one function goes over them, so that a row more costs no proof.
 
-ghost use Rattle.std.specs.Prelude.{◌≤◌, length, IfSome};
-
 use crate::plan_feeds::tells_as_read;
+use crate::plan_scenarios::scenario_of;
 use crate::plan_tables::{FAULTS, TEXTS};
-use crate::scenario_texts::read;
 use bound_tree::{Kind, Plan, TreeNode};
-use drift_chain::{Drift, DriftPart};
-use search_grid::Grid;
-use search_model::{Name, Parts, Scenario};
+use search_model::Scenario;
 use std::alloc::{AllocError, Global};
 use std::test::Fail;
-use sweep_table::Sweep;
 use tree_format::{
     Fed, PlanFault, PlanFeed, PlanKind, PlanStop, Step, are_in_place, has_no_edge, plan_kind_name,
     print_plan, print_plan_2, read_plan,
 };
-use worked_scenarios::BASE_AND_AIR;
-
-fn names_of(alloc: Global, letters: &str) -> Result<Vec<Name>, Fail> {
-    let mut names = Vec::new(alloc);
-    for letter in letters.as_bytes() {
-        names.push(Name::new(&[*letter]).ok_or("no name")?)?;
-    }
-    Ok(names)
-}
-
-fn all_cells(alloc: Global, count: u8) -> Result<Vec<u8>, AllocError> {
-    let mut cells = Vec::new(alloc);
-    for cell in 0..count {
-        cells.push(cell)?;
-    }
-    Ok(cells)
-}
-
-// Each position is a move of each.
-fn all_moves(alloc: Global, count: u8) -> Result<Vec<Vec<u8>>, AllocError> {
-    let mut moves = Vec::new(alloc);
-    for _ in 0..count {
-        moves.push(all_cells(alloc, count)?)?;
-    }
-    Ok(moves)
-}
-
-fn even_row(alloc: Global, count: u8) -> Result<Vec<DriftPart>, AllocError> {
-    let mut row = Vec::new(alloc);
-    for cell in 0..count {
-        row.push(DriftPart { cell, part: 1 })?;
-    }
-    Ok(row)
-}
-
-// From each cell the target goes to each with the same part.
-fn even_drift(alloc: Global, count: u8) -> Result<Drift, Fail> {
-    let mut rows = Vec::new(alloc);
-    for _ in 0..count {
-        rows.push(even_row(alloc, count)?)?;
-    }
-    if rows.is_empty() || rows.len() > 200 {
-        return Err(Fail::from("no drift"));
-    }
-    Ok(Drift::new(u32::from(count.max(1)), rows)?)
-}
-
-// Positions of these names and moves, and as many cells, which have the names the other way round; from each cell the target
-// goes to each with the same part. The searcher starts in the second, or in the only one.
-fn scenario(
-    alloc: Global,
-    letters: &str,
-    moves: Vec<Vec<u8>>,
-    horizon: u32,
-) -> Result<Scenario, Fail> {
-    let count = u8::try_from(letters.len())?;
-    let mut cells = names_of(alloc, letters)?;
-    cells.reverse();
-    Ok(Scenario::new(Parts {
-        names: cells,
-        positions: names_of(alloc, letters)?,
-        horizon,
-        start: u8::from(count > 1),
-        total: u32::from(count),
-        first: vec![in alloc; 1; letters.len()]?,
-        grid: Grid::new(moves)?,
-        drift: even_drift(alloc, count)?,
-        sweep: Sweep::new(2, vec![in alloc; 0; letters.len()]?)?,
-    })?)
-}
-
-// Positions of these names, each a move of each.
-fn even_scenario(alloc: Global, letters: &str, horizon: u32) -> Result<Scenario, Fail> {
-    let moves = all_moves(alloc, u8::try_from(letters.len())?)?;
-    scenario(alloc, letters, moves, horizon)
-}
-
-// Three cells in a row, from each of which the searcher stays or goes to the next, over three periods.
-fn row_scenario(alloc: Global) -> Result<Scenario, Fail> {
-    let moves = vec![in alloc;
-        vec![in alloc; 0, 1]?,
-        vec![in alloc; 0, 1, 2]?,
-        vec![in alloc; 1, 2]?,
-    ]?;
-    scenario(alloc, "abc", moves, 3)
-}
-
-// The scenario of these words: letters and periods, or one of two that have a name.
-fn scenario_of(alloc: Global, words: &str) -> Result<Scenario, Fail> {
-    match words {
-        "a row" => row_scenario(alloc),
-        "the air" => read(alloc, BASE_AND_AIR.as_bytes()),
-        _ => {
-            let (letters, periods) = words.split_once(' ').ok_or("no periods")?;
-            even_scenario(alloc, letters, periods.parse::<u32>()?)
-        }
-    }
-}
 
 const TWO_CELLS: &str =
     "plan 1\npath a a\nchance 12 16\nnodes 5\nB\nB 0\nW 12 0 0\nW 12 0 1\nM 12 1\nend\n";
@@ -259,15 +156,19 @@ fn says_an_edge(plan: &Plan) -> bool {
     }
 }
 
+fn plan_over(alloc: Global, sc: &Scenario, text: &str) -> Result<Plan, Fail> {
+    Ok(read_plan(alloc, sc, text.as_bytes())?)
+}
+
 fn plan_of(alloc: Global, words: &str, text: &str) -> Result<Plan, Fail> {
     let sc = scenario_of(alloc, words)?;
-    Ok(read_plan(alloc, &sc, text.as_bytes())?)
+    plan_over(alloc, &sc, text)
 }
 
 fn texts_say_plans(alloc: Global) -> Result<bool, Fail> {
     let three = plan_of(alloc, "abc 3", THREE_PERIODS)?;
     let two = plan_of(alloc, "ab 2", TWO_CELLS_2)?;
-    let edge = plan_of(alloc, "a row", WITH_EDGE)?;
+    let edge = plan_of(alloc, "row 3", WITH_EDGE)?;
     Ok(says_three_periods(&three) && says_two_cells_2(&two) && says_an_edge(&edge))
 }
 
@@ -334,16 +235,21 @@ fn row_has_fault(alloc: Global, sc: &Scenario, row: &str) -> Result<bool, Fail> 
     has_fault(alloc, sc, &text, fault)
 }
 
-// How many rows of a table have their fault, in texts over two cells.
-fn rows_of_faults(alloc: Global, table: &str) -> Result<u32, Fail> {
-    let sc = even_scenario(alloc, "ab", 2)?;
+// How many rows of a table have their fault, in texts over a scenario.
+fn rows_over(alloc: Global, sc: &Scenario, table: &str) -> Result<u32, Fail> {
     let mut count = 0u32;
     for row in table.split('\n') {
-        if row_has_fault(alloc, &sc, row)? {
+        if row_has_fault(alloc, sc, row)? {
             count = count.saturating_add(1);
         }
     }
     Ok(count)
+}
+
+// The same of two cells.
+fn rows_of_faults(alloc: Global, table: &str) -> Result<u32, Fail> {
+    let sc = scenario_of(alloc, "ab 2")?;
+    rows_over(alloc, &sc, table)
 }
 
 #[test]
@@ -366,11 +272,16 @@ fn long_line(alloc: Global, front: &[u8], byte: u8, back: &[u8]) -> Result<Vec<u
     Ok(line)
 }
 
+// Whether a text over two cells has the fault.
+fn text_has_fault(alloc: Global, text: &[u8], fault: &str) -> Result<bool, Fail> {
+    let sc = scenario_of(alloc, "ab 2")?;
+    has_fault(alloc, &sc, text, fault)
+}
+
 // Whether a text whose line 7 is this one has the fault.
 fn line_has_fault(alloc: Global, line: &[u8], fault: &str) -> Result<bool, Fail> {
-    let sc = even_scenario(alloc, "ab", 2)?;
     let text = with_line(alloc, TWO_CELLS, 7, line)?;
-    has_fault(alloc, &sc, &text, fault)
+    text_has_fault(alloc, &text, fault)
 }
 
 fn long_lines_have_faults(alloc: Global) -> Result<bool, Fail> {
@@ -401,17 +312,21 @@ fn line_behind(text: &[u8]) -> u64 {
 }
 
 // How many fronts of a text end early, in the line that they end in.
-fn fronts_that_end_early(alloc: Global, text: &[u8]) -> Result<usize, Fail> {
-    let sc = even_scenario(alloc, "ab", 2)?;
+fn fronts_over(alloc: Global, sc: &Scenario, text: &[u8]) -> Result<usize, Fail> {
     let mut count = 0usize;
     for n in 0..text.len() {
         let front = &text[..n];
         let fault = format!(in alloc; "{} EarlyEnd", line_behind(front))?;
-        if has_fault(alloc, &sc, front, &fault)? {
+        if has_fault(alloc, sc, front, &fault)? {
             count = count.saturating_add(1);
         }
     }
     Ok(count)
+}
+
+fn fronts_that_end_early(alloc: Global, text: &[u8]) -> Result<usize, Fail> {
+    let sc = scenario_of(alloc, "ab 2")?;
+    fronts_over(alloc, &sc, text)
 }
 
 #[test]
@@ -421,36 +336,54 @@ fn a_text_that_is_cut_off_ends_early(rt: HostRuntime) -> Result<(), Fail> {
     Ok(())
 }
 
-// How many bytes are fed up to the next item, where one follows.
-fn next_item(feed: &mut PlanFeed, sc: &Scenario, rest: &[u8]) -> Option<usize>
-    ensures { IfSome result (λ used. used ≤ length rest.now) }
-{
+fn is_item(step: &Step) -> bool {
+    match step {
+        Step::Item(_) => true,
+        Step::More | Step::Fault(_) => false,
+    }
+}
+
+// What is left behind the next item, where one follows.
+fn behind_item<'a>(feed: &mut PlanFeed, sc: &Scenario, rest: &'a [u8]) -> Option<&'a [u8]> {
     if rest.is_empty() {
         return None;
     }
     let Fed { used, step } = feed.feed(sc, rest);
-    match step {
-        Step::Item(_) => Some(used),
-        Step::More | Step::Fault(_) => None,
-    }
+    let after = &rest[used..];
+    if is_item(&step) { Some(after) } else { None }
 }
 
-// The lengths of the bytes up to each item of a text, behind which it ends.
-fn item_lengths(alloc: Global, text: &[u8]) -> Result<Vec<usize>, Fail> {
-    let sc = even_scenario(alloc, "ab", 2)?;
-    let mut feed = PlanFeed::start(alloc, &sc)?;
-    let mut lengths = Vec::new(alloc);
+// Feeds a text, and adds the lengths of the bytes up to each item.
+fn push_lengths(
+    lengths: &mut Vec<usize>,
+    feed: &mut PlanFeed,
+    sc: &Scenario,
+    text: &[u8],
+) -> Result<(), AllocError> {
     let mut rest = text;
     for _ in 0..text.len() {
-        if let Some(used) = next_item(&mut feed, &sc, rest) {
-            lengths.push(used)?;
-            rest = &rest[used..];
+        if let Some(after) = behind_item(feed, sc, rest) {
+            lengths.push(rest.len().saturating_sub(after.len()))?;
+            rest = after;
         }
     }
-    if !rest.is_empty() || feed.finish().is_err() {
-        return Err(Fail::from("the text doesn't end with its last item"));
+    Ok(())
+}
+
+// The lengths of the bytes up to each item of a text over a scenario, none where it doesn't end with one.
+fn lengths_over(alloc: Global, sc: &Scenario, text: &[u8]) -> Result<Vec<usize>, Fail> {
+    let mut lengths = Vec::new(alloc);
+    let mut feed = PlanFeed::start(alloc, sc)?;
+    push_lengths(&mut lengths, &mut feed, sc, text)?;
+    if feed.finish().is_err() {
+        lengths.clear();
     }
     Ok(lengths)
+}
+
+fn item_lengths(alloc: Global, text: &[u8]) -> Result<Vec<usize>, Fail> {
+    let sc = scenario_of(alloc, "ab 2")?;
+    lengths_over(alloc, &sc, text)
 }
 
 // The first four lines, each record and the end are fed one after the other.

@@ -21,25 +21,33 @@ fn path_of(sc: &Scenario, positions: &[u8]) -> Option<Path>
 }
 
 // Whether the report of a scenario's path is this text.
-fn reports(alloc: Global, scenario: &str, positions: &[u8], text: &str) -> Result<bool, Fail> {
-    let sc = read(alloc, scenario.as_bytes())?;
-    let Some(path) = path_of(&sc, positions) else {
+fn is_report(alloc: Global, sc: &Scenario, positions: &[u8], text: &str) -> Result<bool, Fail> {
+    let Some(path) = path_of(sc, positions) else {
         return Ok(false);
     };
     let mut out = Vec::new(alloc);
-    push_report(&mut out, &sc, &path)?;
+    push_report(&mut out, sc, &path)?;
     Ok(out.as_slice() == text.as_bytes())
 }
 
 // The same in JSON.
-fn reports_json(alloc: Global, scenario: &str, positions: &[u8], text: &str) -> Result<bool, Fail> {
-    let sc = read(alloc, scenario.as_bytes())?;
-    let Some(path) = path_of(&sc, positions) else {
+fn is_json(alloc: Global, sc: &Scenario, positions: &[u8], text: &str) -> Result<bool, Fail> {
+    let Some(path) = path_of(sc, positions) else {
         return Ok(false);
     };
     let mut out = Vec::new(alloc);
-    push_report_json(&mut out, &sc, &path)?;
+    push_report_json(&mut out, sc, &path)?;
     Ok(out.as_slice() == text.as_bytes())
+}
+
+fn reports(alloc: Global, scenario: &str, positions: &[u8], text: &str) -> Result<bool, Fail> {
+    let sc = read(alloc, scenario.as_bytes())?;
+    is_report(alloc, &sc, positions, text)
+}
+
+fn reports_json(alloc: Global, scenario: &str, positions: &[u8], text: &str) -> Result<bool, Fail> {
+    let sc = read(alloc, scenario.as_bytes())?;
+    is_json(alloc, &sc, positions, text)
 }
 
 const TWO_CELLS: &str = "report 1

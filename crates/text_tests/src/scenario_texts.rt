@@ -10,7 +10,7 @@ use scenario_text::{
     TextKind, TextStop, print_scenario, read_scenario, read_scenario_alone, text_kind_name,
 };
 use search_model::Scenario;
-use std::alloc::Global;
+use std::alloc::{AllocError, Global};
 use std::test::Fail;
 use text_rows::cut;
 
@@ -29,7 +29,7 @@ enum Asked {
     Front,
 }
 
-fn joined(alloc: Global, head: &[u8], rest: &[u8]) -> Result<Vec<u8>, Fail> {
+fn joined(alloc: Global, head: &[u8], rest: &[u8]) -> Result<Vec<u8>, AllocError> {
     let mut text = Vec::new(alloc);
     text.extend_from_slice(head)?;
     text.extend_from_slice(rest)?;
@@ -103,29 +103,47 @@ fn fault(alloc: Global, text: &[u8]) -> Result<Vec<u8>, Fail> {
 
 /// The scenario of a text.
 pub(crate) fn read(alloc: Global, text: &[u8]) -> Result<Scenario, Fail> {
-    Ok(read_scenario_alone(alloc, text)?)
-}
-
-fn read_front(alloc: Global, text: &[u8]) -> Result<(Scenario, usize), Fail> {
-    match read_scenario(alloc, text) {
-        Ok(front) => Ok(front),
-        Err(_) => Err(Fail::new("no scenario was read at the front")),
+    match read_scenario_alone(alloc, text) {
+        Ok(sc) => Ok(sc),
+        Err(_) => Err(Fail::from("no scenario")),
     }
 }
 
+fn printed(alloc: Global, sc: &Scenario) -> Result<Vec<u8>, Fail> {
+    let mut text = Vec::new(alloc);
+    print_scenario(&mut text, sc)?;
+    Ok(text)
+}
+
+/// The canonical text of a text's scenario.
 fn canonical(alloc: Global, text: &[u8]) -> Result<Vec<u8>, Fail> {
     let sc = read(alloc, text)?;
-    let mut printed = Vec::new(alloc);
-    print_scenario(&mut printed, &sc)?;
-    Ok(printed)
+    printed(alloc, &sc)
+}
+
+/// Whether a text is its own canonical text.
+fn is_canonical(alloc: Global, text: &[u8]) -> Result<bool, Fail> {
+    Ok(canonical(alloc, text)?.as_slice() == text)
+}
+
+/// Whether a text is read as this scenario.
+fn reads_as(alloc: Global, sc: &Scenario, text: &[u8]) -> Result<bool, Fail> {
+    let read = read(alloc, text)?;
+    Ok(agree(sc, &read))
+}
+
+/// Whether two texts are read as the same scenario.
+fn read_alike(alloc: Global, one: &[u8], other: &[u8]) -> Result<bool, Fail> {
+    let sc = read(alloc, one)?;
+    reads_as(alloc, &sc, other)
 }
 
 /// Whether the canonical text is its own, and reads as the same scenario.
 fn back(alloc: Global, text: &[u8]) -> Result<Vec<u8>, Fail> {
     let printed = canonical(alloc, text)?;
-    let again = canonical(alloc, &printed)?;
-    let same = again == printed && agree(&read(alloc, text)?, &read(alloc, &printed)?);
-    joined(alloc, b"", if same { b"the same\n" } else { b"another\n" })
+    let same = is_canonical(alloc, &printed)? && read_alike(alloc, text, &printed)?;
+    let told: &[u8] = if same { b"the same\n" } else { b"another\n" };
+    Ok(joined(alloc, told, b"")?)
 }
 
 /// How much a look misses, where the period, the position and the cell are right.
@@ -196,28 +214,57 @@ fn push_periods(told: &mut Vec<u8>, sc: &Scenario) -> Result<(), Fail> {
     push_parts(told, steps(sc, 2))
 }
 
-fn counts(alloc: Global, sc: &Scenario) -> Result<Vec<u8>, Fail> {
-    let (cells, positions, start, weight) = (sc.cells(), sc.positions(), sc.start(), sc.weight());
-    let told = format!(in alloc;
-        "cells {cells}, positions {positions}, start {start}, weight {weight}\n"
-    )?;
-    Ok(told.into_bytes())
+/// A word and a count.
+fn push_count(told: &mut Vec<u8>, word: &[u8], count: u128) -> Result<(), Fail> {
+    told.extend_from_slice(word)?;
+    push_u128(told, count)?;
+    Ok(())
+}
+
+fn push_counts(told: &mut Vec<u8>, sc: &Scenario) -> Result<(), Fail> {
+    push_count(told, b"cells ", u128::from(sc.cells()))?;
+    push_count(told, b", positions ", u128::from(sc.positions()))?;
+    push_count(told, b", start ", u128::from(sc.start()))?;
+    push_count(told, b", weight ", sc.weight())?;
+    told.push(b'\n')?;
+    Ok(())
+}
+
+fn push_values(told: &mut Vec<u8>, sc: &Scenario) -> Result<(), Fail> {
+    push_counts(told, sc)?;
+    push_periods(told, sc)
+}
+
+fn values_of(alloc: Global, sc: &Scenario) -> Result<Vec<u8>, Fail> {
+    let mut told = Vec::new(alloc);
+    push_values(&mut told, sc)?;
+    Ok(told)
 }
 
 /// What a scenario holds.
 fn values(alloc: Global, text: &[u8]) -> Result<Vec<u8>, Fail> {
     let sc = read(alloc, text)?;
-    let mut told = counts(alloc, &sc)?;
-    push_periods(&mut told, &sc)?;
+    values_of(alloc, &sc)
+}
+
+fn push_front(told: &mut Vec<u8>, sc: &Scenario, bytes: usize) -> Result<(), Fail> {
+    push_count(told, b"bytes ", bytes as u128)?;
+    told.extend_from_slice(b", ")?;
+    push_counts(told, sc)
+}
+
+fn front_of(alloc: Global, sc: &Scenario, bytes: usize) -> Result<Vec<u8>, Fail> {
+    let mut told = Vec::new(alloc);
+    push_front(&mut told, sc, bytes)?;
     Ok(told)
 }
 
 /// How many bytes the scenario at the front takes, and what it holds.
 fn front(alloc: Global, text: &[u8]) -> Result<Vec<u8>, Fail> {
-    let (sc, bytes) = read_front(alloc, text)?;
-    let mut told = format!(in alloc; "bytes {bytes}, ")?.into_bytes();
-    told.extend_from_slice(&counts(alloc, &sc)?)?;
-    Ok(told)
+    match &read_scenario(alloc, text) {
+        Ok((sc, bytes)) => front_of(alloc, sc, *bytes),
+        Err(_) => Err(Fail::new("no scenario was read at the front")),
+    }
 }
 
 #[test]

@@ -132,16 +132,20 @@ fn closes(core: &mut CoreState, sc: &Scenario, whole: &Standing) -> bool
 }
 
 // Whether the machine closes the path of one cell, which has the value 1.
-fn path_is_closed(alloc: Global, text: &str) -> Result<bool, Fail> {
-    let sc = scenario_of(alloc, text)?;
+fn closes_its_path(alloc: Global, sc: &Scenario) -> Result<bool, Fail> {
     let path = Path::of(&[0]).ok_or("no path")?;
-    let Some(whole) = standing_of(&sc, &path) else {
+    let Some(whole) = standing_of(sc, &path) else {
         return Ok(false);
     };
-    let mut core = CoreState::start(alloc, &sc, whole)?;
-    let branched = branches(&mut core, &sc, &path);
-    let round = goes_round(&mut core, &sc, &whole);
-    Ok(branched && round && closes(&mut core, &sc, &whole) && whole.value == 1)
+    let mut core = CoreState::start(alloc, sc, whole)?;
+    let branched = branches(&mut core, sc, &path);
+    let round = goes_round(&mut core, sc, &whole);
+    Ok(branched && round && closes(&mut core, sc, &whole) && whole.value == 1)
+}
+
+fn path_is_closed(alloc: Global, text: &str) -> Result<bool, Fail> {
+    let sc = scenario_of(alloc, text)?;
+    closes_its_path(alloc, &sc)
 }
 
 #[test]

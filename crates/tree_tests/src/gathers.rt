@@ -105,12 +105,16 @@ fn has_prefixes(tree: &BoundTree, second: &Path, third: &Path) -> bool {
 }
 
 // Whether the records of the two paths of a scenario are gathered.
-fn two_paths_are_gathered(alloc: Global, text: &str) -> Result<bool, Fail> {
-    let sc = scenario_of(alloc, text)?;
-    match (standing_of(&sc, &[0]), standing_of(&sc, &[1])) {
-        (Some(less), Some(more)) => are_in_preorder(alloc, &sc, &less, &more),
+fn gathers_two_paths(alloc: Global, sc: &Scenario) -> Result<bool, Fail> {
+    match (standing_of(sc, &[0]), standing_of(sc, &[1])) {
+        (Some(less), Some(more)) => are_in_preorder(alloc, sc, &less, &more),
         _ => Ok(false),
     }
+}
+
+fn two_paths_are_gathered(alloc: Global, text: &str) -> Result<bool, Fail> {
+    let sc = scenario_of(alloc, text)?;
+    gathers_two_paths(alloc, &sc)
 }
 
 #[test]

@@ -7,5 +7,8 @@ use std::test::Fail;
 
 /// The scenario of a text.
 pub(crate) fn scenario_of(alloc: Global, text: &str) -> Result<Scenario, Fail> {
-    Ok(read_scenario_alone(alloc, text.as_bytes())?)
+    match read_scenario_alone(alloc, text.as_bytes()) {
+        Ok(sc) => Ok(sc),
+        Err(_) => Err(Fail::from("no scenario")),
+    }
 }

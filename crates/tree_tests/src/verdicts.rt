@@ -136,16 +136,21 @@ fn row_is_judged(alloc: Global, sc: &Scenario, row: &str) -> Result<bool, Fail> 
     is_told(alloc, check(alloc, sc, &plan)?, told)
 }
 
-// How many rows of a table have their verdict, over the scenario of a text.
-fn rows_judged(alloc: Global, scenario: &str, table: &str) -> Result<u32, Fail> {
-    let sc = scenario_of(alloc, scenario)?;
+// How many rows of a table have their verdict.
+fn rows_over(alloc: Global, sc: &Scenario, table: &str) -> Result<u32, Fail> {
     let mut count = 0u32;
     for row in table.split('\n') {
-        if row_is_judged(alloc, &sc, row)? {
+        if row_is_judged(alloc, sc, row)? {
             count = count.saturating_add(1);
         }
     }
     Ok(count)
+}
+
+// The same over the scenario of a text.
+fn rows_judged(alloc: Global, scenario: &str, table: &str) -> Result<u32, Fail> {
+    let sc = scenario_of(alloc, scenario)?;
+    rows_over(alloc, &sc, table)
 }
 
 const ONE_CELL: &str = "\

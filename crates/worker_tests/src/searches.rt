@@ -17,7 +17,10 @@ use worked_scenarios::{FOUR_CELLS, TWO_CELLS};
 
 // The scenario of a text.
 fn scenario_of(alloc: Global, text: &str) -> Result<Scenario, Fail> {
-    Ok(read_scenario_alone(alloc, text.as_bytes())?)
+    match read_scenario_alone(alloc, text.as_bytes()) {
+        Ok(sc) => Ok(sc),
+        Err(_) => Err(Fail::from("no scenario")),
+    }
 }
 
 // A record of a tree: the letter of its kind, its number if any, and its prefix.
@@ -105,6 +108,19 @@ fn found_by<R: Threads + Wait + Sync + AllocGlobal, G: Gate>(
     }
 }
 
+// The same over the scenario of a text.
+fn found_in<R: Threads + Wait + Sync + AllocGlobal, G: Gate>(
+    rt: &R,
+    text: &str,
+    workers: u32,
+    gate: &G,
+) -> Result<Found, Fail>
+    requires { (1 ≤ workers) × (workers ≤ 16) }
+{
+    let sc = scenario_of(rt.alloc(), text)?;
+    found_by(rt, &sc, workers, gate)
+}
+
 // Whether some workers find the least of equal paths over two cells.
 fn finds_the_least<R: Threads + Wait + Sync + AllocGlobal, G: Gate>(
     rt: &R,
@@ -113,9 +129,18 @@ fn finds_the_least<R: Threads + Wait + Sync + AllocGlobal, G: Gate>(
 ) -> Result<bool, Fail>
     requires { (1 ≤ workers) × (workers ≤ 16) }
 {
-    let sc = scenario_of(rt.alloc(), TWO_CELLS)?;
-    let found = found_by(rt, &sc, workers, gate)?;
+    let found = found_in(rt, TWO_CELLS, workers, gate)?;
     Ok(is_standing(&found.best, 12, &[0, 0]) && is_tree(found.tree.nodes(), &EVEN))
+}
+
+// Whether the better path over four cells was found, with one of these trees.
+fn is_the_better(found: &Found, trees: &[&[Row]]) -> bool {
+    for tree in trees {
+        if is_tree(found.tree.nodes(), tree) {
+            return is_standing(&found.best, 6, &[2, 3]);
+        }
+    }
+    false
 }
 
 // Whether some workers find the path over four cells that is better than the opening, with one of these trees.
@@ -127,14 +152,8 @@ fn finds_the_better<R: Threads + Wait + Sync + AllocGlobal, G: Gate>(
 ) -> Result<bool, Fail>
     requires { (1 ≤ workers) × (workers ≤ 16) }
 {
-    let sc = scenario_of(rt.alloc(), FOUR_CELLS)?;
-    let found = found_by(rt, &sc, workers, gate)?;
-    for tree in trees {
-        if is_tree(found.tree.nodes(), tree) {
-            return Ok(is_standing(&found.best, 6, &[2, 3]));
-        }
-    }
-    Ok(false)
+    let found = found_in(rt, FOUR_CELLS, workers, gate)?;
+    Ok(is_the_better(&found, trees))
 }
 
 #[test]
@@ -239,6 +258,21 @@ fn is_part_of_four(part: &Partial) -> bool {
 }
 
 // Whether what one worker has of two cells is right where so many nodes have run out; none where they suffice.
+fn is_right_over<R: Threads + Wait + Sync + AllocGlobal>(
+    rt: &R,
+    sc: &Scenario,
+    nodes: u64,
+) -> Result<Option<bool>, Fail>
+    requires { (1 ≤ nodes) × (nodes ≤ MOST_NODES) }
+{
+    let first = first_of(rt.alloc(), sc)?;
+    match search(rt, sc, &first, 1, nodes, &OpenGate) {
+        Ok(_) => Ok(None),
+        Err(SearchStop::NoMemory) => Err("out of memory".into()),
+        Err(SearchStop::Full(part)) => Ok(Some(is_part_of_four(&part))),
+    }
+}
+
 fn is_right_part<R: Threads + Wait + Sync + AllocGlobal>(
     rt: &R,
     nodes: u64,
@@ -246,12 +280,7 @@ fn is_right_part<R: Threads + Wait + Sync + AllocGlobal>(
     requires { (1 ≤ nodes) × (nodes ≤ MOST_NODES) }
 {
     let sc = scenario_of(rt.alloc(), TWO_CELLS)?;
-    let first = first_of(rt.alloc(), &sc)?;
-    match search(rt, &sc, &first, 1, nodes, &OpenGate) {
-        Ok(_) => Ok(None),
-        Err(SearchStop::NoMemory) => Err("out of memory".into()),
-        Err(SearchStop::Full(part)) => Ok(Some(is_part_of_four(&part))),
-    }
+    is_right_over(rt, &sc, nodes)
 }
 
 #[test]
