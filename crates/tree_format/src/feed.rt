@@ -50,7 +50,7 @@ fn judge(line: &GatheredLine, sc: &Scenario, due: &Due) -> Result<PlanLine, Plan
     ensures said { result ≡ line_at sc.now due.now (exact_fields line.now.text) }
     ensures numbered { IfOk result (λ said. (number : ℕ) → IsNumbered due.now.stage number → IsNumbered (next sc.now due.now said).stage (number + 1)) }
 {
-    let _cells = sc.cells();
+    sc.recall_sound();
     let fields = first_fields(line.text());
     read_line(sc, due, &fields.items[..fields.len])
 }
@@ -120,7 +120,7 @@ impl PlanFeed {
     fn take(&mut self, sc: &Scenario, byte: u8) -> Step
         ensures { IfRead sc.now self.old (λ fed items. GoesOn sc.now (fed ++ byte ∷ []) items result self.new) }
     {
-        let _cells = sc.cells();
+        sc.recall_sound();
         self.step(sc, byte)
     }
 

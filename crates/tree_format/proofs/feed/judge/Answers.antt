@@ -9,7 +9,7 @@ pub returns-clause-said : goal.returns-clause-said
 returns-clause-said c =
     let sc = c.args.sc.now in
     let d = c.args.due.now in
-    c.read_line.ensures ∙ ap (line_at sc d) c.first_fields-fields.ensures.value ∙ summary_decides sc d _ c.cells-cells.ensures.sound ∙ ap (λ (t : List ℕ). line_at sc d (exact_fields t)) c.text.ensures
+    c.read_line.ensures ∙ ap (line_at sc d) c.first_fields-fields.ensures.value ∙ summary_decides sc d _ c.recall_sound.ensures ∙ ap (λ (t : List ℕ). line_at sc d (exact_fields t)) c.text.ensures
 
 pub returns-clause-numbered : goal.returns-clause-numbered
-returns-clause-numbered c = said_numbered c.args.sc.now c.cells-cells.ensures.sound c.args.due.now _ c.read_line.result c.read_line.ensures
+returns-clause-numbered c = said_numbered c.args.sc.now c.recall_sound.ensures c.args.due.now _ c.read_line.result c.read_line.ensures

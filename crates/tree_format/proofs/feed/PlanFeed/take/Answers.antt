@@ -9,8 +9,8 @@ pub returns : goal.returns
 returns c = λ fed items read.
     let p = c.args.sc.now in
     let b = c.args.byte in
-    let legal = fed_legal p c.cells-cells.ensures.sound fed items c.args.self.now read in
+    let legal = fed_legal p c.recall_sound.ensures fed items c.args.self.now read in
     let bytes = fed ++ b ∷ [] in
     subst (λ (step : Step). GoesOn p bytes items step c.step.new.self) (sym c.step.ensures.step)
     (subst (λ (stand : Stand). GoesOn p bytes items (byte_fed p b c.args.self.now).step stand) (sym (c.step.ensures.stand legal))
-    (byte_read p c.cells-cells.ensures.sound fed items c.args.self.now read b))
+    (byte_read p c.recall_sound.ensures fed items c.args.self.now read b))
