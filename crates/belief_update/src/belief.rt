@@ -1,6 +1,6 @@
 //! Beliefs.
 
-ghost use Rattle.std.specs.Prelude.{◌≡◌, ◌<◌, ◌≤◌, ◌+◌, ◌++◌, ◌∷◌, [], ℕ, List, Option, Some, None, length, slice_index, sum, IfOk, IsTrue};
+ghost use Rattle.std.specs.Prelude.{◌≡◌, ◌<◌, ◌+◌, ◌++◌, ◌∷◌, [], ℕ, List, Option, Some, None, length, slice_index, sum, IfOk, IsTrue};
 ghost use Rattle.search_model.specs.Problem.{IsProblem, first_of};
 ghost use Rattle.belief_update.specs.Belief.{IsBelief, IsReached, IsUnlooked, awaiting};
 

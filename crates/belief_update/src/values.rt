@@ -1,6 +1,6 @@
 //! The value of a prefix, by the belief after its looks.
 
-ghost use Rattle.std.specs.Prelude.{◌≡◌, ◌≤◌, ◌*◌, ◌^◌, ◌+◌, ◌-◌, ◌<◌, ◌++◌, ℕ, List, Option, Some, map, length, max, All};
+ghost use Rattle.std.specs.Prelude.{◌≡◌, ◌≤◌, ◌*◌, ◌^◌, ◌+◌, ◌-◌, ◌<◌, ◌++◌, ℕ, List, Option, Some, map, length, All};
 ghost use Rattle.search_model.specs.Legal.{IsLegal};
 ghost use Rattle.search_model.specs.Tracks.{value_of};
 ghost use Rattle.belief_update.specs.Belief.{IsBelief, IsReached};

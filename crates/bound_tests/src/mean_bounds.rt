@@ -1,4 +1,3 @@
-ghost use Rattle.std.specs.Prelude.{◌≡◌};
 ghost use Rattle.mean_bound.specs.Means.{IsMadeFor};
 
 use crate::scenarios::{WIDE_LOOKS, crosses_threads, scenario_of};

@@ -15,5 +15,5 @@ pub use laws::{
 };
 pub use node::{Kind, TreeNode};
 pub use plan::Plan;
-pub use stack::{pop_prefix, push_expected, push_prefix};
+pub use stack::{extended, pop_prefix, push_expected, push_prefix};
 pub use tree::{BoundTree, MOST_NODES};

@@ -31,7 +31,7 @@ pub fn pop_prefix(stack: &mut Vec<Path>) -> Option<Path>
 }
 
 /// A prefix with one position more.
-fn extended(prefix: &Path, d: u8) -> Path
+pub fn extended(prefix: &Path, d: u8) -> Path
     requires { length prefix.now < 32 }
     ensures { result ≡ prefix.now ++ d ∷ [] }
 {

@@ -1,6 +1,6 @@
 //! What is wrong with rows of parts.
 
-ghost use Rattle.std.specs.Prelude.{◌≡◌, ◌≢◌, ℕ, ◌+◌, ◌<◌, ◌≤◌, ◌↔◌, length, map, sum_by, IsTrue, IfSome, IfNone, IfErr, OnOk, MatchBool};
+ghost use Rattle.std.specs.Prelude.{◌≡◌, ℕ, ◌<◌, ◌≤◌, ◌↔◌, length, map, sum_by, IsTrue, IfSome, IfNone, IfErr, OnOk, MatchBool};
 ghost use Rattle.std.specs.List.Sorted.{IsNonDecreasingBy, IsStrictlyIncreasing};
 ghost use Rattle.drift_chain.specs.DriftRows.{drift_over, IsDriftRow, IsDrift};
 ghost use Rattle.drift_chain.specs.Faults.{parts_from, HasSameParts, HasDouble, IsFirstOfRow, IsFirstFault};

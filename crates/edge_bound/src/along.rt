@@ -1,6 +1,6 @@
 //! The edge rewards along one path.
 
-ghost use Rattle.std.specs.Prelude.{◌≡◌, ◌<◌, ◌≤◌, ◌+◌, ◌^◌, length, drop, All};
+ghost use Rattle.std.specs.Prelude.{◌≡◌, ◌<◌, ◌+◌, ◌^◌, length, drop, All};
 ghost use Rattle.search_model.specs.Bounds.{reward_of};
 ghost use Rattle.search_model.specs.Edge.{edge_reward_of, edge_sum};
 ghost use Rattle.edge_bound.specs.Onward.{IsTableFor};

@@ -1,6 +1,6 @@
 //! The greatest sums of edge rewards, one row of positions for a period, from the last period back.
 
-ghost use Rattle.std.specs.Prelude.{◌≡◌, ◌<◌, ◌≤◌, ◌+◌, ◌-◌, length, map};
+ghost use Rattle.std.specs.Prelude.{◌≡◌, ◌<◌, ◌+◌, ◌-◌, ◌*◌, ◌^◌, length, map};
 ghost use Rattle.search_model.specs.Legal.{IsLegal, continuations};
 ghost use Rattle.search_model.specs.Bounds.{greatest};
 ghost use Rattle.search_model.specs.Edge.{edge_reward_of, edge_sum};
@@ -11,8 +11,18 @@ use crate::moves::{found_after, found_first};
 use belief_update::later_parts;
 use search_model::{Path, Scenario};
 
-/// The greatest sum over the walks that go on from position `a` in period `t`, by the sums of the period after it.
-fn best_move(sc: &Scenario, prefix: &Path, masses: &[u128], sums: &[u128], t: u32, a: u8) -> u128
+/// The greatest sum over the walks that go on from position `a` in period `t`, by the sums of the period after it and the
+/// parts of what is to come.
+fn best_move(
+    sc: &Scenario,
+    prefix: &Path,
+    masses: &[u128],
+    sums: &[u128],
+    parts: u128,
+    t: u32,
+    a: u8,
+) -> u128
+    requires parts { parts ≡ sc.now.drift.denominator ^ (sc.now.horizon - t) * sc.now.sweep.denominator ^ (sc.now.horizon - (length prefix.now + 2)) }
     requires period { IsLater sc.now prefix.now t }
     requires from { a < sc.now.positions }
     requires masses { IsTableFor sc.now prefix.now masses.now }
@@ -21,7 +31,6 @@ fn best_move(sc: &Scenario, prefix: &Path, masses: &[u128], sums: &[u128], t: u3
     ensures { result ≡ greatest_moves sc.now.moves (edge_reward_of sc.now prefix.now) (sc.now.horizon + 1 - t) t a }
 {
     let moves = sc.grid().moves(a);
-    let parts = later_parts(sc, t, prefix.len() as u32 + 2);
     let mut best = 0;
     for b in moves {
         let reward = found_after(sc, prefix, masses, t, a, *b) * parts;
@@ -39,8 +48,9 @@ fn fill_row(row: &mut [u128], sc: &Scenario, prefix: &Path, masses: &[u128], sum
     requires sums { HasSums sc.now prefix.now (t + 1) sums.now }
     ensures { HasSums sc.now prefix.now t row.new }
 {
+    let parts = later_parts(sc, t, prefix.len() as u32 + 2);
     for a in 0..sc.positions() {
-        row[usize::from(a)] = best_move(sc, prefix, masses, sums, t, a);
+        row[usize::from(a)] = best_move(sc, prefix, masses, sums, parts, t, a);
     }
 }
 

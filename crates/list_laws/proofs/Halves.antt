@@ -1,5 +1,5 @@
 -- What holds of two lists one after the other.
-use Rattle.std.proofs.Common.{◌≡◌, List, ◌++◌, arith, subst, length, All, length-append, ◌+◌}
+use Rattle.std.proofs.Common.{List, ◌++◌, arith, subst, length, All, length-append, ◌+◌}
 use Rattle.std.proofs.lemmas.List.{get_or_append_left, get_or-append-add}
 
 -- what holds of all of two joined lists holds of all of the first, and of all of the second

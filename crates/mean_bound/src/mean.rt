@@ -42,14 +42,6 @@ impl Model for Mean {
     ghost view = { λ m. record { trail = m.trail; cells = length m.onward.masses; rewards = m.rewards.items; walk = m.walk } };
 }
 
-/// The last position of a prefix, or the start.
-#[tactic(auto, using(search_model::proofs::LegalLemmas::last_or_start))]
-fn last_or_start(sc: &Scenario, prefix: &Path) -> u8
-    ensures { result ≡ last_of sc.now.start prefix.now }
-{
-    prefix.cells().last().copied().unwrap_or(sc.start())
-}
-
 /// The mean bound of a prefix, by a belief after it. Fills in the rewards after the prefix, and their walks.
 fn bound_by(
     onward: &mut Belief,
@@ -77,7 +69,7 @@ fn bound_by(
     onward.advance_from(sc, row);
     let value = value_by(sc, onward, prefix);
     fill_rewards(rewards, sc, onward, prefix);
-    let from = last_or_start(sc, prefix);
+    let from = sc.last_after(prefix);
     walk.fill(sc.grid(), rewards, from, prefix.len() as u32);
     value + walk.greatest()
 }

@@ -1,6 +1,6 @@
 //! The rewards of looks after a prefix.
 
-ghost use Rattle.std.specs.Prelude.{◌≡◌, ◌<◌, ◌≤◌, ◌+◌, ◌*◌, ◌^◌, ℕ, List, length, slice_index};
+ghost use Rattle.std.specs.Prelude.{◌≡◌, ◌<◌, ◌≤◌, ◌+◌, ◌*◌, ◌^◌, ℕ, length, slice_index};
 ghost use Rattle.belief_update.specs.Trails.{IsAhead};
 ghost use Rattle.mean_bound.specs.Rewards.{HasRewards, found_of};
 

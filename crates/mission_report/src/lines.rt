@@ -1,6 +1,6 @@
 //! The lines of a report: a word and fields, with one blank between.
 
-ghost use Rattle.std.specs.Prelude.{◌≡◌, ◌++◌, ◌∷◌, All, OnOk, OnErr};
+ghost use Rattle.std.specs.Prelude.{◌≡◌, ◌++◌, All, OnOk, OnErr};
 ghost use Rattle.exact_parts.specs.Appending.{AppendsFront};
 ghost use Rattle.mission_report.specs.Lines.{IsField, field_text, line_of};
 

@@ -1,11 +1,9 @@
 ghost use Rattle.std.specs.Prelude.{◌≡◌, ◌≤◌, [], IfOk};
 
+use crate::threads::crosses_threads;
 use drift_chain::{ChangeFault, Drift, DriftChange, DriftFault, DriftPart};
 use std::alloc::{AllocError, Global};
 use std::test::Fail;
-
-// Holds of what may be shared between threads and moved to one.
-fn crosses_threads<T: Send + Sync + Drop>(_value: T) {}
 
 fn row_of(alloc: Global, entries: &[(u8, u32)]) -> Result<Vec<DriftPart>, AllocError> {
     let mut row = Vec::new(alloc);

@@ -1,9 +1,7 @@
+use crate::threads::crosses_threads;
 use search_grid::{Grid, GridFault};
 use std::alloc::{AllocError, Global};
 use std::test::Fail;
-
-// Holds of what may be shared between threads and moved to one.
-fn crosses_threads<T: Send + Sync + Drop>(_value: T) {}
 
 fn rows_of(alloc: Global, lists: &[&[u8]]) -> Result<Vec<Vec<u8>>, AllocError> {
     let mut rows = Vec::new(alloc);

@@ -17,4 +17,6 @@ mod rows;
 #[cfg(test)]
 mod sweeps;
 #[cfg(test)]
+mod threads;
+#[cfg(test)]
 mod widths;

@@ -1,3 +1,4 @@
+use crate::threads::crosses_threads;
 use drift_chain::{Drift, DriftPart};
 use search_grid::Grid;
 use search_model::{ModelFault, Name, Parts, Path, Scenario, Standing, better, starts, value};
@@ -5,9 +6,6 @@ use std::alloc::{AllocError, Global};
 use std::cmp::Ordering;
 use std::test::Fail;
 use sweep_table::Sweep;
-
-// Holds of what may be shared between threads and moved to one.
-fn crosses_threads<T: Send + Sync + Drop>(_value: T) {}
 
 #[test]
 fn a_path_has_at_most_32_positions(rt: HostRuntime) -> Result<(), Fail> {

@@ -1,11 +1,9 @@
 ghost use Rattle.std.specs.Prelude.{◌≡◌, [], IfOk};
 
+use crate::threads::crosses_threads;
 use std::alloc::{AllocError, Global};
 use std::test::Fail;
 use sweep_table::{LookChange, LookChangeFault, LookFault, LookPart, Sweep, SweepFault};
-
-// Holds of what may be shared between threads and moved to one.
-fn crosses_threads<T: Send + Sync + Drop>(_value: T) {}
 
 // Entries of a row: a cell and the part that a look misses there.
 type Entries = &'static [(u8, u32)];

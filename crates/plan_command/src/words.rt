@@ -1,9 +1,9 @@
 //! The words of the command line.
 
-ghost use Rattle.std.specs.Prelude.{◌≡◌, ◌≤◌, [], ◌∷◌, map, codes, IfSome, IfNone, string_bytes};
+ghost use Rattle.std.specs.Prelude.{◌≡◌, ◌≤◌, [], ◌∷◌, map, IfSome, IfNone, string_bytes};
 ghost use Rattle.std.specs.Str.{bytes_eq};
 ghost use Rattle.plan_command.specs.Words.{Spells, SpellNone};
-ghost use Rattle.plan_command.specs.WordReading.{number_within, workers_in, nodes_in, number_in, plan_with_one, plan_with_two, plan_at, alone_at, report_at, make_at, drill_at, request_at};
+ghost use Rattle.plan_command.specs.WordReading.{number_within, workers_in, nodes_in, plan_with_one, plan_with_two, plan_at, alone_at, report_at, make_at, drill_at, request_at};
 
 use crate::request::{MOST_WORKERS, Request, WORKERS};
 use bound_tree::MOST_NODES;

@@ -14,7 +14,7 @@ use Rattle.text_rows.specs.Fields.{is_blank}
 use Rattle.scenario_text.specs.Gives.{TakesLine, ReadsDraft, stop_at}
 use Rattle.scenario_text.specs.State.{State, blank_state}
 use Rattle.scenario_text.specs.Reading.{Front, line_at, lines_at, unless_ended, first_said}
-use Rattle.text_rows.proofs.LineCuts.{lines_of-nil, after_next}
+use Rattle.text_rows.proofs.LineCuts.{after_next}
 
 -- a line with a fault
 pub at_fault : (s : State) (number : ℕ) (line : List ℕ) (lines ls : List (List ℕ)) (kind : TextKind) → ls ≡ line ∷ lines → line_at s line ≡ Err kind → lines_at s number ls ≡ Err (record { line = number; kind = kind })

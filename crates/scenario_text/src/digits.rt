@@ -14,7 +14,7 @@ pub struct Digits {
 }
 
 impl Model for Digits {
-    ghost use Rattle.std.specs.Prelude.{List, ℕ, take, length, ◌≤◌};
+    ghost use Rattle.std.specs.Prelude.{List, ℕ, take, ◌≤◌};
 
     ghost Value = { List ℕ };
 

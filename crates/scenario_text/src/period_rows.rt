@@ -4,8 +4,6 @@ ghost use Rattle.std.specs.Prelude.{◌≡◌, ◌<◌, ◌∷◌, ◌-◌, ◌=
 ghost use Rattle.std.specs.List.{list_any};
 ghost use Rattle.text_rows.specs.Fields.{fields_of as fields_lem};
 ghost use Rattle.exact_parts.specs.Decimal.{number_at as number_at_lem};
-ghost use Rattle.scenario_text.specs.declared.draft.Stage.{Stage};
-ghost use Rattle.scenario_text.specs.declared.draft.TextVersion.{TextVersion};
 ghost use Rattle.scenario_text.specs.State.{state_of, positions_in};
 ghost use Rattle.scenario_text.specs.Sound.{IsSound};
 ghost use Rattle.scenario_text.specs.Gives.{TakesLine};

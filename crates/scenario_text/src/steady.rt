@@ -1,11 +1,10 @@
 //! What a text of version 1 can say: scenarios that are the same in every period.
 
-ghost use Rattle.std.specs.Prelude.{◌≡◌, ◌<◌, ◌≤◌, ◌≢◌, ◌-◌, ◌==◌};
+ghost use Rattle.std.specs.Prelude.{◌≡◌, ◌<◌, ◌≤◌, ◌-◌, ◌==◌};
 ghost use Rattle.std.specs.Cmp.Lexicographic.{pointwise};
 ghost use Rattle.std.specs.List.{list_all, range_with_len};
 ghost use Rattle.std.specs.Str.{bytes_eq};
 ghost use Rattle.drift_chain.specs.DriftRows.{row_of};
-ghost use Rattle.sweep_table.specs.LookParts.{factor_of};
 ghost use Rattle.search_model.specs.Problem.{IsProblem, cell_name, position_name};
 ghost use Rattle.scenario_text.specs.Canonical.{covered, is_same_row as is_same_row_lem, is_as_first, is_steady, covers_itself as covers_itself_lem, is_plain as is_plain_lem};
 

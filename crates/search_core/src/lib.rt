@@ -11,5 +11,4 @@ pub use laws::{
     balanced_is_accepted, balanced_is_live, distinct_live_are_many, runs_are_balanced,
     runs_are_good, runs_are_live,
 };
-pub use lists::extended;
 pub use machine::CoreState;

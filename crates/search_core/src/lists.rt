@@ -3,7 +3,7 @@
 ghost use Rattle.std.specs.Prelude.{◌≡◌, ◌+◌, ◌<◌, ◌≤◌, ◌++◌, ◌∷◌, [], length, map, vec_len, vec_capacity, slice_get, MatchOption, Contains, Some};
 ghost use Rattle.search_core.specs.Counts.{SameItems};
 
-use bound_tree::push_prefix;
+use bound_tree::{extended, push_prefix};
 use search_model::Path;
 
 /// The first place of a prefix in a list.
@@ -27,16 +27,6 @@ pub(crate) fn take_out(list: &mut Vec<Path>, place: usize) -> Path
     ensures len { vec_len list.new + 1 ≡ vec_len list.old }
 {
     list.swap_remove(place)
-}
-
-/// A prefix with one position more.
-pub fn extended(prefix: &Path, d: u8) -> Path
-    requires { length prefix.now < 32 }
-    ensures { result ≡ prefix.now ++ d ∷ [] }
-{
-    let mut child = *prefix;
-    child.push(d);
-    child
 }
 
 /// Adds the children of a prefix by these moves to a list that has room.

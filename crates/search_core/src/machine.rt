@@ -1,6 +1,6 @@
 //! The machine.
 
-ghost use Rattle.std.specs.Prelude.{◌≡◌, ◌↔◌, ◌<◌, ◌≤◌, ◌++◌, ◌∷◌, [], ◌+◌, ℕ, List, map, length, vec_len, vec_capacity, slice_get, Some, Contains, IfOk, OnOk, OnErr, IsErrOf};
+ghost use Rattle.std.specs.Prelude.{◌≡◌, ◌↔◌, ◌<◌, ◌≤◌, ◌++◌, ◌∷◌, [], ◌+◌, ℕ, List, map, length, vec_len, vec_capacity, slice_get, Some, IfOk, OnOk, OnErr, IsErrOf};
 ghost use Rattle.search_model.specs.Legal.{IsLegal};
 ghost use Rattle.bound_tree.specs.Accepts.{expected_by};
 ghost use Rattle.bound_tree.specs.Close.{IsExact};

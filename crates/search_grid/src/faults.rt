@@ -1,6 +1,6 @@
 //! What is wrong with rows of moves.
 
-ghost use Rattle.std.specs.Prelude.{◌≡◌, ℕ, ◌+◌, ◌<◌, ◌≤◌, length, map, IfSome, IfNone, IfErr, OnOk, MatchBool};
+ghost use Rattle.std.specs.Prelude.{◌≡◌, ℕ, ◌<◌, ◌≤◌, length, map, IfSome, IfNone, IfErr, OnOk, MatchBool};
 ghost use Rattle.std.specs.List.Sorted.{IsNonDecreasing, IsStrictlyIncreasing};
 ghost use Rattle.search_grid.specs.Moves.{moves_from, IsMoveRow, IsGrid};
 ghost use Rattle.search_grid.specs.Faults.{HasSameMoves, HasDouble, IsFirstOfRow, IsFirstFault};

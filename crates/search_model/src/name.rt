@@ -1,6 +1,6 @@
 //! Names of cells and of positions.
 
-ghost use Rattle.std.specs.Prelude.{◌≡◌, ◌≤◌, length, IfSome, IfNone};
+ghost use Rattle.std.specs.Prelude.{◌≡◌, length, IfSome, IfNone};
 ghost use Rattle.std.specs.List.{list_all};
 ghost use Rattle.search_model.specs.Names.{IsName, is_name_byte as is_name_byte_lem};
 

@@ -1,6 +1,6 @@
 //! The value of a prefix, by a plain recursion over the target's tracks.
 
-ghost use Rattle.std.specs.Prelude.{◌≡◌, ◌-◌, ◌<◌, ◌≤◌, drop, length, All};
+ghost use Rattle.std.specs.Prelude.{◌≡◌, ◌-◌, ◌<◌, ◌≤◌, drop, All};
 ghost use Rattle.search_model.specs.Legal.{IsLegal};
 ghost use Rattle.search_model.specs.Tracks.{missed_weight, value_of};
 ghost use Rattle.search_model.specs.Following.{look_factor as look_factor_lem, after_of};

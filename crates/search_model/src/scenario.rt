@@ -134,13 +134,6 @@ fn first_repeated(names: &[Name]) -> Option<u8>
     None
 }
 
-/// The last position of a prefix, or the start.
-fn last_or(start: u8, cells: &[u8]) -> u8
-    ensures { result ≡ last_of start cells.now }
-{
-    cells.last().copied().unwrap_or(start)
-}
-
 impl Scenario {
     ghost use Rattle.search_model.specs.declared.scenario.ModelFault.{ModelFault};
     ghost use Rattle.search_model.specs.Parts.{problem_of};
@@ -178,7 +171,6 @@ impl Scenario {
         Ok(Scenario { parts })
     }
 
-    ghost use Rattle.search_grid.specs.Moves.{moves_from};
     ghost use Rattle.search_model.specs.Problem.{IsProblem, first_of, cell_name, position_name};
     ghost use Rattle.search_model.specs.Legal.{IsLegal, moves_after};
     ghost use Rattle.search_model.specs.Tracks.{whole_weight};
@@ -292,14 +284,21 @@ impl Scenario {
         )
     }
 
+    /// Where the searcher is after a prefix: at its last position, or at the start.
+    pub fn last_after(&self, prefix: &Path) -> u8
+        ensures value { result ≡ last_of self.now.start prefix.now }
+        ensures sound { IsProblem self.now }
+    {
+        prefix.cells().last().copied().unwrap_or(self.parts.start)
+    }
+
     /// The moves after a legal prefix: those of its last position, or of the start.
     pub fn moves_after(&self, prefix: &Path) -> &[u8]
         requires { IsLegal self.now prefix.now }
         ensures value { result.now ≡ moves_after self.now prefix.now }
         ensures sound { IsProblem self.now }
     {
-        let last = last_or(self.parts.start, prefix.cells());
-        self.parts.grid.moves(last)
+        self.parts.grid.moves(self.last_after(prefix))
     }
 
     /// Whether a prefix is legal: it follows the moves from the start and isn't longer than the horizon.

@@ -7,8 +7,8 @@ ghost use Rattle.steal_pool.specs.Kits.{put_of};
 ghost use Rattle.search_workers.specs.Children.{Puts, Shares, OnlyPut, Disposes};
 
 use crate::stack::Stack;
+use bound_tree::extended;
 use path_node::children;
-use search_core::extended;
 use search_model::{Path, Scenario};
 use steal_pool::Kit;
 

@@ -1,6 +1,6 @@
 //! Closing a prefix at a desk.
 
-ghost use Rattle.std.specs.Prelude.{◌≡◌, ◌<◌, length, vec_len, vec_capacity, All, Contains};
+ghost use Rattle.std.specs.Prelude.{◌≡◌, ◌<◌, length, vec_len, vec_capacity, All};
 ghost use Rattle.search_model.specs.Legal.{IsLegal};
 ghost use Rattle.node_tickets.specs.Seats.{IsSeatOf as IsTicketOf, MayDraw};
 ghost use Rattle.incumbent_board.specs.Boards.{IsSeatOf, IsSameSeat};

@@ -1,10 +1,8 @@
 //! The workers of a search together.
 
-ghost use Rattle.std.specs.Prelude.{◌≡◌, ℕ, ◌<◌, ◌≤◌, All, IfOk, length, map, slice_index_or};
+ghost use Rattle.std.specs.Prelude.{◌<◌, All};
 ghost use Rattle.std.specs.List.{AllZip};
 ghost use Rattle.std.specs.Thread.{IsSync};
-ghost use Rattle.bound_tree.specs.Close.{IsExact};
-ghost use Rattle.search_workers.specs.Workers.{Went};
 ghost use Rattle.search_workers.specs.Crew.{MayGo};
 ghost use Rattle.search_workers.specs.Runs.{Runs};
 

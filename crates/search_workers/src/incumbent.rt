@@ -1,6 +1,6 @@
 //! The standing that a worker uses.
 
-ghost use Rattle.std.specs.Prelude.{◌≡◌, ◌+◌, ◌-◌, ◌≤◌, ◌^◌, ℕ, length, min, Contains, IsTrue, ◌↔◌};
+ghost use Rattle.std.specs.Prelude.{◌≡◌, ◌+◌, ◌-◌, ◌^◌, ℕ, length, min, IsTrue, ◌↔◌};
 ghost use Rattle.bound_tree.specs.declared.node.Kind.TheVariants.{Whole};
 ghost use Rattle.bound_tree.specs.Close.{IsExact, IsAtLeast};
 ghost use Rattle.incumbent_board.specs.History.{MayStand};

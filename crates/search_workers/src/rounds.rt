@@ -1,6 +1,6 @@
 //! Taking a task from the pool.
 
-ghost use Rattle.std.specs.Prelude.{◌≡◌, ◌-◌, ◌*◌, ◌≤◌, length, IfSome, IfNone};
+ghost use Rattle.std.specs.Prelude.{◌-◌, ◌*◌, ◌≤◌, IfSome, IfNone};
 ghost use Rattle.steal_pool.specs.Kits.{TookOne};
 ghost use Rattle.search_workers.specs.Rounds.{MissedAll, others};
 

@@ -1,6 +1,6 @@
 //! The run of a worker.
 
-ghost use Rattle.std.specs.Prelude.{◌≡◌, ◌<◌, length, All};
+ghost use Rattle.std.specs.Prelude.{◌<◌, length, All};
 ghost use Rattle.search_model.specs.Legal.{IsLegal};
 ghost use Rattle.node_tickets.specs.Seats.{IsSeatOf as IsTicketOf, MayDraw};
 ghost use Rattle.incumbent_board.specs.Boards.{IsSeatOf};

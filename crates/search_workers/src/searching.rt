@@ -1,6 +1,6 @@
 //! The search.
 
-ghost use Rattle.std.specs.Prelude.{◌≡◌, ◌<◌, ◌≤◌, [], length, map, All, Any, IfOk, sum_by};
+ghost use Rattle.std.specs.Prelude.{◌≡◌, ◌<◌, ◌≤◌, length, map, All, IfOk, sum_by};
 ghost use Rattle.search_model.specs.Order.{IsBest};
 ghost use Rattle.bound_tree.specs.Accepts.{Accepts};
 ghost use Rattle.bound_tree.specs.Close.{IsExact, IsAtLeast, IsLive, LetsBranch, HasMoreLive};

@@ -1,7 +1,6 @@
 //! Workers.
 
-ghost use Rattle.std.specs.Prelude.{◌≡◌, ◌<◌, ◌≤◌, [], length, All, IfOk};
-ghost use Rattle.search_model.specs.Legal.{IsLegal};
+ghost use Rattle.std.specs.Prelude.{◌≡◌, ◌<◌, [], IfOk};
 ghost use Rattle.bound_tree.specs.Close.{IsExact};
 ghost use Rattle.steal_pool.specs.News.{IsFresh as IsFreshKit};
 ghost use Rattle.node_tickets.specs.Seats.{IsFresh, IsSeatOf as IsTicketOf, MayDraw};

@@ -1,6 +1,6 @@
 //! A new pool.
 
-ghost use Rattle.std.specs.Prelude.{◌≡◌, ◌+◌, ◌-◌, ◌<◌, ◌≤◌, ◌⊎◌, ℕ, [], length, map, take, drop, IfOk, All};
+ghost use Rattle.std.specs.Prelude.{◌≡◌, ◌+◌, ◌-◌, ◌<◌, ◌≤◌, ◌⊎◌, ℕ, [], length, take, drop, IfOk, All};
 ghost use Rattle.crossbeam_deque.specs.Handles.{view, worker_view, worker_deque, stealer_deque};
 ghost use Rattle.steal_pool.specs.Rule.{takes_of};
 ghost use Rattle.steal_pool.specs.News.{IsNewOwn, IsFresh};

@@ -1,8 +1,8 @@
 //! The end of a pool: all passes come back to their owners, who then know all that was put and taken.
 
-ghost use Rattle.std.specs.Prelude.{◌≡◌, ◌+◌, ◌<◌, ◌≤◌, ◌++◌, ◌⊎◌, ℕ, [], length, map, slice_get, IsPermutation, IfOk, OnOk, Some, All};
+ghost use Rattle.std.specs.Prelude.{◌≡◌, ◌+◌, ◌<◌, ◌≤◌, ◌++◌, ◌⊎◌, ℕ, [], length, slice_get, IsPermutation, IfOk, OnOk, Some, All};
 ghost use Rattle.std.specs.List.{flat_map};
-ghost use Rattle.crossbeam_deque.specs.Handles.{view, worker_view, worker_deque, worker_flavor, stealer_deque};
+ghost use Rattle.crossbeam_deque.specs.Handles.{view, worker_view, worker_flavor, stealer_deque};
 ghost use Rattle.steal_pool.specs.Rule.{ALL, puts_of, takes_of};
 ghost use Rattle.steal_pool.specs.Kits.{put_of, taken_of};
 ghost use Rattle.steal_pool.specs.Pools.{EachAt, IsWhole, IsOwner, IsRest, deques_of, hands_of, robbed_deques, robbed_hands, pool_of, passes_at, with_pass, rest_taken};

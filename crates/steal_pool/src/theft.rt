@@ -1,6 +1,6 @@
 //! A steal.
 
-ghost use Rattle.std.specs.Prelude.{◌≡◌, ◌<◌, ◌∷◌, [], length, map};
+ghost use Rattle.std.specs.Prelude.{◌≡◌, ◌<◌, ◌∷◌, [], length};
 ghost use Rattle.crossbeam_deque.specs.Handles.{view, stealer_deque};
 ghost use Rattle.steal_pool.specs.Rule.{with_task, FirstAtOneMoment, EmptyAtOneMoment};
 ghost use Rattle.steal_pool.specs.Pools.{robbed_deques, robbed_hands};

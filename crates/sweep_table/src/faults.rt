@@ -1,10 +1,10 @@
 //! What is wrong with overlook parts and with rows of looks.
 
-ghost use Rattle.std.specs.Prelude.{◌≡◌, ℕ, ◌<◌, ◌≤◌, ◌↔◌, ◌⊎◌, length, map, slice_index, slice_index_or, IsTrue, IfSome, IfNone, IfErr, OnOk, MatchBool, All};
+ghost use Rattle.std.specs.Prelude.{◌≡◌, ℕ, ◌<◌, ◌≤◌, ◌↔◌, ◌⊎◌, length, map, slice_index, IsTrue, IfSome, IfNone, IfErr, OnOk, MatchBool, All};
 ghost use Rattle.std.specs.List.{AllZip};
 ghost use Rattle.std.specs.List.Sorted.{IsNonDecreasingBy, IsPermutation, IsStrictlyIncreasing};
 ghost use Rattle.sweep_table.specs.LookParts.{looks_over, IsLookRow, IsSweep};
-ghost use Rattle.sweep_table.specs.Faults.{row_at, HasOut, HasDouble, HasOver, HasWrongSizes, IsFirstOfRow, IsFirstFault};
+ghost use Rattle.sweep_table.specs.Faults.{row_at, HasOut, HasDouble, HasOver, IsFirstOfRow, IsFirstFault};
 
 use crate::part::LookPart;
 

@@ -1,6 +1,6 @@
 //! The one rate of the looks of some periods.
 
-ghost use Rattle.std.specs.Prelude.{◌≡◌, ℕ, ◌<◌, ◌≤◌, [], ◌∷◌, map, IfSome, IfNone};
+ghost use Rattle.std.specs.Prelude.{ℕ, ◌<◌, ◌≤◌, [], ◌∷◌, map, IfSome, IfNone};
 ghost use Rattle.sweep_table.specs.LookParts.{IsSweep, IsOneRate};
 ghost use Rattle.sweep_table.specs.Rates.{TellsRate, parts_in_period};
 

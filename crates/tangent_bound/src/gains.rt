@@ -3,7 +3,6 @@
 ghost use Rattle.std.specs.Prelude.{◌≡◌, ◌<◌, ◌≤◌, ◌+◌, ◌-◌, ◌*◌, ◌^◌, ℕ, List, length, slice_index, take, drop, All};
 ghost use Rattle.search_model.specs.Legal.{IsPath};
 ghost use Rattle.search_model.specs.Bounds.{gain_of, sum_along};
-ghost use Rattle.belief_update.specs.Belief.{BeliefState};
 ghost use Rattle.belief_update.specs.Trails.{IsPast};
 ghost use Rattle.backward_mass.specs.Table.{IsMadeFor, IsFilledFrom};
 ghost use Rattle.longest_walk.specs.Sums.{entry_at};

@@ -1,7 +1,7 @@
-//! The rate of a scenario, the last position of a prefix, and a belief along the reference path.
+//! The rate of a scenario, and a belief along the reference path.
 
-ghost use Rattle.std.specs.Prelude.{◌≡◌, ◌<◌, ◌≤◌, ◌+◌, ℕ, take, length};
-ghost use Rattle.search_model.specs.Legal.{IsLegal, last_of};
+ghost use Rattle.std.specs.Prelude.{◌<◌, ◌≤◌, ◌+◌, take, length};
+ghost use Rattle.search_model.specs.Legal.{IsLegal};
 ghost use Rattle.belief_update.specs.Trails.{IsAfter, IsPast};
 ghost use Rattle.tangent_bound.specs.Room.{IsRateFound};
 
@@ -13,14 +13,6 @@ pub(crate) fn one_rate(sc: &Scenario) -> Option<u32>
     ensures { IsRateFound sc.now result }
 {
     sc.sweep().one_rate(sc.horizon())
-}
-
-/// The last position of a prefix, or the start.
-#[tactic(auto, using(search_model::proofs::LegalLemmas::last_or_start))]
-pub(crate) fn last_position(sc: &Scenario, prefix: &Path) -> u8
-    ensures { result ≡ last_of sc.now.start prefix.now }
-{
-    prefix.cells().last().copied().unwrap_or(sc.start())
 }
 
 /// Looks from the next position of a path, in the period after its first `looks` looks.

@@ -8,7 +8,7 @@ ghost use Rattle.backward_mass.specs.Table.{IsMadeFor as IsBackwardFor};
 ghost use Rattle.tangent_bound.specs.Room.{IsMadeFor};
 
 use crate::gains::{fill_after, sum_after};
-use crate::steps::{last_position, one_rate};
+use crate::steps::one_rate;
 use backward_mass::Backward;
 use belief_update::{Belief, follow, value_by};
 use exact_parts::NoMemory;
@@ -83,7 +83,7 @@ fn bound_by(
     let positions = sc.positions();
     fill_after(gains, sc, rate, belief, backward, prefix, reference);
     let k = prefix.len() as u32;
-    walk.fill(sc.grid(), gains, last_position(sc, prefix), k);
+    walk.fill(sc.grid(), gains, sc.last_after(prefix), k);
     let own = sum_after(gains, positions, reference.cells(), k);
     let value = value_by(sc, belief, reference);
     u128::from(sc.sweep().denominator()) * value + walk.greatest() - own

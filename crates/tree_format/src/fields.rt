@@ -1,6 +1,6 @@
 //! Fields in the place of a number or a name.
 
-ghost use Rattle.std.specs.Prelude.{◌≡◌, ◌≤◌, ◌<◌, map, length, IfSome};
+ghost use Rattle.std.specs.Prelude.{◌≡◌, ◌≤◌, ◌<◌, map, length};
 ghost use Rattle.tree_format.specs.Reading.{amount_in as amount_in_lem, place_in as place_in_lem, position_named as position_named_lem, all_of};
 
 use exact_parts::{Number, number_of};

@@ -1,10 +1,8 @@
 //! The lines before the records.
 
-ghost use Rattle.std.specs.Prelude.{◌≡◌, ◌++◌, ◌∷◌, [], map, codes, OnOk, OnErr};
-ghost use Rattle.std.specs.Fmt.{decimal};
+ghost use Rattle.std.specs.Prelude.{◌≡◌, ◌++◌, ◌∷◌, [], OnOk, OnErr};
 ghost use Rattle.exact_parts.specs.Appending.{AppendsFront};
 ghost use Rattle.text_rows.specs.Rows.{text_of};
-ghost use Rattle.search_model.specs.Problem.{position_name};
 ghost use Rattle.tree_format.specs.PlanText.{ArePositions, first_words as first_words_lem, path_rows, chance_row, count_row};
 
 use crate::plan_line::TextVersion;

@@ -1,6 +1,6 @@
 //! Plans from their text.
 
-ghost use Rattle.std.specs.Prelude.{◌≡◌, ◌↔◌, IsTrue, IfOk, All};
+ghost use Rattle.std.specs.Prelude.{◌≡◌, IfOk, All};
 ghost use Rattle.search_model.specs.Legal.{IsLegal};
 ghost use Rattle.bound_tree.specs.declared.plan.Plan.{Plan as PlanLem};
 ghost use Rattle.tree_format.specs.declared.kind.PlanFault.{PlanFault as FaultLem};

@@ -1,6 +1,6 @@
 //! Fields with a blank before them.
 
-ghost use Rattle.std.specs.Prelude.{◌≡◌, ◌++◌, ◌∷◌, [], ◌<◌, map, OnOk, OnErr};
+ghost use Rattle.std.specs.Prelude.{◌≡◌, ◌++◌, ◌∷◌, ◌<◌, map, OnOk, OnErr};
 ghost use Rattle.std.specs.Fmt.{decimal};
 ghost use Rattle.exact_parts.specs.Appending.{AppendsFront};
 ghost use Rattle.text_rows.specs.Rows.{spaced};

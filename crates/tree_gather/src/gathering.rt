@@ -1,6 +1,6 @@
 //! The gathering of records.
 
-ghost use Rattle.std.specs.Prelude.{◌≡◌, []};
+ghost use Rattle.std.specs.Prelude.{[]};
 ghost use Rattle.search_core.specs.Balance.{MeetsEquation};
 ghost use Rattle.tree_gather.specs.Gathered.{IsGathered, IsAcceptedWhereGood};
 

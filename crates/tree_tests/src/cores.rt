@@ -1,28 +1,13 @@
-ghost use Rattle.std.specs.Prelude.{◌≡◌, IfSome};
 ghost use Rattle.bound_tree.specs.Close.{IsExact};
 ghost use Rattle.search_core.specs.Balance.{IsBalanced};
-ghost use Rattle.search_core.specs.Steps.{IsAllowed};
 
-use crate::scenarios::scenario_of;
+use crate::scenarios::{scenario_of, standing_of};
 use bound_tree::{Kind, TreeNode};
 use search_core::{CoreEvent, CoreFault, CoreState};
-use search_model::{Path, Scenario, Standing, value};
+use search_model::{Path, Scenario, Standing};
 use std::alloc::Global;
 use std::test::Fail;
 use worked_scenarios::ONE_CELL;
-
-// A path with its exact value.
-fn standing_of(sc: &Scenario, path: &Path) -> Option<Standing>
-    ensures { IfSome result (IsExact sc.now) }
-{
-    if path.len() != sc.horizon() as usize || !sc.is_legal(path) {
-        return None;
-    }
-    Some(Standing {
-        path: *path,
-        value: value(sc, path),
-    })
-}
 
 fn put(core: &mut CoreState, sc: &Scenario, path: &Path) -> Result<(), CoreFault>
     requires { IsBalanced sc.now core.old }
@@ -134,7 +119,7 @@ fn closes(core: &mut CoreState, sc: &Scenario, whole: &Standing) -> bool
 // Whether the machine closes the path of one cell, which has the value 1.
 fn closes_its_path(alloc: Global, sc: &Scenario) -> Result<bool, Fail> {
     let path = Path::of(&[0]).ok_or("no path")?;
-    let Some(whole) = standing_of(sc, &path) else {
+    let Some(whole) = standing_of(sc, path.cells()) else {
         return Ok(false);
     };
     let mut core = CoreState::start(alloc, sc, whole)?;

@@ -1,11 +1,10 @@
-ghost use Rattle.std.specs.Prelude.{IfSome};
 ghost use Rattle.bound_tree.specs.Close.{IsExact};
 ghost use Rattle.search_core.specs.Balance.{IsBalanced};
 
-use crate::scenarios::scenario_of;
+use crate::scenarios::{scenario_of, standing_of};
 use bound_tree::{BoundTree, Kind, TreeNode};
 use search_core::{CoreEvent, CoreState};
-use search_model::{Path, Scenario, Standing, value};
+use search_model::{Path, Scenario, Standing};
 use std::alloc::Global;
 use std::test::Fail;
 use tree_gather::gather;
@@ -22,20 +21,6 @@ spread 0
 rate 1
 end
 ";
-
-// A path with its exact value.
-fn standing_of(sc: &Scenario, cells: &[u8]) -> Option<Standing>
-    ensures { IfSome result (IsExact sc.now) }
-{
-    let path = Path::of(cells)?;
-    if path.len() != sc.horizon() as usize || !sc.is_legal(&path) {
-        return None;
-    }
-    Some(Standing {
-        path,
-        value: value(sc, &path),
-    })
-}
 
 // Closes the empty prefix as a branch.
 fn branch(core: &mut CoreState, sc: &Scenario) -> bool

@@ -1,7 +1,10 @@
-//! How a scenario is made of its text.
+//! How a scenario is made of its text, and a standing of its path.
+
+ghost use Rattle.std.specs.Prelude.{IfSome};
+ghost use Rattle.bound_tree.specs.Close.{IsExact};
 
 use scenario_text::read_scenario_alone;
-use search_model::Scenario;
+use search_model::{Path, Scenario, Standing, value};
 use std::alloc::Global;
 use std::test::Fail;
 
@@ -11,4 +14,18 @@ pub(crate) fn scenario_of(alloc: Global, text: &str) -> Result<Scenario, Fail> {
         Ok(sc) => Ok(sc),
         Err(_) => Err(Fail::from("no scenario")),
     }
+}
+
+/// A path with its exact value.
+pub(crate) fn standing_of(sc: &Scenario, cells: &[u8]) -> Option<Standing>
+    ensures { IfSome result (IsExact sc.now) }
+{
+    let path = Path::of(cells)?;
+    if path.len() != sc.horizon() as usize || !sc.is_legal(&path) {
+        return None;
+    }
+    Some(Standing {
+        path,
+        value: value(sc, &path),
+    })
 }

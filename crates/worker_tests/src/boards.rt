@@ -1,5 +1,5 @@
 ghost use Rattle.std.specs.Prelude.{ℕ, ◌≡◌, ◌<◌, ◌^◌, length, slice_index_or};
-ghost use Rattle.incumbent_board.specs.Boards.{BoardView, SeatView, AreAllSeats, IsSeatOf, IsSameSeat};
+ghost use Rattle.incumbent_board.specs.Boards.{SeatView, AreAllSeats, IsSeatOf, IsSameSeat};
 
 use incumbent_board::{Board, BoardSeat, Offer};
 use search_model::{Path, Standing};

@@ -23,7 +23,7 @@ fill-requires-clause-from c =
     let p = c.args.sc.now in
     let sound = c.grid.ensures.sound in
     let here = last_within p.moves sound.grid p.start (omega (arith, sound.start, sound.grid_positions)) c.args.prefix.now c.requires.legal.follows in
-    rw (c.last_or_start-from.ensures, c.requires.positions) (omega (arith, here, sound.grid_positions))
+    rw (c.last_after-from.ensures.value, c.requires.positions) (omega (arith, here, sound.grid_positions))
 
 pub fill-requires-clause-fits : goal.fill-requires-clause-fits
 fill-requires-clause-fits c =
@@ -48,7 +48,7 @@ greatest_now c =
     let horizon : c.fill.new.self.horizon ≡ p.horizon = c.fill.ensures.horizon ∙ c.requires.horizon in
     let here = last_within p.moves sound.grid p.start (omega (arith, sound.start, sound.grid_positions)) q c.requires.legal.follows in
     let is = c.greatest.ensures _ _ _ _ c.fill.ensures.filled in
-    rw (positions, horizon, c.grid.ensures.value, c.last_or_start-from.ensures, c.len.ensures.value) at is
+    rw (positions, horizon, c.grid.ensures.value, c.last_after-from.ensures.value, c.len.ensures.value) at is
     ∙ greatest_is p sound q rewards c.fill_rewards.ensures.rewards c.requires.short (last_of p.start q) here
 
 pub overflow_add-result : goal.overflow_add-result

@@ -1,4 +1,4 @@
-use Rattle.std.proofs.Common.{◌≡◌, ◌∙◌, sym, ap}
+use Rattle.std.proofs.Common.{◌∙◌, sym, ap}
 use Rattle.std.proofs.lemmas.Bool.{ne_eqb}
 use Rattle.sweep_table.specs.LookParts.{LookParts}
 use Rattle.scenario_text.proofs.printing.push_covered_part.Goals as goal

@@ -15,7 +15,7 @@ fill_after-requires-clause-rate c =
     rate-le c.args.sc.now c.positions-positions.ensures.sound c.args.rate c.requires.rate
 
 -- the table before the walk is filled
-table : (c : goal.After-last_position) → IsTable c.args.sc.now c.args.rate c.args.prefix.now c.args.reference.now c.fill_after.new.gains
+table : (c : goal.After-last_after) → IsTable c.args.sc.now c.args.rate c.args.prefix.now c.args.reference.now c.fill_after.new.gains
 table c = record { sound = c.positions-positions.ensures.sound; prefix = c.requires.prefix; more = c.requires.open; path = c.requires.path; begins = c.requires.begins; are = c.fill_after.ensures.gains }
 
 pub fill-requires-clause-positions : goal.fill-requires-clause-positions
@@ -26,7 +26,7 @@ fill-requires-clause-positions c =
 pub fill-requires-clause-from : goal.fill-requires-clause-from
 fill-requires-clause-from c =
     let sound = c.positions-positions.ensures.sound in
-    rw (c.last_position.ensures, c.requires.positions) (omega (arith, last_inside (table c), sound.grid_positions))
+    rw (c.last_after.ensures.value, c.requires.positions) (omega (arith, last_inside (table c), sound.grid_positions))
 
 pub fill-requires-clause-fits : goal.fill-requires-clause-fits
 fill-requires-clause-fits c =
@@ -68,8 +68,8 @@ greatest : (c : goal.After-greatest) → let p = c.args.sc.now in let q = c.args
 greatest c =
     let positions : c.fill.new.self.positions ≡ c.args.sc.now.positions = c.fill.ensures.positions ∙ c.requires.positions in
     let horizon : c.fill.new.self.horizon ≡ c.args.sc.now.horizon = c.fill.ensures.horizon ∙ c.requires.horizon in
-    rw (positions, horizon, c.grid.ensures.value, c.last_position.ensures, c.len-k.ensures.value) at
-    (c.greatest.ensures c.grid.result.now c.fill_after.new.gains c.last_position.result c.len-k.result c.fill.ensures.filled)
+    rw (positions, horizon, c.grid.ensures.value, c.last_after.ensures.value, c.len-k.ensures.value) at
+    (c.greatest.ensures c.grid.result.now c.fill_after.new.gains c.last_after.result c.len-k.result c.fill.ensures.filled)
 
 -- the sum along the reference, by the table
 own : (c : goal.After-greatest) → let p = c.args.sc.now in let q = c.args.prefix.now in
