@@ -10,3 +10,4 @@ pub mod BeliefSteps
 pub mod Looks
 pub mod PrefixValues
 pub mod TrailSteps
+pub mod OnwardRows

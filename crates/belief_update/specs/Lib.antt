@@ -1,5 +1,6 @@
 pub mod Masses
 pub mod Belief
 pub mod Trails
+pub mod Onward
 pub mod Laws
 pub mod Worked

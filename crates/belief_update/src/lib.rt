@@ -4,6 +4,7 @@
 mod belief;
 mod count;
 mod laws;
+mod onward;
 mod steps;
 mod trail;
 mod values;
@@ -11,5 +12,6 @@ mod values;
 pub use belief::Belief;
 pub use count::Steps;
 pub use laws::{masses_follow, missed_by_masses, rewards_by_masses, worked_masses};
+pub use onward::Onward;
 pub use trail::Trail;
 pub use values::{follow, later_parts, prefix_value, value_by};

@@ -36,7 +36,11 @@ impl Model for Trail {
 }
 
 /// So many beliefs before the first look.
-fn first_beliefs(alloc: Global, sc: &Scenario, count: u32) -> Result<Vec<Belief>, NoMemory>
+pub(crate) fn first_beliefs(
+    alloc: Global,
+    sc: &Scenario,
+    count: u32,
+) -> Result<Vec<Belief>, NoMemory>
     ensures size { IfOk result (λ beliefs. length beliefs.items ≡ count) }
     ensures each { IfOk result (λ beliefs. All (IsBelief sc.now (None ∷ [])) beliefs.items) }
 {

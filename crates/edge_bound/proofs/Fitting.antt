@@ -19,7 +19,7 @@ use Rattle.search_model.proofs.Greatest.{greatest_below}
 use Rattle.belief_update.specs.Masses.{mass_of, masses_of, looks_to}
 use Rattle.belief_update.proofs.Missed.{missed_by_masses_hold}
 use Rattle.edge_bound.specs.Found.{found_of}
-use Rattle.edge_bound.specs.Onward.{mass_after_look, going_on}
+use Rattle.edge_bound.specs.After.{mass_after_look, going_on}
 use Rattle.edge_bound.specs.Moves.{greatest_moves}
 use Rattle.edge_bound.proofs.Discounts.{reward_is, edge_reward_is, mass_comes, taken_of_mass}
 use Rattle.edge_bound.proofs.Walking.{greatest_moves-zero}

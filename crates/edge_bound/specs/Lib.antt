@@ -1,5 +1,5 @@
 pub mod Found
-pub mod Onward
+pub mod After
 pub mod Moves
 pub mod Edges
 pub mod Worked

@@ -3,52 +3,52 @@
 ghost use Rattle.std.specs.Prelude.{◌≡◌, ◌<◌, ◌+◌, ◌^◌, length, drop, All};
 ghost use Rattle.search_model.specs.Bounds.{reward_of};
 ghost use Rattle.search_model.specs.Edge.{edge_reward_of, edge_sum};
-ghost use Rattle.edge_bound.specs.Onward.{IsTableFor};
+ghost use Rattle.belief_update.specs.Onward.{IsOnward};
 ghost use Rattle.edge_bound.specs.Moves.{IsLater};
 
 use crate::moves::{found_after, found_first};
-use belief_update::later_parts;
+use belief_update::{Onward, later_parts};
 use search_model::{Path, Scenario};
 
 /// The reward of a first look after a prefix, at `b`.
-fn first_reward(sc: &Scenario, prefix: &Path, masses: &[u128], b: u8) -> u128
+fn first_reward(sc: &Scenario, prefix: &Path, onward: &Onward, b: u8) -> u128
     requires short { length prefix.now < sc.now.horizon }
     requires to { b < sc.now.positions }
-    requires masses { IsTableFor sc.now prefix.now masses.now }
+    requires onward { IsOnward sc.now prefix.now onward.now }
     ensures { result ≡ reward_of sc.now prefix.now (length prefix.now + 1) b }
 {
     sc.recall_sound();
     let looks = prefix.len() as u32 + 1;
-    found_first(sc, prefix, masses, b) * later_parts(sc, looks, looks)
+    found_first(sc, prefix, onward, b) * later_parts(sc, looks, looks)
 }
 
 /// The edge reward of a look at `b` in period `t`, after one at `a` in the period before.
-fn next_reward(sc: &Scenario, prefix: &Path, masses: &[u128], t: u32, a: u8, b: u8) -> u128
+fn next_reward(sc: &Scenario, prefix: &Path, onward: &Onward, t: u32, a: u8, b: u8) -> u128
     requires period { IsLater sc.now prefix.now t }
     requires from { a < sc.now.positions }
     requires to { b < sc.now.positions }
-    requires masses { IsTableFor sc.now prefix.now masses.now }
+    requires onward { IsOnward sc.now prefix.now onward.now }
     ensures { result ≡ edge_reward_of sc.now prefix.now t a b }
 {
     sc.recall_sound();
     let parts = later_parts(sc, t, prefix.len() as u32 + 2);
-    found_after(sc, prefix, masses, t, a, b) * parts
+    found_after(sc, prefix, onward, t, a, b) * parts
 }
 
 /// The sum of the edge rewards along a path after a prefix.
-pub(crate) fn sum_after(sc: &Scenario, prefix: &Path, masses: &[u128], path: &[u8]) -> u128
+pub(crate) fn sum_after(sc: &Scenario, prefix: &Path, onward: &Onward, path: &[u8]) -> u128
     requires short { length prefix.now < sc.now.horizon }
     requires whole { length path.now ≡ sc.now.horizon }
     requires within { All (λ a. a < sc.now.positions) path.now }
-    requires masses { IsTableFor sc.now prefix.now masses.now }
+    requires onward { IsOnward sc.now prefix.now onward.now }
     requires fits { edge_sum sc.now prefix.now (drop (length prefix.now) path.now) < 2 ^ 127 }
     ensures { result ≡ edge_sum sc.now prefix.now (drop (length prefix.now) path.now) }
 {
     sc.recall_sound();
     let k = prefix.len();
-    let mut sum = first_reward(sc, prefix, masses, path[k]);
+    let mut sum = first_reward(sc, prefix, onward, path[k]);
     for n in k + 1..path.len() {
-        sum += next_reward(sc, prefix, masses, n as u32 + 1, path[n - 1], path[n]);
+        sum += next_reward(sc, prefix, onward, n as u32 + 1, path[n - 1], path[n]);
     }
     sum
 }

@@ -5,7 +5,6 @@
 mod along;
 mod edge;
 mod laws;
-mod masses;
 mod moves;
 mod rows;
 

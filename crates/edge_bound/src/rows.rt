@@ -4,11 +4,11 @@ ghost use Rattle.std.specs.Prelude.{◌≡◌, ◌<◌, ◌+◌, ◌-◌, ◌*�
 ghost use Rattle.search_model.specs.Legal.{IsLegal, continuations};
 ghost use Rattle.search_model.specs.Bounds.{greatest};
 ghost use Rattle.search_model.specs.Edge.{edge_reward_of, edge_sum};
-ghost use Rattle.edge_bound.specs.Onward.{IsTableFor};
+ghost use Rattle.belief_update.specs.Onward.{IsOnward};
 ghost use Rattle.edge_bound.specs.Moves.{IsLater, HasSums, greatest_moves};
 
 use crate::moves::{found_after, found_first};
-use belief_update::later_parts;
+use belief_update::{Onward, later_parts};
 use search_model::{Path, Scenario};
 
 /// The greatest sum over the walks that go on from position `a` in period `t`, by the sums of the period after it and the
@@ -16,7 +16,7 @@ use search_model::{Path, Scenario};
 fn best_move(
     sc: &Scenario,
     prefix: &Path,
-    masses: &[u128],
+    onward: &Onward,
     sums: &[u128],
     parts: u128,
     t: u32,
@@ -25,7 +25,7 @@ fn best_move(
     requires parts { parts ≡ sc.now.drift.denominator ^ (sc.now.horizon - t) * sc.now.sweep.denominator ^ (sc.now.horizon - (length prefix.now + 2)) }
     requires period { IsLater sc.now prefix.now t }
     requires from { a < sc.now.positions }
-    requires masses { IsTableFor sc.now prefix.now masses.now }
+    requires onward { IsOnward sc.now prefix.now onward.now }
     requires width { length sums.now ≡ sc.now.positions }
     requires sums { HasSums sc.now prefix.now (t + 1) sums.now }
     ensures { result ≡ greatest_moves sc.now.moves (edge_reward_of sc.now prefix.now) (sc.now.horizon + 1 - t) t a }
@@ -33,24 +33,24 @@ fn best_move(
     let moves = sc.grid().moves(a);
     let mut best = 0;
     for b in moves {
-        let reward = found_after(sc, prefix, masses, t, a, *b) * parts;
+        let reward = found_after(sc, prefix, onward, t, a, *b) * parts;
         best = (reward + sums[usize::from(*b)]).max(best);
     }
     best
 }
 
 /// The row of period `t`, by the sums of the period after it.
-fn fill_row(row: &mut [u128], sc: &Scenario, prefix: &Path, masses: &[u128], sums: &[u128], t: u32)
+fn fill_row(row: &mut [u128], sc: &Scenario, prefix: &Path, onward: &Onward, sums: &[u128], t: u32)
     requires size { length row.old ≡ sc.now.positions }
     requires period { IsLater sc.now prefix.now t }
-    requires masses { IsTableFor sc.now prefix.now masses.now }
+    requires onward { IsOnward sc.now prefix.now onward.now }
     requires width { length sums.now ≡ sc.now.positions }
     requires sums { HasSums sc.now prefix.now (t + 1) sums.now }
     ensures { HasSums sc.now prefix.now t row.new }
 {
     let parts = later_parts(sc, t, prefix.len() as u32 + 2);
     for a in 0..sc.positions() {
-        row[usize::from(a)] = best_move(sc, prefix, masses, sums, parts, t, a);
+        row[usize::from(a)] = best_move(sc, prefix, onward, sums, parts, t, a);
     }
 }
 
@@ -60,26 +60,26 @@ pub(crate) fn fill_sums(
     earlier: &mut [u128],
     sc: &Scenario,
     prefix: &Path,
-    masses: &[u128],
+    onward: &Onward,
 )
     requires short { length prefix.now < sc.now.horizon }
     requires width { length sums.old ≡ sc.now.positions }
     requires room { length earlier.old ≡ sc.now.positions }
-    requires masses { IsTableFor sc.now prefix.now masses.now }
+    requires onward { IsOnward sc.now prefix.now onward.now }
     ensures { HasSums sc.now prefix.now (length prefix.now + 2) sums.new }
 {
     sums.fill(0);
     for t in (prefix.len() as u32 + 1..sc.horizon()).rev() {
-        fill_row(earlier, sc, prefix, masses, sums, t + 1);
+        fill_row(earlier, sc, prefix, onward, sums, t + 1);
         sums.copy_from_slice(earlier);
     }
 }
 
 /// The greatest sum of edge rewards over the continuations of a prefix, by the sums of the second period after it.
-pub(crate) fn best_first(sc: &Scenario, prefix: &Path, masses: &[u128], sums: &[u128]) -> u128
+pub(crate) fn best_first(sc: &Scenario, prefix: &Path, onward: &Onward, sums: &[u128]) -> u128
     requires legal { IsLegal sc.now prefix.now }
     requires short { length prefix.now < sc.now.horizon }
-    requires masses { IsTableFor sc.now prefix.now masses.now }
+    requires onward { IsOnward sc.now prefix.now onward.now }
     requires width { length sums.now ≡ sc.now.positions }
     requires sums { HasSums sc.now prefix.now (length prefix.now + 2) sums.now }
     ensures { result ≡ greatest (map (edge_sum sc.now prefix.now) (continuations sc.now prefix.now)) }
@@ -89,7 +89,7 @@ pub(crate) fn best_first(sc: &Scenario, prefix: &Path, masses: &[u128], sums: &[
     let parts = later_parts(sc, looks, looks);
     let mut best = 0;
     for b in moves {
-        let first = found_first(sc, prefix, masses, *b) * parts;
+        let first = found_first(sc, prefix, onward, *b) * parts;
         best = (first + sums[usize::from(*b)]).max(best);
     }
     best

@@ -4,27 +4,29 @@ use Rattle.search_model.specs.Problem.{Problem}
 use Rattle.search_model.specs.Legal.{last_of, IsLegal}
 use Rattle.longest_walk.specs.Tables.{Tables, IsFilled}
 use Rattle.belief_update.specs.Trails.{TrailState, IsTrailOf}
+use Rattle.belief_update.specs.Onward.{OnwardState, IsOnward, IsMadeFor as IsOnwardFor}
 use Rattle.mean_bound.specs.Rewards.{HasRewards}
 
--- the beliefs along the last prefix, the number of cells, the rewards after the last prefix that was bounded, and the
--- walks of these rewards
+-- the beliefs along the last prefix, the beliefs and the rewards after the last prefix that was bounded, and the walks of
+-- these rewards
 pub record MeanState : Type 0 where
   pub trail : TrailState
-  pub cells : ℕ
+  pub onward : OnwardState
   pub rewards : List ℕ
   pub walk : Tables
 
 -- the tables are for this scenario, and the beliefs that they keep are right in it
 pub record IsMadeFor (p : Problem) (m : MeanState) : Type 0 where
   pub trail : IsTrailOf p m.trail
-  pub cells : m.cells ≡ p.cells
+  pub onward : IsOnwardFor p m.onward
   pub size : length m.rewards ≡ p.horizon * p.positions
   pub positions : m.walk.positions ≡ p.positions
   pub horizon : m.walk.horizon ≡ p.horizon
 
--- the tables hold the rewards after this legal prefix, and the walks of these rewards from its last position
+-- the tables hold the beliefs and the rewards after this legal prefix, and the walks of these rewards from its last position
 pub record IsFilledFor (p : Problem) (q : List ℕ) (m : MeanState) : Type 0 where
   pub legal : IsLegal p q
   pub short : length q < p.horizon
+  pub onward : IsOnward p q m.onward
   pub rewarded : HasRewards p q m.rewards
   pub walked : IsFilled m.walk p.moves m.rewards (last_of p.start q) (length q)

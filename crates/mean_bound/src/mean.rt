@@ -6,10 +6,11 @@ ghost use Rattle.search_model.specs.Tracks.{value_of};
 ghost use Rattle.search_model.specs.Bounds.{mean_of};
 ghost use Rattle.longest_walk.specs.Tables.{IsFilled};
 ghost use Rattle.belief_update.specs.Trails.{IsPast};
+ghost use Rattle.belief_update.specs.Onward.{IsOnward, IsMadeFor as IsOnwardFor};
 ghost use Rattle.mean_bound.specs.Rewards.{HasRewards};
 
 use crate::rewards::fill_rewards;
-use belief_update::{Belief, Trail, value_by};
+use belief_update::{Belief, Onward, Trail, value_by};
 use exact_parts::NoMemory;
 use longest_walk::Walk;
 use search_model::{Path, Scenario};
@@ -28,30 +29,29 @@ use std::marker::Model;
 #[derive(Drop)]
 pub struct Mean {
     trail: Trail,
-    onward: Belief,
+    onward: Onward,
     rewards: Vec<u128>,
     walk: Walk,
 }
 
 impl Model for Mean {
-    ghost use Rattle.std.specs.Prelude.{length};
     ghost use Rattle.mean_bound.specs.Means.{MeanState};
 
     ghost Value = { MeanState };
 
-    ghost view = { λ m. record { trail = m.trail; cells = length m.onward.masses; rewards = m.rewards.items; walk = m.walk } };
+    ghost view = { λ m. record { trail = m.trail; onward = m.onward; rewards = m.rewards.items; walk = m.walk } };
 }
 
-/// The mean bound of a prefix, by a belief after it. Fills in the rewards after the prefix, and their walks.
+/// The mean bound of a prefix, by a belief after it. Fills in the beliefs and the rewards after the prefix, and their walks.
 fn bound_by(
-    onward: &mut Belief,
+    onward: &mut Onward,
     rewards: &mut [u128],
     walk: &mut Walk,
     sc: &Scenario,
     row: &Belief,
     prefix: &Path,
 ) -> u128
-    requires onward { length onward.old.masses ≡ sc.now.cells }
+    requires onward { IsOnwardFor sc.now onward.old }
     requires size { length rewards.old ≡ sc.now.horizon * sc.now.positions }
     requires positions { walk.old.positions ≡ sc.now.positions }
     requires horizon { walk.old.horizon ≡ sc.now.horizon }
@@ -60,14 +60,15 @@ fn bound_by(
     requires row { IsPast sc.now prefix.now row.now }
     requires near { row.now.period ≤ length prefix.now + 1 }
     ensures bound { result ≡ mean_of sc.now prefix.now }
-    ensures onward { length onward.new.masses ≡ sc.now.cells }
+    ensures made { IsOnwardFor sc.now onward.new }
+    ensures onward { IsOnward sc.now prefix.now onward.new }
     ensures rewards { HasRewards sc.now prefix.now rewards.new }
     ensures walked { IsFilled walk.new sc.now.moves rewards.new (last_of sc.now.start prefix.now) (length prefix.now) }
     ensures positions { walk.new.positions ≡ sc.now.positions }
     ensures horizon { walk.new.horizon ≡ sc.now.horizon }
 {
-    onward.advance_from(sc, row);
-    let value = value_by(sc, onward, prefix);
+    onward.go_by(sc, row, prefix);
+    let value = onward.value(sc, prefix);
     fill_rewards(rewards, sc, onward, prefix);
     let from = sc.last_after(prefix);
     walk.fill(sc.grid(), rewards, from, prefix.len() as u32);
@@ -86,7 +87,7 @@ impl Mean {
         let horizon = sc.horizon();
         Ok(Mean {
             trail: Trail::tables(alloc, sc)?,
-            onward: Belief::start(alloc, sc)?,
+            onward: Onward::tables(alloc, sc)?,
             rewards: vec![in alloc; 0; horizon as usize * usize::from(positions)]?,
             walk: Walk::tables(alloc, positions, horizon)?,
         })
@@ -145,6 +146,13 @@ impl Mean {
     {
         self.trail.go_to(sc, prefix);
         value_by(sc, self.trail.row(prefix.len()), prefix)
+    }
+
+    /// The beliefs of the periods after the last prefix that was bounded, with no look after it.
+    pub fn onward(&self) -> &Onward
+        ensures { result.now ≡ self.now.onward }
+    {
+        &self.onward
     }
 
     /// Adds to the last prefix that was bounded the least of its continuations that reach the greatest sum of rewards.

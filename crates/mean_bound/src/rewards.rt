@@ -1,10 +1,10 @@
 //! The rewards of looks after a prefix.
 
 ghost use Rattle.std.specs.Prelude.{◌≡◌, ◌<◌, ◌≤◌, ◌+◌, ◌*◌, ◌^◌, ℕ, length, slice_index};
-ghost use Rattle.belief_update.specs.Trails.{IsAhead};
+ghost use Rattle.belief_update.specs.Onward.{IsOnward};
 ghost use Rattle.mean_bound.specs.Rewards.{HasRewards, found_of};
 
-use belief_update::{Belief, later_parts};
+use belief_update::{Belief, Onward, later_parts};
 use search_model::{Path, Scenario};
 
 /// What a look from position `a` finds of the masses, cell by cell of its row.
@@ -57,31 +57,21 @@ fn fill_period(rewards: &mut [u128], sc: &Scenario, belief: &Belief, row: usize,
     }
 }
 
-/// Fills in the rewards of all periods after a prefix, by the belief ahead of its next look, which drifts on without
-/// looks.
-pub(crate) fn fill_rewards(rewards: &mut [u128], sc: &Scenario, onward: &mut Belief, prefix: &Path)
+/// Fills in the rewards of all periods after a prefix, by the beliefs in them.
+pub(crate) fn fill_rewards(rewards: &mut [u128], sc: &Scenario, onward: &Onward, prefix: &Path)
     requires short { length prefix.now < sc.now.horizon }
     requires size { length rewards.old ≡ sc.now.horizon * sc.now.positions }
-    requires belief { IsAhead sc.now prefix.now onward.old }
+    requires onward { IsOnward sc.now prefix.now onward.now }
     ensures rewards { HasRewards sc.now prefix.now rewards.new }
-    ensures cells { length onward.new.masses ≡ sc.now.cells }
 {
     let positions = usize::from(sc.positions());
     // A reward counts the looks of the prefix, and its own.
     let looks = prefix.len() as u32 + 1;
-    fill_period(
-        rewards,
-        sc,
-        onward,
-        prefix.len() * positions,
-        later_parts(sc, looks, looks),
-    );
-    for t in looks..sc.horizon() {
-        onward.drift(sc);
+    for t in prefix.len() as u32..sc.horizon() {
         fill_period(
             rewards,
             sc,
-            onward,
+            onward.at(t + 1),
             t as usize * positions,
             later_parts(sc, t + 1, looks),
         );

@@ -94,7 +94,7 @@ fn close_by_edge(
     standing: &Standing,
 ) -> Kind
     requires made { IsMadeFor sc.now scratch.old }
-    requires there { scratch.old.trail.prefix ≡ prefix.now }
+    requires filled { IsFilledFor sc.now prefix.now scratch.old.mean }
     requires legal { IsLegal sc.now prefix.now }
     requires shorter { length prefix.now < sc.now.horizon }
     requires reference { IsReference sc.now prefix.now reference.now }
@@ -104,11 +104,11 @@ fn close_by_edge(
     ensures made { IsMadeFor sc.now scratch.new }
 {
     sc.recall_sound();
-    let ahead = ahead_of(&scratch.trail, sc, prefix);
+    let onward = scratch.mean.onward();
     let enough = standing.value + 1;
     let edge = scratch
         .edge
-        .bound_or_enough(sc, ahead, prefix, reference, enough);
+        .bound_or_enough(sc, onward, prefix, reference, enough);
     if cuts(standing, edge, prefix) {
         Kind::Edge(edge)
     } else {
@@ -127,6 +127,7 @@ fn close_by_tangent(
 ) -> Kind
     requires made { IsMadeFor sc.now scratch.old }
     requires there { scratch.old.trail.prefix ≡ prefix.now }
+    requires filled { IsFilledFor sc.now prefix.now scratch.old.mean }
     requires rate { (rate : ℕ) × IsRate sc.now rate }
     requires legal { IsLegal sc.now prefix.now }
     requires shorter { length prefix.now < sc.now.horizon }

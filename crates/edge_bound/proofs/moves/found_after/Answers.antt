@@ -2,7 +2,7 @@ use Rattle.std.proofs.Common.{◌≡◌, ◌*◌, sym, refl, arith}
 use Rattle.search_model.proofs.LookRows.{own_cell, own_part-le, sum_own}
 use Rattle.search_model.proofs.Totals.{whole_weight-fits}
 use Rattle.edge_bound.specs.Found.{found_in, found_of}
-use Rattle.edge_bound.specs.Onward.{mass_after_look}
+use Rattle.edge_bound.specs.After.{mass_after_look}
 use Rattle.edge_bound.proofs.Discounts.{edge_reward_is}
 use Rattle.edge_bound.proofs.Fitting.{found_after-within}
 use Rattle.edge_bound.proofs.moves.found_after.Goals as goal

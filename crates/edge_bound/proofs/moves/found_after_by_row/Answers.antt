@@ -5,7 +5,7 @@ use Rattle.sweep_table.specs.LookParts.{look_row}
 use Rattle.search_model.specs.Tracks.{whole_weight}
 use Rattle.search_model.proofs.Totals.{whole_weight-fits}
 use Rattle.edge_bound.specs.Found.{found_in, found_of}
-use Rattle.edge_bound.specs.Onward.{mass_after_look}
+use Rattle.edge_bound.specs.After.{mass_after_look}
 use Rattle.edge_bound.proofs.Discounts.{edge_reward_is}
 use Rattle.edge_bound.proofs.Fitting.{found_after-within}
 use Rattle.edge_bound.proofs.moves.found_after_by_row.Goals as goal

@@ -1,6 +1,6 @@
 use Rattle.std.proofs.Common.{◌≡◌, sum_by, take}
 use Rattle.edge_bound.specs.Found.{found_in}
-use Rattle.edge_bound.specs.Onward.{mass_after_look}
+use Rattle.edge_bound.specs.After.{mass_after_look}
 use Rattle.edge_bound.proofs.moves.found_after_by_row.Given as goal
 
 -- what is found in the cells so far

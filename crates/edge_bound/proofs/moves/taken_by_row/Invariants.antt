@@ -1,6 +1,6 @@
 use Rattle.std.proofs.Common.{◌≡◌, sum_by, take}
 use Rattle.edge_bound.specs.Found.{found_in}
-use Rattle.edge_bound.specs.Onward.{going_on}
+use Rattle.edge_bound.specs.After.{going_on}
 use Rattle.edge_bound.proofs.moves.taken_by_row.Given as goal
 
 -- what comes of the cells so far

@@ -4,19 +4,9 @@ use Rattle.search_model.specs.Bounds.{reward_of}
 use Rattle.search_model.proofs.LegalLemmas.{last_within}
 use Rattle.longest_walk.specs.Sums.{entry_at, highest_sum}
 use Rattle.search_model.specs.Reference.{greatest_sum}
-use Rattle.belief_update.proofs.PrefixValues.{past_ahead}
-use Rattle.belief_update.proofs.TrailSteps.{ready_ahead}
 use Rattle.mean_bound.proofs.Fitting.{highest-le, greatest-le, weights_fit}
 use Rattle.mean_bound.proofs.Walked.{greatest_is}
 use Rattle.mean_bound.proofs.mean.bound_by.Goals as goal
-
-pub value_by-value-requires : goal.value_by-value-requires
-value_by-value-requires c =
-    let onward = c.advance_from.new.self in
-    past_ahead c.args.sc.now c.args.prefix.now onward (ready_ahead c.args.sc.now c.args.prefix.now c.args.row.now onward c.requires.row c.requires.near c.advance_from.ensures.belief)
-
-pub fill_rewards-requires-clause-belief : goal.fill_rewards-requires-clause-belief
-fill_rewards-requires-clause-belief c = ready_ahead c.args.sc.now c.args.prefix.now c.args.row.now c.advance_from.new.self c.requires.row c.requires.near c.advance_from.ensures.belief
 
 pub fill-requires-clause-from : goal.fill-requires-clause-from
 fill-requires-clause-from c =
@@ -59,7 +49,7 @@ overflow_add-result c =
     let here = last_within p.moves sound.grid p.start (omega (arith, sound.start, sound.grid_positions)) q c.requires.legal.follows in
     let most = greatest-le p sound q (last_of p.start q) c.requires.short here in
     let fits = weights_fit p sound q (p.horizon - length q) (omega arith) in
-    rw (greatest_now c, c.value_by-value.ensures) (omega (arith, most, fits))
+    rw (greatest_now c, c.value-value.ensures) (omega (arith, most, fits))
 
 pub returns-clause-bound : goal.returns-clause-bound
-returns-clause-bound c = rw (c.value_by-value.ensures, greatest_now c) refl
+returns-clause-bound c = rw (c.value-value.ensures, greatest_now c) refl

@@ -1,0 +1,24 @@
+use Rattle.std.proofs.Common.{◌≡◌, ◌<◌, ◌≤◌, ◌+◌, length, arith}
+use Rattle.std.proofs.lemmas.List.Elements.{All-set}
+use Rattle.belief_update.specs.Masses.{looks_to}
+use Rattle.belief_update.specs.Belief.{BeliefState, IsBelief}
+use Rattle.belief_update.proofs.Looks.{looks_to-drift}
+use Rattle.belief_update.proofs.OnwardRows.{row_more}
+use Rattle.belief_update.proofs.onward.fill_rows.Goals as goal
+
+-- one period more
+pub loop-t-preserved : goal.loop-t-preserved
+loop-t-preserved c =
+    let p = c.args.sc.now in
+    let q = c.args.prefix.now in
+    let t = c.loop-t.t in
+    let after : length q ≤ t = omega (arith, c.len.ensures.value, c.loop-t.auto.t) in
+    let here : t < length c.loop-t.rows = omega (arith, c.loop-t-test.true, c.loop-t.auto.rows) in
+    let belief : IsBelief p (looks_to (t + 1) q) c.drift.new.self = rw (looks_to-drift t q after) (c.drift.ensures.belief _ c.loop-t.invariant.belief) in
+    let copied : IsBelief p (looks_to (t + 1) q) c.copy_from-in-loop-t.new.self = rw c.copy_from-in-loop-t.ensures belief in
+    let HasCells : BeliefState → Type 0 = λ b. length b.masses ≡ p.cells in
+    record {
+      belief = belief;
+      cells = All-set HasCells c.loop-t.rows t c.copy_from-in-loop-t.new.self copied.cells c.loop-t.invariant.cells;
+      each = row_more p q t c.loop-t.rows c.copy_from-in-loop-t.new.self here c.loop-t.invariant.each copied;
+    }

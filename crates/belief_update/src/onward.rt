@@ -1,0 +1,121 @@
+//! Beliefs after a prefix, period by period.
+
+ghost use Rattle.std.specs.Prelude.{◌≡◌, ◌<◌, ◌≤◌, ◌+◌, ◌-◌, length, IfOk};
+ghost use Rattle.search_model.specs.Legal.{IsLegal};
+ghost use Rattle.search_model.specs.Tracks.{value_of};
+ghost use Rattle.belief_update.specs.Trails.{IsPast, IsAhead, HaveAllCells, row_at};
+ghost use Rattle.belief_update.specs.Onward.{AreOnwardTo};
+
+use crate::belief::Belief;
+use crate::trail::first_beliefs;
+use crate::values::{follow, value_by};
+use exact_parts::NoMemory;
+use search_model::{Path, Scenario};
+use std::alloc::Global;
+use std::marker::Model;
+
+/// The beliefs of the periods after a prefix, each before the look of its period and with no look after the prefix. The
+/// bounds of a prefix are made of their masses.
+#[derive(Drop)]
+pub struct Onward {
+    // The belief that goes on from period to period.
+    belief: Belief,
+    // Per period, the belief in it. Only those of the periods after the prefix are right.
+    rows: Vec<Belief>,
+}
+
+impl Model for Onward {
+    ghost use Rattle.belief_update.specs.Onward.{OnwardState};
+
+    ghost Value = { OnwardState };
+
+    ghost view = { λ o. record { belief = o.belief; rows = o.rows.items } };
+}
+
+/// Writes the beliefs of all periods after a prefix, by the belief ahead of its next look, which drifts on without looks.
+fn fill_rows(rows: &mut [Belief], belief: &mut Belief, sc: &Scenario, prefix: &Path)
+    requires short { length prefix.now < sc.now.horizon }
+    requires size { length rows.old ≡ sc.now.horizon }
+    requires cells { HaveAllCells sc.now rows.old }
+    requires belief { IsAhead sc.now prefix.now belief.old }
+    ensures rows { AreOnwardTo sc.now prefix.now sc.now.horizon rows.new }
+    ensures cells { HaveAllCells sc.now rows.new }
+    ensures belief { length belief.new.masses ≡ sc.now.cells }
+{
+    rows[prefix.len()].copy_from(belief);
+    for t in prefix.len() + 1..rows.len() {
+        belief.drift(sc);
+        rows[t].copy_from(belief);
+    }
+}
+
+impl Onward {
+    ghost use Rattle.belief_update.specs.Onward.{IsMadeFor, IsOnward};
+
+    /// Room for the periods of a scenario. Only this call takes memory.
+    pub fn tables(alloc: Global, sc: &Scenario) -> Result<Onward, NoMemory>
+        ensures { IfOk result (IsMadeFor sc.now) }
+    {
+        Ok(Onward {
+            belief: Belief::start(alloc, sc)?,
+            rows: first_beliefs(alloc, sc, sc.horizon())?,
+        })
+    }
+
+    /// Goes on through the periods after a prefix, where the belief is after it.
+    fn go_on(&mut self, sc: &Scenario, prefix: &Path)
+        requires made { IsMadeFor sc.now self.old }
+        requires short { length prefix.now < sc.now.horizon }
+        requires after { IsPast sc.now prefix.now self.old.belief }
+        requires near { self.old.belief.period ≤ length prefix.now + 1 }
+        ensures made { IsMadeFor sc.now self.new }
+        ensures onward { IsOnward sc.now prefix.now self.new }
+    {
+        self.belief.advance(sc);
+        fill_rows(&mut self.rows, &mut self.belief, sc, prefix);
+    }
+
+    /// Goes to a legal prefix that is shorter than the horizon, by a belief after it, in the period of its last look or in
+    /// the next one.
+    pub fn go_by(&mut self, sc: &Scenario, after: &Belief, prefix: &Path)
+        requires made { IsMadeFor sc.now self.old }
+        requires short { length prefix.now < sc.now.horizon }
+        requires after { IsPast sc.now prefix.now after.now }
+        requires near { after.now.period ≤ length prefix.now + 1 }
+        ensures made { IsMadeFor sc.now self.new }
+        ensures onward { IsOnward sc.now prefix.now self.new }
+    {
+        self.belief.copy_from(after);
+        self.go_on(sc, prefix);
+    }
+
+    /// Goes to a legal prefix that is shorter than the horizon, along it from the start.
+    pub fn go_to(&mut self, sc: &Scenario, prefix: &Path)
+        requires made { IsMadeFor sc.now self.old }
+        requires legal { IsLegal sc.now prefix.now }
+        requires short { length prefix.now < sc.now.horizon }
+        ensures made { IsMadeFor sc.now self.new }
+        ensures onward { IsOnward sc.now prefix.now self.new }
+    {
+        follow(sc, &mut self.belief, prefix);
+        self.go_on(sc, prefix);
+    }
+
+    /// The belief in a period after the prefix.
+    pub fn at(&self, t: u32) -> &Belief
+        requires first { 1 ≤ t }
+        requires last { t ≤ length self.now.rows }
+        ensures { result.now ≡ row_at self.now.rows (t - 1) }
+    {
+        &self.rows[t as usize - 1]
+    }
+
+    /// The value of the prefix, in parts of the whole weight.
+    pub fn value(&self, sc: &Scenario, prefix: &Path) -> u128
+        requires short { length prefix.now < sc.now.horizon }
+        requires onward { IsOnward sc.now prefix.now self.now }
+        ensures { result ≡ value_of sc.now prefix.now }
+    {
+        value_by(sc, self.at(prefix.len() as u32 + 1), prefix)
+    }
+}
