@@ -1,5 +1,5 @@
 """A checker of plans of its own, written from docs/FORMATS.md and from what the bounds are, by exact whole numbers."""
-import paths
+from desk import paths
 
 
 def greatest(sc, position, rewards):

@@ -1,0 +1,1 @@
+"""What stands before and behind the proved program: readers and writers of its texts, and what people see of them."""
