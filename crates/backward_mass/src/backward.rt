@@ -31,7 +31,11 @@ impl Model for Backward {
 
     ghost view = { λ b. record { cells = b.cells; horizon = b.horizon; masses = b.masses.items } };
 
-    ghost invariant = { λ b. record { size : length b.masses.items ≡ b.horizon * b.cells; spare : length b.missed.items ≡ b.cells } };
+    ghost invariant = { λ b. record {
+      size : length b.masses.items ≡
+          b.horizon * b.cells;
+      spare : length b.missed.items ≡ b.cells;
+    } };
 }
 
 impl Backward {
@@ -75,8 +79,10 @@ impl Backward {
         requires first { 1 ≤ t }
         requires last { t ≤ self.now.horizon }
         requires cell { c < self.now.cells }
-        ensures mass { (p : Problem) (q : List ℕ) (k : ℕ) → IsFilledFrom p q k self.now → k ≤ t → result ≡ backward_of p q t c }
-        ensures fits { (p : Problem) (q : List ℕ) (k : ℕ) → IsProblem p → IsFilledFrom p q k self.now → k ≤ t → result < 2 ^ 127 }
+        ensures mass { (p : Problem) (q : List ℕ) (k : ℕ) → IsFilledFrom p q k self.now → k ≤ t →
+            result ≡ backward_of p q t c }
+        ensures fits { (p : Problem) (q : List ℕ) (k : ℕ) → IsProblem p → IsFilledFrom p q k self.now → k ≤ t →
+            result < 2 ^ 127 }
     {
         self.masses[(t as usize - 1) * usize::from(self.cells) + usize::from(c)]
     }

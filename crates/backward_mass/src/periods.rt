@@ -8,7 +8,7 @@ ghost use Rattle.backward_mass.specs.Table.{IsRow, IsMissedRow, AreRowsFrom};
 
 use search_model::Scenario;
 
-/// How much of a target in cell `d` the look after period `t` misses, out of the denominator.
+// How much of a target in cell `d` the look after period `t` misses, out of the denominator.
 fn next_factor(sc: &Scenario, looks: &[u8], t: u32, d: u8) -> u32
     requires path { IsPath sc.now looks.now }
     requires more { t < sc.now.horizon }
@@ -18,7 +18,7 @@ fn next_factor(sc: &Scenario, looks: &[u8], t: u32, d: u8) -> u32
     sc.sweep().factor(t + 1, looks[t as usize], d)
 }
 
-/// Writes into `missed` what the look after period `t` misses of each mass of the next period, which stand from `next` on.
+// Writes into `missed` what the look after period `t` misses of each mass of the next period, which stand from `next` on.
 fn weigh(missed: &mut [u128], sc: &Scenario, looks: &[u8], masses: &[u128], next: usize, t: u32)
     requires path { IsPath sc.now looks.now }
     requires first { 1 ≤ t }
@@ -36,7 +36,7 @@ fn weigh(missed: &mut [u128], sc: &Scenario, looks: &[u8], masses: &[u128], next
     }
 }
 
-/// The mass of cell `c` in period `t`, by what the look after it misses of the masses of the next period.
+// The mass of cell `c` in period `t`, by what the look after it misses of the masses of the next period.
 fn mass_before(sc: &Scenario, missed: &[u128], t: u32, c: u8) -> u128
     requires missed { (q : List ℕ) × IsPath sc.now q × IsMissedRow sc.now q t missed.now }
     requires size { length missed.now ≡ sc.now.cells }
@@ -52,7 +52,7 @@ fn mass_before(sc: &Scenario, missed: &[u128], t: u32, c: u8) -> u128
     sum
 }
 
-/// Writes the masses of period `t` from `here` on, where those of the next period stand right behind them.
+// Writes the masses of period `t` from `here` on, where those of the next period stand right behind them.
 fn fill_period(
     masses: &mut [u128],
     missed: &mut [u128],
@@ -78,7 +78,7 @@ fn fill_period(
     }
 }
 
-/// Writes the masses of the last period, of so many cells, from `here` on: one each, since nothing follows.
+// Writes the masses of the last period, of so many cells, from `here` on: one each, since nothing follows.
 fn fill_last(masses: &mut [u128], here: usize, cells: u8)
     requires { here + cells ≤ length masses.old }
     ensures size { length masses.new ≡ length masses.old }

@@ -34,10 +34,14 @@ impl Model for Belief {
 
     ghost view = { λ b. record { period = b.period; looked = b.looked; masses = b.masses.items } };
 
-    ghost invariant = { λ b. record { spare : length b.next.items ≡ length b.masses.items; fits : sum b.masses.items < 2 ^ 127 } };
+    ghost invariant = { λ b. record {
+      spare : length b.next.items ≡ length b.masses.items;
+      fits : sum b.masses.items <
+          2 ^ 127;
+    } };
 }
 
-/// The first masses: the target's parts in period 1.
+// The first masses: the target's parts in period 1.
 fn first_masses(masses: &mut [u128], sc: &Scenario)
     requires { length masses.old ≡ sc.now.cells }
     ensures each { (c : ℕ) → c < sc.now.cells → slice_index masses.new c ≡ first_of sc.now c }
@@ -79,7 +83,8 @@ impl Belief {
     pub fn look(&mut self, sc: &Scenario, position: u8)
         requires belief { IsUnlooked sc.now self.old }
         requires position { position < sc.now.positions }
-        ensures belief { (looks : List (Option ℕ)) → IsBelief sc.now (looks ++ None ∷ []) self.old → IsBelief sc.now (looks ++ Some position ∷ []) self.new }
+        ensures belief { (looks : List (Option ℕ)) → IsBelief sc.now (looks ++ None ∷ []) self.old →
+            IsBelief sc.now (looks ++ Some position ∷ []) self.new }
         ensures period { self.new.period ≡ self.old.period }
     {
         steps::weaken(&mut self.masses, sc.sweep(), self.period, position);
@@ -90,7 +95,8 @@ impl Belief {
     pub fn drift(&mut self, sc: &Scenario)
         requires belief { IsReached sc.now self.old }
         requires period { self.old.period < sc.now.horizon }
-        ensures belief { (looks : List (Option ℕ)) → IsBelief sc.now looks self.old → IsBelief sc.now (looks ++ None ∷ []) self.new }
+        ensures belief { (looks : List (Option ℕ)) → IsBelief sc.now looks self.old →
+            IsBelief sc.now (looks ++ None ∷ []) self.new }
         ensures period { self.new.period ≡ self.old.period + 1 }
     {
         steps::move_on(&mut self.next, &self.masses, sc.drift(), self.period);
@@ -103,7 +109,8 @@ impl Belief {
     pub fn advance(&mut self, sc: &Scenario)
         requires belief { IsReached sc.now self.old }
         requires period { IsTrue self.old.looked → self.old.period < sc.now.horizon }
-        ensures belief { (looks : List (Option ℕ)) → IsBelief sc.now looks self.old → IsBelief sc.now (awaiting self.old looks) self.new }
+        ensures belief { (looks : List (Option ℕ)) → IsBelief sc.now looks self.old →
+            IsBelief sc.now (awaiting self.old looks) self.new }
         ensures unlooked { IsUnlooked sc.now self.new }
     {
         if self.looked {
@@ -116,7 +123,8 @@ impl Belief {
         requires cells { length self.old.masses ≡ sc.now.cells }
         requires belief { IsReached sc.now before.now }
         requires period { before.now.period < sc.now.horizon }
-        ensures belief { (looks : List (Option ℕ)) → IsBelief sc.now looks before.now → IsBelief sc.now (looks ++ None ∷ []) self.new }
+        ensures belief { (looks : List (Option ℕ)) → IsBelief sc.now looks before.now →
+            IsBelief sc.now (looks ++ None ∷ []) self.new }
         ensures period { self.new.period ≡ before.now.period + 1 }
     {
         steps::move_on(&mut self.masses, &before.masses, sc.drift(), before.period);
@@ -129,7 +137,8 @@ impl Belief {
         requires cells { length self.old.masses ≡ sc.now.cells }
         requires belief { IsReached sc.now before.now }
         requires period { IsTrue before.now.looked → before.now.period < sc.now.horizon }
-        ensures belief { (looks : List (Option ℕ)) → IsBelief sc.now looks before.now → IsBelief sc.now (awaiting before.now looks) self.new }
+        ensures belief { (looks : List (Option ℕ)) → IsBelief sc.now looks before.now →
+            IsBelief sc.now (awaiting before.now looks) self.new }
         ensures unlooked { IsUnlooked sc.now self.new }
     {
         if before.looked {
@@ -152,7 +161,8 @@ impl Belief {
         requires belief { IsReached sc.now before.now }
         requires period { IsTrue before.now.looked → before.now.period < sc.now.horizon }
         requires position { position < sc.now.positions }
-        ensures first { (looks : List (Option ℕ)) → IsBelief sc.now (looks ++ None ∷ []) before.now → IsBelief sc.now (looks ++ Some position ∷ []) self.new }
+        ensures first { (looks : List (Option ℕ)) → IsBelief sc.now (looks ++ None ∷ []) before.now →
+            IsBelief sc.now (looks ++ Some position ∷ []) self.new }
         ensures later { (looks : List (Option ℕ)) (a : ℕ) → IsBelief sc.now (looks ++ Some a ∷ []) before.now
             → IsBelief sc.now (looks ++ Some a ∷ [] ++ Some position ∷ []) self.new }
         ensures counted { steps.new ≡ steps.old + 1 }

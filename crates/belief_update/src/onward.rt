@@ -32,7 +32,7 @@ impl Model for Onward {
     ghost view = { λ o. record { belief = o.belief; rows = o.rows.items } };
 }
 
-/// Writes the beliefs of all periods after a prefix, by the belief ahead of its next look, which drifts on without looks.
+// Writes the beliefs of all periods after a prefix, by the belief ahead of its next look, which drifts on without looks.
 fn fill_rows(rows: &mut [Belief], belief: &mut Belief, sc: &Scenario, prefix: &Path)
     requires short { length prefix.now < sc.now.horizon }
     requires size { length rows.old ≡ sc.now.horizon }
@@ -62,7 +62,7 @@ impl Onward {
         })
     }
 
-    /// Goes on through the periods after a prefix, where the belief is after it.
+    // Goes on through the periods after a prefix, where the belief is after it.
     fn go_on(&mut self, sc: &Scenario, prefix: &Path)
         requires made { IsMadeFor sc.now self.old }
         requires short { length prefix.now < sc.now.horizon }

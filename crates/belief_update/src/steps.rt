@@ -8,7 +8,7 @@ ghost use Rattle.sweep_table.specs.LookParts.{factor_in, factor_of, misses, posi
 use drift_chain::{Drift, DriftPart};
 use sweep_table::Sweep;
 
-/// Multiplies each mass by the factor of a look from position `a` in period `t`, which is looked for in its row.
+// Multiplies each mass by the factor of a look from position `a` in period `t`, which is looked for in its row.
 #[inline(never)]
 fn weaken_by_row(masses: &mut [u128], sweep: &Sweep, t: u32, a: u8)
     requires cells { length masses.old ≡ cells_of sweep.now }
@@ -16,24 +16,27 @@ fn weaken_by_row(masses: &mut [u128], sweep: &Sweep, t: u32, a: u8)
     requires last { t ≤ 32 }
     requires position { a < positions_of sweep.now }
     requires fits { (c : ℕ) → c < length masses.old → slice_index masses.old c * factor_of sweep.now t a c < 2 ^ 127 }
-    ensures each { (c : ℕ) → c < length masses.old → slice_index masses.new c ≡ slice_index masses.old c * factor_of sweep.now t a c }
+    ensures each { (c : ℕ) → c < length masses.old →
+        slice_index masses.new c ≡ slice_index masses.old c * factor_of sweep.now t a c }
 {
     for c in 0..sweep.cells() {
         masses[c as usize] *= u128::from(sweep.factor(t, a, c));
     }
 }
 
-/// The factor in cell `c` of a look that covers cell `a` alone, and misses a part of the whole there.
+// The factor in cell `c` of a look that covers cell `a` alone, and misses a part of the whole there.
 fn own_factor(whole: u32, a: u8, part: u32, c: usize) -> u32
     ensures { result ≡ factor_in whole (misses a part ∷ []) c }
 {
     if c == usize::from(a) { part } else { whole }
 }
 
-/// Multiplies each mass by the factor of a look that covers cell `a` alone, and misses a part of the whole there.
+// Multiplies each mass by the factor of a look that covers cell `a` alone, and misses a part of the whole there.
 fn weaken_own(masses: &mut [u128], whole: u32, a: u8, part: u32)
-    requires fits { (c : ℕ) → c < length masses.old → slice_index masses.old c * factor_in whole (misses a part ∷ []) c < 2 ^ 127 }
-    ensures each { (c : ℕ) → c < length masses.old → slice_index masses.new c ≡ slice_index masses.old c * factor_in whole (misses a part ∷ []) c }
+    requires fits { (c : ℕ) → c < length masses.old →
+        slice_index masses.old c * factor_in whole (misses a part ∷ []) c < 2 ^ 127 }
+    ensures each { (c : ℕ) → c < length masses.old →
+        slice_index masses.new c ≡ slice_index masses.old c * factor_in whole (misses a part ∷ []) c }
 {
     for c in 0..masses.len() {
         masses[c] *= u128::from(own_factor(whole, a, part, c));
@@ -47,7 +50,8 @@ pub fn weaken(masses: &mut [u128], sweep: &Sweep, t: u32, a: u8)
     requires last { t ≤ 32 }
     requires position { a < positions_of sweep.now }
     requires fits { (c : ℕ) → c < length masses.old → slice_index masses.old c * factor_of sweep.now t a c < 2 ^ 127 }
-    ensures each { (c : ℕ) → c < length masses.old → slice_index masses.new c ≡ slice_index masses.old c * factor_of sweep.now t a c }
+    ensures each { (c : ℕ) → c < length masses.old →
+        slice_index masses.new c ≡ slice_index masses.old c * factor_of sweep.now t a c }
 {
     match sweep.own_part(a) {
         Some(part) => weaken_own(masses, sweep.denominator(), a, part),
@@ -55,26 +59,28 @@ pub fn weaken(masses: &mut [u128], sweep: &Sweep, t: u32, a: u8)
     }
 }
 
-/// Adds what a row sends on of a mass.
+// Adds what a row sends on of a mass.
 fn spread(next: &mut [u128], row: &[DriftPart], mass: u128)
     requires entries { All (λ entry. entry.cell < length next.old) row.now }
     requires fits { (d : ℕ) → d < length next.old → slice_index next.old d + mass * part_in row.now d < 2 ^ 127 }
-    ensures each { (d : ℕ) → d < length next.old → slice_index next.new d ≡ slice_index next.old d + mass * part_in row.now d }
+    ensures each { (d : ℕ) → d < length next.old →
+        slice_index next.new d ≡ slice_index next.old d + mass * part_in row.now d }
 {
     for entry in row {
         next[entry.cell as usize] += mass * u128::from(entry.part);
     }
 }
 
-/// Adds what the drift sends on of the mass of cell `c` in the step after period `t`; where there is none, no row is looked
-/// for.
+// Adds what the drift sends on of the mass of cell `c` in the step after period `t`; where there is none, no row is looked
+// for.
 fn spread_from(next: &mut [u128], drift: &Drift, t: u32, c: u8, mass: u128)
     requires cells { length next.old ≡ drift_cells drift.now }
     requires first { 1 ≤ t }
     requires last { t ≤ 31 }
     requires cell { c < drift_cells drift.now }
     requires fits { (d : ℕ) → d < length next.old → slice_index next.old d + mass * part_of drift.now t c d < 2 ^ 127 }
-    ensures each { (d : ℕ) → d < length next.old → slice_index next.new d ≡ slice_index next.old d + mass * part_of drift.now t c d }
+    ensures each { (d : ℕ) → d < length next.old →
+        slice_index next.new d ≡ slice_index next.old d + mass * part_of drift.now t c d }
 {
     if mass > 0 {
         spread(next, drift.row(t, c), mass);
@@ -87,8 +93,10 @@ pub fn move_on(next: &mut [u128], masses: &[u128], drift: &Drift, t: u32)
     requires rows { length masses.now ≡ drift_cells drift.now }
     requires first { 1 ≤ t }
     requires last { t ≤ 31 }
-    requires fits { (d : ℕ) → d < length masses.now → sum_by (λ c. slice_index masses.now c * part_of drift.now t c d) (range_with_len 0 (length masses.now)) < 2 ^ 127 }
-    ensures each { (d : ℕ) → d < length masses.now → slice_index next.new d ≡ sum_by (λ c. slice_index masses.now c * part_of drift.now t c d) (range_with_len 0 (length masses.now)) }
+    requires fits { (d : ℕ) → d < length masses.now → sum_by (λ c.
+        slice_index masses.now c * part_of drift.now t c d) (range_with_len 0 (length masses.now)) < 2 ^ 127 }
+    ensures each { (d : ℕ) → d < length masses.now → slice_index next.new d ≡ sum_by (λ c.
+        slice_index masses.now c * part_of drift.now t c d) (range_with_len 0 (length masses.now)) }
 {
     next.fill(0);
     for c in 0..drift.cells() {

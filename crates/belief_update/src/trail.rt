@@ -51,7 +51,7 @@ pub(crate) fn first_beliefs(
     Ok(beliefs)
 }
 
-/// How many positions two prefixes have in common, from the first on.
+// How many positions two prefixes have in common, from the first on.
 fn in_common(left: &[u8], right: &[u8]) -> usize
     ensures { result ≡ common_of left.now right.now }
 {
@@ -64,7 +64,7 @@ fn in_common(left: &[u8], right: &[u8]) -> usize
     most
 }
 
-/// Makes the belief after `looks[i]` by the one ahead of it.
+// Makes the belief after `looks[i]` by the one ahead of it.
 fn make_row<L: Ledger>(
     sc: &Scenario,
     rows: &mut [Belief],
@@ -86,7 +86,7 @@ fn make_row<L: Ledger>(
     rows[i + 1].step_from(sc, ahead, looks[i], steps);
 }
 
-/// Makes the belief ahead of look `i`, where there is such a period, by the one after the looks before it.
+// Makes the belief ahead of look `i`, where there is such a period, by the one after the looks before it.
 fn make_ahead(sc: &Scenario, ahead: &mut [Belief], row: &Belief, looks: &[u8], i: usize)
     requires inside { i ≤ length looks.now }
     requires some { 1 ≤ i }
@@ -102,7 +102,7 @@ fn make_ahead(sc: &Scenario, ahead: &mut [Belief], row: &Belief, looks: &[u8], i
     }
 }
 
-/// Goes on by a look.
+// Goes on by a look.
 fn go_by<L: Ledger>(
     sc: &Scenario,
     rows: &mut [Belief],
@@ -122,7 +122,7 @@ fn go_by<L: Ledger>(
     make_ahead(sc, ahead, &rows[i + 1], looks, i + 1);
 }
 
-/// Goes on by all looks after the first `same`.
+// Goes on by all looks after the first `same`.
 fn go_on<L: Ledger>(
     sc: &Scenario,
     rows: &mut [Belief],
@@ -179,7 +179,7 @@ impl Trail {
         self.prefix = *prefix;
     }
 
-    /// Goes to a legal prefix by a counter of this call, of a new ledger.
+    // Goes to a legal prefix by a counter of this call, of a new ledger.
     fn go_counting<L: Ledger>(&mut self, sc: &Scenario, prefix: &Path, blank: Blank)
         requires name { blank.name ≡ L.name }
         requires parts { blank.parts ≡ L.parts }

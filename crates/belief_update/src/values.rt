@@ -9,12 +9,13 @@ ghost use Rattle.belief_update.specs.Trails.{IsAfter, IsPast};
 use crate::belief::Belief;
 use search_model::{Path, Scenario};
 
-/// Goes on by a period and looks, for each of some positions.
+// Goes on by a period and looks, for each of some positions.
 fn follow_on(sc: &Scenario, belief: &mut Belief, later: &[u8])
     requires belief { IsReached sc.now belief.old }
     requires positions { All (λ a. a < sc.now.positions) later.now }
     requires short { belief.old.period + length later.now ≤ sc.now.horizon }
-    ensures { (looks : List (Option ℕ)) → IsBelief sc.now looks belief.old → IsBelief sc.now (looks ++ map Some later.now) belief.new }
+    ensures { (looks : List (Option ℕ)) → IsBelief sc.now looks belief.old →
+        IsBelief sc.now (looks ++ map Some later.now) belief.new }
 {
     for a in later {
         belief.drift(sc);
@@ -22,7 +23,7 @@ fn follow_on(sc: &Scenario, belief: &mut Belief, later: &[u8])
     }
 }
 
-/// Starts again, looks at the first of some positions, and at each later one a period later.
+// Starts again, looks at the first of some positions, and at each later one a period later.
 fn look_along(sc: &Scenario, belief: &mut Belief, looks: &[u8])
     requires cells { length belief.old.masses ≡ sc.now.cells }
     requires positions { All (λ a. a < sc.now.positions) looks.now }
@@ -52,7 +53,8 @@ pub fn later_parts(sc: &Scenario, t: u32, k: u32) -> u128
     requires first { 1 ≤ t }
     requires last { t ≤ sc.now.horizon }
     requires looks { k ≤ sc.now.horizon }
-    ensures { result ≡ sc.now.drift.denominator ^ (sc.now.horizon - t) * sc.now.sweep.denominator ^ (sc.now.horizon - k) }
+    ensures { result ≡
+        sc.now.drift.denominator ^ (sc.now.horizon - t) * sc.now.sweep.denominator ^ (sc.now.horizon - k) }
 {
     let horizon = sc.horizon();
     u128::from(sc.drift().denominator()).pow(horizon - t)

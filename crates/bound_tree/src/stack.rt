@@ -40,7 +40,7 @@ pub fn extended(prefix: &Path, d: u8) -> Path
     child
 }
 
-/// Puts the children of a prefix by these moves on a stack that has room, the first on top.
+// Puts the children of a prefix by these moves on a stack that has room, the first on top.
 fn push_children(stack: &mut Vec<Path>, prefix: &Path, moves: &[u8])
     requires short { length prefix.now < 32 }
     requires room { vec_len stack.old + length moves.now ≤ vec_capacity stack.old }

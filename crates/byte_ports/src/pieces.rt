@@ -36,7 +36,8 @@ pub fn read_pieces<S: Source, T: Receiver>(
     requires limit { limit < 2 ^ 30 }
     requires begun { (bytes : List ℕ) × T.took bytes receiver.old }
     ensures ok { OnOk result (HandsOn T.took limit (S.left source.old) (S.left source.new) receiver.old receiver.new) }
-    ensures too_long { IsErrOf result InputStop.TooLong → TakesCount (S.left source.old) (S.left source.new) (limit + 1) }
+    ensures too_long { IsErrOf result InputStop.TooLong →
+        TakesCount (S.left source.old) (S.left source.new) (limit + 1) }
     ensures taken { IsErrOf result InputStop.Fault → TakesAtMost (S.left source.old) (S.left source.new) limit }
     ensures cause { CountsRefusal (S.faults source.old) (S.faults source.new) (IsErrOf result InputStop.Fault) }
 {

@@ -100,7 +100,7 @@ plan; scenario 2 | horizon 2 | parts 1 2 2 | cell a | cell b | grid 1 1 | start 
 const WIDE_PLAN_HEAD: &str =
     "plan 2 | path a a a a a a | chance 5111167220120220946834707324076032 5192296858534827628530496329220096 | nodes 7";
 
-/// Whether a run, 16 bytes a read and a write, ends as its row says.
+// Whether a run, 16 bytes a read and a write, ends as its row says.
 fn ends<R: AllocGlobal + Threads + Wait + Sync>(rt: &R, row: &str) -> Result<bool, Fail> {
     let alloc = rt.alloc();
     let mut fields = row.split("; ");
@@ -135,7 +135,7 @@ fn runs_end_as_their_rows_say(rt: HostRuntime) -> Result<(), Fail> {
     Ok(())
 }
 
-/// Whether the scenario that a number makes is read again and planned.
+// Whether the scenario that a number makes is read again and planned.
 fn is_planned<R: AllocGlobal + Threads + Wait + Sync>(rt: &R, make: &str) -> Result<bool, Fail> {
     let made = ended(rt, make, Vec::new(rt.alloc()), 4096, &[], &[])?;
     let planned = ended(rt, "plan", made.out, 4096, &[], &[])?;
@@ -166,7 +166,7 @@ fn made_scenarios_and_drills(rt: HostRuntime) -> Result<(), Fail> {
     Ok(())
 }
 
-/// Whether 1, 2 and 16 workers find the same path of a scenario, with a chance that ends so.
+// Whether 1, 2 and 16 workers find the same path of a scenario, with a chance that ends so.
 fn plan_alike<R: AllocGlobal + Threads + Wait + Sync>(
     rt: &R,
     scenario: &[u8],
@@ -178,7 +178,7 @@ fn plan_alike<R: AllocGlobal + Threads + Wait + Sync>(
     Ok(one.ends_with(end) && one.as_slice() == two.as_slice() && one.as_slice() == many.as_slice())
 }
 
-/// Whether each of a hundred plans of a scenario by two workers is accepted, and has this path and chance.
+// Whether each of a hundred plans of a scenario by two workers is accepted, and has this path and chance.
 fn a_hundred_are_planned<R: AllocGlobal + Threads + Wait + Sync>(
     rt: &R,
     scenario: &[u8],
@@ -208,7 +208,7 @@ fn several_workers_find_the_same_path(rt: HostRuntime) -> Result<(), Fail> {
     Ok(())
 }
 
-/// Two cells, then line feeds up to so many bytes.
+// Two cells, then line feeds up to so many bytes.
 fn padded(alloc: Global, len: usize) -> Result<Vec<u8>, Fail> {
     let mut input = text_of(alloc, "@two_cells")?;
     input.resize(len, b'\n')?;

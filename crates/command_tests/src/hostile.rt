@@ -10,7 +10,7 @@ use std::sync::Wait;
 use std::test::Fail;
 use std::thread::Threads;
 
-/// Two cells and then this plan text: a check of it, `most` bytes a read.
+// Two cells and then this plan text: a check of it, `most` bytes a read.
 fn checked<R: AllocGlobal + Threads + Wait + Sync>(
     rt: &R,
     plan: &[u8],
@@ -23,8 +23,8 @@ fn checked<R: AllocGlobal + Threads + Wait + Sync>(
     ended(rt, "check", input, most, &[], &[])
 }
 
-/// Whether a check of this plan text says this, at once and with one byte a read: a rejection on `out`, and a fault of the
-/// text on `err`.
+// Whether a check of this plan text says this, at once and with one byte a read: a rejection on `out`, and a fault of the
+// text on `err`.
 fn says<R: AllocGlobal + Threads + Wait + Sync>(
     rt: &R,
     plan: &[u8],
@@ -44,7 +44,7 @@ fn says<R: AllocGlobal + Threads + Wait + Sync>(
     Ok(true)
 }
 
-/// The plan of two cells with one line changed, which counts from 1.
+// The plan of two cells with one line changed, which counts from 1.
 fn changed(alloc: Global, number: usize, line: &[u8]) -> Result<Vec<u8>, Fail> {
     let plan = text_of(alloc, "@two_cells_plan")?;
     let mut text = Vec::new(alloc);
@@ -57,7 +57,7 @@ fn changed(alloc: Global, number: usize, line: &[u8]) -> Result<Vec<u8>, Fail> {
     Ok(text)
 }
 
-/// A record whose bound is 100,000 digits.
+// A record whose bound is 100,000 digits.
 fn long_line(alloc: Global) -> Result<Vec<u8>, Fail> {
     let mut line = b"W ".to_vec(alloc)?;
     for _ in 0..100_000 {
@@ -67,7 +67,7 @@ fn long_line(alloc: Global) -> Result<Vec<u8>, Fail> {
     Ok(line)
 }
 
-/// A path of 33 names.
+// A path of 33 names.
 fn long_path(alloc: Global) -> Result<Vec<u8>, Fail> {
     let mut line = b"path".to_vec(alloc)?;
     for _ in 0..33 {
@@ -117,7 +117,7 @@ const PLANS: [(&str, &str); 4] = [
     ),
 ];
 
-/// Whether a check of the plan of two cells with this line changed says this.
+// Whether a check of the plan of two cells with this line changed says this.
 fn change_says<R: AllocGlobal + Threads + Wait + Sync>(
     rt: &R,
     number: usize,
@@ -171,7 +171,7 @@ fn plans_cut_short(rt: HostRuntime) -> Result<(), Fail> {
     Ok(())
 }
 
-/// Whether a run over two cells whose read of this number fails writes nothing, and says so.
+// Whether a run over two cells whose read of this number fails writes nothing, and says so.
 fn read_fails<R: AllocGlobal + Threads + Wait + Sync>(
     rt: &R,
     words: &str,
@@ -202,7 +202,7 @@ fn each_read_fails(rt: HostRuntime) -> Result<(), Fail> {
     Ok(())
 }
 
-/// Whether a plan of two cells, 16 bytes a write, of which this one fails, has written so many bytes.
+// Whether a plan of two cells, 16 bytes a write, of which this one fails, has written so many bytes.
 fn write_fails<R: AllocGlobal + Threads + Wait + Sync>(
     rt: &R,
     words: &str,

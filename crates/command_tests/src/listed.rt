@@ -35,7 +35,7 @@ path a a a | chance 4120 6144: start a | first a 3 b 1 c 2 | moves d c a | moves
 path b a d | chance 5544 6144: start c | first a 2 b 1 c 3 | moves d c b a | moves c d c b | moves b b a | moves a d b a | drift a b 3 c 1 | drift b a 1 c 3 | drift c a 2 c 2 | driftin 1 a a 3 b 1 | driftin 1 b b 2 c 2 | driftin 2 b a 3 b 1 | driftin 2 c a 1 b 2 c 1 | look d a 2 b 0 | look c a 2 b 1 | look b a 4 b 3 c 2 | look a a 0 b 2 c 0 | lookin 1 b b 2 c 1 | lookin 2 a a 3 b 0 | lookin 3 c b 3 c 1 | end
 ";
 
-/// Whether a scenario has the plan of its row, and `check` accepts it.
+// Whether a scenario has the plan of its row, and `check` accepts it.
 fn is_listed<R: AllocGlobal + Threads + Wait + Sync>(rt: &R, row: &str) -> Result<bool, Fail> {
     let (best, rows) = row.split_once(": ").ok_or("no scenario")?;
     let mut scenario = text_of(rt.alloc(), HEAD)?;

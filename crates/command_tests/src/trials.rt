@@ -85,7 +85,7 @@ fn named(name: &str) -> Option<&'static str> {
     None
 }
 
-/// Adds the lines that are written in one.
+// Adds the lines that are written in one.
 fn push_lines(text: &mut Vec<u8>, row: &str) -> Result<(), AllocError> {
     for line in row.split(" | ") {
         text.extend_from_slice(line.as_bytes())?;
@@ -142,7 +142,7 @@ pub fn ended<R: AllocGlobal + Threads + Wait + Sync>(
     })
 }
 
-/// The path and the chance of a plan, as its text has them.
+// The path and the chance of a plan, as its text has them.
 fn path_and_chance(alloc: Global, plan: &[u8]) -> Result<Vec<u8>, Fail> {
     let path = plan.split(|c| *c == b'\n').nth(1).ok_or("no path")?;
     let chance = plan.split(|c| *c == b'\n').nth(2).ok_or("no chance")?;

@@ -48,12 +48,15 @@ impl Drift {
         requires some_row { 1 ≤ length rows.items }
         requires most_rows { length rows.items ≤ 200 }
         ensures denominator { IfOk result (λ drift. drift.denominator ≡ denominator) }
-        ensures made { let given = map (λ row. row.items) rows.items in IfOk result (λ drift. HasSameParts given drift.rows) }
+        ensures made { let given = map (λ row. row.items) rows.items in IfOk result (λ drift.
+            HasSameParts given drift.rows) }
         ensures plain { IfOk result (λ drift. drift.changes ≡ []) }
         ensures sound { IfOk result IsDrift }
-        ensures faultless { let given = map (λ row. row.items) rows.items in IsOk result ↔ ((fault : DriftFault) → HasFault denominator given fault → ⊥) }
+        ensures faultless { let given = map (λ row.
+            row.items) rows.items in IsOk result ↔ ((fault : DriftFault) → HasFault denominator given fault → ⊥) }
         ensures fault { let given = map (λ row. row.items) rows.items in IfErr result (IsFirstFault denominator given) }
-        ensures kept { let given = drift_over denominator (map (λ row. row.items) rows.items) in IsDrift given → result ≡ Ok given }
+        ensures kept { let given = drift_over denominator (map (λ row. row.items) rows.items) in IsDrift given →
+            result ≡ Ok given }
     {
         put_in_order(denominator, &mut rows)?;
         Ok(Drift {
@@ -70,7 +73,8 @@ impl Drift {
     pub fn in_periods(self, alloc: Global, changes: Vec<DriftChange>) -> Result<Drift, ChangeFault>
         requires { self.changes ≡ [] }
         ensures base { IfOk result (λ drift. drift ≡ drift_with self drift.changes) }
-        ensures made { let given = map row_change changes.items in IfOk result (λ drift. AreSameChanges given drift.changes) }
+        ensures made { let given = map row_change changes.items in IfOk result (λ drift.
+            AreSameChanges given drift.changes) }
         ensures sound { IfOk result IsDrift }
         ensures faultless { let given = map row_change changes.items in
             IsOk result → (fault : ChangeFault) → HasChangeFault self.denominator (drift_cells self) given fault → ⊥ }
@@ -143,7 +147,8 @@ impl Drift {
 // of a drift without changes stays tight.
 #[inline(never)]
 fn row_in_force<'a>(changes: &'a Changes, own: &'a [DriftPart], t: u32, c: u8) -> &'a [DriftPart]
-    ensures { (drift : DriftRows) → drift.changes ≡ changes.now → slice_index_or drift.rows c [] ≡ own.now → result.now ≡ row_of drift t c }
+    ensures { (drift : DriftRows) → drift.changes ≡ changes.now → slice_index_or drift.rows c [] ≡ own.now →
+        result.now ≡ row_of drift t c }
 {
     changes.row(t, c).unwrap_or(own)
 }

@@ -13,7 +13,7 @@ use indexmap::IndexSet;
 use std::alloc::{AllocError, Global};
 use std::marker::Model;
 
-/// The last period that a drift's row can be for.
+// The last period that a drift's row can be for.
 const LAST_PERIOD: u32 = 31;
 
 /// The row of a cell for the step after one period.
@@ -88,7 +88,8 @@ impl Changes {
 
     /// The row of a cell for a period, if there is a change for both.
     pub(crate) fn row(&self, t: u32, c: u8) -> Option<&[DriftPart]>
-        ensures { option_map (λ row. row.now) result ≡ option_map (λ change. change.row) (find (is_change t c) self.now) }
+        ensures { option_map (λ row. row.now) result ≡ option_map (λ change.
+            change.row) (find (is_change t c) self.now) }
     {
         let place = self.index.get_index_of(&(t, c))?;
         Some(&self.list[place].row)
@@ -154,7 +155,8 @@ fn change_fault(
 ) -> Option<ChangeFault>
     requires few { cells ≤ 200 }
     requires ascending { IsNonDecreasingBy (λ entry. entry.cell) change.now.row.items }
-    ensures none { IfNone result ((earlier : List DriftRowChange) → index.now.keys ≡ map change_key earlier → IsRightAfter denominator cells earlier (row_change change.now)) }
+    ensures none { IfNone result ((earlier : List DriftRowChange) → index.now.keys ≡ map change_key earlier →
+        IsRightAfter denominator cells earlier (row_change change.now)) }
     ensures some { IfSome result (λ fault. (earlier : List DriftRowChange) → index.now.keys ≡ map change_key earlier
         → IsFirstOfChange denominator cells place earlier (row_change change.now) fault) }
 {

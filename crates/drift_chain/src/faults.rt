@@ -22,7 +22,7 @@ pub enum DriftFault {
     NoMemory,
 }
 
-// Puts each row in ascending order of cells, if the rows then make a drift.
+/// Puts each row in ascending order of cells, if the rows then make a drift.
 pub(crate) fn put_in_order(denominator: u32, rows: &mut [Vec<DriftPart>]) -> Result<(), DriftFault>
     requires denominator { (1 ≤ denominator) × (denominator ≤ 1000000) }
     requires count { (1 ≤ length rows.old) × (length rows.old ≤ 200) }
@@ -40,7 +40,8 @@ pub(crate) fn put_in_order(denominator: u32, rows: &mut [Vec<DriftPart>]) -> Res
 // Puts each row in ascending order of cells.
 fn sort_rows(rows: &mut [Vec<DriftPart>])
     ensures same { HasSameParts (map (λ row. row.items) rows.old) (map (λ row. row.items) rows.new) }
-    ensures ascending { (c : ℕ) → c < length rows.old → IsNonDecreasingBy (λ entry. entry.cell) (parts_from (map (λ row. row.items) rows.new) c) }
+    ensures ascending { (c : ℕ) → c < length rows.old → IsNonDecreasingBy (λ entry.
+        entry.cell) (parts_from (map (λ row. row.items) rows.new) c) }
 {
     for row in rows.iter_mut() {
         row.sort_unstable_by_key(|entry| entry.cell);
@@ -51,7 +52,8 @@ fn sort_rows(rows: &mut [Vec<DriftPart>])
 fn first_fault(denominator: u32, rows: &[Vec<DriftPart>]) -> Option<DriftFault>
     requires denominator { (1 ≤ denominator) × (denominator ≤ 1000000) }
     requires count { (1 ≤ length rows.now) × (length rows.now ≤ 200) }
-    requires ascending { (c : ℕ) → c < length rows.now → IsNonDecreasingBy (λ entry. entry.cell) (parts_from (map (λ row. row.items) rows.now) c) }
+    requires ascending { (c : ℕ) → c < length rows.now → IsNonDecreasingBy (λ entry.
+        entry.cell) (parts_from (map (λ row. row.items) rows.now) c) }
     ensures none { IfNone result (IsDrift (drift_over denominator (map (λ row. row.items) rows.now))) }
     ensures some { IfSome result (IsFirstFault denominator (map (λ row. row.items) rows.now)) }
 {
@@ -63,7 +65,7 @@ fn first_fault(denominator: u32, rows: &[Vec<DriftPart>]) -> Option<DriftFault>
     None
 }
 
-// What is wrong with the row of a cell, in ascending order, out of so many cells.
+/// What is wrong with the row of a cell, in ascending order, out of so many cells.
 pub(crate) fn row_fault(
     denominator: u32,
     cells: usize,

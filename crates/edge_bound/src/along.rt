@@ -10,7 +10,7 @@ use crate::moves::{found_after, found_first};
 use belief_update::{Onward, later_parts};
 use search_model::{Path, Scenario};
 
-/// The reward of a first look after a prefix, at `b`.
+// The reward of a first look after a prefix, at `b`.
 fn first_reward(sc: &Scenario, prefix: &Path, onward: &Onward, b: u8) -> u128
     requires short { length prefix.now < sc.now.horizon }
     requires to { b < sc.now.positions }
@@ -22,7 +22,7 @@ fn first_reward(sc: &Scenario, prefix: &Path, onward: &Onward, b: u8) -> u128
     found_first(sc, prefix, onward, b) * later_parts(sc, looks, looks)
 }
 
-/// The edge reward of a look at `b` in period `t`, after one at `a` in the period before.
+// The edge reward of a look at `b` in period `t`, after one at `a` in the period before.
 fn next_reward(sc: &Scenario, prefix: &Path, onward: &Onward, t: u32, a: u8, b: u8) -> u128
     requires period { IsLater sc.now prefix.now t }
     requires from { a < sc.now.positions }

@@ -42,7 +42,7 @@ impl Model for Edge {
     ghost view = { λ e. record { onward = e.onward; sums = e.sums.items; earlier = e.earlier.items } };
 }
 
-/// The greatest of a prefix's value with the rewards of its continuations, by the beliefs after it.
+// The greatest of a prefix's value with the rewards of its continuations, by the beliefs after it.
 fn bound_from(
     value: u128,
     onward: &Onward,
@@ -64,7 +64,7 @@ fn bound_from(
     value + best_first(sc, prefix, onward, sums)
 }
 
-/// A prefix's value with the rewards of one path that extends it, by the beliefs after it.
+// A prefix's value with the rewards of one path that extends it, by the beliefs after it.
 fn sum_from(value: u128, onward: &Onward, sc: &Scenario, prefix: &Path, path: &Path) -> u128
     requires value { value ≡ value_of sc.now prefix.now }
     requires onward { IsOnward sc.now prefix.now onward.now }

@@ -14,7 +14,7 @@ use belief_update::Onward;
 use search_model::{Path, Scenario};
 use sweep_table::Look;
 
-/// The mass of cell `c` in period `t`, with no look after the prefix.
+// The mass of cell `c` in period `t`, with no look after the prefix.
 fn mass_at(sc: &Scenario, prefix: &Path, onward: &Onward, t: u32, c: u8) -> u128
     requires later { length prefix.now < t }
     requires last { t ≤ sc.now.horizon }
@@ -25,7 +25,7 @@ fn mass_at(sc: &Scenario, prefix: &Path, onward: &Onward, t: u32, c: u8) -> u128
     onward.at(t).at(c)
 }
 
-/// The cells that a look from position `a` in period `t` covers, with the parts that it misses.
+// The cells that a look from position `a` in period `t` covers, with the parts that it misses.
 fn look_from(sc: &Scenario, t: u32, a: u8) -> Look<'_>
     requires first { 1 ≤ t }
     requires last { t ≤ sc.now.horizon }
@@ -37,7 +37,7 @@ fn look_from(sc: &Scenario, t: u32, a: u8) -> Look<'_>
     sc.sweep().look(t, a)
 }
 
-/// What comes to cell `d` in period `t` of the mass of cell `c` in the period before.
+// What comes to cell `d` in period `t` of the mass of cell `c` in the period before.
 fn mass_going_on(sc: &Scenario, prefix: &Path, onward: &Onward, t: u32, c: u8, d: u8) -> u128
     requires period { IsLater sc.now prefix.now t }
     requires from { c < sc.now.cells }
@@ -48,8 +48,8 @@ fn mass_going_on(sc: &Scenario, prefix: &Path, onward: &Onward, t: u32, c: u8, d
     mass_at(sc, prefix, onward, t - 1, c) * u128::from(sc.drift().part(t - 1, c, d))
 }
 
-/// What comes to cell `d` in period `t` of what a look from position `a` in the period before finds, cell by cell
-/// of its row.
+// What comes to cell `d` in period `t` of what a look from position `a` in the period before finds, cell by cell
+// of its row.
 #[inline(never)]
 fn taken_by_row(sc: &Scenario, prefix: &Path, onward: &Onward, t: u32, a: u8, d: u8) -> u128
     requires period { IsLater sc.now prefix.now t }
@@ -69,8 +69,8 @@ fn taken_by_row(sc: &Scenario, prefix: &Path, onward: &Onward, t: u32, a: u8, d:
     sum
 }
 
-/// What comes to cell `d` in period `t` of what a look from position `a` in the period before finds, in all cells that it
-/// covers.
+// What comes to cell `d` in period `t` of what a look from position `a` in the period before finds, in all cells that it
+// covers.
 fn taken(sc: &Scenario, prefix: &Path, onward: &Onward, t: u32, a: u8, d: u8) -> u128
     requires period { IsLater sc.now prefix.now t }
     requires from { a < sc.now.positions }
@@ -88,8 +88,8 @@ fn taken(sc: &Scenario, prefix: &Path, onward: &Onward, t: u32, a: u8, d: u8) ->
     }
 }
 
-/// The mass of cell `d` in period `t` after a look from position `a` in the period before: the mass without that look,
-/// less what comes to it of what the look found.
+// The mass of cell `d` in period `t` after a look from position `a` in the period before: the mass without that look,
+// less what comes to it of what the look found.
 fn left(sc: &Scenario, prefix: &Path, onward: &Onward, t: u32, a: u8, d: u8) -> u128
     requires period { IsLater sc.now prefix.now t }
     requires from { a < sc.now.positions }
@@ -102,14 +102,15 @@ fn left(sc: &Scenario, prefix: &Path, onward: &Onward, t: u32, a: u8, d: u8) -> 
     mass_at(sc, prefix, onward, t, d) * u128::from(whole) - found
 }
 
-/// What a look from `b` in period `t` finds after a look from `a` in the period before, cell by cell of its row.
+// What a look from `b` in period `t` finds after a look from `a` in the period before, cell by cell of its row.
 #[inline(never)]
 fn found_after_by_row(sc: &Scenario, prefix: &Path, onward: &Onward, t: u32, a: u8, b: u8) -> u128
     requires period { IsLater sc.now prefix.now t }
     requires from { a < sc.now.positions }
     requires to { b < sc.now.positions }
     requires onward { IsOnward sc.now prefix.now onward.now }
-    ensures { result * (sc.now.drift.denominator ^ (sc.now.horizon - t) * sc.now.sweep.denominator ^ (sc.now.horizon - (length prefix.now + 2)))
+    ensures { result * (sc.now.drift.denominator ^ (sc.now.horizon - t) * sc.now.sweep.denominator ^
+        (sc.now.horizon - (length prefix.now + 2)))
         ≡ edge_reward_of sc.now prefix.now t a b }
 {
     let whole = sc.sweep().denominator();
@@ -136,7 +137,8 @@ pub(crate) fn found_after(
     requires from { a < sc.now.positions }
     requires to { b < sc.now.positions }
     requires onward { IsOnward sc.now prefix.now onward.now }
-    ensures { result * (sc.now.drift.denominator ^ (sc.now.horizon - t) * sc.now.sweep.denominator ^ (sc.now.horizon - (length prefix.now + 2)))
+    ensures { result * (sc.now.drift.denominator ^ (sc.now.horizon - t) * sc.now.sweep.denominator ^
+        (sc.now.horizon - (length prefix.now + 2)))
         ≡ edge_reward_of sc.now prefix.now t a b }
 {
     match sc.sweep().own_part(b) {

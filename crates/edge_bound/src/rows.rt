@@ -11,8 +11,8 @@ use crate::moves::{found_after, found_first};
 use belief_update::{Onward, later_parts};
 use search_model::{Path, Scenario};
 
-/// The greatest sum over the walks that go on from position `a` in period `t`, by the sums of the period after it and the
-/// parts of what is to come.
+// The greatest sum over the walks that go on from position `a` in period `t`, by the sums of the period after it and the
+// parts of what is to come.
 fn best_move(
     sc: &Scenario,
     prefix: &Path,
@@ -22,7 +22,9 @@ fn best_move(
     t: u32,
     a: u8,
 ) -> u128
-    requires parts { parts ≡ sc.now.drift.denominator ^ (sc.now.horizon - t) * sc.now.sweep.denominator ^ (sc.now.horizon - (length prefix.now + 2)) }
+    requires parts { parts ≡
+        sc.now.drift.denominator ^ (sc.now.horizon - t) * sc.now.sweep.denominator ^
+        (sc.now.horizon - (length prefix.now + 2)) }
     requires period { IsLater sc.now prefix.now t }
     requires from { a < sc.now.positions }
     requires onward { IsOnward sc.now prefix.now onward.now }
@@ -39,7 +41,7 @@ fn best_move(
     best
 }
 
-/// The row of period `t`, by the sums of the period after it.
+// The row of period `t`, by the sums of the period after it.
 fn fill_row(row: &mut [u128], sc: &Scenario, prefix: &Path, onward: &Onward, sums: &[u128], t: u32)
     requires size { length row.old ≡ sc.now.positions }
     requires period { IsLater sc.now prefix.now t }

@@ -4,7 +4,7 @@ ghost use Rattle.exact_parts.specs.Percent.{thousandths as thousandths_lem, perc
 use crate::no_memory::NoMemory;
 use crate::writing::digits;
 
-/// How many thousandths of a percent `v` of `w` are, cut off: one digit of the quotient after the other.
+// How many thousandths of a percent `v` of `w` are, cut off: one digit of the quotient after the other.
 fn thousandths(v: u128, w: u128) -> u128
     requires some { 1 ≤ w }
     requires part { v ≤ w }

@@ -31,7 +31,7 @@ fn is_plain_decimal(text: &[u8]) -> bool
     }
 }
 
-/// The number with one digit more at its end, where that is below 2 to the power 128.
+// The number with one digit more at its end, where that is below 2 to the power 128.
 fn with_digit(n: u128, digit: u8) -> Option<u128>
     requires { IsInRange 48 57 digit }
     ensures { SomeIff result (n * 10 + digit_value digit < 2 ^ 128) (n * 10 + digit_value digit) }
@@ -68,7 +68,8 @@ pub fn number_of(text: &[u8], most: u128) -> Number
 pub fn read_u128(text: &[u8]) -> Option<u128>
     ensures spelled { IfSome result (λ n. text.now ≡ decimal n) }
     ensures unspelled { IfNone result ((n : ℕ) → n < 2 ^ 128 → text.now ≢ decimal n) }
-    ensures plain { SomeIff result ((is_plain text.now ≡ true) × (digits_value 10 text.now < 2 ^ 128)) (digits_value 10 text.now) }
+    ensures plain { SomeIff result ((is_plain text.now ≡ true) ×
+        (digits_value 10 text.now < 2 ^ 128)) (digits_value 10 text.now) }
 {
     match number_of(text, u128::MAX) {
         Number::Of(n) => Some(n),

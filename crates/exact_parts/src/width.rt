@@ -3,7 +3,7 @@ ghost use Rattle.exact_parts.specs.Width.{Fits};
 
 const LIMIT: u128 = 1 << 127;
 
-/// `start` times `base` to the power `n`, where that is below 2 to the power 127.
+// `start` times `base` to the power `n`, where that is below 2 to the power 127.
 fn times_power(start: u128, base: u32, n: u32) -> Option<u128>
     requires start { start < 2 ^ 127 }
     requires base { 1 ≤ base }

@@ -11,7 +11,7 @@ use search_model::{Standing, better};
 use std::marker::Model;
 use std::sync::Wait;
 
-// The same standing.
+/// The same standing.
 pub fn copy_of(s: &Standing) -> Standing
     ensures { result ≡ s.now }
 {
@@ -50,7 +50,7 @@ impl Board {
     ghost use Rattle.incumbent_board.specs.Boards.{IsSeatOf, IsSameSeat, offers_of};
     ghost use Rattle.incumbent_board.specs.Offers.{OnPlaced, IfBehind, ComesNext, Shows, Tells};
 
-    // The standing that the cell's words tell, which is the first one as long as they are blank.
+    /// The standing that the cell's words tell, which is the first one as long as they are blank.
     pub(crate) fn standing(&self, words: &[u64; 6]) -> Standing
         ensures { result ≡ told_by self.now.first words.now }
     {
@@ -65,7 +65,8 @@ impl Board {
     fn look_for<R: Wait>(&self, rt: &R, place: &mut Place) -> Standing
         requires cell { place.old.table_id ≡ self.now.cell }
         requires some { 0 < (cell_view place.old).seats }
-        requires seen { (0 < length (cell_view place.old).seen) × (first_of (cell_view place.old).seen ≡ self.now.first) }
+        requires seen { (0 < length (cell_view place.old).seen) ×
+            (first_of (cell_view place.old).seen ≡ self.now.first) }
         ensures same { IsSamePass place.old place.new }
         ensures shows { Shows self.now.first (cell_view place.old) result (cell_view place.new) }
     {
@@ -97,7 +98,8 @@ impl Board {
     fn offer_at<R: Wait>(&self, rt: &R, place: &mut Place, s: &Standing) -> Offer
         requires cell { place.old.table_id ≡ self.now.cell }
         requires some { 0 < (cell_view place.old).seats }
-        requires seen { (0 < length (cell_view place.old).seen) × (first_of (cell_view place.old).seen ≡ self.now.first) }
+        requires seen { (0 < length (cell_view place.old).seen) ×
+            (first_of (cell_view place.old).seen ≡ self.now.first) }
         requires stands { MayStand self.now.first s.now }
         ensures same { IsSamePass place.old place.new }
         ensures tells { Tells self.now.first s.now (cell_view place.old) result (cell_view place.new) }
@@ -127,10 +129,12 @@ impl Board {
         ensures seen { IsPrefix seat.old.seen seat.new.seen }
         ensures history { IsHistory self.now.first seat.new.seen }
         ensures next { OnPlaced result (ComesNext seat.old.seen s seat.new.seen) }
-        ensures placed { OnPlaced result ((seat.new.placed ≡ seat.old.placed ++ s ∷ []) × (seat.new.behind ≡ seat.old.behind)) }
+        ensures placed { OnPlaced result ((seat.new.placed ≡ seat.old.placed ++ s ∷ []) ×
+            (seat.new.behind ≡ seat.old.behind)) }
         ensures last { IfBehind result (λ b. b ≡ last_of seat.new.seen) }
         ensures worse { IfBehind result (λ b. better_lem s b ≡ false) }
-        ensures behind { IfBehind result (λ _. (seat.new.placed ≡ seat.old.placed) × (seat.new.behind ≡ seat.old.behind ++ s ∷ [])) }
+        ensures behind { IfBehind result (λ _.
+            (seat.new.placed ≡ seat.old.placed) × (seat.new.behind ≡ seat.old.behind ++ s ∷ [])) }
         ensures looks { (seat.new.looks ≡ seat.old.looks) × (seat.new.shown ≡ seat.old.shown) }
     {
         self.offer_at(rt, &mut seat.pass, &s)

@@ -161,7 +161,8 @@ pub fn deal(cell: &Cell, place: &mut Place) -> Place
     requires cell { place.old.table_id ≡ cell.now.table.shared.table_id }
     requires two { 1 < (cell_view place.old).seats }
     ensures same { IsSamePass place.old place.new × (result.table_id ≡ place.old.table_id) }
-    ensures left { let v = cell_view place.old in cell_view place.new ≡ sight (v.seats - 1) v.seen v.told v.placed v.behind }
+    ensures left { let v = cell_view place.old in cell_view place.new ≡
+        sight (v.seats - 1) v.seen v.told v.placed v.behind }
     ensures dealt { cell_view result ≡ sight 1 (cell_view place.old).seen [] [] [] }
 {
     cell.split_pass::<Deals>(place)

@@ -41,7 +41,7 @@ ghost use Rattle.std.specs.Prelude.{◌≡◌};
 ghost use Rattle.crossbeam_utils.specs.Seq.{cell_view};
 ghost use Rattle.incumbent_board.specs.Joins.{IsOfSeat};
 
-// A seat's pass.
+/// A seat's pass.
 pub fn pass_of(seat: BoardSeat) -> Place
     ensures cell { result.table_id ≡ seat.board.cell }
     ensures knows { IsOfSeat seat (cell_view result) }

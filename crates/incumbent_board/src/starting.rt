@@ -38,7 +38,8 @@ fn deal_seats(
     requires few { many ≤ 15 }
     ensures cell { IfOk result (λ _. pass.new.table_id ≡ pass.old.table_id) }
     ensures view { IfOk result (λ _. cell_view pass.new ≡ sight (ALL - many) (first.now ∷ []) [] [] []) }
-    ensures dealt { IfOk result (λ r. r.items ≡ replicate many (new_seat_of (record { cell = pass.old.table_id; first = first.now }) 1)) }
+    ensures dealt { IfOk result (λ r.
+        r.items ≡ replicate many (new_seat_of (record { cell = pass.old.table_id; first = first.now }) 1)) }
 {
     let mut dealt = Vec::new(alloc);
     for _given in 0..many {

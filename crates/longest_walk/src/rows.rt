@@ -13,7 +13,7 @@ ghost use Rattle.longest_walk.specs.Rows.{sums_at, IsLeastMove};
 use search_grid::Grid;
 use search_model::Path;
 
-// The greatest sum among some positions, in the row that starts at `row`.
+/// The greatest sum among some positions, in the row that starts at `row`.
 pub(crate) fn greatest_at(sums: &[u128], row: usize, moves: &[u8]) -> u128
     requires { All (λ d. row + d < length sums.now) moves.now }
     ensures { result ≡ greatest (sums_at sums.now row moves.now) }
@@ -25,7 +25,7 @@ pub(crate) fn greatest_at(sums: &[u128], row: usize, moves: &[u8]) -> u128
     best
 }
 
-// The first of some positions that have the greatest sum among them, in the row that starts at `row`.
+/// The first of some positions that have the greatest sum among them, in the row that starts at `row`.
 pub(crate) fn least_move(sums: &[u128], row: usize, moves: &[u8]) -> u8
     requires some { 1 ≤ length moves.now }
     requires within { All (λ d. row + d < length sums.now) moves.now }
@@ -67,13 +67,14 @@ fn fill_last(sums: &mut [u128], rewards: &[u128], last: usize)
     sums[last..].copy_from_slice(&rewards[last..]);
 }
 
-// Fills the rows of the periods after `k`, the last one first.
+/// Fills the rows of the periods after `k`, the last one first.
 pub(crate) fn fill_rows(sums: &mut [u128], grid: &Grid, rewards: &[u128], horizon: usize, k: usize)
     requires horizon { horizon ≤ 32 }
     requires period { k < horizon }
     requires rewards { length rewards.now ≡ horizon * length grid.now }
     requires sums { length sums.old ≡ horizon * length grid.now }
-    requires fits { let positions = length grid.now in highest_sum positions (entry_at positions rewards.now) (horizon - k) (k + 1) < 2 ^ 127 }
+    requires fits { let positions = length grid.now in highest_sum positions (entry_at positions rewards.now)
+        (horizon - k) (k + 1) < 2 ^ 127 }
     ensures { HasSums grid.now (length grid.now) horizon rewards.now k sums.new }
 {
     let positions = usize::from(grid.cells());
@@ -83,7 +84,7 @@ pub(crate) fn fill_rows(sums: &mut [u128], grid: &Grid, rewards: &[u128], horizo
     }
 }
 
-// Appends the positions of the least walk of the greatest sum from a position, one least move after another.
+/// Appends the positions of the least walk of the greatest sum from a position, one least move after another.
 pub(crate) fn append_least(sums: &[u128], grid: &Grid, horizon: usize, from: u8, to: &mut Path)
     requires horizon { horizon ≤ 32 }
     requires from { from < length grid.now }

@@ -32,9 +32,17 @@ impl Model for Walk {
 
     ghost Value = { Tables };
 
-    ghost view = { λ w. record { positions = w.positions; horizon = w.horizon; from = w.from; best = w.best; sums = w.sums.items } };
+    ghost view = { λ w. record {
+      positions = w.positions;
+      horizon = w.horizon;
+      from = w.from;
+      best = w.best;
+      sums =
+          w.sums.items;
+    } };
 
-    ghost invariant = { λ w. IsTables (record { positions = w.positions; horizon = w.horizon; from = w.from; best = w.best; sums = w.sums.items }) };
+    ghost invariant = { λ w. IsTables (record
+        { positions = w.positions; horizon = w.horizon; from = w.from; best = w.best; sums = w.sums.items }) };
 }
 
 impl Walk {

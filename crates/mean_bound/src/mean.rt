@@ -42,7 +42,7 @@ impl Model for Mean {
     ghost view = { λ m. record { trail = m.trail; onward = m.onward; rewards = m.rewards.items; walk = m.walk } };
 }
 
-/// The mean bound of a prefix, by a belief after it. Fills in the beliefs and the rewards after the prefix, and their walks.
+// The mean bound of a prefix, by a belief after it. Fills in the beliefs and the rewards after the prefix, and their walks.
 fn bound_by(
     onward: &mut Onward,
     rewards: &mut [u128],

@@ -7,7 +7,7 @@ ghost use Rattle.mean_bound.specs.Rewards.{HasRewards, found_of};
 use belief_update::{Belief, Onward, later_parts};
 use search_model::{Path, Scenario};
 
-/// What a look from position `a` finds of the masses, cell by cell of its row.
+// What a look from position `a` finds of the masses, cell by cell of its row.
 #[inline(never)]
 fn found_by_row(sc: &Scenario, belief: &Belief, a: u8) -> u128
     requires period { (1 ≤ belief.now.period) × (belief.now.period ≤ sc.now.horizon) }
@@ -26,7 +26,7 @@ fn found_by_row(sc: &Scenario, belief: &Belief, a: u8) -> u128
     sum
 }
 
-/// What a look from position `a` finds of the masses, in all cells that it covers.
+// What a look from position `a` finds of the masses, in all cells that it covers.
 fn found(sc: &Scenario, belief: &Belief, a: u8) -> u128
     requires period { (1 ≤ belief.now.period) × (belief.now.period ≤ sc.now.horizon) }
     requires cells { length belief.now.masses ≡ sc.now.cells }
@@ -41,15 +41,16 @@ fn found(sc: &Scenario, belief: &Belief, a: u8) -> u128
     }
 }
 
-/// Writes the rewards of one period, which begin at place `row`: what a look from each position finds of the masses,
-/// times the parts of what is to come.
+// Writes the rewards of one period, which begin at place `row`: what a look from each position finds of the masses,
+// times the parts of what is to come.
 fn fill_period(rewards: &mut [u128], sc: &Scenario, belief: &Belief, row: usize, parts: u128)
     requires period { (1 ≤ belief.now.period) × (belief.now.period ≤ sc.now.horizon) }
     requires cells { length belief.now.masses ≡ sc.now.cells }
     requires parts { 1 ≤ parts }
     requires row { row + sc.now.positions ≤ length rewards.old }
     requires fits { (a : ℕ) → a < sc.now.positions → found_of sc.now belief.now a * parts < 2 ^ 127 }
-    ensures each { (a : ℕ) → a < sc.now.positions → slice_index rewards.new (row + a) ≡ found_of sc.now belief.now a * parts }
+    ensures each { (a : ℕ) → a < sc.now.positions →
+        slice_index rewards.new (row + a) ≡ found_of sc.now belief.now a * parts }
     ensures earlier { (i : ℕ) → i < row → slice_index rewards.new i ≡ slice_index rewards.old i }
 {
     for a in 0..sc.positions() {

@@ -31,7 +31,7 @@ pub fn value_after(sc: &Scenario, belief: &Belief) -> u128
     sc.weight() - belief.undetected() * parts.pow(later)
 }
 
-/// Looks from a position, in a period that isn't looked at yet, and notes the value of the prefix that ends there.
+// Looks from a position, in a period that isn't looked at yet, and notes the value of the prefix that ends there.
 fn note_look(
     sc: &Scenario,
     belief: &mut Belief,
@@ -40,8 +40,10 @@ fn note_look(
 ) -> Result<(), NoMemory>
     requires belief { (q : List ℕ) × IsBelief sc.now (map Some q ++ None ∷ []) belief.old }
     requires position { position < sc.now.positions }
-    ensures belief { (q : List ℕ) → IsBelief sc.now (map Some q ++ None ∷ []) belief.old → IsBelief sc.now (map Some (q ++ position ∷ [])) belief.new }
-    ensures value { OnOk result ((q : List ℕ) → IsBelief sc.now (map Some q ++ None ∷ []) belief.old → values.new.items ≡ values.old.items ++ value_of sc.now (q ++ position ∷ []) ∷ []) }
+    ensures belief { (q : List ℕ) → IsBelief sc.now (map Some q ++ None ∷ []) belief.old →
+        IsBelief sc.now (map Some (q ++ position ∷ [])) belief.new }
+    ensures value { OnOk result ((q : List ℕ) → IsBelief sc.now (map Some q ++ None ∷ []) belief.old →
+        values.new.items ≡ values.old.items ++ value_of sc.now (q ++ position ∷ []) ∷ []) }
 {
     belief.look(sc, position);
     values.push(value_after(sc, belief))?;

@@ -15,7 +15,7 @@ use search_model::{Name, Path, Scenario};
 use serde_json::{Map, Value, put};
 use std::alloc::Global;
 
-/// A name as a text.
+// A name as a text.
 fn name_value(alloc: Global, name: &Name) -> Result<Value, NoMemory>
     ensures { IfOk result (λ v. view v ≡ string name.now) }
 {
@@ -24,14 +24,14 @@ fn name_value(alloc: Global, name: &Name) -> Result<Value, NoMemory>
     Ok(Value::try_from_str(alloc, text)?)
 }
 
-/// A number as the text of its decimal.
+// A number as the text of its decimal.
 fn number_value(alloc: Global, n: u128) -> Result<Value, NoMemory>
     ensures { IfOk result (λ v. view v ≡ decimal_value n) }
 {
     Ok(Value::from(n.to_string(alloc)?))
 }
 
-/// Numbers, as the texts of their decimals.
+// Numbers, as the texts of their decimals.
 fn number_values(alloc: Global, numbers: &[u128]) -> Result<Vec<Value>, NoMemory>
     ensures { IfOk result (λ values. map view values.items ≡ map decimal_value numbers.now) }
 {
@@ -42,7 +42,7 @@ fn number_values(alloc: Global, numbers: &[u128]) -> Result<Vec<Value>, NoMemory
     Ok(values)
 }
 
-/// The names of a path's positions.
+// The names of a path's positions.
 fn place_values(alloc: Global, sc: &Scenario, path: &Path) -> Result<Vec<Value>, NoMemory>
     requires { IsPath sc.now path.now }
     ensures { IfOk result (λ values. map view values.items ≡ map (place_value sc.now) path.now) }
@@ -55,7 +55,7 @@ fn place_values(alloc: Global, sc: &Scenario, path: &Path) -> Result<Vec<Value>,
     Ok(values)
 }
 
-/// A cell, and the mass that is left there.
+// A cell, and the mass that is left there.
 fn left_value(alloc: Global, sc: &Scenario, c: u8, mass: u128) -> Result<Value, NoMemory>
     requires { c < sc.now.cells }
     ensures { IfOk result (λ v. view v ≡ left_entry sc.now c mass) }
@@ -68,10 +68,12 @@ fn left_value(alloc: Global, sc: &Scenario, c: u8, mass: u128) -> Result<Value, 
     Ok(Value::Object(members))
 }
 
-/// What is left in each cell, by the masses of a belief.
+// What is left in each cell, by the masses of a belief.
 fn left_values(alloc: Global, sc: &Scenario, belief: &Belief) -> Result<Vec<Value>, NoMemory>
     requires { length belief.now.masses ≡ sc.now.cells }
-    ensures { IfOk result (λ values. map view values.items ≡ map (λ c. left_entry sc.now c (slice_index belief.now.masses c)) (all_cells sc.now)) }
+    ensures { IfOk result (λ values.
+        map view values.items ≡ map (λ c.
+        left_entry sc.now c (slice_index belief.now.masses c)) (all_cells sc.now)) }
 {
     let mut values = Vec::new(alloc);
     for c in 0..sc.cells() {
@@ -80,7 +82,7 @@ fn left_values(alloc: Global, sc: &Scenario, belief: &Belief) -> Result<Vec<Valu
     Ok(values)
 }
 
-/// The object of a report.
+// The object of a report.
 fn report_object(
     alloc: Global,
     chance: Value,
@@ -89,7 +91,9 @@ fn report_object(
     periods: Vec<Value>,
     weight: Value,
 ) -> Result<Value, NoMemory>
-    ensures { IfOk result (λ v. view v ≡ object_of (view chance) (map view left.items) (map view path.items) (map view periods.items) (view weight)) }
+    ensures { IfOk result (λ v.
+        view v ≡ object_of (view chance) (map view left.items) (map view path.items) (map view periods.items)
+        (view weight)) }
 {
     let mut members = Map::new(alloc);
     put(&mut members, alloc, "chance", chance)?;
@@ -100,7 +104,7 @@ fn report_object(
     Ok(Value::Object(members))
 }
 
-/// The report of a path as a value.
+// The report of a path as a value.
 fn report_value(alloc: Global, sc: &Scenario, path: &Path) -> Result<Value, NoMemory>
     requires { IsPath sc.now path.now }
     ensures { IfOk result (λ v. view v ≡ report_value_lem sc.now path.now) }

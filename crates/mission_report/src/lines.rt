@@ -17,7 +17,7 @@ pub enum Field<'a> {
     Share(u128, u128),
 }
 
-/// Appends a field. At `NoMemory` nothing is appended.
+// Appends a field. At `NoMemory` nothing is appended.
 fn push_field(out: &mut Vec<u8>, field: &Field) -> Result<(), NoMemory>
     requires { IsField field.now }
     ensures ok { OnOk result (out.new.items ≡ out.old.items ++ field_text field.now) }

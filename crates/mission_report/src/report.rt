@@ -32,7 +32,7 @@ pub fn push_chance(out: &mut Vec<u8>, sc: &Scenario, value: u128) -> Result<(), 
     )
 }
 
-/// Appends the line of a period: the position that is looked from, and the value up to then.
+// Appends the line of a period: the position that is looked from, and the value up to then.
 fn push_period(
     out: &mut Vec<u8>,
     sc: &Scenario,
@@ -43,7 +43,8 @@ fn push_period(
     requires position { position < sc.now.positions }
     requires value { value ≤ whole_weight sc.now }
     ensures ok { OnOk result (out.new.items ≡ out.old.items ++ text_of (period_row sc.now t position value ∷ [])) }
-    ensures err { OnErr result (AppendsFront out.old.items out.new.items (text_of (period_row sc.now t position value ∷ []))) }
+    ensures err { OnErr result (AppendsFront out.old.items out.new.items
+        (text_of (period_row sc.now t position value ∷ []))) }
 {
     push_line(
         out,
@@ -57,7 +58,7 @@ fn push_period(
     )
 }
 
-/// Appends the line of a cell: the mass that is left there.
+// Appends the line of a cell: the mass that is left there.
 fn push_left(out: &mut Vec<u8>, sc: &Scenario, c: u8, mass: u128) -> Result<(), NoMemory>
     requires cell { c < sc.now.cells }
     requires mass { mass ≤ whole_weight sc.now }
@@ -75,7 +76,7 @@ fn push_left(out: &mut Vec<u8>, sc: &Scenario, c: u8, mass: u128) -> Result<(), 
     )
 }
 
-/// Appends a line for each period of a path, by the path's value up to it.
+// Appends a line for each period of a path, by the path's value up to it.
 fn push_periods(
     out: &mut Vec<u8>,
     sc: &Scenario,
@@ -95,12 +96,14 @@ fn push_periods(
     Ok(())
 }
 
-/// Appends a line for each cell, by the masses of a belief.
+// Appends a line for each cell, by the masses of a belief.
 fn push_masses(out: &mut Vec<u8>, sc: &Scenario, belief: &Belief) -> Result<(), NoMemory>
     requires cells { length belief.now.masses ≡ sc.now.cells }
     requires parts { All (λ mass. mass ≤ whole_weight sc.now) belief.now.masses }
-    ensures ok { OnOk result (out.new.items ≡ out.old.items ++ text_of (map (λ c. left_row sc.now c (slice_index belief.now.masses c)) (all_cells sc.now))) }
-    ensures err { OnErr result (AppendsFront out.old.items out.new.items (text_of (map (λ c. left_row sc.now c (slice_index belief.now.masses c)) (all_cells sc.now)))) }
+    ensures ok { OnOk result (out.new.items ≡ out.old.items ++
+        text_of (map (λ c. left_row sc.now c (slice_index belief.now.masses c)) (all_cells sc.now))) }
+    ensures err { OnErr result (AppendsFront out.old.items out.new.items
+        (text_of (map (λ c. left_row sc.now c (slice_index belief.now.masses c)) (all_cells sc.now)))) }
 {
     for c in 0..sc.cells() {
         push_left(out, sc, c, belief.at(c))?;

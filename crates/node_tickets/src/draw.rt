@@ -13,7 +13,7 @@ pub enum Draw {
 }
 
 impl Draw {
-    // The draw of a number.
+    /// The draw of a number.
     pub(crate) fn of(number: u64, limit: u64) -> Draw
         ensures drawn { number_drawn result ≡ number }
         ensures number { IfNumber result (λ n. n < limit) }

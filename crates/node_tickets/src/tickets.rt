@@ -162,7 +162,12 @@ impl Tickets {
     fn join(&self, seat: &mut TicketSeat, other: TicketSeat)
         requires seat { IsSeatOf self.now seat.old }
         requires other { IsSeatOf self.now other }
-        ensures { seat.new ≡ record seat.old { stands_for = seat.old.stands_for + other.stands_for; drawn = seat.old.drawn ++ other.drawn } }
+        ensures { seat.new ≡
+            record seat.old {
+              stands_for = seat.old.stands_for + other.stands_for;
+              drawn = seat.old.drawn ++
+                  other.drawn;
+            } }
     {
         self.word
             .shared

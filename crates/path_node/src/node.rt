@@ -40,7 +40,7 @@ impl Model for Scratch {
     ghost view = { λ s. record { trail = s.trail; mean = s.mean; tangent = s.tangent; edge = s.edge } };
 }
 
-/// Whether the looks of the scenario that the tables of a tangent bound were made for have one rate, which they keep.
+// Whether the looks of the scenario that the tables of a tangent bound were made for have one rate, which they keep.
 fn has_rate(tangent: &Tangent) -> bool
     ensures { (p : Problem) → IsTangentFor p tangent.now → TellsRate p result }
 {
@@ -61,7 +61,7 @@ impl Scratch {
     }
 }
 
-/// The belief ahead of the look that comes after a prefix, where the trail is along it.
+// The belief ahead of the look that comes after a prefix, where the trail is along it.
 fn ahead_of<'a>(trail: &'a Trail, sc: &Scenario, prefix: &Path) -> &'a Belief
     requires trail { IsTrailOf sc.now trail.now }
     requires there { trail.now.prefix ≡ prefix.now }
@@ -73,7 +73,7 @@ fn ahead_of<'a>(trail: &'a Trail, sc: &Scenario, prefix: &Path) -> &'a Belief
     trail.ahead(prefix.len())
 }
 
-/// The least path of the greatest sum of rewards after a prefix, by the rewards that its mean bound took.
+// The least path of the greatest sum of rewards after a prefix, by the rewards that its mean bound took.
 fn reference_of(mean: &Mean, sc: &Scenario, prefix: &Path) -> Path
     requires made { IsMeanFor sc.now mean.now }
     requires filled { IsFilledFor sc.now prefix.now mean.now }
@@ -84,8 +84,8 @@ fn reference_of(mean: &Mean, sc: &Scenario, prefix: &Path) -> Path
     reference
 }
 
-/// Closes a prefix that neither its mean bound nor a tangent bound rules out: by its edge bound, if the standing cuts
-/// that. No standing cuts a bound above its value, and mostly the reference alone shows that the bound is.
+// Closes a prefix that neither its mean bound nor a tangent bound rules out: by its edge bound, if the standing cuts
+// that. No standing cuts a bound above its value, and mostly the reference alone shows that the bound is.
 fn close_by_edge(
     scratch: &mut Scratch,
     sc: &Scenario,
@@ -116,8 +116,8 @@ fn close_by_edge(
     }
 }
 
-/// Closes a prefix whose mean bound isn't cut, where the looks have one rate: by its tangent bound at the reference, if
-/// the standing cuts that.
+// Closes a prefix whose mean bound isn't cut, where the looks have one rate: by its tangent bound at the reference, if
+// the standing cuts that.
 fn close_by_tangent(
     scratch: &mut Scratch,
     sc: &Scenario,
@@ -148,7 +148,7 @@ fn close_by_tangent(
     }
 }
 
-/// Closes a prefix that is shorter than the horizon, where the trail is along it.
+// Closes a prefix that is shorter than the horizon, where the trail is along it.
 fn close_shorter(scratch: &mut Scratch, sc: &Scenario, prefix: &Path, standing: &Standing) -> Kind
     requires made { IsMadeFor sc.now scratch.old }
     requires there { scratch.old.trail.prefix ≡ prefix.now }

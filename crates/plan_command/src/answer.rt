@@ -48,7 +48,7 @@ ghost use Rattle.search_workers.specs.Search.{plan_of};
 ghost use Rattle.plan_command.specs.Makes.{PlansFor};
 ghost use Rattle.bound_tree.specs.Room.{MOST_NODES};
 
-/// The plan of what a search found.
+// The plan of what a search found.
 fn plan_found(sc: &Scenario, found: Found) -> Plan
     ensures { result ≡ plan_of sc.now found }
 {

@@ -20,7 +20,7 @@ use search_model::{Path, Scenario};
 use std::alloc::Global;
 use tree_checker::{RejectAt, Verdict, why_name};
 
-/// The line of a rejection.
+// The line of a rejection.
 fn rejection(alloc: Global, at: RejectAt) -> Result<Vec<u8>, NoMemory>
     ensures { IfOk result (λ v. v.items ≡ rejection_of at) }
 {
@@ -32,7 +32,7 @@ fn rejection(alloc: Global, at: RejectAt) -> Result<Vec<u8>, NoMemory>
     Ok(text)
 }
 
-/// Whether the plan is accepted, or the first reason against it.
+// Whether the plan is accepted, or the first reason against it.
 fn tell_verdict(alloc: Global, verdict: Verdict) -> Result<Answer, Stop>
     ensures { (p : Problem) (plan : Plan) → IsVerdictOn p plan verdict → TellsVerdict p plan result }
 {
@@ -55,7 +55,7 @@ pub fn answer_check(alloc: Global, judgement: Judgement) -> Result<Answer, Stop>
     tell_verdict(alloc, judgement.verdict)
 }
 
-/// Appends the report of a path.
+// Appends the report of a path.
 fn push_report_of(json: bool, out: &mut Vec<u8>, sc: &Scenario, path: &Path) -> Result<(), NoMemory>
     requires { IsPath sc.now path.now }
     ensures { OnOk result (out.new.items ≡ out.old.items ++ report_of json sc.now path.now) }
@@ -67,7 +67,7 @@ fn push_report_of(json: bool, out: &mut Vec<u8>, sc: &Scenario, path: &Path) -> 
     }
 }
 
-/// The report of a path.
+// The report of a path.
 fn report(alloc: Global, json: bool, sc: &Scenario, path: &Path) -> Result<Vec<u8>, NoMemory>
     requires { IsPath sc.now path.now }
     ensures { IfOk result (λ text. text.items ≡ report_of json sc.now path.now) }

@@ -18,7 +18,7 @@ use std::alloc::Global;
 use tree_checker::{Verdict, check};
 use tree_format::{PlanStop, print_plan_2, read_plan};
 
-/// The text of version 2 of a plan whose records have the prefixes that are expected.
+// The text of version 2 of a plan whose records have the prefixes that are expected.
 fn text_of_plan(alloc: Global, sc: &Scenario, plan: &Plan) -> Result<Vec<u8>, NoMemory>
     requires printable { IsPrintable sc.now plan.now }
     requires in_place { AreInPlace sc.now ([] ∷ []) plan.now.tree }
@@ -29,7 +29,7 @@ fn text_of_plan(alloc: Global, sc: &Scenario, plan: &Plan) -> Result<Vec<u8>, No
     Ok(text)
 }
 
-/// The text of an accepted plan, or the first reason against the plan.
+// The text of an accepted plan, or the first reason against the plan.
 fn convert_plan(alloc: Global, sc: &Scenario, plan: &Plan) -> Result<Answer, Stop>
     requires { IsPrintable sc.now plan.now }
     ensures { ConvertsPlan sc.now plan.now result }
@@ -43,7 +43,7 @@ fn convert_plan(alloc: Global, sc: &Scenario, plan: &Plan) -> Result<Answer, Sto
     }
 }
 
-/// What is made of the plan behind a scenario.
+// What is made of the plan behind a scenario.
 fn convert_rest(alloc: Global, sc: &Scenario, rest: &[u8]) -> Result<Answer, Stop>
     ensures { ConvertsRest sc.now rest.now result }
 {

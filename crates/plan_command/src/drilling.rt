@@ -40,7 +40,7 @@ pub fn answer_make(alloc: Global, number: u64) -> Result<Answer, Stop>
     })
 }
 
-/// The plan of a scenario whose live prefixes are few.
+// The plan of a scenario whose live prefixes are few.
 fn plan_of_few<R: AllocGlobal + Threads + Wait + Sync, G: Gate>(
     rt: &R,
     sc: &Scenario,
@@ -61,7 +61,7 @@ fn plan_of_few<R: AllocGlobal + Threads + Wait + Sync, G: Gate>(
     }
 }
 
-/// A plan as it is read from its own text of version 2.
+// A plan as it is read from its own text of version 2.
 fn read_again(alloc: Global, sc: &Scenario, plan: &Plan) -> Result<Plan, NoMemory>
     requires printable { IsPrintable sc.now plan.now }
     requires in_place { AreInPlace sc.now ([] ∷ []) plan.now.tree }
@@ -76,7 +76,7 @@ fn read_again(alloc: Global, sc: &Scenario, plan: &Plan) -> Result<Plan, NoMemor
     }
 }
 
-/// Checks a plan that is accepted.
+// Checks a plan that is accepted.
 fn check_accepted(alloc: Global, sc: &Scenario, plan: &Plan) -> Result<(), NoMemory>
     requires { Accepts sc.now plan.now }
 {
@@ -86,7 +86,7 @@ fn check_accepted(alloc: Global, sc: &Scenario, plan: &Plan) -> Result<(), NoMem
     }
 }
 
-/// The summary of a drill: the number, and what the path of its scenario finds.
+// The summary of a drill: the number, and what the path of its scenario finds.
 fn summary(alloc: Global, number: u64, sc: &Scenario, best: &Standing) -> Result<Vec<u8>, NoMemory>
     requires positions { ArePositions sc.now best.now.path }
     requires value { best.now.value ≡ value_of sc.now best.now.path }
@@ -102,7 +102,7 @@ fn summary(alloc: Global, number: u64, sc: &Scenario, best: &Standing) -> Result
     Ok(text)
 }
 
-/// The plan of a scenario whose live prefixes are few, written, read again and checked.
+// The plan of a scenario whose live prefixes are few, written, read again and checked.
 fn drilled<R: AllocGlobal + Threads + Wait + Sync, G: Gate>(
     rt: &R,
     sc: &Scenario,

@@ -20,16 +20,16 @@ use std::alloc::Global;
 use std::sync::Wait;
 use std::thread::Threads;
 
-/// How many bytes of an input are read at once, at most.
+// How many bytes of an input are read at once, at most.
 const PIECE_LEN: usize = 65_536;
 
-/// How many bytes the scenario of `plan` may have.
+// How many bytes the scenario of `plan` may have.
 const MOST_SCENARIO: usize = 1_048_576;
 
-/// How many bytes a scenario and the plan behind it may have.
+// How many bytes a scenario and the plan behind it may have.
 const MOST_JUDGED: usize = 336_592_896;
 
-/// The whole input, which isn't longer than the limit.
+// The whole input, which isn't longer than the limit.
 fn read_input<S: Source>(alloc: Global, source: &mut S, limit: usize) -> Result<Vec<u8>, Stop>
     requires { limit < 2 ^ 30 }
     ensures { InputOf (λ v. v.items) (Some limit) (source_view S.left S.faults source.old)
@@ -43,7 +43,7 @@ fn read_input<S: Source>(alloc: Global, source: &mut S, limit: usize) -> Result<
     }
 }
 
-/// What stops a run whose input wasn't read to its end.
+// What stops a run whose input wasn't read to its end.
 fn unread(stop: InputStop) -> Stop
     ensures fault { stop ≡ InputStop.Fault → result ≡ Stop.ReadFault }
     ensures too_long { stop ≡ InputStop.TooLong → result ≡ Stop.TooLong }
@@ -54,7 +54,7 @@ fn unread(stop: InputStop) -> Stop
     }
 }
 
-/// The verdict on the plan behind the scenario in the input. Of both only the scenario is kept.
+// The verdict on the plan behind the scenario in the input. Of both only the scenario is kept.
 fn judge_input<S: Source>(alloc: Global, source: &mut S) -> Result<Judgement, Stop>
     ensures { ReadsAnd (Some MOST_JUDGED) (source_view S.left S.faults source.old)
         (source_view S.left S.faults source.new) Judges result }
@@ -67,7 +67,7 @@ fn judge_input<S: Source>(alloc: Global, source: &mut S) -> Result<Judgement, St
     }
 }
 
-/// What `check` makes of its input.
+// What `check` makes of its input.
 fn check_input<S: Source>(alloc: Global, source: &mut S) -> Result<Answer, Stop>
     ensures { ReadsAnd (Some MOST_JUDGED) (source_view S.left S.faults source.old)
         (source_view S.left S.faults source.new) (MakesOf Request.Check) result }
@@ -78,7 +78,7 @@ fn check_input<S: Source>(alloc: Global, source: &mut S) -> Result<Answer, Stop>
     }
 }
 
-/// What `report` makes of its input.
+// What `report` makes of its input.
 fn report_input<S: Source>(alloc: Global, json: bool, source: &mut S) -> Result<Answer, Stop>
     ensures { ReadsAnd (Some MOST_JUDGED) (source_view S.left S.faults source.old)
         (source_view S.left S.faults source.new) (MakesOf (Request.Report json)) result }
@@ -89,7 +89,7 @@ fn report_input<S: Source>(alloc: Global, json: bool, source: &mut S) -> Result<
     }
 }
 
-/// What `convert` makes of its input, which is kept whole.
+// What `convert` makes of its input, which is kept whole.
 fn convert_input<S: Source>(alloc: Global, source: &mut S) -> Result<Answer, Stop>
     ensures { ReadsAnd (Some MOST_JUDGED) (source_view S.left S.faults source.old)
         (source_view S.left S.faults source.new) (MakesOf Request.Convert) result }
@@ -100,7 +100,7 @@ fn convert_input<S: Source>(alloc: Global, source: &mut S) -> Result<Answer, Sto
     }
 }
 
-/// What `plan` makes of its input.
+// What `plan` makes of its input.
 fn plan_input<R: AllocGlobal + Threads + Wait + Sync, S: Source, G: Gate>(
     rt: &R,
     workers: u32,

@@ -34,7 +34,7 @@ pub struct Judgement {
     pub verdict: Verdict,
 }
 
-/// Adds bytes to the scenario's lines up to the first line `end`: how many, where that line came.
+// Adds bytes to the scenario's lines up to the first line `end`: how many, where that line came.
 #[tactic(auto, using(crate::proofs::Gathering::gather_steps))]
 fn gather(text: &mut Vec<u8>, piece: &[u8]) -> Result<Option<usize>, NoMemory>
     ensures { IfOk result (λ used. HasGathered text.old.items piece.now used text.new.items) }
@@ -48,7 +48,7 @@ fn gather(text: &mut Vec<u8>, piece: &[u8]) -> Result<Option<usize>, NoMemory>
     Ok(None)
 }
 
-/// The judge of the plan behind a scenario, which took these bytes.
+// The judge of the plan behind a scenario, which took these bytes.
 fn judge_rest(alloc: Global, sc: Scenario, rest: &[u8]) -> Result<Judge, Stop>
     ensures { JudgesRest sc rest.now result }
 {
@@ -59,7 +59,7 @@ fn judge_rest(alloc: Global, sc: Scenario, rest: &[u8]) -> Result<Judge, Stop>
     }
 }
 
-/// The judge of the plan behind the scenario at the front of the text, which took the rest of it.
+// The judge of the plan behind the scenario at the front of the text, which took the rest of it.
 fn judge_behind(alloc: Global, text: &[u8]) -> Result<Judge, Stop>
     ensures { JudgesFront text.now result }
 {
@@ -70,7 +70,7 @@ fn judge_behind(alloc: Global, text: &[u8]) -> Result<Judge, Stop>
     }
 }
 
-/// What is made of a plan's judge and of the bytes that follow.
+// What is made of a plan's judge and of the bytes that follow.
 fn going_on(judge: Judge, more: &[u8]) -> Intake
     requires { (rest : List ℕ) × HasTakenRest rest judge }
     ensures { GoesOn judge more.now result }
@@ -82,7 +82,7 @@ fn going_on(judge: Judge, more: &[u8]) -> Intake
     }
 }
 
-/// What is made of a scenario's lines, up to the line `end`, and of the bytes that follow.
+// What is made of a scenario's lines, up to the line `end`, and of the bytes that follow.
 fn judged_on(alloc: Global, text: &[u8], more: &[u8]) -> Intake
     requires { EndsWithEnd text.now }
     ensures { HasTaken (text.now ++ more.now) result }
@@ -93,7 +93,7 @@ fn judged_on(alloc: Global, text: &[u8], more: &[u8]) -> Intake
     }
 }
 
-/// Adds a piece to the scenario's lines: what is made of them where their line `end` came, or where memory ran out.
+// Adds a piece to the scenario's lines: what is made of them where their line `end` came, or where memory ran out.
 fn gathered_on(alloc: Global, text: &mut Vec<u8>, piece: &[u8]) -> Option<Intake>
     ensures { GathersOn text.old.items piece.now text.new.items result }
 {
@@ -104,7 +104,7 @@ fn gathered_on(alloc: Global, text: &mut Vec<u8>, piece: &[u8]) -> Option<Intake
     }
 }
 
-/// What is made of a plan's judge that ends.
+// What is made of a plan's judge that ends.
 fn judged(judge: Judge) -> Result<Judgement, Stop>
     ensures { (input : List ℕ) → IsBehind input judge → Judges input result }
 {
@@ -118,7 +118,7 @@ fn judged(judge: Judge) -> Result<Judgement, Stop>
     }
 }
 
-/// What is made of an input that is a scenario's lines alone.
+// What is made of an input that is a scenario's lines alone.
 fn judged_text(alloc: Global, text: &[u8]) -> Result<Judgement, Stop>
     ensures { Judges text.now result }
 {

@@ -44,7 +44,7 @@ impl Judge {
         })
     }
 
-    /// Hears what a line of the plan told.
+    // Hears what a line of the plan told.
     fn hear(&mut self, item: PlanItem)
         requires under_way { IsUnderWay self.old.sc self.old.checker }
         requires line { self.old.checker.line < 2 ^ 63 }
@@ -52,7 +52,8 @@ impl Judge {
         ensures scenario { self.new.sc ≡ self.old.sc }
         ensures feed { self.new.feed ≡ self.old.feed }
         ensures begun { self.new.begun ≡ self.old.begun }
-        ensures heard { (told : List ItemLem) → IsNextItem told item → HasHeard self.old.sc told self.old.path self.old.checker
+        ensures heard { (told : List ItemLem) → IsNextItem told item →
+            HasHeard self.old.sc told self.old.path self.old.checker
             → HasHeard self.old.sc (told ++ item ∷ []) self.new.path self.new.checker }
     {
         match item {
@@ -65,15 +66,18 @@ impl Judge {
         }
     }
 
-    /// Takes the next bytes of the plan's text up to the first that completes an item: how many.
+    // Takes the next bytes of the plan's text up to the first that completes an item: how many.
     fn take_some(&mut self, text: &[u8]) -> Result<usize, PlanFault>
         requires some { 1 ≤ length text.now }
         requires begun { (before : List ℕ) × HasTakenText before self.old }
         ensures scenario { self.new.sc ≡ self.old.sc }
         ensures begun { self.new.begun ≡ self.old.begun }
         ensures used { IfOk result (λ used. (1 ≤ used) × (used ≤ length text.now)) }
-        ensures taken { IfOk result (λ used. (before : List ℕ) → HasTakenText before self.old → HasTakenText (before ++ take used text.now) self.new) }
-        ensures fault { IfErr result (λ fault. (before : List ℕ) → HasTakenText before self.old → IsDecided self.old.sc (before ++ text.now) fault) }
+        ensures taken { IfOk result (λ used.
+            (before : List ℕ) → HasTakenText before self.old →
+            HasTakenText (before ++ take used text.now) self.new) }
+        ensures fault { IfErr result (λ fault.
+            (before : List ℕ) → HasTakenText before self.old → IsDecided self.old.sc (before ++ text.now) fault) }
     {
         self.sc.recall_sound();
         let Fed { used, step } = self.feed.feed(&self.sc, text);
@@ -87,13 +91,15 @@ impl Judge {
         }
     }
 
-    /// Takes the next bytes of the plan's text.
+    // Takes the next bytes of the plan's text.
     fn take_text(&mut self, text: &[u8]) -> Result<(), PlanFault>
         requires { (before : List ℕ) × HasTakenText before self.old }
         ensures scenario { self.new.sc ≡ self.old.sc }
         ensures begun { self.new.begun ≡ self.old.begun }
-        ensures taken { OnOk result ((before : List ℕ) → HasTakenText before self.old → HasTakenText (before ++ text.now) self.new) }
-        ensures fault { IfErr result (λ fault. (before : List ℕ) → HasTakenText before self.old → IsDecided self.old.sc (before ++ text.now) fault) }
+        ensures taken { OnOk result ((before : List ℕ) → HasTakenText before self.old →
+            HasTakenText (before ++ text.now) self.new) }
+        ensures fault { IfErr result (λ fault.
+            (before : List ℕ) → HasTakenText before self.old → IsDecided self.old.sc (before ++ text.now) fault) }
     {
         let mut done = 0;
         while done < text.len() {
@@ -113,7 +119,8 @@ impl Judge {
     pub fn take(&mut self, piece: &[u8]) -> Result<(), PlanFault>
         requires { (before : List ℕ) × HasTakenRest before self.old }
         ensures scenario { self.new.sc ≡ self.old.sc }
-        ensures taken { OnOk result ((before : List ℕ) → HasTakenRest before self.old → HasTakenRest (before ++ piece.now) self.new) }
+        ensures taken { OnOk result ((before : List ℕ) → HasTakenRest before self.old →
+            HasTakenRest (before ++ piece.now) self.new) }
         ensures fault { IfErr result (λ fault. (before more : List ℕ) → HasTakenRest before self.old
             → HasFault self.old.sc (before ++ piece.now ++ more) fault) }
     {

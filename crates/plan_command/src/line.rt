@@ -10,10 +10,10 @@ use scenario_text::text_kind_name;
 use tree_checker::why_name;
 use tree_format::plan_kind_name;
 
-/// Room for the longest line.
+// Room for the longest line.
 const ROOM: usize = 160;
 
-/// Puts a piece behind the first `at` bytes.
+// Puts a piece behind the first `at` bytes.
 fn append(to: &mut [u8; ROOM], at: usize, piece: &[u8]) -> usize
     requires { at + length piece.now ≤ 160 }
     ensures text { take result to.new ≡ take at to.old ++ piece.now }
@@ -23,7 +23,7 @@ fn append(to: &mut [u8; ROOM], at: usize, piece: &[u8]) -> usize
     at + piece.len()
 }
 
-/// Puts a number behind the first `at` bytes.
+// Puts a number behind the first `at` bytes.
 fn append_number(to: &mut [u8; ROOM], at: usize, number: u64) -> usize
     requires { at ≤ 100 }
     ensures text { take result to.new ≡ take at to.old ++ decimal number }
@@ -34,7 +34,7 @@ fn append_number(to: &mut [u8; ROOM], at: usize, number: u64) -> usize
     append(to, at, &places[..len])
 }
 
-/// The line of a text's first fault: what is bad, the line's number, and the kind.
+// The line of a text's first fault: what is bad, the line's number, and the kind.
 fn put_fault(to: &mut [u8; ROOM], head: &[u8], line: u64, kind: &[u8]) -> usize
     requires head { length head.now ≤ 40 }
     requires kind { length kind.now ≤ 40 }
@@ -48,7 +48,7 @@ fn put_fault(to: &mut [u8; ROOM], head: &[u8], line: u64, kind: &[u8]) -> usize
     append(to, at, b"\n")
 }
 
-/// The line, in memory that is there already.
+// The line, in memory that is there already.
 #[tactic(auto, unfolding(crate::specs::Lines::line_of))]
 fn put_line(stop: Stop, to: &mut [u8; ROOM]) -> usize
     ensures text { take result to.new ≡ line_of stop }
@@ -87,7 +87,8 @@ fn put_line(stop: Stop, to: &mut [u8; ROOM]) -> usize
 
 /// Says on `err` what stopped the run.
 pub fn say<E: Sink>(err: &mut E, stop: Stop)
-    ensures { Says (err_view E.wrote E.faults E.wants err.old) (err_view E.wrote E.faults E.wants err.new) (line_of stop) }
+    ensures { Says (err_view E.wrote E.faults E.wants err.old) (err_view E.wrote E.faults E.wants err.new)
+        (line_of stop) }
 {
     let mut line = [0u8; ROOM];
     let len = put_line(stop, &mut line);

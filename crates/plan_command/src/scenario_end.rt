@@ -6,7 +6,7 @@ ghost use Rattle.plan_command.specs.Ends.{EndsInBlanks, BeginsLine};
 
 use text_rows::is_blank;
 
-/// What stands before all the blanks at the end.
+// What stands before all the blanks at the end.
 #[tactic(auto, using(crate::proofs::EndWords::blank_steps))]
 fn before_blanks(text: &[u8]) -> &[u8]
     ensures { EndsInBlanks text.now result.now }
@@ -18,14 +18,15 @@ fn before_blanks(text: &[u8]) -> &[u8]
     &text[..len]
 }
 
-/// What stands before these bytes at the end: `None` exactly where the text doesn't end with them.
+// What stands before these bytes at the end: `None` exactly where the text doesn't end with them.
 fn without<'a>(text: &'a [u8], end: &[u8]) -> Option<&'a [u8]>
-    ensures { MatchOption result ((rest : List ℕ) → text.now ≢ rest ++ end.now) (λ rest. text.now ≡ rest.now ++ end.now) }
+    ensures { MatchOption result ((rest : List ℕ) → text.now ≢ rest ++ end.now) (λ rest.
+        text.now ≡ rest.now ++ end.now) }
 {
     text.strip_suffix(end)
 }
 
-/// Whether a line begins behind the text.
+// Whether a line begins behind the text.
 fn begins_line(text: &[u8]) -> bool
     ensures { IsTrue result ↔ BeginsLine text.now }
 {

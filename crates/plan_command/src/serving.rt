@@ -17,11 +17,13 @@ use search_workers::Gate;
 use std::sync::Wait;
 use std::thread::Threads;
 
-/// Writes an answer.
+// Writes an answer.
 fn deliver<K: Sink>(out: &mut K, answer: &Answer) -> Result<Status, Stop>
-    ensures whole { IfOk result (λ status. (status ≡ answer.now.status) × Appends (K.wrote out.old) (K.wrote out.new) answer.now.text.items) }
+    ensures whole { IfOk result (λ status.
+        (status ≡ answer.now.status) × Appends (K.wrote out.old) (K.wrote out.new) answer.now.text.items) }
     ensures front { OnErr result (AppendsPrefix (K.wrote out.old) (K.wrote out.new) answer.now.text.items) }
-    ensures cause { IfErr result (λ stop. ((stop ≡ Stop.WriteFault) × Rose (K.faults out.old) (K.faults out.new)) ⊎ (stop ≡ Stop.NoMemory)) }
+    ensures cause { IfErr result (λ stop.
+        ((stop ≡ Stop.WriteFault) × Rose (K.faults out.old) (K.faults out.new)) ⊎ (stop ≡ Stop.NoMemory)) }
 {
     match write_all(out, &answer.text) {
         Ok(()) => Ok(answer.status),

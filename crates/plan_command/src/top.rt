@@ -21,7 +21,7 @@ use search_workers::Gate;
 use std::sync::Wait;
 use std::thread::Threads;
 
-/// All but the line on `err`.
+// All but the line on `err`.
 fn work<R: AllocGlobal + Threads + Wait + Sync, S: Source, K: Sink, G: Gate>(
     rt: &R,
     words: &[String],
@@ -29,7 +29,8 @@ fn work<R: AllocGlobal + Threads + Wait + Sync, S: Source, K: Sink, G: Gate>(
     out: &mut K,
     gate: &G,
 ) -> Result<Status, Stop>
-    ensures ends { Ends (call (map string_bytes words.now) S.left S.faults K.wrote K.faults source.old source.new out.old out.new) (ending_of result) }
+    ensures ends { Ends (call (map string_bytes words.now) S.left S.faults K.wrote K.faults source.old source.new
+        out.old out.new) (ending_of result) }
     ensures untouched { IsErrOf result Stop.Usage → source.new ≡ source.old }
 {
     match read_words(words) {
@@ -48,7 +49,9 @@ pub fn run<R: AllocGlobal + Threads + Wait + Sync, S: Source, K: Sink, E: Sink, 
     gate: &G,
 ) -> Status
     // How it ended, and what it said of that on `err`.
-    ensures ended { (end : Ending) × (result ≡ status_at end) × Ends (call (map string_bytes words.now) S.left S.faults K.wrote K.faults source.old source.new out.old out.new) end
+    ensures ended { (end : Ending) × (result ≡ status_at end) ×
+        Ends (call (map string_bytes words.now) S.left S.faults K.wrote K.faults source.old source.new out.old
+        out.new) end
         × Says (err_view E.wrote E.faults E.wants err.old) (err_view E.wrote E.faults E.wants err.new) (line_at end) }
 
     // `plan` at Done, for every number of workers and every interleaving: it read the text of a scenario alone, and wrote a

@@ -9,14 +9,14 @@ use crate::request::{MOST_WORKERS, Request, WORKERS};
 use bound_tree::MOST_NODES;
 use exact_parts::{Number, number_of};
 
-/// Whether a word is this one.
+// Whether a word is this one.
 fn is_word(word: &str, name: &str) -> bool
     ensures { result ≡ bytes_eq word.now name.now }
 {
     word == name
 }
 
-/// The number that a word spells, where it is within these limits.
+// The number that a word spells, where it is within these limits.
 fn number_between(word: &str, least: u64, most: u64) -> Option<u64>
     ensures value { result ≡ number_within least most word.now }
     ensures within { IfSome result (λ n. n ≤ most) }
@@ -27,7 +27,7 @@ fn number_between(word: &str, least: u64, most: u64) -> Option<u64>
     }
 }
 
-/// A number of workers.
+// A number of workers.
 fn workers_from(word: &str) -> Option<u32>
     ensures { result ≡ workers_in word.now }
 {
@@ -37,14 +37,14 @@ fn workers_from(word: &str) -> Option<u32>
     }
 }
 
-/// A number of records.
+// A number of records.
 fn nodes_from(word: &str) -> Option<u64>
     ensures { result ≡ nodes_in word.now }
 {
     number_between(word, 1, MOST_NODES)
 }
 
-/// `plan` with one option.
+// `plan` with one option.
 fn plan_one(name: &str, value: &str) -> Option<Request>
     ensures { result ≡ plan_with_one name.now value.now }
 {
@@ -65,7 +65,7 @@ fn plan_one(name: &str, value: &str) -> Option<Request>
     }
 }
 
-/// `plan` with both options.
+// `plan` with both options.
 fn plan_two(name: &str, value: &str, other: &str, number: &str) -> Option<Request>
     ensures { result ≡ plan_with_two name.now value.now other.now number.now }
 {
@@ -82,7 +82,7 @@ fn plan_two(name: &str, value: &str, other: &str, number: &str) -> Option<Reques
     }
 }
 
-/// The words behind `plan`.
+// The words behind `plan`.
 #[tactic(auto, using(crate::proofs::WordLists::word_steps))]
 fn plan_request(words: &[String]) -> Option<Request>
     ensures { result ≡ plan_at (map string_bytes words.now) }
@@ -103,7 +103,7 @@ fn plan_request(words: &[String]) -> Option<Request>
     }
 }
 
-/// A request that has no words behind its command.
+// A request that has no words behind its command.
 #[tactic(auto, using(crate::proofs::WordLists::word_steps))]
 fn request_alone(request: Request, words: &[String]) -> Option<Request>
     ensures { result ≡ alone_at request (map string_bytes words.now) }
@@ -115,7 +115,7 @@ fn request_alone(request: Request, words: &[String]) -> Option<Request>
     }
 }
 
-/// The words behind `report`.
+// The words behind `report`.
 #[tactic(auto, using(crate::proofs::WordLists::word_steps))]
 fn report_request(words: &[String]) -> Option<Request>
     ensures { result ≡ report_at (map string_bytes words.now) }
@@ -133,7 +133,7 @@ fn report_request(words: &[String]) -> Option<Request>
     }
 }
 
-/// The words behind `make`.
+// The words behind `make`.
 #[tactic(auto, using(crate::proofs::WordLists::word_steps))]
 fn make_request(words: &[String]) -> Option<Request>
     ensures { result ≡ make_at (map string_bytes words.now) }
@@ -147,7 +147,7 @@ fn make_request(words: &[String]) -> Option<Request>
     }
 }
 
-/// `drill` with a number and an option.
+// `drill` with a number and an option.
 fn drill_with(number: &str, name: &str, value: &str) -> Option<Request>
     ensures { result ≡ drill_at (number.now ∷ name.now ∷ value.now ∷ []) }
 {
@@ -160,7 +160,7 @@ fn drill_with(number: &str, name: &str, value: &str) -> Option<Request>
     }
 }
 
-/// `drill` with a number alone.
+// `drill` with a number alone.
 fn drill_alone(number: &str) -> Option<Request>
     ensures { result ≡ drill_at (number.now ∷ []) }
 {
@@ -171,7 +171,7 @@ fn drill_alone(number: &str) -> Option<Request>
     })
 }
 
-/// The words behind `drill`.
+// The words behind `drill`.
 #[tactic(auto, using(crate::proofs::WordLists::word_steps))]
 fn drill_request(words: &[String]) -> Option<Request>
     ensures { result ≡ drill_at (map string_bytes words.now) }
@@ -183,7 +183,7 @@ fn drill_request(words: &[String]) -> Option<Request>
     }
 }
 
-/// The request of a command and the words behind it.
+// The request of a command and the words behind it.
 #[tactic(auto, unfolding(crate::specs::WordReading::request_at))]
 fn command_request(command: &str, words: &[String]) -> Option<Request>
     ensures { result ≡ request_at (command.now ∷ map string_bytes words.now) }
@@ -205,7 +205,7 @@ fn command_request(command: &str, words: &[String]) -> Option<Request>
     }
 }
 
-/// The words, read one after the other.
+// The words, read one after the other.
 #[tactic(auto, using(crate::proofs::WordLists::word_steps), unfolding(crate::specs::WordReading::request_at))]
 fn read_each(words: &[String]) -> Option<Request>
     ensures { result ≡ request_at (map string_bytes words.now) }

@@ -22,10 +22,11 @@ pub struct Drawn {
     pub overlook: u32,
 }
 
-/// Draws a cell for each of so many parts, and counts the parts of each cell.
+// Draws a cell for each of so many parts, and counts the parts of each cell.
 fn draw_first(alloc: Global, generator: &mut Generator, parts: u8) -> Result<Vec<u32>, NoMemory>
     ensures state { IfOk result (λ _. generator.new.state ≡ state_after parts generator.old.state) }
-    ensures first { IfOk result (λ first. first.items ≡ counts_of CELLS (draws_below (replicate parts CELLS) generator.old.state)) }
+    ensures first { IfOk result (λ first.
+        first.items ≡ counts_of CELLS (draws_below (replicate parts CELLS) generator.old.state)) }
 {
     let mut first = vec![in alloc; 0; CELLS as usize]?;
     for _ in 0..parts {

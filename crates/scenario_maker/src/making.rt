@@ -12,7 +12,7 @@ use exact_parts::NoMemory;
 use search_model::{Parts, Scenario};
 use std::alloc::Global;
 
-/// The parts of the scenario.
+// The parts of the scenario.
 fn parts_of(alloc: Global, number: u64) -> Result<Parts, NoMemory>
     ensures { IfOk result (λ parts. problem_of parts ≡ made_problem number) }
 {
@@ -31,7 +31,7 @@ fn parts_of(alloc: Global, number: u64) -> Result<Parts, NoMemory>
     })
 }
 
-/// The scenario of parts that make a problem.
+// The scenario of parts that make a problem.
 fn scenario_of(parts: Parts) -> Scenario
     requires { IsProblem (problem_of parts) }
     ensures { result ≡ problem_of parts }

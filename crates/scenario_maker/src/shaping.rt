@@ -14,7 +14,7 @@ use search_model::Name;
 use std::alloc::{AllocError, Global};
 use sweep_table::Sweep;
 
-/// The name of a cell, and of the position of the same number.
+// The name of a cell, and of the position of the same number.
 fn grid_name(c: u8) -> Name
     requires { c < CELLS }
     ensures { result ≡ grid_name_lem SIDE c }
@@ -46,7 +46,7 @@ pub fn grid(alloc: Global) -> Result<Grid, NoMemory>
     }
 }
 
-/// What stays in a cell of so many moves, one of them to itself, where the part goes to each of the others.
+// What stays in a cell of so many moves, one of them to itself, where the part goes to each of the others.
 #[tactic(auto, using(crate::proofs::Cells::taken_few))]
 fn rest_of(part: u32, moves: usize) -> u32
     requires part { part ≤ 3 }
@@ -57,14 +57,14 @@ fn rest_of(part: u32, moves: usize) -> u32
     DRIFT - part * (moves as u32 - 1)
 }
 
-/// The part that goes to cell `m` from cell `c`, in which the rest stays.
+// The part that goes to cell `m` from cell `c`, in which the rest stays.
 fn part_to(c: u8, rest: u32, part: u32, m: u8) -> u32
     ensures { result ≡ (if m == c then rest else part) }
 {
     if m == c { rest } else { part }
 }
 
-/// The drift row of cell `c` with these moves.
+// The drift row of cell `c` with these moves.
 #[tactic(auto, unfolding(search_model::specs::Grids::spread_row))]
 fn spread_row(alloc: Global, part: u32, c: u8, moves: &[u8]) -> Result<Vec<DriftPart>, AllocError>
     requires part { part ≤ 3 }
@@ -83,7 +83,7 @@ fn spread_row(alloc: Global, part: u32, c: u8, moves: &[u8]) -> Result<Vec<Drift
         .collect(alloc)
 }
 
-/// The drift rows of all cells.
+// The drift rows of all cells.
 fn spread_rows(alloc: Global, part: u32, grid: &Grid) -> Result<Vec<Vec<DriftPart>>, NoMemory>
     requires part { part ≤ 3 }
     requires few { All (λ moves. length moves ≤ 5) grid.now }
@@ -96,7 +96,7 @@ fn spread_rows(alloc: Global, part: u32, grid: &Grid) -> Result<Vec<Vec<DriftPar
     Ok(rows)
 }
 
-/// The drift of these rows.
+// The drift of these rows.
 fn drift_of(rows: Vec<Vec<DriftPart>>) -> Drift
     requires { IsDrift (drift_over DRIFT (map (λ row. row.items) rows.items)) }
     ensures { result ≡ drift_over DRIFT (map (λ row. row.items) rows.items) }

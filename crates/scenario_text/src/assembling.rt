@@ -37,7 +37,7 @@ fn names_of(alloc: Global, keys: &IndexSet<Vec<u8>>) -> Result<Vec<Name>, AllocE
     Ok(names)
 }
 
-/// Per cell the part of the entries, and 0 where none is of that cell.
+// Per cell the part of the entries, and 0 where none is of that cell.
 fn parts_of(alloc: Global, cells: usize, entries: &[DriftPart]) -> Result<Vec<u32>, AllocError>
     requires { (total : ℕ) × AreEntries cells total entries.now }
     ensures cells { IfOk result (λ v. length v.items ≡ cells) }
@@ -72,7 +72,7 @@ fn scenario_of(parts: Parts) -> Scenario
     }
 }
 
-/// The names of the positions: in version 1 the positions are the cells.
+// The names of the positions: in version 1 the positions are the cells.
 fn position_names(alloc: Global, draft: &Draft) -> Result<Vec<Name>, AllocError>
     requires { IsSound (state_of draft.now) }
     ensures { IfOk result (λ v. v.items ≡ positions_in (state_of draft.now)) }
@@ -83,7 +83,7 @@ fn position_names(alloc: Global, draft: &Draft) -> Result<Vec<Name>, AllocError>
     }
 }
 
-/// The parts of the scenario that a draft says.
+// The parts of the scenario that a draft says.
 fn model_parts(alloc: Global, draft: Draft) -> Result<Parts, AllocError>
     requires sound { IsSound (state_of draft) }
     requires whole { draft.stage ≡ Stage.Ended }

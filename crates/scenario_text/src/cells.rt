@@ -17,7 +17,8 @@ pub fn cells_named(
     fields: &[&[u8]],
 ) -> Result<Vec<Option<u8>>, AllocError>
     requires { length names.now.keys ≤ 200 }
-    ensures { IfOk result (λ v. v.items ≡ map (cell_named_lem (map (λ n. n.items) names.now.keys)) (map (λ f. f.now) fields.now)) }
+    ensures { IfOk result (λ v.
+        v.items ≡ map (cell_named_lem (map (λ n. n.items) names.now.keys)) (map (λ f. f.now) fields.now)) }
 {
     fields
         .iter()

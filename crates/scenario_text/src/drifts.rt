@@ -54,7 +54,8 @@ pub fn changed_drift(
 ) -> Result<Drift, AllocError>
     requires steady { drift.changes ≡ [] }
     requires sound { IsDrift drift }
-    requires faultless { (fault : ChangeFaultLem) → HasChangeFault drift.denominator (drift_cells drift) (map row_change changes.items) fault → ⊥ }
+    requires faultless { (fault : ChangeFaultLem) →
+        HasChangeFault drift.denominator (drift_cells drift) (map row_change changes.items) fault → ⊥ }
     ensures base { IfOk result (λ changed. changed ≡ drift_with drift changed.changes) }
     ensures made { IfOk result (λ changed. AreSameChanges (map row_change changes.items) changed.changes) }
     ensures sound { IfOk result IsDrift }

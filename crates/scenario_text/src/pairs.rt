@@ -70,7 +70,8 @@ fn has_fault(scan: &Scan) -> bool
 
 fn add_pair(scan: &mut Scan, pair: Pair, least: u128) -> Result<(), AllocError>
     requires { number_in_lem pair.part ≤ 1000000 }
-    ensures { OnOk result ((done : List Pair) → HasSeen least done scan.old → HasSeen least (done ++ pair ∷ []) scan.new) }
+    ensures { OnOk result ((done : List Pair) → HasSeen least done scan.old →
+        HasSeen least (done ++ pair ∷ []) scan.new) }
 {
     mark_pair(scan, pair, least);
     match pair.cell {

@@ -24,7 +24,7 @@ use exact_parts::Number;
 use std::alloc::Global;
 use text_rows::after_field;
 
-/// Whether one of the rows is of this period and this cell or position.
+// Whether one of the rows is of this period and this cell or position.
 fn has_row_in(rows: &[RowIn], period: u32, own: u8) -> bool
     ensures { result ≡ list_any (λ r. r.period == period && r.own == own) rows.now }
 {
@@ -38,7 +38,10 @@ fn add_drift_row(
     pairs: Scan,
 ) -> Result<(), LineStop>
     requires { number_in_lem period < 4294967296 }
-    ensures { (t name : List ℕ) (fields : List (List ℕ)) → period ≡ number_at_lem ((state_of draft.old).horizon - 1) t → cell ≡ cell_named_lem (state_of draft.old).names name → are_pairs fields ≡ true → HasSeen 1 (pairs_of (state_of draft.old).names fields) pairs → TakesLine draft.new result (row_at Line.DriftIn (state_of draft.old) (t ∷ name ∷ fields)) }
+    ensures { (t name : List ℕ) (fields : List (List ℕ)) → period ≡ number_at_lem ((state_of draft.old).horizon - 1) t →
+        cell ≡ cell_named_lem (state_of draft.old).names name → are_pairs fields ≡ true →
+        HasSeen 1 (pairs_of (state_of draft.old).names fields) pairs →
+        TakesLine draft.new result (row_at Line.DriftIn (state_of draft.old) (t ∷ name ∷ fields)) }
 {
     let own = match row_owner(is_bad(period, 1), is_over(period), cell, &pairs) {
         Ok(own) => own,
@@ -67,7 +70,8 @@ fn take_drift_row(
     text: &[u8],
 ) -> Result<(), LineStop>
     requires { IsSound (state_of draft.old) }
-    ensures { TakesLine draft.new result (row_at Line.DriftIn (state_of draft.old) (period.now ∷ name.now ∷ fields_lem text.now)) }
+    ensures { TakesLine draft.new result (row_at Line.DriftIn (state_of draft.old)
+        (period.now ∷ name.now ∷ fields_lem text.now)) }
 {
     let last = draft.horizon.saturating_sub(1);
     let period = number_at(period, u128::from(last));
@@ -105,7 +109,10 @@ fn add_look_row(
     pairs: Scan,
 ) -> Result<(), LineStop>
     requires { number_in_lem period < 4294967296 }
-    ensures { (t name : List ℕ) (fields : List (List ℕ)) → period ≡ number_at_lem (state_of draft.old).horizon t → position ≡ cell_named_lem (positions_in (state_of draft.old)) name → are_even fields ≡ true → HasSeen 0 (pairs_of (state_of draft.old).names fields) pairs → TakesLine draft.new result (row_at Line.LookIn (state_of draft.old) (t ∷ name ∷ fields)) }
+    ensures { (t name : List ℕ) (fields : List (List ℕ)) → period ≡ number_at_lem (state_of draft.old).horizon t →
+        position ≡ cell_named_lem (positions_in (state_of draft.old)) name → are_even fields ≡ true →
+        HasSeen 0 (pairs_of (state_of draft.old).names fields) pairs →
+        TakesLine draft.new result (row_at Line.LookIn (state_of draft.old) (t ∷ name ∷ fields)) }
 {
     let own = match row_owner(is_bad(period, 1), is_over(period), position, &pairs) {
         Ok(own) => own,
@@ -134,7 +141,8 @@ fn take_look_row(
     text: &[u8],
 ) -> Result<(), LineStop>
     requires { IsSound (state_of draft.old) }
-    ensures { TakesLine draft.new result (row_at Line.LookIn (state_of draft.old) (period.now ∷ name.now ∷ fields_lem text.now)) }
+    ensures { TakesLine draft.new result (row_at Line.LookIn (state_of draft.old)
+        (period.now ∷ name.now ∷ fields_lem text.now)) }
 {
     let period = number_at(period, u128::from(draft.horizon));
     let position = cell_named(positions_of(draft), name);

@@ -21,7 +21,7 @@ use exact_parts::NoMemory;
 use search_model::Scenario;
 use sweep_table::LookPart;
 
-/// The lines of the version and the horizon.
+// The lines of the version and the horizon.
 fn push_horizon(out: &mut Vec<u8>, version: TextVersion, horizon: u32) -> Result<(), NoMemory>
     ensures ok { OnOk result (out.new.items ≡ out.old.items ++ horizon_text version horizon) }
     ensures no_memory { OnErr result (AppendsFront out.old.items out.new.items (horizon_text version horizon)) }
@@ -33,7 +33,7 @@ fn push_horizon(out: &mut Vec<u8>, version: TextVersion, horizon: u32) -> Result
     }
 }
 
-/// The line of the denominators.
+// The line of the denominators.
 fn push_parts(out: &mut Vec<u8>, total: u32, drift: u32, look: u32) -> Result<(), NoMemory>
     ensures ok { OnOk result (out.new.items ≡ out.old.items ++ parts_text total drift look) }
     ensures no_memory { OnErr result (AppendsFront out.old.items out.new.items (parts_text total drift look)) }
@@ -63,7 +63,7 @@ fn push_cell(out: &mut Vec<u8>, sc: &Scenario, c: u8) -> Result<(), NoMemory>
     push_all(out, &[b"cell ", sc.name(c).bytes(), b"\n"])
 }
 
-/// The lines of the cells.
+// The lines of the cells.
 fn print_cells(out: &mut Vec<u8>, sc: &Scenario) -> Result<(), NoMemory>
     ensures ok { OnOk result (out.new.items ≡ out.old.items ++ text_of (map cell_row sc.now.names)) }
     ensures no_memory { OnErr result (AppendsFront out.old.items out.new.items (text_of (map cell_row sc.now.names))) }
@@ -82,10 +82,11 @@ fn push_position(out: &mut Vec<u8>, sc: &Scenario, q: u8) -> Result<(), NoMemory
     push_all(out, &[b"position ", sc.position(q).bytes(), b"\n"])
 }
 
-/// The lines of the positions.
+// The lines of the positions.
 fn print_positions(out: &mut Vec<u8>, sc: &Scenario) -> Result<(), NoMemory>
     ensures ok { OnOk result (out.new.items ≡ out.old.items ++ text_of (map position_row sc.now.position_names)) }
-    ensures no_memory { OnErr result (AppendsFront out.old.items out.new.items (text_of (map position_row sc.now.position_names))) }
+    ensures no_memory { OnErr result (AppendsFront out.old.items out.new.items
+        (text_of (map position_row sc.now.position_names))) }
 {
     for q in 0..sc.positions() {
         push_position(out, sc, q)?;
@@ -93,7 +94,7 @@ fn print_positions(out: &mut Vec<u8>, sc: &Scenario) -> Result<(), NoMemory>
     Ok(())
 }
 
-/// ` NAME PART`.
+// ` NAME PART`.
 fn push_entry(out: &mut Vec<u8>, sc: &Scenario, entry: DriftPart) -> Result<(), NoMemory>
     requires { entry.cell < sc.now.cells }
     ensures ok { OnOk result (out.new.items ≡ out.old.items ++ entry_text sc.now entry) }
@@ -106,7 +107,7 @@ fn push_entry(out: &mut Vec<u8>, sc: &Scenario, entry: DriftPart) -> Result<(), 
     )
 }
 
-/// ` NAME PART` of a cell, where its first part is positive.
+// ` NAME PART` of a cell, where its first part is positive.
 fn push_first_of(out: &mut Vec<u8>, sc: &Scenario, c: u8) -> Result<(), NoMemory>
     requires { c < sc.now.cells }
     ensures ok { OnOk result (out.new.items ≡ out.old.items ++ first_text sc.now c) }
@@ -121,8 +122,10 @@ fn push_first_of(out: &mut Vec<u8>, sc: &Scenario, c: u8) -> Result<(), NoMemory
 }
 
 fn push_first(out: &mut Vec<u8>, sc: &Scenario) -> Result<(), NoMemory>
-    ensures ok { OnOk result (out.new.items ≡ out.old.items ++ flat_map (first_text sc.now) (range_with_len 0 sc.now.cells)) }
-    ensures no_memory { OnErr result (AppendsFront out.old.items out.new.items (flat_map (first_text sc.now) (range_with_len 0 sc.now.cells))) }
+    ensures ok { OnOk result (out.new.items ≡ out.old.items ++
+        flat_map (first_text sc.now) (range_with_len 0 sc.now.cells)) }
+    ensures no_memory { OnErr result (AppendsFront out.old.items out.new.items
+        (flat_map (first_text sc.now) (range_with_len 0 sc.now.cells))) }
 {
     for c in 0..sc.cells() {
         push_first_of(out, sc, c)?;
@@ -130,7 +133,7 @@ fn push_first(out: &mut Vec<u8>, sc: &Scenario) -> Result<(), NoMemory>
     Ok(())
 }
 
-/// The lines of the start and of the first parts.
+// The lines of the start and of the first parts.
 fn print_chance(out: &mut Vec<u8>, sc: &Scenario) -> Result<(), NoMemory>
     ensures ok { OnOk result (out.new.items ≡ out.old.items ++ chance_text sc.now) }
     ensures no_memory { OnErr result (AppendsFront out.old.items out.new.items (chance_text sc.now)) }
@@ -141,7 +144,7 @@ fn print_chance(out: &mut Vec<u8>, sc: &Scenario) -> Result<(), NoMemory>
     push_all(out, &[b"\n"])
 }
 
-/// ` NAME` of a position.
+// ` NAME` of a position.
 fn push_name(out: &mut Vec<u8>, sc: &Scenario, q: u8) -> Result<(), NoMemory>
     requires { q < sc.now.positions }
     ensures ok { OnOk result (out.new.items ≡ out.old.items ++ name_text sc.now q) }
@@ -150,11 +153,12 @@ fn push_name(out: &mut Vec<u8>, sc: &Scenario, q: u8) -> Result<(), NoMemory>
     push_all(out, &[b" ", sc.position(q).bytes()])
 }
 
-/// ` NAME` for each of these positions.
+// ` NAME` for each of these positions.
 fn push_names(out: &mut Vec<u8>, sc: &Scenario, positions: &[u8]) -> Result<(), NoMemory>
     requires { All (λ q. q < sc.now.positions) positions.now }
     ensures ok { OnOk result (out.new.items ≡ out.old.items ++ flat_map (name_text sc.now) positions.now) }
-    ensures no_memory { OnErr result (AppendsFront out.old.items out.new.items (flat_map (name_text sc.now) positions.now)) }
+    ensures no_memory { OnErr result (AppendsFront out.old.items out.new.items
+        (flat_map (name_text sc.now) positions.now)) }
 {
     for q in positions {
         push_name(out, sc, *q)?;
@@ -162,7 +166,7 @@ fn push_names(out: &mut Vec<u8>, sc: &Scenario, positions: &[u8]) -> Result<(), 
     Ok(())
 }
 
-/// The line of a position's moves.
+// The line of a position's moves.
 fn push_moves(out: &mut Vec<u8>, sc: &Scenario, q: u8) -> Result<(), NoMemory>
     requires problem { IsProblem sc.now }
     requires position { q < sc.now.positions }
@@ -174,10 +178,12 @@ fn push_moves(out: &mut Vec<u8>, sc: &Scenario, q: u8) -> Result<(), NoMemory>
     push_all(out, &[b"\n"])
 }
 
-/// The lines of the moves.
+// The lines of the moves.
 fn print_moves(out: &mut Vec<u8>, sc: &Scenario) -> Result<(), NoMemory>
-    ensures ok { OnOk result (out.new.items ≡ out.old.items ++ flat_map (moves_text sc.now) (range_with_len 0 sc.now.positions)) }
-    ensures no_memory { OnErr result (AppendsFront out.old.items out.new.items (flat_map (moves_text sc.now) (range_with_len 0 sc.now.positions))) }
+    ensures ok { OnOk result (out.new.items ≡ out.old.items ++
+        flat_map (moves_text sc.now) (range_with_len 0 sc.now.positions)) }
+    ensures no_memory { OnErr result (AppendsFront out.old.items out.new.items
+        (flat_map (moves_text sc.now) (range_with_len 0 sc.now.positions))) }
 {
     for q in 0..sc.positions() {
         push_moves(out, sc, q)?;
@@ -185,11 +191,12 @@ fn print_moves(out: &mut Vec<u8>, sc: &Scenario) -> Result<(), NoMemory>
     Ok(())
 }
 
-/// ` NAME PART` for each of these entries.
+// ` NAME PART` for each of these entries.
 fn push_entries(out: &mut Vec<u8>, sc: &Scenario, entries: &[DriftPart]) -> Result<(), NoMemory>
     requires { All (λ entry. entry.cell < sc.now.cells) entries.now }
     ensures ok { OnOk result (out.new.items ≡ out.old.items ++ flat_map (entry_text sc.now) entries.now) }
-    ensures no_memory { OnErr result (AppendsFront out.old.items out.new.items (flat_map (entry_text sc.now) entries.now)) }
+    ensures no_memory { OnErr result (AppendsFront out.old.items out.new.items
+        (flat_map (entry_text sc.now) entries.now)) }
 {
     for entry in entries {
         push_entry(out, sc, *entry)?;
@@ -197,7 +204,7 @@ fn push_entries(out: &mut Vec<u8>, sc: &Scenario, entries: &[DriftPart]) -> Resu
     Ok(())
 }
 
-/// The line of a cell's drift row.
+// The line of a cell's drift row.
 fn push_drift(out: &mut Vec<u8>, sc: &Scenario, c: u8) -> Result<(), NoMemory>
     requires problem { IsProblem sc.now }
     requires cell { c < sc.now.cells }
@@ -209,10 +216,12 @@ fn push_drift(out: &mut Vec<u8>, sc: &Scenario, c: u8) -> Result<(), NoMemory>
     push_all(out, &[b"\n"])
 }
 
-/// The lines of the drift rows.
+// The lines of the drift rows.
 fn print_drift(out: &mut Vec<u8>, sc: &Scenario) -> Result<(), NoMemory>
-    ensures ok { OnOk result (out.new.items ≡ out.old.items ++ flat_map (drift_text sc.now) (range_with_len 0 sc.now.cells)) }
-    ensures no_memory { OnErr result (AppendsFront out.old.items out.new.items (flat_map (drift_text sc.now) (range_with_len 0 sc.now.cells))) }
+    ensures ok { OnOk result (out.new.items ≡ out.old.items ++
+        flat_map (drift_text sc.now) (range_with_len 0 sc.now.cells)) }
+    ensures no_memory { OnErr result (AppendsFront out.old.items out.new.items
+        (flat_map (drift_text sc.now) (range_with_len 0 sc.now.cells))) }
 {
     for c in 0..sc.cells() {
         push_drift(out, sc, c)?;
@@ -220,8 +229,8 @@ fn print_drift(out: &mut Vec<u8>, sc: &Scenario) -> Result<(), NoMemory>
     Ok(())
 }
 
-/// How much of a target in the cell of a position's number a look from there misses in period 1: all of it, where there is no
-/// such cell.
+// How much of a target in the cell of a position's number a look from there misses in period 1: all of it, where there is no
+// such cell.
 fn own_part(sc: &Scenario, q: u8) -> u32
     requires { q < sc.now.positions }
     ensures { result ≡ factor_of sc.now.sweep 1 q q }
@@ -233,7 +242,7 @@ fn own_part(sc: &Scenario, q: u8) -> u32
     }
 }
 
-/// The line of a position's overlook part.
+// The line of a position's overlook part.
 fn push_overlook(out: &mut Vec<u8>, sc: &Scenario, q: u8) -> Result<(), NoMemory>
     requires problem { IsProblem sc.now }
     requires position { q < sc.now.positions }
@@ -253,10 +262,12 @@ fn push_overlook(out: &mut Vec<u8>, sc: &Scenario, q: u8) -> Result<(), NoMemory
     )
 }
 
-/// The lines of the overlook parts.
+// The lines of the overlook parts.
 fn print_overlook(out: &mut Vec<u8>, sc: &Scenario) -> Result<(), NoMemory>
-    ensures ok { OnOk result (out.new.items ≡ out.old.items ++ flat_map (overlook_text sc.now) (range_with_len 0 sc.now.positions)) }
-    ensures no_memory { OnErr result (AppendsFront out.old.items out.new.items (flat_map (overlook_text sc.now) (range_with_len 0 sc.now.positions))) }
+    ensures ok { OnOk result (out.new.items ≡ out.old.items ++
+        flat_map (overlook_text sc.now) (range_with_len 0 sc.now.positions)) }
+    ensures no_memory { OnErr result (AppendsFront out.old.items out.new.items
+        (flat_map (overlook_text sc.now) (range_with_len 0 sc.now.positions))) }
 {
     for q in 0..sc.positions() {
         push_overlook(out, sc, q)?;
@@ -264,7 +275,7 @@ fn print_overlook(out: &mut Vec<u8>, sc: &Scenario) -> Result<(), NoMemory>
     Ok(())
 }
 
-/// The line of the row of a cell's drift that is in force in one period.
+// The line of the row of a cell's drift that is in force in one period.
 fn push_drift_in(out: &mut Vec<u8>, sc: &Scenario, t: u32, c: u8) -> Result<(), NoMemory>
     requires problem { IsProblem sc.now }
     requires period { (1 ≤ t) × (t ≤ 31) }
@@ -281,7 +292,7 @@ fn push_drift_in(out: &mut Vec<u8>, sc: &Scenario, t: u32, c: u8) -> Result<(), 
     push_all(out, &[b"\n"])
 }
 
-/// That line, where the row isn't that of period 1.
+// That line, where the row isn't that of period 1.
 fn push_drift_change(out: &mut Vec<u8>, sc: &Scenario, t: u32, c: u8) -> Result<(), NoMemory>
     requires problem { IsProblem sc.now }
     requires period { (1 ≤ t) × (t ≤ 31) }
@@ -296,7 +307,7 @@ fn push_drift_change(out: &mut Vec<u8>, sc: &Scenario, t: u32, c: u8) -> Result<
     }
 }
 
-/// The drift rows of one period that aren't those of period 1.
+// The drift rows of one period that aren't those of period 1.
 fn print_drift_period(out: &mut Vec<u8>, sc: &Scenario, t: u32) -> Result<(), NoMemory>
     requires problem { IsProblem sc.now }
     requires period { (1 ≤ t) × (t ≤ 31) }
@@ -309,7 +320,7 @@ fn print_drift_period(out: &mut Vec<u8>, sc: &Scenario, t: u32) -> Result<(), No
     Ok(())
 }
 
-/// And those of all later periods but the last one.
+// And those of all later periods but the last one.
 fn print_drift_changes(out: &mut Vec<u8>, sc: &Scenario) -> Result<(), NoMemory>
     ensures ok { OnOk result (out.new.items ≡ out.old.items ++ drift_changes_text sc.now) }
     ensures no_memory { OnErr result (AppendsFront out.old.items out.new.items (drift_changes_text sc.now)) }
@@ -320,7 +331,7 @@ fn print_drift_changes(out: &mut Vec<u8>, sc: &Scenario) -> Result<(), NoMemory>
     Ok(())
 }
 
-/// ` NAME PART` of a cell that a look covers, where it doesn't miss all of it.
+// ` NAME PART` of a cell that a look covers, where it doesn't miss all of it.
 fn push_covered_part(out: &mut Vec<u8>, sc: &Scenario, entry: LookPart) -> Result<(), NoMemory>
     requires { entry.cell < sc.now.cells }
     ensures ok { OnOk result (out.new.items ≡ out.old.items ++ covered_text sc.now entry) }
@@ -340,11 +351,12 @@ fn push_covered_part(out: &mut Vec<u8>, sc: &Scenario, entry: LookPart) -> Resul
     }
 }
 
-/// ` NAME PART` for each of these cells.
+// ` NAME PART` for each of these cells.
 fn push_covered(out: &mut Vec<u8>, sc: &Scenario, entries: &[LookPart]) -> Result<(), NoMemory>
     requires { All (λ entry. entry.cell < sc.now.cells) entries.now }
     ensures ok { OnOk result (out.new.items ≡ out.old.items ++ flat_map (covered_text sc.now) entries.now) }
-    ensures no_memory { OnErr result (AppendsFront out.old.items out.new.items (flat_map (covered_text sc.now) entries.now)) }
+    ensures no_memory { OnErr result (AppendsFront out.old.items out.new.items
+        (flat_map (covered_text sc.now) entries.now)) }
 {
     for entry in entries {
         push_covered_part(out, sc, *entry)?;
@@ -352,19 +364,21 @@ fn push_covered(out: &mut Vec<u8>, sc: &Scenario, entries: &[LookPart]) -> Resul
     Ok(())
 }
 
-/// ` NAME PART` for each cell that a look of one period covers.
+// ` NAME PART` for each cell that a look of one period covers.
 fn push_look_row(out: &mut Vec<u8>, sc: &Scenario, t: u32, q: u8) -> Result<(), NoMemory>
     requires problem { IsProblem sc.now }
     requires period { (1 ≤ t) × (t ≤ 32) }
     requires position { q < sc.now.positions }
-    ensures ok { OnOk result (out.new.items ≡ out.old.items ++ flat_map (covered_text sc.now) (look_row sc.now.sweep t q)) }
-    ensures no_memory { OnErr result (AppendsFront out.old.items out.new.items (flat_map (covered_text sc.now) (look_row sc.now.sweep t q))) }
+    ensures ok { OnOk result (out.new.items ≡ out.old.items ++
+        flat_map (covered_text sc.now) (look_row sc.now.sweep t q)) }
+    ensures no_memory { OnErr result (AppendsFront out.old.items out.new.items
+        (flat_map (covered_text sc.now) (look_row sc.now.sweep t q))) }
 {
     let look = sc.sweep().look(t, q);
     push_covered(out, sc, look.parts())
 }
 
-/// The line of the looks from a position.
+// The line of the looks from a position.
 fn push_look(out: &mut Vec<u8>, sc: &Scenario, q: u8) -> Result<(), NoMemory>
     requires problem { IsProblem sc.now }
     requires position { q < sc.now.positions }
@@ -376,10 +390,12 @@ fn push_look(out: &mut Vec<u8>, sc: &Scenario, q: u8) -> Result<(), NoMemory>
     push_all(out, &[b"\n"])
 }
 
-/// The lines of the looks.
+// The lines of the looks.
 fn print_looks(out: &mut Vec<u8>, sc: &Scenario) -> Result<(), NoMemory>
-    ensures ok { OnOk result (out.new.items ≡ out.old.items ++ flat_map (look_text sc.now) (range_with_len 0 sc.now.positions)) }
-    ensures no_memory { OnErr result (AppendsFront out.old.items out.new.items (flat_map (look_text sc.now) (range_with_len 0 sc.now.positions))) }
+    ensures ok { OnOk result (out.new.items ≡ out.old.items ++
+        flat_map (look_text sc.now) (range_with_len 0 sc.now.positions)) }
+    ensures no_memory { OnErr result (AppendsFront out.old.items out.new.items
+        (flat_map (look_text sc.now) (range_with_len 0 sc.now.positions))) }
 {
     for q in 0..sc.positions() {
         push_look(out, sc, q)?;
@@ -387,7 +403,7 @@ fn print_looks(out: &mut Vec<u8>, sc: &Scenario) -> Result<(), NoMemory>
     Ok(())
 }
 
-/// The line of the looks from a position in one period.
+// The line of the looks from a position in one period.
 fn push_look_in(out: &mut Vec<u8>, sc: &Scenario, t: u32, q: u8) -> Result<(), NoMemory>
     requires problem { IsProblem sc.now }
     requires period { (1 ≤ t) × (t ≤ 32) }
@@ -404,7 +420,7 @@ fn push_look_in(out: &mut Vec<u8>, sc: &Scenario, t: u32, q: u8) -> Result<(), N
     push_all(out, &[b"\n"])
 }
 
-/// That line, where the look isn't that of period 1.
+// That line, where the look isn't that of period 1.
 fn push_look_change(out: &mut Vec<u8>, sc: &Scenario, t: u32, q: u8) -> Result<(), NoMemory>
     requires problem { IsProblem sc.now }
     requires period { (1 ≤ t) × (t ≤ 32) }
@@ -419,7 +435,7 @@ fn push_look_change(out: &mut Vec<u8>, sc: &Scenario, t: u32, q: u8) -> Result<(
     }
 }
 
-/// The looks of one period that aren't those of period 1.
+// The looks of one period that aren't those of period 1.
 fn print_look_period(out: &mut Vec<u8>, sc: &Scenario, t: u32) -> Result<(), NoMemory>
     requires problem { IsProblem sc.now }
     requires period { (1 ≤ t) × (t ≤ 32) }
@@ -432,7 +448,7 @@ fn print_look_period(out: &mut Vec<u8>, sc: &Scenario, t: u32) -> Result<(), NoM
     Ok(())
 }
 
-/// And those of all later periods.
+// And those of all later periods.
 fn print_look_changes(out: &mut Vec<u8>, sc: &Scenario) -> Result<(), NoMemory>
     ensures ok { OnOk result (out.new.items ≡ out.old.items ++ look_changes_text sc.now) }
     ensures no_memory { OnErr result (AppendsFront out.old.items out.new.items (look_changes_text sc.now)) }
@@ -443,7 +459,7 @@ fn print_look_changes(out: &mut Vec<u8>, sc: &Scenario) -> Result<(), NoMemory>
     Ok(())
 }
 
-/// The first three lines.
+// The first three lines.
 fn print_head(out: &mut Vec<u8>, sc: &Scenario, version: TextVersion) -> Result<(), NoMemory>
     ensures ok { OnOk result (out.new.items ≡ out.old.items ++ head_text version sc.now) }
     ensures no_memory { OnErr result (AppendsFront out.old.items out.new.items (head_text version sc.now)) }
@@ -457,7 +473,7 @@ fn print_head(out: &mut Vec<u8>, sc: &Scenario, version: TextVersion) -> Result<
     )
 }
 
-/// The lines up to the cells.
+// The lines up to the cells.
 fn print_front(out: &mut Vec<u8>, sc: &Scenario, version: TextVersion) -> Result<(), NoMemory>
     ensures ok { OnOk result (out.new.items ≡ out.old.items ++ front_text version sc.now) }
     ensures no_memory { OnErr result (AppendsFront out.old.items out.new.items (front_text version sc.now)) }
@@ -466,7 +482,7 @@ fn print_front(out: &mut Vec<u8>, sc: &Scenario, version: TextVersion) -> Result
     print_cells(out, sc)
 }
 
-/// The lines up to the positions, which have names of their own.
+// The lines up to the positions, which have names of their own.
 fn print_named(out: &mut Vec<u8>, sc: &Scenario) -> Result<(), NoMemory>
     ensures ok { OnOk result (out.new.items ≡ out.old.items ++ named_text sc.now) }
     ensures no_memory { OnErr result (AppendsFront out.old.items out.new.items (named_text sc.now)) }
@@ -475,7 +491,7 @@ fn print_named(out: &mut Vec<u8>, sc: &Scenario) -> Result<(), NoMemory>
     print_positions(out, sc)
 }
 
-/// The lines from the start to the drift rows.
+// The lines from the start to the drift rows.
 fn print_body(out: &mut Vec<u8>, sc: &Scenario) -> Result<(), NoMemory>
     ensures ok { OnOk result (out.new.items ≡ out.old.items ++ body_text sc.now) }
     ensures no_memory { OnErr result (AppendsFront out.old.items out.new.items (body_text sc.now)) }
@@ -485,7 +501,7 @@ fn print_body(out: &mut Vec<u8>, sc: &Scenario) -> Result<(), NoMemory>
     print_drift(out, sc)
 }
 
-/// The lines behind them in version 1.
+// The lines behind them in version 1.
 fn print_overlook_end(out: &mut Vec<u8>, sc: &Scenario) -> Result<(), NoMemory>
     ensures ok { OnOk result (out.new.items ≡ out.old.items ++ overlook_end_text sc.now) }
     ensures no_memory { OnErr result (AppendsFront out.old.items out.new.items (overlook_end_text sc.now)) }
@@ -494,7 +510,7 @@ fn print_overlook_end(out: &mut Vec<u8>, sc: &Scenario) -> Result<(), NoMemory>
     push_all(out, &[b"end\n"])
 }
 
-/// The last lines in version 2.
+// The last lines in version 2.
 fn print_look_end(out: &mut Vec<u8>, sc: &Scenario) -> Result<(), NoMemory>
     ensures ok { OnOk result (out.new.items ≡ out.old.items ++ look_end_text sc.now) }
     ensures no_memory { OnErr result (AppendsFront out.old.items out.new.items (look_end_text sc.now)) }
@@ -503,7 +519,7 @@ fn print_look_end(out: &mut Vec<u8>, sc: &Scenario) -> Result<(), NoMemory>
     push_all(out, &[b"end\n"])
 }
 
-/// The lines behind the drift rows in version 2.
+// The lines behind the drift rows in version 2.
 fn print_changes(out: &mut Vec<u8>, sc: &Scenario) -> Result<(), NoMemory>
     ensures ok { OnOk result (out.new.items ≡ out.old.items ++ changes_text sc.now) }
     ensures no_memory { OnErr result (AppendsFront out.old.items out.new.items (changes_text sc.now)) }
@@ -513,7 +529,7 @@ fn print_changes(out: &mut Vec<u8>, sc: &Scenario) -> Result<(), NoMemory>
     print_look_end(out, sc)
 }
 
-/// The text of version 1.
+// The text of version 1.
 fn print_plain(out: &mut Vec<u8>, sc: &Scenario) -> Result<(), NoMemory>
     requires problem { IsProblem sc.now }
     requires names { sc.now.position_names ≡ sc.now.names }
@@ -525,7 +541,7 @@ fn print_plain(out: &mut Vec<u8>, sc: &Scenario) -> Result<(), NoMemory>
     print_overlook_end(out, sc)
 }
 
-/// The text of version 2.
+// The text of version 2.
 fn print_full(out: &mut Vec<u8>, sc: &Scenario) -> Result<(), NoMemory>
     requires { IsProblem sc.now }
     ensures ok { OnOk result (out.new.items ≡ out.old.items ++ full_text sc.now) }

@@ -39,7 +39,10 @@ fn set_moves(
     moves: &[Option<u8>],
 ) -> Result<(), LineStop>
     requires { IfSome cell (λ c. c < vec_len draft.old.moves) }
-    ensures { (name : List ℕ) (fields : List (List ℕ)) → length fields ≤ 64 → cell ≡ cell_named_lem (positions_in (state_of draft.old)) name → moves.now ≡ map (cell_named_lem (positions_in (state_of draft.old))) fields → TakesLine draft.new result (row_at Line.Moves (state_of draft.old) (name ∷ fields)) }
+    ensures { (name : List ℕ) (fields : List (List ℕ)) → length fields ≤ 64 →
+        cell ≡ cell_named_lem (positions_in (state_of draft.old)) name →
+        moves.now ≡ map (cell_named_lem (positions_in (state_of draft.old))) fields →
+        TakesLine draft.new result (row_at Line.Moves (state_of draft.old) (name ∷ fields)) }
 {
     let Some(c) = cell else {
         return Err(LineStop::Fault(TextKind::UnknownName));
@@ -68,7 +71,8 @@ fn take_moves_of(
     moves: &[&[u8]],
 ) -> Result<(), LineStop>
     requires { IsSound (state_of draft.old) }
-    ensures { TakesLine draft.new result (row_at Line.Moves (state_of draft.old) (name.now ∷ map (λ f. f.now) moves.now)) }
+    ensures { TakesLine draft.new result (row_at Line.Moves (state_of draft.old)
+        (name.now ∷ map (λ f. f.now) moves.now)) }
 {
     if moves.len() > 64 {
         return Err(LineStop::Fault(TextKind::OverLimit));
@@ -99,7 +103,9 @@ fn write_parts(rows: &mut Vec<Vec<DriftPart>>, c: u8, row: Vec<DriftPart>)
 
 fn set_parts_of(draft: &mut Draft, cell: Option<u8>, pairs: Scan) -> Result<(), LineStop>
     requires { IfSome cell (λ c. c < vec_len draft.old.parts) }
-    ensures { (name : List ℕ) (fields : List (List ℕ)) → cell ≡ cell_named_lem (state_of draft.old).names name → are_pairs fields ≡ true → HasSeen 1 (pairs_of (state_of draft.old).names fields) pairs → TakesLine draft.new result (row_at Line.Drift (state_of draft.old) (name ∷ fields)) }
+    ensures { (name : List ℕ) (fields : List (List ℕ)) → cell ≡ cell_named_lem (state_of draft.old).names name →
+        are_pairs fields ≡ true → HasSeen 1 (pairs_of (state_of draft.old).names fields) pairs →
+        TakesLine draft.new result (row_at Line.Drift (state_of draft.old) (name ∷ fields)) }
 {
     let c = match row_owner(false, false, cell, &pairs) {
         Ok(c) => c,
@@ -196,14 +202,18 @@ pub fn any_above(entries: &[DriftPart], denominator: u32) -> bool
 
 fn write_look(rows: &mut Vec<Option<Vec<DriftPart>>>, q: u8, row: Vec<DriftPart>)
     requires { q < vec_len rows.old }
-    ensures { map (option_map (λ r. r.items)) rows.new.items ≡ slice_set (map (option_map (λ r. r.items)) rows.old.items) q (Some row.items) }
+    ensures { map (option_map (λ r. r.items)) rows.new.items ≡
+        slice_set (map (option_map (λ r. r.items)) rows.old.items) q (Some row.items) }
 {
     rows[q as usize] = Some(row);
 }
 
 fn set_look_of(draft: &mut Draft, position: Option<u8>, pairs: Scan) -> Result<(), LineStop>
     requires { IfSome position (λ q. q < vec_len draft.old.looks) }
-    ensures { (name : List ℕ) (fields : List (List ℕ)) → position ≡ cell_named_lem (positions_in (state_of draft.old)) name → are_even fields ≡ true → HasSeen 0 (pairs_of (state_of draft.old).names fields) pairs → TakesLine draft.new result (row_at Line.Look (state_of draft.old) (name ∷ fields)) }
+    ensures { (name : List ℕ) (fields : List (List ℕ)) →
+        position ≡ cell_named_lem (positions_in (state_of draft.old)) name → are_even fields ≡ true →
+        HasSeen 0 (pairs_of (state_of draft.old).names fields) pairs →
+        TakesLine draft.new result (row_at Line.Look (state_of draft.old) (name ∷ fields)) }
 {
     let q = match row_owner(false, false, position, &pairs) {
         Ok(q) => q,

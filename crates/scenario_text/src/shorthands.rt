@@ -19,7 +19,7 @@ use indexmap::IndexSet;
 use search_grid::Grid;
 use std::alloc::{AllocError, Global};
 
-/// The most rows, and columns, of a grid.
+// The most rows, and columns, of a grid.
 const MOST_SIDE: u128 = 200;
 
 fn grid_name(alloc: Global, cols: u8, c: u8) -> Result<Vec<u8>, AllocError>
@@ -195,7 +195,8 @@ fn spread_rows(
 ) -> Result<Vec<Vec<DriftPart>>, AllocError>
     requires few { length moves.now ≤ 200 }
     requires enough { list_any (λ row. nat_lt denominator (part * (length row.items - 1))) moves.now ≡ false }
-    ensures { IfOk result (λ rows. map (λ row. row.items) rows.items ≡ spread_rows_lem denominator part (map (λ row. row.items) moves.now)) }
+    ensures { IfOk result (λ rows.
+        map (λ row. row.items) rows.items ≡ spread_rows_lem denominator part (map (λ row. row.items) moves.now)) }
 {
     let mut rows = Vec::new(alloc);
     for (c, row) in moves.iter().enumerate() {

@@ -11,7 +11,7 @@ ghost use Rattle.scenario_text.specs.Canonical.{covered, is_same_row as is_same_
 use drift_chain::DriftPart;
 use search_model::Scenario;
 
-/// Whether two rows have the same entries in the same order.
+// Whether two rows have the same entries in the same order.
 fn is_same_row(xs: &[DriftPart], ys: &[DriftPart]) -> bool
     ensures { result ≡ is_same_row_lem xs.now ys.now }
 {
@@ -43,7 +43,7 @@ pub fn is_same_look(sc: &Scenario, t: u32, q: u8) -> bool
     true
 }
 
-/// Whether the drift rows of one period are those of period 1.
+// Whether the drift rows of one period are those of period 1.
 fn drifts_as_first(sc: &Scenario, t: u32) -> bool
     requires problem { IsProblem sc.now }
     requires period { (1 ≤ t) × (t ≤ 31) }
@@ -57,7 +57,7 @@ fn drifts_as_first(sc: &Scenario, t: u32) -> bool
     true
 }
 
-/// Whether the drift rows are the same after each period but the last one.
+// Whether the drift rows are the same after each period but the last one.
 fn is_drift_steady(sc: &Scenario) -> bool
     ensures { result ≡ is_steady (row_of sc.now.drift) sc.now.cells (sc.now.horizon - 1) }
 {
@@ -69,7 +69,7 @@ fn is_drift_steady(sc: &Scenario) -> bool
     true
 }
 
-/// Whether the looks of one period are those of period 1.
+// Whether the looks of one period are those of period 1.
 fn looks_as_first(sc: &Scenario, t: u32) -> bool
     requires problem { IsProblem sc.now }
     requires period { (1 ≤ t) × (t ≤ 32) }
@@ -83,7 +83,7 @@ fn looks_as_first(sc: &Scenario, t: u32) -> bool
     true
 }
 
-/// Whether the looks are the same in each period.
+// Whether the looks are the same in each period.
 fn are_looks_steady(sc: &Scenario) -> bool
     ensures { result ≡ is_steady (covered sc.now) sc.now.positions sc.now.horizon }
 {
@@ -95,7 +95,7 @@ fn are_looks_steady(sc: &Scenario) -> bool
     true
 }
 
-/// Whether a look covers no cell but the one of its position's number.
+// Whether a look covers no cell but the one of its position's number.
 fn covers_itself(sc: &Scenario, q: u8) -> bool
     requires problem { IsProblem sc.now }
     requires position { q < sc.now.positions }
@@ -109,7 +109,7 @@ fn covers_itself(sc: &Scenario, q: u8) -> bool
     true
 }
 
-/// Whether each look covers no cell but the one of its position's number.
+// Whether each look covers no cell but the one of its position's number.
 fn cover_themselves(sc: &Scenario) -> bool
     ensures { result ≡ list_all (covers_itself_lem sc.now) (range_with_len 0 sc.now.positions) }
 {
@@ -121,7 +121,7 @@ fn cover_themselves(sc: &Scenario) -> bool
     true
 }
 
-/// Whether a position has the name of the cell of its number.
+// Whether a position has the name of the cell of its number.
 fn has_cell_name(sc: &Scenario, q: u8) -> bool
     requires position { q < sc.now.positions }
     requires cell { q < sc.now.cells }
@@ -130,7 +130,7 @@ fn has_cell_name(sc: &Scenario, q: u8) -> bool
     sc.position(q).bytes() == sc.name(q).bytes()
 }
 
-/// Whether the positions have the names of the cells.
+// Whether the positions have the names of the cells.
 fn have_cell_names(sc: &Scenario) -> bool
     ensures value { result ≡ pointwise bytes_eq sc.now.position_names sc.now.names }
     ensures sound { IsProblem sc.now }

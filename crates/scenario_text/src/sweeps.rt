@@ -26,7 +26,7 @@ fn overlook_of(alloc: Global, parts: &[Option<u32>]) -> Result<Vec<u32>, AllocEr
     parts.iter().map(|o| o.unwrap_or(0)).collect(alloc)
 }
 
-/// The sweep whose looks each cover the cell of the position's number.
+// The sweep whose looks each cover the cell of the position's number.
 fn plain_sweep(denominator: u32, overlook: Vec<u32>) -> Sweep
     requires { IsSweep (parts_over denominator overlook.items) }
     ensures { result ≡ parts_over denominator overlook.items }
@@ -37,7 +37,7 @@ fn plain_sweep(denominator: u32, overlook: Vec<u32>) -> Sweep
     }
 }
 
-/// The entries of a row of looks, as a sweep takes them.
+// The entries of a row of looks, as a sweep takes them.
 fn look_parts(alloc: Global, row: &[DriftPart]) -> Result<Vec<LookPart>, AllocError>
     ensures { IfOk result (λ v. v.items ≡ look_parts_lem row.now) }
 {
@@ -49,7 +49,7 @@ fn look_parts(alloc: Global, row: &[DriftPart]) -> Result<Vec<LookPart>, AllocEr
         .collect(alloc)
 }
 
-/// Those of a position's row.
+// Those of a position's row.
 fn look_row(alloc: Global, row: &Option<Vec<DriftPart>>) -> Result<Vec<LookPart>, AllocError>
     ensures { IfOk result (λ v. v.items ≡ look_parts_lem (unwrap_or (option_map (λ r. r.items) row.now) [])) }
 {
@@ -59,12 +59,14 @@ fn look_row(alloc: Global, row: &Option<Vec<DriftPart>>) -> Result<Vec<LookPart>
     }
 }
 
-/// The rows of all positions.
+// The rows of all positions.
 fn look_rows(
     alloc: Global,
     looks: &[Option<Vec<DriftPart>>],
 ) -> Result<Vec<Vec<LookPart>>, AllocError>
-    ensures { IfOk result (λ v. map (λ r. r.items) v.items ≡ map (λ row. look_parts_lem (unwrap_or row [])) (map (option_map (λ r. r.items)) looks.now)) }
+    ensures { IfOk result (λ v.
+        map (λ r. r.items) v.items ≡ map (λ row.
+        look_parts_lem (unwrap_or row [])) (map (option_map (λ r. r.items)) looks.now)) }
 {
     let mut rows = Vec::new(alloc);
     for look in looks {
@@ -73,7 +75,7 @@ fn look_rows(
     Ok(rows)
 }
 
-/// The rows of single periods.
+// The rows of single periods.
 fn look_changes(alloc: Global, rows: &[RowIn]) -> Result<Vec<LookChange>, AllocError>
     ensures { IfOk result (λ v. map change_of v.items ≡ map look_change_of (map period_row_of rows.now)) }
 {
@@ -88,11 +90,12 @@ fn look_changes(alloc: Global, rows: &[RowIn]) -> Result<Vec<LookChange>, AllocE
     Ok(changes)
 }
 
-/// The sweep of these rows in every period.
+// The sweep of these rows in every period.
 fn base_sweep(denominator: u32, cells: u8, rows: Vec<Vec<LookPart>>) -> Sweep
     requires some { 1 ≤ denominator }
     requires few { denominator ≤ 1000000 }
-    requires faultless { (fault : LookFault) → HasFault denominator cells (map (λ row. row.items) rows.items) fault → ⊥ }
+    requires faultless { (fault : LookFault) → HasFault denominator cells (map (λ row. row.items) rows.items) fault →
+        ⊥ }
     ensures base { result ≡ looks_over denominator cells result.rows }
     ensures made { AllZip IsPermutation (map (λ row. row.items) rows.items) result.rows }
     ensures sound { IsSweep result }
@@ -103,11 +106,13 @@ fn base_sweep(denominator: u32, cells: u8, rows: Vec<Vec<LookPart>>) -> Sweep
     }
 }
 
-/// The sweep with these rows in single periods.
+// The sweep with these rows in single periods.
 fn changed_sweep(alloc: Global, sweep: Sweep, changes: Vec<LookChange>) -> Result<Sweep, AllocError>
     requires steady { sweep.changes ≡ [] }
     requires sound { IsSweep sweep }
-    requires faultless { (fault : LookChangeFaultLem) → HasChangeFault sweep.denominator (cells_of sweep) (positions_of sweep) (map change_of changes.items) fault → ⊥ }
+    requires faultless { (fault : LookChangeFaultLem) →
+        HasChangeFault sweep.denominator (cells_of sweep) (positions_of sweep) (map change_of changes.items) fault →
+        ⊥ }
     ensures base { IfOk result (λ changed. changed ≡ with_changes sweep changed.changes) }
     ensures made { IfOk result (λ changed. AllZip IsSameChange (map change_of changes.items) changed.changes) }
     ensures ascending { IfOk result (λ changed. HaveAscendingRows changed.changes) }
@@ -123,19 +128,20 @@ fn changed_sweep(alloc: Global, sweep: Sweep, changes: Vec<LookChange>) -> Resul
     }
 }
 
-/// The sweep of a draft of version 1.
+// The sweep of a draft of version 1.
 fn sweep_of_parts(alloc: Global, draft: &Draft) -> Result<Sweep, AllocError>
     requires sound { IsSound (state_of draft.now) }
     requires whole { draft.now.stage ≡ Stage.Ended }
     requires version { draft.now.version ≡ Version.One }
-    ensures parts { IfOk result (λ sweep. sweep ≡ parts_over draft.now.look (map (λ o. unwrap_or o 0) draft.now.overlook.items)) }
+    ensures parts { IfOk result (λ sweep.
+        sweep ≡ parts_over draft.now.look (map (λ o. unwrap_or o 0) draft.now.overlook.items)) }
     ensures sound { IfOk result IsSweep }
 {
     let overlook = overlook_of(alloc, &draft.overlook)?;
     Ok(plain_sweep(draft.look, overlook))
 }
 
-/// And of version 2.
+// And of version 2.
 fn sweep_of_rows(alloc: Global, draft: &Draft) -> Result<Sweep, AllocError>
     requires sound { IsSound (state_of draft.now) }
     requires whole { draft.now.stage ≡ Stage.Ended }

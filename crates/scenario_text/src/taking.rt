@@ -93,7 +93,7 @@ pub fn take_parts(draft: &mut Draft, fields: &[&[u8]]) -> Result<(), LineStop>
     }
 }
 
-/// Adds a cell that is a position, too, and has no rows yet.
+// Adds a cell that is a position, too, and has no rows yet.
 fn push_place(alloc: Global, draft: &mut Draft, name: &[u8]) -> Result<(), LineStop>
     requires new { cell_named_lem (state_of draft.old).names name.now ≡ None }
     requires version { draft.old.version ≡ Version.One }
@@ -108,7 +108,7 @@ fn push_place(alloc: Global, draft: &mut Draft, name: &[u8]) -> Result<(), LineS
     Ok(())
 }
 
-/// Adds a cell that has no row yet.
+// Adds a cell that has no row yet.
 fn push_target(alloc: Global, draft: &mut Draft, name: &[u8]) -> Result<(), LineStop>
     requires new { cell_named_lem (state_of draft.old).names name.now ≡ None }
     requires version { draft.old.version ≡ Version.Two }
@@ -158,7 +158,7 @@ pub fn take_cell(alloc: Global, draft: &mut Draft, fields: &[&[u8]]) -> Result<(
     }
 }
 
-/// Adds a position that has no rows yet.
+// Adds a position that has no rows yet.
 fn push_position(alloc: Global, draft: &mut Draft, name: &[u8]) -> Result<(), LineStop>
     requires { cell_named_lem (state_of draft.old).positions name.now ≡ None }
     ensures { TakesLine draft.new result (Ok (with_position (state_of draft.old) name.now)) }
@@ -225,7 +225,9 @@ pub fn take_start(draft: &mut Draft, fields: &[&[u8]]) -> Result<(), LineStop>
 }
 
 fn set_first(draft: &mut Draft, pairs: Scan) -> Result<(), LineStop>
-    ensures { (fields : List (List ℕ)) → are_pairs fields ≡ true → HasSeen 1 (pairs_of (state_of draft.old).names fields) pairs → TakesLine draft.new result (row_at Line.First (state_of draft.old) fields) }
+    ensures { (fields : List (List ℕ)) → are_pairs fields ≡ true →
+        HasSeen 1 (pairs_of (state_of draft.old).names fields) pairs →
+        TakesLine draft.new result (row_at Line.First (state_of draft.old) fields) }
 {
     if let Err(kind) = check_pairs(&pairs) {
         return Err(LineStop::Fault(kind));

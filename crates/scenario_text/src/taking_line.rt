@@ -27,7 +27,7 @@ use exact_parts::fits;
 use std::alloc::Global;
 use text_rows::{after_field, first_fields};
 
-/// How many fields of a line are looked at, but for those of pairs: a row of 64 moves has 66.
+// How many fields of a line are looked at, but for those of pairs: a row of 64 moves has 66.
 const MOST_FIELDS: usize = 67;
 
 fn is_text_byte(c: u8) -> bool
@@ -103,7 +103,7 @@ pub fn take_end(draft: &mut Draft, fields: &[&[u8]]) -> Result<(), LineStop>
     Ok(())
 }
 
-/// The line that is due, of which the first fields behind the keyword are given beside their text
+// The line that is due, of which the first fields behind the keyword are given beside their text
 #[tactic(auto, using(crate::proofs::FirstFields::front_taken))]
 fn take_due(
     alloc: Global,
@@ -144,7 +144,7 @@ fn has_cells(draft: &Draft) -> bool
     !draft.names.is_empty()
 }
 
-/// The line that a word begins, of which the first fields behind it are given beside their text
+// The line that a word begins, of which the first fields behind it are given beside their text
 #[tactic(auto, using(crate::proofs::Due::place_due))]
 fn take_word(
     alloc: Global,
@@ -163,7 +163,7 @@ fn take_word(
     }
 }
 
-/// The fields of a line, of which the first are given beside the line
+// The fields of a line, of which the first are given beside the line
 #[tactic(auto, using(crate::proofs::FirstFields::fields_steps))]
 fn take_fields(
     alloc: Global,

@@ -32,13 +32,20 @@ impl Model for CoreState {
 
     ghost Value = { Core };
 
-    ghost view = { λ c. record { pool = c.pool.items; hands = c.hands.items; records = c.records.items; standings = c.standings.items } };
+    ghost view = { λ c. record {
+      pool = c.pool.items;
+      hands = c.hands.items;
+      records = c.records.items;
+      standings =
+          c.standings.items;
+    } };
 }
 
-/// Moves the prefix at a place of one list to another; without memory nothing changes.
+// Moves the prefix at a place of one list to another; without memory nothing changes.
 fn go_over(from: &mut Vec<Path>, to: &mut Vec<Path>, place: usize) -> Result<(), AllocError>
     requires { place < length from.old.items }
-    ensures done { OnOk result ((q : List ℕ) → slice_get from.old.items place ≡ Some q → Goes q from.old.items from.new.items to.old.items to.new.items) }
+    ensures done { OnOk result ((q : List ℕ) → slice_get from.old.items place ≡ Some q →
+        Goes q from.old.items from.new.items to.old.items to.new.items) }
     ensures kept { OnErr result ((from.new.items ≡ from.old.items) × (to.new.items ≡ to.old.items)) }
 {
     to.reserve(1)?;
@@ -47,10 +54,11 @@ fn go_over(from: &mut Vec<Path>, to: &mut Vec<Path>, place: usize) -> Result<(),
     Ok(())
 }
 
-/// The moves to the children that a record makes expected: those of a Branch.
+// The moves to the children that a record makes expected: those of a Branch.
 fn moves_below<'a>(sc: &'a Scenario, node: &TreeNode) -> &'a [u8]
     requires { IsLegal sc.now node.now.prefix }
-    ensures children { map (λ d. node.now.prefix ++ d ∷ []) result.now ≡ expected_by sc.now node.now.prefix node.now.kind }
+    ensures children { map (λ d.
+        node.now.prefix ++ d ∷ []) result.now ≡ expected_by sc.now node.now.prefix node.now.kind }
     ensures branch { 0 < length result.now → node.now.kind ≡ Kind.Branch }
 {
     match node.kind {
@@ -59,7 +67,7 @@ fn moves_below<'a>(sc: &'a Scenario, node: &TreeNode) -> &'a [u8]
     }
 }
 
-/// Puts children into a list in place of the prefix at a place; without memory nothing changes.
+// Puts children into a list in place of the prefix at a place; without memory nothing changes.
 fn replace_held(hands: &mut Vec<Path>, place: usize, prefix: &Path, moves: &[u8])
     requires held { slice_get hands.old.items place ≡ Some prefix.now }
     requires shorter { 0 < length moves.now → length prefix.now < 32 }
@@ -119,7 +127,7 @@ impl CoreState {
         &self.standings
     }
 
-    /// A prefix goes from the hands to the pool.
+    // A prefix goes from the hands to the pool.
     fn put(&mut self, sc: &Scenario, prefix: &Path) -> Result<(), CoreFault>
         ensures { Answers sc.now self.old (CoreEvent.Put prefix.now) result self.new }
     {
@@ -130,7 +138,7 @@ impl CoreState {
         Ok(())
     }
 
-    /// A prefix goes from the pool to the hands.
+    // A prefix goes from the pool to the hands.
     fn take(&mut self, sc: &Scenario, prefix: &Path) -> Result<(), CoreFault>
         ensures { Answers sc.now self.old (CoreEvent.Take prefix.now) result self.new }
     {
@@ -141,7 +149,7 @@ impl CoreState {
         Ok(())
     }
 
-    /// A prefix that is held is closed under the standing at place `j`.
+    // A prefix that is held is closed under the standing at place `j`.
     fn close(&mut self, sc: &Scenario, node: &TreeNode, j: usize) -> Result<(), CoreFault>
         requires balanced { IsBalanced sc.now self.old }
         requires allowed { IsAllowed sc.now self.old (CoreEvent.Close node.now j) }
@@ -164,7 +172,7 @@ impl CoreState {
         Ok(())
     }
 
-    /// A path with its exact value becomes known.
+    // A path with its exact value becomes known.
     fn learn(&mut self, sc: &Scenario, standing: &Standing) -> Result<(), CoreFault>
         ensures { Answers sc.now self.old (CoreEvent.Learn standing.now) result self.new }
     {
@@ -172,7 +180,7 @@ impl CoreState {
         Ok(())
     }
 
-    /// One event.
+    // One event.
     fn answer(&mut self, sc: &Scenario, event: &CoreEvent) -> Result<(), CoreFault>
         requires balanced { IsBalanced sc.now self.old }
         requires allowed { IsAllowed sc.now self.old event.now }

@@ -7,10 +7,10 @@ ghost use Rattle.search_grid.specs.Faults.{HasSameMoves, HasDouble, IsFirstOfRow
 
 use std::alloc::AllocFailed;
 
-/// The most cells of a grid.
+// The most cells of a grid.
 const MAX_CELLS: usize = 200;
 
-/// The most moves of a cell.
+// The most moves of a cell.
 const MAX_MOVES: usize = 64;
 
 /// Why rows of moves make no grid, or none was made. A fault of a row names its cell.
@@ -40,7 +40,7 @@ impl<T: Drop> From<AllocFailed<T>> for GridFault {
     }
 }
 
-// Puts each row in ascending order, if the rows then make a grid.
+/// Puts each row in ascending order, if the rows then make a grid.
 pub(crate) fn put_in_order(rows: &mut [Vec<u8>]) -> Result<(), GridFault>
     ensures same { HasSameMoves (map (λ row. row.items) rows.old) (map (λ row. row.items) rows.new) }
     ensures grid { OnOk result (IsGrid (map (λ row. row.items) rows.new)) }
@@ -59,7 +59,8 @@ pub(crate) fn put_in_order(rows: &mut [Vec<u8>]) -> Result<(), GridFault>
 // Puts each row in ascending order.
 fn sort_rows(rows: &mut [Vec<u8>])
     ensures same { HasSameMoves (map (λ row. row.items) rows.old) (map (λ row. row.items) rows.new) }
-    ensures ascending { (c : ℕ) → c < length rows.old → IsNonDecreasing (moves_from (map (λ row. row.items) rows.new) c) }
+    ensures ascending { (c : ℕ) → c < length rows.old →
+        IsNonDecreasing (moves_from (map (λ row. row.items) rows.new) c) }
 {
     for row in rows.iter_mut() {
         row.sort_unstable();
@@ -96,7 +97,8 @@ fn has_double(row: &[u8]) -> bool
 // The fault that is named of rows whose moves ascend.
 fn first_fault(rows: &[Vec<u8>]) -> Option<GridFault>
     requires count { (1 ≤ length rows.now) × (length rows.now ≤ 200) }
-    requires ascending { (c : ℕ) → c < length rows.now → IsNonDecreasing (moves_from (map (λ row. row.items) rows.now) c) }
+    requires ascending { (c : ℕ) → c < length rows.now →
+        IsNonDecreasing (moves_from (map (λ row. row.items) rows.now) c) }
     ensures none { IfNone result (IsGrid (map (λ row. row.items) rows.now)) }
     ensures some { IfSome result (IsFirstFault (map (λ row. row.items) rows.now)) }
 {

@@ -38,7 +38,8 @@ impl Grid {
     pub fn new(mut rows: Vec<Vec<u8>>) -> Result<Grid, GridFault>
         ensures made { let given = map (λ row. row.items) rows.items in IfOk result (HasSameMoves given) }
         ensures sound { IfOk result IsGrid }
-        ensures faultless { let given = map (λ row. row.items) rows.items in IsOk result ↔ ((fault : GridFault) → HasFault given fault → ⊥) }
+        ensures faultless { let given = map (λ row.
+            row.items) rows.items in IsOk result ↔ ((fault : GridFault) → HasFault given fault → ⊥) }
         ensures fault { let given = map (λ row. row.items) rows.items in IfErr result (IsFirstFault given) }
         ensures kept { let given = map (λ row. row.items) rows.items in IsGrid given → result ≡ Ok given }
     {

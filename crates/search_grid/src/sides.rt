@@ -38,7 +38,7 @@ fn cells_beside(alloc: Global, cells: u8, columns: u8, c: u8) -> Result<Vec<u8>,
     Ok(row)
 }
 
-// Per cell of so many rows and columns, the cells beside it, and itself.
+/// Per cell of so many rows and columns, the cells beside it, and itself.
 pub(crate) fn all_beside(alloc: Global, rows: u8, columns: u8) -> Result<Vec<Vec<u8>>, GridFault>
     requires some_row { 1 ≤ rows }
     requires some_column { 1 ≤ columns }

@@ -6,7 +6,7 @@ ghost use Rattle.search_model.specs.Names.{IsName, is_name_byte as is_name_byte_
 
 use std::marker::Model;
 
-/// The most bytes of a name.
+// The most bytes of a name.
 const LONGEST: usize = 24;
 
 /// The name of a cell or of a position: 1 to 24 bytes of `a-z A-Z 0-9 _ -`, in place.

@@ -10,7 +10,7 @@ ghost use Rattle.std.proofs.Common.{rules};
 use std::cmp::Ordering;
 use std::marker::Model;
 
-/// The most positions of a path.
+// The most positions of a path.
 const LONGEST: usize = 32;
 
 /// Up to 32 position numbers, in place. Paths compare as their lists of positions: the smaller number at the first place

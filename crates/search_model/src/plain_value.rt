@@ -8,7 +8,7 @@ ghost use Rattle.search_model.specs.Following.{look_factor as look_factor_lem, a
 use crate::path::Path;
 use crate::scenario::Scenario;
 
-/// How much of a target in cell `c` the first of these looks misses in period `t`; the denominator where no look is left.
+// How much of a target in cell `c` the first of these looks misses in period `t`; the denominator where no look is left.
 fn look_factor(sc: &Scenario, t: u32, looks: &[u8], c: u8) -> u32
     requires first { 1 ≤ t }
     requires last { t ≤ sc.now.horizon }
@@ -22,7 +22,7 @@ fn look_factor(sc: &Scenario, t: u32, looks: &[u8], c: u8) -> u32
     }
 }
 
-/// All looks but the first.
+// All looks but the first.
 fn later(looks: &[u8]) -> &[u8]
     ensures { result.now ≡ drop 1 looks.now }
 {
@@ -32,7 +32,7 @@ fn later(looks: &[u8]) -> &[u8]
     }
 }
 
-/// The sum, over all that may follow cell `c` in period `t` up to the horizon, of drift parts times look factors.
+// The sum, over all that may follow cell `c` in period `t` up to the horizon, of drift parts times look factors.
 fn after(sc: &Scenario, t: u32, c: u8, looks: &[u8]) -> u128
     requires first { 1 ≤ t }
     requires last { t ≤ sc.now.horizon }
@@ -52,7 +52,7 @@ fn after(sc: &Scenario, t: u32, c: u8, looks: &[u8]) -> u128
     sum
 }
 
-/// The weight that the looks of a legal prefix miss.
+// The weight that the looks of a legal prefix miss.
 fn missed(sc: &Scenario, looks: &[u8]) -> u128
     requires { All (λ a. a < sc.now.positions) looks.now }
     ensures { result ≡ missed_weight sc.now looks.now }

@@ -70,7 +70,7 @@ pub enum ModelFault {
     DoublePosition(u8),
 }
 
-/// The sum of a few parts.
+// The sum of a few parts.
 fn sum_of(parts: &[u32]) -> u64
     requires { length parts.now ≤ 200 }
     ensures { result ≡ sum parts.now }
@@ -82,14 +82,14 @@ fn sum_of(parts: &[u32]) -> u64
     total
 }
 
-/// Whether the horizon and the total are within their limits.
+// Whether the horizon and the total are within their limits.
 fn within_limits(parts: &Parts) -> bool
     ensures { IsTrue result ↔ WithinLimits parts.now }
 {
     (1..=32).contains(&parts.horizon) && (1..=1_000_000).contains(&parts.total)
 }
 
-/// Whether all parts are of the same number of cells and of the same number of positions.
+// Whether all parts are of the same number of cells and of the same number of positions.
 fn sizes_agree(parts: &Parts) -> bool
     ensures { IsTrue result ↔ SizesAgree parts.now }
 {
@@ -102,14 +102,14 @@ fn sizes_agree(parts: &Parts) -> bool
         && parts.sweep.positions() == positions
 }
 
-/// Whether a name is one of these.
+// Whether a name is one of these.
 fn stands_in(name: &[u8], names: &[Name]) -> bool
     ensures { IsTrue result ↔ Contains names.now name.now }
 {
     names.iter().any(|n| n.bytes() == name)
 }
 
-/// Whether the name at a place stands before it.
+// Whether the name at a place stands before it.
 fn is_repeated(names: &[Name], c: usize) -> bool
     requires { c < length names.now }
     ensures value { IsTrue result ↔ IsRepeated names.now c }
@@ -119,7 +119,7 @@ fn is_repeated(names: &[Name], c: usize) -> bool
     stands_in(name.bytes(), &names[..c])
 }
 
-/// The least place of a name that stands before it.
+// The least place of a name that stands before it.
 fn first_repeated(names: &[Name]) -> Option<u8>
     requires { length names.now ≤ 200 }
     ensures some { IfSome result (λ c. IsRepeated names.now c × ((d : ℕ) → d < c → ¬ IsRepeated names.now d)) }

@@ -40,7 +40,8 @@ pub fn stack_children(stack: &mut Stack, sc: &Scenario, prefix: &Path)
 fn put_children(kit: &mut Kit<Path>, stack: &mut Stack, prefix: &Path, moves: &[u8])
     requires short { length prefix.now < 32 }
     requires room { length stack.old + length moves.now ≤ 2048 }
-    ensures puts { Puts (map (λ d. prefix.now ++ d ∷ []) moves.now) (put_of kit.old) stack.old (put_of kit.new) stack.new }
+    ensures puts { Puts (map (λ d. prefix.now ++ d ∷ []) moves.now) (put_of kit.old) stack.old (put_of kit.new)
+        stack.new }
     ensures kit { OnlyPut kit.old kit.new }
 {
     for next in moves {
@@ -73,7 +74,8 @@ pub fn dispose(kit: &mut Kit<Path>, stack: &mut Stack, sc: &Scenario, prefix: &P
     requires legal { IsLegal sc.now prefix.now }
     requires shorter { length prefix.now < sc.now.horizon }
     requires room { length stack.old ≤ 63 * length prefix.now }
-    ensures { Disposes (children_of sc.now prefix.now) (nat_lt (length prefix.now * 2) sc.now.horizon) kit.old stack.old kit.new stack.new }
+    ensures { Disposes (children_of sc.now prefix.now) (nat_lt (length prefix.now * 2) sc.now.horizon) kit.old stack.old
+        kit.new stack.new }
 {
     if prefix.len() * 2 < sc.horizon() as usize {
         share_children(kit, stack, sc, prefix);

@@ -77,8 +77,10 @@ impl Desk {
         ensures records { MakesRecord sc.now (desk_view self.old) result (desk_view self.new) }
         ensures ticket { self.new.ticket ≡ self.old.ticket }
         ensures seat { IsSameSeat self.old.incumbent.seat self.new.incumbent.seat }
-        ensures looks { (self.new.incumbent.seat.looks ≡ self.old.incumbent.seat.looks) × (self.new.incumbent.seat.shown ≡ self.old.incumbent.seat.shown) }
-        ensures told { WasTold self.old.incumbent.seat self.old.incumbent.standing → WasTold self.new.incumbent.seat self.new.incumbent.standing }
+        ensures looks { (self.new.incumbent.seat.looks ≡ self.old.incumbent.seat.looks) ×
+            (self.new.incumbent.seat.shown ≡ self.old.incumbent.seat.shown) }
+        ensures told { WasTold self.old.incumbent.seat self.old.incumbent.standing →
+            WasTold self.new.incumbent.seat self.new.incumbent.standing }
         ensures tables { IsMadeFor sc.now self.new.scratch }
         ensures belief { self.new.incumbent.belief ≡ self.old.incumbent.belief }
     {

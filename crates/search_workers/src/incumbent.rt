@@ -66,7 +66,8 @@ impl Incumbent {
     /// A path that is better takes the place of the standing, and is offered to the board. May wait. Takes no memory.
     pub fn keep_better<R: Wait>(&mut self, rt: &R, board: &Board, node: &TreeNode)
         requires seat { IsSeatOf board.now self.old.seat }
-        requires stands { (n : ℕ) → node.now.kind ≡ Whole n → MayStand board.now.first (record { path = node.now.prefix; value = n }) }
+        requires stands { (n : ℕ) → node.now.kind ≡ Whole n →
+            MayStand board.now.first (record { path = node.now.prefix; value = n }) }
         ensures seat { IsSameSeat self.old.seat self.new.seat }
         ensures looks { (self.new.seat.looks ≡ self.old.seat.looks) × (self.new.seat.shown ≡ self.old.seat.shown) }
         ensures standing { self.new.standing ≡ best_after self.old.standing node.now.prefix node.now.kind }

@@ -98,7 +98,8 @@ fn conclude<R: Wait>(
     ensures few { IfOk result (λ found. length found.tree ≤ tickets.limit) }
     ensures closed { IfFull result (λ part. length part.closed.items ≡ tickets.limit) }
     ensures waiting { IfFull result (λ part. 0 < length part.waiting.items) }
-    ensures joined { IfFull result (λ part. AreJoined sc.now board.first part.best part.waiting.items part.closed.items) }
+    ensures joined { IfFull result (λ part.
+        AreJoined sc.now board.first part.best part.waiting.items part.closed.items) }
 {
     sc.recall_sound();
     let Harvest {
@@ -152,7 +153,8 @@ pub fn search<R: Threads + Wait + Sync + AllocGlobal, G: Gate>(
     ensures full_distinct { IfFull result (λ part. AreDistinct (reached_by part)) }
     ensures full_live { IfFull result (λ part. All (IsLive sc.now first.now) (reached_by part)) }
     ensures full_best { IfFull result (λ part. IsExact sc.now part.best × IsAtLeast part.best first.now) }
-    ensures full_joined { IfFull result (λ part. AreJoined sc.now first.now part.best part.waiting.items part.closed.items) }
+    ensures full_joined { IfFull result (λ part.
+        AreJoined sc.now first.now part.best part.waiting.items part.closed.items) }
 {
     sc.recall_sound();
     let Crew {

@@ -7,7 +7,7 @@ use search_model::Path;
 use std::alloc::Global;
 use std::marker::Model;
 
-/// How many prefixes a private stack has room for.
+// How many prefixes a private stack has room for.
 const ROOM: usize = 2048;
 
 /// A worker's private stack of prefixes. The room for 2,048 of them is taken at the start, and no more is ever needed.

@@ -128,7 +128,8 @@ pub fn steal_task<T>(thief: &Thief<T>, pass: &mut Pass<T, Hand<T>>) -> Steal<T>
 /// Gives one of the owner's passes away.
 pub fn deal_pass<T>(own: &mut Own<T>) -> Pass<T, Hand<T>>
     requires { 1 < (worker_view own.old).passes }
-    ensures same { SameWorker own.old own.new × (worker_index own.new ≡ worker_index own.old) × IsPassOf (worker_deque own.old) result }
+    ensures same { SameWorker own.old own.new × (worker_index own.new ≡ worker_index own.old) ×
+        IsPassOf (worker_deque own.old) result }
     ensures own { let v = worker_view own.old in worker_view own.new ≡ hand (v.passes - 1) v.put v.taken }
     ensures pass { view result ≡ hand 1 [] [] }
 {
@@ -141,7 +142,8 @@ pub fn join_pass<T>(own: &mut Own<T>, pass: Pass<T, Hand<T>>)
     requires owner { worker_port own.old ≡ 0 }
     requires some { 0 < (worker_view own.old).passes }
     ensures same { SameWorker own.old own.new × (worker_index own.new ≡ worker_index own.old) }
-    ensures both { let v = worker_view own.old in let w = view pass in worker_view own.new ≡ hand (v.passes + w.passes) (v.put ++ w.put) (v.taken ++ w.taken) }
+    ensures both { let v = worker_view own.old in let w = view pass in worker_view own.new ≡
+        hand (v.passes + w.passes) (v.put ++ w.put) (v.taken ++ w.taken) }
 {
     own.absorb::<Deals>(pass);
 }

@@ -73,7 +73,8 @@ impl<T: Drop> Kit<T> {
     pub fn put(&mut self, task: T) -> Result<(), T>
         ensures put { OnOk result (put_of self.new ≡ put_of self.old ++ task ∷ []) }
         ensures taken { taken_of self.new ≡ taken_of self.old }
-        ensures same { (self.new.pool ≡ self.old.pool) × (self.new.place ≡ self.old.place) × (self.new.misses ≡ self.old.misses) }
+        ensures same { (self.new.pool ≡ self.old.pool) × (self.new.place ≡ self.old.place) ×
+            (self.new.misses ≡ self.old.misses) }
         ensures back { IfErr result (λ x. (x ≡ task) × (self.new ≡ self.old)) }
         ensures full { IsErr result ↔ (length (put_of self.old) ≡ 4096) }
     {
@@ -100,7 +101,8 @@ impl<T: Drop> Kit<T> {
         ensures none { IfNone result (self.new ≡ self.old) }
         ensures empty { IfNone result (EmptyAtOneMoment (hand_at self.old self.old.place)) }
         ensures alone { length self.old.pool ≡ 1 → IsNone result ↔ IsPermutation (put_of self.old) (taken_of self.old) }
-        ensures alone_first { length self.old.pool ≡ 1 → IfSome result (λ x. slice_get (put_of self.old) (length (taken_of self.old)) ≡ Some x) }
+        ensures alone_first { length self.old.pool ≡ 1 → IfSome result (λ x.
+            slice_get (put_of self.old) (length (taken_of self.old)) ≡ Some x) }
     {
         let Some(task) = take_task(&mut self.own) else {
             return None;
@@ -152,7 +154,7 @@ impl<T: Drop> Kit<T> {
 
 ghost use Rattle.steal_pool.specs.News.{IsNewOwn};
 
-// Makes a kit of a new deque and of its victims.
+/// Makes a kit of a new deque and of its victims.
 pub fn assemble<T: Drop>(own: Own<T>, rest: Rest<T>) -> Kit<T>
     requires new { IsNewOwn own }
     requires passes { (worker_view own).passes + (length rest.before.items + length rest.after.items) ≡ 16 }
@@ -174,11 +176,13 @@ pub fn assemble<T: Drop>(own: Own<T>, rest: Rest<T>) -> Kit<T>
 
 ghost use Rattle.steal_pool.specs.Pools.{IsOwner, robbed_deques, robbed_hands};
 
-// Takes a kit apart.
+/// Takes a kit apart.
 pub fn part<T: Drop>(kit: Kit<T>) -> (Own<T>, Rest<T>)
-    ensures pool { kit.pool ≡ robbed_deques result.1.before.items ++ worker_deque result.0 ∷ robbed_deques result.1.after.items }
+    ensures pool { kit.pool ≡ robbed_deques result.1.before.items ++
+        worker_deque result.0 ∷ robbed_deques result.1.after.items }
     ensures place { kit.place ≡ length result.1.before.items }
-    ensures hands { kit.hands ≡ robbed_hands result.1.before.items ++ worker_view result.0 ∷ robbed_hands result.1.after.items }
+    ensures hands { kit.hands ≡ robbed_hands result.1.before.items ++
+        worker_view result.0 ∷ robbed_hands result.1.after.items }
     ensures owner { IsOwner result.0 }
     ensures passes { (worker_view result.0).passes + (length result.1.before.items + length result.1.after.items) ≡ 16 }
     ensures few { length result.1.before.items + length result.1.after.items ≤ 15 }

@@ -56,7 +56,8 @@ fn deal_range<T: Drop>(
         → passes_at (hands_of owns.new.items) i + 1 ≡ passes_at (hands_of owns.old.items) i) }
     ensures others { IfOk result (λ _. (i : ℕ) → (i < from) ⊎ (to ≤ i)
         → passes_at (hands_of owns.new.items) i ≡ passes_at (hands_of owns.old.items) i) }
-    ensures victims { IfOk result (λ vs. robbed_deques vs.items ≡ take (to - from) (drop from (deques_of owns.old.items))) }
+    ensures victims { IfOk result (λ vs.
+        robbed_deques vs.items ≡ take (to - from) (drop from (deques_of owns.old.items))) }
     ensures taken { IfOk result (λ vs. takes_of (robbed_hands vs.items) ≡ []) }
 {
     let mut victims = Vec::new(alloc);
@@ -77,7 +78,8 @@ fn deal_all<T: Drop>(alloc: Global, owns: &mut Vec<Own<T>>) -> Result<Vec<Rest<T
     ensures passes { IfOk result (λ _. (i : ℕ) → i < length owns.old.items
         → passes_at (hands_of owns.new.items) i + length owns.old.items ≡ 17) }
     ensures many { IfOk result (λ rests. length rests.items ≡ length owns.old.items) }
-    ensures each { IfOk result (λ rests. EachAt rests.items (λ i r. IsRest (deques_of owns.old.items) i r × (rest_taken r ≡ []))) }
+    ensures each { IfOk result (λ rests.
+        EachAt rests.items (λ i r. IsRest (deques_of owns.old.items) i r × (rest_taken r ≡ []))) }
 {
     let workers = owns.len();
     let mut rests = Vec::new(alloc);

@@ -55,7 +55,8 @@ fn give_range<T: Drop>(owns: &mut Vec<Own<T>>, mut victims: Vec<Victim<T>>, from
 fn drain<T: Drop>(mut own: Own<T>, out: &mut Vec<T>) -> Result<(), NoMemory>
     requires fifo { worker_flavor own ≡ 0 }
     requires passes { (worker_view own).passes ≡ ALL }
-    ensures { OnOk result (IsPermutation ((worker_view own).put ++ out.old.items) ((worker_view own).taken ++ out.new.items)) }
+    ensures { OnOk result (IsPermutation ((worker_view own).put ++ out.old.items) ((worker_view own).taken ++
+        out.new.items)) }
 {
     while let Some(task) = take_task(&mut own) {
         out.push(task)?;
@@ -71,12 +72,15 @@ fn take_apart<T: Drop>(
     requires { IsWhole kits.items }
     ensures deques { IfOk result (λ r. deques_of r.0.items ≡ pool_of kits.items) }
     ensures owner { IfOk result (λ r. All IsOwner r.0.items) }
-    ensures passes { IfOk result (λ r. (i : ℕ) → i < length kits.items → passes_at (hands_of r.0.items) i + length kits.items ≡ 17) }
+    ensures passes { IfOk result (λ r.
+        (i : ℕ) → i < length kits.items → passes_at (hands_of r.0.items) i + length kits.items ≡ 17) }
     ensures few { IfOk result (λ _. length kits.items ≤ 16) }
     ensures many { IfOk result (λ r. length r.1.items ≡ length kits.items) }
     ensures rests { IfOk result (λ r. EachAt r.1.items (λ i rest. IsRest (pool_of kits.items) i rest)) }
     ensures put { IfOk result (λ r. flat_map put_of kits.items ≡ puts_of (hands_of r.0.items)) }
-    ensures taken { IfOk result (λ r. IsPermutation (flat_map taken_of kits.items) (takes_of (hands_of r.0.items) ++ flat_map rest_taken r.1.items)) }
+    ensures taken { IfOk result (λ r.
+        IsPermutation (flat_map taken_of kits.items) (takes_of (hands_of r.0.items) ++
+        flat_map rest_taken r.1.items)) }
 {
     let mut owns = Vec::new(alloc);
     let mut rests = Vec::new(alloc);
@@ -93,7 +97,8 @@ fn give_all<T: Drop>(owns: &mut Vec<Own<T>>, mut rests: Vec<Rest<T>>)
     requires owner { All IsOwner owns.old.items }
     requires many { length rests.items ≡ length owns.old.items }
     requires each { EachAt rests.items (λ i r. IsRest (deques_of owns.old.items) i r) }
-    requires passes { (i : ℕ) → i < length owns.old.items → passes_at (hands_of owns.old.items) i + length owns.old.items ≡ 17 }
+    requires passes { (i : ℕ) → i < length owns.old.items →
+        passes_at (hands_of owns.old.items) i + length owns.old.items ≡ 17 }
     requires few { length owns.old.items ≤ 16 }
     ensures owner { All IsOwner owns.new.items }
     ensures passes { (i : ℕ) → i < length owns.new.items → passes_at (hands_of owns.new.items) i ≡ ALL }
@@ -113,7 +118,8 @@ fn drain_all<T: Drop>(owns: Vec<Own<T>>, out: &mut Vec<T>) -> Result<(), NoMemor
     requires empty { out.old.items ≡ [] }
     requires owner { All IsOwner owns.items }
     requires passes { (i : ℕ) → i < length owns.items → passes_at (hands_of owns.items) i ≡ ALL }
-    ensures { OnOk result (IsPermutation (puts_of (hands_of owns.items)) (takes_of (hands_of owns.items) ++ out.new.items)) }
+    ensures { OnOk result (IsPermutation (puts_of (hands_of owns.items)) (takes_of (hands_of owns.items) ++
+        out.new.items)) }
 {
     for own in owns {
         drain(own, out)?;
@@ -125,7 +131,8 @@ fn drain_all<T: Drop>(owns: Vec<Own<T>>, out: &mut Vec<T>) -> Result<(), NoMemor
 /// put are, up to order, all that they took together with these. At `NoMemory` the tasks left are dropped.
 pub fn settle<T: Drop>(alloc: Global, kits: Vec<Kit<T>>) -> Result<Vec<T>, NoMemory>
     requires { IsWhole kits.items }
-    ensures { IfOk result (λ left. IsPermutation (flat_map put_of kits.items) (flat_map taken_of kits.items ++ left.items)) }
+    ensures { IfOk result (λ left.
+        IsPermutation (flat_map put_of kits.items) (flat_map taken_of kits.items ++ left.items)) }
 {
     let (mut owns, rests) = take_apart(alloc, kits)?;
     give_all(&mut owns, rests);

@@ -36,7 +36,7 @@ fn rob<T: Drop>(victim: &mut Victim<T>) -> Theft<T>
     }
 }
 
-// The same at one of several victims.
+/// The same at one of several victims.
 pub fn rob_at<T: Drop>(victims: &mut Vec<Victim<T>>, at: usize) -> Theft<T>
     requires { at < length victims.old.items }
     ensures same { robbed_deques victims.new.items ≡ robbed_deques victims.old.items }
@@ -46,7 +46,7 @@ pub fn rob_at<T: Drop>(victims: &mut Vec<Victim<T>>, at: usize) -> Theft<T>
     rob(victim)
 }
 
-// How many steals in a row got no task, after a further steal: none once it got one, else one more, as far as it fits.
+/// How many steals in a row got no task, after a further steal: none once it got one, else one more, as far as it fits.
 pub fn misses_after<T: Drop>(misses: u64, theft: &Theft<T>) -> u64
     ensures { result ≡ misses_after_lem misses theft.now }
 {

@@ -7,7 +7,7 @@ use crate::deque::Thief;
 use crate::hand::Hand;
 use crossbeam_deque::Pass;
 
-// A thief's end of another worker's deque, with one pass for it.
+/// A thief's end of another worker's deque, with one pass for it.
 #[derive(Drop)]
 pub struct Victim<T: Drop> {
     pub thief: Thief<T>,
@@ -18,7 +18,7 @@ pub struct Victim<T: Drop> {
     ghost no_puts: { length (view pass).put ≡ 0 },
 }
 
-// The victims of one worker: those whose place comes before its own, and those after it.
+/// The victims of one worker: those whose place comes before its own, and those after it.
 #[derive(Drop)]
 pub struct Rest<T: Drop> {
     pub before: Vec<Victim<T>>,

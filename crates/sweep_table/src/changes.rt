@@ -40,14 +40,14 @@ impl From<AllocError> for LookChangeFault {
     }
 }
 
-// Changes in the order in which they were given, and the period and position of each at its place.
+/// Changes in the order in which they were given, and the period and position of each at its place.
 #[derive(Debug, Drop)]
 pub(crate) struct Changes {
     pub(crate) given: Vec<LookChange>,
     pub(crate) index: IndexSet<(u32, u8)>,
 }
 
-// Makes the changes of looks over so many cells from so many positions, each row put in ascending order.
+/// Makes the changes of looks over so many cells from so many positions, each row put in ascending order.
 pub(crate) fn make_changes(
     alloc: Global,
     denominator: u32,
@@ -55,10 +55,12 @@ pub(crate) fn make_changes(
     positions: u8,
     mut given: Vec<LookChange>,
 ) -> Result<Changes, LookChangeFault>
-    ensures same { let was = map change_of given.items in IfOk result (λ made. AllZip IsSameChange was (map change_of made.given.items)) }
+    ensures same { let was = map change_of given.items in IfOk result (λ made.
+        AllZip IsSameChange was (map change_of made.given.items)) }
     ensures right { IfOk result (λ made. HaveRightRows denominator cells (map change_of made.given.items)) }
     ensures indexed { IfOk result (λ made. made.index.keys ≡ map key_of_change (map change_of made.given.items)) }
-    ensures faultless { let was = map change_of given.items in IsOk result → (fault : LookChangeFault) → HasChangeFault denominator cells positions was fault → ⊥ }
+    ensures faultless { let was = map change_of given.items in IsOk result → (fault : LookChangeFault) →
+        HasChangeFault denominator cells positions was fault → ⊥ }
     ensures refusal { let was = map change_of given.items in IfErr result (IsRefusal denominator cells positions was) }
 {
     sort_rows(&mut given);
@@ -87,7 +89,8 @@ fn index_of(
     requires { All (λ change. IsNonDecreasingBy (λ entry. entry.cell) change.row) (map change_of changes.now) }
     ensures indexed { IfOk result (λ index. index.keys ≡ map key_of_change (map change_of changes.now)) }
     ensures right { OnOk result (HaveRightRows denominator cells (map change_of changes.now)) }
-    ensures faultless { IsOk result → (fault : LookChangeFault) → HasChangeFault denominator cells positions (map change_of changes.now) fault → ⊥ }
+    ensures faultless { IsOk result → (fault : LookChangeFault) →
+        HasChangeFault denominator cells positions (map change_of changes.now) fault → ⊥ }
     ensures refusal { IfErr result (IsRefusal denominator cells positions (map change_of changes.now)) }
 {
     let mut index = IndexSet::new(alloc);

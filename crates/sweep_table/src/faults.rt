@@ -35,7 +35,7 @@ pub enum LookFault {
     NoMemory,
 }
 
-// The least cell whose part exceeds the denominator.
+/// The least cell whose part exceeds the denominator.
 pub(crate) fn first_over(denominator: u32, overlook: &[u32]) -> Option<usize>
     ensures none { IfNone result ((k : ℕ) → k < length overlook.now → slice_index overlook.now k ≤ denominator) }
     ensures cell { IfSome result (λ c. c < length overlook.now) }
@@ -45,7 +45,7 @@ pub(crate) fn first_over(denominator: u32, overlook: &[u32]) -> Option<usize>
     overlook.iter().position(|part| *part > denominator)
 }
 
-// Puts each row in ascending order of cells, if the rows then make a sweep.
+/// Puts each row in ascending order of cells, if the rows then make a sweep.
 pub(crate) fn put_in_order(
     denominator: u32,
     cells: u8,
@@ -66,7 +66,8 @@ pub(crate) fn put_in_order(
 // Puts each row in ascending order of cells.
 fn sort_rows(rows: &mut [Vec<LookPart>])
     ensures same { AllZip IsPermutation (map (λ row. row.items) rows.old) (map (λ row. row.items) rows.new) }
-    ensures ascending { (p : ℕ) → p < length rows.old → IsNonDecreasingBy (λ entry. entry.cell) (row_at (map (λ row. row.items) rows.new) p) }
+    ensures ascending { (p : ℕ) → p < length rows.old → IsNonDecreasingBy (λ entry.
+        entry.cell) (row_at (map (λ row. row.items) rows.new) p) }
 {
     for row in rows.iter_mut() {
         row.sort_unstable_by_key(|entry| entry.cell);
@@ -76,7 +77,8 @@ fn sort_rows(rows: &mut [Vec<LookPart>])
 // The fault that is named of rows in ascending order of cells.
 fn first_fault(denominator: u32, cells: u8, rows: &[Vec<LookPart>]) -> Option<LookFault>
     requires denominator { (1 ≤ denominator) × (denominator ≤ 1000000) }
-    requires ascending { (p : ℕ) → p < length rows.now → IsNonDecreasingBy (λ entry. entry.cell) (row_at (map (λ row. row.items) rows.now) p) }
+    requires ascending { (p : ℕ) → p < length rows.now → IsNonDecreasingBy (λ entry.
+        entry.cell) (row_at (map (λ row. row.items) rows.now) p) }
     ensures none { IfNone result (IsSweep (looks_over denominator cells (map (λ row. row.items) rows.now))) }
     ensures some { IfSome result (IsFirstFault denominator cells (map (λ row. row.items) rows.now)) }
 {
@@ -115,14 +117,14 @@ fn row_fault(denominator: u32, cells: u8, position: u8, row: &[LookPart]) -> Opt
     }
 }
 
-// Whether an entry isn't a cell.
+/// Whether an entry isn't a cell.
 pub(crate) fn has_out(cells: u8, row: &[LookPart]) -> bool
     ensures { MatchBool result (HasOut cells row.now) (All (λ entry. entry.cell < cells) row.now) }
 {
     row.iter().any(|entry| entry.cell >= cells)
 }
 
-// Whether a cell has two entries in a row in ascending order.
+/// Whether a cell has two entries in a row in ascending order.
 pub(crate) fn has_double(row: &[LookPart]) -> bool
     requires { IsNonDecreasingBy (λ entry. entry.cell) row.now }
     ensures { MatchBool result (HasDouble row.now) (IsStrictlyIncreasing (map (λ entry. entry.cell) row.now)) }
@@ -130,7 +132,7 @@ pub(crate) fn has_double(row: &[LookPart]) -> bool
     !row.is_sorted_by(|a, b| a.cell < b.cell)
 }
 
-// Whether a part exceeds the denominator.
+/// Whether a part exceeds the denominator.
 pub(crate) fn has_over(denominator: u32, row: &[LookPart]) -> bool
     ensures { MatchBool result (HasOver denominator row.now) (All (λ entry. entry.part ≤ denominator) row.now) }
 {

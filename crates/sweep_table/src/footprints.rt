@@ -10,7 +10,7 @@ use crate::changes::Changes;
 use crate::part::LookPart;
 use std::alloc::{AllocError, Global};
 
-// Per position its base row, and the rows of single periods; all in ascending order of cells.
+/// Per position its base row, and the rows of single periods; all in ascending order of cells.
 #[derive(Debug, Drop)]
 pub(crate) struct Footprints {
     pub(crate) cells: u8,
@@ -18,7 +18,7 @@ pub(crate) struct Footprints {
     pub(crate) changes: Option<Changes>,
 }
 
-// The row in force for a look from position `p` in period `t`.
+/// The row in force for a look from position `p` in period `t`.
 pub(crate) fn row_in_force(prints: &Footprints, t: u32, p: u8) -> &[LookPart]
     requires position { p < length prints.now.rows.items }
     requires indexed { IsIndexed prints.now.changes }
@@ -33,10 +33,11 @@ pub(crate) fn row_in_force(prints: &Footprints, t: u32, p: u8) -> &[LookPart]
     }
 }
 
-// The rows of looks that each cover the searcher's own cell alone.
+/// The rows of looks that each cover the searcher's own cell alone.
 pub(crate) fn own_rows(alloc: Global, overlook: &[u32]) -> Result<Vec<Vec<LookPart>>, AllocError>
     requires { length overlook.now ≤ 200 }
-    ensures { IfOk result (λ rows. map (λ row. row.items) rows.items ≡ map (own_row overlook.now) (range_with_len 0 (length overlook.now))) }
+    ensures { IfOk result (λ rows.
+        map (λ row. row.items) rows.items ≡ map (own_row overlook.now) (range_with_len 0 (length overlook.now))) }
 {
     let mut rows = Vec::new(alloc);
     for (cell, part) in overlook.iter().enumerate() {
@@ -52,7 +53,7 @@ fn row_of_one(alloc: Global, cell: u8, part: u32) -> Result<Vec<LookPart>, Alloc
     Ok(vec![in alloc; LookPart { cell, part }]?)
 }
 
-// How much of a target in cell `c` a look over an ascending row misses.
+/// How much of a target in cell `c` a look over an ascending row misses.
 pub(crate) fn factor_in_row(denominator: u32, row: &[LookPart], c: u8) -> u32
     requires { IsStrictlyIncreasing (map (λ entry. entry.cell) row.now) }
     ensures { result ≡ factor_in denominator row.now c }

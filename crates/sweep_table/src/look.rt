@@ -30,7 +30,7 @@ impl<'a> Model for Look<'a> {
 }
 
 impl<'a> Look<'a> {
-    // The look that covers one cell.
+    /// The look that covers one cell.
     pub(crate) fn one(part: LookPart) -> Look<'a>
         ensures { result ≡ part ∷ [] }
     {
@@ -39,7 +39,7 @@ impl<'a> Look<'a> {
         }
     }
 
-    // The look that covers a row of cells.
+    /// The look that covers a row of cells.
     pub(crate) fn row(row: &'a [LookPart]) -> Look<'a>
         ensures { result ≡ row.now }
     {

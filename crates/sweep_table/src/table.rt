@@ -56,7 +56,8 @@ impl Sweep {
         ensures made { IfOk result (λ sweep. sweep ≡ parts_over denominator overlook.items) }
         ensures right { IsOk result ↔ IsSweep (parts_over denominator overlook.items) }
         ensures wrong_count { IsErrOf result SweepFault.CellCount ↔ HasWrongCount overlook.items }
-        ensures part_over { (c : ℕ) → IsErrOf result (SweepFault.PartOver c) ↔ IsFirstOver denominator overlook.items c }
+        ensures part_over { (c : ℕ) → IsErrOf result (SweepFault.PartOver c) ↔
+            IsFirstOver denominator overlook.items c }
     {
         if overlook.is_empty() || overlook.len() > MOST_CELLS {
             return Err(SweepFault::CellCount);
@@ -83,11 +84,16 @@ impl Sweep {
         requires some { 1 ≤ denominator }
         requires few { denominator ≤ 1000000 }
         ensures base { IfOk result (λ sweep. sweep ≡ looks_over denominator cells sweep.rows) }
-        ensures made { let given = map (λ row. row.items) rows.items in IfOk result (λ sweep. AllZip IsPermutation given sweep.rows) }
+        ensures made { let given = map (λ row. row.items) rows.items in IfOk result (λ sweep.
+            AllZip IsPermutation given sweep.rows) }
         ensures sound { IfOk result IsSweep }
-        ensures faultless { let given = map (λ row. row.items) rows.items in IsOk result ↔ ((fault : LookFault) → HasFault denominator cells given fault → ⊥) }
-        ensures fault { let given = map (λ row. row.items) rows.items in IfErr result (IsFirstFault denominator cells given) }
-        ensures kept { let given = looks_over denominator cells (map (λ row. row.items) rows.items) in IsSweep given → result ≡ Ok given }
+        ensures faultless { let given = map (λ row.
+            row.items) rows.items in IsOk result ↔
+            ((fault : LookFault) → HasFault denominator cells given fault → ⊥) }
+        ensures fault { let given = map (λ row.
+            row.items) rows.items in IfErr result (IsFirstFault denominator cells given) }
+        ensures kept { let given = looks_over denominator cells (map (λ row. row.items) rows.items) in IsSweep given →
+            result ≡ Ok given }
     {
         put_in_order(denominator, cells, &mut rows)?;
         Ok(Sweep {
@@ -111,12 +117,16 @@ impl Sweep {
     ) -> Result<Sweep, LookChangeFault>
         requires { self.changes ≡ [] }
         ensures base { IfOk result (λ sweep. sweep ≡ with_changes self sweep.changes) }
-        ensures made { let given = map change_of changes.items in IfOk result (λ sweep. AllZip IsSameChange given sweep.changes) }
+        ensures made { let given = map change_of changes.items in IfOk result (λ sweep.
+            AllZip IsSameChange given sweep.changes) }
         ensures right { IfOk result (λ sweep. HaveRightRows self.denominator (cells_of self) sweep.changes) }
         ensures sound { IfOk result IsSweep }
-        ensures faultless { let given = map change_of changes.items in IsOk result → (fault : LookChangeFault) → HasChangeFault self.denominator (cells_of self) (positions_of self) given fault → ⊥ }
-        ensures refusal { let given = map change_of changes.items in IfErr result (IsRefusal self.denominator (cells_of self) (positions_of self) given) }
-        ensures kept { let given = map change_of changes.items in HaveAscendingRows given → IfOk result (λ sweep. sweep ≡ with_changes self given) }
+        ensures faultless { let given = map change_of changes.items in IsOk result → (fault : LookChangeFault) →
+            HasChangeFault self.denominator (cells_of self) (positions_of self) given fault → ⊥ }
+        ensures refusal { let given = map change_of changes.items in IfErr result
+            (IsRefusal self.denominator (cells_of self) (positions_of self) given) }
+        ensures kept { let given = map change_of changes.items in HaveAscendingRows given → IfOk result (λ sweep.
+            sweep ≡ with_changes self given) }
     {
         let Sweep { denominator, looks } = self;
         let Footprints {
@@ -165,7 +175,7 @@ impl Sweep {
         }
     }
 
-    // Whether looks may differ from period to period.
+    /// Whether looks may differ from period to period.
     pub(crate) fn may_change(&self) -> bool
         ensures { result ≡ false → self.now.changes ≡ [] }
     {

@@ -14,8 +14,8 @@ use belief_update::Belief;
 use search_model::{Path, Scenario};
 use sweep_table::LookPart;
 
-/// What the reference misses of the tracks that are in the entry's cell in period `t`, where the belief is after the
-/// reference's look of that period. It is counted only where a look over the entry finds something there.
+// What the reference misses of the tracks that are in the entry's cell in period `t`, where the belief is after the
+// reference's look of that period. It is counted only where a look over the entry finds something there.
 fn missed(sc: &Scenario, belief: &Belief, backward: &Backward, t: u32, entry: LookPart) -> u128
     requires met { (path : List ℕ) × IsMet sc.now path t belief.now backward.now }
     requires first { 1 ≤ t }
@@ -30,7 +30,7 @@ fn missed(sc: &Scenario, belief: &Belief, backward: &Backward, t: u32, entry: Lo
     }
 }
 
-/// What the reference misses of all tracks that a look from position `a` covers in period `t`, cell by cell of its row.
+// What the reference misses of all tracks that a look from position `a` covers in period `t`, cell by cell of its row.
 #[inline(never)]
 fn covered_by_row(sc: &Scenario, belief: &Belief, backward: &Backward, t: u32, a: u8) -> u128
     requires met { (path : List ℕ) × IsMet sc.now path t belief.now backward.now }
@@ -47,7 +47,7 @@ fn covered_by_row(sc: &Scenario, belief: &Belief, backward: &Backward, t: u32, a
     sum
 }
 
-/// What the reference misses of all tracks that a look from position `a` covers in period `t`.
+// What the reference misses of all tracks that a look from position `a` covers in period `t`.
 fn covered(sc: &Scenario, belief: &Belief, backward: &Backward, t: u32, a: u8) -> u128
     requires met { (path : List ℕ) × IsMet sc.now path t belief.now backward.now }
     requires first { 1 ≤ t }
@@ -61,8 +61,8 @@ fn covered(sc: &Scenario, belief: &Belief, backward: &Backward, t: u32, a: u8) -
     }
 }
 
-/// What one more look from position `a` in period `t` finds of what the reference misses, where the belief is after the
-/// reference's look of that period.
+// What one more look from position `a` in period `t` finds of what the reference misses, where the belief is after the
+// reference's look of that period.
 fn gain(sc: &Scenario, rate: u32, belief: &Belief, backward: &Backward, t: u32, a: u8) -> u128
     requires rate { rate ≤ sc.now.sweep.denominator }
     requires met { (path : List ℕ) × IsMet sc.now path t belief.now backward.now }
@@ -75,7 +75,7 @@ fn gain(sc: &Scenario, rate: u32, belief: &Belief, backward: &Backward, t: u32, 
     u128::from(found) * covered(sc, belief, backward, t, a)
 }
 
-/// Writes the gains of period `t`, where the belief is after the reference's look of that period.
+// Writes the gains of period `t`, where the belief is after the reference's look of that period.
 fn fill_row(
     gains: &mut [u128],
     sc: &Scenario,
@@ -89,7 +89,8 @@ fn fill_row(
     requires met { (path : List ℕ) × IsMet sc.now path t belief.now backward.now }
     requires first { 1 ≤ t }
     requires last { t ≤ sc.now.horizon }
-    ensures row { (path : List ℕ) → IsMet sc.now path t belief.now backward.now → IsGainRow sc.now rate path t gains.new }
+    ensures row { (path : List ℕ) → IsMet sc.now path t belief.now backward.now →
+        IsGainRow sc.now rate path t gains.new }
     ensures earlier { (i : ℕ) → i < (t - 1) * sc.now.positions → slice_index gains.new i ≡ slice_index gains.old i }
 {
     let here = (t as usize - 1) * usize::from(sc.positions());
@@ -98,8 +99,8 @@ fn fill_row(
     }
 }
 
-/// Writes the gains of the periods after `k`, where the belief is past the first `k` looks of the reference and not past
-/// the next period, and leaves the belief after all its looks.
+// Writes the gains of the periods after `k`, where the belief is past the first `k` looks of the reference and not past
+// the next period, and leaves the belief after all its looks.
 fn fill_rows(
     gains: &mut [u128],
     sc: &Scenario,

@@ -42,7 +42,13 @@ impl Model for Tangent {
 
     ghost Value = { TangentRoom };
 
-    ghost view = { λ w. record { cells = w.backward.cells; positions = w.walk.positions; horizon = w.walk.horizon; rate = w.rate } };
+    ghost view = { λ w. record {
+      cells = w.backward.cells;
+      positions = w.walk.positions;
+      horizon = w.walk.horizon;
+      rate
+          = w.rate;
+    } };
 
     ghost invariant = { λ w. record {
       belief : length w.belief.masses ≡ w.backward.cells;
@@ -51,8 +57,8 @@ impl Model for Tangent {
     } };
 }
 
-/// The bound, by a belief after the prefix, in the period of its last look or in the next one. It goes along the
-/// reference.
+// The bound, by a belief after the prefix, in the period of its last look or in the next one. It goes along the
+// reference.
 fn bound_by(
     belief: &mut Belief,
     backward: &mut Backward,

@@ -6,7 +6,7 @@ use std::alloc::Global;
 use std::test::Fail;
 use tree_format::{Fed, PlanFault, PlanFeed, PlanItem, PlanStop, Step, read_plan};
 
-/// What a feed told of a text.
+// What a feed told of a text.
 #[derive(Drop)]
 struct Telling {
     head: Option<(Standing, u128, u64)>,

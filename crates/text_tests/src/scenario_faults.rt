@@ -16,7 +16,7 @@ pub const FAULTS: [(&[u8], usize); 12] = [
     (TOO_WIDE, 2),
 ];
 
-/// The first three lines.
+// The first three lines.
 const FIRST_LINES: &[u8] = b"=@=1 EarlyEnd
 @# x
 
@@ -76,7 +76,7 @@ parts 1 1
 =3 BadLine
 ";
 
-/// Cells, or a grid, and the start behind the first three lines.
+// Cells, or a grid, and the start behind the first three lines.
 const CELLS_AND_START: &[u8] = b"scenario 1
 horizon 1
 parts 1 1 1
@@ -123,7 +123,7 @@ start r2c0
 =5 UnknownName
 ";
 
-/// The parts of period 1, behind the start.
+// The parts of period 1, behind the start.
 const FIRST_PARTS: &[u8] = b"scenario 1
 horizon 1
 parts 3 3 2
@@ -157,7 +157,7 @@ fly
 =7 WrongSum
 ";
 
-/// The rows of one cell, up to the end.
+// The rows of one cell, up to the end.
 const ROWS_OF_A_CELL: &[u8] = b"scenario 1
 horizon 1
 parts 1 1 2
@@ -282,7 +282,7 @@ end
 \x00=11 Rest
 ";
 
-/// Rows behind a grid.
+// Rows behind a grid.
 const ROWS_OF_A_GRID: &[u8] = b"scenario 1
 horizon 1
 parts 1 2 2
@@ -319,7 +319,7 @@ end
 =7 UnknownName
 ";
 
-/// Positions, and what follows them, behind the cells of a text of version 2.
+// Positions, and what follows them, behind the cells of a text of version 2.
 const POSITIONS: &[u8] = b"scenario 2
 horizon 2
 parts 1 2 2
@@ -394,7 +394,7 @@ first a 0
 =8 BadNumber
 ";
 
-/// The rows of two cells and a position.
+// The rows of two cells and a position.
 const ROWS_OF_A_POSITION: &[u8] = b"scenario 2
 horizon 2
 parts 1 2 2
@@ -490,7 +490,7 @@ end
 =9 BadLine
 ";
 
-/// Looks of single periods, behind twelve lines with a row of each cell and position.
+// Looks of single periods, behind twelve lines with a row of each cell and position.
 const LOOKS_OF_A_PERIOD: &[u8] = b"scenario 2
 horizon 2
 parts 1 2 2
@@ -560,7 +560,7 @@ lookin 2 w b 0
 =14 Rest
 ";
 
-/// Drift of single periods, behind the same lines.
+// Drift of single periods, behind the same lines.
 const DRIFT_OF_A_PERIOD: &[u8] = b"scenario 2
 horizon 2
 parts 1 2 2
@@ -620,7 +620,7 @@ driftin 1 a a 2
 =13 BadLine
 ";
 
-/// Rows of single periods where there is one period, in which a cell and a position have one name.
+// Rows of single periods where there is one period, in which a cell and a position have one name.
 const ONE_PERIOD: &[u8] = b"scenario 2
 horizon 1
 parts 1 1 2
@@ -636,7 +636,7 @@ first a 1
 =8 OverLimit
 ";
 
-/// What version 2 alone has, in a text of version 1.
+// What version 2 alone has, in a text of version 1.
 const VERSION_2_IN_VERSION_1: &[u8] = b"scenario 1
 horizon 2
 parts 1 1 2
@@ -659,7 +659,7 @@ driftin 1 a a 1
 =7 BadLine
 ";
 
-/// Scenarios one bit past the widest.
+// Scenarios one bit past the widest.
 const TOO_WIDE: &[u8] = b"=@scenario 1
 horizon 6
 parts 8 1024 1024

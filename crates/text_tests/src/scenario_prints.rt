@@ -9,7 +9,7 @@ pub const CANONICAL: [(&[u8], usize); 5] = [
     (OTHER_POSITIONS, 3),
 ];
 
-/// Whole texts, some of them as somebody may write them by hand; a cell may have any name.
+// Whole texts, some of them as somebody may write them by hand; a cell may have any name.
 const SPELLINGS: &[u8] = b"@scenario 1
 horizon 2
 parts 2 2 2
@@ -214,7 +214,7 @@ lookin 2 w b 0
 end
 ";
 
-/// `rate` and `spread` in the rows that they stand for: of a drift that spreads, stays, and leaves.
+// `rate` and `spread` in the rows that they stand for: of a drift that spreads, stays, and leaves.
 const SHORTHANDS: &[u8] = b"scenario 1
 horizon 1
 parts 1 2 2
@@ -255,9 +255,9 @@ overlook r0c1 0
 end
 ";
 
-/// What version 1 can say is printed so. In order: one rate, and no rows of single periods; rows of single periods that
-/// are those of the others, twice; the only step is that of period 1; in both periods another look than the position's
-/// own row is in force; a look that misses all of a cell doesn't cover it, twice.
+// What version 1 can say is printed so. In order: one rate, and no rows of single periods; rows of single periods that
+// are those of the others, twice; the only step is that of period 1; in both periods another look than the position's
+// own row is in force; a look that misses all of a cell doesn't cover it, twice.
 const SAID_BY_VERSION_1: &[u8] = b"scenario 2
 horizon 2
 parts 1 2 2
@@ -357,10 +357,10 @@ overlook b 2
 end
 ";
 
-/// What it can't say is printed in version 2. In order: a row of drift that differs; the row of period 1 comes first, and
-/// what is in force later differs from it, twice; by periods, and by cells and positions in a period; a look in the last
-/// period alone; a look over another cell than the position's own, or over both; parts of which a look misses all are
-/// left out, also in single periods.
+// What it can't say is printed in version 2. In order: a row of drift that differs; the row of period 1 comes first, and
+// what is in force later differs from it, twice; by periods, and by cells and positions in a period; a look in the last
+// period alone; a look over another cell than the position's own, or over both; parts of which a look misses all are
+// left out, also in single periods.
 const SAID_BY_VERSION_2: &[u8] = b"scenario 2
 horizon 3
 parts 1 2 2
@@ -461,7 +461,7 @@ lookin 3 a
 end
 ";
 
-/// Positions that are not the cells.
+// Positions that are not the cells.
 const OTHER_POSITIONS: &[u8] = b"scenario 2
 horizon 1
 parts 1 1 2

@@ -14,7 +14,7 @@ use std::alloc::{AllocError, Global};
 use std::test::Fail;
 use text_rows::cut;
 
-/// What is asked of a text.
+// What is asked of a text.
 #[derive(Clone, Copy)]
 enum Asked {
     /// What both readers tell of it.
@@ -36,7 +36,7 @@ fn joined(alloc: Global, head: &[u8], rest: &[u8]) -> Result<Vec<u8>, AllocError
     Ok(text)
 }
 
-/// What stands on both sides of `=`.
+// What stands on both sides of `=`.
 fn sides(piece: &[u8]) -> (&[u8], &[u8]) {
     match cut(piece, b'=') {
         Some(sides) => sides,
@@ -44,7 +44,7 @@ fn sides(piece: &[u8]) -> (&[u8], &[u8]) {
     }
 }
 
-/// How many rows a table has, where each is answered as it says; else the first that isn't.
+// How many rows a table has, where each is answered as it says; else the first that isn't.
 fn rows_that_hold(alloc: Global, asked: Asked, table: &[u8]) -> Result<usize, Fail> {
     let (head, rows) = cut(table, b'@').unwrap_or((table, &[]));
     let rows: Vec<&[u8]> = rows.split(|c| *c == b'@').collect(alloc)?;
@@ -57,7 +57,7 @@ fn rows_that_hold(alloc: Global, asked: Asked, table: &[u8]) -> Result<usize, Fa
     Ok(rows.len())
 }
 
-/// Whether the answer of a text is the one that a table says, each behind its head.
+// Whether the answer of a text is the one that a table says, each behind its head.
 fn is_answered(
     alloc: Global,
     asked: Asked,
@@ -87,7 +87,7 @@ fn stop_at_front(alloc: Global, text: &[u8]) -> Option<TextStop> {
     read_scenario(alloc, text).err()
 }
 
-/// The line and the kind of the fault that both readers tell, but for what follows the line `end`.
+// The line and the kind of the fault that both readers tell, but for what follows the line `end`.
 fn fault(alloc: Global, text: &[u8]) -> Result<Vec<u8>, Fail> {
     let alone = stop_alone(alloc, text);
     let Some(TextStop::Fault(fault)) = alone else {
@@ -115,30 +115,30 @@ fn printed(alloc: Global, sc: &Scenario) -> Result<Vec<u8>, Fail> {
     Ok(text)
 }
 
-/// The canonical text of a text's scenario.
+// The canonical text of a text's scenario.
 fn canonical(alloc: Global, text: &[u8]) -> Result<Vec<u8>, Fail> {
     let sc = read(alloc, text)?;
     printed(alloc, &sc)
 }
 
-/// Whether a text is its own canonical text.
+// Whether a text is its own canonical text.
 fn is_canonical(alloc: Global, text: &[u8]) -> Result<bool, Fail> {
     Ok(canonical(alloc, text)?.as_slice() == text)
 }
 
-/// Whether a text is read as this scenario.
+// Whether a text is read as this scenario.
 fn reads_as(alloc: Global, sc: &Scenario, text: &[u8]) -> Result<bool, Fail> {
     let read = read(alloc, text)?;
     Ok(agree(sc, &read))
 }
 
-/// Whether two texts are read as the same scenario.
+// Whether two texts are read as the same scenario.
 fn read_alike(alloc: Global, one: &[u8], other: &[u8]) -> Result<bool, Fail> {
     let sc = read(alloc, one)?;
     reads_as(alloc, &sc, other)
 }
 
-/// Whether the canonical text is its own, and reads as the same scenario.
+// Whether the canonical text is its own, and reads as the same scenario.
 fn back(alloc: Global, text: &[u8]) -> Result<Vec<u8>, Fail> {
     let printed = canonical(alloc, text)?;
     let same = is_canonical(alloc, &printed)? && read_alike(alloc, text, &printed)?;
@@ -146,7 +146,7 @@ fn back(alloc: Global, text: &[u8]) -> Result<Vec<u8>, Fail> {
     Ok(joined(alloc, told, b"")?)
 }
 
-/// How much a look misses, where the period, the position and the cell are right.
+// How much a look misses, where the period, the position and the cell are right.
 fn missed(sc: &Scenario, t: u32, p: u8, c: u8) -> Option<u32> {
     if t == 0 || t > 32 || p >= sc.sweep().positions() || c >= sc.sweep().cells() {
         return None;
@@ -154,7 +154,7 @@ fn missed(sc: &Scenario, t: u32, p: u8, c: u8) -> Option<u32> {
     Some(sc.sweep().factor(t, p, c))
 }
 
-/// The part of a step from one cell to another, where the period and the cells are right.
+// The part of a step from one cell to another, where the period and the cells are right.
 fn stepped(sc: &Scenario, t: u32, c: u8, d: u8) -> Option<u32> {
     if t == 0 || t > 31 || c >= sc.drift().cells() || d >= sc.drift().cells() {
         return None;
@@ -162,7 +162,7 @@ fn stepped(sc: &Scenario, t: u32, c: u8, d: u8) -> Option<u32> {
     Some(sc.drift().part(t, c, d))
 }
 
-/// What the looks of a period miss, from the first two positions, of the first two cells.
+// What the looks of a period miss, from the first two positions, of the first two cells.
 fn looks(sc: &Scenario, t: u32) -> [Option<u32>; 4] {
     [
         missed(sc, t, 0, 0),
@@ -172,7 +172,7 @@ fn looks(sc: &Scenario, t: u32) -> [Option<u32>; 4] {
     ]
 }
 
-/// The steps after a period between the first two cells.
+// The steps after a period between the first two cells.
 fn steps(sc: &Scenario, t: u32) -> [Option<u32>; 4] {
     [
         stepped(sc, t, 0, 0),
@@ -182,7 +182,7 @@ fn steps(sc: &Scenario, t: u32) -> [Option<u32>; 4] {
     ]
 }
 
-/// Whether looks and steps are the same in each of three periods.
+// Whether looks and steps are the same in each of three periods.
 fn agree(one: &Scenario, other: &Scenario) -> bool {
     one.horizon() == 3
         && other.horizon() == 3
@@ -193,7 +193,7 @@ fn agree(one: &Scenario, other: &Scenario) -> bool {
         && steps(one, 2) == steps(other, 2)
 }
 
-/// What a row of a period holds, `-` where there is no such cell or position.
+// What a row of a period holds, `-` where there is no such cell or position.
 fn push_parts(told: &mut Vec<u8>, parts: [Option<u32>; 4]) -> Result<(), Fail> {
     for part in parts {
         told.push(b' ')?;
@@ -206,7 +206,7 @@ fn push_parts(told: &mut Vec<u8>, parts: [Option<u32>; 4]) -> Result<(), Fail> {
     Ok(())
 }
 
-/// The looks of a scenario's first two periods, and their steps.
+// The looks of a scenario's first two periods, and their steps.
 fn push_periods(told: &mut Vec<u8>, sc: &Scenario) -> Result<(), Fail> {
     push_parts(told, looks(sc, 1))?;
     push_parts(told, looks(sc, 2))?;
@@ -214,7 +214,7 @@ fn push_periods(told: &mut Vec<u8>, sc: &Scenario) -> Result<(), Fail> {
     push_parts(told, steps(sc, 2))
 }
 
-/// A word and a count.
+// A word and a count.
 fn push_count(told: &mut Vec<u8>, word: &[u8], count: u128) -> Result<(), Fail> {
     told.extend_from_slice(word)?;
     push_u128(told, count)?;
@@ -241,7 +241,7 @@ fn values_of(alloc: Global, sc: &Scenario) -> Result<Vec<u8>, Fail> {
     Ok(told)
 }
 
-/// What a scenario holds.
+// What a scenario holds.
 fn values(alloc: Global, text: &[u8]) -> Result<Vec<u8>, Fail> {
     let sc = read(alloc, text)?;
     values_of(alloc, &sc)
@@ -259,7 +259,7 @@ fn front_of(alloc: Global, sc: &Scenario, bytes: usize) -> Result<Vec<u8>, Fail>
     Ok(told)
 }
 
-/// How many bytes the scenario at the front takes, and what it holds.
+// How many bytes the scenario at the front takes, and what it holds.
 fn front(alloc: Global, text: &[u8]) -> Result<Vec<u8>, Fail> {
     match &read_scenario(alloc, text) {
         Ok((sc, bytes)) => front_of(alloc, sc, *bytes),
@@ -291,7 +291,7 @@ fn scenarios_are_read(rt: HostRuntime) -> Result<(), Fail> {
     Ok(())
 }
 
-/// A head, and behind it a line for each number below 200, with this word.
+// A head, and behind it a line for each number below 200, with this word.
 fn numbered(alloc: Global, head: &[u8], word: &[u8]) -> Result<Vec<u8>, Fail> {
     let mut text = joined(alloc, head, b"")?;
     for n in 0..200u32 {
@@ -302,7 +302,7 @@ fn numbered(alloc: Global, head: &[u8], word: &[u8]) -> Result<Vec<u8>, Fail> {
     Ok(text)
 }
 
-/// Whether a text has this fault.
+// Whether a text has this fault.
 fn tells(alloc: Global, head: &[u8], rest: &[u8], answer: &[u8]) -> Result<bool, Fail> {
     let text = joined(alloc, head, rest)?;
     Ok(fault(alloc, &text)?.as_slice() == answer)

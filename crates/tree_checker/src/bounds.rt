@@ -15,7 +15,7 @@ use crate::verdict::Why;
 use bound_tree::{cuts, in_parts};
 use search_model::{Path, Scenario, Standing};
 
-/// The first reason against a bound's number, where the right one is known.
+// The first reason against a bound's number, where the right one is known.
 fn bound_reason(standing: &Standing, prefix: &Path, bound: u128, right: u128) -> Option<Why>
     requires { length prefix.now ≤ length standing.now.path }
     ensures { result ≡ first_failed (bound_tests standing.now prefix.now bound right) }
@@ -71,7 +71,7 @@ pub(crate) fn edge_reason(
     }
 }
 
-/// A path with its value, that in parts of the looks' denominator for each.
+// A path with its value, that in parts of the looks' denominator for each.
 fn finer(sc: &Scenario, standing: &Standing) -> Standing
     requires exact { IsExact sc.now standing.now }
     ensures { result ≡ times sc.now.sweep.denominator standing.now }
@@ -79,7 +79,7 @@ fn finer(sc: &Scenario, standing: &Standing) -> Standing
     in_parts(standing, sc.sweep().denominator())
 }
 
-/// The first reason against a tangent bound at a legal prefix that is shorter than the horizon, and at a reference path.
+// The first reason against a tangent bound at a legal prefix that is shorter than the horizon, and at a reference path.
 fn tangent_reason_at(
     sc: &Scenario,
     tables: &mut BoundTables,
@@ -92,7 +92,8 @@ fn tangent_reason_at(
     requires legal { IsLegal sc.now prefix.now }
     requires exact { IsExact sc.now standing.now }
     requires open { length prefix.now < sc.now.horizon }
-    ensures reason { result ≡ first_failed (tangent_tests sc.now standing.now prefix.now bound reference.now (one_rate_of sc.now)) }
+    ensures reason { result ≡
+        first_failed (tangent_tests sc.now standing.now prefix.now bound reference.now (one_rate_of sc.now)) }
     ensures made { AreMadeFor sc.now tables.new }
 {
     let Some(rate) = tables.one_rate() else {
@@ -117,7 +118,8 @@ pub(crate) fn tangent_reason(
     requires made { AreMadeFor sc.now tables.old }
     requires legal { IsLegal sc.now prefix.now }
     requires exact { IsExact sc.now standing.now }
-    ensures reason { result ≡ first_failed (kind_tests sc.now standing.now prefix.now (Kind.Tangent bound reference.now)) }
+    ensures reason { result ≡
+        first_failed (kind_tests sc.now standing.now prefix.now (Kind.Tangent bound reference.now)) }
     ensures made { AreMadeFor sc.now tables.new }
 {
     if prefix.len() < sc.horizon() as usize {

@@ -18,7 +18,7 @@ use search_model::{Path, Scenario, Standing};
 use std::alloc::Global;
 use std::marker::Model;
 
-/// Room for the most prefixes that can be expected at once.
+// Room for the most prefixes that can be expected at once.
 const ROOM: usize = 2_048;
 
 /// Checks a plan that it is given piece by piece: first its head, then each record, then its end. Its lines are those of
@@ -40,13 +40,20 @@ impl Model for Checker {
 
     ghost Value = { Progress };
 
-    ghost view = { λ c. record { standing = c.standing; reason = c.reason; expected = reverse c.expected.items; line = c.line; tables = c.tables } };
+    ghost view = { λ c. record {
+      standing = c.standing;
+      reason = c.reason;
+      expected = reverse c.expected.items;
+      line =
+          c.line;
+      tables = c.tables;
+    } };
 
     ghost invariant = { λ c. (2048 ≤ vec_capacity c.expected) × HasRoom (reverse c.expected.items) };
 }
 
-/// Takes the record of a line where the prefixes on the stack are expected: the reason against it, or nothing, and then
-/// its children are expected.
+// Takes the record of a line where the prefixes on the stack are expected: the reason against it, or nothing, and then
+// its children are expected.
 fn take_record(
     sc: &Scenario,
     standing: &Standing,
@@ -60,7 +67,9 @@ fn take_record(
     requires room { HasRoom (reverse expected.old.items) }
     requires capacity { 2048 ≤ vec_capacity expected.old }
     requires made { AreMadeFor sc.now tables.old }
-    ensures reason { (rs : List TreeNode) → option_or result (tree_reason sc.now standing.now (line + 1) rs (reverse expected.new.items)) ≡ tree_reason sc.now standing.now line (node.now ∷ rs) (reverse expected.old.items) }
+    ensures reason { (rs : List TreeNode) →
+        option_or result (tree_reason sc.now standing.now (line + 1) rs (reverse expected.new.items)) ≡
+        tree_reason sc.now standing.now line (node.now ∷ rs) (reverse expected.old.items) }
     ensures legal { All (IsLegal sc.now) (reverse expected.new.items) }
     ensures exact { IfNone result (IsExact sc.now standing.now) }
     ensures room { HasRoom (reverse expected.new.items) }
@@ -123,7 +132,8 @@ impl Checker {
         requires under_way { IsUnderWay sc.now self.old }
         requires line { self.old.line < 2 ^ 63 }
         requires made { IsMadeFor sc.now self.old }
-        ensures reason { (rs : List TreeNode) → reason_if sc.now self.new rs ≡ reason_if sc.now self.old (node.now ∷ rs) }
+        ensures reason { (rs : List TreeNode) →
+            reason_if sc.now self.new rs ≡ reason_if sc.now self.old (node.now ∷ rs) }
         ensures under_way { IsUnderWay sc.now self.new }
         ensures line { self.new.line ≤ self.old.line + 1 }
         ensures made { IsMadeFor sc.now self.new }

@@ -11,7 +11,7 @@ use exact_parts::NoMemory;
 use search_model::Scenario;
 use std::alloc::Global;
 
-/// The verdict on a plan.
+// The verdict on a plan.
 fn verdict(alloc: Global, sc: &Scenario, plan: &Plan) -> Result<Verdict, NoMemory>
     ensures { IfOk result (λ v. v ≡ verdict_of (first_reason sc.now plan.now)) }
 {

@@ -13,7 +13,7 @@ use crate::verdict::{RejectAt, Why};
 use bound_tree::{Kind, TreeNode};
 use search_model::{Path, Scenario, Standing, better};
 
-/// The first reason against the value and the weight of a path.
+// The first reason against the value and the weight of a path.
 fn value_reason(
     sc: &Scenario,
     tables: &mut BoundTables,
@@ -56,7 +56,7 @@ pub(crate) fn head_reason(
     Some(RejectAt { line: 3, why })
 }
 
-/// The first reason against a path as a record.
+// The first reason against a path as a record.
 fn whole_reason(
     sc: &Scenario,
     tables: &mut BoundTables,
@@ -65,7 +65,8 @@ fn whole_reason(
 ) -> Option<Why>
     requires made { AreMadeFor sc.now tables.old }
     requires legal { IsLegal sc.now whole.now.path }
-    ensures reason { result ≡ first_failed (kind_tests sc.now standing.now whole.now.path (Kind.Whole whole.now.value)) }
+    ensures reason { result ≡
+        first_failed (kind_tests sc.now standing.now whole.now.path (Kind.Whole whole.now.value)) }
     ensures made { AreMadeFor sc.now tables.new }
 {
     if whole.path.len() != sc.horizon() as usize || whole.value != tables.value(sc, &whole.path) {
@@ -77,7 +78,7 @@ fn whole_reason(
     }
 }
 
-/// The first reason against a kind at a legal prefix.
+// The first reason against a kind at a legal prefix.
 fn kind_reason(
     sc: &Scenario,
     tables: &mut BoundTables,

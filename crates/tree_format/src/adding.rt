@@ -12,7 +12,7 @@ use bound_tree::{Kind, TreeNode};
 use exact_parts::NoMemory;
 use search_model::Scenario;
 
-/// One record less is left.
+// One record less is left.
 fn one_less(stage: Stage) -> Stage
     ensures { result ≡ one_less_lem stage }
 {
@@ -22,11 +22,12 @@ fn one_less(stage: Stage) -> Stage
     }
 }
 
-/// A record of this kind was read.
+// A record of this kind was read.
 fn pass_record(due: &mut Due, sc: &Scenario, kind: &Kind)
     ensures version { due.new.version ≡ due.old.version }
     ensures stage { due.new.stage ≡ one_less_lem due.old.stage }
-    ensures expected { All (IsLegal sc.now) due.old.expected → due.new.expected ≡ places_behind sc.now due.old.version due.old.expected kind.now }
+    ensures expected { All (IsLegal sc.now) due.old.expected →
+        due.new.expected ≡ places_behind sc.now due.old.version due.old.expected kind.now }
 {
     due.stage = one_less(due.stage);
     match due.version {
@@ -53,7 +54,7 @@ pub fn pass_line(due: &mut Due, sc: &Scenario, said: &PlanLine)
     }
 }
 
-/// Keeps what a line says of the plan.
+// Keeps what a line says of the plan.
 fn keep(draft: &mut Draft, said: &PlanLine) -> Result<(), NoMemory>
     ensures due { OnOk result (draft.new.due ≡ draft.old.due) }
     ensures plan { OnOk result (plan_of draft.new ≡ taken (plan_of draft.old) said.now) }

@@ -40,15 +40,22 @@ impl Model for PlanFeed {
 
     ghost Value = { Stand };
 
-    ghost view = { λ f. record { number = f.number; due = f.due; standing = f.standing; weight = f.weight; line = f.line } };
+    ghost view = { λ f. record {
+      number = f.number;
+      due = f.due;
+      standing = f.standing;
+      weight = f.weight;
+      line = f.line;
+    } };
 
     ghost invariant = { λ f. IsNumbered f.due.stage f.number };
 }
 
-/// What the line that was gathered says where it is due, or its first fault.
+// What the line that was gathered says where it is due, or its first fault.
 fn judge(line: &GatheredLine, sc: &Scenario, due: &Due) -> Result<PlanLine, PlanKind>
     ensures said { result ≡ line_at sc.now due.now (exact_fields line.now.text) }
-    ensures numbered { IfOk result (λ said. (number : ℕ) → IsNumbered due.now.stage number → IsNumbered (next sc.now due.now said).stage (number + 1)) }
+    ensures numbered { IfOk result (λ said.
+        (number : ℕ) → IsNumbered due.now.stage number → IsNumbered (next sc.now due.now said).stage (number + 1)) }
 {
     sc.recall_sound();
     let fields = first_fields(line.text());
@@ -56,7 +63,7 @@ fn judge(line: &GatheredLine, sc: &Scenario, due: &Due) -> Result<PlanLine, Plan
 }
 
 impl PlanFeed {
-    /// Goes on behind a line that says this.
+    // Goes on behind a line that says this.
     fn move_on(&mut self, sc: &Scenario, said: PlanLine) -> Step
         requires { IsNumbered (next sc.now self.old.due said).stage (self.old.number + 1) }
         ensures step { result ≡ step_of self.old said }
@@ -84,10 +91,13 @@ impl PlanFeed {
         }
     }
 
-    /// Takes the line feed of the line that is due.
+    // Takes the line feed of the line that is due.
     fn end_line(&mut self, sc: &Scenario) -> Step
-        ensures step { result ≡ (line_ended sc.now self.old (line_at sc.now self.old.due (exact_fields self.old.line.text))).step }
-        ensures stand { All (IsLegal sc.now) self.old.due.expected → self.new ≡ (line_ended sc.now self.old (line_at sc.now self.old.due (exact_fields self.old.line.text))).stand }
+        ensures step { result ≡
+            (line_ended sc.now self.old (line_at sc.now self.old.due (exact_fields self.old.line.text))).step }
+        ensures stand { All (IsLegal sc.now) self.old.due.expected →
+            self.new ≡ (line_ended sc.now self.old
+            (line_at sc.now self.old.due (exact_fields self.old.line.text))).stand }
     {
         match judge(&self.line, sc, &self.due) {
             Ok(said) => self.move_on(sc, said),
@@ -98,7 +108,7 @@ impl PlanFeed {
         }
     }
 
-    /// Takes a byte: how the state changes.
+    // Takes a byte: how the state changes.
     fn step(&mut self, sc: &Scenario, byte: u8) -> Step
         ensures step { result ≡ (byte_fed sc.now byte self.old).step }
         ensures stand { All (IsLegal sc.now) self.old.due.expected → self.new ≡ (byte_fed sc.now byte self.old).stand }
@@ -116,7 +126,7 @@ impl PlanFeed {
         Step::More
     }
 
-    /// Takes a byte: what follows from it.
+    // Takes a byte: what follows from it.
     fn take(&mut self, sc: &Scenario, byte: u8) -> Step
         ensures { IfRead sc.now self.old (λ fed items. GoesOn sc.now (fed ++ byte ∷ []) items result self.new) }
     {
@@ -148,13 +158,22 @@ impl PlanFeed {
         requires some { 1 ≤ length piece.now }
         ensures used { (1 ≤ result.used) × (result.used ≤ length piece.now) }
         ensures all { IfMore result.step (result.used ≡ length piece.now) }
-        ensures more { IfRead sc.now self.old (λ fed items. IfMore result.step (HasRead sc.now (fed ++ piece.now) items self.new)) }
-        ensures item { IfRead sc.now self.old (λ fed items. IfItem result.step (λ told. HasRead sc.now (fed ++ take result.used piece.now) (items ++ told ∷ []) self.new)) }
-        ensures completed { IfRead sc.now self.old (λ fed items. (told : ItemLem) → Tells sc.now (fed ++ take result.used piece.now) (items ++ told ∷ []) → result.step ≡ step.Item told) }
+        ensures more { IfRead sc.now self.old (λ fed items.
+            IfMore result.step (HasRead sc.now (fed ++ piece.now) items self.new)) }
+        ensures item { IfRead sc.now self.old (λ fed items.
+            IfItem result.step (λ told.
+            HasRead sc.now (fed ++ take result.used piece.now) (items ++ told ∷ []) self.new)) }
+        ensures completed { IfRead sc.now self.old (λ fed items.
+            (told : ItemLem) → Tells sc.now (fed ++ take result.used piece.now) (items ++ told ∷ []) →
+            result.step ≡ step.Item told) }
         ensures sound { IfRead sc.now self.old (λ fed items. IfItem result.step (λ told. IsItem sc.now told)) }
-        ensures fault { IfRead sc.now self.old (λ fed items. IfFaulty result.step (λ fault. IsDecided sc.now (fed ++ take result.used piece.now) fault)) }
-        ensures decided { IfRead sc.now self.old (λ fed items. (fault : FaultLem) → IsDecided sc.now (fed ++ take result.used piece.now) fault → result.step ≡ step.Fault fault) }
-        ensures first { IfRead sc.now self.old (λ fed items. (n : ℕ) → n < result.used → Tells sc.now (fed ++ take n piece.now) items) }
+        ensures fault { IfRead sc.now self.old (λ fed items.
+            IfFaulty result.step (λ fault. IsDecided sc.now (fed ++ take result.used piece.now) fault)) }
+        ensures decided { IfRead sc.now self.old (λ fed items.
+            (fault : FaultLem) → IsDecided sc.now (fed ++ take result.used piece.now) fault →
+            result.step ≡ step.Fault fault) }
+        ensures first { IfRead sc.now self.old (λ fed items.
+            (n : ℕ) → n < result.used → Tells sc.now (fed ++ take n piece.now) items) }
     {
         for (i, byte) in piece.iter().enumerate() {
             match self.take(sc, *byte) {
@@ -185,8 +204,10 @@ impl PlanFeed {
     ///
     /// `EarlyEnd` in the line that is due: the bytes end before its line feed.
     pub fn finish(&self) -> Result<(), PlanFault>
-        ensures whole { (p : Problem) (fed : List ℕ) (items : List ItemLem) → HasRead p fed items self.now → IfOk result (λ _. IsWhole p fed items) }
-        ensures early { (p : Problem) (fed : List ℕ) (items : List ItemLem) → HasRead p fed items self.now → IfErr result (λ fault. IsCutOff p fed fault) }
+        ensures whole { (p : Problem) (fed : List ℕ) (items : List ItemLem) → HasRead p fed items self.now →
+            IfOk result (λ _. IsWhole p fed items) }
+        ensures early { (p : Problem) (fed : List ℕ) (items : List ItemLem) → HasRead p fed items self.now →
+            IfErr result (λ fault. IsCutOff p fed fault) }
     {
         if is_ended(self.due.stage) {
             Ok(())

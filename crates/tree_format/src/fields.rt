@@ -16,7 +16,7 @@ pub fn amount_in(field: &[u8]) -> Option<u128>
     }
 }
 
-/// The position whose number a field spells.
+// The position whose number a field spells.
 fn place_in(sc: &Scenario, field: &[u8]) -> Option<u8>
     ensures { result ≡ place_in_lem sc.now field.now }
 {
@@ -39,7 +39,7 @@ pub fn places_in(sc: &Scenario, fields: &[&[u8]]) -> Option<Path>
     Some(path)
 }
 
-/// The position of a name.
+// The position of a name.
 #[tactic(auto, using(crate::proofs::FieldSteps::name_steps))]
 fn position_named(sc: &Scenario, name: &[u8]) -> Option<u8>
     ensures { result ≡ position_named_lem sc.now name.now }

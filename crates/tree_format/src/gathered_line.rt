@@ -8,7 +8,7 @@ use exact_parts::NoMemory;
 use std::alloc::Global;
 use std::marker::Model;
 
-/// The most bytes that are kept: 70 fields of 40 bytes, and the blanks between them.
+// The most bytes that are kept: 70 fields of 40 bytes, and the blanks between them.
 const ROOM: usize = MOST_FIELDS * MOST_BYTES + MOST_FIELDS - 1;
 
 /// The front of a line: the first 40 bytes of each of its first 70 fields. The judge of a line needs no more of it.
@@ -69,7 +69,7 @@ impl GatheredLine {
         self.width = 0;
     }
 
-    /// A blank more.
+    // A blank more.
     fn push_blank(&mut self)
         ensures { self.new ≡ with_blank self.old }
     {
@@ -83,7 +83,7 @@ impl GatheredLine {
         self.width = 0;
     }
 
-    /// Another byte more.
+    // Another byte more.
     fn push_other(&mut self, byte: u8)
         ensures { self.new ≡ with_other byte self.old }
     {

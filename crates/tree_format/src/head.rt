@@ -10,7 +10,7 @@ use crate::writing::{push_names, push_number};
 use exact_parts::NoMemory;
 use search_model::{Path, Scenario};
 
-/// The line of the version, and the word of the next.
+// The line of the version, and the word of the next.
 fn first_words(version: TextVersion) -> &'static [u8]
     ensures { result.now ≡ first_words_lem version }
 {

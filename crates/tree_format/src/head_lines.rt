@@ -9,7 +9,7 @@ use crate::plan_line::{PlanLine, TextVersion};
 use bound_tree::MOST_NODES;
 use search_model::Scenario;
 
-/// The version of this number.
+// The version of this number.
 fn version_of(number: &[u8]) -> Result<PlanLine, PlanKind>
     ensures { result ≡ version_said number.now }
 {

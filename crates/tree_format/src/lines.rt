@@ -21,7 +21,7 @@ fn is_end(fields: &[&[u8]]) -> bool
     }
 }
 
-/// The end, where this prefix is expected next.
+// The end, where this prefix is expected next.
 fn ended_at(next: Option<Path>) -> Result<PlanLine, PlanKind>
     ensures { result ≡ ended_at_lem next }
 {
@@ -43,7 +43,7 @@ fn ending(due: &Due, left: u64) -> Result<PlanLine, PlanKind>
     }
 }
 
-/// A record, where this prefix is expected next.
+// A record, where this prefix is expected next.
 fn placed_at(next: Option<Path>, node: TreeNode) -> Result<PlanLine, PlanKind>
     ensures { result ≡ placed_at_lem next node }
 {
@@ -79,7 +79,7 @@ fn record_among(
     }
 }
 
-/// A record, or `end`
+// A record, or `end`
 fn read_record(sc: &Scenario, due: &Due, left: u64, fields: &[&[u8]]) -> Result<PlanLine, PlanKind>
     ensures { result ≡ record_line sc.now due.now.version left due.now.expected (map (λ f. f.now) fields.now) }
 {

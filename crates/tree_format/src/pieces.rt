@@ -12,7 +12,7 @@ pub const MOST_FIELDS: usize = 70;
 /// The most bytes of a field that are looked at: more than any field has that is right.
 pub const MOST_BYTES: usize = 40;
 
-/// The first bytes of a field.
+// The first bytes of a field.
 fn front(field: &[u8]) -> &[u8]
     ensures { result.now ≡ take 40 field.now }
 {

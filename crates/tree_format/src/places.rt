@@ -12,7 +12,7 @@ use search_model::{Path, Scenario};
 use std::alloc::Global;
 use std::marker::Model;
 
-/// Room for the most prefixes that can be expected at once.
+// Room for the most prefixes that can be expected at once.
 const ROOM: usize = 2_048;
 
 /// The prefixes that are expected, the next one first. Only the call that makes the list takes memory.
@@ -32,18 +32,19 @@ impl Model for Places {
     ghost invariant = { λ s. (2048 ≤ vec_capacity s.stack) × HasRoom (reverse s.stack.items) };
 }
 
-/// Whether a branch at this prefix has children.
+// Whether a branch at this prefix has children.
 fn has_children(sc: &Scenario, prefix: &Path) -> bool
     ensures { IsTrue result ↔ ((length prefix.now < sc.now.horizon) × IsLegal sc.now prefix.now) }
 {
     prefix.len() < sc.horizon() as usize && sc.is_legal(prefix)
 }
 
-/// Puts on the stack what a record of this kind makes expected, where its prefix is legal.
+// Puts on the stack what a record of this kind makes expected, where its prefix is legal.
 fn open(stack: &mut Vec<Path>, sc: &Scenario, prefix: &Path, kind: &Kind)
     requires room { HasRoom (prefix.now ∷ reverse stack.old.items) }
     requires capacity { 2048 ≤ vec_capacity stack.old }
-    ensures items { IsLegal sc.now prefix.now → reverse stack.new.items ≡ opened_by sc.now prefix.now kind.now ++ reverse stack.old.items }
+    ensures items { IsLegal sc.now prefix.now →
+        reverse stack.new.items ≡ opened_by sc.now prefix.now kind.now ++ reverse stack.old.items }
     ensures room { HasRoom (reverse stack.new.items) }
     ensures capacity { 2048 ≤ vec_capacity stack.new }
 {
@@ -53,11 +54,12 @@ fn open(stack: &mut Vec<Path>, sc: &Scenario, prefix: &Path, kind: &Kind)
     }
 }
 
-/// Takes the prefix on top, at which a record of this kind stands, and puts on the stack what the record makes expected.
+// Takes the prefix on top, at which a record of this kind stands, and puts on the stack what the record makes expected.
 fn pass(stack: &mut Vec<Path>, sc: &Scenario, kind: &Kind)
     requires room { HasRoom (reverse stack.old.items) }
     requires capacity { 2048 ≤ vec_capacity stack.old }
-    ensures items { All (IsLegal sc.now) (reverse stack.old.items) → reverse stack.new.items ≡ expected_behind sc.now (reverse stack.old.items) kind.now }
+    ensures items { All (IsLegal sc.now) (reverse stack.old.items) →
+        reverse stack.new.items ≡ expected_behind sc.now (reverse stack.old.items) kind.now }
     ensures room { HasRoom (reverse stack.new.items) }
     ensures capacity { 2048 ≤ vec_capacity stack.new }
 {

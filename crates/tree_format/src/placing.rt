@@ -10,7 +10,7 @@ use exact_parts::NoMemory;
 use search_model::Scenario;
 use std::alloc::Global;
 
-/// Whether records have the prefixes that are expected, the empty one first.
+// Whether records have the prefixes that are expected, the empty one first.
 fn have_places(places: Places, sc: &Scenario, records: &[TreeNode]) -> bool
     requires { places ≡ [] ∷ [] }
     ensures { IsTrue result ↔ AreInPlace sc.now ([] ∷ []) records.now }

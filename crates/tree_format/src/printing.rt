@@ -12,7 +12,7 @@ use bound_tree::Plan;
 use exact_parts::NoMemory;
 use search_model::Scenario;
 
-/// Appends the text of a plan of this version.
+// Appends the text of a plan of this version.
 fn push_plan(
     out: &mut Vec<u8>,
     version: TextVersion,

@@ -36,7 +36,7 @@ fn blank_draft(alloc: Global) -> Result<Draft, NoMemory>
     })
 }
 
-/// Reads the line of this number.
+// Reads the line of this number.
 fn take_line(draft: &mut Draft, sc: &Scenario, number: u64, line: &[u8]) -> Result<(), PlanStop>
     requires { All (IsLegal sc.now) draft.old.due.expected }
     ensures { TakesLine sc.now number draft.old draft.new result (line_at sc.now draft.old.due (exact_fields line.now)) }
@@ -49,7 +49,7 @@ fn take_line(draft: &mut Draft, sc: &Scenario, number: u64, line: &[u8]) -> Resu
     }
 }
 
-/// What the lines of a text say, up to `end`, behind which nothing stands.
+// What the lines of a text say, up to `end`, behind which nothing stands.
 #[tactic(auto, using(crate::proofs::Loop::loop_steps))]
 fn read_lines(alloc: Global, sc: &Scenario, text: &[u8]) -> Result<Draft, PlanStop>
     ensures { Gives result (plan_at sc.now text.now) }

@@ -16,7 +16,7 @@ pub struct Bounded {
     pub prefix: Path,
 }
 
-/// The most positions that the prefix on a record's line may have.
+// The most positions that the prefix on a record's line may have.
 fn most_positions(sc: &Scenario, version: TextVersion) -> usize
     ensures value { result ≡ most_positions_lem sc.now version }
     ensures few { result ≤ 32 }
@@ -27,7 +27,7 @@ fn most_positions(sc: &Scenario, version: TextVersion) -> usize
     }
 }
 
-/// Whether a version has records of edge bounds.
+// Whether a version has records of edge bounds.
 fn has_edges(version: TextVersion) -> bool
     ensures { result ≡ has_edges_lem version }
 {

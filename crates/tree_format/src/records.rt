@@ -12,7 +12,7 @@ use bound_tree::{Kind, TreeNode};
 use exact_parts::NoMemory;
 use search_model::Path;
 
-/// The letter of a kind of record.
+// The letter of a kind of record.
 fn letter(kind: &Kind) -> u8
     ensures { result ≡ letter_of kind.now }
 {
@@ -25,7 +25,7 @@ fn letter(kind: &Kind) -> u8
     }
 }
 
-/// Appends the value or the bound of a record, where it has one.
+// Appends the value or the bound of a record, where it has one.
 fn push_bound(out: &mut Vec<u8>, kind: &Kind) -> Result<(), NoMemory>
     ensures ok { OnOk result (out.new.items ≡ out.old.items ++ spaced (bound_fields kind.now)) }
     ensures err { OnErr result (AppendsFront out.old.items out.new.items (spaced (bound_fields kind.now))) }
@@ -39,7 +39,7 @@ fn push_bound(out: &mut Vec<u8>, kind: &Kind) -> Result<(), NoMemory>
     }
 }
 
-/// Appends the positions of a reference, where the record has one.
+// Appends the positions of a reference, where the record has one.
 fn push_reference(out: &mut Vec<u8>, kind: &Kind) -> Result<(), NoMemory>
     ensures ok { OnOk result (out.new.items ≡ out.old.items ++ spaced (numbers (reference_of kind.now))) }
     ensures err { OnErr result (AppendsFront out.old.items out.new.items (spaced (numbers (reference_of kind.now)))) }
@@ -50,10 +50,11 @@ fn push_reference(out: &mut Vec<u8>, kind: &Kind) -> Result<(), NoMemory>
     }
 }
 
-/// Appends the prefix of a record, where the text has it.
+// Appends the prefix of a record, where the text has it.
 fn push_prefix(out: &mut Vec<u8>, version: TextVersion, prefix: &Path) -> Result<(), NoMemory>
     ensures ok { OnOk result (out.new.items ≡ out.old.items ++ spaced (numbers (written version prefix.now))) }
-    ensures err { OnErr result (AppendsFront out.old.items out.new.items (spaced (numbers (written version prefix.now)))) }
+    ensures err { OnErr result (AppendsFront out.old.items out.new.items
+        (spaced (numbers (written version prefix.now)))) }
 {
     match version {
         TextVersion::One => push_positions(out, prefix.cells()),
@@ -61,7 +62,7 @@ fn push_prefix(out: &mut Vec<u8>, version: TextVersion, prefix: &Path) -> Result
     }
 }
 
-/// Appends the line of a record.
+// Appends the line of a record.
 fn push_record(out: &mut Vec<u8>, version: TextVersion, node: &TreeNode) -> Result<(), NoMemory>
     ensures ok { OnOk result (out.new.items ≡ out.old.items ++ text_of (record_row version node.now ∷ [])) }
     ensures err { OnErr result (AppendsFront out.old.items out.new.items (text_of (record_row version node.now ∷ []))) }
@@ -82,7 +83,8 @@ pub fn push_records(
     records: &[TreeNode],
 ) -> Result<(), NoMemory>
     ensures ok { OnOk result (out.new.items ≡ out.old.items ++ text_of (map (record_row version) records.now)) }
-    ensures err { OnErr result (AppendsFront out.old.items out.new.items (text_of (map (record_row version) records.now))) }
+    ensures err { OnErr result (AppendsFront out.old.items out.new.items
+        (text_of (map (record_row version) records.now))) }
     ensures narrow { OnOk result (All (λ r. IsNarrowKind r.kind) records.now) }
 {
     for r in records {

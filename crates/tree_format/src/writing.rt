@@ -45,7 +45,8 @@ pub fn push_positions(out: &mut Vec<u8>, positions: &[u8]) -> Result<(), NoMemor
 pub fn push_names(out: &mut Vec<u8>, sc: &Scenario, positions: &[u8]) -> Result<(), NoMemory>
     requires { ArePositions sc.now positions.now }
     ensures ok { OnOk result (out.new.items ≡ out.old.items ++ spaced (map (position_name sc.now) positions.now)) }
-    ensures err { OnErr result (AppendsFront out.old.items out.new.items (spaced (map (position_name sc.now) positions.now))) }
+    ensures err { OnErr result (AppendsFront out.old.items out.new.items
+        (spaced (map (position_name sc.now) positions.now))) }
 {
     for q in positions {
         push_field(out, sc.position(*q).bytes())?;

@@ -98,7 +98,8 @@ fn offer_by_each<R: Threads + Wait + Sync>(rt: &R, board: &Board, seats: &mut [B
     requires all { AreAllSeats board.now seats.old }
     requires size { length board.now.first.path ≡ 2 }
     ensures many { length seats.new ≡ length seats.old }
-    ensures each { (k : ℕ) (s : SeatView) → k < length seats.new → IsSameSeat (slice_index_or seats.old k s) (slice_index_or seats.new k s) }
+    ensures each { (k : ℕ) (s : SeatView) → k < length seats.new →
+        IsSameSeat (slice_index_or seats.old k s) (slice_index_or seats.new k s) }
     ensures all { AreAllSeats board.now seats.new }
 {
     thread::for_each_mut(

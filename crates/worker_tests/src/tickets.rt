@@ -40,7 +40,8 @@ fn draw_by_each<R: Threads + Sync>(rt: &R, tickets: &Tickets, seats: &mut [Ticke
     requires each { All (IsSeatOf tickets.now) seats.old }
     requires may { All MayDraw seats.old }
     ensures many { length seats.new ≡ length seats.old }
-    ensures each { (i : ℕ) (d : _) → i < length seats.old → KeepsSeat tickets.now (slice_index_or seats.old i d) (slice_index_or seats.new i d) }
+    ensures each { (i : ℕ) (d : _) → i < length seats.old →
+        KeepsSeat tickets.now (slice_index_or seats.old i d) (slice_index_or seats.new i d) }
 {
     thread::for_each_mut(rt, seats, 4, &|_, seat| draw_all(tickets, seat));
 }
