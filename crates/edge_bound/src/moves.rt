@@ -157,7 +157,8 @@ pub(crate) fn found_first(sc: &Scenario, prefix: &Path, onward: &Onward, b: u8) 
     requires to { b < sc.now.positions }
     requires onward { IsOnward sc.now prefix.now onward.now }
     ensures { let k = length prefix.now in
-        result * (sc.now.drift.denominator ^ (sc.now.horizon - (k + 1)) * sc.now.sweep.denominator ^ (sc.now.horizon - (k + 1)))
+        result * (sc.now.drift.denominator ^ (sc.now.horizon - (k + 1)) * sc.now.sweep.denominator ^
+        (sc.now.horizon - (k + 1)))
         ≡ reward_of sc.now prefix.now (k + 1) b }
 {
     let t = prefix.len() as u32 + 1;

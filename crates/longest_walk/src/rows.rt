@@ -49,7 +49,8 @@ fn fill_row(sums: &mut [u128], grid: &Grid, rewards: &[u128], here: usize, next:
     requires fits { (c : ℕ) → c < length grid.now
         → slice_index rewards.now (here + c) + greatest (sums_at sums.old next (moves_from grid.now c)) < 2 ^ 128 }
     ensures row { (c : ℕ) → c < length grid.now
-        → slice_index sums.new (here + c) ≡ slice_index rewards.now (here + c) + greatest (sums_at sums.old next (moves_from grid.now c)) }
+        → slice_index sums.new (here + c) ≡
+        slice_index rewards.now (here + c) + greatest (sums_at sums.old next (moves_from grid.now c)) }
     ensures later { (i : ℕ) → next ≤ i → slice_index sums.new i ≡ slice_index sums.old i }
 {
     for c in 0..grid.cells() {

@@ -100,7 +100,8 @@ impl Walk {
         requires room { length to.old ≤ self.now.horizon }
         ensures kept { Starts to.old to.new }
         ensures least { let walk = self.now in let k = length to.old in
-            IsLeastBest grid.now (entry_at walk.positions _rewards.now) (walk.horizon - k) (k + 1) walk.from (drop k to.new) }
+            IsLeastBest grid.now (entry_at walk.positions _rewards.now) (walk.horizon - k) (k + 1) walk.from
+            (drop k to.new) }
     {
         append_least(&self.sums, grid, self.horizon as usize, self.from, to);
     }

@@ -58,7 +58,8 @@ impl Play<(), Hand> for Closes {
     ghost use Rattle.node_tickets.specs.Seats.{ALL_SEATS};
 
     ghost then = { λ step before n after. let v = before.0 in
-        (after ≡ before) × (n ≤ v.limit + ALL_SEATS) × (v.stands_for ≡ ALL_SEATS → IsPermutation v.drawn (range_with_len 0 n)) };
+        (after ≡ before) × (n ≤ v.limit + ALL_SEATS) ×
+        (v.stands_for ≡ ALL_SEATS → IsPermutation v.drawn (range_with_len 0 n)) };
 }
 
 /// The word.

@@ -32,7 +32,8 @@ fn close_one<R: Wait>(
     ensures same { IsSameDesk (desk_view desk.old) (desk_view desk.new) }
     ensures order { IsInOrder sc.now board.now.first (desk_view desk.new) }
     ensures left { MatchOption result
-        (MayClose sc.now tickets.now board.now (desk_view desk.new) × (length desk.new.records.items ≡ length desk.old.records.items + 1))
+        (MayClose sc.now tickets.now board.now (desk_view desk.new) ×
+        (length desk.new.records.items ≡ length desk.old.records.items + 1))
         (λ left. EndsWork left [] (desk_view desk.new)) }
 {
     sc.recall_sound();

@@ -93,8 +93,10 @@ pub fn put_task<T>(own: &mut Own<T>, task: T) -> Result<(), T>
     requires some { 0 < (worker_view own.old).passes }
     ensures same { SameWorker own.old own.new }
     ensures rule { let v = worker_view own.old in MatchResult result
-        (λ _. (worker_view own.new ≡ hand v.passes (v.put ++ task ∷ []) v.taken) × (worker_index own.new ≡ worker_index own.old + 1))
-        (λ x. (x ≡ task) × (worker_view own.new ≡ v) × (worker_index own.new ≡ worker_index own.old) × (worker_capacity own.old ≤ worker_index own.old)) }
+        (λ _. (worker_view own.new ≡ hand v.passes (v.put ++ task ∷ []) v.taken) ×
+        (worker_index own.new ≡ worker_index own.old + 1))
+        (λ x. (x ≡ task) × (worker_view own.new ≡ v) × (worker_index own.new ≡ worker_index own.old) ×
+        (worker_capacity own.old ≤ worker_index own.old)) }
 {
     own.push_as::<Puts>(task)
 }

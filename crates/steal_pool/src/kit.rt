@@ -29,7 +29,8 @@ impl<T: Drop> Model for Kit<T> {
     ghost Value = { KitView T };
 
     ghost view = { λ k. record {
-      pool = map (λ v. stealer_deque v.thief) k.before.items ++ worker_deque k.own ∷ map (λ v. stealer_deque v.thief) k.after.items;
+      pool = map (λ v. stealer_deque v.thief) k.before.items ++ worker_deque k.own ∷
+          map (λ v. stealer_deque v.thief) k.after.items;
       place = length k.before.items;
       hands = map (λ v. known v.pass) k.before.items ++ worker_view k.own ∷ map (λ v. known v.pass) k.after.items;
       misses = k.misses;
