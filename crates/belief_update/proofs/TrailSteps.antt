@@ -70,10 +70,6 @@ looks_last q n whole =
     let period : length q ≡ length (take n q) + 1 = omega (arith, whole, length-take-le n q (omega (arith, whole))) in
     ap (λ (t : ℕ). looks_to t q) period ∙ ap (λ (r : List ℕ). looks_to (length (take n q) + 1) r) (sym parts) ∙ looks_to-look (take n q) (slice_index q n)
 
--- a step after some looks it is ahead of the next one
-pub drifted_ahead : (p : Problem) (q : List ℕ) (b : BeliefState) → 1 ≤ length q → IsBelief p (looks_to (max 1 (length q)) q ++ None ∷ []) b → IsAhead p q b
-drifted_ahead p q b some belief = rw looks_ahead (rw (max-eq_right some) at belief)
-
 -- the belief that is ready for the next look, by one after the prefix, in the period of its last look or in the next
 pub ready_ahead : (p : Problem) (q : List ℕ) (before b : BeliefState) → IsPast p q before → before.period ≤ length q + 1 →
     ((looks : List (Option ℕ)) → IsBelief p looks before → IsBelief p (awaiting before looks) b) → IsAhead p q b

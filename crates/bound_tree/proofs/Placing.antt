@@ -4,15 +4,14 @@ use Rattle.std.specs.Prelude.{nat_lt}
 use Rattle.std.proofs.lemmas.Bool.{cond_both, lt-ltb, ltb-true}
 use Rattle.std.proofs.lemmas.List.Elements.{All-nil}
 use Rattle.search_model.specs.declared.standing.Standing.{Standing}
-use Rattle.search_model.specs.Problem.{Problem, IsProblem}
+use Rattle.search_model.specs.Problem.{Problem}
 use Rattle.search_model.specs.Legal.{IsLegal}
 use Rattle.bound_tree.specs.declared.node.Kind.{Kind}
 use Rattle.bound_tree.specs.declared.node.Kind.TheVariants.{Branch, Whole, Mean, Tangent, Edge}
 use Rattle.bound_tree.specs.declared.node.TreeNode.{TreeNode}
 use Rattle.bound_tree.specs.Accepts.{IsGoodKind, expected_by, AreEaten}
-use Rattle.bound_tree.specs.Room.{HasRoom}
 use Rattle.bound_tree.specs.Places.{opened_by, AreInPlace, EatenAreInPlace}
-use Rattle.bound_tree.proofs.Rooms.{legal_expected, room_expected}
+use Rattle.bound_tree.proofs.Rooms.{legal_expected}
 
 nothing_either_way : (b : Bool) → ◌≡◌ {A = List (List ℕ)} (cond b [] []) []
 nothing_either_way true = refl
@@ -43,10 +42,3 @@ legal_opened p q kind legal =
     cond_both (nat_lt (length q) p.horizon) (expected_by p q kind) [] (All (IsLegal p))
     (λ short. legal_expected p q kind legal (λ _. ltb-true (length q) p.horizon short))
     (λ _. All-nil (IsLegal p))
-
--- where there was room for the prefix, there is room for it
-pub room_opened : (p : Problem) (q : List ℕ) (kind : Kind) (qs : List (List ℕ)) → IsProblem p → IsLegal p q → HasRoom (q ∷ qs) → HasRoom (opened_by p q kind ++ qs)
-room_opened p q kind qs sound legal room =
-    cond_both (nat_lt (length q) p.horizon) (expected_by p q kind) [] (λ (xs : List (List ℕ)). HasRoom (xs ++ qs))
-    (λ _. room_expected p q kind qs sound legal room)
-    (λ _. room.1)

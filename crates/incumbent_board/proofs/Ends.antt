@@ -1,7 +1,6 @@
 -- The passes of all seats, joined, know the whole history.
 use Rattle.std.proofs.Common.{◌≡◌, ℕ, ◌<◌, false, List, [], ◌∷◌, ◌++◌, length, drop, get_or, sym, refl, ap, ◌∙◌, subst, append_assoc, arith, All, Contains, IsPermutation}
 use Rattle.std.specs.List.{flat_map}
-use Rattle.std.proofs.lemmas.List.{append-nil}
 use Rattle.std.proofs.lemmas.List.Sums.{sum_by-append, sum_by-cons}
 use Rattle.std.proofs.lemmas.List.Elements.{All-nil, All-cons, All-append, All-head, All-tail}
 use Rattle.std.proofs.lemmas.List.Sorted.{IsPermutation-trans, IsPermutation-append_right, IsPermutation-append_comm, Contains-permutation}
@@ -23,15 +22,6 @@ use Rattle.list_laws.proofs.Changed.{flat_map-push}
 use Rattle.list_laws.proofs.Exchanges.{IsPermutation-same}
 use Rattle.list_laws.proofs.Halves.{All-front, All-back}
 use Rattle.list_laws.proofs.Wholes.{All-joined, All-parts}
-
--- no seat
-pub joins_none : (v : Sight) → Gathers v [] v
-joins_none v = record {
-  seats = omega arith;
-  placed = sym (append-nil v.placed);
-  behind = sym (append-nil v.behind);
-  seen = λ history b. (b, All-nil (λ (s : SeatView). IsPrefix s.seen history));
-}
 
 -- and one more
 pub joins_more : (v w u : Sight) (done : List SeatView) (s : SeatView) → Gathers v done w → IsOfSeat s u → Gathers v (done ++ s ∷ []) (joined w u)

@@ -8,10 +8,6 @@ use Rattle.longest_walk.specs.Sums.{entry_at}
 abbrev pub HasEntries : ℕ → (ℕ → ℕ → ℕ) → ℕ → ℕ → List ℕ → Type 0
 HasEntries places f k last numbers = (t a : ℕ) → k < t → t ≤ last → a < places → entry_at places numbers t a ≡ f t a
 
--- no period, no number
-pub entries_none : (places : ℕ) (f : ℕ → ℕ → ℕ) (k : ℕ) (numbers : List ℕ) → HasEntries places f k k numbers
-entries_none places f k numbers t a later last here = absurd (omega (arith, later, last))
-
 -- a place of an earlier row is before a row
 pub earlier_place : (places t u a : ℕ) → a < places → 1 ≤ u → u ≤ t → (u - 1) * places + a < t * places
 earlier_place places t u a here some le =

@@ -37,9 +37,6 @@ low_push_no limit xs n high = sum_by_push (λ x. cond (ltb x limit) 1 0) xs n �
 pub high_append : (limit : ℕ) (xs ys : List ℕ) → high_of limit (xs ++ ys) ≡ high_of limit xs + high_of limit ys
 high_append limit xs ys = sum_by-append (λ x. cond (leb limit x) 1 0) xs ys
 
-pub high_push_yes : (limit : ℕ) (xs : List ℕ) (n : ℕ) → limit ≤ n → high_of limit (xs ++ n ∷ []) ≡ high_of limit xs + 1
-high_push_yes limit xs n high = sum_by_push (λ x. cond (leb limit x) 1 0) xs n ∙ ap (λ (b : Bool). high_of limit xs + cond b 1 0) (le-leb limit n high)
-
 pub high_push : (limit : ℕ) (xs : List ℕ) (n : ℕ) → high_of limit (xs ++ n ∷ []) ≤ high_of limit xs + 1
 high_push limit xs n = omega (arith, sum_by_push (λ x. cond (leb limit x) 1 0) xs n, at_most_one (leb limit n))
   where

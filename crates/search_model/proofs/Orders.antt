@@ -1,5 +1,5 @@
 -- The order of lists and of standings.
-use Rattle.std.proofs.Common.{ℕ, ◌<◌, ◌≤◌, ◌≡◌, ◌≢◌, ◌⊎◌, true, false, List, [], ◌∷◌, ◌++◌, inl, inr, sym, refl, ap, ◌∙◌, arith, append_assoc, Ordering, Less, Equal, Greater, nat_cmp, is_lt, ltb-false, lt-ltb, le-ltb, eq-eqb, ne_eqb}
+use Rattle.std.proofs.Common.{ℕ, ◌<◌, ◌≤◌, ◌≡◌, ◌≢◌, ◌⊎◌, true, false, List, [], ◌∷◌, ◌++◌, inl, inr, sym, refl, ap, ◌∙◌, arith, Ordering, Less, Equal, Greater, nat_cmp, is_lt, ltb-false, lt-ltb, le-ltb, eq-eqb, ne_eqb}
 use Rattle.std.specs.Cmp.{IsStrictWeakOrder, nat_cmp_is}
 use Rattle.std.specs.Cmp.Lexicographic.{slice_cmp}
 use Rattle.std.specs.Ordering.{ordering_reverse}
@@ -67,10 +67,6 @@ smaller_prefix (x ∷ p) d z = rw (sym (nat_cmp_is x x Equal refl)) (smaller_pre
 pub smaller_at : (p : List ℕ) (d e : ℕ) (y z : List ℕ) → d < e → smaller (p ++ d ∷ y) (p ++ e ∷ z) ≡ true
 smaller_at p d e y z less = smaller_front p (d ∷ y) (e ∷ z) ∙ rw (sym (nat_cmp_is d e Less less)) refl
 
--- what continues the prefix with the smaller move is smaller
-pub smaller_by_move : (p : List ℕ) (d e : ℕ) (y z : List ℕ) → d < e → smaller (p ++ d ∷ [] ++ y) (p ++ e ∷ [] ++ z) ≡ true
-smaller_by_move p d e y z less = rw (append_assoc p (d ∷ []) y, append_assoc p (e ∷ []) z) (smaller_at p d e y z less)
-
 -- what isn't better is of no greater value, and of the same value its path isn't smaller
 pub not_better_parts : (s t : Standing) → better s t ≡ false → (s.value ≤ t.value) × (s.value ≡ t.value → smaller s.path t.path ≡ false)
 not_better_parts s t h =
@@ -126,10 +122,3 @@ better_one_way s t h = elim (cases_Bool (better t s)) [
 
 pub better_order : IsStrictWeakOrder better
 better_order = record { one_way = better_one_way; chain = better_chain }
-
--- better leads on
-pub better_trans : (s t u : Standing) → better s t ≡ true → better t u ≡ true → better s u ≡ true
-better_trans s t u h g = elim (cases_Bool (better s u)) [
-  | inl r ↦ r
-  | inr f ↦ absurd (true≢false (sym h ∙ better_chain s u t f (better_one_way t u g)))
-]

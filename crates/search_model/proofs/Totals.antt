@@ -8,10 +8,10 @@ use Rattle.exact_parts.proofs.Widths.{le-times, part_fits, weight_fits}
 use Rattle.search_model.specs.Problem.{Problem, first_of, IsProblem}
 use Rattle.search_model.specs.Tracks.{tracks, steps_product, weight_of, missed_weight, whole_weight}
 use Rattle.search_model.specs.Laws.{WeightsSum, NothingCutOff}
-use Rattle.list_laws.proofs.Sums.{sum_by-same, sum_by-times, sum_by-range-same, sum_by-range-fewer}
+use Rattle.list_laws.proofs.Sums.{sum_by-same, sum_by-times, sum_by-range-same}
 use Rattle.search_model.proofs.DriftSums.{steps_total, first_total}
 use Rattle.search_model.proofs.TrackSums.{one_track, sum_tracks-cons}
-use Rattle.search_model.proofs.After.{after_of-cons, after_of-by_row, after_of-le, missed_weight-by_first, missed_part-le}
+use Rattle.search_model.proofs.After.{after_of-by_row, after_of-le, missed_weight-by_first, missed_part-le}
 use Rattle.search_model.specs.Following.{look_factor, after_of}
 
 -- the drift parts of all that may follow a cell in m more periods
@@ -63,13 +63,6 @@ whole_weight-fits p sound = weight_fits p.total p.drift.denominator p.sweep.deno
 -- what may follow a cell within the horizon fits
 pub after_of-fits : (p : Problem) → IsProblem p → (t c : ℕ) → c < p.cells → (q : List ℕ) (m : ℕ) → m ≤ p.horizon - 1 → after_of p t c q m < 2 ^ 127
 after_of-fits p sound t c here q m short = omega (arith, after_of-le p sound m t c here q, powers_fit p sound m m short (omega (arith, short)))
-
--- the sum over the first k next cells fits
-pub after_cells-fit : (p : Problem) → IsProblem p → (t c : ℕ) → c < p.cells → (q : List ℕ) (m : ℕ) → suc m ≤ p.horizon - 1 → (k : ℕ) → k ≤ p.cells →
-    sum_by (λ d. part_of p.drift t c d * look_factor p (t + 1) q d * after_of p (t + 1) d (drop 1 q) m) (range_with_len 0 k) < 2 ^ 127
-after_cells-fit p sound t c here q m short k few =
-    let f : ℕ → ℕ = λ d. part_of p.drift t c d * look_factor p (t + 1) q d * after_of p (t + 1) d (drop 1 q) m in
-    omega (arith, sum_by-range-fewer p.cells f k few, after_of-cons p t c q m, after_of-fits p sound t c here q (suc m) short)
 
 -- the sum over the first i entries of the cell's row fits
 pub after_entries-fit : (p : Problem) → IsProblem p → (t c : ℕ) → c < p.cells → (q : List ℕ) (m : ℕ) → suc m ≤ p.horizon - 1 → (i : ℕ) →

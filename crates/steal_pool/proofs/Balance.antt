@@ -1,12 +1,12 @@
 -- Each step of a deque keeps its rule.
 use Rattle.std.proofs.Common.{◌≡◌, ◌≢◌, ⊎_elim, ℕ, zero, suc, ◌+◌, ◌-◌, ◌<◌, List, [], ◌∷◌, ◌++◌, set, sym, refl, ap, ◌∙◌, subst, append_assoc, arith, IsPermutation}
 use Rattle.std.proofs.lemmas.List.Sorted.{IsPermutation-trans, IsPermutation-append_left}
-use Rattle.std.proofs.lemmas.List.{append-nil, nil_from_length}
+use Rattle.std.proofs.lemmas.List.{append-nil}
 use Rattle.std.proofs.lemmas.List.Sums.{sum_by_push}
 use Rattle.list_laws.proofs.Changed.{set_there, sum_by-set_at, sum_by-else, flat_map-grown, flat_map-stays, flat_map-beside, flat_map-moved, flat_map-one}
 use mathlib.Core.Option.{some, some-injective, some-ne-none}
 use lib.ListN.{get_elem?}
-use Rattle.crossbeam_deque.specs.Tasks.{Pushes, Takes, Finds, FindsFew, Forks, Merges}
+use Rattle.crossbeam_deque.specs.Tasks.{Pushes, Takes, Finds, Forks, Merges}
 use Rattle.crossbeam_deque.proofs.Lists.{at_set, at_snoc, set_else}
 use Rattle.steal_pool.specs.declared.hand.Hand.{Hand}
 use Rattle.steal_pool.specs.Rule.{ALL, hand, puts_of, takes_of, IsLeft, IsBalanced, HeldAtOneMoment, FirstAtOneMoment, EmptyAtOneMoment}
@@ -97,11 +97,6 @@ module _ {T : Type 0} where
   -- who finds no task
   pub finds : (port : ℕ) (v : Hand T) → Finds IsBalanced port v (EmptyAtOneMoment v)
   finds port v views h at = (port, views, h, at)
-
-  pub finds_few : (most port : ℕ) (v : Hand T) → most ≡ 0 → FindsFew IsBalanced most port v (EmptyAtOneMoment v)
-  finds_few most port v zero_is items views few h at =
-      let none : items ≡ [] = nil_from_length items (omega arith) in
-      (port, views, subst (λ (l : List T). IsBalanced l views) none h, at)
 
   -- a pass is given away
   pub forks : (port : ℕ) (v : Hand T) → 1 < v.passes → Forks IsBalanced port v (hand (v.passes - 1) v.put v.taken) (hand 1 [] [])

@@ -1,12 +1,12 @@
 -- What all owners know, as passes come back and deques are emptied.
-use Rattle.std.proofs.Common.{◌≡◌, ℕ, ◌+◌, ◌<◌, ◌≤◌, List, [], ◌∷◌, ◌++◌, length, map, take, drop, get_or, inl, inr, sym, refl, ap, ◌∙◌, subst, arith, append_assoc, IsPermutation, length-append, slice_get, Some, All}
+use Rattle.std.proofs.Common.{◌≡◌, ℕ, ◌+◌, ◌<◌, ◌≤◌, List, [], ◌∷◌, ◌++◌, length, map, take, drop, get_or, inl, inr, sym, ap, ◌∙◌, subst, arith, append_assoc, IsPermutation, length-append, slice_get, Some, All}
 use Rattle.std.specs.declared.alloc.Global.{Global}
 use Rattle.std.specs.List.{flat_map}
 use Rattle.std.proofs.lemmas.Bool.{cases_lt}
 use Rattle.std.proofs.lemmas.Grind.{flat_map-append}
 use Rattle.std.proofs.lemmas.List.{length-map, map_push, get_or_at, take_at, drop_at}
-use Rattle.std.proofs.lemmas.List.Elements.{All-nil, All-push}
-use Rattle.std.proofs.lemmas.List.Sorted.{IsPermutation-refl, IsPermutation-trans, IsPermutation-append, IsPermutation-append_left, IsPermutation-append_right, IsPermutation-append_comm}
+use Rattle.std.proofs.lemmas.List.Elements.{All-push}
+use Rattle.std.proofs.lemmas.List.Sorted.{IsPermutation-trans, IsPermutation-append, IsPermutation-append_left, IsPermutation-append_right, IsPermutation-append_comm}
 use Rattle.crossbeam_deque.specs.declared.handles.Worker.{Worker}
 use Rattle.crossbeam_deque.specs.Handles.{view, worker_view, worker_deque, stealer_deque}
 use Rattle.steal_pool.specs.declared.hand.Hand.{Hand}
@@ -17,7 +17,7 @@ use Rattle.steal_pool.specs.Kits.{DequeId, KitView, put_of, taken_of}
 use Rattle.steal_pool.specs.Pools.{EachAt, IsWhole, IsOwner, IsRest, pool_of, passes_at, rest_taken}
 use Rattle.list_laws.proofs.Changed.{flat_map-push}
 use Rattle.list_laws.proofs.Exchanges.{IsPermutation-same, IsPermutation-swap_last, IsPermutation-swap_inner}
-use Rattle.steal_pool.proofs.Places.{EachAt-nil, EachAt-push, slice_get_at, take_one_more}
+use Rattle.steal_pool.proofs.Places.{EachAt-push, slice_get_at, take_one_more}
 use Rattle.steal_pool.proofs.Passes.{passes_at-last, passes_at-front}
 
 module _ {T : Type 0} where
@@ -77,19 +77,6 @@ module _ {T : Type 0} where
     pub each : EachAt rests (IsRest (pool_of kits))
     pub put : flat_map put_of done ≡ puts_of (map (λ w. worker_view w) owns)
     pub taken : IsPermutation (flat_map taken_of done) (takes_of (map (λ w. worker_view w) owns) ++ flat_map rest_taken rests)
-
-  pub apart_none : (kits : List (KitView T)) → Apart kits [] [] []
-  apart_none kits = record {
-    owns_many = refl;
-    rests_many = refl;
-    deques = refl;
-    owner = All-nil IsOwner;
-    passes = λ i h. absurd (omega arith);
-    few = λ h. absurd (omega arith);
-    each = EachAt-nil (IsRest (pool_of kits));
-    put = refl;
-    taken = IsPermutation-refl [];
-  }
 
   -- one kit more
   pub apart_more : (kits done : List (KitView T)) (owns : List (Worker T Global (Hand T) NoneLost)) (rests : List (Rest T)) (k : KitView T) (own : Worker T Global (Hand T) NoneLost) (r : Rest T) →

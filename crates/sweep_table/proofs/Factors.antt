@@ -67,11 +67,6 @@ made_in_row h g cells (entry ∷ row) x nothing within up =
       sum_by-cons (λ e. x e.cell * h e.part) entry row,
     )
 
--- a look finds in all cells together what it finds in those of its row
-pub found_in_row : (g cells : ℕ) (row : List LookPart) (x : ℕ → ℕ) → All (λ entry. entry.cell < cells) row → Ascends (λ entry. entry.cell) row →
-    sum_by (λ c. x c * (g - factor_in g row c)) (range_with_len 0 cells) ≡ sum_by (λ entry. x entry.cell * (g - entry.part)) row
-found_in_row g cells row x within up = made_in_row (λ part. g - part) g cells row x (omega arith) within up
-
 -- a row that covers nothing is right
 pub empty_row : (g cells : ℕ) → IsLookRow g cells []
 empty_row g cells = record {

@@ -91,9 +91,6 @@ from_1 (DoubleEntry q) = omega arith
 from_1 (PartOver q) = omega arith
 from_1 NoMemory = omega arith
 
-pub count_first : (g cells : ℕ) (rows : List (List LookPart)) → HasWrongSizes cells rows → IsFirstFault g cells rows Count
-count_first g cells rows wrong = record { there = wrong; first = named_first (HasFault g cells rows) rank_of 0 1 (λ other has. omega arith) (λ other has at. from_1 other) }
-
 -- the fault of a row is the named one where the sizes and all rows before are right
 module _ (g cells : ℕ) (rows : List (List LookPart)) (sizes : HasWrongSizes cells rows → ⊥) (p : ℕ) (before : (k : ℕ) → k < p → IsLookRow g cells (row_at rows k)) where
   -- a row that isn't right stands no earlier

@@ -33,10 +33,6 @@ gains_more p rate x k n before after gains row earlier u from to a here =
           earlier ((u - 1) * p.positions + a) (rw back place) ∙ gains u from within a here
     ]
 
--- no gain comes after none
-pub gains_none : (p : Problem) (rate : ℕ) (x : List ℕ) (k : ℕ) (gains : List ℕ) → AreGains p rate x k k gains
-gains_none p rate x k gains u from to a here = absurd (omega (arith, from, to))
-
 -- one number more: the sum so far and that of the rest are the whole
 pub sum_along-more : (positions : ℕ) (numbers x : List ℕ) (n sum whole : ℕ) → n < length x → sum + sum_along (entry_at positions numbers) (n + 1) (drop n x) ≡ whole →
     sum + slice_index numbers (n * positions + slice_index x n) + sum_along (entry_at positions numbers) (n + 1 + 1) (drop (n + 1) x) ≡ whole

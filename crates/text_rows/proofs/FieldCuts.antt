@@ -3,7 +3,7 @@ use Rattle.std.proofs.Common.{◌≡◌, ℕ, zero, suc, ◌≤◌, ◌<◌, Boo
 use Rattle.std.specs.List.{onto_first}
 use Rattle.std.proofs.lemmas.Bool.{false_from_ne_true}
 use Rattle.text_rows.specs.Fields.{is_blank, ends_field, fields_of}
-use Rattle.std.proofs.lemmas.List.{drop_all, append-nil, length-map}
+use Rattle.std.proofs.lemmas.List.{drop_all, length-map}
 use Rattle.std.proofs.Math.ListN.{get_or-map}
 use Rattle.std.specs.Prelude.{All}
 use Rattle.std.proofs.lemmas.List.Elements.{All-cons, All-head, All-tail}
@@ -77,9 +77,6 @@ pub ruleset word_steps = (word_to, word_all, field_goes_on, field_is_some)
 pub fields_gone : (rest : List ℕ) → length rest ≡ 0 → fields_of rest ≡ []
 fields_gone [] e = fields_of-nil
 fields_gone (c ∷ cs) e = absurd (omega arith)
-
-pub fields_done : (done : List (List ℕ)) (rest : List ℕ) (fs : List (List ℕ)) → length rest ≡ 0 → done ++ fields_of rest ≡ fs → done ≡ fs
-fields_done done rest fs e so_far = sym (append-nil done) ∙ ap (λ (x : List (List ℕ)). done ++ x) (sym (fields_gone rest e)) ∙ so_far
 
 -- the fields so far are the first ones, where none is left or so many were taken
 first_done : {X : Type 0} (done rest fs : List X) (most : ℕ) → done ++ rest ≡ fs → length done ≤ most → (length done < most → rest ≡ []) → done ≡ take most fs

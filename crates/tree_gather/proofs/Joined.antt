@@ -12,12 +12,12 @@ use Rattle.bound_tree.specs.declared.node.Kind.TheVariants.{Branch}
 use Rattle.bound_tree.specs.declared.node.TreeNode.{TreeNode}
 use Rattle.bound_tree.specs.declared.plan.Plan.{Plan}
 use Rattle.bound_tree.specs.Accepts.{prefixes_of, IsGood, Accepts}
-use Rattle.bound_tree.specs.Close.{IsClosed, IsExact, IsAtLeast, IsLive, LetsBranch}
+use Rattle.bound_tree.specs.Close.{IsClosed, IsExact, IsAtLeast, LetsBranch}
 use Rattle.bound_tree.proofs.Accepted.{accepted_plan_is_best}
 use Rattle.search_core.proofs.FromBounds.{good_at_least}
 use Rattle.search_core.proofs.Live.{balanced_is_live}
 use Rattle.search_core.proofs.Many.{distinct_live_are_many}
-use Rattle.tree_gather.specs.Hauls.{Haul, IsHaulSound, records_of, waiting_of, lasts_of, AreEven, IsBestOf}
+use Rattle.tree_gather.specs.Hauls.{Haul, IsHaulSound, records_of, lasts_of, IsBestOf}
 use Rattle.tree_gather.specs.Laws.{EvenHaulsAreJoined, JoinedAreLive, WaitingHaveMore, DoneAreAccepted}
 use Rattle.tree_gather.proofs.Sorted.{gathered_is_accepted}
 
@@ -56,12 +56,6 @@ even_hauls_are_joined p first best hauls sound even each b =
       good = All-joined (IsGood p best) (λ h. h.records) hauls (good_under_best p first best hauls sound each b.best);
       branches = lets_branch p first hauls each;
     }
-
--- all that the hauls closed or leave waiting is live
-pub even_hauls_are_live : (p : Problem) (first : Standing) (hauls : List Haul) → IsProblem p → AreEven p hauls → All (IsHaulSound p first) hauls →
-    All (IsLive p first) (waiting_of hauls ++ prefixes_of (records_of hauls))
-even_hauls_are_live p first hauls sound even each =
-    (balanced_is_live p first [] (waiting_of hauls) (records_of hauls) sound even (lets_branch p first hauls each)).1
 
 pub joined_are_live : JoinedAreLive
 joined_are_live p first best waiting closed sound joined = balanced_is_live p first [] waiting closed sound joined.even joined.branches
