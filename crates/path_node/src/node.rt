@@ -6,7 +6,7 @@ ghost use Rattle.search_model.specs.Legal.{IsLegal, moves_after};
 ghost use Rattle.search_model.specs.Bounds.{IsRate, mean_of};
 ghost use Rattle.search_model.specs.Reference.{IsReference};
 ghost use Rattle.belief_update.specs.Trails.{IsPast, IsTrailOf};
-ghost use Rattle.bound_tree.specs.Close.{IsClosed, IsExact, IsLeftOpen};
+ghost use Rattle.bound_tree.specs.Close.{IsClosed, IsExact, IsAtLeast, IsLeftOpen};
 ghost use Rattle.bound_tree.specs.Cut.{is_cut};
 ghost use Rattle.mean_bound.specs.Means.{IsMadeFor as IsMeanFor, IsFilledFor};
 ghost use Rattle.tangent_bound.specs.Room.{IsMadeFor as IsTangentFor};
@@ -17,6 +17,7 @@ use bound_tree::{Kind, TreeNode, cuts, in_parts};
 use edge_bound::Edge;
 use exact_parts::NoMemory;
 use mean_bound::Mean;
+use scout_path::scout;
 use search_model::{Path, Scenario, Standing};
 use std::alloc::Global;
 use std::marker::Model;
@@ -58,6 +59,18 @@ impl Scratch {
             tangent: Tangent::tables(alloc, sc)?,
             edge: Edge::tables(alloc, sc)?,
         })
+    }
+
+    /// The best of a standing and of all paths that a scout looks at, which goes to the end once by the mean bound
+    /// (`scout_path::scout`). Takes no memory.
+    pub fn scout(&mut self, sc: &Scenario, first: &Standing) -> Standing
+        requires made { IsMadeFor sc.now self.old }
+        requires exact { IsExact sc.now first.now }
+        ensures exact { IsExact sc.now result }
+        ensures not_worse { IsAtLeast result first.now }
+        ensures made { IsMadeFor sc.now self.new }
+    {
+        scout(&mut self.mean, sc, first)
     }
 }
 
