@@ -18,7 +18,7 @@ use Rattle.search_model.proofs.WalkLemmas.{listed_walk}
 use Rattle.search_model.proofs.Greatest.{greatest_above, greatest_below}
 use Rattle.bound_tree.specs.Accepts.{Extends}
 use Rattle.bound_tree.specs.EdgeLaws.{EdgeIsAbove, EdgeIsWithinMean}
-use Rattle.bound_tree.proofs.TrackMembers.{IsTrack, sum_tracks-le}
+use Rattle.search_model.proofs.TrackMembers.{IsTrack, sum_tracks-le}
 use Rattle.bound_tree.proofs.Continuing.{rest_of, whole_is, rest_size, rest_listed}
 use Rattle.bound_tree.proofs.Misses.{miss_of-append, miss_of-front, cell_in-after}
 

@@ -1,4 +1,3 @@
-pub mod TrackMembers
 pub mod Continuing
 pub mod Misses
 pub mod MeanBound
@@ -11,3 +10,4 @@ pub mod Accepted
 pub mod EdgeBound
 pub mod Rooms
 pub mod Placing
+pub mod SamePlans

@@ -11,7 +11,7 @@ use Rattle.list_laws.proofs.Sums.{sum_by-same, sum_by-none, sum_by-plus}
 use Rattle.search_model.proofs.Totals.{nothing_is_cut_off}
 use Rattle.bound_tree.specs.Accepts.{Extends}
 use Rattle.bound_tree.specs.BoundLaws.{MeanIsAbove}
-use Rattle.bound_tree.proofs.TrackMembers.{IsTrack, sum_tracks-le}
+use Rattle.search_model.proofs.TrackMembers.{IsTrack, sum_tracks-le}
 use Rattle.bound_tree.proofs.Continuing.{rest_of, whole_is, rest_size, rest_below}
 use Rattle.bound_tree.proofs.Misses.{miss_of-append, miss_of-front, cell_in-after}
 

@@ -12,7 +12,7 @@ use Rattle.list_laws.proofs.Sums.{sum_by-same, sum_by-none, sum_by-plus, sum_by-
 use Rattle.search_model.proofs.Totals.{nothing_is_cut_off}
 use Rattle.bound_tree.specs.Accepts.{Extends}
 use Rattle.bound_tree.specs.BoundLaws.{missed_by, TangentIsAbove}
-use Rattle.bound_tree.proofs.TrackMembers.{IsTrack, sum_tracks-le}
+use Rattle.search_model.proofs.TrackMembers.{IsTrack, sum_tracks-le}
 use Rattle.bound_tree.proofs.Continuing.{rest_of, whole_is, front_short, rest_size, rest_within, rest_below}
 use Rattle.bound_tree.proofs.Misses.{miss_of-append, cell_in-after}
 use Rattle.bound_tree.proofs.Convex.{looks_are_convex, one_look}

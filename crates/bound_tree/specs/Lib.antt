@@ -8,3 +8,4 @@ pub mod Laws
 pub mod EdgeLaws
 pub mod Room
 pub mod Places
+pub mod SameLaws

@@ -6,6 +6,7 @@ ghost use Rattle.bound_tree.specs.Eat.{EatenByEither};
 ghost use Rattle.bound_tree.specs.EdgeLaws.{EdgeIsAbove, EdgeIsWithinMean};
 ghost use Rattle.bound_tree.specs.Laws.{AcceptedIsBest};
 ghost use Rattle.bound_tree.specs.Places.{EatenAreInPlace};
+ghost use Rattle.bound_tree.specs.SameLaws.{SameEitherWay, SameIsAlike, SameAccepts};
 
 /// Record by record, or by the list of expected prefixes: the same records are eaten whole.
 #[tactic(auto, using(crate::proofs::EatLemmas::eaten_either_way))]
@@ -77,4 +78,12 @@ pub fn closed_is_good()
 pub fn edge_is_between()
     ensures above { EdgeIsAbove }
     ensures within { EdgeIsWithinMean }
+{}
+
+/// Scenarios that are the same search have the same values, bounds and best path, and a plan that is accepted for one is
+/// accepted for the other.
+pub fn same_search_same_plans()
+    ensures either_way { SameEitherWay }
+    ensures alike { SameIsAlike }
+    ensures accepted { SameAccepts }
 {}

@@ -18,6 +18,8 @@ pub mod Places
 pub mod PlainSteps
 pub mod Rates
 pub mod SameParts
+pub mod SameSearch
 pub mod Totals
+pub mod TrackMembers
 pub mod TrackSums
 pub mod WalkLemmas

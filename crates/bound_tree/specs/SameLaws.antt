@@ -1,0 +1,35 @@
+-- Problems that are the same search have the same values, bounds and plans.
+use Rattle.std.specs.Prelude.{ℕ, ◌≡◌, ◌↔◌, List}
+use Rattle.search_model.specs.Problem.{Problem, IsProblem}
+use Rattle.search_model.specs.Same.{AreSame}
+use Rattle.search_model.specs.Legal.{IsLegal, IsPath}
+use Rattle.search_model.specs.Tracks.{value_of, whole_weight}
+use Rattle.search_model.specs.Order.{IsBest}
+use Rattle.search_model.specs.Bounds.{mean_of, IsRate, tangent_of}
+use Rattle.search_model.specs.Edge.{edge_of}
+use Rattle.bound_tree.specs.declared.plan.Plan.{Plan}
+use Rattle.bound_tree.specs.Accepts.{Accepts}
+
+-- the same prefixes are legal, paths and the best, with the same values and bounds
+pub record AreAlike (p o : Problem) : Type 0 where
+  pub legal : (q : List ℕ) → IsLegal p q ↔ IsLegal o q
+  pub paths : (q : List ℕ) → IsPath p q ↔ IsPath o q
+  pub best : (q : List ℕ) → IsBest p q ↔ IsBest o q
+  pub weight : whole_weight p ≡ whole_weight o
+  pub values : (q : List ℕ) → IsLegal p q → value_of p q ≡ value_of o q
+  pub means : (q : List ℕ) → IsLegal p q → mean_of p q ≡ mean_of o q
+  pub edges : (q : List ℕ) → IsLegal p q → edge_of p q ≡ edge_of o q
+  pub rates : (rate : ℕ) → IsRate p rate ↔ IsRate o rate
+  pub tangents : (rate : ℕ) (q whole : List ℕ) → IsLegal p q → IsPath p whole → tangent_of p rate q whole ≡ tangent_of o rate q whole
+
+-- of two problems each is the same search as the other
+abbrev pub SameEitherWay : Type 0
+SameEitherWay = (p o : Problem) → AreSame p o → AreSame o p
+
+-- the same search has the same values and bounds
+abbrev pub SameIsAlike : Type 0
+SameIsAlike = (p o : Problem) → IsProblem p → AreSame p o → AreAlike p o
+
+-- and the same plans
+abbrev pub SameAccepts : Type 0
+SameAccepts = (p o : Problem) (plan : Plan) → IsProblem p → AreSame p o → Accepts p plan → Accepts o plan
