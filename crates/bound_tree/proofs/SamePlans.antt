@@ -1,16 +1,15 @@
 -- A plan that is accepted for a problem is accepted for each problem that is the same search.
-use Rattle.std.proofs.Common.{ℕ, ◌≡◌, List, [], ◌∷◌, ◌++◌, refl, sym, ◌∙◌, subst, arith, All, Contains}
-use Rattle.std.proofs.lemmas.List.Elements.{All-nil, All-cons, All-head, All-tail, All-append, All-weaker, All-contains_itself}
+use Rattle.std.proofs.Common.{ℕ, ◌≡◌, List, [], ◌∷◌, ◌++◌, refl, sym, ◌∙◌, subst, arith, All}
+use Rattle.std.proofs.lemmas.List.Elements.{All-nil, All-cons, All-head, All-tail, All-append}
 use Rattle.search_model.specs.declared.standing.Standing.{Standing}
 use Rattle.search_model.specs.Problem.{Problem, IsProblem}
 use Rattle.search_model.specs.Same.{AreSame}
-use Rattle.search_model.specs.Legal.{IsLegal, moves_after}
-use Rattle.list_laws.proofs.Members.{Contains-map_cases}
-use Rattle.search_model.proofs.Children.{child_is_legal}
+use Rattle.search_model.specs.Legal.{IsLegal}
 use Rattle.bound_tree.specs.declared.node.Kind.{Kind}
 use Rattle.bound_tree.specs.declared.node.Kind.TheVariants.{Branch, Whole, Mean, Tangent, Edge}
 use Rattle.bound_tree.specs.declared.node.TreeNode.{TreeNode}
-use Rattle.bound_tree.specs.Accepts.{IsGoodKind, children_of, expected_by, AreEaten}
+use Rattle.bound_tree.specs.Accepts.{IsGoodKind, expected_by, AreEaten}
+use Rattle.bound_tree.proofs.Rooms.{legal_expected}
 use Rattle.bound_tree.specs.Places.{opened_by, AreInPlace}
 use Rattle.bound_tree.specs.SameLaws.{SameIsAlike, SameAccepts}
 use Rattle.search_model.proofs.SameSearch.{AreSame-sym, legal_same, best_same, path_same, whole_same, rate_same, value_same_legal, mean_same, edge_same, tangent_same, path_legal}
@@ -34,6 +33,7 @@ module _ (p o : Problem) (same : AreSame p o) where
       (h.0, in_place_same (opened_by o q r.kind ++ qs) rs (rw (← opened) h.1))
 
 module _ (p o : Problem) (same : AreSame p o) (sound : IsProblem p) (s : Standing) where
+  -- a record that is good is good there, too
   good_same : (q : List ℕ) (kind : Kind) → IsLegal p q → IsGoodKind p s q kind → IsGoodKind o s q kind
   good_same q Branch legal good = rw (← same.horizon) good
   good_same q (Whole n) legal good = (good.0 ∙ same.horizon, good.1 ∙ value_same_legal p o same sound q legal, good.2)
@@ -46,17 +46,7 @@ module _ (p o : Problem) (same : AreSame p o) (sound : IsProblem p) (s : Standin
       )
   good_same q (Edge b) legal good = (rw (← same.horizon) good.0, good.1 ∙ edge_same p o same sound q legal, good.2)
 
-  -- what a good record makes expected is legal
-  expected_legal : (q : List ℕ) (kind : Kind) → IsLegal p q → IsGoodKind p s q kind → All (IsLegal p) (expected_by p q kind)
-  expected_legal q Branch legal good =
-      All-weaker (Contains (children_of p q)) (IsLegal p) (λ r listed.
-      let (a, move, is) = Contains-map_cases (λ a. q ++ a ∷ []) (moves_after p q) r listed in
-      subst (IsLegal p) is (child_is_legal p q a legal good move)) (children_of p q) (All-contains_itself (children_of p q))
-  expected_legal q (Whole n) legal good = All-nil (IsLegal p)
-  expected_legal q (Mean b) legal good = All-nil (IsLegal p)
-  expected_legal q (Tangent b whole) legal good = All-nil (IsLegal p)
-  expected_legal q (Edge b) legal good = All-nil (IsLegal p)
-
+  -- the same records are eaten
   eaten_same : (qs : List (List ℕ)) (rs : List TreeNode) → All (IsLegal p) qs → AreEaten p s qs rs → AreEaten o s qs rs
   eaten_same [] [] legal h = tt
   eaten_same [] (r ∷ rs) legal h = h
@@ -64,7 +54,7 @@ module _ (p o : Problem) (same : AreSame p o) (sound : IsProblem p) (s : Standin
   eaten_same (q ∷ qs) (r ∷ rs) legal h =
       let here : IsLegal p r.prefix = subst (IsLegal p) (sym h.0) (All-head (IsLegal p) q qs legal) in
       let more = expected_by p r.prefix r.kind in
-      let next = All-append (IsLegal p) more qs (expected_legal r.prefix r.kind here h.1) (All-tail (IsLegal p) q qs legal) in
+      let next = All-append (IsLegal p) more qs (legal_expected p r.prefix r.kind here (λ is. subst (IsGoodKind p s r.prefix) is h.1)) (All-tail (IsLegal p) q qs legal) in
       (h.0, good_same r.prefix r.kind here h.1, rw (← expected_same p o same r.prefix r.kind) (eaten_same (more ++ qs) rs next h.2))
 
 pub accepts_same : SameAccepts

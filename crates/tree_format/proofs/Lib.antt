@@ -19,3 +19,5 @@ pub mod FedPieces
 pub mod FedLaws
 pub mod Drafts
 pub mod Placements
+pub mod SameTexts
+pub mod TextLengths

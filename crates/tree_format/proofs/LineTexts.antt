@@ -40,7 +40,7 @@ count_begun n old now e = record { done = codes "nodes"; appended = e; whole = s
 abbrev pub after_letter : Kind → List ℕ → List ℕ
 after_letter kind q = spaced (bound_fields kind) ++ (spaced (numbers q) ++ (spaced (numbers (reference_of kind)) ++ 10 ∷ []))
 
-kind_text : (q : List ℕ) (kind : Kind) → text_of (kind_fields q kind ∷ []) ≡ letter_of kind ∷ after_letter kind q
+pub kind_text : (q : List ℕ) (kind : Kind) → text_of (kind_fields q kind ∷ []) ≡ letter_of kind ∷ after_letter kind q
 kind_text q Branch = ap (λ (x : List ℕ). x ++ 10 ∷ []) (join-fields (codes "B") (numbers q))
 kind_text q (Whole value) = ap (λ (x : List ℕ). x ++ 10 ∷ []) (join-fields (codes "W") (decimal value ∷ numbers q)) ∙ simp (append_assoc)
 kind_text q (Mean bound) = ap (λ (x : List ℕ). x ++ 10 ∷ []) (join-fields (codes "M") (decimal bound ∷ numbers q)) ∙ simp (append_assoc)

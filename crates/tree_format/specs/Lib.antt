@@ -11,3 +11,4 @@ pub mod Faults
 pub mod KindTable
 pub mod ReadingLaws
 pub mod Placing
+pub mod TextLaws

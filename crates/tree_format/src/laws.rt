@@ -2,6 +2,7 @@
 
 ghost use Rattle.tree_format.specs.KindTable.{KindsByTable};
 ghost use Rattle.tree_format.specs.ReadingLaws.{PlanTextReadsBack, PlanText2ReadsBack, OneTextAPlan, OnePlanAText, FirstFaultDecides, SummaryDecides};
+ghost use Rattle.tree_format.specs.TextLaws.{PlanTextIsShort, SameSearchSameTexts};
 
 /// The text of version 1 of a plan without edge bounds reads back as that plan.
 #[tactic(auto, using(crate::proofs::ReadsBack::plan_text_reads_back))]
@@ -43,4 +44,14 @@ pub fn summary_decides()
 #[tactic(auto, using(crate::proofs::Tables::kinds_by_table))]
 pub fn kinds_by_table()
     ensures { KindsByTable }
+{}
+
+/// A plan's text has at most 298 bytes for each record, and 949 besides.
+pub fn plan_text_is_short()
+    ensures { PlanTextIsShort }
+{}
+
+/// A text of a plan is one for each scenario that is the same search.
+pub fn same_search_same_texts()
+    ensures { SameSearchSameTexts }
 {}

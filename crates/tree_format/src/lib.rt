@@ -33,7 +33,7 @@ pub use feed_laws::{
 pub use kind::{PlanFault, PlanKind, plan_kind_name};
 pub use laws::{
     first_fault_decides, kinds_by_table, one_plan_a_text, one_text_a_plan, plan_text_2_reads_back,
-    plan_text_reads_back, summary_decides,
+    plan_text_is_short, plan_text_reads_back, same_search_same_texts, summary_decides,
 };
 pub use placing::{are_in_place, has_no_edge};
 pub use plan_item::{Fed, PlanItem, Step};

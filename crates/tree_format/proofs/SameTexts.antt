@@ -1,0 +1,56 @@
+-- The text of a plan is the same for problems that are the same search.
+use Rattle.std.proofs.Common.{ℕ, ◌≡◌, List, [], ◌∷◌, map, inl, inr, refl, ap, ◌∙◌}
+use Rattle.std.proofs.lemmas.List.Elements.{All-weaker}
+use Rattle.search_model.specs.Problem.{Problem, position_name}
+use Rattle.search_model.specs.Same.{AreSame}
+use Rattle.search_model.specs.Names.{name_in}
+use Rattle.bound_tree.specs.declared.node.Kind.{Kind}
+use Rattle.bound_tree.specs.declared.node.Kind.TheVariants.{Branch, Whole, Mean, Tangent, Edge}
+use Rattle.bound_tree.specs.declared.node.TreeNode.{TreeNode}
+use Rattle.bound_tree.specs.declared.plan.Plan.{Plan}
+use Rattle.bound_tree.proofs.SamePlans.{in_place_same}
+use Rattle.tree_format.specs.declared.plan_line.TextVersion.{TextVersion}
+use Rattle.tree_format.specs.declared.plan_line.TextVersion.TheVariants.{One, Two}
+use Rattle.tree_format.specs.PlanText.{text_in, ArePositions, IsPrintableKind, IsPrintableRecord, IsPrintable, IsTextOfPlan}
+use Rattle.tree_format.specs.TextLaws.{SameSearchSameTexts}
+
+module _ (p o : Problem) (same : AreSame p o) where
+  places_same : (q : List ℕ) → ArePositions p q → ArePositions o q
+  places_same q places = rw (← same.positions) places
+
+  kind_same : (kind : Kind) → IsPrintableKind p kind → IsPrintableKind o kind
+  kind_same Branch printable = printable
+  kind_same (Whole n) printable = printable
+  kind_same (Mean b) printable = printable
+  kind_same (Tangent b reference) printable = (places_same reference printable.0, printable.1 ∙ same.horizon)
+  kind_same (Edge b) printable = printable
+
+  record_same : (r : TreeNode) → IsPrintableRecord p r → IsPrintableRecord o r
+  record_same r printable = record { positions = places_same r.prefix printable.positions; short = rw (← same.horizon) printable.short; kind = kind_same r.kind printable.kind }
+
+  plan_same : (plan : Plan) → IsPrintable p plan → IsPrintable o plan
+  plan_same plan printable = record {
+    some = printable.some;
+    short = printable.short;
+    positions = places_same plan.standing.path printable.positions;
+    few = printable.few;
+    records = All-weaker (IsPrintableRecord p) (IsPrintableRecord o) record_same plan.tree printable.records;
+  }
+
+  -- the names stand in it, and no other part of the problem
+  text_same : (v : TextVersion) (plan : Plan) → text_in v p plan ≡ text_in v o plan
+  text_same v plan =
+      let names : map (position_name p) plan.standing.path ≡ map (position_name o) plan.standing.path = ap (λ (all : List (List ℕ)). map (name_in all) plan.standing.path) same.position_names in
+      rw names refl
+
+  plan_text_same : (plan : Plan) (text : List ℕ) → IsTextOfPlan p plan text → IsTextOfPlan o plan text
+  plan_text_same plan text (inl one) = inl (record { printable = plan_same plan one.printable; narrow = one.narrow; no_edge = one.no_edge; spelled = one.spelled ∙ text_same One plan })
+  plan_text_same plan text (inr two) = inr (record {
+    printable = plan_same plan two.printable;
+    narrow = two.narrow;
+    in_place = in_place_same p o same ([] ∷ []) plan.tree two.in_place;
+    spelled = two.spelled ∙ text_same Two plan;
+  })
+
+pub same_search_same_texts : SameSearchSameTexts
+same_search_same_texts p o plan text same is = plan_text_same p o same plan text is
