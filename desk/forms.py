@@ -45,6 +45,12 @@ def need(holds, kind):
         raise Wrong(kind)
 
 
+def is_narrow(horizon, parts):
+    """Whether all sums of a scenario fit into 128 bits, with its horizon and its three denominators."""
+    a, d, g = parts
+    return (horizon + 10) * a * d ** (horizon - 1) * g ** (horizon + 1) < 2**127
+
+
 class Scenario:
     """A scenario: names of cells and of positions, horizon, denominators, start; by cell its first part and its drift; by position
     its moves, and what a look from there covers; and the rows of single periods."""
@@ -61,11 +67,15 @@ class Scenario:
         """The cells that a look from a position in period t covers, with the parts that it misses."""
         return self.looks_in.get((t, position), self.looks[position])
 
+    def covered(self, t, position):
+        """The row of a look without the cells of which it misses all."""
+        return {cell: part for cell, part in self.look(t, position).items() if part < self.parts[2]}
+
     def key(self):
-        """All that its plans depend on."""
+        """All that its plans depend on. A cell of which a look misses all counts as one that it doesn't cover."""
         moves = (tuple(self.moves[it]) for it in range(len(self.positions)))
         drift = (tuple(sorted(self.row(t, it).items())) for t in range(1, self.horizon) for it in range(len(self.names)))
-        looks = (tuple(sorted(self.look(t, it).items())) for t in range(1, self.horizon + 1) for it in range(len(self.positions)))
+        looks = (tuple(sorted(self.covered(t, it).items())) for t in range(1, self.horizon + 1) for it in range(len(self.positions)))
         names = tuple(self.names), tuple(self.positions)
         return self.horizon, self.parts, names, self.start, tuple(self.first), tuple(moves), tuple(drift), tuple(looks)
 
@@ -257,9 +267,7 @@ class ScenarioReader:
     def take_end(self, fields):
         need(len(self.sc.drift) == len(self.sc.names), "MissingRow")
         need(all(len(it) == len(self.sc.positions) for it in (self.sc.moves, self.sc.looks)), "MissingRow")
-        a, d, g = self.sc.parts
-        t = self.sc.horizon
-        need((t + 10) * a * d ** (t - 1) * g ** (t + 1) < 2**127, "TooWide")
+        need(is_narrow(self.sc.horizon, self.sc.parts), "TooWide")
         self.ended = True
 
 
