@@ -101,11 +101,17 @@ def texts_of_rows():
     return texts, wrong
 
 
+def names_of_examples():
+    """The files of examples/, and those of its folder of situations, where plans have no reports beside them."""
+    return [it for it in sorted(os.listdir(EXAMPLES)) if it != "situations"], [f"situations/{it}" for it in sorted(os.listdir(f"{EXAMPLES}/situations"))]
+
+
 def texts_of_examples():
     """Each scenario of examples/ gives the plan beside it, that plan is accepted, and its reports are those beside it; and
     what is lacking there."""
     texts, wrong = [], []
-    for name in sorted(os.listdir(EXAMPLES)):
+    names, situations = names_of_examples()
+    for name in names + situations:
         stem, kind = os.path.splitext(name)
         given = read(f"{EXAMPLES}/{name}")
         if kind == ".scenario" and not given.startswith(b"# "):
@@ -120,7 +126,7 @@ def texts_of_examples():
                 if os.path.exists(f"{EXAMPLES}/{stem}{ending}"):
                     report = read(f"{EXAMPLES}/{stem}{ending}").decode()
                     texts.append(Text(f"examples/{stem}{ending}", words, given + plan, 0, report))
-                else:
+                elif name not in situations:
                     wrong.append(f"examples/{name} has no {ending[1:]} beside it")
     return texts, wrong
 

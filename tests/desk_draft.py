@@ -1,9 +1,17 @@
-"""Tests `desk.writing`, and what `osp draft` makes of a situation."""
+"""Tests `desk.writing`, and what `osp draft` makes of a situation. Values in comments are worked by hand."""
 import glob
+import math
 import os
+import re
+import subprocess
+import sys
+import tempfile
+import tomllib
 import unittest
+from decimal import Decimal
+from fractions import Fraction
 
-from desk import forms, writing
+from desk import detection, draft, drifting, forms, geometry, moments, rounding, situation, writing
 
 TOP = os.path.dirname(os.path.dirname(os.path.realpath(__file__)))
 EXAMPLES = sorted(glob.glob(os.path.join(TOP, "examples", "*.scenario")))
@@ -126,6 +134,506 @@ class Writing(unittest.TestCase):
         for at, how in enumerate(changes):
             with self.subTest(at), self.assertRaises(ValueError):
                 writing.scenario_text(change(read(CANONICAL), how))
+
+
+# ---- draft
+
+SITUATIONS = sorted(glob.glob(os.path.join(TOP, "examples", "situations", "*.toml")))
+# A lake of 3 by 4 cells of 463 m, the way of 1 knot in 15 minutes (1852 / 4). The search begins at noon; its first look is at 12:15.
+LAKE = """
+[search]
+begins = "12:00"
+minutes = 15
+periods = 3
+[area]
+cell = 463
+rows = 3
+columns = 4
+[[report]]
+cell = "r1c1"
+time = "12:15"
+[searcher]
+start = "r0c0"
+speed = 4
+sweep_width = 231.5
+"""
+
+
+def made(text):
+    """The scenario that is drafted of a situation's text, its own text, and what is said of it."""
+    scenario, lines = draft.drafted(text.encode("utf-8"))
+    return read(scenario), scenario, list(lines)
+
+
+def with_report(cell="r1c1", time="12:15", more=""):
+    return LAKE.replace('cell = "r1c1"\ntime = "12:15"', f'cell = "{cell}"\ntime = "{time}"\n{more}')
+
+
+def firsts(sc):
+    """The first distribution by name, as shares."""
+    return {name.decode(): Fraction(part, sc.parts[0]) for name, part in zip(sc.names, sc.first) if part}
+
+
+def row(sc, t, cell):
+    """Where the target goes from a cell in the step after period t, by name, as shares."""
+    found = sc.row(t, sc.names.index(cell))
+    return {sc.names[to].decode(): Fraction(part, sc.parts[1]) for to, part in found.items()}
+
+
+class Geometry(unittest.TestCase):
+    def test_a_current_of_0_6_knots_towards_045_for_15_minutes_over_cells_of_500_metres(self):
+        # 0.6 * 1852 / 4 = 277.8 m; east and north 277.8 * 0.707106781 = 196.434264 m each; 196.434264 / 500 = 0.392868528 cells.
+        # To the north-east go 0.392868528^2 = 0.154345680, to the north and to the east 0.392868528 * 0.607131472 = 0.238522848
+        # each, and 0.607131472^2 = 0.368608624 stay.
+        self.assertEqual(geometry.metres(Fraction("0.6"), 15), Fraction("277.8"))
+        moved = geometry.displacement(Fraction("277.8"), 45)
+        self.assertEqual(moved, (Fraction("196.4342637618"), -Fraction("196.4342637618")))
+        shares = drifting.kernel(moved, Fraction(0), Fraction(500))
+        self.assertEqual(sum(shares.values()), 1)
+        by_hand = {(-1, 1): 0.154345680, (-1, 0): 0.238522848, (0, 1): 0.238522848, (0, 0): 0.368608624}
+        self.assertEqual(shares.keys(), by_hand.keys())
+        for offset, share in by_hand.items():
+            self.assertAlmostEqual(float(shares[offset]), share, 8)
+
+    def test_bearings_go_clockwise_from_north_and_rows_go_south(self):
+        for towards, moved in ((0, (0, -1)), (90, (1, 0)), (180, (0, 1)), (270, (-1, 0)), (360, (0, -1))):
+            self.assertEqual(geometry.displacement(1, towards), moved)
+        east, south = geometry.displacement(1000, 150)
+        self.assertEqual(east, 500)
+        self.assertAlmostEqual(float(south), 866.0254, 4)
+
+    def test_squares_by_metres_east_and_south_of_the_corner(self):
+        grid = geometry.Grid(3, 4, Fraction(500))
+        self.assertEqual(grid.square_at((1999, 0)), (0, 3))
+        self.assertEqual(grid.square_at((500, 1499)), (2, 1))
+        self.assertEqual(grid.middle((2, 1)), (750, 1250))
+        self.assertEqual(geometry.name_of((2, 1)), "r2c1")
+
+    def test_neighbours_by_sides_and_by_corners(self):
+        grid = geometry.Grid(3, 3, Fraction(1), frozenset({(0, 1), (1, 0)}))
+        self.assertEqual(grid.neighbours((1, 1), 4), [(1, 2), (2, 1)])
+        # To r0c0 the way goes between two corners of land.
+        self.assertEqual(grid.neighbours((1, 1), 8), [(0, 2), (1, 2), (2, 0), (2, 1), (2, 2)])
+        self.assertEqual(grid.neighbours((0, 0), 8), [])
+
+
+class Drifting(unittest.TestCase):
+    def test_linear_interpolation_without_a_spread(self):
+        self.assertEqual(drifting.shares_along(Fraction(2, 5), Fraction(0)), {0: Fraction(3, 5), 1: Fraction(2, 5)})
+        self.assertEqual(drifting.shares_along(Fraction(-5, 4), Fraction(0)), {-1: Fraction(3, 4), -2: Fraction(1, 4)})
+        self.assertEqual(drifting.shares_along(Fraction(3), Fraction(0)), {3: 1})
+
+    def test_a_spread_of_half_a_cell(self):
+        # A cell moved by u has max(0, |u|) beyond its border. For u up to 1/2 to both sides, the mean to one side is 1/2 of 1/4.
+        self.assertEqual(drifting.shares_along(Fraction(0), Fraction(1, 2)), {-1: Fraction(1, 8), 0: Fraction(3, 4), 1: Fraction(1, 8)})
+        shares = drifting.shares_along(Fraction(3, 10), Fraction(1, 5))
+        self.assertEqual(shares, {0: Fraction(7, 10), 1: Fraction(3, 10)})
+
+    def test_shares_sum_to_one_and_have_the_mean_of_the_shift(self):
+        for shift, spread in ((Fraction(1, 7), Fraction(3, 4)), (Fraction(-9, 5), Fraction(1, 3)), (Fraction(0), Fraction(5, 2))):
+            shares = drifting.shares_along(shift, spread)
+            self.assertEqual(sum(shares.values()), 1)
+            self.assertEqual(sum(to * share for to, share in shares.items()), shift)
+            self.assertTrue(all(it > 0 for it in shares.values()))
+
+    def test_a_tide_that_turns_inside_a_period(self):
+        # The step after period 1 goes from 12:15 to 12:30, and the tide turns at 12:25: 10 minutes to the east at 0.6 knots are
+        # 185.2 m, 5 minutes to the west 92.6 m. 92.6 m are left, 0.2 of a cell of 463 m. The next step goes 277.8 m west, 0.6.
+        tide = '[[current]]\nknots = 0.6\ntowards = 90\n[[current]]\nbegins = "12:25"\nknots = 0.6\ntowards = 270\n'
+        sc, text, _ = made(LAKE + tide)
+        self.assertTrue(sc.parts[1] % 5 == 0)
+        self.assertEqual(row(sc, 1, b"r1c1"), {"r1c1": Fraction(4, 5), "r1c2": Fraction(1, 5)})
+        self.assertEqual(row(sc, 2, b"r1c1"), {"r1c1": Fraction(2, 5), "r1c0": Fraction(3, 5)})
+        self.assertIn(b"\nscenario 2\n", text)
+
+    def test_what_would_leave_the_area_stays_at_its_edge_or_is_lost(self):
+        current = "[[current]]\nknots = 1.5\ntowards = 90\n"
+        # 1.5 cells to the east: half goes one cell on, half two.
+        sc, text, lines = made(LAKE + current)
+        self.assertEqual(row(sc, 1, b"r1c1"), {"r1c2": Fraction(1, 2), "r1c3": Fraction(1, 2)})
+        self.assertEqual(row(sc, 1, b"r1c2"), {"r1c3": 1})
+        self.assertIn(b"\nscenario 1\n", text)
+        sc, text, lines = made(LAKE.replace("columns = 4", 'columns = 4\nedge = "lost"') + current)
+        self.assertEqual(row(sc, 1, b"r1c2"), {"r1c3": Fraction(1, 2), "lost": Fraction(1, 2)})
+        self.assertEqual(row(sc, 1, b"lost"), {"lost": 1})
+        self.assertEqual((len(sc.names), len(sc.positions)), (13, 12))
+        self.assertTrue(all(12 not in look for look in sc.looks.values()))
+        # From r1c1 all have left after two steps but a quarter, which went one cell on twice.
+        self.assertTrue(any("75.000 percent have left it" in it for it in lines), lines)
+
+    def test_what_would_run_aground_stays_in_its_cell(self):
+        sc, _, _ = made(LAKE.replace("columns = 4", 'columns = 4\nland = ["r1c2", "r0c3..r2c3"]') + "[[current]]\nknots = 0.4\ntowards = 90\n")
+        self.assertEqual([it.decode() for it in sc.names], ["r0c0", "r0c1", "r0c2", "r1c0", "r1c1", "r2c0", "r2c1", "r2c2"])
+        self.assertEqual(row(sc, 1, b"r1c1"), {"r1c1": 1})
+        self.assertEqual(row(sc, 1, b"r1c0"), {"r1c0": Fraction(3, 5), "r1c1": Fraction(2, 5)})
+        self.assertEqual([sc.positions[it] for it in sc.moves[sc.positions.index(b"r1c1")]], [b"r0c1", b"r1c0", b"r1c1", b"r2c1"])
+
+    def test_wind_drives_by_its_leeway_from_where_it_blows(self):
+        # A south-west wind of 20 knots at a leeway of 2 percent drives with 0.4 knots to the north-east; a current of 0.4 knots
+        # towards 225 cancels it.
+        wind = "[[wind]]\nknots = 20\nfrom = 225\n[drift]\nleeway = 0.02\n"
+        sc, _, _ = made(LAKE + wind)
+        found = row(sc, 1, b"r1c1")
+        # 0.4 * 0.707107 = 0.282843 of a cell along both axes.
+        self.assertAlmostEqual(float(found["r0c2"]), 0.282843**2, 2)
+        self.assertAlmostEqual(float(found["r1c1"]), 0.717157**2, 2)
+        sc, _, _ = made(LAKE + wind + "[[current]]\nknots = 0.4\ntowards = 225\n")
+        self.assertEqual(row(sc, 1, b"r1c1"), {"r1c1": 1})
+
+    def test_a_report_drifts_to_the_first_look(self):
+        current = "[[current]]\nknots = 1\ntowards = 90\n"
+        # A cell in 15 minutes; the first look is at 12:15.
+        for time, cell in (("12:15", "r1c1"), ("12:00", "r1c2"), ("11:45", "r1c3"), ("11:30", "r1c3")):
+            self.assertEqual(firsts(made(with_report(time=time) + current)[0]), {cell: 1}, time)
+        # 12 minutes are 0.8 of a cell, and 0.8 of a cell that was anywhere in r1c1 are in r1c2 then.
+        self.assertEqual(firsts(made(with_report(time="12:03") + current)[0]), {"r1c1": Fraction(1, 5), "r1c2": Fraction(4, 5)})
+        # Of a tide that turned at noon the drift before and behind it cancels.
+        tide = '[[current]]\nknots = 1\ntowards = 90\n[[current]]\nbegins = "12:00"\nknots = 1\ntowards = 270\n'
+        self.assertEqual(firsts(made(with_report(time="11:45") + tide)[0]), {"r1c1": 1})
+
+    def test_a_report_spreads_by_the_root_of_its_age(self):
+        # A spread of s metres to each side has the variance s^2 / 3 in a period, and four times that in four periods. In squares of
+        # a fifth of a cell, 100 m here, each step adds what linear interpolation adds: nothing for a shift of whole squares.
+        area = LAKE.replace("cell = 463", "cell = 500").replace("rows = 3", "rows = 9").replace("columns = 4", "columns = 9")
+        for begins, periods in (("12:00", 1), ("11:15", 4), ("11:07:30", 4.5)):
+            given = situation.situation((area.replace('cell = "r1c1"', "at = [2250, 2250]").replace('"12:15"', f'"{begins}"') + "[drift]\nspread = 200\n").encode())
+            masses = drifting.drifted(given, given.reports[0])
+            self.assertAlmostEqual(sum(masses.values()), 1)
+            variance = sum(mass * ((column - 4) * 500) ** 2 for (_, column), mass in masses.items())
+            # What lands in a square of 100 m adds 100^2 / 6 a step, and to tell cells of 500 m alone adds about 500^2 / 12.
+            steps = math.ceil(periods)
+            wanted = periods * 200**2 / 3 + steps * 100**2 / 6
+            self.assertLess(abs(variance - wanted), 500**2 / 12 + 100, (begins, variance, wanted))
+
+    def test_reports_weigh_as_they_say_and_a_circle_covers_its_area(self):
+        two = with_report(more="weight = 2\n[[report]]\ncell = \"r2c3\"\ntime = \"12:15\"\n")
+        sc = made(two)[0]
+        self.assertEqual(firsts(sc), {"r1c1": Fraction(2, 3), "r2c3": Fraction(1, 3)})
+        self.assertEqual(sc.parts[0], 3)
+        # A circle around the corner of four cells has a quarter in each; a point is in its cell alone.
+        circle = LAKE.replace('cell = "r1c1"', "at = [926, 463]\nradius = 300")
+        self.assertEqual(firsts(made(circle)[0]), dict.fromkeys(("r0c1", "r0c2", "r1c1", "r1c2"), Fraction(1, 4)))
+        self.assertEqual(firsts(made(circle.replace("300", "0"))[0]), {"r1c2": 1})
+        # What a circle covers of land counts for its cells of water.
+        land = circle.replace("columns = 4", 'columns = 4\nland = ["r0c1", "r0c2"]')
+        self.assertEqual(firsts(made(land)[0]), {"r1c1": Fraction(1, 2), "r1c2": Fraction(1, 2)})
+
+
+class Detection(unittest.TestCase):
+    def test_koopmans_formula(self):
+        # 5 knots for 12 minutes make 1852 m. With a sweep width of 135 m over 500 m by 500 m the coverage is 1.00008.
+        self.assertEqual(detection.coverage(Fraction(135), 5, 12, Fraction(500)), Fraction("1.00008"))
+        # Coverage 1 finds 63.212 percent, 0.5 finds 39.347, 2 finds 86.466 (tables of 1 - exp(-C)).
+        for covered, found in (("0", 0), ("0.5", 0.393469340), ("1", 0.632120559), ("2", 0.864664717)):
+            self.assertAlmostEqual(float(1 - detection.miss(Fraction(covered))), found, 9)
+        self.assertEqual(detection.miss(Fraction(10**9)), 0)
+
+    def test_a_look_misses_by_the_formula(self):
+        # 4 knots make 1852 m in 15 minutes; 231.5 m wide they sweep 463 * 926 m: coverage 2, a miss of 0.135335.
+        sc = made(LAKE)[0]
+        self.assertEqual(set(map(str, sc.looks.values())), {str({at: sc.looks[0][0]}) for at in range(12)})
+        self.assertLess(abs(Fraction(sc.looks[0][0], sc.parts[2]) - Fraction("0.135335")), Fraction(1, 2 * sc.parts[2]))
+
+    def test_dark_and_haze_are_means_over_the_period(self):
+        # Sunset is in the 10th of the 15 minutes of period 1: (10 + 5 * 0.4) / 15 = 0.8 of the width. Then 0.4.
+        light = '[light]\nsunset = "12:10"\nnight = 0.4\n'
+        given = situation.situation((LAKE + light).encode())
+        self.assertEqual(detection.factor(given.visibility, Fraction(0), Fraction(15)), Fraction(4, 5))
+        self.assertEqual(detection.factor(given.visibility, Fraction(15), Fraction(30)), Fraction(2, 5))
+        # Coverage 1.6 and 0.8: misses of 0.201897 and 0.449329.
+        self.assertAlmostEqual(float(detection.misses(given, 1)[0]), 0.201897, 6)
+        self.assertAlmostEqual(float(detection.misses(given, 3)[0]), 0.449329, 6)
+        haze = '[[visibility]]\nfactor = 1\n[[visibility]]\nbegins = "12:20"\nfactor = 0.5\n'
+        given = situation.situation((LAKE + light + haze).encode())
+        # 5 of 15 minutes at 1, 10 at 0.5: 2/3; by night 0.4 of it.
+        self.assertEqual(detection.factor(given.visibility, Fraction(15), Fraction(30)), Fraction(2, 3) * Fraction(2, 5))
+
+    def test_sunrise_ends_the_night(self):
+        for keys, factors in (('sunrise = "12:15"', (Fraction(1, 5), 1)), ('sunset = "11:00"\nsunrise = "12:15"', (Fraction(1, 5), 1)), ('sunrise = "06:30"\nsunset = "12:15"', (1, Fraction(1, 5)))):
+            given = situation.situation((LAKE + f"[light]\n{keys}\nnight = 0.2\n").encode())
+            self.assertEqual(tuple(detection.factor(given.visibility, Fraction(at), Fraction(at + 15)) for at in (0, 15)), factors, keys)
+
+    def test_a_swath_covers_the_cells_beside_the_course(self):
+        swath = '[searcher.swath]\ncourse = "{}"\nsweep_width = 115.75\n'
+        for course, cells in (("east-west", {"r0c1", "r1c1", "r2c1"}), ("north-south", {"r1c0", "r1c1", "r1c2"})):
+            sc = made(LAKE + swath.format(course))[0]
+            look = {sc.names[it].decode(): Fraction(part, sc.parts[2]) for it, part in sc.covered(1, sc.positions.index(b"r1c1")).items()}
+            self.assertEqual(look.keys(), cells)
+            # Half of the width: coverage 1, a miss of 0.367879.
+            for name in cells - {"r1c1"}:
+                self.assertLess(abs(look[name] - Fraction("0.367879")), Fraction(1, 200))
+            self.assertLess(abs(look["r1c1"] - Fraction("0.135335")), Fraction(1, 200))
+        self.assertEqual(len(sc.covered(1, 0)), 2)
+
+    def test_a_look_is_never_sure_and_may_find_nothing(self):
+        self.assertEqual([rounding.nearest_miss(Fraction(it), 10) for it in ("0.001", "0.34", "0.35", "0.96", "1", "0")], [1, 3, 4, 10, 10, 0])
+        sc = made(LAKE + '[light]\nsunset = "11:00"\nnight = 0\n')[0]
+        self.assertEqual(sc.covered(1, 0), {})
+
+
+class Rounding(unittest.TestCase):
+    def test_largest_remainders(self):
+        # Quotas of 10: 4.7, 1.6, 1.58, 1.2, 0.61, 0.31. Whole parts take 7, and the remainders 0.7, 0.61, 0.6 the other three.
+        shares = dict(zip("abcdef", (47000, 16000, 15800, 12000, 6100, 3100)))
+        self.assertEqual(rounding.largest_remainder(shares, 10), {"a": 5, "b": 2, "c": 1, "d": 1, "e": 1})
+        # c is off most: 1.58 of 10 became 1.
+        self.assertEqual(rounding.largest_error(shares, {"a": 5, "b": 2, "c": 1, "d": 1, "e": 1}, 10), Fraction("0.058"))
+
+    def test_equal_remainders_go_to_the_larger_share_and_then_to_the_first(self):
+        self.assertEqual(rounding.largest_remainder({0: Fraction(1, 8), 1: Fraction(3, 8), 2: Fraction(1, 2)}, 4), {1: 2, 2: 2})
+        self.assertEqual(rounding.largest_remainder({7: 1, 3: 1}, 3), {7: 2, 3: 1})
+
+    def test_parts_sum_to_the_denominator(self):
+        for whole in (1, 2, 3, 7, 100, 999_983):
+            shares = {it: Fraction(1, it) for it in range(1, 14)}
+            parts = rounding.largest_remainder(shares, whole)
+            self.assertEqual(sum(parts.values()), whole)
+            self.assertLess(rounding.largest_error(shares, parts, whole), Fraction(1, whole))
+
+    def test_denominators_fit_and_no_greater_common_one_does(self):
+        # e of the coverage isn't a fraction, so the looks take all the room that there is.
+        first, rows, misses = {0: Fraction(1)}, [{0: Fraction(1, 3), 1: Fraction(2, 3)}], [Fraction("0.36787944117")]
+        a, d, g = rounding.denominators(16, (None, None, None), first, rows, misses)
+        self.assertEqual((a, d), (1, 3))
+        # (T+10) * A * D^(T-1) * G^(T+1) < 2^127: 26 * 3^15 * G^17 < 2^127 holds for G = 55, and not for 56.
+        self.assertTrue(26 * 3**15 * 55**17 < 2**127 <= 26 * 3**15 * 56**17)
+        self.assertLessEqual(g, 55)
+        best = rounding.miss_error(misses[0], g)
+        self.assertTrue(all(rounding.miss_error(misses[0], it) >= best for it in range(1, 56)))
+        self.assertEqual(rounding.most_periods((1, 10, 10)), 18)
+        # 12 * 10^6 * 10^6 * 10^18 = 1.2e31, and 13 * 10^6 * 10^12 * 10^24 = 1.3e43; 2^127 = 1.7e38.
+        self.assertEqual(rounding.most_periods((10**6, 10**6, 10**6)), 2)
+
+    def test_given_denominators_are_taken(self):
+        sc = made(LAKE + "[parts]\nfirst = 7\ndrift = 20\nlook = 10\n")[0]
+        self.assertEqual(sc.parts, (7, 20, 10))
+        # A miss of 0.135335 is 1 of 10.
+        self.assertEqual(sc.looks[0], {0: 1})
+        sc = made(LAKE + "[parts]\nlook = 10\n")[0]
+        self.assertEqual(sc.parts, (1, 1, 10))
+
+    def test_what_is_said_of_the_rounding(self):
+        lines = made(LAKE + "[[current]]\nknots = 0.3\ntowards = 90\n[parts]\nfirst = 10\ndrift = 4\nlook = 10\n")[2]
+        # 0.3 of a cell is 1 of 4, off by 0.05; a miss of 0.135335 is 1 of 10, off by 0.035335.
+        self.assertIn("parts 10 4 10: the largest rounding of the first distribution is 0.000 percent, of the drift 5.000, of the looks 3.534", lines)
+        # (T+10) * 10 * 4^(T-1) * 10^(T+1) < 2^127: 22 periods fit, 32 * 10 * 4^21 * 10^23 = 1.4e38; 23 don't.
+        self.assertTrue(32 * 10 * 4**21 * 10**23 < 2**127 <= 33 * 10 * 4**22 * 10**24)
+        self.assertTrue(any(it.startswith("with these parts 22 periods fit at most, 19 more") for it in lines), lines)
+        self.assertTrue(any("coarse" in it for it in lines), lines)
+
+
+class Times(unittest.TestCase):
+    def minutes(self, begins, how, time, *rest):
+        return getattr(moments.Clock(moments.moment(begins)), how)(moments.moment(time), *rest)
+
+    def test_times_without_a_date(self):
+        for begins, time, minutes in (("19:30", "20:00", 30), ("19:30", "01:00", 330), ("01:00", "23:00", -120), ("19:30", "07:30", -720), ("19:30", "07:29", 719)):
+            self.assertEqual(self.minutes(begins, "nearest", time), minutes, (begins, time))
+        self.assertEqual(self.minutes("22:00", "after", "01:00"), 180)
+        self.assertEqual(self.minutes("00:10", "before", "23:40", 15), -30)
+        self.assertEqual(self.minutes("00:10", "before", "00:25", 15), 15)
+        self.assertEqual(self.minutes("00:10", "before", "00:26", 15), 16 - 1440)
+
+    def test_times_with_a_date_and_with_seconds(self):
+        self.assertEqual(self.minutes("2026-02-28 23:30", "nearest", "2026-03-01T00:15:30"), Fraction("45.5"))
+        with self.assertRaises(ValueError):
+            self.minutes("23:30", "nearest", "2026-03-01 00:15")
+        for wrong in ("24:00", "19.30", "7:30", "2026-13-01 10:00", "", "19:30Z", "2026-07-04"):
+            with self.assertRaises(ValueError, msg=wrong):
+                moments.moment(wrong)
+
+    def test_toml_has_times_of_its_own(self):
+        for begins in ("12:00:00", "2026-07-04T12:00:00"):
+            text = LAKE.replace('"12:00"', begins)
+            self.assertEqual(made(text)[0].key(), made(LAKE)[0].key())
+        with self.assertRaisesRegex(situation.BadSituation, "without a zone"):
+            made(LAKE.replace('"12:00"', "2026-07-04T12:00:00Z"))
+
+    def test_periods_until_a_time(self):
+        for until, periods in (("12:45", 3), ("12:59", 3), ("13:00", 4)):
+            self.assertEqual(made(LAKE.replace("periods = 3", f'until = "{until}"'))[0].horizon, periods)
+
+    def test_told_times(self):
+        clock = moments.Clock(moments.moment("2026-12-31 23:50"))
+        self.assertEqual(clock.told(Fraction(15)), "2027-01-01 00:05")
+        self.assertEqual(moments.Clock(moments.moment("23:50")).told(Fraction("15.5")), "00:05:30")
+
+
+class Drafts(unittest.TestCase):
+    def test_the_text_of_a_lake_line_by_line(self):
+        # No drift, one report, coverage 2: all by hand but the denominator of the looks, which is the best up to 1000.
+        sc, text, _ = made(LAKE)
+        self.assertEqual(sc.parts[:2], (1, 1))
+        body = text[text.index(b"\nscenario 1\n") + 1 :]
+        self.assertEqual(body, writing.scenario_text(sc))
+        lines = body.decode().splitlines()
+        self.assertEqual(lines[1], "horizon 3")
+        self.assertEqual(lines[3], "cell r0c0")
+        for wanted in ("start r0c0", "first r1c1 1", "moves r1c1 r0c1 r1c0 r1c1 r1c2 r2c1", "moves r0c0 r0c0 r0c1 r1c0", "drift r1c1 r1c1 1"):
+            self.assertIn(wanted, lines)
+
+    def test_comments_have_the_situation_and_the_places(self):
+        text = made("# a note\n" + LAKE.replace("\n", "\r\n"))[1]
+        again = b"".join(it.removeprefix(b"# |").removeprefix(b" ") + b"\n" for it in text.split(b"\n") if it.startswith(b"# |"))
+        self.assertEqual(again.decode(), "# a note\n" + LAKE)
+        self.assertEqual(made(again.decode())[1], text)
+        places = dict(re.findall(rb"^# at (\S+) (\S+ \S+)$", text, re.M))
+        self.assertEqual(len(places), 12)
+        self.assertEqual(places[b"r2c1"], b"694.5 1157.5")
+
+    def test_who_reaches_what(self):
+        sc = made(LAKE.replace("speed = 4", "speed = 4\nreaches = 8\nstays = false"))[0]
+        self.assertEqual([sc.positions[it].decode() for it in sc.moves[0]], ["r0c1", "r1c0", "r1c1"])
+
+    def test_a_base_outside_of_the_area(self):
+        sc, text, _ = made(LAKE.replace('start = "r0c0"', 'base = [-900, 700]\nenters = ["r0c0..r1c0"]'))
+        self.assertEqual(sc.positions[sc.start], b"base")
+        self.assertEqual([sc.positions[it] for it in sc.moves[sc.start]], [b"r0c0", b"r1c0"])
+        self.assertTrue(all(sc.start not in moves for moves in sc.moves.values()))
+        self.assertEqual(sc.covered(1, sc.start), {})
+        self.assertIn(b"# at base -900 700\n", text)
+
+    def test_each_situation_of_the_examples_drafts_the_scenario_beside_it(self):
+        self.assertGreaterEqual(len(SITUATIONS), 3)
+        for file in SITUATIONS:
+            with self.subTest(os.path.basename(file)):
+                scenario, _ = draft.drafted(bytes_of(file))
+                self.assertEqual(scenario, bytes_of(file.replace(".toml", ".scenario")))
+
+    def test_a_step_of_most_cells(self):
+        # 2 knots are 2 cells in a period.
+        made(LAKE + "[[current]]\nknots = 2\ntowards = 90\n")
+        with self.assertRaisesRegex(situation.BadSituation, r"\[search\] minutes: .* up to 2\.1 cells"):
+            made(LAKE + "[[current]]\nknots = 2.1\ntowards = 90\n")
+        # A report's drift is held against it, too: with one period there is no step.
+        with self.assertRaisesRegex(situation.BadSituation, r"\[search\] minutes: "):
+            made(with_report(time="12:00").replace("periods = 3", "periods = 1") + "[drift]\nspread = 100000\n")
+
+
+class Wrong(unittest.TestCase):
+    """Each wrong file ends with status 1, one line on standard error, and nothing on standard output."""
+
+    def line_of(self, given, status=1):
+        """What the helper says of a file."""
+        with tempfile.TemporaryDirectory() as room:
+            file = os.path.join(room, "situation.toml")
+            with open(file, "wb") as opened:
+                opened.write(given if isinstance(given, bytes) else given.encode("utf-8"))
+            done = subprocess.run([sys.executable, "-B", "-m", "desk", "draft", file], cwd=TOP, capture_output=True, timeout=60)
+        self.assertEqual((done.returncode, done.stdout), (status, b""), done.stderr[:300])
+        line = done.stderr.decode("ascii")
+        self.assertTrue(line.startswith("osp draft: ") and line.count("\n") == 1 and line.endswith("\n") and len(line) < 400, line)
+        self.assertTrue(line[:-1].isprintable(), line)
+        return line
+
+    def says(self, given, *wanted):
+        """What is wrong with a file, as the helper's line has it without a process of its own."""
+        with self.assertRaises(situation.BadSituation) as caught:
+            draft.drafted(given if isinstance(given, bytes) else given.encode("utf-8"))
+        for each in wanted:
+            self.assertIn(each, str(caught.exception))
+        return str(caught.exception)
+
+    def test_hostile_files(self):
+        huge = LAKE.encode() + b"# " + b"x" * 2_000_000
+        deep = "a = " + "[\n" * 30_000
+        markup = LAKE + '"<script>alert(1)</script>" = "__import__(\'os\').system(\'id\')"\n'
+        for given, part in (
+            (huge, "longer than 65,536 bytes"),
+            (b"\xff\xfe" + LAKE.encode("utf-16-le"), "UTF-8"),
+            (deep, "too deep"),
+            ("a" + ".a" * 30_000 + " = 1", "line 1 is longer than 1,000 bytes"),
+            (("a" + ".a" * 480 + " = 1\n") * 60, "TOML"),
+            (markup, "there is no such key"),
+            (LAKE.replace('"r0c0"', '"<b>r0c0</b>\\u001b[31m"'), "[searcher] start: it should be the name of a cell"),
+            (LAKE.replace("463", "9" * 990), "[area] cell"),
+            (LAKE.replace("463", "0x" + "f" * 980), "[area] cell"),
+            (LAKE.replace('"12:00"', '"9999-12-31 12:00"'), "[search] begins"),
+            (LAKE.replace("463", "1e-999999999"), "[area] cell"),
+            (LAKE.replace("463", "1e999999999"), "[area] cell"),
+            (LAKE.replace("463", "nan"), "[area] cell"),
+            (LAKE + "\0", "TOML"),
+            ("", "[search] is lacking"),
+            (LAKE.replace('"12:00"', '"12:00\\u0000"'), "[search] begins"),
+        ):
+            with self.subTest(part or given[:20]):
+                self.assertIn(part, self.line_of(given))
+
+    def test_each_example_of_a_key_is_a_value_of_it(self):
+        tables = [it for name, it in vars(situation).items() if isinstance(it, tuple) and it and isinstance(it[0], situation.Key)]
+        self.assertGreaterEqual(len(tables), 11)
+        for key in (it for table in tables for it in table):
+            value = tomllib.loads(f"it = {key.example}", parse_float=Decimal)["it"]
+            self.assertIsNotNone(key.take(value), key.name)
+
+    def test_each_key_of_a_wrong_type_is_named_with_an_example(self):
+        tables = {"search": situation.SEARCH, "area": situation.AREA, "report": situation.REPORT, "current": situation.CURRENT, "wind": situation.WIND, "drift": situation.DRIFT,
+                  "searcher": situation.SEARCHER, "light": situation.LIGHT, "visibility": situation.VISIBILITY, "parts": situation.PARTS}
+        for name, keys in tables.items():
+            for key in keys:
+                for value in ("{ a = 1 }", '"<b>"', "-7", "[[]]", "1979-05-27"):
+                    if key.name == "swath" and value == "{ a = 1 }":
+                        continue
+                    head = f"[[{name}]]" if name in ("report", "current", "wind", "visibility") else f"[{name}]"
+                    # A table that stands is written anew with its needed keys and this one.
+                    others = "".join(f"{it.name} = {it.example}\n" for it in keys if it.needed and it.name != key.name)
+                    kept = re.sub(rf"(?ms)^\[+{name}\]+\n.*?(?=^\[|\Z)", "", LAKE)
+                    said = self.says(f"{kept}{head}\n{others}{key.name} = {value}\n", f"[{name}")
+                    if key.name == "swath":
+                        self.assertIn("[searcher.swath]", said)
+                    else:
+                        self.assertIn(f"{key.name}: it should be {key.what}, as in {key.name} = {key.example}", said)
+
+    def test_each_needed_key_is_missed(self):
+        for name, keys in (("search", situation.SEARCH), ("area", situation.AREA), ("searcher", situation.SEARCHER)):
+            for key in keys:
+                if key.needed:
+                    self.says(re.sub(rf"(?m)^{key.name} = .*\n", "", LAKE, count=1 if name != "report" else 0), f"[{name}] {key.name} is lacking", key.example)
+
+    def test_what_contradicts(self):
+        for old, new, wanted in (
+            ("periods = 3", "", "[search] periods: either it or until"),
+            ("periods = 3", 'periods = 3\nuntil = "13:00"', "[search] periods: either it or until"),
+            ("periods = 3", 'until = "12:10"', "[search] until: it should leave 1 to 32 periods"),
+            ("periods = 3", "perods = 3", "[search] 'perods': there is no such key; [search] has begins"),
+            ("rows = 3", "rows = 51", "[area] rows: rows times columns without land should be 1 to 200"),
+            ("rows = 3", 'rows = 3\nland = ["r3c0"]', "[area] land: r3c0 is outside"),
+            ("rows = 3", 'rows = 3\nland = ["r2c0..r0c0"]', "[area] land: it should be"),
+            ("rows = 3", 'rows = 3\nland = ["r1c1"]', "[[report]] 1: cell: it should be in a cell of the area that isn't land"),
+            ("rows = 3", 'rows = 3\nland = ["r0c0"]', "[searcher] start: it should name cells"),
+            ('cell = "r1c1"', 'cell = "r1c4"', "[[report]] 1: cell"),
+            ('cell = "r1c1"', "at = [1852, 10]", "[[report]] 1: at"),
+            ('cell = "r1c1"', 'cell = "r1c1"\nat = [10, 10]', "[[report]] 1: cell: either it or at"),
+            ('"12:15"', '"2026-07-04 12:00"', "[[report]] 1: time: it has a date"),
+            ('start = "r0c0"', "base = [10, 10]\nenters = [\"r0c0\"]", "[searcher] base: it should be outside"),
+            ('start = "r0c0"', "base = [-10, 10]", "[searcher] enters"),
+            ("speed = 4", "speed = 4\nsearch_minutes = 16", "[searcher] search_minutes"),
+            ("[[report]]", '[[wind]]\nknots = 9\nfrom = 0\n[[report]]', "[drift] leeway is lacking"),
+            ("[[report]]", '[[current]]\nbegins = "12:20"\nknots = 1\ntowards = 0\n[[report]]', "[[current]] 1: begins: it should be at or before 12:15"),
+            ("[[report]]", '[[current]]\nbegins = "11:00"\nknots = 1\ntowards = 0\n[[current]]\nbegins = "10:00"\nknots = 1\ntowards = 0\n[[report]]', "[[current]] 2: begins: rows should stand in the order of time"),
+            ("[[report]]", "[light]\nnight = 0.5\n[[report]]", "[light] sunset: it or sunrise"),
+            ("periods = 3", "periods = 2\n[parts]\ndrift = 1000000\nlook = 1000000\nfirst = 1000000", None),
+            ("periods = 3", "periods = 3\n[parts]\ndrift = 1000000\nlook = 1000000\nfirst = 1000000", "[parts]: 3 periods don't fit into 128 bits with first = 1000000, drift = 1000000, look = 1000000"),
+        ):
+            with self.subTest(new):
+                self.assertEqual(LAKE.count(old), 1)
+                text = LAKE.replace(old, new)
+                if wanted is None:
+                    made(text)
+                else:
+                    self.says(text, wanted)
+
+    def test_words(self):
+        for words in ([], ["a", "b"], ["--help"]):
+            done = subprocess.run([sys.executable, "-B", "-m", "desk", "draft", *words], cwd=TOP, capture_output=True, timeout=60)
+            self.assertEqual((done.returncode, done.stdout, done.stderr), (2, b"", b"usage: osp draft SITUATION.toml > SCENARIO\n"))
+
+    def test_a_file_that_cannot_be_read_and_an_output_that_is_full(self):
+        done = subprocess.run([sys.executable, "-B", "-m", "desk", "draft", os.path.join(TOP, "no-such-file")], capture_output=True, cwd=TOP, timeout=60)
+        self.assertEqual((done.returncode, done.stderr), (5, b"osp draft: the file can't be read: No such file or directory\n"))
+        with open("/dev/full", "wb") as full:
+            done = subprocess.run([sys.executable, "-B", "-m", "desk", "draft", SITUATIONS[0]], stdout=full, stderr=subprocess.PIPE, cwd=TOP, timeout=60)
+        self.assertEqual((done.returncode, done.stderr), (6, b"osp draft: the output can't be written: No space left on device\n"))
 
 
 if __name__ == "__main__":

@@ -1,0 +1,60 @@
+"""./osp draft SITUATION.toml > SCENARIO: a scenario from metres, knots, bearings and times. docs/PLANNING.md says how.
+
+The scenario goes to standard output; what was rounded, and what to look at, to standard error.
+"""
+import os
+import sys
+
+from desk import telling, writing
+from desk.rounded import rounded
+from desk.shares import Shares
+from desk.situation import LONGEST, BadSituation, situation
+
+USAGE = "usage: osp draft SITUATION.toml > SCENARIO"
+# The longest text of a scenario, in bytes, and the exit statuses (docs/FORMATS.md).
+MOST_SCENARIO = 1_048_576
+WRONG_FILE, WRONG_WORDS, UNREADABLE, UNWRITABLE = 1, 2, 5, 6
+
+
+def drafted(text):
+    """The scenario's text for a situation's text, both as bytes, and the lines to say of it. Raises BadSituation."""
+    given = situation(text)
+    shares = Shares(given)
+    draft = rounded(shares)
+    scenario = writing.scenario_text(draft.scenario, telling.comments(text, shares, draft))
+    if len(scenario) > MOST_SCENARIO:
+        raise BadSituation(f"[area] rows: the scenario has {len(scenario):,} bytes, and {MOST_SCENARIO:,} are the most: take larger cells and fewer of them, as in rows = 7 with columns = 7")
+    return scenario, telling.lines(shares, draft)
+
+
+def say(line):
+    print(f"osp draft: {line}", file=sys.stderr)
+
+
+def main(words):
+    """Runs the helper; answers its exit status."""
+    if len(words) != 1 or words[0].startswith("-"):
+        print(USAGE, file=sys.stderr)
+        return WRONG_WORDS
+    try:
+        with open(words[0], "rb") as file:
+            text = file.read(LONGEST + 1)
+    except (OSError, ValueError) as wrong:
+        say(f"the file can't be read: {getattr(wrong, 'strerror', None) or 'no such name'}")
+        return UNREADABLE
+    try:
+        scenario, lines = drafted(text)
+    except BadSituation as wrong:
+        say(wrong)
+        return WRONG_FILE
+    try:
+        sys.stdout.buffer.write(scenario)
+        sys.stdout.buffer.flush()
+    except OSError as wrong:
+        # What Python would still write at its end goes nowhere.
+        os.dup2(os.open(os.devnull, os.O_WRONLY), sys.stdout.fileno())
+        say(f"the output can't be written: {wrong.strerror}")
+        return UNWRITABLE
+    for line in lines:
+        say(line)
+    return 0
