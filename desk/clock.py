@@ -1,0 +1,55 @@
+"""The time of day at which each period begins, where the caller gives it: --from HH:MM --minutes N."""
+import dataclasses
+import re
+
+DAY = 24 * 60
+
+
+class BadWords(Exception):
+    """The words of a command spell nothing that it takes. It says why."""
+
+
+@dataclasses.dataclass
+class Clock:
+    """When period 1 begins, in minutes after midnight, and how many minutes a period takes."""
+
+    begins: int
+    minutes: int
+
+    def at(self, period):
+        """When a period begins, as in 19:45; on a later day with the days behind it, as in 00:15+1."""
+        days, minute = divmod(self.begins + (period - 1) * self.minutes, DAY)
+        return f"{minute // 60:02}:{minute % 60:02}" + (f"+{days}" if days else "")
+
+
+def clock(options):
+    """The clock of the options by name, or None where there are none of them."""
+    if not options:
+        return None
+    if len(options) < 2:
+        raise BadWords("--from and --minutes stand together, as in --from 19:30 --minutes 15")
+    begins = re.fullmatch(r"([01]?[0-9]|2[0-3]):([0-5][0-9])", options["--from"], re.ASCII)
+    minutes = re.fullmatch(r"[1-9][0-9]{0,3}", options["--minutes"], re.ASCII)
+    if not begins:
+        raise BadWords("--from is a time of day from 00:00 to 23:59, as in --from 19:30")
+    if not minutes or int(minutes[0]) > DAY:
+        raise BadWords("--minutes is a whole number from 1 to 1440, as in --minutes 15")
+    return Clock(int(begins[1]) * 60 + int(begins[2]), int(minutes[0]))
+
+
+def files_and_clock(words):
+    """The two file names among the words SCENARIO PLAN [--from HH:MM --minutes N], and the clock if any. Raises BadWords."""
+    files, options, rest = [], {}, list(words)
+    while rest:
+        word = rest.pop(0)
+        if word in ("--from", "--minutes"):
+            if word in options or not rest:
+                raise BadWords(f"{word} stands once, and has one word behind it")
+            options[word] = rest.pop(0)
+        elif word.startswith("--"):
+            raise BadWords("there is no such option")
+        else:
+            files.append(word)
+    if len(files) != 2:
+        raise BadWords("a scenario's file and a plan's are needed")
+    return files, clock(options)

@@ -1,0 +1,183 @@
+"""A page that shows an accepted plan: one HTML file that asks no network for anything and runs no script but its own."""
+import base64
+import hashlib
+import math
+import os
+from html import escape
+
+from desk import masses, picture, tables
+
+HERE = os.path.dirname(os.path.realpath(__file__))
+# The least width of a cell on a screen, in pixels: below it a map can be moved sideways.
+LEAST_CELL = 40
+# How much of the comments at the front of a scenario a page repeats, in characters.
+MOST_COMMENT = 4_000
+# How many of the likeliest cells the text above a map names.
+MOST_LIKELIEST = 3
+
+
+def asset(name):
+    """The text of a file beside this one."""
+    with open(os.path.join(HERE, name), encoding="utf-8") as file:
+        return file.read()
+
+
+def checksum(text):
+    """The checksum of a script or a style, as a content security policy names it."""
+    return "sha256-" + base64.b64encode(hashlib.sha256(text.encode()).digest()).decode("ascii")
+
+
+def comment(text):
+    """What the comments at the front of a scenario say, without those that say places."""
+    told = []
+    for line in text.split(b"\n"):
+        line = line.strip(b" \t\r")
+        if line and not line.startswith(b"#"):
+            break
+        words = line.lstrip(b"#").strip()
+        if words and not words.startswith(b"at "):
+            told.append(words)
+    said = b"\n".join(told)[: 4 * MOST_COMMENT].decode("utf-8", "replace")
+    clean = "".join(it if it == "\n" or it.isprintable() else "\N{REPLACEMENT CHARACTER}" for it in said)
+    return clean if len(clean) <= MOST_COMMENT else clean[:MOST_COMMENT] + " …"
+
+
+def plural(count, one):
+    """A count with its noun."""
+    return f"{count} {one}" if count == 1 else f"{count} {one}s"
+
+
+def header(search):
+    """The name of the scenario, the verdict, the chance, and what the scenario says of itself."""
+    said = comment(search.text)
+    own = f"<details><summary>What the scenario says of itself</summary><pre>{escape(said)}</pre></details>" if said else ""
+    return (
+        f'<header><h1>Search plan <bdi>{escape(search.name)}</bdi></h1><div class="verdict">'
+        f'<p class="chance"><strong>{search.report.percent}&nbsp;%</strong> chance to find them in {plural(search.sc.horizon, "look")}</p>'
+        f'<p class="accepted">Accepted: no path is better.<small>{escape(search.checked_by)}</small></p></div>'
+        '<p class="note">Percentages are cut off after three digits. The chance is exact for the numbers of the scenario, and as good as these.</p>'
+        f"{own}</header>"
+    )
+
+
+def likeliest(search, frame):
+    """The likeliest cells after a look, as shares of all and of what is left."""
+    if not frame.missed:
+        return "They are found for certain."
+    told = []
+    for sort, whole in (("of-all", search.report.weight), ("of-left", frame.missed)):
+        cells = masses.greatest(frame.left)[:MOST_LIKELIEST]
+        names = ", ".join(f"{escape(search.cells[it])} {masses.percent(frame.left[it], whole)}&nbsp;%" for it in cells)
+        told.append(f'<span class="{sort}">Likeliest now: {names}.</span>')
+    return "".join(told)
+
+
+def caption(search, frame, clock):
+    """What a map says, in words."""
+    whole = search.report.weight
+    time = f"{clock.at(frame.period)}, " if clock and frame.period else ""
+    head = escape(picture.when(search, frame))
+    found = f"This look finds {masses.percent(frame.found, whole)}&nbsp;%; found so far {masses.percent(frame.so_far, whole)}&nbsp;%. "
+    return f"<figcaption><strong>{time}{head[0].upper()}{head[1:]}</strong>{found if frame.period else ''}{likeliest(search, frame)}</figcaption>"
+
+
+def figures(search, drawn, clock):
+    """A map for each look, and one before the first. A script shows one at a time; print, and a page without scripts, all."""
+    told = []
+    for frame in search.frames:
+        inner = f'{caption(search, frame, clock)}<div class="scroll">{drawn.svg(frame)}</div>'
+        told.append(f'<figure class="frame" id="after-{frame.period}">{inner}</figure>')
+    return f'<div class="figures">{"".join(told)}</div>'
+
+
+def scale():
+    """What the colours say."""
+    square = '<svg viewBox="0 0 24 20" aria-hidden="true"><rect class="a{}" x="1" y="1" width="22" height="18"/></svg>'
+    rows = "".join(f"<li>{square.format(at)}{text}&nbsp;%</li>" for at, text in picture.class_names())
+    return f'<ul class="key" aria-label="Scale of the colours">{rows}</ul>'
+
+
+def sign(drawing, text):
+    """A sign of the map and what it says."""
+    return f'<li><svg class="map" viewBox="-28 -20 56 40" aria-hidden="true">{drawing}</svg>{text}</li>'
+
+
+def signs():
+    """What the signs of the map say."""
+    return (
+        '<ul class="signs" aria-label="Signs of the map">'
+        + sign('<g class="searcher"><circle r="15"/><text y="5.5">4</text></g>', "searcher, in this period")
+        + sign('<g class="gone"><path d="M-26 0H26"/><path class="arrow" d="M12 0L-6 -9L-6 9Z"/></g>', "the way so far")
+        + sign('<g class="coming"><path d="M-26 0H26"/><path class="arrow" d="M12 0L-6 -9L-6 9Z"/></g>', "the way to come")
+        + sign('<g class="covers"><rect class="small" x="-18" y="-15"/></g>', "seen by this look")
+        + sign('<circle class="start" r="9"/>', "start")
+        + sign('<g class="visits"><text x="18" y="6">3·5</text></g>', "periods of looks from there")
+        + "</ul>"
+    )
+
+
+def controls(count):
+    """The slider, the buttons, and the choice of what the numbers say."""
+    return (
+        '<div class="controls"><button type="button" id="play">Play</button>'
+        '<button type="button" id="back" aria-label="One period back">&#8249;</button>'
+        f'<label>Period <input type="range" id="period" min="0" max="{count}" step="1" value="0"></label>'
+        '<button type="button" id="forth" aria-label="One period on">&#8250;</button></div>'
+        "<fieldset><legend>Numbers and colours</legend>"
+        '<label><input type="radio" name="shares" value="of-all" checked> share of all</label>'
+        '<label><input type="radio" name="shares" value="of-left"> if nothing was found so far</label></fieldset>'
+        '<p id="said" class="hidden" role="status" aria-live="polite"></p>'
+    )
+
+
+def map_section(search, drawn, clock):
+    """The maps with all that belongs to them."""
+    metres = " North is up." if drawn.layout.metres else ""
+    off = {search.positions[search.frames[at].position] for at, place in enumerate(drawn.way) if place is None}
+    lacking = f" Not on the map: {escape(', '.join(sorted(off)))}." if off else ""
+    note = (
+        "Shares of all and what was found so far sum to 100&nbsp;%. If nothing was found, the shares of what is left do. "
+        f'<span class="on-screen">Arrow keys go from period to period.</span>{metres}{lacking}'
+    )
+    return (
+        f'<section id="map" class="of-all"><h2>Where they may be</h2>{controls(search.sc.horizon)}'
+        f'<div class="with-scale">{figures(search, drawn, clock)}{scale()}</div>{signs()}<p class="note">{note}</p></section>'
+    )
+
+
+def no_map(why):
+    """Why there is no map, and what would give one."""
+    return (
+        f'<p class="note">There is no map, since {escape(why)}. A comment <code># at NAME X Y</code> in the scenario for each cell '
+        "(metres east and south of a corner) gives one; names such as r3c4 do, too.</p>"
+    )
+
+
+def style(drawn):
+    """The style of the page, with the least width of its maps, and how large the names of cells are written."""
+    if drawn is None:
+        return asset("page.css")
+    width = f"@media screen {{ .figures .map {{ min-width: {math.ceil(drawn.columns() * LEAST_CELL)}px; }} }}"
+    return f"{asset('page.css')}{width}\n.map .texts .name {{ font-size: {drawn.name_size():.1f}px; }}\n"
+
+
+def main_part(search, drawn, why, clock):
+    """All below the header: with a map where there is one, else the table of all cells."""
+    periods = tables.periods(search, clock, drawn is not None)
+    if drawn is None:
+        return f"<main>{periods}{tables.left(search)}{tables.all_cells(search, True)}{no_map(why)}{tables.numbers(search)}</main>"
+    first = f'<div class="columns two">{map_section(search, drawn, clock)}<div class="beside">{periods}{tables.left(search)}</div></div>'
+    return f"<main>{first}{tables.all_cells(search, False)}{tables.numbers(search)}</main>"
+
+
+def document(search, drawn, why, clock=None):
+    """The page of a search: `drawn` is its Picture, or None with the reason `why` there is none."""
+    css, script = style(drawn), asset("page.js")
+    policy = f"default-src 'none'; style-src '{checksum(css)}'; script-src '{checksum(script)}'; base-uri 'none'; form-action 'none'"
+    return (
+        '<!DOCTYPE html>\n<html lang="en">\n<head>\n<meta charset="utf-8">\n'
+        f'<meta http-equiv="Content-Security-Policy" content="{policy}">\n'
+        '<meta name="viewport" content="width=device-width, initial-scale=1">\n'
+        f"<title>Search plan {escape(search.name)}</title>\n<style>{css}</style>\n</head>\n<body>\n"
+        f"{header(search)}\n{main_part(search, drawn, why, clock)}\n<script>{script}</script>\n</body>\n</html>\n"
+    )

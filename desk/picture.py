@@ -1,0 +1,194 @@
+"""Draws the map after a look, as SVG: cells coloured by where the target may be, the path with arrows, the searcher's place."""
+import math
+from html import escape
+
+from desk import masses
+
+# The side of a cell and the margin around the cells, in units of the picture.
+SIDE, MARGIN = 100, 14
+# How much further a leg of the path bows to its right each time that it is gone again, in either direction.
+BOW = 17
+# The longest name that is drawn whole in a cell.
+MOST_LETTERS = 13
+# How long a name may be so that the periods of looks stand beside it, and not below.
+LETTERS_BESIDE = 6
+# The greatest and the widest writing of names, in units, and the width of a letter in parts of its height.
+NAME_SIZE, NAME_WIDTH, LETTER = 16, 86, 0.62
+# A class of colour begins at each of these shares, in thousandths of a percent; class 0 is exactly nothing.
+CLASSES = [0, 1, 100, 300, 1_000, 3_000, 10_000, 30_000]
+
+
+def class_of(part, whole):
+    """The class of colour of a share: 0 for nothing, 1 for anything below 0.1 percent, up to 7 for 30 percent and more."""
+    if part == 0:
+        return 0
+    return max(1, sum(part * 100_000 >= least * whole for least in CLASSES) - 1)
+
+
+def class_names():
+    """What each class of colour says, in percent, the greatest first: its number and its text."""
+    limits = [f"{it / 1000:g}" for it in CLASSES]
+    between = [(at, f"{limits[at]} to {limits[at + 1]}") for at in range(6, 1, -1)]
+    return [(7, f"{limits[7]} and more"), *between, (1, f"below {limits[2]}"), (0, "0")]
+
+
+def share(part, whole):
+    """A share as it stands in a cell: percent as in a report, nothing as 0, and a dash where there is no whole."""
+    if whole == 0:
+        return "–"
+    return masses.percent(part, whole) if part else "0"
+
+
+def short(name):
+    """A name, cut where it would be too long for a cell."""
+    return name if len(name) <= MOST_LETTERS else name[: MOST_LETTERS - 1] + "…"
+
+
+def number(value):
+    """A coordinate of the picture, with no more digits than can be seen."""
+    return f"{value:.1f}".removesuffix(".0")
+
+
+class Picture:
+    """The maps of a search whose cells have places."""
+
+    def __init__(self, search, layout):
+        self.search, self.layout = search, layout
+        self.scale = SIDE / layout.side
+        self.left, self.top = (min(it) for it in zip(*layout.cells))
+        self.cells = [self.point(it) for it in layout.cells]
+        way = [search.sc.start, *search.path]
+        self.way = [layout.positions[it] and self.point(layout.positions[it]) for it in way]
+        drawn = [*self.cells, *(it for it in self.way if it)]
+        self.low = [min(it) - SIDE / 2 - MARGIN for it in zip(*drawn)]
+        self.size = [max(it) + SIDE / 2 + MARGIN - low for it, low in zip(zip(*drawn), self.low)]
+        self.legs = self.all_legs()
+
+    def point(self, place):
+        """A place in units of the picture."""
+        return (place[0] - self.left) * self.scale, (place[1] - self.top) * self.scale
+
+    def columns(self):
+        """How many cells the picture is wide."""
+        return self.size[0] / SIDE
+
+    def name_size(self):
+        """How large the names of cells are written so that the longest fits."""
+        return min(NAME_SIZE, NAME_WIDTH / (LETTER * max(len(short(it)) for it in self.search.cells)))
+
+    def all_legs(self):
+        """The curve and the arrow of the way to each period's position, as two path data, or None where nothing is drawn."""
+        gone, legs = {}, []
+        for one, other in zip(self.way, self.way[1:]):
+            if one is None or other is None or one == other:
+                legs.append(None)
+                continue
+            ends = frozenset((one, other))
+            gone[ends] = gone.get(ends, -1) + 1
+            legs.append(leg(one, other, BOW * gone[ends]))
+        return legs
+
+    def visits(self, period):
+        """The periods of the way up to the end by place: the label that stands beside it."""
+        stops = {}
+        for t, place in enumerate(self.way[1:], 1):
+            if place:
+                stops.setdefault(place, []).append(t)
+        return {place: ranges(times) for place, times in stops.items() if times != [period]}
+
+    def svg(self, frame):
+        """The map of a frame."""
+        box = " ".join(number(it) for it in [*self.low, *self.size])
+        label = f"Map {when(self.search, frame)}; the table of all cells has its numbers"
+        parts = [self.squares(frame), self.outlines(frame), self.path(frame), self.texts(frame), self.labels(frame), self.searcher(frame)]
+        return f'<svg class="map" role="img" aria-label="{escape(label)}" viewBox="{box}">{"".join(parts)}</svg>'
+
+    def classes(self, frame, mass):
+        """The classes of colour of a cell: as a share of all, and as a share of what is left."""
+        left = class_of(mass, frame.missed) if frame.missed else 0
+        return f"a{class_of(mass, self.search.report.weight)} b{left}"
+
+    def squares(self, frame):
+        """A square for each cell, whose title says its numbers."""
+        whole, drawn = self.search.report.weight, []
+        for name, (x, y), mass in zip(self.search.cells, self.cells, frame.left):
+            title = f"{name}: {share(mass, whole)} % of all, {share(mass, frame.missed)} % if nothing was found; {mass} of {whole}"
+            at = f'x="{number(x - 49)}" y="{number(y - 49)}"'
+            drawn.append(f'<rect class="{self.classes(frame, mass)}" {at}><title>{escape(title)}</title></rect>')
+        return f'<g class="cells">{"".join(drawn)}</g>'
+
+    def outlines(self, frame):
+        """An outline on each cell that the look covers."""
+        at = (self.cells[it] for it in frame.covered)
+        drawn = (f'<rect x="{number(x - 45)}" y="{number(y - 45)}"/>' for x, y in at)
+        return f'<g class="covers">{"".join(drawn)}</g>'
+
+    def path(self, frame):
+        """The way that is to come, faint, and the way so far, with an arrow on each leg."""
+        coming = "".join(f'<path d="{it[0]}"/>' for it in self.legs[frame.period :] if it)
+        gone = [it for it in self.legs[: frame.period] if it]
+        under = "".join(f'<path class="under" d="{it[0]}"/>' for it in gone)
+        over = "".join(f'<path d="{it[0]}"/><path class="arrow" d="{it[1]}"/>' for it in gone)
+        arrows = "".join(f'<path class="arrow" d="{it[1]}"/>' for it in self.legs[frame.period :] if it)
+        return f'<g class="coming">{coming}{arrows}</g><g class="gone">{under}{over}</g>{self.start()}'
+
+    def start(self):
+        """A ring where the searcher is before period 1."""
+        return f'<circle class="start" cx="{number(self.way[0][0])}" cy="{number(self.way[0][1])}" r="9"/>' if self.way[0] else ""
+
+    def texts(self, frame):
+        """The name of each cell, and its share in percent of all and of what is left."""
+        drawn = []
+        for name, (x, y), mass in zip(self.search.cells, self.cells, frame.left):
+            at = f'x="{number(x)}" y="{number(y + 38)}"'
+            drawn.append(
+                f'<g class="{self.classes(frame, mass)}"><text class="name" x="{number(x - 42)}" y="{number(y - 31)}">{escape(short(name))}</text>'
+                f'<text class="of-all" {at}>{share(mass, self.search.report.weight)}</text>'
+                f'<text class="of-left" {at}>{share(mass, frame.missed)}</text></g>'
+            )
+        return f'<g class="texts" aria-hidden="true">{"".join(drawn)}</g>'
+
+    def labels(self, frame):
+        """Beside each place of the way, the periods in which the searcher looks from there."""
+        places = self.visits(frame.period).items()
+        up = 29 if max(len(it) for it in self.search.cells) <= LETTERS_BESIDE else 13
+        drawn = (f'<text x="{number(x + 43)}" y="{number(y - up)}">{label}</text>' for (x, y), label in places)
+        return f'<g class="visits" aria-hidden="true">{"".join(drawn)}</g>'
+
+    def searcher(self, frame):
+        """The searcher's place, with the number of the period."""
+        place = self.way[frame.period]
+        if not place:
+            return ""
+        x, y = place
+        digits = f'<text x="{number(x)}" y="{number(y + 5.5)}">{frame.period or "S"}</text>'
+        return f'<g class="searcher" aria-hidden="true"><circle cx="{number(x)}" cy="{number(y)}" r="15"/>{digits}</g>'
+
+
+def leg(one, other, bow):
+    """A curve from one place to another that bows to the right of its course, and the arrow in its middle, as path data."""
+    dx, dy = other[0] - one[0], other[1] - one[1]
+    length = math.hypot(dx, dy)
+    ex, ey = dx / length, dy / length
+    bend = (one[0] + other[0]) / 2 - ey * 2 * bow, (one[1] + other[1]) / 2 + ex * 2 * bow
+    curve = f"M{number(one[0])} {number(one[1])}Q{number(bend[0])} {number(bend[1])} {number(other[0])} {number(other[1])}"
+    x, y = (one[0] + other[0]) / 4 + bend[0] / 2, (one[1] + other[1]) / 4 + bend[1] / 2
+    corners = [(x + ex * 10, y + ey * 10), (x - ex * 8 - ey * 9, y - ey * 8 + ex * 9), (x - ex * 8 + ey * 9, y - ey * 8 - ex * 9)]
+    return curve, "M" + "L".join(f"{number(px)} {number(py)}" for px, py in corners) + "Z"
+
+
+def ranges(times):
+    """Numbers of periods in short, as in 1·4–6."""
+    told = []
+    for t in times:
+        if told and told[-1][1] == t - 1:
+            told[-1][1] = t
+        else:
+            told.append([t, t])
+    return "·".join(f"{first}" if first == last else f"{first}–{last}" for first, last in told)
+
+
+def when(search, frame):
+    """Which look a frame is behind, in words."""
+    where = search.positions[frame.position]
+    return f"after look {frame.period}, from {where}" if frame.period else f"before the first look; the searcher is at {where}"

@@ -1,0 +1,43 @@
+"""How a helper that makes a text of SCENARIO PLAN [--from HH:MM --minutes N] runs: its words, its output, its exit status."""
+import os
+import sys
+
+from desk import accepted, clock
+
+# Exit statuses of docs/FORMATS.md.
+WRONG_WORDS, UNWRITABLE = 2, 6
+
+
+def say(line):
+    """A line on standard error."""
+    print(line, file=sys.stderr)
+
+
+def write(text):
+    """Writes a text to standard output, and answers the exit status."""
+    try:
+        sys.stdout.buffer.write(text.encode("utf-8"))
+        sys.stdout.buffer.flush()
+        return 0
+    except OSError as why:
+        say(f"write fault: {why.strerror}")
+        # What is left in the buffer would fail again when the interpreter ends.
+        os.dup2(os.open(os.devnull, os.O_WRONLY), 1)
+        return UNWRITABLE
+
+
+def run(name, more, make, words):
+    """Writes what `make` makes of the two files and the clock, and answers the exit status. `more` ends the usage line."""
+    try:
+        files, times = clock.files_and_clock(words)
+    except clock.BadWords as wrong:
+        say(f"osp {name}: {wrong}\nusage: osp {name} SCENARIO PLAN [--from HH:MM --minutes N]{more}")
+        return WRONG_WORDS
+    try:
+        text, note = make(files, times)
+    except accepted.Refused as refused:
+        say(f"osp {name}: {refused.said}")
+        return refused.status
+    if note:
+        say(note)
+    return write(text)

@@ -1,0 +1,485 @@
+"""Tests of `osp show` and `osp brief`: every number against the reports of examples/ and against chances of walks, what is refused,
+hostile texts, and the page in a browser. `python3 -m unittest tests.desk_show`, or tests/desk."""
+import json
+import os
+import subprocess
+import sys
+import unittest
+import unittest.mock
+from decimal import ROUND_DOWN, Decimal, getcontext
+from fractions import Fraction
+
+sys.dont_write_bytecode = True
+sys.path.insert(0, os.path.dirname(os.path.realpath(__file__)))
+
+from pages import EXAMPLES, PLACES, Room, example, read, tree  # noqa: E402
+
+from desk import accepted, brief, clock, forms, layout, masses, page, picture, program, reports, show  # noqa: E402
+
+NAMES = sorted(it[:-7] for it in os.listdir(EXAMPLES) if it.endswith(".report"))
+getcontext().prec = 120
+
+
+def cut(part, whole):
+    """A share in percent as a report has it, computed another way than desk.masses does."""
+    return str((Decimal(part) * 100 / Decimal(whole)).quantize(Decimal("0.001"), ROUND_DOWN))
+
+
+def in_map(part, whole):
+    """The same as it stands in a cell of a map."""
+    return cut(part, whole) if part else "0"
+
+
+def walks(sc):
+    """The walks of the target with their chances, one cell a period."""
+    going = [((cell,), Fraction(part, sc.parts[0])) for cell, part in enumerate(sc.first) if part]
+    for t in range(1, sc.horizon):
+        going = [((*walk, to), chance * Fraction(part, sc.parts[1])) for walk, chance in going for to, part in sc.row(t, walk[-1]).items()]
+    return going
+
+
+def by_walks(sc, path):
+    """For each number of looks, what they find, and by cell what is there and missed: by all walks of the target."""
+    found, left = [Fraction(0)] * (sc.horizon + 1), [[Fraction(0)] * len(sc.names) for _ in range(sc.horizon + 1)]
+    for walk, chance in walks(sc):
+        left[0][walk[0]] += chance
+        missed = chance
+        for t, (cell, position) in enumerate(zip(walk, path), 1):
+            missed *= Fraction(sc.look(t, position).get(cell, sc.parts[2]), sc.parts[2])
+            left[t][cell] += missed
+            found[t] += chance - missed
+    return found, left
+
+
+class Masses(unittest.TestCase):
+    def test_frames_are_what_walks_of_the_target_give(self):
+        for name in ("two-cells", "waiting-longer", "tide", "night", "swath", "uneven-overlook", "lake-with-island"):
+            text, plan = example(name)
+            sc, _ = forms.read_scenario(text, alone=True)
+            path = forms.read_plan(plan, sc).path
+            told = masses.frames(sc, path)
+            whole = sum(told[0].left)
+            found, left = by_walks(sc, path)
+            self.assertEqual([Fraction(it.so_far, whole) for it in told], found, name)
+            self.assertEqual([[Fraction(mass, whole) for mass in it.left] for it in told], left, name)
+            self.assertEqual([it.found for it in told[1:]], [b.so_far - a.so_far for a, b in zip(told, told[1:])], name)
+
+    def test_what_two_cells_have(self):
+        """Worked by hand: 8 of 16 by the first look, then the other 8 spread to 4 and 4, of which the look at a finds 4."""
+        sc, _ = forms.read_scenario(example("two-cells")[0], alone=True)
+        told = [(it.period, it.found, it.so_far, it.left, it.covered) for it in masses.frames(sc, [0, 0])]
+        self.assertEqual(told, [(0, 0, 0, [8, 8], []), (1, 8, 8, [0, 8], [0]), (2, 4, 12, [0, 4], [0])])
+
+    def test_percent_is_cut_off(self):
+        for part, whole, text in ((2, 3, "66.666"), (1, 1, "100.000"), (0, 7, "0.000"), (1, 100_000, "0.001"), (1, 100_001, "0.000"), (999_999, 1_000_000, "99.999")):
+            self.assertEqual(masses.percent(part, whole), text)
+            self.assertEqual(cut(part, whole), text)
+
+    def test_greatest_first_and_of_equals_the_smaller_number(self):
+        self.assertEqual(masses.greatest([3, 0, 5, 5, 1]), [2, 3, 0, 4])
+
+
+class Reports(unittest.TestCase):
+    def test_all_examples(self):
+        for name in NAMES:
+            report, same = reports.read(read(f"{EXAMPLES}/{name}.report")), json.loads(read(f"{EXAMPLES}/{name}.report.json"))
+            self.assertEqual((str(report.value), str(report.weight)), (same["chance"], same["weight"]), name)
+            self.assertEqual([it.name for it in report.periods], same["path"], name)
+            self.assertEqual([str(it.value) for it in report.periods], same["periods"], name)
+            self.assertEqual([{"cell": it.name, "mass": str(it.value)} for it in report.left], same["left"], name)
+
+    def test_other_texts_are_none(self):
+        right = read(f"{EXAMPLES}/two-cells.report")
+        reports.read(right)
+        for old, new in ((b"report 1", b"report 2"), (b"75.000", b"75.001"), (b"period 2", b"period 3"), (b"b 4 25.000", b"b 5 31.250"),
+                         (b"end\n", b""), (b"end\n", b"end\nend\n"), (b"12 16", b"12  16"), (b"period 1 a", b"period 1 \xff")):
+            self.assertIn(old, right)
+            with self.assertRaises(reports.NoReport, msg=new):
+                reports.read(right.replace(old, new))
+        for text in (b"", b"report 1\nchance 0 0 0.000\nend\n", b"\xff" * 100, right[:-1]):
+            with self.assertRaises(reports.NoReport):
+                reports.read(text)
+
+
+class Places(unittest.TestCase):
+    def swath(self, more=PLACES):
+        text = more.encode() + example("swath")[0]
+        return forms.read_scenario(text, alone=True)[0], text
+
+    def test_by_comments_and_by_the_cells_that_a_position_covers(self):
+        told = layout.layout(*self.swath())
+        self.assertEqual(told.cells[0], (250, 250))
+        self.assertEqual((told.side, told.metres), (500, True))
+        self.assertEqual(told.positions, [(-250, 750), (250, 750), (750, 750), (1250, 750)])
+
+    def test_a_position_that_nothing_places_or_that_lies_far_off_is_not_drawn(self):
+        self.assertIsNone(layout.layout(*self.swath(PLACES.replace("# at base -250 750\n", ""))).positions[0])
+        self.assertIsNone(layout.layout(*self.swath(PLACES.replace("base -250", "base -9250"))).positions[0])
+
+    def test_by_names(self):
+        sc, _ = forms.read_scenario(example("drifting-grid")[0], alone=True)
+        told = layout.layout(sc, b"")
+        self.assertEqual((told.cells[0], told.cells[8], told.side, told.metres), ((0, 0), (1, 1), 1, False))
+        self.assertEqual(told.positions, told.cells)
+
+    def test_no_places(self):
+        for more, why in (("", "north-west"), (PLACES.replace("# at east 1250 750\n", ""), "north-west"), (PLACES.replace("north 750", "north 250"), "same place"),
+                          (PLACES.replace("north 750 250", "north 250.001 250"), "too far apart"), (PLACES.replace("750 250", "NaN 1e999"), "north-west"),
+                          (PLACES.replace("# at", "#at"), None)):
+            sc, text = self.swath(more)
+            if why is None:
+                self.assertTrue(layout.layout(sc, text).metres)
+            else:
+                with self.assertRaises(layout.NoPlaces) as raised:
+                    layout.layout(sc, text)
+                self.assertIn(why, str(raised.exception))
+
+    def test_a_later_line_counts_and_blanks_do_not(self):
+        self.assertEqual(layout.places_told(b" # at a 1 2\n#\tat b -1.5 2 \r\n# at a 3 4\n# at c 1\n# at d 1 2 3\n"), {b"a": (3, 4), b"b": (-1.5, 2)})
+
+
+class Clocks(unittest.TestCase):
+    def test_times(self):
+        files, times = clock.files_and_clock(["a", "--minutes", "45", "b", "--from", "9:30"])
+        self.assertEqual((files, [times.at(it) for it in (1, 2, 20, 52)]), (["a", "b"], ["09:30", "10:15", "23:45", "23:45+1"]))
+        self.assertEqual(clock.files_and_clock(["a", "b"]), (["a", "b"], None))
+
+    def test_bad_words(self):
+        for words in ("", "a", "a b c", "a b --from", "a b --from 1:00", "a b --from 24:00 --minutes 1", "a b --from 1:60 --minutes 1", "a b --from 1:00 --minutes 0",
+                      "a b --from 1:00 --minutes 1441", "a b --from 1:00 --minutes 1.5", "a b --all", "a b --from 1:00 --from 1:00", "a b --from ١:00 --minutes 5"):
+            with self.assertRaises(clock.BadWords, msg=words):
+                clock.files_and_clock(words.split())
+
+
+class Pages(Room):
+    made = {}
+
+    def page(self, name, more=b"", words=()):
+        """The page of an example, with more text before its scenario. Each is made once."""
+        key = name, more, tuple(words)
+        if key not in self.made:
+            self.made[key] = self.new_page(name, more, words)
+        return self.made[key]
+
+    def new_page(self, name, more, words):
+        text, plan = example(name)
+        status, out, err = self.run_helper(show.main, [self.write(f"{name}.scenario", more + text), self.write(f"{name}.plan", plan), *words])
+        self.assertEqual((status, err), (0, ""), name)
+        return tree(out), out
+
+    def exact(self, element):
+        """A share in percent, and its exact fraction, as two numbers."""
+        box = element.one(class_="exact")
+        tip = box.one(role="tooltip")
+        self.assertEqual(box.attributes["aria-describedby"], tip.attributes["id"])
+        self.assertEqual(box.attributes["tabindex"], "0")
+        part, whole = tip.text().removeprefix("exactly ").split(" of ")
+        return box.parts[0].replace("\N{NO-BREAK SPACE}", " "), int(part), int(whole)
+
+    def test_all_numbers_of_the_tables_are_those_of_the_reports(self):
+        for name in NAMES:
+            told, report = self.page(name)[0], json.loads(read(f"{EXAMPLES}/{name}.report.json"))
+            value, whole = int(report["chance"]), int(report["weight"])
+            self.assertEqual(told.one(class_="chance").one("strong").text(), f"{cut(value, whole)}\N{NO-BREAK SPACE}%")
+            rows = self.rows(told, "periods")
+            self.assertEqual([it.one("bdi").text() for it in rows], report["path"], name)
+            before = 0
+            for row, so_far in zip(rows, map(int, report["periods"]), strict=True):
+                self.assertEqual(self.exact(row.one("td", class_="so-far")), (cut(so_far, whole) + " %", so_far, whole), name)
+                self.assertEqual(self.exact(row.one("td", class_="found")), (cut(so_far - before, whole) + " %", so_far - before, whole), name)
+                before = so_far
+            self.check_left(told, report, name)
+
+    def rows(self, told, section):
+        """The rows of the table in a section, without its head."""
+        return list(told.one("section", class_=section).one("tbody").all("tr"))
+
+    def check_left(self, told, report, name):
+        """The table of what is left, and the last column of the table of all cells."""
+        whole, left = int(report["weight"]), [(it["cell"], int(it["mass"])) for it in report["left"]]
+        missed = sum(mass for _, mass in left)
+        order = sorted((it for it in left if it[1]), key=lambda it: -it[1])
+        rows = self.rows(told, "left") if order else []
+        self.assertEqual(len(rows), min(len(order), 10), name)
+        for row, (cell, mass) in zip(rows, order):
+            of_all, of_left = row.all("td")
+            self.assertEqual(row.one("bdi").text(), cell)
+            self.assertEqual((self.exact(of_all), self.exact(of_left)), ((cut(mass, whole) + " %", mass, whole), (cut(mass, missed) + " %", mass, missed)))
+        rows = [it for it in told.one(class_="all").one("tbody").all("tr") if it.attributes.get("class") != "sum"]
+        last = [list(it.all("td"))[-1] for it in rows]
+        self.assertEqual([it.one("bdi").text() for it in rows], [cell for cell, _ in left])
+        self.assertEqual([(it.text(), it.attributes["title"]) for it in last], [(in_map(mass, whole), f"{mass} of {whole}") for _, mass in left], name)
+        sums = next(it for it in told.one(class_="all").all("tr") if it.attributes.get("class") == "sum")
+        self.assertEqual([it.text() for it in sums.all("td")], ["0", *(in_map(int(it), whole) for it in report["periods"])])
+
+    def test_all_numbers_of_the_maps_are_those_of_walks(self):
+        for name, more in (("swath", PLACES.encode()), ("lake-with-island", b"")):
+            sc, _ = forms.read_scenario(example(name)[0], alone=True)
+            path = forms.read_plan(example(name)[1], sc).path
+            if not more:
+                more = b"".join(b"# at %s %d %d\n" % (it, at % 4 * 100, at // 4 * 100) for at, it in enumerate(sc.names))
+            told, _ = self.page(name, more)
+            found, left = by_walks(sc, path)
+            for t in range(sc.horizon + 1):
+                self.check_map(told.one("figure", id=f"after-{t}"), sc, t and path[t - 1], t, left[t])
+            column = [[it.text() for it in row.all("td")] for row in told.one(class_="all").one("tbody").all("tr")]
+            self.assertEqual([list(it) for it in zip(*column)], [[*(share(it) for it in here), share(so_far)] for here, so_far in zip(left, found)], name)
+
+    def check_map(self, figure, sc, position, t, left):
+        """The shares, colours and outlines of a map."""
+        missed = sum(left)
+        texts = [it.text() for it in figure.all("text", class_="of-all")], [it.text() for it in figure.all("text", class_="of-left")]
+        self.assertEqual(texts, ([share(it) for it in left], [share(it / missed) for it in left]))
+        squares = list(figure.one("g", class_="cells").all("rect"))
+        self.assertEqual([it.attributes["class"] for it in squares], [f"a{colour(it)} b{colour(it / missed)}" for it in left])
+        for square, mass, name in zip(squares, left, sc.names, strict=True):
+            part, whole = square.one("title").text().split("; ")[-1].split(" of ")
+            self.assertEqual(Fraction(int(part), int(whole)), mass)
+            self.assertTrue(square.one("title").text().startswith(name.decode() + ": "))
+        outlined = {(float(it.attributes["x"]) + 45, float(it.attributes["y"]) + 45) for it in figure.one("g", class_="covers").all("rect")}
+        seen = sc.look(t, position) if t else {}
+        self.assertEqual(outlined, {(float(squares[it].attributes["x"]) + 49, float(squares[it].attributes["y"]) + 49) for it, part in seen.items() if part < sc.parts[2]})
+
+    def test_the_searcher_stands_where_the_path_says(self):
+        told, _ = self.page("drifting-grid")
+        path = json.loads(read(f"{EXAMPLES}/drifting-grid.report.json"))["path"]
+        for t, name in enumerate(["r0c0", *path]):
+            figure = told.one("figure", id=f"after-{t}")
+            at = figure.one("g", class_="searcher").one("circle").attributes
+            self.assertEqual(f"r{int(at['cy']) // 100}c{int(at['cx']) // 100}", name)
+            self.assertEqual(figure.one("g", class_="searcher").one("text").text(), str(t or "S"))
+            self.assertIn(name, figure.one("strong").text())
+            self.assertEqual(len(list(figure.one("g", class_="gone").all("path", class_="arrow"))), sum(a != b for a, b in zip(["r0c0", *path][:t], path[:t])))
+
+    def test_the_numbers_behind_it(self):
+        told, _ = self.page("drifting-grid")
+        said = told.one("section", class_="numbers").text()
+        for part in ("22473449177088000 of 128000000000000000", "first distribution 1, drift 20, looks 10", "8 periods, 49 cells", "version 2, 1288 records"):
+            self.assertIn(part, said)
+        sums = [subprocess.run(["sha256sum"], input=it, capture_output=True, check=True).stdout.decode()[:64] for it in example("drifting-grid")]
+        self.assertEqual([it.text() for it in told.all("dd", class_="sum")], sums)
+
+    def test_a_plan_of_version_1_and_a_scenario_without_a_last_line_feed(self):
+        scenario, plan = self.write("s", example("two-cells")[0].rstrip(b"\n")), f"{EXAMPLES}/two-cells-1.plan"
+        status, out, err = self.run_helper(show.main, [scenario, plan])
+        self.assertEqual((status, err), (0, ""))
+        self.assertIn("text of version 1, 5 records", out)
+
+    def test_times_stand_in_the_table_and_above_the_maps(self):
+        told, _ = self.page("drifting-grid", words=["--from", "23:50", "--minutes", "7"])
+        rows = self.rows(told, "periods")
+        self.assertEqual([next(it.all("td")).text() for it in rows][:3], ["23:50", "23:57", "00:04+1"])
+        self.assertTrue(told.one("figure", id="after-2").one("strong").text().startswith("23:57, After look 2"))
+
+    def test_what_helps_a_screen_reader(self):
+        for name, more in (("drifting-grid", b""), ("swath", PLACES.encode()), ("night", b"")):
+            told, _ = self.page(name, more)
+            ids = [it.attributes["id"] for it in told.all() if "id" in it.attributes]
+            self.assertEqual(len(ids), len(set(ids)))
+            self.assertEqual({it.attributes["aria-describedby"] for it in told.all() if "aria-describedby" in it.attributes} - set(ids), set())
+            self.assertTrue(all(it.attributes.get("aria-label") or it.attributes.get("aria-hidden") == "true" for it in told.all("svg")))
+            self.assertTrue(all(any(True for _ in it.all("caption")) for it in told.all("table")))
+            self.assertTrue(all(it.attributes.get("scope") in ("row", "col") for it in told.all("th")))
+            self.assertTrue(all(it.text().strip() or it.attributes.get("aria-label") for it in told.all("button")))
+            self.assertEqual(told.one("html").attributes["lang"], "en")
+
+    def test_nothing_is_fetched_and_only_its_own_script_runs(self):
+        for name in ("drifting-grid", "swath"):
+            told, out = self.page(name)
+            policy = told.one("meta", **{"http-equiv": "Content-Security-Policy"}).attributes["content"]
+            self.assertTrue(policy.startswith("default-src 'none'; "))
+            self.assertIn(f"script-src '{page.checksum(told.one('script').text())}'", policy)
+            self.assertIn(f"style-src '{page.checksum(told.one('style').text())}'", policy)
+            self.assertEqual([key for it in told.all() for key in it.attributes if key.startswith("on") or key in ("src", "href", "style", "action")], [])
+            self.assertNotIn("://", out)
+            self.assertNotIn("@import", out)
+
+
+def share(it):
+    """A share, given as a fraction of 1, as it stands in a cell."""
+    return in_map(it.numerator, it.denominator)
+
+
+def colour(it):
+    """The class of colour of a share, by the limits that the scale states."""
+    if it == 0:
+        return 0
+    return 1 + sum(it * 100 >= least for least in (Fraction(1, 10), Fraction(3, 10), 1, 3, 10, 30))
+
+
+class Drawing(unittest.TestCase):
+    def test_the_scale_says_the_limits(self):
+        told = dict(picture.class_names())
+        self.assertEqual([told[it] for it in range(8)], ["0", "below 0.1", "0.1 to 0.3", "0.3 to 1", "1 to 3", "3 to 10", "10 to 30", "30 and more"])
+        self.assertEqual([picture.class_of(it, 10_000) for it in (0, 1, 9, 10, 29, 30, 99, 100, 299, 300, 999, 1000, 2999, 3000, 10_000)], [0, 1, 1, 2, 2, 3, 3, 4, 4, 5, 5, 6, 6, 7, 7])
+
+    def test_colours_grow_darker_and_texts_are_to_be_read_on_them(self):
+        css = page.asset("page.css")
+        of = {it: luminance(css.split(f"--{it}: #")[1][:6]) for it in [*(f"c{at}" for at in range(8)), "ink", "soft", "good", "path"]}
+        steps = [of[f"c{at}"] for at in range(8)]
+        self.assertEqual(steps, sorted(steps, reverse=True))
+        self.assertTrue(all((a + 0.05) / (b + 0.05) > 1.05 for a, b in zip(steps, steps[1:])), steps)
+        for at, step in enumerate(steps):
+            self.assertGreaterEqual((1.05 / (step + 0.05)) if at >= 6 else (step + 0.05) / (of["ink"] + 0.05), 4.5, at)
+        for name in ("ink", "soft", "good", "path"):
+            self.assertGreaterEqual(1.05 / (of[name] + 0.05), 4.5, name)
+
+    def test_ranges_and_short_names(self):
+        self.assertEqual([picture.ranges(it) for it in ([3], [1, 2], [1, 3, 4, 5, 8])], ["3", "1–2", "1·3–5·8"])
+        self.assertEqual([picture.short(it) for it in ("a" * 13, "a" * 14)], ["a" * 13, "a" * 12 + "…"])
+
+    def test_a_leg_that_is_gone_again_is_another_curve(self):
+        """The arrow of a straight leg lies in its middle and points along it; the next one lies to its right (south of a way east)."""
+        curve, arrow = picture.leg((0, 0), (100, 0), 0)
+        self.assertEqual((curve, arrow), ("M0 0Q50 0 100 0", "M60 0L42 9L42 -9Z"))
+        self.assertEqual(picture.leg((0, 0), (100, 0), 12)[0], "M0 0Q50 24 100 0")
+
+    def test_the_comment_at_the_front(self):
+        self.assertEqual(page.comment(b"# one\n\n#  two \n# at a 1 2\n#\n  # three\nscenario 1\n# four\n"), "one\ntwo\nthree")
+        self.assertEqual(page.comment(b"# \xff\x00\x1b[1m \xc3\xa9\nscenario 1"), "\ufffd\ufffd\ufffd[1m \xe9")
+        self.assertEqual(len(page.comment(b"# " + b"x" * 10**6)), page.MOST_COMMENT + 2)
+
+
+def luminance(colour_text):
+    """The relative luminance of a colour, by WCAG 2.1."""
+    parts = (int(colour_text[at : at + 2], 16) / 255 for at in (0, 2, 4))
+    red, green, blue = (it / 12.92 if it <= 0.04045 else ((it + 0.055) / 1.055) ** 2.4 for it in parts)
+    return 0.2126 * red + 0.7152 * green + 0.0722 * blue
+
+
+class Briefs(Room):
+    def test_all_numbers_are_those_of_the_reports(self):
+        for name in NAMES:
+            status, out, err = self.run_helper(brief.main, self.files(name))
+            self.assertEqual((status, err), (0, ""), name)
+            report = json.loads(read(f"{EXAMPLES}/{name}.report.json"))
+            lines, whole = out.splitlines(), int(report["weight"])
+            self.assertLessEqual(max(map(len, lines)), brief.WIDTH, name)
+            self.assertIn("Accepted: no path is better.", lines)
+            self.assertTrue(any(it.startswith(f"Chance to find them: {cut(int(report['chance']), whole)} %, ") for it in lines))
+            at = next(n for n, it in enumerate(lines) if it.startswith("period")) + 1
+            before, due = 0, []
+            for t, (position, so_far) in enumerate(zip(report["path"], map(int, report["periods"])), 1):
+                due.append([str(t), position, cut(so_far - before, whole), "%", cut(so_far, whole), "%"])
+                before = so_far
+            self.assertEqual([it.split() for it in lines[at : at + len(due)]], due, name)
+            self.check_left(lines, report, name)
+
+    def check_left(self, lines, report, name):
+        whole = int(report["weight"])
+        left = sorted(((it["cell"], int(it["mass"])) for it in report["left"] if it["mass"] != "0"), key=lambda it: -it[1])
+        missed = sum(mass for _, mass in left)
+        at = next(n for n, it in enumerate(lines) if it.startswith("If nothing was found"))
+        due = [[cell, cut(mass, whole), "%", cut(mass, missed), "%"] for cell, mass in left[:5]]
+        self.assertEqual([it.split() for it in lines[at + 2 : at + 2 + len(due)]], due, name)
+        self.assertEqual(lines[at + 2 + len(due)].split()[:4] if len(left) > 5 else None, [str(len(left) - 5), "more", "cells:", cut(sum(it[1] for it in left[5:]), whole)] if len(left) > 5 else None)
+
+    def test_a_whole_text(self):
+        """The plan of two-cells: its first look finds 8 of 16, its second 4 more."""
+        status, out, _ = self.run_helper(brief.main, [*self.files("two-cells"), "--from", "23:55", "--minutes", "5"])
+        lines = out.splitlines()
+        self.assertEqual(status, 0)
+        self.assertEqual(lines[:2] + lines[3:14], [
+            "SEARCH PLAN two-cells.scenario",
+            "Accepted: no path is better.",
+            "Chance to find them: 75.000 %, 2 looks, from a",
+            "",
+            "period  begins   look from     finds    so far",
+            "     1  23:55    a          50.000 %  50.000 %",
+            "     2  00:00+1  a          25.000 %  75.000 %",
+            "",
+            "If nothing was found, they are after look 2 in",
+            "cell    of all  of what is left",
+            "b     25.000 %        100.000 %",
+            "",
+            "Percent are cut off after three digits.",
+        ])
+
+
+class Refusals(Room):
+    """No page and no text of a plan that isn't accepted, nor of one that nobody judged: a status, and a line that says why."""
+
+    def both(self, words, status, part):
+        """What show and brief do with these words: this exit status, nothing written, and this part of what is said."""
+        for helper in (show, brief):
+            ended, out, err = self.run_helper(helper.main, words)
+            self.assertEqual((ended, out), (status, ""), err)
+            self.assertIn(part, err)
+
+    def with_program(self, script):
+        """Lets a script stand in for the program."""
+        program.OSP = self.write("program", b"#!/bin/sh\n" + script.encode())
+        os.chmod(program.OSP, 0o755)
+
+    def test_the_reason_is_said(self):
+        scenario, plan = self.files("two-cells")
+        other = self.files("one-cell")[0]
+        self.both([scenario, f"{EXAMPLES}/two-cells-lacking.plan"], 1, "the plan isn't accepted: rejected 8 MissingChild\n")
+        self.both([other, plan], 4, "bad plan: line 7 NoPlace\n")
+        self.both([plan, plan], 3, "bad scenario: line 1 BadLine\n")
+        self.both([self.room + "/none", plan], 5, "cannot read ")
+        self.both([self.room, plan], 5, "Is a directory")
+        self.both([scenario], 2, "usage: osp ")
+        self.both([scenario, plan, "--from", "1:00"], 2, "stand together")
+        with self.subTest("too long"), unittest.mock.patch.object(accepted, "MOST_INPUT", 100):
+            self.both([scenario, plan], 9, "input too long")
+
+    def test_a_plan_with_a_value_that_is_off_by_one(self):
+        scenario, plan = example("drifting-grid")
+        self.both([self.write("s", scenario), self.write("p", plan.replace(b"22473449177088000", b"22473449177088001"))], 1, "rejected 3 ValueWrong")
+
+    def test_a_program_that_does_not_answer(self):
+        files = self.files("two-cells")
+        for script, status, part in (
+            ("exit 0", 70, "neither accepted nor a reason"),
+            ("echo accepted", 70, "isn't understood"),
+            ("echo osp: rt is not there >&2; exit 70", 70, "rt is not there"),
+            ("kill -9 $$", 70, "ended with status -9"),
+            ("cat > /dev/null; echo no memory >&2; exit 7", 7, "no memory"),
+        ):
+            self.with_program(script)
+            self.both(files, status, part)
+        program.OSP = self.room + "/none"
+        self.both(files, 70, "cannot run ")
+
+    def test_a_report_that_is_another_ones(self):
+        """Each number of the report is held against the masses that the helper computes."""
+        right = read(f"{EXAMPLES}/two-cells.report").decode()
+        for old, new in (("period 1 a 8 50.000", "period 1 a 4 25.000"), ("period 1 a", "period 1 b"), ("left a 0 0.000\nleft b 4 25.000", "left a 4 25.000\nleft b 0 0.000"), ("left b", "left c"),
+                         ("chance 12 16", "chance 24 32"), ("period 2 a 12 75.000\n", "")):
+            self.assertIn(old, right)
+            self.with_program(f"cat > /dev/null; [ $1 = check ] && echo accepted || cat << 'END'\n{right.replace(old, new)}END")
+            self.both(self.files("two-cells"), 70, "aren't those of osp report" if "24 32" not in new else "isn't understood")
+        self.with_program(f"cat > /dev/null; [ $1 = check ] && echo accepted || cat << 'END'\n{right}END")
+        self.assertEqual(self.run_helper(brief.main, self.files("two-cells"))[0], 0)
+
+    def test_an_unproved_run_is_told(self):
+        right = read(f"{EXAMPLES}/two-cells.report").decode()
+        self.with_program(f"cat > /dev/null; echo 'osp: unproved run, since x' >&2; [ $1 = check ] && echo accepted || cat << 'END'\n{right}END")
+        with unittest.mock.patch.object(program, "TOP", self.room):
+            os.rename(program.OSP, self.room + "/osp")
+            program.OSP = self.room + "/osp"
+            for helper in (show, brief):
+                status, out, err = self.run_helper(helper.main, self.files("two-cells"))
+                self.assertEqual((status, err), (0, "osp: unproved run, since x\n"))
+                self.assertIn("Checked by an unproved run of the program.", out)
+
+    def test_output_that_cannot_be_written(self):
+        for helper in ("show", "brief"):
+            with open("/dev/full", "wb") as full:
+                how = {"cwd": os.path.dirname(EXAMPLES), "env": {**os.environ, "OSP": program.OSP, "PYTHONDONTWRITEBYTECODE": "1"}}
+                done = subprocess.run([sys.executable, "-m", "desk", helper, *self.files("one-cell")], stdout=full, stderr=subprocess.PIPE, check=False, **how)
+            self.assertEqual((done.returncode, done.stderr), (6, b"write fault: No space left on device\n"))
+
+
+class Program(Room):
+    def test_the_program_that_is_asked_gives_the_reports_of_the_examples(self):
+        """So that the other tests speak of the program, or of a stand-in that answers as it does."""
+        for name in NAMES:
+            given = b"".join(example(name))
+            self.assertEqual(program.ask(["check"], given).out, b"accepted\n", name)
+            self.assertEqual(program.ask(["report"], given).out, read(f"{EXAMPLES}/{name}.report"), name)
+
+
+if __name__ == "__main__":
+    unittest.main()

@@ -1,0 +1,202 @@
+"""Opens pages of `osp show` in headless Chromium, by Debian's driver, and writes what it saw as JSON to standard output.
+
+It is run by /usr/bin/python3, whose module selenium is Debian's: in_browser.py FOLDER PAGE.html ... The folder takes the pictures.
+It ends with status 77 and a reason where there is no browser.
+"""
+import base64
+import json
+import os
+import shutil
+import sys
+import time
+
+sys.dont_write_bytecode = True
+LACKING = 77
+DESKTOP, PHONE = (1280, 900), (390, 844)
+
+try:
+    from selenium import webdriver
+    from selenium.webdriver.chrome.service import Service
+    from selenium.webdriver.common.action_chains import ActionChains
+    from selenium.webdriver.common.by import By
+    from selenium.webdriver.common.keys import Keys
+except ImportError:
+    print("python3-selenium isn't installed for /usr/bin/python3", file=sys.stderr)
+    sys.exit(LACKING)
+
+
+def browser():
+    """A browser without a window, that keeps a log of all requests and of what its console says."""
+    program, driver = shutil.which("chromium"), shutil.which("chromedriver")
+    if not program or not driver:
+        print("chromium or chromium-driver isn't installed", file=sys.stderr)
+        sys.exit(LACKING)
+    options = webdriver.ChromeOptions()
+    options.binary_location = program
+    for word in ("--headless=new", "--no-sandbox", "--disable-gpu", "--disable-dev-shm-usage", "--hide-scrollbars"):
+        options.add_argument(word)
+    options.set_capability("goog:loggingPrefs", {"browser": "ALL", "performance": "ALL"})
+    return webdriver.Chrome(service=Service(driver), options=options)
+
+
+class Visit:
+    """A page in the browser."""
+
+    def __init__(self, seen_by, page, folder):
+        self.browser, self.page = seen_by, page
+        self.base = os.path.join(folder, os.path.splitext(os.path.basename(page))[0])
+
+    def open(self, size):
+        """Opens the page anew in a view of this size, in pixels."""
+        width, height = size
+        how = {"width": width, "height": height, "deviceScaleFactor": 1, "mobile": width < 500}
+        self.browser.execute_cdp_cmd("Emulation.setDeviceMetricsOverride", how)
+        self.browser.execute_cdp_cmd("Emulation.setFocusEmulationEnabled", {"enabled": True})
+        self.browser.get("file://" + self.page)
+
+    def run(self, script, *given):
+        return self.browser.execute_script(script, *given)
+
+    def element(self, selector):
+        return self.browser.find_element(By.CSS_SELECTOR, selector)
+
+    def press(self, *keys):
+        """Presses keys where the focus is."""
+        ActionChains(self.browser).send_keys(*keys).perform()
+        return self.state()
+
+    def state(self):
+        """What is to be seen: the periods of the maps, of the marked rows, of the slider, and what is said to a screen reader."""
+        return self.run(
+            """
+            const seen = (it) => it.getClientRects().length > 0;
+            const slider = document.getElementById("period");
+            return {
+              maps: [...document.querySelectorAll(".frame")].filter(seen).map((it) => it.id),
+              rows: [...document.querySelectorAll("tr.here")].map((it) => it.dataset.period),
+              slider: slider && slider.value, told: slider && slider.getAttribute("aria-valuetext"),
+              live: slider && document.getElementById("said").textContent,
+              play: slider && document.getElementById("play").textContent,
+              shares: [...document.querySelectorAll(".frame text.of-all, .frame text.of-left")].filter(seen).map((it) => it.textContent),
+            };"""
+        )
+
+    def picture(self, name):
+        """A picture of the whole page as it stands."""
+        size = self.run("const it = document.documentElement; return [it.scrollWidth, it.scrollHeight]")
+        clip = {"x": 0, "y": 0, "width": size[0], "height": size[1], "scale": 1}
+        taken = self.browser.execute_cdp_cmd("Page.captureScreenshot", {"captureBeyondViewport": True, "clip": clip})
+        with open(f"{self.base}-{name}.png", "wb") as file:
+            file.write(base64.b64decode(taken["data"]))
+        return size
+
+    def pdf(self):
+        """The page as it is printed on A4, without backgrounds."""
+        taken = self.browser.execute_cdp_cmd("Page.printToPDF", {"paperWidth": 8.27, "paperHeight": 11.69, "printBackground": False})
+        with open(f"{self.base}.pdf", "wb") as file:
+            file.write(base64.b64decode(taken["data"]))
+
+    def printed(self):
+        """What is to be seen in print."""
+        self.browser.execute_cdp_cmd("Emulation.setEmulatedMedia", {"media": "print"})
+        seen = self.state()
+        hidden = self.run("return [...document.querySelectorAll('.controls, fieldset, .tip')].every((it) => it.getClientRects().length === 0)")
+        self.browser.execute_cdp_cmd("Emulation.setEmulatedMedia", {"media": ""})
+        return {"maps": seen["maps"], "no_controls": hidden}
+
+    def logs(self):
+        """The addresses that were asked for since the last call, and what the console said."""
+        events = [json.loads(it["message"])["message"] for it in self.browser.get_log("performance")]
+        asked = [it["params"]["request"]["url"] for it in events if it["method"] == "Network.requestWillBeSent"]
+        return {"asked": asked, "console": [it["message"] for it in self.browser.get_log("browser")]}
+
+
+def by_keyboard(visit):
+    """Goes through the periods by keys alone, from the top of the page."""
+    seen = {"end": visit.press(Keys.END), "left": visit.press(Keys.ARROW_LEFT), "home": visit.press(Keys.HOME)}
+    seen["right"] = visit.press(Keys.ARROW_RIGHT, Keys.ARROW_RIGHT)
+    visit.run("document.getElementById('period').focus()")
+    seen["slider"] = visit.press(Keys.ARROW_RIGHT)
+    visit.run("document.querySelector('tr[data-period=\"1\"] .step').focus()")
+    seen["row"] = visit.press(Keys.ENTER)
+    return seen
+
+
+def stops(visit):
+    """All that Tab comes to, from the top of the page, in order."""
+    visit.run("document.activeElement.blur(); window.scrollTo(0, 0)")
+    visit.browser.get("file://" + visit.page)
+    seen = []
+    for _ in range(400):
+        ActionChains(visit.browser).send_keys(Keys.TAB).perform()
+        at = visit.run("const it = document.activeElement; return it === document.body ? null : it.id || it.className || it.tagName + ' ' + it.value")
+        if at is None:
+            break
+        seen.append(at)
+    return seen
+
+
+def fraction(visit):
+    """The box of the first exact fraction: whether it is seen before the focus comes, with it, and after Escape."""
+    look = "return getComputedStyle(document.querySelector('.exact .tip')).visibility"
+    before = visit.run(look)
+    visit.run("document.querySelector('.exact').focus()")
+    with_focus = visit.run(look)
+    visit.press(Keys.ESCAPE)
+    after = visit.run(look)
+    ActionChains(visit.browser).move_to_element(visit.element(".exact")).perform()
+    return {"before": before, "focus": with_focus, "escape": after, "hover": visit.run(look)}
+
+
+def played(visit):
+    """Plays from the start to the end, and then once more with a stop."""
+    visit.press(Keys.HOME)
+    visit.element("#play").click()
+    seen = [visit.state()]
+    ends = time.monotonic() + 60
+    while seen[-1]["play"] == "Pause" and time.monotonic() < ends:
+        time.sleep(0.1)
+        now = visit.state()
+        if now != seen[-1]:
+            seen.append(now)
+    visit.element("#play").click()
+    visit.element("#play").click()
+    stopped = visit.state()
+    time.sleep(1.5)
+    return {"seen": seen, "stopped": stopped, "later": visit.state()}
+
+
+def slid(visit):
+    """Moves the slider by the mouse to its end."""
+    slider = visit.element("#period")
+    ActionChains(visit.browser).move_to_element(slider).click_and_hold().move_by_offset(slider.size["width"] // 2 - 2, 0).release().perform()
+    return visit.state()
+
+
+def visited(seen_by, page, folder):
+    """All that is tried on a page."""
+    visit = Visit(seen_by, page, folder)
+    visit.open(PHONE)
+    seen = {"phone": visit.picture("phone")}
+    visit.open(DESKTOP)
+    seen |= {"title": seen_by.title, "first": visit.state(), "stops": stops(visit), "printed": visit.printed()}
+    seen["made"] = visit.run("return [...document.querySelectorAll('script, img, iframe, object, link, a')].map((it) => it.tagName)")
+    seen["owned"] = visit.run("return window.owned === undefined ? null : String(window.owned)")
+    if seen["first"]["slider"] is not None:
+        seen |= {"fraction": fraction(visit), "slid": slid(visit), "keys": by_keyboard(visit), "played": played(visit)}
+        visit.press(Keys.HOME, *[Keys.ARROW_RIGHT] * 5)
+        visit.element("input[value=of-left]").click()
+        seen["of_left"] = visit.state()
+        visit.element("input[value=of-all]").click()
+    seen["desktop"] = visit.picture("desktop")
+    visit.pdf()
+    return seen | visit.logs()
+
+
+def main(folder, pages):
+    with browser() as seen_by:
+        json.dump({os.path.basename(it): visited(seen_by, it, folder) for it in pages}, sys.stdout)
+
+
+if __name__ == "__main__":
+    main(sys.argv[1], [os.path.realpath(it) for it in sys.argv[2:]])
