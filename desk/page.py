@@ -55,7 +55,7 @@ def header(search):
         f'<header><h1>Search plan <bdi>{escape(search.name)}</bdi></h1><div class="verdict">'
         f'<p class="chance"><strong>{search.report.percent}&nbsp;%</strong> chance to find them in {plural(search.sc.horizon, "look")}</p>'
         f'<p class="accepted">Accepted: no path is better.<small>{escape(search.checked_by)}</small></p></div>'
-        '<p class="note">Percentages are cut off after three digits. The chance is exact for the numbers of the scenario, and as good as these.</p>'
+        '<p class="note">Percentages are cut off after three digits. The chance is exact for the numbers of the scenario, and as good as they are.</p>'
         f"{own}</header>"
     )
 
@@ -104,11 +104,13 @@ def sign(drawing, text):
 
 def signs():
     """What the signs of the map say."""
+    way = picture.drawn(picture.leg((-26, 0), (26, 0), 0))
     return (
         '<ul class="signs" aria-label="Signs of the map">'
         + sign('<g class="searcher"><circle r="15"/><text y="5.5">4</text></g>', "searcher, in this period")
-        + sign('<g class="gone"><path d="M-26 0H26"/><path class="arrow" d="M12 0L-6 -9L-6 9Z"/></g>', "the way so far")
-        + sign('<g class="coming"><path d="M-26 0H26"/><path class="arrow" d="M12 0L-6 -9L-6 9Z"/></g>', "the way to come")
+        + sign(f'<g class="now">{way}</g>', "this move")
+        + sign(f'<g class="gone">{way}</g>', "moves before")
+        + sign(f'<g class="coming">{way}</g>', "moves to come")
         + sign('<g class="covers"><rect class="small" x="-18" y="-15"/></g>', "seen by this look")
         + sign('<circle class="start" r="9"/>', "start")
         + sign('<g class="visits"><text x="18" y="6">3·5</text></g>', "periods of looks from there")
@@ -132,7 +134,7 @@ def controls(count):
 
 def map_section(search, drawn, clock):
     """The maps with all that belongs to them."""
-    metres = " North is up." if drawn.layout.metres else ""
+    metres = f" North is up; a square is {drawn.layout.side:g} m wide." if drawn.layout.metres else ""
     off = {search.positions[search.frames[at].position] for at, place in enumerate(drawn.way) if place is None}
     lacking = f" Not on the map: {escape(', '.join(sorted(off)))}." if off else ""
     note = (

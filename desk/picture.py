@@ -7,7 +7,7 @@ from desk import masses
 # The side of a cell and the margin around the cells, in units of the picture.
 SIDE, MARGIN = 100, 14
 # How much further a leg of the path bows to its right each time that it is gone again, in either direction.
-BOW = 17
+BOW = 15
 # The longest name that is drawn whole in a cell.
 MOST_LETTERS = 13
 # How long a name may be so that the periods of looks stand beside it, and not below.
@@ -124,13 +124,10 @@ class Picture:
         return f'<g class="covers">{"".join(drawn)}</g>'
 
     def path(self, frame):
-        """The way that is to come, faint, and the way so far, with an arrow on each leg."""
-        coming = "".join(f'<path d="{it[0]}"/>' for it in self.legs[frame.period :] if it)
-        gone = [it for it in self.legs[: frame.period] if it]
-        under = "".join(f'<path class="under" d="{it[0]}"/>' for it in gone)
-        over = "".join(f'<path d="{it[0]}"/><path class="arrow" d="{it[1]}"/>' for it in gone)
-        arrows = "".join(f'<path class="arrow" d="{it[1]}"/>' for it in self.legs[frame.period :] if it)
-        return f'<g class="coming">{coming}{arrows}</g><g class="gone">{under}{over}</g>{self.start()}'
+        """The way that is to come, the way before this period, and this period's move on top, with an arrow on each leg."""
+        t = frame.period
+        parts = (("coming", self.legs[t:]), ("gone", self.legs[: max(t - 1, 0)]), ("now", self.legs[max(t - 1, 0) : t]))
+        return "".join(f'<g class="{name}">{"".join(drawn(it) for it in legs if it)}</g>' for name, legs in parts) + self.start()
 
     def start(self):
         """A ring where the searcher is before period 1."""
@@ -165,6 +162,12 @@ class Picture:
         return f'<g class="searcher" aria-hidden="true"><circle cx="{number(x)}" cy="{number(y)}" r="15"/>{digits}</g>'
 
 
+def drawn(curve_and_arrow):
+    """A leg as SVG: a light line below it, the line, its arrow."""
+    curve, arrow = curve_and_arrow
+    return f'<path class="under" d="{curve}"/><path d="{curve}"/><path class="arrow" d="{arrow}"/>'
+
+
 def leg(one, other, bow):
     """A curve from one place to another that bows to the right of its course, and the arrow in its middle, as path data."""
     dx, dy = other[0] - one[0], other[1] - one[1]
@@ -173,7 +176,9 @@ def leg(one, other, bow):
     bend = (one[0] + other[0]) / 2 - ey * 2 * bow, (one[1] + other[1]) / 2 + ex * 2 * bow
     curve = f"M{number(one[0])} {number(one[1])}Q{number(bend[0])} {number(bend[1])} {number(other[0])} {number(other[1])}"
     x, y = (one[0] + other[0]) / 4 + bend[0] / 2, (one[1] + other[1]) / 4 + bend[1] / 2
-    corners = [(x + ex * 10, y + ey * 10), (x - ex * 8 - ey * 9, y - ey * 8 + ex * 9), (x - ex * 8 + ey * 9, y - ey * 8 - ex * 9)]
+    tip, back, half = 9, 6, 7
+    wide = -ey * half, ex * half
+    corners = [(x + ex * tip, y + ey * tip), *((x - ex * back + way * wide[0], y - ey * back + way * wide[1]) for way in (1, -1))]
     return curve, "M" + "L".join(f"{number(px)} {number(py)}" for px, py in corners) + "Z"
 
 

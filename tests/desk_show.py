@@ -249,7 +249,9 @@ class Pages(Room):
             self.assertEqual(f"r{int(at['cy']) // 100}c{int(at['cx']) // 100}", name)
             self.assertEqual(figure.one("g", class_="searcher").one("text").text(), str(t or "S"))
             self.assertIn(name, figure.one("strong").text())
-            self.assertEqual(len(list(figure.one("g", class_="gone").all("path", class_="arrow"))), sum(a != b for a, b in zip(["r0c0", *path][:t], path[:t])))
+            arrows = [len(list(figure.one("g", class_=it).all("path", class_="arrow"))) for it in ("gone", "now", "coming")]
+            moves = [a != b for a, b in zip(["r0c0", *path], path)]
+            self.assertEqual(arrows, [sum(moves[: max(t - 1, 0)]), sum(moves[max(t - 1, 0) : t]), sum(moves[t:])])
 
     def test_the_numbers_behind_it(self):
         told, _ = self.page("drifting-grid")
@@ -331,7 +333,7 @@ class Drawing(unittest.TestCase):
     def test_a_leg_that_is_gone_again_is_another_curve(self):
         """The arrow of a straight leg lies in its middle and points along it; the next one lies to its right (south of a way east)."""
         curve, arrow = picture.leg((0, 0), (100, 0), 0)
-        self.assertEqual((curve, arrow), ("M0 0Q50 0 100 0", "M60 0L42 9L42 -9Z"))
+        self.assertEqual((curve, arrow), ("M0 0Q50 0 100 0", "M59 0L44 7L44 -7Z"))
         self.assertEqual(picture.leg((0, 0), (100, 0), 12)[0], "M0 0Q50 24 100 0")
 
     def test_the_comment_at_the_front(self):

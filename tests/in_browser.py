@@ -180,6 +180,7 @@ def visited(seen_by, page, folder):
     seen = {"phone": visit.picture("phone")}
     visit.open(DESKTOP)
     seen |= {"title": seen_by.title, "first": visit.state(), "stops": stops(visit), "printed": visit.printed()}
+    seen["text"] = visit.run("return document.body.innerText")
     seen["made"] = visit.run("return [...document.querySelectorAll('script, img, iframe, object, link, a')].map((it) => it.tagName)")
     seen["owned"] = visit.run("return window.owned === undefined ? null : String(window.owned)")
     if seen["first"]["slider"] is not None:
