@@ -46,7 +46,7 @@ def left(search):
     lines += [[search.cells[it], percent(last.left[it], whole), percent(last.left[it], last.missed)] for it in order[:MOST_LEFT]]
     more = len(order) - MOST_LEFT
     rest = sum(last.left[it] for it in order[MOST_LEFT:])
-    return [head, *rows_of(lines, [True, False, False]), *([f"{more} more cells: {percent(rest, whole)} of all"] if more > 0 else [])]
+    return [head, *rows_of(lines, [True, False, False]), *([f"and in {more} more: {percent(rest, whole)} of all"] if more > 0 else [])]
 
 
 def text_of(search, times):

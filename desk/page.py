@@ -9,7 +9,9 @@ from desk import masses, picture, tables
 
 HERE = os.path.dirname(os.path.realpath(__file__))
 # The least width of a cell on a screen, in pixels: below it a map can be moved sideways.
-LEAST_CELL = 40
+LEAST_CELL = 36
+# A map of more columns than these has the whole width of the page.
+MOST_BESIDE = 15
 # How much of the comments at the front of a scenario a page repeats, in characters.
 MOST_COMMENT = 4_000
 # How many of the likeliest cells the text above a map names.
@@ -42,18 +44,13 @@ def comment(text):
     return clean if len(clean) <= MOST_COMMENT else clean[:MOST_COMMENT] + " …"
 
 
-def plural(count, one):
-    """A count with its noun."""
-    return f"{count} {one}" if count == 1 else f"{count} {one}s"
-
-
 def header(search):
     """The name of the scenario, the verdict, the chance, and what the scenario says of itself."""
-    said = comment(search.text)
+    said, looks = comment(search.text), tables.plural(search.sc.horizon, "look")
     own = f"<details><summary>What the scenario says of itself</summary><pre>{escape(said)}</pre></details>" if said else ""
     return (
         f'<header><h1>Search plan <bdi>{escape(search.name)}</bdi></h1><div class="verdict">'
-        f'<p class="chance"><strong>{search.report.percent}&nbsp;%</strong> chance to find them in {plural(search.sc.horizon, "look")}</p>'
+        f'<p class="chance"><strong>{search.report.percent}&nbsp;%</strong> chance to find them in {looks}</p>'
         f'<p class="accepted">Accepted: no path is better.<small>{escape(search.checked_by)}</small></p></div>'
         '<p class="note">Percentages are cut off after three digits. The chance is exact for the numbers of the scenario, and as good as they are.</p>'
         f"{own}</header>"
@@ -75,10 +72,10 @@ def likeliest(search, frame):
 def caption(search, frame, clock):
     """What a map says, in words."""
     whole = search.report.weight
-    time = f"{clock.at(frame.period)}, " if clock and frame.period else ""
+    time = f" ({clock.at(frame.period)} to {clock.at(frame.period + 1)})" if clock and frame.period else ""
     head = escape(picture.when(search, frame))
     found = f"This look finds {masses.percent(frame.found, whole)}&nbsp;%; found so far {masses.percent(frame.so_far, whole)}&nbsp;%. "
-    return f"<figcaption><strong>{time}{head[0].upper()}{head[1:]}</strong>{found if frame.period else ''}{likeliest(search, frame)}</figcaption>"
+    return f"<figcaption><strong>{head[0].upper()}{head[1:]}{time}</strong>{found if frame.period else ''}{likeliest(search, frame)}</figcaption>"
 
 
 def figures(search, drawn, clock):
@@ -168,8 +165,9 @@ def main_part(search, drawn, why, clock):
     periods = tables.periods(search, clock, drawn is not None)
     if drawn is None:
         return f"<main>{periods}{tables.left(search)}{tables.all_cells(search, True)}{no_map(why)}{tables.numbers(search)}</main>"
-    first = f'<div class="columns two">{map_section(search, drawn, clock)}<div class="beside">{periods}{tables.left(search)}</div></div>'
-    return f"<main>{first}{tables.all_cells(search, False)}{tables.numbers(search)}</main>"
+    two = " two" if drawn.columns() <= MOST_BESIDE else ""
+    first = f'<div class="columns{two}">{map_section(search, drawn, clock)}<div class="beside">{periods}{tables.left(search)}</div></div>'
+    return f'<main class="with-map">{first}{tables.all_cells(search, False)}{tables.numbers(search)}</main>'
 
 
 def document(search, drawn, why, clock=None):

@@ -7,9 +7,11 @@ from desk import masses
 # The side of a cell and the margin around the cells, in units of the picture.
 SIDE, MARGIN = 100, 14
 # How much further a leg of the path bows to its right each time that it is gone again, in either direction.
-BOW = 15
+BOW, MOST_BOWS = 15, 3
 # The longest name that is drawn whole in a cell.
 MOST_LETTERS = 13
+# How many ranges of periods a cell's label has.
+MOST_RANGES = 3
 # How long a name may be so that the periods of looks stand beside it, and not below.
 LETTERS_BESIDE = 6
 # The greatest and the widest writing of names, in units, and the width of a letter in parts of its height.
@@ -85,7 +87,7 @@ class Picture:
                 continue
             ends = frozenset((one, other))
             gone[ends] = gone.get(ends, -1) + 1
-            legs.append(leg(one, other, BOW * gone[ends]))
+            legs.append(leg(one, other, BOW * min(gone[ends], MOST_BOWS)))
         return legs
 
     def visits(self, period):
@@ -183,14 +185,15 @@ def leg(one, other, bow):
 
 
 def ranges(times):
-    """Numbers of periods in short, as in 1·4–6."""
+    """Numbers of periods in short, as in 1·4–6, and cut where there are too many for a cell."""
     told = []
     for t in times:
         if told and told[-1][1] == t - 1:
             told[-1][1] = t
         else:
             told.append([t, t])
-    return "·".join(f"{first}" if first == last else f"{first}–{last}" for first, last in told)
+    texts = [f"{first}" if first == last else f"{first}–{last}" for first, last in told]
+    return "·".join(texts if len(texts) <= MOST_RANGES else [*texts[: MOST_RANGES - 1], "…"])
 
 
 def when(search, frame):

@@ -5,6 +5,13 @@ from desk import masses, picture
 
 # How many cells the table of what is left names.
 MOST_LEFT = 10
+# How many looks a table of all cells has side by side, so that it fits on paper.
+MOST_COLUMNS = 11
+
+
+def plural(count, one):
+    """A count with its noun."""
+    return f"{count} {one}" if count == 1 else f"{count} {one}s"
 
 
 def table(caption, heads, rows):
@@ -74,26 +81,33 @@ def left(search):
     caption = f"After look {last.period}. All cells together hold {masses.percent(last.missed, whole)} % of all."
     rows = [left_row(search, it) for it in order[:MOST_LEFT]]
     rest = sum(last.left[it] for it in order[MOST_LEFT:])
-    more = f"<p class=note>{len(order) - MOST_LEFT} more cells hold {masses.percent(rest, whole)} % of all together.</p>" if rest else ""
+    more = f"<p class=note>The rest, in {plural(len(order) - MOST_LEFT, 'cell')}: {masses.percent(rest, whole)} % of all.</p>" if rest else ""
     return f'<section class="left">{head}{table(caption, heads, rows)}{more}</section>'
 
 
-def all_row(search, cell):
-    """The row of a cell, with its share after each look."""
+def all_row(search, cell, frames):
+    """The row of a cell, with its share after each of these looks."""
     whole = search.report.weight
-    told = ((it.left[cell], picture.class_of(it.left[cell], whole)) for it in search.frames)
+    told = ((it.left[cell], picture.class_of(it.left[cell], whole)) for it in frames)
     shares = (f'<td class="number a{colour}" title="{mass} of {whole}">{picture.share(mass, whole)}</td>' for mass, colour in told)
     return f'<tr><th scope="row"><bdi>{escape(search.cells[cell])}</bdi></th>{"".join(shares)}</tr>'
 
 
-def all_cells(search, is_open):
-    """The table of all cells after all looks, which says in numbers what the maps say in colours."""
-    heads = [("Cell", False), ("before", True), *((f"look {it.period}", True) for it in search.frames[1:])]
-    rows = [all_row(search, it) for it in range(len(search.cells))]
-    found = "".join(f'<td class="number">{picture.share(it.so_far, search.report.weight)}</td>' for it in search.frames)
+def some_looks(search, frames):
+    """The table of all cells after these looks."""
+    heads = [("Cell", False), *((f"look {it.period}" if it.period else "before", True) for it in frames)]
+    rows = [all_row(search, it, frames) for it in range(len(search.cells))]
+    found = "".join(f'<td class="number">{picture.share(it.so_far, search.report.weight)}</td>' for it in frames)
     rows.append(f'<tr class="sum"><th scope="row">found so far</th>{found}</tr>')
     caption = "Percent of all: how likely they are in the cell, and missed by all looks so far. With what was found, each column sums to 100."
-    inner = f'<div class="scroll" tabindex="0" role="region" aria-label="All cells after all looks">{table(caption, heads, rows)}</div>'
+    return table(caption, heads, rows)
+
+
+def all_cells(search, is_open):
+    """The tables of all cells after all looks, which say in numbers what the maps say in colours."""
+    parts = (search.frames[at : at + MOST_COLUMNS] for at in range(0, len(search.frames), MOST_COLUMNS))
+    told = "".join(some_looks(search, it) for it in parts)
+    inner = f'<div class="scroll" tabindex="0" role="region" aria-label="All cells after all looks">{told}</div>'
     if is_open:
         return f'<section class="all"><h2>Where they may be after each look</h2>{inner}</section>'
     return f'<details class="all"><summary>All cells after all looks, as a table</summary>{inner}</details>'
@@ -106,8 +120,8 @@ def numbers(search):
     rows = [
         ("Chance", f"{search.report.value} of {search.report.weight}"),
         ("Denominators", f"first distribution {a}, drift {d}, looks {g}; the whole is {a} · {d}<sup>{t - 1}</sup> · {g}<sup>{t}</sup>"),
-        ("Size", f"{t} periods, {len(search.cells)} cells, {len(search.positions)} positions of the searcher"),
-        ("Plan", f"text of version {search.version}, {search.records} records, which show that no path is better"),
+        ("Size", f"{plural(t, 'period')}, {plural(len(search.cells), 'cell')}, {plural(len(search.positions), 'position')} of the searcher"),
+        ("Plan", f"text of version {search.version}, {plural(search.records, 'record')}: they show that no path is better"),
     ]
     told = "".join(f"<dt>{name}</dt><dd>{text}</dd>" for name, text in rows)
     sums = (("SHA-256 of the scenario", search.scenario_sum), ("SHA-256 of the plan", search.plan_sum))

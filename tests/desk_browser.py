@@ -103,23 +103,23 @@ class Hostile(Room):
 
     def test_markup(self):
         """All that is hostile comes out as text, and the page has the elements that it has without it."""
-        plain, made = page_file(self, "drifting-grid"), page_file(self, "drifting-grid", "<svg onload=owned=4>&amp;\"'`.scenario", lambda it: COMMENTS + it)
+        plain, made = page_file(self, "kayaker"), page_file(self, "kayaker", "<svg onload=owned=4>&amp;\"'`.scenario", lambda it: COMMENTS + it)
         told, same = tree(made[1]), tree(plain[1])
         self.assertEqual([it.tag for it in told.all()], [it.tag for it in same.all()])
         self.assertEqual(told.one("h1").one("bdi").text(), "<svg onload=owned=4>&amp;\"'`.scenario")
         self.assertEqual(told.one("head").one("title").text(), "Search plan <svg onload=owned=4>&amp;\"'`.scenario")
         self.assertIn(MARKUP, told.one("pre").text())
-        status, text, _ = self.run_helper(brief.main, [os.path.join(self.room, "<svg onload=owned=4>&amp;\"'`.scenario"), os.path.join(self.room, "drifting-grid.plan")])
+        status, text, _ = self.run_helper(brief.main, [os.path.join(self.room, "<svg onload=owned=4>&amp;\"'`.scenario"), os.path.join(self.room, "kayaker.plan")])
         self.assertEqual(status, 0)
         self.assertNotIn(MARKUP, text)
 
 
 def pages_for(room):
     """The pages that are opened in the browser, by what they are for."""
-    plain, _ = page_file(room, "drifting-grid")
+    plain, _ = page_file(room, "kayaker")
     table, _ = page_file(room, "swath")
     swath, _ = page_file(room, "swath", "swath-map.scenario", lambda it: PLACES.encode() + it)
-    hostile, _ = page_file(room, "drifting-grid", "<svg onload=owned=4>.scenario", lambda it: COMMENTS + it)
+    hostile, _ = page_file(room, "kayaker", "<svg onload=owned=4>.scenario", lambda it: COMMENTS + it)
     # A page as one would be that escapes nothing: it shows that the browser's logs would tell.
     broken = re.sub(r"<meta http-equiv[^>]*>", "", read(plain).decode()).replace("<h1>", f"<h1>{MARKUP.removeprefix('</title></script>')}")
     return {"grid": plain, "table": table, "swath": swath, "hostile": hostile, "broken": room.write("broken.html", broken.encode())}
@@ -157,17 +157,17 @@ class Browser(unittest.TestCase):
 
     def at(self, state, period, name="grid"):
         """Holds what is seen against a period: one map, its row of the table, the slider, and the words for a screen reader."""
-        report = json.loads(read(f"{EXAMPLES}/drifting-grid.report.json"))
-        told = f"After look {period}, from {report['path'][period - 1]}" if period else "Before the first look; the searcher is at r0c0"
+        report = json.loads(read(f"{EXAMPLES}/kayaker.report.json"))
+        told = f"After look {period}, from {report['path'][period - 1]}" if period else "Before the first look; the searcher is at r6c3"
         self.assertEqual((state["maps"], state["rows"], state["slider"], state["told"]), ([f"after-{period}"], [str(period)] if period else [], str(period), told))
 
     def test_it_opens_before_the_first_look(self):
         self.at(self.seen["grid"]["first"], 0)
-        self.assertEqual(self.seen["grid"]["title"], "Search plan drifting-grid.scenario")
+        self.assertEqual(self.seen["grid"]["title"], "Search plan kayaker.scenario")
 
     def test_the_slider(self):
         self.at(self.seen["grid"]["slid"], 8)
-        self.assertTrue(self.seen["grid"]["slid"]["live"].startswith("After look 8, from r4c3\n"))
+        self.assertTrue(self.seen["grid"]["slid"]["live"].startswith("After look 8, from r3c2\n"))
 
     def test_keys(self):
         seen = self.seen["grid"]["keys"]
@@ -209,7 +209,7 @@ class Browser(unittest.TestCase):
         if not shutil.which("pdftotext"):
             self.skipTest("pdftotext (poppler-utils) isn't installed")
         told = subprocess.run(["pdftotext", "-layout", self.base["grid"] + ".pdf", "-"], capture_output=True, text=True, check=True).stdout
-        for part in ("17.557", "Accepted: no path is better.", *(f"After look {it}, from" for it in range(1, 9)), "22473449177088000 of 128000000000000000"):
+        for part in ("64.127", "Accepted: no path is better.", *(f"After look {it}, from" for it in range(1, 9)), "246250902200800000 of 384000000000000000"):
             self.assertIn(part, told)
         self.assertNotIn("Play", told)
 

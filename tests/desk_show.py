@@ -14,7 +14,7 @@ sys.path.insert(0, os.path.dirname(os.path.realpath(__file__)))
 
 from pages import EXAMPLES, PLACES, Room, example, read, tree  # noqa: E402
 
-from desk import accepted, brief, clock, forms, layout, masses, page, picture, program, reports, show  # noqa: E402
+from desk import accepted, brief, clock, forms, layout, masses, page, picture, program, reports, show, tables  # noqa: E402
 
 NAMES = sorted(it[:-7] for it in os.listdir(EXAMPLES) if it.endswith(".report"))
 getcontext().prec = 120
@@ -240,6 +240,15 @@ class Pages(Room):
         seen = sc.look(t, position) if t else {}
         self.assertEqual(outlined, {(float(squares[it].attributes["x"]) + 49, float(squares[it].attributes["y"]) + 49) for it, part in seen.items() if part < sc.parts[2]})
 
+    def test_many_looks_are_split_into_tables_that_fit_on_paper(self):
+        whole, _ = self.page("tide")
+        with unittest.mock.patch.object(tables, "MOST_COLUMNS", 3):
+            parts, _ = self.new_page("tide", b"", ())
+        texts = [[[it.text() for it in row.all() if it.tag in ("th", "td")] for row in part.all("tr")] for part in parts.one("section", class_="all").all("table")]
+        self.assertEqual([len(it[0]) for it in texts], [4, 4, 2])
+        joined = [rows[0] + [cell for row in rows[1:] for cell in row[1:]] for rows in zip(*texts)]
+        self.assertEqual(joined, [[it.text() for it in row.all() if it.tag in ("th", "td")] for row in whole.one("section", class_="all").all("tr")])
+
     def test_the_searcher_stands_where_the_path_says(self):
         told, _ = self.page("drifting-grid")
         path = json.loads(read(f"{EXAMPLES}/drifting-grid.report.json"))["path"]
@@ -256,7 +265,7 @@ class Pages(Room):
     def test_the_numbers_behind_it(self):
         told, _ = self.page("drifting-grid")
         said = told.one("section", class_="numbers").text()
-        for part in ("22473449177088000 of 128000000000000000", "first distribution 1, drift 20, looks 10", "8 periods, 49 cells", "version 2, 1288 records"):
+        for part in ("22473449177088000 of 128000000000000000", "first distribution 1, drift 20, looks 10", "8 periods, 49 cells", "version 2, 1288 records:"):
             self.assertIn(part, said)
         sums = [subprocess.run(["sha256sum"], input=it, capture_output=True, check=True).stdout.decode()[:64] for it in example("drifting-grid")]
         self.assertEqual([it.text() for it in told.all("dd", class_="sum")], sums)
@@ -265,13 +274,13 @@ class Pages(Room):
         scenario, plan = self.write("s", example("two-cells")[0].rstrip(b"\n")), f"{EXAMPLES}/two-cells-1.plan"
         status, out, err = self.run_helper(show.main, [scenario, plan])
         self.assertEqual((status, err), (0, ""))
-        self.assertIn("text of version 1, 5 records", out)
+        self.assertIn("text of version 1, 5 records:", out)
 
     def test_times_stand_in_the_table_and_above_the_maps(self):
-        told, _ = self.page("drifting-grid", words=["--from", "23:50", "--minutes", "7"])
+        told, _ = self.page("kayaker", words=["--from", "23:50", "--minutes", "7"])
         rows = self.rows(told, "periods")
         self.assertEqual([next(it.all("td")).text() for it in rows][:3], ["23:50", "23:57", "00:04+1"])
-        self.assertTrue(told.one("figure", id="after-2").one("strong").text().startswith("23:57, After look 2"))
+        self.assertEqual(told.one("figure", id="after-2").one("strong").text(), "After look 2, from r4c3 (23:57 to 00:04+1)")
 
     def test_what_helps_a_screen_reader(self):
         for name, more in (("drifting-grid", b""), ("swath", PLACES.encode()), ("night", b"")):
@@ -327,7 +336,7 @@ class Drawing(unittest.TestCase):
             self.assertGreaterEqual(1.05 / (of[name] + 0.05), 4.5, name)
 
     def test_ranges_and_short_names(self):
-        self.assertEqual([picture.ranges(it) for it in ([3], [1, 2], [1, 3, 4, 5, 8])], ["3", "1–2", "1·3–5·8"])
+        self.assertEqual([picture.ranges(it) for it in ([3], [1, 2], [1, 3, 4, 5, 8], [1, 3, 5, 7, 9])], ["3", "1–2", "1·3–5·8", "1·3·…"])
         self.assertEqual([picture.short(it) for it in ("a" * 13, "a" * 14)], ["a" * 13, "a" * 12 + "…"])
 
     def test_a_leg_that_is_gone_again_is_another_curve(self):
@@ -374,7 +383,8 @@ class Briefs(Room):
         at = next(n for n, it in enumerate(lines) if it.startswith("If nothing was found"))
         due = [[cell, cut(mass, whole), "%", cut(mass, missed), "%"] for cell, mass in left[:5]]
         self.assertEqual([it.split() for it in lines[at + 2 : at + 2 + len(due)]], due, name)
-        self.assertEqual(lines[at + 2 + len(due)].split()[:4] if len(left) > 5 else None, [str(len(left) - 5), "more", "cells:", cut(sum(it[1] for it in left[5:]), whole)] if len(left) > 5 else None)
+        rest = f"and in {len(left) - 5} more: {cut(sum(it[1] for it in left[5:]), whole)} % of all" if len(left) > 5 else ""
+        self.assertEqual(lines[at + 2 + len(due) if left else -4], rest, name)
 
     def test_a_whole_text(self):
         """The plan of two-cells: its first look finds 8 of 16, its second 4 more."""
@@ -427,8 +437,8 @@ class Refusals(Room):
             self.both([scenario, plan], 9, "input too long")
 
     def test_a_plan_with_a_value_that_is_off_by_one(self):
-        scenario, plan = example("drifting-grid")
-        self.both([self.write("s", scenario), self.write("p", plan.replace(b"22473449177088000", b"22473449177088001"))], 1, "rejected 3 ValueWrong")
+        scenario, plan = example("kayaker")
+        self.both([self.write("s", scenario), self.write("p", plan.replace(b"246250902200800000", b"246250902200800001"))], 1, "rejected 3 ValueWrong")
 
     def test_a_program_that_does_not_answer(self):
         files = self.files("two-cells")
