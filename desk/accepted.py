@@ -78,6 +78,11 @@ def read_file(name):
     return text
 
 
+def joined(scenario, plan):
+    """The input of `check`: a scenario and a plan, with a line feed between them where the scenario lacks its last one."""
+    return scenario + (b"" if scenario.endswith(b"\n") else b"\n") + plan
+
+
 def asked(word, given):
     """What the program answers to one of its commands. Raises Refused where it doesn't end well."""
     try:
@@ -116,7 +121,7 @@ def agree(sc, report, told):
 def load(scenario_name, plan_name):
     """Reads both files, asks `check` and then `report`, and computes the masses. Raises Refused where that leads to no answer."""
     scenario, plan = read_file(scenario_name), read_file(plan_name)
-    given = scenario + (b"" if scenario.endswith(b"\n") else b"\n") + plan
+    given = joined(scenario, plan)
     verdict, note = asked("check", given)
     if verdict != b"accepted\n":
         raise Refused(FAILED, f"osp check answered neither accepted nor a reason: {verdict[:80]!r}")

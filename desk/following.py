@@ -1,0 +1,129 @@
+"""./osp next SCENARIO PLAN [--flown K] [--horizon N]: the scenario from there on, where K periods of an accepted plan found nothing.
+
+The plan is asked of the program's `check` first. The scenario goes to standard output; what was rounded, and what its chances
+mean, to standard error.
+"""
+import math
+import re
+
+from desk import accepted, forms, masses, onward, quoting, running, width, writing
+from desk.accepted import Refused
+
+USAGE = "usage: osp next SCENARIO PLAN [--flown K] [--horizon N]"
+# The longest text of a scenario, in bytes (docs/FORMATS.md, status 9).
+MOST_SCENARIO = 1_048_576
+# Exit statuses of docs/FORMATS.md.
+WRONG_WORDS, TOO_LONG, FAILED = 2, 9, 70
+# A comment that says where a cell or a position lies.
+AT = re.compile(rb"#[ \t]*at[ \t]+([A-Za-z0-9_-]{1,24})[ \t]+[-+.0-9]{1,32}[ \t]+[-+.0-9]{1,32}")
+# From what share of the mass that is left on the rounding is called coarse.
+COARSE = (1, 1000)
+
+
+def options(words):
+    """The two file names, and K and N or None each, of the words. Raises Refused."""
+    files, found, rest = [], {"--flown": None, "--horizon": None}, list(words)
+    while rest:
+        word = rest.pop(0)
+        if not word.startswith("--"):
+            files.append(word)
+        elif word in found and found[word] is None and rest and re.fullmatch("[1-9][0-9]?", rest[0], re.ASCII):
+            found[word] = int(rest.pop(0))
+        else:
+            raise Refused(WRONG_WORDS, USAGE)
+    if len(files) != 2 or (found["--horizon"] or 1) > width.MOST_HORIZON:
+        raise Refused(WRONG_WORDS, USAGE)
+    return *files, found["--flown"], found["--horizon"]
+
+
+def periods(sc, flown, horizon):
+    """How many periods were flown, how many follow, and why so many."""
+    flown = sc.horizon if flown is None else flown
+    if flown > sc.horizon:
+        raise Refused(WRONG_WORDS, f"--flown is 1 to {sc.horizon}, the periods of the plan")
+    if horizon is not None:
+        return flown, horizon, "as --horizon says"
+    if flown < sc.horizon:
+        return flown, sc.horizon - flown, f"what is left of {sc.horizon}"
+    return flown, sc.horizon, "as many as before, since nothing of the old horizon is left"
+
+
+def places(text, sc):
+    """The comments of a scenario that say where its cells and positions lie, without their number signs."""
+    found = (AT.fullmatch(it.strip(b" \t\r")) for it in text.split(b"\n"))
+    return [it[0].removeprefix(b"#").strip() for it in found if it and (it[1] in sc.names or it[1] in sc.positions)]
+
+
+def decimal(share):
+    """A positive share with two digits, rounded up, as in 0.00026; 0 as it is."""
+    if share == 0:
+        return "0"
+    digits = 1
+    while share * 10**digits < 10:
+        digits += 1
+    units = math.ceil(share * 10**digits)
+    return f"{units // 10**digits}.{units % 10**digits:0{digits}}"
+
+
+def told(sc, flown, why, it):
+    """What is said on standard error of the scenario from there on."""
+    new, p1 = it.sc, it.found
+    at = quoting.name(sc.positions[new.start])
+    yield f"behind period {flown} of {sc.horizon}: the searcher starts at {at}, and the horizon is {quoting.counted(new.horizon, 'period')} ({why})"
+    if flown + new.horizon > sc.horizon:
+        yield f"periods behind period {sc.horizon} have the looks of period {sc.horizon}, and the drift of the last step before it"
+    p2 = f"{p1} + {1 - p1}*P2"
+    yield f"P1, the chance that the {quoting.counted(flown, 'period')} flown find the target, is {masses.percent(p1.numerator, p1.denominator)} percent: {p1}"
+    yield f"chances from here (P2) hold given that nothing was found; together they are P1 + (1 - P1)*P2 = {p2}"
+    a = f"A is {new.parts[0]:,}"
+    if it.moved == 0:
+        yield f"{a}: nothing was rounded"
+        return
+    yield f"{a}, the finest that D {new.parts[1]}, G {new.parts[2]} and this horizon leave: the share of no cell was rounded by more than {decimal(it.largest)}"
+    yield f"the chance of a path from here (P2) is off by {decimal(it.moved)} at most"
+    if it.moved * COARSE[1] > COARSE[0]:
+        yield "that is coarse: a smaller --horizon rounds less"
+
+
+def text_of(sc, old, flown, it):
+    """The text of the scenario from there on, read again and found to be that scenario."""
+    head = f"From behind period {flown} of a plan of {quoting.counted(sc.horizon, 'period')}, whose looks found nothing until then (osp next)."
+    given = f"Chances hold given that. These looks find the target with {masses.percent(it.found.numerator, it.found.denominator)} percent."
+    text = writing.scenario_text(it.sc, [head.encode("ascii"), given.encode("ascii"), *places(old, sc)])
+    if len(text) > MOST_SCENARIO:
+        raise Refused(TOO_LONG, f"the new text has {len(text):,} bytes, and {MOST_SCENARIO:,} are the most: take a smaller --horizon")
+    if forms.read_scenario(text, True)[0].key() != it.sc.key():
+        raise Refused(FAILED, "the new text isn't what it should be; please tell the project, with both files")
+    return text
+
+
+def followed(scenario, plan, flown, horizon):
+    """The text of the scenario from there on, and what is said of it."""
+    given = accepted.joined(scenario, plan)
+    verdict, note = accepted.asked("check", given)
+    if verdict != b"accepted\n":
+        raise Refused(FAILED, f"osp check answered neither accepted nor a reason: {verdict[:80]!r}")
+    try:
+        sc, behind = forms.read_scenario(given, False)
+        path = forms.read_plan(behind.lstrip(b" \t\r\n"), sc).path
+    except forms.Fault as fault:
+        raise Refused(FAILED, f"what osp check accepted isn't understood: {fault}") from None
+    flown, horizon, why = periods(sc, flown, horizon)
+    try:
+        it = onward.onward(sc, path, flown, horizon)
+    except onward.NoWay as no:
+        raise Refused(no.status, str(no)) from None
+    return text_of(sc, scenario, flown, it), [*filter(None, [note]), *(f"osp next: {line}" for line in told(sc, flown, why, it))]
+
+
+def main(words):
+    """Runs the helper; answers its exit status."""
+    try:
+        *files, flown, horizon = options(words)
+        text, said = followed(*map(accepted.read_file, files), flown, horizon)
+    except Refused as why:
+        running.say(why.said if why.said == USAGE else f"osp next: {why.said}")
+        return why.status
+    for line in said:
+        running.say(line)
+    return running.write(text.decode("ascii"))

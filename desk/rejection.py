@@ -1,0 +1,172 @@
+"""Why a plan isn't accepted, in words: what stands at the line that the program names, and what would be right there."""
+from desk import forms, paths, quoting, verdict
+
+# The longest plan that is read here, in bytes, and the longest of which all records are checked, in records times cells times
+# periods: each takes some seconds.
+MOST_BYTES = 64 << 20
+MOST_CHECKED = 400_000
+RECORDS = {b"B": "a branch", b"W": "a whole path", b"M": "a mean bound", b"T": "a tangent bound", b"E": "an edge bound"}
+BOUNDS = {b"M": "mean", b"T": "tangent", b"E": "edge"}
+PLAN = "a plan isn't mended by hand: `./osp plan` makes it anew"
+
+
+def path_of(sc, path):
+    """Positions by their names."""
+    return " ".join(quoting.name(sc.positions[it]) for it in path)
+
+
+def beginning(sc, prefix):
+    """A prefix in words."""
+    return f"the paths that begin with {path_of(sc, prefix)}" if prefix else "all paths"
+
+
+def due_before(sc, plan, count):
+    """The prefixes that are due behind so many records, the next one last."""
+    due = [[]]
+    for letter, _, prefix, _ in plan.records[:count]:
+        due.pop()
+        if letter == b"B":
+            due += [[*prefix, it] for it in reversed(sc.moves[prefix[-1] if prefix else sc.start])]
+    return due
+
+
+def about_path(sc, plan, _line):
+    """A path that doesn't follow the moves, or has another length than the horizon."""
+    at = sc.start
+    for t, position in enumerate(plan.path, 1):
+        if position not in sc.moves[at]:
+            here, there = quoting.name(sc.positions[at]), quoting.name(sc.positions[position])
+            moves = quoting.listed([quoting.name(sc.positions[it]) for it in sc.moves[at]])
+            return f"the path goes from {here} to {there} in period {t}, and the moves from {here} are {moves}: is it the plan of another scenario?"
+        at = position
+    return f"the path has {quoting.counted(len(plan.path), 'position')}, and the horizon is {quoting.counted(sc.horizon, 'period')}"
+
+
+def about_value(sc, plan, _line):
+    return f"`chance` states {plan.value}, and the path {path_of(sc, plan.path)} finds {paths.value(sc, plan.path)} of {paths.weight(sc)}"
+
+
+def about_weight(sc, plan, _line):
+    return f"`chance` states the weight {plan.weight}, and it is A·D^(T-1)·G^T = {paths.weight(sc)}"
+
+
+def about_missing(sc, plan, line):
+    """A prefix that has no record."""
+    due = due_before(sc, plan, line - 5)
+    said = f"a record for {beginning(sc, due[-1])} is due here" if due else "a record is due here"
+    if line - 5 < len(plan.records):
+        return f"{said}, and one for {beginning(sc, plan.records[line - 5][2])} stands in its place: a path without record may be better"
+    return f"{said}, and `end` stands in its place: a path without record may be better"
+
+
+def about_extra(sc, plan, line):
+    """A record whose prefix isn't due."""
+    due = due_before(sc, plan, line - 5)
+    said = f"this record is for {beginning(sc, plan.records[line - 5][2])}, "
+    return said + (f"and one for {beginning(sc, due[-1])} is due here" if due else "and none is due any more")
+
+
+def about_whole(sc, plan, line):
+    """A record of a whole path with a wrong length or value."""
+    letter, stated, prefix, _ = plan.records[line - 5]
+    if letter != b"W":
+        return f"{RECORDS[letter]} stands at {path_of(sc, prefix)}, which is a whole path: it takes a record W with its value"
+    if len(prefix) != sc.horizon:
+        return f"a whole path has {quoting.counted(sc.horizon, 'position')}, and {path_of(sc, prefix)} has {len(prefix)}"
+    return f"the path {path_of(sc, prefix)} is stated to find {stated}, and it finds {paths.value(sc, prefix)} of {paths.weight(sc)}"
+
+
+def about_rate(sc, _plan, _line):
+    parts = sorted({part for t in range(1, sc.horizon + 1) for it in range(len(sc.positions)) for part in sc.look(t, it).values()})
+    return f"a tangent bound holds where all looks miss equally often, and here they miss {quoting.listed([str(it) for it in parts])} of {sc.parts[2]}"
+
+
+def about_reference(sc, plan, line):
+    _, _, prefix, path = plan.records[line - 5]
+    return f"the tangent's path {path_of(sc, path)} isn't a legal path that belongs to {beginning(sc, prefix)}"
+
+
+def about_bound(sc, plan, line):
+    """A bound that isn't the prefix's."""
+    letter, stated, prefix, path = plan.records[line - 5]
+    right = verdict.right(sc, letter, prefix, path)
+    way = "less: a better path might hide behind it" if stated < right else "more"
+    return f"{RECORDS[letter]} of {stated} is stated for {beginning(sc, prefix)}; the right one is {right}, and what is stated is {way}"
+
+
+def about_cut(sc, plan, line):
+    """A record that leaves room for a better path."""
+    letter, stated, prefix, _ = plan.records[line - 5]
+    if letter == b"W":
+        better = "more" if stated > plan.value else "as much, and has smaller position numbers"
+        return f"the path {path_of(sc, prefix)} finds {stated}, which is {better}: the plan's path finds {plan.value} and isn't the best"
+    value = plan.value * (sc.parts[2] if letter == b"T" else 1)
+    what = f"the plan's path finds {plan.value}" + (f", {value} in the tangent's parts" if letter == b"T" else "")
+    return f"the {BOUNDS[letter]} bound of {beginning(sc, prefix)} is {stated}, and {what}: it leaves room for a better path, so that records below are needed"
+
+
+ABOUT = {
+    "PathIllegal": about_path,
+    "ValueWrong": about_value,
+    "WeightWrong": about_weight,
+    "MissingChild": about_missing,
+    "NotChild": about_extra,
+    "WholeWrong": about_whole,
+    "NoOneRate": about_rate,
+    "ReferenceWrong": about_reference,
+    "BoundWrong": about_bound,
+    "NotCut": about_cut,
+}
+
+
+def second_opinion(sc, plan, line, why):
+    """What this helper's own checker says of the whole plan, where it is short enough."""
+    if len(plan.records) * len(sc.names) * sc.horizon > MOST_CHECKED:
+        return "the plan is too long for this helper's own checker to go through it: the line and the reason are the program's alone"
+    own = verdict.first_reason(sc, plan)
+    return None if own == (line, why) else f"this helper's own checker says {own or 'accepted'}: please tell the project, with both files"
+
+
+def because(sc, text, line, why):
+    """What is said of a rejection: a list of texts. `text` is the plan's."""
+    if len(text) > MOST_BYTES:
+        return [f"the plan has {len(text):,} bytes, too many for this helper to look into it"]
+    try:
+        plan = forms.read_plan(text, sc)
+        told = [ABOUT[why](sc, plan, line), second_opinion(sc, plan, line, why)]
+    except (forms.Fault, KeyError, IndexError) as fault:
+        return [f"this helper can't follow the program's reason ({fault!r}): please tell the project, with both files"]
+    return [it for it in told if it]
+
+
+# ---- texts that are no plan
+
+BAD = {
+    "EarlyEnd": "the plan ends in the middle: it was cut off",
+    "BadLine": "this isn't the line that is due here",
+    "BadNumber": "a field isn't a whole number as the plan's text has it, or not the number of a position",
+    "TooManyNodes": f"more than {forms.MOST_NODES:,} records are announced",
+    "WrongCount": "the number of records isn't that of the line `nodes`",
+    "Rest": "something stands behind `end`",
+    "NoPlace": "this record is one too many: no path is left for it",
+    "StillOpen": "`end` stands here, and records are still due: some are missing",
+}
+
+
+def no_plan(sc, text, line, kind):
+    """What is said of a text that is no plan, for its first fault."""
+    lines = text.split(b"\n")
+    here = lines[line - 1] if line <= len(lines) else b""
+    if not text.strip():
+        return "the plan's file is empty"
+    if b"\r" in here:
+        return "the line ends with a carriage return: `tr -d '\\r' < PLAN` takes them off"
+    if kind == "UnknownName":
+        lacking = [quoting.field(it) for it in dict.fromkeys(here.split(b" ")[1:]) if it not in sc.positions]
+        return f"this scenario has no position {quoting.listed(lacking)}: is it the plan of another one?"
+    if kind == "BadLine" and line == 1:
+        hint = ": that is a scenario; the scenario comes first, and then the plan" if here.startswith((b"scenario", b"#")) else ""
+        return f"a plan begins with `plan 1` or `plan 2`{hint}"
+    if kind == "BadLine" and not here:
+        return "the line is empty, and a plan has no empty lines"
+    return f"{BAD[kind]}; {PLAN}"
