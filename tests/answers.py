@@ -14,10 +14,10 @@ REPORTS = {".report": ["report"], ".report.json": ["report", "--json", "yes"]}
 
 
 class Text:
-    """An input for the program, and what it has to answer."""
+    """An input for the program, and what it has to answer. What the script is asked for it, where that names files, is `asked`."""
 
-    def __init__(self, name, words, given, status, out=None, err=""):
-        self.name, self.words, self.given, self.status, self.out, self.err = name, words, given, status, out, err
+    def __init__(self, name, words, given, status, out=None, err="", asked=None):
+        self.name, self.words, self.given, self.status, self.out, self.err, self.asked = name, words, given, status, out, err, asked
 
     def holds(self, ran):
         ran.gives(self.status, self.out)
@@ -27,14 +27,29 @@ class Text:
 class Shown(Text):
     """A command of a document: what it writes is what the document shows, up to the last of so many lines, if any."""
 
-    def __init__(self, name, words, given, lines, shown):
-        super().__init__(name, words, given, None)
+    def __init__(self, name, words, given, lines, shown, asked):
+        super().__init__(name, words, given, None, asked=asked)
         self.lines, self.shown = lines, shown
 
     def holds(self, ran):
         lines = (ran.out + ran.err).splitlines(True)
         wrote = "".join(lines[: self.lines or None])
         want(wrote == self.shown, f"it is shown with {self.shown!r}, and it writes {wrote!r}")
+
+
+class Spelled(Text):
+    """Words for the program itself, and whether they spell a command."""
+
+    def __init__(self, words, is_command):
+        super().__init__(f"the program's words: {' '.join(words)}", words, b"", None)
+        self.is_command = is_command
+
+    def holds(self, ran):
+        if self.is_command:
+            want(ran.status != 2 and "usage" not in ran.err, f"status {ran.status}, {ran.err!r}")
+        else:
+            ran.gives(2, "")
+            want(ran.err == f"{USAGE}\n", f"the usage line is wanted, and it is {ran.err!r}")
 
 
 LAKE = b"""scenario 1
@@ -63,11 +78,10 @@ def rows():
         ("a note behind a line: `horizon 2 # two periods`", [bad("plan", lake(b"horizon 2", b"horizon 2 # two periods"), "bad scenario: line 2 BadLine")]),
         ("a byte order mark before `scenario 1`", [bad("plan", b"\xef\xbb\xbf" + LAKE, "bad scenario: line 1 NotText")]),
         ("a comment after `end`", [bad("plan", LAKE + b"# a note\n", "bad scenario: line 10 Rest"), ("check", two + b"# a note\n" + plan, 4, "", "bad plan: line 1 BadLine")]),
-        ("a scenario without a last line feed, put before a plan", [bad("check", two.rstrip(b"\n") + plan, f"bad scenario: line {two.count(10)} BadLine")]),
+        ("a scenario without a last line feed, put before a plan by `cat`", [bad("check", two.rstrip(b"\n") + plan, f"bad scenario: line {two.count(10)} BadLine")]),
         ("a plan with carriage returns", [("check", two + plan.replace(b"\n", b"\r\n"), 4, "", "bad plan: line 1 BadLine")]),
         ("a plan with an empty line", [("check", two + plan.replace(b"nodes", b"\nnodes"), 4, "", "bad plan: line 4 BadLine")]),
         ("the plan of another scenario", [("check", two + other, 4, "", "bad plan: line 2 UnknownName"), ("check", read(f"{EXAMPLES}/waiting-longer.scenario") + shorter, 1, "rejected 2 PathIllegal\n", "")]),
-        ("`./osp plan FILE`", [("plan FILE", b"", 2, "", USAGE)]),
     ]
 
 
@@ -93,7 +107,7 @@ def texts_of_rows():
     texts, wrong = [], [f"no case for the row of docs/FORMATS.md: {it}" for it in stated if it not in dict(rows())]
     for wrote, cases in rows():
         for at, (words, given, status, out, err) in enumerate(cases):
-            says = without_lines(out + err).strip().replace(USAGE, "usage: osp plan ..")
+            says = without_lines(out + err).strip()
             if f"`{says}`" not in stated.get(wrote, ""):
                 wrong.append(f"docs/FORMATS.md doesn't say `{says}` of: {wrote}")
             name = f"you wrote {wrote}{f' ({at + 1})' if at else ''}"
@@ -144,9 +158,9 @@ def texts_of_limits():
     return [Text("200 cells, and 200 positions to look from", PLAN, "".join(f"{it}\n" for it in lines).encode(), 0, plan)]
 
 
-# A command of a document, from the top of the repository: `$ ./osp WORDS < FILE`, or `$ cat FILES | ./osp WORDS`,
-# perhaps with `| head -n N` behind it.
-COMMAND = re.compile(r"(?:cat (?P<files>[^|<>;]+) \| )?\./osp(?P<words>(?: [\w-]+)*)(?: < (?P<file>\S+))?(?: \| head -n (?P<lines>\d+))?")
+# A command of a document, from the top of the repository: `$ ./osp WORDS`, which may name files, perhaps with `< FILE` behind
+# it or `cat FILES |` before it, and with `| head -n N` behind it.
+COMMAND = re.compile(r"(?:cat (?P<files>[^|<>;]+) \| )?\./osp(?P<words>(?: [\w./=-]+)*)(?: < (?P<file>\S+))?(?: \| head -n (?P<lines>\d+))?")
 
 
 def texts_of_documents():
@@ -158,9 +172,12 @@ def texts_of_documents():
                 found = COMMAND.fullmatch(command)
                 if not found:
                     continue
-                files = (found["files"] or found["file"] or "/dev/null").split()
+                asked = found["words"].split()
+                named = [it for it in asked if os.path.isfile(f"{TOP}/{it}")]
+                files = named or (found["files"] or found["file"] or "/dev/null").split()
                 given = b"".join(read(os.path.join(TOP, it)) for it in files)
-                texts.append(Shown(f"{name}: {command}", found["words"].split(), given, int(found["lines"] or 0), out))
+                words = [it for it in asked if it not in named]
+                texts.append(Shown(f"{name}: {command}", words, given, int(found["lines"] or 0), out, asked if named else None))
     return texts
 
 
@@ -170,13 +187,34 @@ def is_built():
     return ran.status == 0 and ran.err == ""
 
 
+def texts_of_words(rows):
+    """Words for the program itself: it takes those that the script takes, and no others."""
+    return [Spelled(words, is_command) for words, is_command in rows]
+
+
+def is_the_scripts(text):
+    """Whether the script answers a text by itself: it is shown with a line of the script's own."""
+    return isinstance(text, Shown) and text.shown.startswith("osp: ")
+
+
+def answer_of_script(text):
+    if text.asked:
+        return run([f"{TOP}/osp", *text.asked], cwd=TOP)
+    return run([f"{TOP}/osp", *text.words], text.given, cwd=TOP)
+
+
 def answers_built(texts):
     """What the built program answers to each text."""
-    return [run([f"{TOP}/osp", *it.words], it.given, cwd=TOP) for it in texts]
+    return [run([f"{TOP}/crates/osp/out/osp", *it.words], it.given) if isinstance(it, Spelled) else answer_of_script(it) for it in texts]
 
 
 def answers_tried(texts):
     """The same by one call of `rt try`, which compiles once."""
+    tried = iter(answers_of_program([it for it in texts if not is_the_scripts(it)]))
+    return [answer_of_script(it) if is_the_scripts(it) else next(tried) for it in texts]
+
+
+def answers_of_program(texts):
     with tempfile.TemporaryDirectory(prefix="front-door-") as folder:
         for at, text in enumerate(texts):
             for ending, what in (("", text.given), (".args", "".join(f"{it}\n" for it in text.words).encode())):

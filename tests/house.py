@@ -49,8 +49,35 @@ esac
 """
 
 
+# In the place of the desk: it says where it runs and with which words, or ends as a word says.
+STAND_IN_DESK = r"""import os, sys
+if sys.argv[-1:] == ["fails"]:
+    print("half")
+    sys.exit("it is wrong")
+print(*sys.argv[1:], sep="|")
+print(os.path.dirname(os.path.realpath(__file__)), os.environ["PYTHONPATH"], sys.flags.safe_path)
+"""
+
+
 class Wrong(Exception):
     """What a case found."""
+
+
+class Skipped(Exception):
+    """Why a case can't be tried on this machine."""
+
+
+CASES = []
+
+
+def case(name):
+    """A case in a house of its own."""
+
+    def note(body):
+        CASES.append((name, body))
+        return body
+
+    return note
 
 
 def want(holds, why):
@@ -152,6 +179,8 @@ class House:
         for folder in (self.bin, self.tmp, f"{self.at}/examples"):
             os.makedirs(folder)
         self.script = shutil.copy(os.path.join(TOP, "osp"), self.at)
+        shutil.copytree(os.path.join(TOP, "door"), os.path.join(self.at, "door"))
+        self.add_row("'wait' '' 'waits, for tests' './osp wait'")
         for name in ("low", "other", "middle", "osp"):
             for part in ("src/lib.rt", "specs/Lib.antt", "proofs/Lib.antt"):
                 self.write(f"crates/{name}/{part}", f"{name} {part}\n")
@@ -160,7 +189,16 @@ class House:
         self.write("program", STAND_IN_PROGRAM, 0o755)
         self.write("examples/one-cell.scenario", "one cell\n")
         self.write("examples/one-cell.plan", "words <plan>\none cell\n")
+        self.write("desk/__main__.py", STAND_IN_DESK)
+        self.write("VERSION", "0.0.7\n")
+        self.write("KIT", "# kits\nmade-kit  0123456  2026-01-02\n")
         self.write("mood", "well")
+
+    def add_row(self, row):
+        """Puts a row before the others of the script's table of commands."""
+        text = read(f"{self.at}/door/tables.bash").decode()
+        want(text.count("\ncommands=(\n") == 1, "door/tables.bash has no table of commands")
+        self.write("door/tables.bash", text.replace("\ncommands=(\n", f"\ncommands=(\n  {row}\n", 1))
 
     def write(self, name, text, mode=0o644):
         path = os.path.join(self.at, name)

@@ -1,0 +1,195 @@
+# shellcheck shell=bash disable=SC2154 # (osp and tables.bash set what is read here.)
+# ./osp install and ./osp release: the proved program with all that belongs to it.
+#
+# One folder holds what runs: the script, door/, desk/, the program with its sums, and the file RELEASE, by which the
+# script knows that there are no sources. Another holds the documents. In the tarball both are one.
+
+# Ends the script where what would be given away isn't proved.
+need_proved() {
+  local why edits
+  judge_program
+  why=${why:-${edits:+"$(head -n 1 <<< "$edits") was edited since the program was proved"}}
+  [ -z "$why" ] || fail "$1, since $why: ./osp build proves and builds it"
+}
+
+# The files of a folder of the repository, without what other programs left there.
+copy_folder() {
+  local from=$1 to=$2 name
+  mkdir -p "$to" || return
+  for name in "$from"/*; do
+    case ${name##*/} in __pycache__ | *~ | *.pyc) continue ;; esac
+    if [ -d "$name" ]; then copy_folder "$name" "$to/${name##*/}"; else copy_file 644 "$name" "$to/${name##*/}"; fi || return
+  done
+}
+
+copy_file() { install -m "$1" -- "$2" "$3"; }
+
+# What runs.
+put_program() {
+  local to=$1 name
+  mkdir -p "$to/program" || return
+  copy_file 755 "$program" "$to/program/osp" && copy_file 644 "$program.sums" "$to/program/osp.sums" &&
+    copy_file 755 "$here/osp" "$to/osp" && copy_folder "$here/door" "$to/door" && copy_folder "$here/desk" "$to/desk" || return
+  for name in VERSION KIT GATE; do
+    copy_file 644 "$here/$name" "$to/$name" || return
+  done
+  printf 'version %s\ncommit %s\n' "$(version)" "$(commit)" > "$to/RELEASE"
+}
+
+put_documents() {
+  local to=$1 name
+  copy_folder "$here/docs" "$to/docs" && copy_folder "$here/examples" "$to/examples" || return
+  for name in "$here"/*.md "$here/COPYING"; do
+    copy_file 644 "$name" "$to/${name##*/}" || return
+  done
+}
+
+# The page for man, and completion, for documents in the folder that is named last.
+put_share() {
+  local to=$1 documents=$2
+  mkdir -p "$to/man/man1" "$to/bash-completion/completions" || return
+  manual_text "$documents" "$(day)" > "$to/man/man1/osp.1" && completion_text > "$to/bash-completion/completions/osp"
+}
+
+# The time of a release, so that the same sources give the same bytes: that of the commit, or of the program's sums.
+moment() {
+  if is_release; then
+    stat -c %Y "$here/RELEASE"
+  else
+    { [ "$(commit)" != unknown ] && git -C "$here" log -1 --format=%ct; } || stat -c %Y "$program.sums"
+  fi
+}
+
+day() { date -u -d "@$(moment)" +%Y-%m-%d; }
+
+# ---- ./osp install
+
+# The folders in which it installs, of those that a prefix has.
+installed=(lib/osp share/doc/osp)
+
+# Puts what stands in the room at its place. A folder is ours where it was installed by this.
+put_in_place() {
+  local from=$1 prefix=$2 name
+  for name in "${installed[@]}"; do
+    mkdir -p "$prefix/${name%/*}" && rm -rf "$prefix/$name.new" && cp -R "$from/$name" "$prefix/$name.new" &&
+      rm -rf "${prefix:?}/$name" && mv "$prefix/$name.new" "$prefix/$name" || return
+  done
+  for name in share/man/man1/osp.1 share/bash-completion/completions/osp; do
+    mkdir -p "$prefix/${name%/*}" && copy_file 644 "$from/$name" "$prefix/$name" || return
+  done
+  mkdir -p "$prefix/bin" && ln -sfT ../lib/osp/osp "$prefix/bin/osp"
+}
+
+install_at() {
+  local prefix name
+  need_proved 'nothing was installed'
+  [ -d "$here/docs" ] || fail "nothing was installed: this is an installation; ./osp install runs in a checkout, or an unpacked package"
+  prefix=$(readlink -m -- "$1")
+  for name in "${installed[@]}"; do
+    [ ! -e "$prefix/$name" ] || [ -f "$prefix/lib/osp/RELEASE" ] || fail "nothing was installed: $prefix/$name is there, and osp didn't put it there"
+  done
+  [ ! -e "$prefix/bin/osp" ] || [ -L "$prefix/bin/osp" ] || fail "nothing was installed: $prefix/bin/osp is there, and osp didn't put it there"
+  make_room
+  umask 022
+  { put_program "$room/lib/osp" && put_documents "$room/share/doc/osp" && put_share "$room/share" "$prefix/share/doc/osp"; } 2> /dev/null ||
+    fail "nothing was installed: a file is lacking here, or the folder for temporary files is full"
+  put_in_place "$room" "$prefix" 2> /dev/null || fail "$prefix cannot be written: run it as its owner, or give another folder, as in ./osp install ~/.local"
+  printf '%s\n' "osp $(version) is installed: $prefix/bin/osp" "to remove it: rm -r$(printf ' %q' "$prefix/bin/osp" "$prefix/lib/osp" "$prefix/share/doc/osp" "$prefix/share/man/man1/osp.1" "$prefix/share/bash-completion/completions/osp")" 2> /dev/null || cannot_write
+  case ":$PATH:" in *":$prefix/bin:"*) ;; *) echo "osp: $prefix/bin isn't on the PATH" >&2 ;; esac
+}
+
+# ---- ./osp release
+
+# The package's architecture, as Debian names it.
+architecture() {
+  case $(uname -m) in
+    x86_64) echo amd64 ;;
+    aarch64) echo arm64 ;;
+    *) uname -m ;;
+  esac
+}
+
+# The least C library with which the program runs: the newest version of its symbols that it names.
+needed_library() {
+  local version
+  version=$(grep -aoE 'GLIBC_2\.[0-9]+(\.[0-9]+)?' "$program" | sort -Vu | tail -n 1)
+  echo "libc6${version:+ (>= ${version#GLIBC_})}"
+}
+
+# The libraries that the program needs besides the C library.
+other_libraries() {
+  local said
+  said=$(LC_ALL=C ldd "$program" 2>&1) || return 0 # (A program that needs none.)
+  awk '{ print $1 }' <<< "$said" | grep -v -E '^(linux-vdso\.so|/lib.*/ld-linux|lib(c|m|dl|rt|pthread)\.so)' | paste -sd ' '
+}
+
+control_text() {
+  cat << END
+Package: osp
+Version: $(version)
+Architecture: $(architecture)
+Maintainer: $maintainer
+Depends: $(needed_library), python3 (>= 3.11)
+Section: science
+Priority: optional
+Installed-Size: $(du -sk "$1" | cut -f 1)
+Description: plans a search for somebody who drifts, and proves no plan is better
+ Somebody is lost on the water and drifts. A boat, a drone or an aircraft goes
+ from cell to cell and looks. This program writes the path that is likeliest to
+ find them within so many periods, its exact chance, and records that show why
+ no path is better; and it checks such plans. That its plans are the best and
+ its checks are right is proved.
+END
+}
+
+# What changed in this version, as Debian wants it.
+debian_changes() {
+  printf 'osp (%s) unstable; urgency=medium\n\n' "$(version)"
+  awk -v version="$(version)" '
+    /^## / { within = index($0, "## " version) == 1 }
+    within && /^- / { sub(/^- /, ""); gsub(/\*\*|`/, ""); print "  * " $0 }' "$here/CHANGELOG.md" | fold -s -w 76 | sed 's/^\([^ ]\)/    \1/; s/ *$//'
+  printf '\n -- %s  %s\n' "$maintainer" "$(LC_ALL=C date -u -R -d "@$(moment)")"
+}
+
+# The tree of the Debian package.
+put_debian() {
+  local to=$1 doc
+  doc="$to/usr/share/doc/osp"
+  put_program "$to/usr/lib/osp" && put_documents "$doc" && put_share "$to/usr/share" /usr/share/doc/osp &&
+    mkdir -p "$to/usr/bin" "$to/DEBIAN" && ln -s ../lib/osp/osp "$to/usr/bin/osp" &&
+    mv "$doc/COPYING" "$doc/copyright" && gzip -9n "$to/usr/share/man/man1/osp.1" &&
+    debian_changes | gzip -9n > "$doc/changelog.gz" &&
+    (cd "$to" && find usr -type f -print0 | LC_ALL=C sort -z | xargs -0 md5sum) > "$to/DEBIAN/md5sums" &&
+    control_text "$to/usr" > "$to/DEBIAN/control"
+}
+
+# Puts a file that was made in the room into the folder, whole.
+put_out() { cp "$room/$2" "$1/.$2.new" && mv "$1/.$2.new" "$1/$2"; }
+
+release_to() {
+  local folder=$1 name base package other
+  ! is_release || fail 'nothing was released: a release is made from a checkout'
+  need_proved 'nothing was released'
+  grep -qF "## $(version)" "$here/CHANGELOG.md" || fail "nothing was released: CHANGELOG.md has nothing on version $(version)"
+  other=$(other_libraries)
+  [ -z "$other" ] || fail "nothing was released: the program needs more than the C library: $other"
+  for name in dpkg-deb tar gzip; do
+    command -v "$name" > /dev/null || fail "nothing was released: $name is lacking"
+  done
+  make_room
+  umask 022
+  base="osp-$(version)" package="osp_$(version)_$(architecture).deb"
+  SOURCE_DATE_EPOCH=$(moment)
+  export SOURCE_DATE_EPOCH
+  {
+    put_program "$room/$base" && put_documents "$room/$base" && put_share "$room/$base/share" 'the folder of the package' &&
+      tar --sort=name --owner=0 --group=0 --numeric-owner --mtime="@$SOURCE_DATE_EPOCH" -C "$room" -cf "$room/tar" "$base" &&
+      gzip -9n < "$room/tar" > "$room/$base-$(uname -m).tar.gz" && put_debian "$room/debian" &&
+      dpkg-deb --root-owner-group -b "$room/debian" "$room/$package" > /dev/null &&
+      (cd "$room" && sha256sum "$base-$(uname -m).tar.gz" "$package") > "$room/SHA256SUMS"
+  } 2> "$room/err" || fail "nothing was released: $(tail -n 1 "$room/err")"
+  for name in "$base-$(uname -m).tar.gz" "$package" SHA256SUMS; do
+    { mkdir -p "$folder" && put_out "$folder" "$name"; } 2> /dev/null || fail "$(shown "$folder") cannot be written"
+    echo "$folder/$name" 2> /dev/null || cannot_write
+  done
+}

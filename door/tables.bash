@@ -1,0 +1,113 @@
+# shellcheck shell=bash disable=SC2034
+# The tables of the front door. Help, the words that are taken, what is read, the man page and the completion are all
+# written from them.
+
+# The commands of the proved program, a row each: its words, the files that stand for what it reads, what it does, an
+# example. A command is added by a row here and nothing else.
+# In the words, [--NAME VALUE] may be left out, capitals stand for a value (`values` says which), and from a word in
+# small letters on all words are the program's.
+commands=(
+  'plan [--workers N] [--nodes N]' 'SCENARIO'
+  'writes the best path, its exact chance, and records that show why no path is better'
+  './osp plan examples/two-cells.scenario'
+
+  'check' 'SCENARIO PLAN'
+  'says whether the plan is accepted, and else the first reason against it'
+  './osp check examples/two-cells.scenario examples/two-cells.plan'
+
+  'report [--json yes]' 'SCENARIO PLAN'
+  'shows the chance period by period, and where the target may be if nothing is found'
+  './osp report examples/two-cells.scenario examples/two-cells.plan'
+
+  'convert' 'SCENARIO PLAN'
+  'writes the accepted plan anew, as text of version 2'
+  './osp convert examples/two-cells.scenario examples/two-cells-1.plan'
+
+  'make NUMBER' ''
+  'writes a made scenario of 5 by 5 cells and 8 periods, for drills'
+  './osp make 7'
+
+  'drill NUMBER [--workers N]' ''
+  'makes that scenario, plans it, checks the plan, and says what came of it'
+  './osp drill 7'
+)
+
+# The values among these words, a row each: the words, perhaps with their command before them; the least and the most
+# number, where it is one; what is taken where they are left out; what it says.
+values=(
+  '--workers N' '1 16' '4'
+  'how many threads search at once'
+
+  '--nodes N' '1 1048576' '1048576'
+  'how many records a plan may have'
+
+  '--json yes' '' ''
+  'the report as one line of JSON'
+
+  'NUMBER' '0 18446744073709551615' ''
+  'the number from which the scenario is made'
+)
+
+# The helpers, a row each: their words, what they do, an example. They are programs of the folder desk/, which take
+# these words themselves. They are tested, and not proved.
+helpers=(
+  'draft SITUATION.toml'
+  'writes a scenario from a situation: times, reports, currents, wind, the searcher'
+  './osp draft lake.toml -o lake.scenario'
+
+  'next SCENARIO PLAN [--flown K] [--horizon N]'
+  'writes the scenario that goes on where the first K periods of the plan found nothing'
+  './osp next lake.scenario lake.plan --flown 4 -o later.scenario'
+
+  'show SCENARIO PLAN'
+  'writes a page for a browser: the map, the path, and the chances period by period'
+  './osp show lake.scenario lake.plan -o lake.html'
+
+  'brief SCENARIO PLAN [--from 19:30 --minutes 15]'
+  'writes the same as plain text, for a radio or a tasking form'
+  './osp brief lake.scenario lake.plan --from 19:30 --minutes 15'
+
+  'explain SCENARIO [PLAN]'
+  'says what is wrong with a scenario or a plan, line by line, and what to write'
+  './osp explain lake.scenario'
+)
+
+# The script's own words, a row each: the words, what they do, an example.
+own=(
+  'build'
+  'proves and builds the program; until then each run compiles first, and is unproved'
+  './osp build'
+
+  'install [PREFIX]'
+  'installs the proved program with all that belongs to it, in /usr/local where no PREFIX is given'
+  './osp install ~/.local'
+
+  'release [FOLDER]'
+  'writes a tarball and a Debian package of the proved program, in out/ where no FOLDER is given'
+  './osp release'
+
+  '--version'
+  'says the version, its commit, and which kit proved the program and when'
+  './osp --version'
+
+  '--help'
+  'shows this text'
+  './osp --help'
+)
+
+# How a run of the program ends, a row each: the exit status, and what it says.
+statuses=(
+  0 'the answer was written'
+  1 'the plan is not accepted; check writes why, report and convert say it on standard error'
+  2 'the words spell no command, and nothing was read'
+  3 'what was read is not the text of a scenario'
+  4 'what follows the scenario is not the text of a plan'
+  5 'the input could not be read'
+  6 'the output could not be written'
+  7 'memory ran out'
+  8 'the search came to more records than --nodes allows'
+  9 'the input is too long'
+  70 'not the program, but the script failed, and one line says why'
+)
+
+maintainer='osp maintainers <maintainers@users.noreply.jusingap.example>'

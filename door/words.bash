@@ -1,0 +1,214 @@
+# shellcheck shell=bash disable=SC2154,SC2034 # (osp and tables.bash set what is read here; osp reads what is set.)
+# What words mean: the help, and which words spell a command.
+
+# The name by which the script is called: from a checkout or an unpacked package it is run from its top.
+called() { if [ -d "$here/examples" ]; then echo ./osp; else echo osp; fi; }
+
+# A text of the tables as it reads here.
+as_called() { printf '%s\n' "${1//.\/osp/$(called)}"; }
+
+# A word as a shell takes it: a name may hold blanks, or what a terminal would obey.
+shown() { printf '%q' "$1"; }
+
+# Where the documents stand.
+documents() { if [ -d "$here/docs" ]; then echo docs; else readlink -m "$here/../../share/doc/osp/docs"; fi; }
+
+# ---- help
+
+# One row: its words, what it does, its example.
+help_row() { as_called "  ./osp $1"$'\n'"      $2"$'\n'"      as in  $3"; }
+
+# The words of a command with the files that it reads.
+usage_of() {
+  local words=${commands[$1]} files=${commands[$1 + 1]}
+  [ -z "$files" ] || words="${words%% *} [$files]${words#"${words%% *}"}"
+  printf '%s' "$words"
+}
+
+# What a value says, and which numbers it may be.
+value_text() {
+  local least most
+  read -r least most <<< "${values[$1 + 1]}"
+  printf '%s%s%s' "${values[$1 + 3]}" "${least:+, from $least to $most}" "${values[$1 + 2]:+; ${values[$1 + 2]} where it is not given}"
+}
+
+help_text() {
+  local at
+  echo 'osp plans the path that is likeliest to find a drifting target, and checks such plans.'
+  printf '\nProved commands:\n'
+  for ((at = 0; at < ${#commands[@]}; at += 4)); do
+    help_row "$(usage_of "$at")" "${commands[at + 2]}" "${commands[at + 3]}"
+  done
+  printf '\nTheir values:\n'
+  for ((at = 0; at < ${#values[@]}; at += 4)); do
+    printf '  %-14s%s\n' "${values[at]}" "$(value_text "$at")"
+  done
+  printf '\nHelpers, which are tested and not proved:\n'
+  for ((at = 0; at < ${#helpers[@]}; at += 3)); do
+    help_row "${helpers[at]}" "${helpers[at + 1]}" "${helpers[at + 2]}"
+  done
+  printf '\nBesides:\n'
+  for ((at = 0; at < ${#own[@]}; at += 3)); do
+    help_row "${own[at]}" "${own[at + 1]}" "${own[at + 2]}"
+  done
+  printf '\nWithout files a command reads standard input, and the name - stands for it. With -o FILE what a command or a\n'
+  printf 'helper writes goes to that file, whole or not at all, and else to standard output.\n'
+  printf '%s/FORMATS.md has the texts, and what each exit status says.\n' "$(documents)"
+}
+
+# ---- the words of a command
+
+# Ends with the status of words that spell no command, in one line that names the wrong word.
+wrong() {
+  printf 'osp: %s\n' "$1" >&2
+  exit 2
+}
+
+# Finds a row by the first of its words, in a table with rows of so many parts: `row` is its place.
+find_row() {
+  local -n table=$1
+  for ((row = 0; row < ${#table[@]}; row += $2)); do
+    [ "${table[row]%% *}" != "$3" ] || return 0
+  done
+  return 1
+}
+
+# What a row of commands takes: by each option its value, the values that have to be given, the word from which on all
+# words are the program's, and the files that stand for its input.
+read_row() {
+  local spec at LC_ALL=C
+  read -ra spec <<< "${commands[$1]}"
+  declare -gA options=()
+  needed=() tail='' inputs=()
+  read -ra inputs <<< "${commands[$1 + 1]}"
+  for ((at = 1; at < ${#spec[@]}; at++)); do
+    case ${spec[at]} in
+      '[--'*)
+        options[${spec[at]#[}]=${spec[at + 1]%]}
+        at=$((at + 1))
+        ;;
+      [A-Z]*) needed+=("${spec[at]}") ;;
+      *)
+        tail=${spec[at]}
+        break
+        ;;
+    esac
+  done
+}
+
+# The row of a value, by its words behind this command or any: `row` is its place.
+find_value() {
+  for ((row = 0; row < ${#values[@]}; row += 4)); do
+    [ "${values[row]}" != "$1 $2" ] || return 0
+  done
+  for ((row = 0; row < ${#values[@]}; row += 4)); do
+    [ "${values[row]}" != "$2" ] || return 0
+  done
+  return 1
+}
+
+at_most() { [ "${#1}" -lt "${#2}" ] || { [ "${#1}" -eq "${#2}" ] && [[ ! $1 > $2 ]]; }; }
+
+# Takes the value of these words, or says what it should be.
+take_value() {
+  local command=$1 words=$2 given=$3 row least most LC_ALL=C
+  if [[ ${words##* } = [a-z]* ]]; then
+    [ "$given" = "${words##* }" ] || wrong "$(shown "$given") cannot stand behind ${words% *}: write $words"
+  elif find_value "$command" "$words"; then
+    read -r least most <<< "${values[row + 1]}"
+    # Decimals of any length are compared as texts, the shorter one being the smaller.
+    if ! [[ $given =~ ^(0|[1-9][0-9]*)$ ]] || ! at_most "$least" "$given" || ! at_most "$given" "$most"; then
+      wrong "$(shown "$given") cannot stand for ${words}: a whole number from $least to $most can"
+    fi
+  fi
+}
+
+# What is said of a word that a command doesn't take.
+no_word() {
+  local command=$1 word=$2 name=${2%%=*}
+  if [ "$name" != "$word" ] && [ -n "${options[$name]-}" ]; then
+    wrong "$(shown "$word") is no word of $command: write $name $(shown "${word#*=}")"
+  elif [[ $word = -o?* ]]; then
+    wrong "$(shown "$word") is no word of $command: write -o $(shown "${word#-o}")"
+  elif [ -e "$word" ]; then
+    wrong "$(shown "$word") is no word of $command: a file of that name is given as ./$(shown "$word")"
+  fi
+  wrong "$(shown "$word") is no word of $command, which is spelled $(called) $usage [-o FILE]"
+}
+
+# Takes a word that is no option, nor a value behind one: a value that has to be given, or a file.
+take_plain() {
+  if [ "${#taken[@]}" -lt "${#needed[@]}" ]; then
+    take_value "$command" "${needed[${#taken[@]}]}" "$1"
+    taken+=("$1")
+  elif [ "${#files[@]}" -lt "${#inputs[@]}" ]; then
+    files+=("$1")
+  else
+    wrong "$(shown "$1") is one word too many: it is spelled $(called) $usage [-o FILE]"
+  fi
+}
+
+# Takes the file behind -o.
+take_target() {
+  [ -n "${1-}" ] || wrong '-o needs the name of a file behind it'
+  [ -z "$target" ] || wrong "-o stands twice: $(shown "$target") and $(shown "$1")"
+  target=$1
+}
+
+# Sorts the words of a command by its row: `words` are the program's, `files` are read, and `target` is written to.
+sort_words() {
+  local command=$2 usage taken=() given=() rest=() seen=' ' option
+  usage=$(usage_of "$1")
+  read_row "$1"
+  shift 2
+  while [ "$#" -gt 0 ]; do
+    option=$1
+    shift
+    if [ "$option" = --help ] || [ "$option" = -h ]; then
+      give_help
+    elif [ "$option" = -o ]; then
+      take_target "$@"
+      shift
+    elif [ -n "$tail" ] && [ "$option" = "$tail" ]; then
+      rest=("$option" "$@")
+      break
+    elif [ "$option" = -- ]; then
+      for option in "$@"; do take_plain "$option"; done
+      break
+    elif [[ $option = --* && -n ${options[$option]-} ]]; then
+      [[ $seen != *" $option "* ]] || wrong "$option stands twice"
+      [ "$#" -gt 0 ] || wrong "$option needs a value behind it: write $option ${options[$option]}"
+      take_value "$command" "$option ${options[$option]}" "$1"
+      seen+="$option "
+      given+=("$option" "$1")
+      shift
+    elif [[ $option = -?* ]]; then
+      no_word "$command" "$option"
+    else
+      take_plain "$option"
+    fi
+  done
+  [ "${#taken[@]}" -eq "${#needed[@]}" ] || wrong "$command needs ${needed[${#taken[@]}]}: it is spelled $(called) $usage"
+  [ "${#files[@]}" -eq 0 ] || [ "${#files[@]}" -eq "${#inputs[@]}" ] ||
+    wrong "$command reads ${inputs[*]}, and $(shown "${files[0]}") is one file alone: name all, or - for standard input"
+  [ -z "$tail" ] || [ "${#rest[@]}" -gt 1 ] || wrong "$command needs $tail and what follows it: it is spelled $(called) $usage"
+  words=("$command" "${taken[@]}" "${given[@]}" "${rest[@]}")
+}
+
+# Sorts the words of a helper, which answers for its own words: `target` is written to.
+sort_helper_words() {
+  words=("$1")
+  shift
+  while [ "$#" -gt 0 ]; do
+    if [ "$1" = -o ]; then
+      shift
+      take_target "$@"
+    elif [ "$1" = -- ]; then
+      words+=("$@")
+      break
+    else
+      words+=("$1")
+    fi
+    shift
+  done
+}
