@@ -59,11 +59,11 @@ helpers=(
   'writes the scenario that goes on where the first K periods of the plan found nothing'
   './osp next lake.scenario lake.plan --flown 4 -o later.scenario'
 
-  'show SCENARIO PLAN'
+  'show SCENARIO PLAN [--from HH:MM --minutes N]'
   'writes a page for a browser: the map, the path, and the chances period by period'
   './osp show lake.scenario lake.plan -o lake.html'
 
-  'brief SCENARIO PLAN [--from 19:30 --minutes 15]'
+  'brief SCENARIO PLAN [--from HH:MM --minutes N]'
   'writes the same as plain text, for a radio or a tasking form'
   './osp brief lake.scenario lake.plan --from 19:30 --minutes 15'
 
@@ -110,4 +110,11 @@ statuses=(
   70 'not the program, but the script failed, and one line says why'
 )
 
+# Besides 0, the statuses at which what was written is an answer, and is kept behind -o.
+answers=(
+  check '1'
+  explain '1 3 4 8 9'
+)
+
+# Who makes the packages, and hears of faults.
 maintainer='osp maintainers <maintainers@users.noreply.jusingap.example>'

@@ -199,6 +199,7 @@ sort_words() {
 sort_helper_words() {
   words=("$1")
   shift
+  case ${1-} in --help | -h) give_help ;; esac
   while [ "$#" -gt 0 ]; do
     if [ "$1" = -o ]; then
       shift

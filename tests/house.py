@@ -54,6 +54,9 @@ STAND_IN_DESK = r"""import os, sys
 if sys.argv[-1:] == ["fails"]:
     print("half")
     sys.exit("it is wrong")
+if sys.argv[-1:] == ["faults"]:
+    print("line 3 is wrong")
+    sys.exit(3)
 print(*sys.argv[1:], sep="|")
 print(os.path.dirname(os.path.realpath(__file__)), os.environ["PYTHONPATH"], sys.flags.safe_path)
 """

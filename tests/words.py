@@ -510,6 +510,7 @@ def _(house):
     for folder in (house.tmp, f"{house.at}/elsewhere"):
         ran = run([house.script, "next", *words], **{**house.how(with_rt=False), "cwd": folder})
         ran.gives(0, "next|" + "|".join(words) + f"\n{house.at}/desk {house.at} True\n", "")
+    house.run("draft", "--help").gives(0, house.run("--help").out, "")
     for name in ("draft", "show", "brief", "explain"):
         house.run(name, "a").gives(0, f"{name}|a\n{house.at}/desk {house.at} True\n", "")
     want(sorted(os.listdir(f"{house.at}/desk")) == ["__main__.py"], os.listdir(f"{house.at}/desk"))
@@ -522,7 +523,11 @@ def _(house):
     house.run("show", "a", "-o", f"{folder}/a page", "b").gives(0, "", "")
     written(f"{folder}/a page", f"show|a|b\n{house.at}/desk {house.at} True\n")
     house.run("show", "-o", f"{folder}/a page", "fails").gives(1, "", "it is wrong")
-    want(os.listdir(folder) == ["a page"], os.listdir(folder))
+    written(f"{folder}/a page", f"show|a|b\n{house.at}/desk {house.at} True\n")
+    house.run("explain", "faults", "-o", f"{folder}/b page").gives(3, "", "")
+    written(f"{folder}/b page", "line 3 is wrong\n")
+    house.run("next", "faults", "-o", f"{folder}/c page").gives(3, "", "")
+    want(sorted(os.listdir(folder)) == ["a page", "b page"], os.listdir(folder))
     refused(house.run("show", "-o"), "-o needs the name")
 
 
