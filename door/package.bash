@@ -109,19 +109,19 @@ architecture() {
   esac
 }
 
-# The least C library with which the program runs: the newest version of its symbols that it names.
-needed_library() {
+# The libraries that the program needs, if any.
+libraries() { LC_ALL=C ldd "$program" 2> /dev/null | awk '$1 ~ /\.so/ { print $1 }'; }
+
+# The Debian packages that these are in: the C library of the newest version whose symbols are named, and the library of
+# the compiler, on which the C library's package stands, too.
+needed_packages() {
   local version
   version=$(grep -aoE 'GLIBC_2\.[0-9]+(\.[0-9]+)?' "$program" | sort -Vu | tail -n 1)
-  echo "libc6${version:+ (>= ${version#GLIBC_})}"
+  echo "libc6${version:+ (>= ${version#GLIBC_})}$(libraries | sed -n 's/^libgcc_s\.so\.1$/, libgcc-s1/p')"
 }
 
-# The libraries that the program needs besides the C library.
-other_libraries() {
-  local said
-  said=$(LC_ALL=C ldd "$program" 2>&1) || return 0 # (A program that needs none.)
-  awk '{ print $1 }' <<< "$said" | grep -v -E '^(linux-vdso\.so|/lib.*/ld-linux|lib(c|m|dl|rt|pthread)\.so)' | paste -sd ' '
-}
+# The libraries that the program needs besides these.
+other_libraries() { libraries | grep -v -E '^(linux-vdso\.so|/lib.*/ld-linux|lib(c|m|dl|rt|pthread|gcc_s)\.so)' | paste -sd ' '; }
 
 control_text() {
   cat << END
@@ -129,7 +129,7 @@ Package: osp
 Version: $(version)
 Architecture: $(architecture)
 Maintainer: $maintainer
-Depends: $(needed_library), python3 (>= 3.11)
+Depends: $(needed_packages), python3 (>= 3.11)
 Section: science
 Priority: optional
 Installed-Size: $(du -sk "$1" | cut -f 1)

@@ -164,12 +164,19 @@ def _(house):
 
 @case("which C library the package needs, and that a program that needs more isn't packed")
 def _(house):
-    ask = lambda program, what: run(["bash", "-c", f'here=$0; . "$0/door/package.bash"; program={program}; {what}', TOP]).out.strip()
+    ask = lambda program, what: run(["bash", "-c", f'. "$0/door/package.bash"; program={program}; {what}', TOP]).out.strip()
     newest = max(re.findall(rb"GLIBC_2\.(\d+)", read("/bin/true")), key=int).decode()
-    want(ask("/bin/true", "needed_library") == f"libc6 (>= 2.{newest})", ask("/bin/true", "needed_library"))
+    want(ask("/bin/true", "needed_packages") == f"libc6 (>= 2.{newest})", ask("/bin/true", "needed_packages"))
     want(ask("/bin/true", "other_libraries") == "", ask("/bin/true", "other_libraries"))
-    needs_more = [it for it in ("/bin/ls", "/usr/bin/man", "/bin/bash") if os.path.exists(it)]
-    want(any(ask(it, "other_libraries") for it in needs_more), f"none of {needs_more} needs more")
+    # (In the place of `ldd`, which says what the program needs.)
+    says = lambda *names: house.write("bin/ldd", "#!/bin/sh\n" + "".join(f"echo '\t{it} => /lib/{it} (0x7f)'\n" for it in names), 0o755)
+    furnished(house)
+    says("linux-vdso.so.1", "libc.so.6", "libm.so.6", "libgcc_s.so.1", "/lib64/ld-linux-x86-64.so.2")
+    package = house.run("release", f"{house.at}/out").gives(0).out.splitlines()[1]
+    depends = subprocess.run(["dpkg-deb", "-f", package, "Depends"], capture_output=True, check=True).stdout
+    want(depends == b"libc6, libgcc-s1, python3 (>= 3.11)\n", depends)
+    says("libc.so.6", "libodd.so.3")
+    house.run("release", f"{house.at}/out").fails("more than the C library: libodd.so.3")
 
 
 @case("an installation runs every command by its name from the PATH, is replaced whole, and removed by the words that it says")
