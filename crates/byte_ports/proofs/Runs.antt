@@ -39,9 +39,10 @@ reads_count Gives old new bytes most count (reads, few, gave) exactly room = rec
 pub reads_at_most : {S : Type 0} (Gives : S → List ℕ → Result ℕ Failed → S → Type 0) (old new : S) (bytes : List ℕ) (most limit : ℕ) → GaveBytes Gives old bytes new → length bytes ≤ limit → limit ≤ most → ReadsAtMostCount Gives most limit old new
 reads_at_most Gives old new bytes most limit (reads, few, gave) within room = record { reads = reads; bytes = bytes; gave = gave; few = omega arith; within = within }
 
--- So many bytes were taken, and a receiver took them.
-pub record HasHandedOn {T : Type 0} (Took : List ℕ → T → Type 0) (count : ℕ) (left left' : Option (List ℕ)) (old new : T) : Type 0 where
+-- So many bytes were taken, by reads of a byte or more, and a receiver took them.
+pub record HasHandedOn {S T : Type 0} (Left : S → Option (List ℕ)) (Gives : S → List ℕ → Result ℕ Failed → S → Type 0) (Took : List ℕ → T → Type 0) (count : ℕ) (source source' : S) (old new : T) : Type 0 where
   pub bytes : List ℕ
-  pub taken : Consumes left left' bytes
+  pub taken : Consumes (Left source) (Left source') bytes
+  pub gave : GaveBytes Gives source bytes source'
   pub exactly : length bytes ≡ count
   pub received : (before : List ℕ) → Took before old → Took (before ++ bytes) new

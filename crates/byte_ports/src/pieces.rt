@@ -1,6 +1,7 @@
 ghost use Rattle.std.specs.Prelude.{◌<◌, ◌+◌, ◌^◌, ◌++◌, ℕ, List, length, OnOk, IsErrOf};
 ghost use Rattle.byte_ports.specs.Causes.{CountsRefusal};
 ghost use Rattle.byte_ports.specs.Taken.{TakesCount, TakesAtMost, HandsOn};
+ghost use Rattle.byte_ports.specs.Runs.{ReadsToFault, ReadsCount};
 
 use crate::ports::{Failed, Source};
 
@@ -35,11 +36,16 @@ pub fn read_pieces<S: Source, T: Receiver>(
     requires room { 0 < length buffer.old }
     requires limit { limit < 2 ^ 30 }
     requires begun { (bytes : List ℕ) × T.took bytes receiver.old }
-    ensures ok { OnOk result (HandsOn T.took limit (S.left source.old) (S.left source.new) receiver.old receiver.new) }
+    ensures ok { OnOk result (HandsOn S.left S.read_gives T.took limit source.old source.new receiver.old receiver.new) }
     ensures too_long { IsErrOf result InputStop.TooLong →
         TakesCount (S.left source.old) (S.left source.new) (limit + 1) }
     ensures taken { IsErrOf result InputStop.Fault → TakesAtMost (S.left source.old) (S.left source.new) limit }
     ensures cause { CountsRefusal (S.faults source.old) (S.faults source.new) (IsErrOf result InputStop.Fault) }
+    // What the reads gave, also where the source tells nothing of its bytes; each read but the last gave a byte or more.
+    ensures reads_fault { IsErrOf result InputStop.Fault →
+        ReadsToFault S.read_gives (limit + 2) limit source.old source.new }
+    ensures reads_too_long { IsErrOf result InputStop.TooLong →
+        ReadsCount S.read_gives (limit + 2) (limit + 1) source.old source.new }
 {
     let mut count = 0;
     'reads: loop {

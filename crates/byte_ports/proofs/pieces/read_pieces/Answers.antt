@@ -1,7 +1,24 @@
-use Rattle.std.proofs.Common.{◌++◌, ◌∙◌, ℕ, List, arith, ap, append_assoc, subst, take, drop, length-append, length-take}
+use Rattle.std.proofs.Common.{rules, [], ◌++◌, ◌∙◌, ℕ, List, arith, ap, append_assoc, subst, take, drop, length-append, length-take}
 use Rattle.std.proofs.lemmas.List.{take-append-le}
-use Rattle.std.proofs.KnownBytes.{Consumes-trans}
+use Rattle.std.proofs.KnownBytes.{Consumes-nil, Consumes-trans}
+use Rattle.byte_ports.specs.Runs.{Gave}
+use Rattle.byte_ports.proofs.Runs.{gave_more, reads_count}
 use Rattle.byte_ports.proofs.pieces.read_pieces.Goals as goal
+
+pub reads-init : goal.reads-init
+reads-init g c =
+    record {
+      within = search rules;
+      room = search rules;
+      handed = record {
+        bytes = [];
+        taken = Consumes-nil _;
+        gave = (0, search rules, Gave.none);
+        exactly = search rules;
+        received = λ b took. search rules;
+      };
+      faults_kept = search rules;
+    }
 
 pub returns-in-Ok-clause-too_long : goal.returns-in-Ok-clause-too_long
 returns-in-Ok-clause-too_long g c = λ _.
@@ -10,6 +27,15 @@ returns-in-Ok-clause-too_long g c = λ _.
       Consumes-trans _ _ _ _ _ before.taken c.in-Ok.ensures.bytes.0,
       grind (arith, length-append, length-take, before.exactly),
     )
+
+pub returns-in-Ok-clause-reads_too_long : goal.returns-in-Ok-clause-reads_too_long
+returns-in-Ok-clause-reads_too_long g c = λ _.
+    let before = c.reads.invariant.handed in
+    let once = c.in-Ok.ensures in
+    reads_count _ _ _ _ _ _
+    (gave_more _ _ _ _ _ _ _ before.gave once.once (omega arith) once.bound.0)
+    (grind (arith, length-append, length-take, before.exactly))
+    (omega arith)
 
 pub reads-preserved : goal.reads-preserved
 reads-preserved g c =
@@ -24,6 +50,7 @@ reads-preserved g c =
       handed = record {
         bytes = before.bytes ++ take more to;
         taken = Consumes-trans _ _ _ _ _ before.taken once.bytes.0;
+        gave = gave_more _ _ _ _ _ _ _ before.gave once.once (omega arith) once.bound.0;
         exactly = grind (arith, length-append, length-take, before.exactly);
         received = λ b took.
             subst (λ (t : List ℕ). g.T.Receiver.took t c.take.new.self) (ap (λ (t : List ℕ). (b ++ before.bytes) ++ t) front ∙ append_assoc b before.bytes (take more to))

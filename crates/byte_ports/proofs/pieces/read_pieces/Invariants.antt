@@ -7,7 +7,7 @@ invariant-reads g l =
     record {
       within : l.count ≤ l.limit;
       room : 0 < length l.buffer;
-      handed : HasHandedOn g.T.Receiver.took l.count (g.S.Source.left l.initial.source) (g.S.Source.left l.source) l.initial.receiver l.receiver;
+      handed : HasHandedOn g.S.Source.left g.S.Source.read_gives g.T.Receiver.took l.count l.initial.source l.source l.initial.receiver l.receiver;
       faults_kept : g.S.Source.faults l.initial.source ≤ g.S.Source.faults l.source;
     }
 
