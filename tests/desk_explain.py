@@ -202,7 +202,7 @@ class OneFault(unittest.TestCase):
         text = GRID.replace(b"parts 1 20 10", b"parts 100 100 100").replace(b"horizon 4", b"horizon 12").replace(b"spread 4", b"spread 20")
         (found,) = faults.survey(text.replace(b"first r1c1 1", b"first r1c1 100"))
         self.assertIn("12 periods with parts 100 100 100 don't fit into 128 bits: 8 periods would fit", found.says)
-        # README's table of periods by denominators.
+        # The table of periods by denominators in docs/FORMATS.md.
         for parts, most in (((1, 4, 2), 32), ((1, 10, 10), 18), ((1, 20, 10), 16), ((100, 20, 10), 15), ((1, 100, 100), 9), ((100, 100, 100), 8)):
             self.assertEqual(width.longest(parts), most)
         for at in range(3):
