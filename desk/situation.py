@@ -163,7 +163,7 @@ SEARCH = (
     Key("until", TIME, '"21:30"', moments.moment),
 )
 AREA = (
-    Key("cell", "the side of a cell in metres, from 1 to 100000", "500", number(1, 100_000), True),
+    Key("cell_size", "the side of a cell in metres, from 1 to 100000", "500", number(1, 100_000), True),
     Key("rows", "a whole number from 1 to 200", "7", whole(1, MOST_CELLS), True),
     Key("columns", "a whole number from 1 to 200", "7", whole(1, MOST_CELLS), True),
     Key("land", "a list of cells, or of blocks of cells from the north-west one to the south-east one", '["r0c0", "r5c4..r6c6"]', squares),
@@ -359,7 +359,7 @@ def area(table):
     land = it["land"] or frozenset()
     if it["rows"] * it["columns"] > MOST_SQUARES:
         raise BadSituation(f"[area] rows: rows times columns should be at most {MOST_SQUARES} squares, with land, as in rows = 7 with columns = 7, and is {it['rows'] * it['columns']}")
-    grid = geometry.Grid(it["rows"], it["columns"], it["cell"], land)
+    grid = geometry.Grid(it["rows"], it["columns"], it["cell_size"], land)
     outside = next((each for each in sorted(land) if not grid.contains(each)), None)
     if outside:
         raise BadSituation(f"[area] land: {geometry.name_of(outside)} is outside of the area, whose last cell is {geometry.name_of((grid.rows - 1, grid.columns - 1))}")

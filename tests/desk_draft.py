@@ -146,7 +146,7 @@ begins = "12:00"
 minutes = 15
 periods = 3
 [area]
-cell = 463
+cell_size = 463
 rows = 3
 columns = 4
 [[report]]
@@ -294,7 +294,7 @@ class Drifting(unittest.TestCase):
     def test_a_report_spreads_by_the_root_of_its_age(self):
         # A spread of s metres to each side has the variance s^2 / 3 in a period, and four times that in four periods. In squares of
         # a fifth of a cell, 100 m here, each step adds what linear interpolation adds: nothing for a shift of whole squares.
-        area = LAKE.replace("cell = 463", "cell = 500").replace("rows = 3", "rows = 9").replace("columns = 4", "columns = 9")
+        area = LAKE.replace("cell_size = 463", "cell_size = 500").replace("rows = 3", "rows = 9").replace("columns = 4", "columns = 9")
         for begins, periods in (("12:00", 1), ("11:15", 4), ("11:07:30", 4.5)):
             given = situation.situation((area.replace('cell = "r1c1"', "at = [2250, 2250]").replace('"12:15"', f'"{begins}"') + "[drift]\nspread = 200\n").encode())
             masses = drifting.drifted(given, given.reports[0])
@@ -510,6 +510,46 @@ class Drafts(unittest.TestCase):
             made(with_report(time="12:00").replace("periods = 3", "periods = 1") + "[drift]\nspread = 100000\n")
 
 
+class Planning(unittest.TestCase):
+    """docs/PLANNING.md says what there is."""
+
+    TABLES = {
+        "[search]": situation.SEARCH,
+        "[area]": situation.AREA,
+        "[[report]]": situation.REPORT,
+        "[[current]]": situation.CURRENT,
+        "[[wind]]": situation.WIND,
+        "[drift]": situation.DRIFT,
+        "[searcher]": situation.SEARCHER,
+        "[searcher.swath]": situation.SWATH,
+        "[light]": situation.LIGHT,
+        "[[visibility]]": situation.VISIBILITY,
+        "[parts]": situation.PARTS,
+    }
+
+    def setUp(self):
+        self.text = bytes_of(os.path.join(TOP, "docs", "PLANNING.md")).decode()
+
+    def test_its_table_has_each_key_and_no_others(self):
+        rows = [re.split(r" *\| *", it) for it in re.findall(r"(?m)^\| (`\[.*) \|$", self.text)]
+        wanted = [[f"`{name}`", f"`{it.name} = {it.example}`", it.what] for name, keys in self.TABLES.items() for it in keys]
+        self.assertEqual([it[:3] for it in rows], wanted)
+        needed = [it.needed for keys in self.TABLES.values() for it in keys]
+        self.assertEqual([it[3] == "yes" for it in rows], needed)
+
+    def test_its_example_is_the_file_and_says_what_draft_says(self):
+        file = bytes_of(os.path.join(TOP, "examples", "situations", "kayaker.toml"))
+        self.assertIn("```\n" + file.decode() + "```\n", self.text)
+        _, lines = draft.drafted(file)
+        self.assertIn("```\n" + "".join(f"osp draft: {it}\n" for it in lines) + "```\n", self.text)
+
+    def test_its_wrong_file_is_answered_so(self):
+        line = re.search(r"(?m)^osp draft: (\[search\] minutes.*)$", self.text)[1]
+        with self.assertRaises(situation.BadSituation) as caught:
+            draft.drafted(LAKE.replace("minutes = 15", "minutes = 0").encode())
+        self.assertEqual(str(caught.exception), line)
+
+
 class Wrong(unittest.TestCase):
     """Each wrong file ends with status 1, one line on standard error, and nothing on standard output."""
 
@@ -546,12 +586,12 @@ class Wrong(unittest.TestCase):
             (("a" + ".a" * 480 + " = 1\n") * 60, "TOML"),
             (markup, "there is no such key"),
             (LAKE.replace('"r0c0"', '"<b>r0c0</b>\\u001b[31m"'), "[searcher] start: it should be the name of a cell"),
-            (LAKE.replace("463", "9" * 990), "[area] cell"),
-            (LAKE.replace("463", "0x" + "f" * 980), "[area] cell"),
+            (LAKE.replace("463", "9" * 980), "[area] cell_size"),
+            (LAKE.replace("463", "0x" + "f" * 970), "[area] cell_size"),
             (LAKE.replace('"12:00"', '"9999-12-31 12:00"'), "[search] begins"),
-            (LAKE.replace("463", "1e-999999999"), "[area] cell"),
-            (LAKE.replace("463", "1e999999999"), "[area] cell"),
-            (LAKE.replace("463", "nan"), "[area] cell"),
+            (LAKE.replace("463", "1e-999999999"), "[area] cell_size"),
+            (LAKE.replace("463", "1e999999999"), "[area] cell_size"),
+            (LAKE.replace("463", "nan"), "[area] cell_size"),
             (LAKE + "\0", "TOML"),
             ("", "[search] is lacking"),
             (LAKE.replace('"12:00"', '"12:00\\u0000"'), "[search] begins"),
