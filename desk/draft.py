@@ -23,7 +23,8 @@ def drafted(text):
     draft = rounded(shares)
     scenario = writing.scenario_text(draft.scenario, telling.comments(text, shares, draft))
     if len(scenario) > MOST_SCENARIO:
-        raise BadSituation(f"[area] rows: the scenario has {len(scenario):,} bytes, and {MOST_SCENARIO:,} are the most: take larger cells and fewer of them, as in rows = 7 with columns = 7")
+        why = f"the scenario has {len(scenario):,} bytes, and {MOST_SCENARIO:,} are the most; take fewer, larger cells, as in rows = 7"
+        raise BadSituation(f"[area] rows: {why}")
     return scenario, telling.lines(shares, draft)
 
 

@@ -82,7 +82,8 @@ def step(situation, begins, ends, spread, side):
     moved = displacement(situation, begins, ends)
     cells = (max(abs(it) for it in moved) + spread) / situation.grid.side
     if cells > MOST_STEP:
-        raise BadSituation(f"[search] minutes: in a period the person drifts and spreads by up to {float(cells):.1f} cells, and {MOST_STEP} are the most: take shorter periods or larger cells, as in minutes = 10")
+        why = f"in a period the person drifts and spreads by up to {float(cells):.1f} cells, and {MOST_STEP} are the most"
+        raise BadSituation(f"[search] minutes: {why}; take shorter periods or larger cells, as in minutes = 10")
     return kernel(moved, spread, side)
 
 

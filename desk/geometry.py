@@ -54,7 +54,7 @@ class Grid:
         return min(max(square[0], 0), self.rows - 1), min(max(square[1], 0), self.columns - 1)
 
     def middle(self, square):
-        """The metres east and south of the corner of a square's middle; the square may lie outside of the area."""
+        """Where a square's middle is, also that of one outside of the area."""
         return (square[1] + Fraction(1, 2)) * self.side, (square[0] + Fraction(1, 2)) * self.side
 
     def square_at(self, place):
@@ -73,8 +73,9 @@ class Grid:
         for south in (-1, 0, 1):
             for east in (-1, 0, 1):
                 to = row + south, column + east
-                is_way = south or east if ways == 8 else abs(south) + abs(east) == 1
-                if is_way and self.is_water(to) and (self.is_water((row, column + east)) or self.is_water((row + south, column))):
+                is_way = to != square if ways == 8 else abs(south) + abs(east) == 1
+                is_open = self.is_water((row, column + east)) or self.is_water((row + south, column))
+                if is_way and is_open and self.is_water(to):
                     found.append(to)
         return found
 

@@ -59,7 +59,7 @@ class Clock:
         return self.dated(it) if it.date else limit - (limit - (it.minute - self.begins.minute)) % DAY
 
     def told(self, minutes):
-        """The time of day so many minutes after the begin, as in 19:45, with seconds where it has any, and the date where the begin has one."""
+        """The time of day so many minutes after the begin, as in 19:45. It has seconds, and a date, where there are any."""
         days, minute = divmod(self.begins.minute + minutes, DAY)
         seconds = int(minute * 60)
         text = f"{seconds // 3600:02}:{seconds // 60 % 60:02}" + (f":{seconds % 60:02}" if seconds % 60 else "")

@@ -29,7 +29,8 @@ def denominators(shares):
     found = rounding.denominators(given.periods, given.parts, shares.first, rows, misses)
     if found is None:
         told = ", ".join(f"{name} = {it}" for name, it in zip(("first", "drift", "look"), given.parts) if it)
-        raise BadSituation(f"[parts]: {given.periods} periods don't fit into 128 bits with {told}; leave numbers out or take smaller ones, as in drift = 20")
+        why = f"{given.periods} periods don't fit into 128 bits with {told}"
+        raise BadSituation(f"[parts]: {why}; leave numbers out or take smaller ones, as in drift = 20")
     return found
 
 
@@ -43,7 +44,8 @@ def rounded(shares):
     sc.moves = {at: shares.moves(it) for at, it in enumerate(shares.positions)}
     first = rounding.largest_remainder(shares.first, a)
     sc.first = [first.get(it, 0) for it in range(len(sc.names))]
-    return Rounded(sc, rounding.largest_error(shares.first, first, a), put_drift(sc, shares, d), put_looks(sc, shares, g))
+    first_error = rounding.largest_error(shares.first, first, a)
+    return Rounded(sc, first_error, put_drift(sc, shares, d), put_looks(sc, shares, g))
 
 
 def put_drift(sc, shares, whole):

@@ -21,7 +21,7 @@ class Shares:
         self.cells = squares + [drifting.LOST] * given.is_lost
         self.positions = squares + [BASE] * (given.searcher.base is not None)
         if len(self.positions) > MOST_CELLS:
-            raise BadSituation("[searcher] base: with it there are 201 positions, and 200 are the most; take one column less, as in columns = 7")
+            raise BadSituation("[searcher] base: with it there are 201 positions, and 200 are the most; take fewer cells, as in columns = 7")
         self.numbers = {it: at for at, it in enumerate(self.cells)}
         self.kernels = [drifting.step_kernel(given, t) for t in range(1, given.periods)]
         self.misses = [detection.misses(given, t) for t in range(1, given.periods + 1)]
@@ -51,7 +51,8 @@ class Shares:
             return sorted(self.numbers[it] for it in who.enters)
         found = self.grid.neighbours(position, who.reaches) + [position] * who.stays
         if not found:
-            raise BadSituation(f"[searcher] stays: it should be true, since no cell is reached from {geometry.name_of(position)}, as in stays = true")
+            name = geometry.name_of(position)
+            raise BadSituation(f"[searcher] stays: it should be true, since no cell is reached from {name}, as in stays = true")
         return sorted(self.numbers[it] for it in found)
 
     def start(self):

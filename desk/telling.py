@@ -48,14 +48,16 @@ def times(given):
     """When the periods and their looks are."""
     told = [given.clock.told(it) for it in (0, given.look_time(given.periods), given.look_time(1))]
     count = f"{given.periods} periods" if given.periods > 1 else "1 period"
-    return f"{count} of {decimal(given.minutes)} minutes from {told[0]} to {told[1]}; a look counts at the end of its period, the first at {told[2]}"
+    looks = f"a look counts at the end of its period, the first at {told[2]}"
+    return f"{count} of {decimal(given.minutes)} minutes from {told[0]} to {told[1]}; {looks}"
 
 
 def parts(draft):
     """The denominators, and the largest rounding by each."""
     a, d, g = draft.scenario.parts
     largest = [percent(it) for it in (draft.first, draft.drift, draft.look)]
-    return f"parts {a} {d} {g}: the largest rounding of the first distribution is {largest[0]} percent, of the drift {largest[1]}, of the looks {largest[2]}"
+    told = f"of the first distribution is {largest[0]} percent, of the drift {largest[1]}, of the looks {largest[2]}"
+    return f"parts {a} {d} {g}: the largest rounding {told}"
 
 
 def lines(shares, draft):
@@ -78,7 +80,7 @@ def detections(shares):
         found = [1 - it[at] for it in shares.misses if it[at] is not None]
         if found:
             least, most = percent(min(found)), percent(max(found))
-            yield f"a look finds {least} percent of what is {where}" if least == most else f"a look finds {least} to {most} percent of what is {where}"
+            yield f"a look finds {least if least == most else f'{least} to {most}'} percent of what is {where}"
 
 
 def masses(sc):
@@ -99,10 +101,9 @@ def edge(shares, sc):
     found = masses(sc)
     border = [at for at, it in enumerate(shares.cells) if it != drifting.LOST and shares.grid.is_edge(it)]
     first, last = (percent(sum(it[at] for at in border)) for it in found)
-    line = f"in the cells at the edge of the area are {first} percent at the first look, and {last} at the last, before any look"
+    yield f"in the cells at the edge of the area are {first} percent at the first look, and {last} at the last, if no look finds anything"
     if shares.given.is_lost:
-        line += f"; {percent(found[1][shares.numbers[drifting.LOST]])} percent have left it by then"
-    yield line
+        yield f"{percent(found[1][shares.numbers[drifting.LOST]])} percent have left the area by the last look"
 
 
 def warnings(shares, draft):
@@ -110,7 +111,8 @@ def warnings(shares, draft):
     given = shares.given
     way = geometry.metres(given.searcher.speed, given.minutes)
     if way < given.grid.side:
-        yield f"note: the searcher makes {decimal(way)} metres in a period, and its next cell is {decimal(given.grid.side)} away: take longer periods or smaller cells"
+        told = f"the searcher makes {decimal(way)} metres in a period, and its next cell is {decimal(given.grid.side)} metres away"
+        yield f"note: {told}; take longer periods or smaller cells"
     if any(it < detection.SURE for pair in shares.misses for it in pair if it is not None):
         yield "note: a look finds more than 99 percent; larger cells or shorter periods say more of such a searcher"
     if max(draft.first, draft.drift, draft.look) > COARSE:

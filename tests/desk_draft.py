@@ -11,7 +11,7 @@ import unittest
 from decimal import Decimal
 from fractions import Fraction
 
-from desk import detection, draft, drifting, forms, geometry, moments, rounding, situation, writing
+from desk import detection, draft, drifting, forms, geometry, keys, moments, rounding, situation, writing
 
 TOP = os.path.dirname(os.path.dirname(os.path.realpath(__file__)))
 EXAMPLES = sorted(glob.glob(os.path.join(TOP, "examples", "*.scenario")))
@@ -259,7 +259,7 @@ class Drifting(unittest.TestCase):
         self.assertEqual((len(sc.names), len(sc.positions)), (13, 12))
         self.assertTrue(all(12 not in look for look in sc.looks.values()))
         # From r1c1 all have left after two steps but a quarter, which went one cell on twice.
-        self.assertTrue(any("75.000 percent have left it" in it for it in lines), lines)
+        self.assertTrue(any(it.startswith("75.000 percent have left the area") for it in lines), lines)
 
     def test_what_would_run_aground_stays_in_its_cell(self):
         sc, _, _ = made(LAKE.replace("columns = 4", 'columns = 4\nland = ["r1c2", "r0c3..r2c3"]') + "[[current]]\nknots = 0.4\ntowards = 90\n")
@@ -446,7 +446,7 @@ class Times(unittest.TestCase):
         for begins in ("12:00:00", "2026-07-04T12:00:00"):
             text = LAKE.replace('"12:00"', begins)
             self.assertEqual(made(text)[0].key(), made(LAKE)[0].key())
-        with self.assertRaisesRegex(situation.BadSituation, "without a zone"):
+        with self.assertRaisesRegex(keys.BadSituation, "without a zone"):
             made(LAKE.replace('"12:00"', "2026-07-04T12:00:00Z"))
 
     def test_periods_until_a_time(self):
@@ -503,10 +503,10 @@ class Drafts(unittest.TestCase):
     def test_a_step_of_most_cells(self):
         # 2 knots are 2 cells in a period.
         made(LAKE + "[[current]]\nknots = 2\ntowards = 90\n")
-        with self.assertRaisesRegex(situation.BadSituation, r"\[search\] minutes: .* up to 2\.1 cells"):
+        with self.assertRaisesRegex(keys.BadSituation, r"\[search\] minutes: .* up to 2\.1 cells"):
             made(LAKE + "[[current]]\nknots = 2.1\ntowards = 90\n")
         # A report's drift is held against it, too: with one period there is no step.
-        with self.assertRaisesRegex(situation.BadSituation, r"\[search\] minutes: "):
+        with self.assertRaisesRegex(keys.BadSituation, r"\[search\] minutes: "):
             made(with_report(time="12:00").replace("periods = 3", "periods = 1") + "[drift]\nspread = 100000\n")
 
 
@@ -514,17 +514,17 @@ class Planning(unittest.TestCase):
     """docs/PLANNING.md says what there is."""
 
     TABLES = {
-        "[search]": situation.SEARCH,
-        "[area]": situation.AREA,
-        "[[report]]": situation.REPORT,
-        "[[current]]": situation.CURRENT,
-        "[[wind]]": situation.WIND,
-        "[drift]": situation.DRIFT,
-        "[searcher]": situation.SEARCHER,
-        "[searcher.swath]": situation.SWATH,
-        "[light]": situation.LIGHT,
-        "[[visibility]]": situation.VISIBILITY,
-        "[parts]": situation.PARTS,
+        "[search]": keys.SEARCH,
+        "[area]": keys.AREA,
+        "[[report]]": keys.REPORT,
+        "[[current]]": keys.CURRENT,
+        "[[wind]]": keys.WIND,
+        "[drift]": keys.DRIFT,
+        "[searcher]": keys.SEARCHER,
+        "[searcher.swath]": keys.SWATH,
+        "[light]": keys.LIGHT,
+        "[[visibility]]": keys.VISIBILITY,
+        "[parts]": keys.PARTS,
     }
 
     def setUp(self):
@@ -532,9 +532,9 @@ class Planning(unittest.TestCase):
 
     def test_its_table_has_each_key_and_no_others(self):
         rows = [re.split(r" *\| *", it) for it in re.findall(r"(?m)^\| (`\[.*) \|$", self.text)]
-        wanted = [[f"`{name}`", f"`{it.name} = {it.example}`", it.what] for name, keys in self.TABLES.items() for it in keys]
+        wanted = [[f"`{name}`", f"`{it.name} = {it.example}`", it.what] for name, its_keys in self.TABLES.items() for it in its_keys]
         self.assertEqual([it[:3] for it in rows], wanted)
-        needed = [it.needed for keys in self.TABLES.values() for it in keys]
+        needed = [it.needed for its_keys in self.TABLES.values() for it in its_keys]
         self.assertEqual([it[3] == "yes" for it in rows], needed)
 
     def test_its_example_is_the_file_and_says_what_draft_says(self):
@@ -545,7 +545,7 @@ class Planning(unittest.TestCase):
 
     def test_its_wrong_file_is_answered_so(self):
         line = re.search(r"(?m)^osp draft: (\[search\] minutes.*)$", self.text)[1]
-        with self.assertRaises(situation.BadSituation) as caught:
+        with self.assertRaises(keys.BadSituation) as caught:
             draft.drafted(LAKE.replace("minutes = 15", "minutes = 0").encode())
         self.assertEqual(str(caught.exception), line)
 
@@ -568,7 +568,7 @@ class Wrong(unittest.TestCase):
 
     def says(self, given, *wanted):
         """What is wrong with a file, as the helper's line has it without a process of its own."""
-        with self.assertRaises(situation.BadSituation) as caught:
+        with self.assertRaises(keys.BadSituation) as caught:
             draft.drafted(given if isinstance(given, bytes) else given.encode("utf-8"))
         for each in wanted:
             self.assertIn(each, str(caught.exception))
@@ -600,23 +600,23 @@ class Wrong(unittest.TestCase):
                 self.assertIn(part, self.line_of(given))
 
     def test_each_example_of_a_key_is_a_value_of_it(self):
-        tables = [it for name, it in vars(situation).items() if isinstance(it, tuple) and it and isinstance(it[0], situation.Key)]
+        tables = [it for name, it in vars(keys).items() if isinstance(it, tuple) and it and isinstance(it[0], keys.Key)]
         self.assertGreaterEqual(len(tables), 11)
         for key in (it for table in tables for it in table):
             value = tomllib.loads(f"it = {key.example}", parse_float=Decimal)["it"]
             self.assertIsNotNone(key.take(value), key.name)
 
     def test_each_key_of_a_wrong_type_is_named_with_an_example(self):
-        tables = {"search": situation.SEARCH, "area": situation.AREA, "report": situation.REPORT, "current": situation.CURRENT, "wind": situation.WIND, "drift": situation.DRIFT,
-                  "searcher": situation.SEARCHER, "light": situation.LIGHT, "visibility": situation.VISIBILITY, "parts": situation.PARTS}
-        for name, keys in tables.items():
-            for key in keys:
+        tables = {"search": keys.SEARCH, "area": keys.AREA, "report": keys.REPORT, "current": keys.CURRENT, "wind": keys.WIND, "drift": keys.DRIFT,
+                  "searcher": keys.SEARCHER, "light": keys.LIGHT, "visibility": keys.VISIBILITY, "parts": keys.PARTS}
+        for name, its_keys in tables.items():
+            for key in its_keys:
                 for value in ("{ a = 1 }", '"<b>"', "-7", "[[]]", "1979-05-27"):
                     if key.name == "swath" and value == "{ a = 1 }":
                         continue
                     head = f"[[{name}]]" if name in ("report", "current", "wind", "visibility") else f"[{name}]"
                     # A table that stands is written anew with its needed keys and this one.
-                    others = "".join(f"{it.name} = {it.example}\n" for it in keys if it.needed and it.name != key.name)
+                    others = "".join(f"{it.name} = {it.example}\n" for it in its_keys if it.needed and it.name != key.name)
                     kept = re.sub(rf"(?ms)^\[+{name}\]+\n.*?(?=^\[|\Z)", "", LAKE)
                     said = self.says(f"{kept}{head}\n{others}{key.name} = {value}\n", f"[{name}")
                     if key.name == "swath":
@@ -625,10 +625,10 @@ class Wrong(unittest.TestCase):
                         self.assertIn(f"{key.name}: it should be {key.what}, as in {key.name} = {key.example}", said)
 
     def test_each_needed_key_is_missed(self):
-        for name, keys in (("search", situation.SEARCH), ("area", situation.AREA), ("searcher", situation.SEARCHER)):
-            for key in keys:
+        for name, its_keys in (("search", keys.SEARCH), ("area", keys.AREA), ("searcher", keys.SEARCHER)):
+            for key in its_keys:
                 if key.needed:
-                    self.says(re.sub(rf"(?m)^{key.name} = .*\n", "", LAKE, count=1 if name != "report" else 0), f"[{name}] {key.name} is lacking", key.example)
+                    self.says(re.sub(rf"(?m)^{key.name} = .*\n", "", LAKE, count=1), f"[{name}] {key.name} is lacking", key.example)
 
     def test_what_contradicts(self):
         for old, new, wanted in (
@@ -637,20 +637,25 @@ class Wrong(unittest.TestCase):
             ("periods = 3", 'until = "12:10"', "[search] until: it should leave 1 to 32 periods"),
             ("periods = 3", "perods = 3", "[search] 'perods': there is no such key; [search] has begins"),
             ("rows = 3", "rows = 51", "[area] rows: rows times columns without land should be 1 to 200"),
-            ("rows = 3", 'rows = 3\nland = ["r3c0"]', "[area] land: r3c0 is outside"),
+            ("rows = 3", "rows = 50\nedge = \"lost\"", "[area] rows: rows times columns without land should be 1 to 199"),
+            ("rows = 3", "rows = 50", None),
+            ("rows = 3", "rows = 200\nland = [\"r3c0..r199c3\"]", None),
+            ("columns = 4", "columns = 200\nland = [\"r0c4..r2c199\"]", None),
+            ("rows = 3\ncolumns = 4", "rows = 32\ncolumns = 32", "[area] rows: rows times columns should be at most 1000 with land"),
+            ("rows = 3", 'rows = 3\nland = ["r3c0"]', "[area] land: it should be in the area, whose last cell is r2c3, and names r3c0"),
             ("rows = 3", 'rows = 3\nland = ["r2c0..r0c0"]', "[area] land: it should be"),
-            ("rows = 3", 'rows = 3\nland = ["r1c1"]', "[[report]] 1: cell: it should be in a cell of the area that isn't land"),
-            ("rows = 3", 'rows = 3\nland = ["r0c0"]', "[searcher] start: it should name cells"),
-            ('cell = "r1c1"', 'cell = "r1c4"', "[[report]] 1: cell"),
-            ('cell = "r1c1"', "at = [1852, 10]", "[[report]] 1: at"),
-            ('cell = "r1c1"', 'cell = "r1c1"\nat = [10, 10]', "[[report]] 1: cell: either it or at"),
-            ('"12:15"', '"2026-07-04 12:00"', "[[report]] 1: time: it has a date"),
+            ("rows = 3", 'rows = 3\nland = ["r1c1"]', "[[report]] 1 cell: it should be in a cell of the area that isn't land, and is in r1c1"),
+            ("rows = 3", 'rows = 3\nland = ["r0c0"]', "[searcher] start: it should be in the area and not on land, and names r0c0"),
+            ('cell = "r1c1"', 'cell = "r1c4"', "[[report]] 1 cell"),
+            ('cell = "r1c1"', "at = [1852, 10]", "[[report]] 1 at"),
+            ('cell = "r1c1"', 'cell = "r1c1"\nat = [10, 10]', "[[report]] 1 cell: either it or at"),
+            ('"12:15"', '"2026-07-04 12:00"', "[[report]] 1 time: it has a date"),
             ('start = "r0c0"', "base = [10, 10]\nenters = [\"r0c0\"]", "[searcher] base: it should be outside"),
             ('start = "r0c0"', "base = [-10, 10]", "[searcher] enters"),
             ("speed = 4", "speed = 4\nsearch_minutes = 16", "[searcher] search_minutes"),
             ("[[report]]", '[[wind]]\nknots = 9\nfrom = 0\n[[report]]', "[drift] leeway is lacking"),
-            ("[[report]]", '[[current]]\nbegins = "12:20"\nknots = 1\ntowards = 0\n[[report]]', "[[current]] 1: begins: it should be at or before 12:15"),
-            ("[[report]]", '[[current]]\nbegins = "11:00"\nknots = 1\ntowards = 0\n[[current]]\nbegins = "10:00"\nknots = 1\ntowards = 0\n[[report]]', "[[current]] 2: begins: rows should stand in the order of time"),
+            ("[[report]]", '[[current]]\nbegins = "12:20"\nknots = 1\ntowards = 0\n[[report]]', "[[current]] 1 begins: it should be at or before 12:15"),
+            ("[[report]]", '[[current]]\nbegins = "11:00"\nknots = 1\ntowards = 0\n[[current]]\nbegins = "10:00"\nknots = 1\ntowards = 0\n[[report]]', "[[current]] 2 begins: rows should stand in the order of time"),
             ("[[report]]", "[light]\nnight = 0.5\n[[report]]", "[light] sunset: it or sunrise"),
             ("periods = 3", "periods = 2\n[parts]\ndrift = 1000000\nlook = 1000000\nfirst = 1000000", None),
             ("periods = 3", "periods = 3\n[parts]\ndrift = 1000000\nlook = 1000000\nfirst = 1000000", "[parts]: 3 periods don't fit into 128 bits with first = 1000000, drift = 1000000, look = 1000000"),

@@ -1,0 +1,223 @@
+"""The keys of a situation: the tables of its TOML file, what each value should be, an example of it, and what takes it."""
+import dataclasses
+import re
+from decimal import Decimal
+from fractions import Fraction
+
+from desk import moments
+from desk.forms import MOST_CELLS, MOST_PART
+from desk.rounding import MOST_PERIODS
+
+# The most squares of an area, with its land.
+MOST_SQUARES = 1000
+SQUARE = re.compile(r"r(\d{1,3})c(\d{1,3})", re.ASCII)
+
+
+class BadSituation(Exception):
+    """What is wrong with a situation, in one line."""
+
+
+@dataclasses.dataclass(frozen=True)
+class Key:
+    """A key of a table: its name, what its value should be, an example of the value, and what makes a value of what TOML gave.
+
+    `take` raises ValueError where the value isn't one.
+    """
+
+    name: str
+    what: str
+    example: str
+    take: object
+    needed: bool = False
+
+    def told(self):
+        return f"it should be {self.what}, as in {self.name} = {self.example}"
+
+
+def shown(value):
+    """A value in a line: short, and in ASCII."""
+    if isinstance(value, dict):
+        return "a table"
+    if isinstance(value, list):
+        return "an array"
+    if isinstance(value, int) and abs(value) >= 10**30:
+        return "a number with too many digits"
+    text = ascii(value) if isinstance(value, str) else str(value)
+    return text if len(text) <= 40 else text[:36] + " .."
+
+
+def take_table(table, where, keys):
+    """The values of a table by key; None where a key that isn't needed is lacking. Raises BadSituation."""
+    if not isinstance(table, dict):
+        raise BadSituation(f"{where}: it should be a table, as in examples/situations/kayaker.toml, and is {shown(table)}")
+    names = [it.name for it in keys]
+    unknown = next((it for it in table if it not in names), None)
+    if unknown is not None:
+        raise BadSituation(f"{where} {shown(unknown)}: there is no such key; {where} has {', '.join(names)}")
+    return {key.name: take_key(table, where, key) for key in keys}
+
+
+def take_key(table, where, key):
+    if key.name not in table:
+        if key.needed:
+            raise BadSituation(f"{where} {key.name} is lacking: {key.told()}")
+        return None
+    try:
+        return key.take(table[key.name])
+    except (ValueError, OverflowError):
+        raise BadSituation(f"{where} {key.name}: {key.told()}, and is {shown(table[key.name])}") from None
+
+
+# ---- what values are
+
+
+def is_short(value):
+    """Whether a Decimal has few digits as a fraction. (That of 1e-999999 would have a million.)"""
+    return value.is_finite() and len(value.as_tuple().digits) <= 30 and (value == 0 or abs(value.adjusted()) <= 12)
+
+
+def number(least, most, above=False):
+    """Takes an exact number from `least` to `most`, or above `least`."""
+
+    def take(value):
+        if isinstance(value, bool) or not isinstance(value, (int, Decimal)):
+            raise ValueError("no number")
+        if isinstance(value, Decimal) and not is_short(value):
+            raise ValueError("not finite, or too many digits")
+        if not (least <= value <= most) or above and value == least:
+            raise ValueError("out of its range")
+        return Fraction(value)
+
+    return take
+
+
+def whole(least, most):
+    """Takes a whole number from `least` to `most`."""
+
+    def take(value):
+        if isinstance(value, bool) or not isinstance(value, int) or not least <= value <= most:
+            raise ValueError("no whole number in its range")
+        return value
+
+    return take
+
+
+def one_of(*words):
+    def take(value):
+        if isinstance(value, bool) or value not in words:
+            raise ValueError("none of these")
+        return value
+
+    return take
+
+
+def truth(value):
+    if not isinstance(value, bool):
+        raise ValueError("neither true nor false")
+    return value
+
+
+def text(value):
+    if not isinstance(value, str) or len(value) > 200 or not value.isprintable():
+        raise ValueError("no text of one line")
+    return value
+
+
+def square(value):
+    """A pair of row and column, of a name such as r2c3."""
+    found = SQUARE.fullmatch(value) if isinstance(value, str) else None
+    if not found or max(int(it) for it in found.groups()) >= MOST_CELLS:
+        raise ValueError("no cell")
+    return int(found[1]), int(found[2])
+
+
+def block(value):
+    """The first and the last square of a name such as r2c3, or of a block such as r0c0..r2c3."""
+    first, dots, last = value.partition("..") if isinstance(value, str) else (value, "", "")
+    return square(first), square(last if dots else first)
+
+
+def squares(value):
+    """The squares of a list of names such as r2c3, and of blocks such as r0c0..r2c3, from one corner to the other."""
+    if not isinstance(value, list) or len(value) > MOST_SQUARES:
+        raise ValueError("no list, or a long one")
+    found = set()
+    for each in value:
+        first, last = block(each)
+        if not 0 < (last[0] + 1 - first[0]) * (last[1] + 1 - first[1]) <= MOST_SQUARES or first[0] > last[0]:
+            raise ValueError("no block from its north-west corner to its south-east corner, or a large one")
+        found |= {(row, column) for row in range(first[0], last[0] + 1) for column in range(first[1], last[1] + 1)}
+    return frozenset(found)
+
+
+def place(value):
+    """A pair of metres east and south of the north-west corner."""
+    if not isinstance(value, list) or len(value) != 2:
+        raise ValueError("no pair")
+    take = number(-1_000_000, 1_000_000)
+    return take(value[0]), take(value[1])
+
+
+TITLE = Key("title", "a text of one line, up to 200 characters", '"Kayaker off the point"', text)
+TIME = "a local time, or a date and a time, without a zone"
+SEARCH = (
+    Key("begins", TIME, '"19:30"', moments.moment, True),
+    Key("minutes", "the minutes of a period, from 1 to 1440", "15", number(1, 1440), True),
+    Key("periods", "a whole number from 1 to 32", "8", whole(1, MOST_PERIODS)),
+    Key("until", TIME, '"21:30"', moments.moment),
+)
+LAND = '["r0c0", "r5c4..r6c6"]'
+AREA = (
+    Key("cell_size", "the side of a cell in metres, from 1 to 100000", "500", number(1, 100_000), True),
+    Key("rows", "a whole number from 1 to 200", "7", whole(1, MOST_CELLS), True),
+    Key("columns", "a whole number from 1 to 200", "7", whole(1, MOST_CELLS), True),
+    Key("land", "a list of cells, or of blocks of cells from the north-west one to the south-east one", LAND, squares),
+    Key("edge", '"stays" or "lost"', '"stays"', one_of("stays", "lost")),
+)
+PLACE = "a pair of metres east and south of the area's north-west corner"
+REPORT = (
+    Key("cell", "the name of a cell", '"r2c3"', square),
+    Key("at", PLACE, "[1750, 1250]", place),
+    Key("radius", "metres from 0 to 100000", "400", number(0, 100_000)),
+    Key("weight", "a number above 0 and up to 1000000", "2", number(0, 1_000_000, True)),
+    Key("time", TIME, '"18:45"', moments.moment, True),
+)
+CURRENT = (
+    Key("begins", TIME, '"18:00"', moments.moment),
+    Key("knots", "a number from 0 to 20", "0.6", number(0, 20), True),
+    Key("towards", "the true bearing in degrees, from 0 to 360, that the water goes to", "45", number(0, 360), True),
+)
+WIND = (
+    Key("begins", TIME, '"18:00"', moments.moment),
+    Key("knots", "a number from 0 to 100", "12", number(0, 100), True),
+    Key("from", "the true bearing in degrees, from 0 to 360, that the wind comes from", "270", number(0, 360), True),
+)
+DRIFT = (
+    Key("spread", "metres from 0 to 100000", "100", number(0, 100_000)),
+    Key("leeway", "a share of the wind's speed, from 0 to 1", "0.03", number(0, 1)),
+)
+SEARCHER = (
+    Key("start", "the name of a cell", '"r6c3"', square),
+    Key("base", f"{PLACE}, outside of the area", "[-2000, 1500]", place),
+    Key("enters", "a list of cells, or of blocks of cells, where it comes into the area from its base", '["r0c0..r6c0"]', squares),
+    Key("speed", "the knots at which it searches, above 0 and up to 1000", "8", number(0, 1000, True), True),
+    Key("sweep_width", "metres above 0 and up to 100000", "300", number(0, 100_000, True), True),
+    Key("search_minutes", "the minutes of a period in which it searches, above 0 and up to a period", "12", number(0, 1440, True)),
+    Key("reaches", "4 (cells by their sides) or 8 (by their corners, too)", "4", one_of(4, 8)),
+    Key("stays", "true or false: whether it may stay for a period", "true", truth),
+    Key("swath", "a table with course and sweep_width", '{ course = "east-west", sweep_width = 150 }', lambda it: it),
+)
+SWATH = (
+    Key("course", '"east-west" or "north-south"', '"east-west"', one_of("east-west", "north-south"), True),
+    Key("sweep_width", "metres above 0 and up to 100000", "150", number(0, 100_000, True), True),
+)
+LIGHT = (
+    Key("sunrise", TIME, '"05:10"', moments.moment),
+    Key("sunset", TIME, '"20:45"', moments.moment),
+    Key("night", "the factor of the sweep width by night, from 0 to 1", "0.3", number(0, 1), True),
+)
+VISIBILITY = (
+    Key("begins", TIME, '"20:15"', moments.moment),
+    Key("factor", "the factor of the sweep width, from 0 to 10", "0.5", number(0, 10), True),
+)
+PARTS = tuple(Key(it, "a whole number from 1 to 1000000", "20", whole(1, MOST_PART)) for it in ("first", "drift", "look"))
