@@ -14,11 +14,11 @@ NOT_ACCEPTED, BAD_SCENARIO, UNREADABLE, TOO_LONG, FAILED = 1, 3, 5, 9, 70
 
 
 class Refused(Exception):
-    """There is nothing to show: the exit status, and what is said on standard error."""
+    """There is nothing to show: the exit status, what is said on standard error, and a note that stands before it, if any."""
 
-    def __init__(self, status, said):
+    def __init__(self, status, said, note=""):
         super().__init__(said)
-        self.status, self.said = status, said
+        self.status, self.said, self.note = status, said, note
 
 
 @dataclasses.dataclass
@@ -83,20 +83,26 @@ def joined(scenario, plan):
     return scenario + (b"" if scenario.endswith(b"\n") else b"\n") + plan
 
 
+def notes_and_rest(said):
+    """Of what the program said on standard error, the lines of ./osp on an unproved run, and all others."""
+    lines = said.decode("utf-8", "replace").strip().splitlines()
+    return ["\n".join(it for it in lines if it.startswith(UNPROVED) == wanted) for wanted in (True, False)]
+
+
 def asked(word, given):
-    """What the program answers to one of its commands. Raises Refused where it doesn't end well."""
+    """What the program answers to one of its commands, and its note on an unproved run. Raises Refused where it doesn't end well."""
     try:
         answer = program.ask([word], given)
     except OSError as why:
         raise Refused(FAILED, f"cannot run {shown(program.OSP)}: {why.strerror or why}") from None
-    said = answer.err.decode("utf-8", "replace").strip()
+    note, said = notes_and_rest(answer.err)
     if answer.status == NOT_ACCEPTED:
         reason = answer.out.decode("ascii", "replace").strip() or said
-        raise Refused(NOT_ACCEPTED, f"the plan isn't accepted: {reason}")
+        raise Refused(NOT_ACCEPTED, f"the plan isn't accepted: {reason}", note)
     if answer.status != 0:
         status = answer.status if 0 < answer.status < 128 else FAILED
-        raise Refused(status, said or f"osp {word} ended with status {answer.status}")
-    return answer.out, said
+        raise Refused(status, said or f"osp {word} ended with status {answer.status}", note)
+    return answer.out, "\n".join(it for it in (note, said) if it)
 
 
 def head(rest, sc):

@@ -36,7 +36,7 @@ def run(name, more, make, words):
     try:
         text, note = make(files, times)
     except accepted.Refused as refused:
-        say(f"osp {name}: {refused.said}")
+        say(f"{refused.note}\nosp {name}: {refused.said}".lstrip())
         return refused.status
     if note:
         say(note)

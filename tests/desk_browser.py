@@ -139,7 +139,7 @@ class Browser(unittest.TestCase):
         try:
             files = pages_for(room)
             words = [PYTHON, SCRIPT, cls.folder, *files.values()]
-            done = subprocess.run(words, capture_output=True, text=True, check=False, timeout=400, cwd=TOP)
+            done = subprocess.run(words, capture_output=True, text=True, check=False, timeout=900, cwd=TOP)
         finally:
             room.doCleanups()
         if done.returncode == LACKING:

@@ -466,15 +466,23 @@ class Refusals(Room):
         self.assertEqual(self.run_helper(brief.main, self.files("two-cells"))[0], 0)
 
     def test_an_unproved_run_is_told(self):
-        right = read(f"{EXAMPLES}/two-cells.report").decode()
-        self.with_program(f"cat > /dev/null; echo 'osp: unproved run, since x' >&2; [ $1 = check ] && echo accepted || cat << 'END'\n{right}END")
+        """The note of ./osp goes on to standard error, the page and the text say so, and it isn't taken for a reason."""
+        note = "echo 'osp: unproved run, since x' >&2"
+        self.with_program(f"cat > /dev/null; {note}; [ $1 = check ] && echo accepted || cat {EXAMPLES}/two-cells.report")
+        os.rename(program.OSP, self.room + "/osp")
+        program.OSP = self.room + "/osp"
         with unittest.mock.patch.object(program, "TOP", self.room):
-            os.rename(program.OSP, self.room + "/osp")
-            program.OSP = self.room + "/osp"
             for helper in (show, brief):
                 status, out, err = self.run_helper(helper.main, self.files("two-cells"))
                 self.assertEqual((status, err), (0, "osp: unproved run, since x\n"))
                 self.assertIn("Checked by an unproved run of the program.", out)
+        for script, status, said in (
+            ("kill -9 $$", 70, "osp check ended with status -9"),
+            ("echo rejected 3 ValueWrong; exit 1", 1, "the plan isn't accepted: rejected 3 ValueWrong"),
+        ):
+            self.with_program(f"{note}; {script}")
+            ended, out, err = self.run_helper(brief.main, self.files("two-cells"))
+            self.assertEqual((ended, out, err), (status, "", f"osp: unproved run, since x\nosp brief: {said}\n"))
 
     def test_output_that_cannot_be_written(self):
         for helper in ("show", "brief"):
