@@ -59,8 +59,10 @@ def keyword_near(word):
 
 
 def text_alone(line):
-    """A line without the bytes that no text has: a mark at its front goes, others become blanks."""
-    return bytes(it if it in forms.TEXT else 32 for it in line.removeprefix(b"\xef\xbb\xbf"))
+    """A line without the bytes that no text has: a mark at its front goes, what looks like a blank becomes one, and other bytes
+    become `_`, so that a name with a foreign letter stays one name."""
+    line = line.removeprefix(b"\xef\xbb\xbf").replace(b"\xc2\xa0", b" ")
+    return bytes(it if it in forms.TEXT else 32 if it < 32 else 95 for it in line)
 
 
 class Survey(forms.ScenarioReader):
@@ -119,7 +121,11 @@ class Survey(forms.ScenarioReader):
             return [Fault(len(self.lines) + 1, "EarlyEnd", "the text says nothing: a scenario begins with `scenario 1`")]
         is_text = forms.TEXT.issuperset(self.lines[first - 1].strip(b" \t\r"))
         words = split(self.lines[first - 1])
-        says = "this is a plan, and a scenario is wanted first" if words[0] == b"plan" else "this isn't the text of a scenario, which begins with `scenario 1`"
+        says = "this isn't the text of a scenario, which begins with `scenario 1`"
+        if words[0] == b"plan":
+            says = "this is a plan, and a scenario is wanted first"
+        elif b"\0" in words[0]:
+            says += ": is it saved as UTF-16? Save it as UTF-8 without BOM"
         return [Fault(first, "BadLine" if is_text else "NotText", says)]
 
     def take_on(self, line):
@@ -365,6 +371,7 @@ class Survey(forms.ScenarioReader):
         """All cells count as having their row."""
         for it in range(len(self.sc.names)):
             getattr(self.sc, rows).setdefault(it, {})
+            self.rows_at.setdefault((rows, it), self.at)
 
     def give_up_scenario(self, _):
         self.guess_version()
@@ -445,7 +452,7 @@ class Survey(forms.ScenarioReader):
                 lacking[{b"spread": "drift", b"rate": "looks"}[word]].clear()
         lost = any(number not in getattr(self.sc, rows) for rows, names in places.items() for number in range(len(names)))
         if moved and lost:
-            self.tell("MissingRow", f"`end` stands before rows in {quoting.lines(moved)}: move it behind them", at)
+            self.tell("MissingRow", f"`end` stands before rows in {quoting.lines(moved)}: it is the last line of the text", at)
         for rows, word, one, all_of_them in NEEDED[self.version]:
             self.missing_row(at, word, lacking[rows], len(places[rows]), one, all_of_them)
         return moved if lost else []

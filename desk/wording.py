@@ -33,6 +33,9 @@ USAGE = {
 KEPT = {b"moves": "moves", b"drift": "drift", b"driftin": "drift_in", b"look": "looks", b"lookin": "looks_in", b"overlook": "looks"}
 
 
+LOOK_ALIKES = bytes.maketrans(b"lIoO", b"1100")
+
+
 class Unknown:
     """A number that isn't known, since its line is wrong. Every comparison with it comes out as if nothing were wrong."""
 
@@ -121,7 +124,9 @@ def over(field, most):
 
 
 def near(wanted, names):
-    """The name that is spelled most like another one, or None."""
+    """The name that is spelled most like another one, or None. Letters that look like digits come first: r1cl for r1c1."""
+    if (alike := wanted.translate(LOOK_ALIKES)) in names:
+        return alike
     by_text = {it.decode("ascii", "replace"): it for it in names}
     found = difflib.get_close_matches(wanted.decode("ascii", "replace")[: quoting.MOST_FIELD], by_text, 1, 0.6)
     return by_text[found[0]] if found else None
@@ -202,7 +207,7 @@ class Words:
         period = f" for period {int(self.shape.row[0])}" if len(self.shape.row) > 1 else ""
         sort = "look" if self.word == b"lookin" else "drift" if self.word == b"driftin" else self.word.decode("ascii")
         name = quoting.name(self.shape.row[-1])
-        return f"{name} has a {sort} row{period}{by_line(at)} already: take one of the two away"
+        return f"{name} has its {sort} row{period}{by_line(at)} already: take one of the two away"
 
     def merged(self, field):
         """What to write in place of a name that stands twice."""

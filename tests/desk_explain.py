@@ -132,6 +132,7 @@ ONE = [
     (BAY, 17, b"lookin 4 cliff", 17, "OverLimit", "period 4 is too late: the last period is 3"),
     (LAKE, 7, b"start d", 7, "UnknownName", "`d` isn't a cell"),
     (GRID, 6, b"first r3c1 1", 6, "UnknownName", "the grid has r0c0 to r2c3"),
+    (GRID, 6, b"first r1cl 1", 6, "UnknownName", "is r1c1 meant?"),
     (BAY, 16, b"look bota reef 1", 16, "UnknownName", "`bota` isn't a position: is boat meant?"),
     (BAY, 11, b"moves boat boat bay", 11, "UnknownName", "`bay` isn't a position: it is a cell"),
     (BAY, 16, b"look boat reef 1 ref 1", 16, "UnknownName", "is reef meant?"),
@@ -144,11 +145,11 @@ ONE = [
     (GRID, 7, None, 8, "MissingRow", "12 of 12 have no drift row: r0c0, r0c1"),
     (GRID, 8, None, 8, "MissingRow", "or `rate PART` for all of them"),
     (BAY, 16, None, 17, "MissingRow", "boat has no look row"),
-    (LAKE, 12, b"drift a a 8 b 2\ndrift a a 10", 13, "DoubleRow", "a has a drift row by line 12 already"),
+    (LAKE, 12, b"drift a a 8 b 2\ndrift a a 10", 13, "DoubleRow", "a has its drift row by line 12 already"),
     (LAKE, 12, b"drift a a 8 b 2\ndrift a a 8 b 2", 13, "DoubleRow", "the same line stands further up"),
     (GRID, 8, b"overlook r1c1 2\nrate 3", 9, "DoubleRow", "a cell has it by line 8 already"),
-    (GRID, 8, b"rate 3\nmoves r0c0 r0c0", 9, "DoubleRow", "r0c0 has a moves row by line 4 already"),
-    (BAY, 17, b"lookin 3 cliff\nlookin 3 cliff bay 1", 18, "DoubleRow", "cliff has a look row for period 3 by line 17 already"),
+    (GRID, 8, b"rate 3\nmoves r0c0 r0c0", 9, "DoubleRow", "r0c0 has its moves row by line 4 already"),
+    (BAY, 17, b"lookin 3 cliff\nlookin 3 cliff bay 1", 18, "DoubleRow", "cliff has its look row for period 3 by line 17 already"),
     (LAKE, 8, b"first a 1 b 2", 8, "WrongSum", "the parts sum to 3, and A is 2: 1 too much"),
     (LAKE, 12, b"drift a a 6 b 2", 12, "WrongSum", "the parts sum to 8, and D is 10: 2 more have to go somewhere; where the rest stays, it is `a 8` in place of 6"),
     (LAKE, 12, b"drift a b 9", 12, "WrongSum", "1 more has to go somewhere; where the rest stays, it is `a 1`"),
@@ -247,6 +248,16 @@ class SeveralFaults(unittest.TestCase):
         for new, kind in ((b"cell b!", "BadLine"), (b"cell b" + b"x" * 30, "OverLimit")):
             self.told(re.sub(rb"\bb\b", new.split()[1], LAKE), (5, kind))
 
+    def test_foreign_letters(self):
+        """A name with a foreign letter is told in each line, once, and is known."""
+        text = re.sub(rb"\bb\b", "h\u00f6he".encode(), LAKE)
+        found = faults.survey(text)
+        self.assertEqual([(it.line, it.kind, it.more) for it in found], [(5, "NotText", [8, 9, 10, 11, 12, 13, 14, 16])])
+        self.assertEqual(brief(faults.survey(with_line(LAKE, 2, b"horizon\xc2\xa03"))), [(2, "NotText")])
+        (wide,) = faults.survey(LAKE.decode().encode("utf-16"))
+        self.assertEqual((wide.line, wide.kind), first_fault(LAKE.decode().encode("utf-16")))
+        self.assertIn("UTF-16", wide.says)
+
     def test_wrong_denominators_are_told_once(self):
         self.told(with_line(LAKE, 3, b"parts 2 ten 10"), (3, "BadNumber"))
         self.told(with_line(LAKE, 3, b"parts 2 10"), (3, "BadLine"))
@@ -274,7 +285,7 @@ class SeveralFaults(unittest.TestCase):
     def test_rows_behind_end(self):
         text = with_line(with_line(LAKE, 13, None), 17, b"end\ndrift b a 1 b 8 c 1")
         (says,) = self.told(text, (17, "MissingRow"))
-        self.assertIn("`end` stands before rows in line 18: move it behind them", says)
+        self.assertIn("`end` stands before rows in line 18: it is the last line", says)
 
     def test_another_version(self):
         (says,) = self.told(with_line(BAY, 1, b"scenario 1"), (6, "BadLine"))
