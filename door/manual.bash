@@ -53,7 +53,7 @@ manual_text() {
   section 'EXIT STATUS'
   for ((at = 0; at < ${#statuses[@]}; at += 2)); do item "${statuses[at]}" "${statuses[at + 1]}"; done
   printf '.PP\n'
-  roff 'These are those of the commands; a helper ends with 0 where it wrote its answer.'
+  roff 'These are those of the commands; a helper ends with 0 where it wrote its answer, and explain as the program itself ends.'
   section ENVIRONMENT
   item TMPDIR 'the folder for temporary files, /tmp where it is not set'
   section FILES

@@ -54,6 +54,8 @@ STAND_IN_DESK = r"""import os, sys
 if sys.argv[-1:] == ["fails"]:
     print("half")
     sys.exit("it is wrong")
+if sys.argv[-1:] == ["dies"]:
+    sys.exit("it is wrong")
 if sys.argv[-1:] == ["faults"]:
     print("line 3 is wrong")
     sys.exit(3)

@@ -325,6 +325,14 @@ def lines_of(name):
     return [it.split() for it in read(f"{TOP}/{name}").decode().splitlines() if it and not it.startswith("#")]
 
 
+def of_gate():
+    """Whether the sources that stand here are those that last passed the merge gate as a whole."""
+    gate = dict(lines_of("GATE"))
+    if run([f"{TOP}/osp", "--sums"]).out.strip() == gate["sum"]:
+        return f"GATE is of these sources: {gate['kit']}, {gate['date']}"
+    return f"GATE is of other sources, those of {gate['commit'][:12]}; after a whole pass ./osp --gate prints its lines for these"
+
+
 @case("KIT and GATE have the form that they say, and --gate prints it")
 def _(house):
     for row in lines_of("KIT"):

@@ -295,6 +295,10 @@ def _(house):
             want(stat.S_IMODE(os.stat(f"{folder}/{name}").st_mode) == 0o666 & ~mask, "its permissions are others")
             os.remove(f"{folder}/{name}")
     house.run("plan", "-o", "-", given=b"text\n").gives(0, wanted, "")
+    house.write("lake", SCENARIO)
+    house.run("plan", f"{house.at}/lake", "-o", f"{folder}/new", closed=[0, 1, 2]).gives(0, "", "")
+    written(f"{folder}/new", f"words <plan>\n{SCENARIO}")
+    os.remove(f"{folder}/new")
     want(os.listdir(folder) == [], os.listdir(folder))
     house.leaves_nothing()
 
@@ -527,6 +531,7 @@ def _(house):
     house.run("explain", "faults", "-o", f"{folder}/b page").gives(3, "", "")
     written(f"{folder}/b page", "line 3 is wrong\n")
     house.run("next", "faults", "-o", f"{folder}/c page").gives(3, "", "")
+    house.run("explain", "dies", "-o", f"{folder}/c page").gives(1, "", "it is wrong")
     want(sorted(os.listdir(folder)) == ["a page", "b page"], os.listdir(folder))
     refused(house.run("show", "-o"), "-o needs the name")
 
