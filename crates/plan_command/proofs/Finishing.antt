@@ -156,7 +156,7 @@ judge_rejects request input status (inr needs, (at, rejected)) due = needs_turne
 
 -- what is planned is accepted
 pub planned_is_accepted : PlannedIsAccepted
-planned_is_accepted p input text both status is (q, other, (plan, certified, spelled)) begins due =
+planned_is_accepted p nodes input text both status is (q, other, (plan, certified, few, spelled)) begins due =
     let same : q ≡ p = same_scenario q p input other is in
     let P : Problem → Type 0 = λ z. Accepts z plan × IsPlanText2 z plan text in
     let here = subst P same (certified.accepted, spelled) in

@@ -3,6 +3,7 @@ use Rattle.std.proofs.Common.{ℕ, ◌≡◌, ◌+◌, Bool, List, [], Result, O
 use Rattle.std.specs.Prelude.{IsErrOf, IfOk, IfErr, OnErr}
 use Rattle.std.specs.Io.KnownBytes.{Appends}
 use Rattle.std.specs.declared.option.Option.{Option}
+use Rattle.byte_ports.specs.declared.ports.Failed.{Failed}
 use Rattle.byte_ports.specs.declared.pieces.InputStop.{InputStop}
 use Rattle.byte_ports.specs.declared.pieces.InputStop.TheVariants.{Fault, TooLong}
 use Rattle.byte_ports.specs.Causes.{Rose, CountsRefusal}
@@ -16,7 +17,7 @@ use Rattle.plan_command.specs.declared.status.Status.{Status}
 use Rattle.plan_command.specs.declared.status.Stop.{Stop}
 use Rattle.plan_command.specs.declared.status.Stop.TheVariants as stops
 use Rattle.plan_command.specs.Words.{Spells, limit_of}
-use Rattle.plan_command.specs.Inputs.{Source, Reads, ReadsAnd, HasFailed, IsOverLong}
+use Rattle.plan_command.specs.Inputs.{Source, source_view, Reads, ReadsAnd, HasFailed, IsOverLong}
 use Rattle.plan_command.specs.Commands.{Answers, Refuses}
 use Rattle.plan_command.specs.Makes.{MakesOf, IsAsked}
 use Rattle.plan_command.specs.Intakes.{Judges, HasTaken}
@@ -69,9 +70,17 @@ made_read request limits before after input (Err (stops.TooManyNodes limit)) rea
 made_read request limits before after input (Err stops.TooLong) read makes = absurd (never_too_long request input makes)
 
 -- what is judged of the bytes that an intake was handed
-pub judged_read : (limit : ℕ) (before after : Source) (old new : Intake) (judged : Result Judgement Stop) → HandsOn HasTaken limit before.left after.left old new → HasTaken [] old → ((input : List ℕ) → HasTaken input new → Judges input judged) → ReadsAnd (Some limit) before after Judges judged
-judged_read limit before after old new judged hands none says = told judged (says hands.bytes (hands.received [] none))
+pub judged_read : {S : Type 0} (Left : S → Option (List ℕ)) (Faults : S → ℕ) (Gives : S → List ℕ → Result ℕ Failed → S → Type 0) (limit : ℕ) (source source' : S) (old new : Intake) (judged : Result Judgement Stop) →
+    HandsOn Left Gives HasTaken limit source source' old new → HasTaken [] old → ((input : List ℕ) → HasTaken input new → Judges input judged) →
+    ReadsAnd (Some limit) (source_view Left Faults source) (source_view Left Faults source') Judges judged
+judged_read Left Faults Gives limit source source' old new judged hands none says = told judged (says hands.bytes (hands.received [] none))
   where
+    before : Source
+    before = source_view Left Faults source
+
+    after : Source
+    after = source_view Left Faults source'
+
     read : Reads (Some limit) before after hands.bytes
     read = record { taken = hands.taken; ended = hands.ended; short = hands.short }
 

@@ -47,7 +47,7 @@ module _ (c : Call) where
       let d = delivered_to (Plan workers nodes) status ends asked in
       let found = d.answers.1 in
       let certified = found.2 in
-      (found.0, d.input, found.1, (d.read.taken, d.read.ended), (certified.0, d.text, certified.1, certified.2, d.written))
+      (found.0, d.input, found.1, (d.read.taken, d.read.ended), (certified.0, d.text, certified.1, certified.2, certified.3, d.written))
 
   -- the plan of an input is the best
   best_of : (p : Problem) (plan : APlan) (input : List ℕ) → ReadsAll c input → IsInput input p plan → Accepts p plan → ReadsBest c p plan

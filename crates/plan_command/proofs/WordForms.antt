@@ -14,6 +14,7 @@ use Rattle.plan_command.specs.declared.request.Request.{Request}
 use Rattle.plan_command.specs.declared.request.Request.TheVariants.{Plan, Check, Report, Make, Drill, Convert}
 use Rattle.plan_command.specs.Words.{Spells, SpellNone, SpellsPlan, IsCrew}
 use Rattle.plan_command.specs.WordReading.{at_least, number_within, workers_in, nodes_in, number_in, asks, asks_both, plan_with_one, plan_with_two, plan_at, alone_at, report_at, make_at, drill_at, request_at}
+use Rattle.plan_command.specs.declared.request.TheConstants.{WORKERS, MOST_WORKERS}
 use Rattle.bound_tree.specs.Room.{MOST_NODES}
 
 some_tells : {X : Type 0} (x y : X) → Some x ≡ Some y → x ≡ y
@@ -58,7 +59,7 @@ number_of_text least most n wide low high =
     ap (at_least least) (number_at-decimal most n high wide) ∙ at_least_of least n (nat_le least n) (leb_tells least n) low
 
 workers_of_text : (n : ℕ) → IsCrew n → workers_in (decimal n) ≡ Some n
-workers_of_text n crew = number_of_text 1 16 n (omega arith) crew.0 crew.1
+workers_of_text n crew = number_of_text 1 MOST_WORKERS n (omega arith) crew.0 crew.1
 
 nodes_of_text : (n : ℕ) → 1 ≤ n → n ≤ MOST_NODES → nodes_in (decimal n) ≡ Some n
 nodes_of_text n low high = number_of_text 1 MOST_NODES n (omega arith) low high
@@ -75,8 +76,8 @@ both_tell : (request : ℕ → ℕ → Request) (o q : Option ℕ) (r : Request)
 both_tell request (Some m) q r e = let told = asks_tells (request m) q r e in (m, told.0, refl, told.1, told.2)
 both_tell request None q r e = absurd (none_of_some r e)
 
-workers_tell : (n : ℕ) (word : List ℕ) → workers_in word ≡ Some n → IsNumber 1 16 word n
-workers_tell n word e = number_tells 1 16 n word (omega arith) e
+workers_tell : (n : ℕ) (word : List ℕ) → workers_in word ≡ Some n → IsNumber 1 MOST_WORKERS word n
+workers_tell n word e = number_tells 1 MOST_WORKERS n word (omega arith) e
 
 nodes_tell : (n : ℕ) (word : List ℕ) → nodes_in word ≡ Some n → IsNumber 1 MOST_NODES word n
 nodes_tell n word e = number_tells 1 MOST_NODES n word (omega arith) e
@@ -134,7 +135,7 @@ two_told name value other number =
     (λ nor r e. absurd (none_of_some r e)))
 
 plan_told : (words : List (List ℕ)) → Told (codes "plan") words (plan_at words)
-plan_told [] r e = subst (Spells (codes "plan" ∷ [])) (some_tells (Plan 4 MOST_NODES) r e) ((omega arith, omega arith), (omega arith, omega arith), ([], refl, inl (refl, refl, refl)))
+plan_told [] r e = subst (Spells (codes "plan" ∷ [])) (some_tells (Plan WORKERS MOST_NODES) r e) ((omega arith, omega arith), (omega arith, omega arith), ([], refl, inl (refl, refl, refl)))
 plan_told (a ∷ []) r e = absurd (none_of_some r e)
 plan_told (a ∷ b ∷ []) r e = one_told a b r e
 plan_told (a ∷ b ∷ c ∷ []) r e = absurd (none_of_some r e)
@@ -205,7 +206,7 @@ read_is_spelled (command ∷ words) r e =
 plan_read : (options : List (List ℕ)) (workers nodes : ℕ) → IsCrew workers → 1 ≤ nodes → nodes ≤ MOST_NODES → SpellsPlan options workers nodes → plan_at options ≡ Some (Plan workers nodes)
 plan_read options w n crew low high (inl (is, four, all)) = rw is (rw four (rw all refl))
 plan_read options w n crew low high (inr (inl (is, all))) = rw is (rw all (ap (asks (λ w. Plan w MOST_NODES)) (workers_of_text w crew)))
-plan_read options w n crew low high (inr (inr (inl (is, four)))) = rw is (rw four (ap (asks (λ n. Plan 4 n)) (nodes_of_text n low high)))
+plan_read options w n crew low high (inr (inr (inl (is, four)))) = rw is (rw four (ap (asks (λ n. Plan WORKERS n)) (nodes_of_text n low high)))
 plan_read options w n crew low high (inr (inr (inr (inl is)))) =
     rw is (ap (λ (o : Option ℕ). asks_both (λ w n. Plan w n) o (nodes_in (decimal n))) (workers_of_text w crew) ∙ ap (asks (λ n. Plan w n)) (nodes_of_text n low high))
 plan_read options w n crew low high (inr (inr (inr (inr is)))) =
@@ -219,7 +220,7 @@ spelled_is_read words Check is = rw is refl
 spelled_is_read words (Report false) is = rw is refl
 spelled_is_read words (Report true) is = rw is refl
 spelled_is_read words (Make n) (small, is) = rw is (ap (asks (λ n. Make n)) (any_of_text n small))
-spelled_is_read words (Drill n w) (small, crew, inl (is, four)) = rw is (rw four (ap (asks (λ n. Drill n 4)) (any_of_text n small)))
+spelled_is_read words (Drill n w) (small, crew, inl (is, four)) = rw is (rw four (ap (asks (λ n. Drill n WORKERS)) (any_of_text n small)))
 spelled_is_read words (Drill n w) (small, crew, inr is) =
     rw is (ap (λ (o : Option ℕ). asks_both (λ n w. Drill n w) o (workers_in (decimal w))) (any_of_text n small) ∙ ap (asks (λ w. Drill n w)) (workers_of_text w crew))
 spelled_is_read words Convert is = rw is refl

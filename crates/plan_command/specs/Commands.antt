@@ -1,5 +1,5 @@
 -- What each request makes of its input.
-use Rattle.std.specs.Prelude.{◌≡◌, ◌⊎◌, ℕ, Bool, true, false, List, codes, Some, Err}
+use Rattle.std.specs.Prelude.{◌≡◌, ◌≤◌, ◌⊎◌, ℕ, Bool, true, false, List, codes, length, Some, Err}
 use Rattle.search_model.specs.Problem.{Problem}
 use Rattle.search_model.specs.Order.{standing_of, IsBest}
 use Rattle.search_model.specs.Opening.{IsOpening}
@@ -26,10 +26,10 @@ use Rattle.plan_command.specs.Lines.{rejection_of}
 use Rattle.plan_command.specs.Plans.{IsCertified, BeginsWith, IsPlanRest, HasFault}
 use Rattle.plan_command.specs.Drills.{drill_text}
 
--- the text of version 2 of a certified plan of the input's scenario
-abbrev pub IsPlanned : List ℕ → List ℕ → Type 0
-IsPlanned input text =
-    (p : Problem) × IsTextOf p input × ((plan : APlan) × IsCertified p plan × IsPlanText2 p plan text)
+-- the text of version 2 of a certified plan of the input's scenario, which has at most so many records
+abbrev pub IsPlanned : ℕ → List ℕ → List ℕ → Type 0
+IsPlanned nodes input text =
+    (p : Problem) × IsTextOf p input × ((plan : APlan) × IsCertified p plan × (length plan.tree ≤ nodes) × IsPlanText2 p plan text)
 
 -- the input is a scenario and this plan
 abbrev pub IsInput : List ℕ → Problem → APlan → Type 0
@@ -69,7 +69,7 @@ IsDrilled number text = (path : List ℕ) × IsBest (made_problem number) path �
 
 -- the request answers the input by this text for `out`, and then this status
 abbrev pub Answers : Request → List ℕ → Status → List ℕ → Type 0
-Answers (Plan workers nodes) input status text = (status ≡ statuses.Done) × IsPlanned input text
+Answers (Plan workers nodes) input status text = (status ≡ statuses.Done) × IsPlanned nodes input text
 Answers Check input status text = IsChecked input status text
 Answers (Report json) input status text = (status ≡ statuses.Done) × IsReported json input text
 Answers (Make number) input status text = (status ≡ statuses.Done) × (text ≡ canonical_text (made_problem number))

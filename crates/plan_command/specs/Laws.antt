@@ -12,5 +12,5 @@ use Rattle.plan_command.specs.Complete.{IsDue, IsUnlessNoMemory}
 -- what is planned is accepted: where `text` is planned for an input, and stands behind any text of the same scenario, then a
 -- check of both is due to say that it is accepted
 abbrev pub PlannedIsAccepted : Type 0
-PlannedIsAccepted = (p : Problem) (input text both : List ℕ) (status : Status) →
-    IsTextOf p input → IsPlanned input text → BeginsWith p both text → IsDue Check both status → IsUnlessNoMemory Done status
+PlannedIsAccepted = (p : Problem) (nodes : ℕ) (input text both : List ℕ) (status : Status) →
+    IsTextOf p input → IsPlanned nodes input text → BeginsWith p both text → IsDue Check both status → IsUnlessNoMemory Done status

@@ -1,5 +1,5 @@
 -- What a call has done that ends so.
-use Rattle.std.specs.Prelude.{◌≡◌, ◌+◌, ◌⊎◌, ℕ, Bool, List, Some, codes}
+use Rattle.std.specs.Prelude.{◌≡◌, ◌≤◌, ◌+◌, ◌⊎◌, ℕ, Bool, List, Some, codes, length}
 use Rattle.std.specs.Io.KnownBytes.{Consumes, Appends, IsAtEnd}
 use Rattle.byte_ports.specs.Causes.{Rose}
 use Rattle.byte_ports.specs.Taken.{TakesCount, TakesAtMost}
@@ -37,12 +37,12 @@ abbrev pub WritesNothing : Call → Type 0
 WritesNothing c = c.after.wrote ≡ c.before.wrote
 
 -- where a plan was asked for, the input is the text of a scenario alone, and `out` grew by plan text of version 2: the best
--- path of that scenario, its exact value and the whole weight, and records that are accepted; no branch has a prefix that the
--- opening closes by its mean, tangent or edge bound
+-- path of that scenario, its exact value and the whole weight, and records that are accepted, at most as many as were allowed;
+-- no branch has a prefix that the opening closes by its mean, tangent or edge bound
 abbrev pub Plans : Call → Type 0
 Plans c = (workers nodes : ℕ) → Spells c.words (Plan workers nodes) →
     (p : Problem) × (input : List ℕ) × IsTextOf p input × ReadsAll c input
-    × ((plan : APlan) × (text : List ℕ) × IsCertified p plan × IsPlanText2 p plan text × Writes c text)
+    × ((plan : APlan) × (text : List ℕ) × IsCertified p plan × (length plan.tree ≤ nodes) × IsPlanText2 p plan text × Writes c text)
 
 -- the input is a scenario and a plan that is accepted, so that its path is the best
 abbrev pub ReadsBest : Call → Problem → APlan → Type 0

@@ -6,6 +6,7 @@ use Rattle.exact_parts.specs.declared.number.Number.TheVariants.{NotPlain, Above
 use Rattle.exact_parts.specs.Decimal.{number_at}
 use Rattle.plan_command.specs.declared.request.Request.{Request}
 use Rattle.plan_command.specs.declared.request.Request.TheVariants.{Plan, Check, Report, Make, Drill, Convert}
+use Rattle.plan_command.specs.declared.request.TheConstants.{WORKERS, MOST_WORKERS}
 use Rattle.bound_tree.specs.Room.{MOST_NODES}
 
 -- the number that a word spells, where it is within these limits
@@ -18,7 +19,7 @@ abbrev pub number_within : ℕ → ℕ → List ℕ → Option ℕ
 number_within least most word = at_least least (number_at most word)
 
 abbrev pub workers_in : List ℕ → Option ℕ
-workers_in word = number_within 1 16 word
+workers_in word = number_within 1 MOST_WORKERS word
 
 abbrev pub nodes_in : List ℕ → Option ℕ
 nodes_in word = number_within 1 MOST_NODES word
@@ -38,7 +39,7 @@ asks_both request None n = None
 abbrev pub plan_with_one : List ℕ → List ℕ → Option Request
 plan_with_one name value =
     if bytes_eq name (codes "--workers") then asks (λ w. Plan w MOST_NODES) (workers_in value) else
-    (if bytes_eq name (codes "--nodes") then asks (λ n. Plan 4 n) (nodes_in value) else None)
+    (if bytes_eq name (codes "--nodes") then asks (λ n. Plan WORKERS n) (nodes_in value) else None)
 
 abbrev pub plan_with_two : List ℕ → List ℕ → List ℕ → List ℕ → Option Request
 plan_with_two name value other number =
@@ -46,7 +47,7 @@ plan_with_two name value other number =
     (if bytes_eq name (codes "--nodes") && bytes_eq other (codes "--workers") then asks_both (λ n w. Plan w n) (nodes_in value) (workers_in number) else None)
 
 abbrev pub plan_at : List (List ℕ) → Option Request
-plan_at [] = Some (Plan 4 MOST_NODES)
+plan_at [] = Some (Plan WORKERS MOST_NODES)
 plan_at (name ∷ value ∷ []) = plan_with_one name value
 plan_at (name ∷ value ∷ other ∷ number ∷ []) = plan_with_two name value other number
 plan_at _ = None
@@ -66,7 +67,7 @@ make_at (number ∷ []) = asks (λ n. Make n) (number_in number)
 make_at _ = None
 
 abbrev pub drill_at : List (List ℕ) → Option Request
-drill_at (number ∷ []) = asks (λ n. Drill n 4) (number_in number)
+drill_at (number ∷ []) = asks (λ n. Drill n WORKERS) (number_in number)
 drill_at (number ∷ name ∷ value ∷ []) =
     if bytes_eq name (codes "--workers") then asks_both (λ n w. Drill n w) (number_in number) (workers_in value) else None
 drill_at _ = None

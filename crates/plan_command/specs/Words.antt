@@ -5,6 +5,7 @@ use Rattle.std.specs.declared.option.Option.TheVariants.{Some, None}
 use Rattle.std.specs.Fmt.{decimal}
 use Rattle.plan_command.specs.declared.request.Request.{Request}
 use Rattle.plan_command.specs.declared.request.Request.TheVariants.{Plan, Check, Report, Make, Drill, Convert}
+use Rattle.plan_command.specs.declared.request.TheConstants.{WORKERS, MOST_WORKERS, MOST_SCENARIO, MOST_JUDGED}
 use Rattle.bound_tree.specs.Room.{MOST_NODES}
 
 -- an option: its name, and the decimal text of its number
@@ -17,18 +18,18 @@ workers_option n = option (codes "--workers") n
 abbrev pub nodes_option : ℕ → List (List ℕ)
 nodes_option n = option (codes "--nodes") n
 
--- the options of `plan` stand in any order, each at most once: 4 workers and 1,048,576 records where none says so
+-- the options of `plan` stand in any order, each at most once; where none says how many workers or records, this many
 abbrev pub SpellsPlan : List (List ℕ) → ℕ → ℕ → Type 0
 SpellsPlan options workers nodes =
-    ((options ≡ []) × (workers ≡ 4) × (nodes ≡ MOST_NODES))
+    ((options ≡ []) × (workers ≡ WORKERS) × (nodes ≡ MOST_NODES))
     ⊎ (((options ≡ workers_option workers) × (nodes ≡ MOST_NODES))
-    ⊎ (((options ≡ nodes_option nodes) × (workers ≡ 4))
+    ⊎ (((options ≡ nodes_option nodes) × (workers ≡ WORKERS))
     ⊎ ((options ≡ workers_option workers ++ nodes_option nodes)
     ⊎ (options ≡ nodes_option nodes ++ workers_option workers))))
 
--- 1 to 16 workers
+-- one worker, or more up to the most
 abbrev pub IsCrew : ℕ → Type 0
-IsCrew workers = (1 ≤ workers) × (workers ≤ 16)
+IsCrew workers = (1 ≤ workers) × (workers ≤ MOST_WORKERS)
 
 -- the words spell the request
 abbrev pub Spells : List (List ℕ) → Request → Type 0
@@ -41,21 +42,13 @@ Spells words (Report true) = words ≡ codes "report" ∷ codes "--json" ∷ cod
 Spells words (Make number) = (number < 2 ^ 64) × (words ≡ codes "make" ∷ decimal number ∷ [])
 Spells words (Drill number workers) =
     (number < 2 ^ 64) × IsCrew workers
-    × (((words ≡ codes "drill" ∷ decimal number ∷ []) × (workers ≡ 4))
+    × (((words ≡ codes "drill" ∷ decimal number ∷ []) × (workers ≡ WORKERS))
     ⊎ (words ≡ codes "drill" ∷ decimal number ∷ workers_option workers))
 Spells words Convert = words ≡ codes "convert" ∷ []
 
 -- the words spell no request
 abbrev pub SpellNone : List (List ℕ) → Type 0
 SpellNone words = (request : Request) → Spells words request → ⊥
-
--- the most bytes of a scenario that is planned
-abbrev pub MOST_SCENARIO : ℕ
-MOST_SCENARIO = 1048576
-
--- the most bytes of a scenario with a plan behind it
-abbrev pub MOST_JUDGED : ℕ
-MOST_JUDGED = 336592896
 
 -- how many bytes of input a request may have, where it reads any
 abbrev pub limit_of : Request → Option ℕ

@@ -1,10 +1,10 @@
 //! What each request makes of its input, which is read as it is needed.
 
-ghost use Rattle.std.specs.Prelude.{◌≡◌, ◌≤◌, ◌<◌, ◌^◌, Some};
+ghost use Rattle.std.specs.Prelude.{◌≡◌, ◌≤◌, ◌<◌, ◌^◌, Some, None};
 ghost use Rattle.plan_command.specs.Inputs.{source_view, InputOf, ReadsAnd};
 ghost use Rattle.plan_command.specs.Intakes.{Judges};
 ghost use Rattle.plan_command.specs.Makes.{MakesOf, IsAsked};
-ghost use Rattle.plan_command.specs.Words.{IsCrew, limit_of, MOST_SCENARIO, MOST_JUDGED};
+ghost use Rattle.plan_command.specs.Words.{IsCrew, limit_of};
 ghost use Rattle.bound_tree.specs.Room.{MOST_NODES};
 
 use crate::answer::{Answer, answer_plan};
@@ -12,7 +12,7 @@ use crate::checking::{answer_check, answer_report};
 use crate::converting::answer_convert;
 use crate::drilling::{answer_drill, answer_make};
 use crate::intake::{Intake, Judgement};
-use crate::request::Request;
+use crate::request::{MOST_JUDGED, MOST_SCENARIO, Request};
 use crate::status::Stop;
 use byte_ports::{InputStop, ReadStop, Source, read_all, read_pieces};
 use search_workers::Gate;
@@ -22,12 +22,6 @@ use std::thread::Threads;
 
 // How many bytes of an input are read at once, at most.
 const PIECE_LEN: usize = 65_536;
-
-// How many bytes the scenario of `plan` may have.
-const MOST_SCENARIO: usize = 1_048_576;
-
-// How many bytes a scenario and the plan behind it may have.
-const MOST_JUDGED: usize = 336_592_896;
 
 // The whole input, which isn't longer than the limit.
 fn read_input<S: Source>(alloc: Global, source: &mut S, limit: usize) -> Result<Vec<u8>, Stop>
@@ -127,8 +121,9 @@ pub fn answer_for<R: AllocGlobal + Threads + Wait + Sync, S: Source, G: Gate>(
     gate: &G,
 ) -> Result<Answer, Stop>
     requires { IsAsked request }
-    ensures { ReadsAnd (limit_of request) (source_view S.left S.faults source.old)
+    ensures made { ReadsAnd (limit_of request) (source_view S.left S.faults source.old)
         (source_view S.left S.faults source.new) (MakesOf request) result }
+    ensures unread { limit_of request ≡ None → source.new ≡ source.old }
 {
     match request {
         Request::Plan { workers, nodes } => plan_input(rt, workers, nodes, source, gate),

@@ -21,3 +21,9 @@ pub const WORKERS: u32 = 4;
 
 /// The most workers that a search may have.
 pub const MOST_WORKERS: u32 = 16;
+
+/// How many bytes the scenario of `plan` may have.
+pub const MOST_SCENARIO: usize = 1_048_576;
+
+/// How many bytes a scenario and the plan behind it may have.
+pub const MOST_JUDGED: usize = 336_592_896;

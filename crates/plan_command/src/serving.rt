@@ -1,10 +1,10 @@
 //! A request, from the bytes that it reads to those that it writes.
 
-ghost use Rattle.std.specs.Prelude.{◌≡◌, ◌⊎◌, ℕ, List, IfOk, IfErr, OnErr, IsErrOf};
+ghost use Rattle.std.specs.Prelude.{◌≡◌, ◌⊎◌, ℕ, List, None, IfOk, IfErr, OnErr, IsErrOf};
 ghost use Rattle.std.specs.Io.KnownBytes.{Appends};
 ghost use Rattle.byte_ports.specs.Causes.{Rose};
 ghost use Rattle.byte_ports.specs.Taken.{AppendsPrefix};
-ghost use Rattle.plan_command.specs.Words.{Spells};
+ghost use Rattle.plan_command.specs.Words.{Spells, limit_of};
 ghost use Rattle.plan_command.specs.Makes.{IsAsked};
 ghost use Rattle.plan_command.specs.Run.{call, Ends, ending_of};
 
@@ -44,6 +44,7 @@ pub fn serve<R: AllocGlobal + Threads + Wait + Sync, S: Source, K: Sink, G: Gate
     ensures ends { (words : List (List ℕ)) → Spells words request → Ends
         (call words S.left S.faults K.wrote K.faults source.old source.new out.old out.new) (ending_of result) }
     ensures used { IsErrOf result Stop.Usage → ⊥ }
+    ensures unread { limit_of request ≡ None → source.new ≡ source.old }
 {
     match answer_for(rt, request, source, gate) {
         Ok(answer) => deliver(out, &answer),

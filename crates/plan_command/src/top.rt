@@ -32,6 +32,8 @@ fn work<R: AllocGlobal + Threads + Wait + Sync, S: Source, K: Sink, G: Gate>(
     ensures ends { Ends (call (map string_bytes words.now) S.left S.faults K.wrote K.faults source.old source.new
         out.old out.new) (ending_of result) }
     ensures untouched { IsErrOf result Stop.Usage → source.new ≡ source.old }
+    ensures makes_read_nothing { (request : Request) → Spells (map string_bytes words.now) request
+        → limit_of request ≡ None → source.new ≡ source.old }
 {
     match read_words(words) {
         None => Err(Stop::Usage),
@@ -54,11 +56,13 @@ pub fn run<R: AllocGlobal + Threads + Wait + Sync, S: Source, K: Sink, E: Sink, 
         out.new) end
         × Says (err_view E.wrote E.faults E.wants err.old) (err_view E.wrote E.faults E.wants err.new) (line_at end) }
 
-    // `plan` at Done, for every number of workers and every interleaving: it read the text of a scenario alone, and wrote a
-    // plan of it as text of version 2: the best path with its exact value, and records that are accepted.
+    // `plan` at Done, for every number of workers and every interleaving: it read the text of a scenario alone, and
+    // wrote a plan of it as text of version 2: the best path with its exact value, and records that are accepted, at
+    // most as many as `--nodes` allows.
     ensures planned { result ≡ Status.Done → Plans
         (call (map string_bytes words.now) S.left S.faults K.wrote K.faults source.old source.new out.old out.new) }
-    // `check` at Done: it read a scenario and a plan that is accepted, so that its path is the best, and wrote `accepted`.
+    // `check` at Done: it read a scenario and a plan that is accepted, so that its path is the best, and wrote
+    // `accepted`.
     ensures accepted { result ≡ Status.Done → Affirms
         (call (map string_bytes words.now) S.left S.faults K.wrote K.faults source.old source.new out.old out.new) }
     // `report` at Done: it read the same, and wrote the report of the plan's path, as lines or as JSON.
@@ -74,21 +78,27 @@ pub fn run<R: AllocGlobal + Threads + Wait + Sync, S: Source, K: Sink, E: Sink, 
     ensures drilled { result ≡ Status.Done → Drills
         (call (map string_bytes words.now) S.left S.faults K.wrote K.faults source.old source.new out.old out.new) }
 
-    // Rejected comes only where the input is a scenario and a plan that isn't accepted, for this first reason: `check` wrote
-    // it to `out`, and at `report` and `convert` nothing was written there.
+    // Rejected comes only where the input is a scenario and a plan that isn't accepted, for this first reason: `check`
+    // wrote it to `out`, and at `report` and `convert` nothing was written there.
     ensures rejected { result ≡ Status.Rejected → Rejects
         (call (map string_bytes words.now) S.left S.faults K.wrote K.faults source.old source.new out.old out.new) }
     // Usage comes exactly where the words spell no request, and nothing is read then.
     ensures usage { (result ≡ Status.Usage) ↔ SpellNone (map string_bytes words.now) }
     ensures nothing_read { result ≡ Status.Usage → (source.new ≡ source.old) × (K.wrote out.new ≡ K.wrote out.old) }
+    // `make` and `drill` leave the source as it was, whatever it tells and however they end.
+    ensures makes_read_nothing { (request : Request) → Spells (map string_bytes words.now) request
+        → limit_of request ≡ None → source.new ≡ source.old }
     // BadScenario, BadPlan and TooManyNodes come only where the whole input was read and is refused so: by the first
     // fault of the scenario's or the plan's text, or for more live prefixes under the opening than the limit.
     ensures bad_scenario { result ≡ Status.BadScenario → (fault : TextFault) × IsRefusal
-        (call (map string_bytes words.now) S.left S.faults K.wrote K.faults source.old source.new out.old out.new) (Stop.BadScenario fault) }
+        (call (map string_bytes words.now) S.left S.faults K.wrote K.faults source.old source.new out.old out.new)
+        (Stop.BadScenario fault) }
     ensures bad_plan { result ≡ Status.BadPlan → (fault : PlanFault) × IsRefusal
-        (call (map string_bytes words.now) S.left S.faults K.wrote K.faults source.old source.new out.old out.new) (Stop.BadPlan fault) }
+        (call (map string_bytes words.now) S.left S.faults K.wrote K.faults source.old source.new out.old out.new)
+        (Stop.BadPlan fault) }
     ensures too_many_nodes { result ≡ Status.TooManyNodes → (nodes : ℕ) × IsRefusal
-        (call (map string_bytes words.now) S.left S.faults K.wrote K.faults source.old source.new out.old out.new) (Stop.TooManyNodes nodes) }
+        (call (map string_bytes words.now) S.left S.faults K.wrote K.faults source.old source.new out.old out.new)
+        (Stop.TooManyNodes nodes) }
     // TooLong comes only where one byte more than the request's limit was taken.
     ensures too_long { result ≡ Status.TooLong → TakesTooMuch
         (call (map string_bytes words.now) S.left S.faults K.wrote K.faults source.old source.new out.old out.new) }
@@ -102,27 +112,34 @@ pub fn run<R: AllocGlobal + Threads + Wait + Sync, S: Source, K: Sink, E: Sink, 
     ensures no_memory { result ≡ Status.NoMemory → (K.wrote out.new ≡ K.wrote out.old) ⊎ IsCutOff
         (call (map string_bytes words.now) S.left S.faults K.wrote K.faults source.old source.new out.old out.new) }
 
-    // An input that the source tells is answered, or refused, as it is due, where it is within the limit and no port fails.
+    // An input that the source tells is answered, or refused, as it is due, where it is within the limit and no port
+    // fails.
     ensures complete { (request : Request) (input : List ℕ) → IsUndisturbed
-        (call (map string_bytes words.now) S.left S.faults K.wrote K.faults source.old source.new out.old out.new) request input → IsDue request input result }
+        (call (map string_bytes words.now) S.left S.faults K.wrote K.faults source.old source.new out.old out.new)
+        request input → IsDue request input result }
     // So the plan of a scenario with no more live prefixes under its opening than the limit is written,
     ensures finishes { (request : Request) (input : List ℕ) → IsUndisturbed
-        (call (map string_bytes words.now) S.left S.faults K.wrote K.faults source.old source.new out.old out.new) request input → IsFeasible request input → IsUnlessNoMemory Status.Done result }
+        (call (map string_bytes words.now) S.left S.faults K.wrote K.faults source.old source.new out.old out.new)
+        request input → IsFeasible request input → IsUnlessNoMemory Status.Done result }
     // a plan that is accepted is told to be, reported, or written anew,
     ensures accepts { (request : Request) (input : List ℕ) → IsUndisturbed
-        (call (map string_bytes words.now) S.left S.faults K.wrote K.faults source.old source.new out.old out.new) request input → IsAcceptable request input → IsUnlessNoMemory Status.Done result }
+        (call (map string_bytes words.now) S.left S.faults K.wrote K.faults source.old source.new out.old out.new)
+        request input → IsAcceptable request input → IsUnlessNoMemory Status.Done result }
     // and one that isn't is rejected.
     ensures rejects { (request : Request) (input : List ℕ) → IsUndisturbed
-        (call (map string_bytes words.now) S.left S.faults K.wrote K.faults source.old source.new out.old out.new) request input → IsRejectable request input → IsUnlessNoMemory Status.Rejected result }
+        (call (map string_bytes words.now) S.left S.faults K.wrote K.faults source.old source.new out.old out.new)
+        request input → IsRejectable request input → IsUnlessNoMemory Status.Rejected result }
     // A request that reads nothing is answered.
     ensures makes { (request : Request) → Spells (map string_bytes words.now) request → limit_of request ≡ None
         → (Rose (K.faults out.old) (K.faults out.new) → ⊥) → IsUnlessNoMemory Status.Done result }
     // A refusal by the input's text comes wherever it is due, whatever the sink does.
     ensures refused { (request : Request) (input : List ℕ) (stop : Stop) → IsHeard
-        (call (map string_bytes words.now) S.left S.faults K.wrote K.faults source.old source.new out.old out.new) request input → IsWithin request input → Refuses request input stop → IsByText stop → IsStopDue stop result }
+        (call (map string_bytes words.now) S.left S.faults K.wrote K.faults source.old source.new out.old out.new)
+        request input → IsWithin request input → Refuses request input stop → IsByText stop → IsStopDue stop result }
     // An input that is longer than the limit is told to be.
     ensures longer { (request : Request) (input : List ℕ) → IsHeard
-        (call (map string_bytes words.now) S.left S.faults K.wrote K.faults source.old source.new out.old out.new) request input → IsLonger request input → IsStopDue Stop.TooLong result }
+        (call (map string_bytes words.now) S.left S.faults K.wrote K.faults source.old source.new out.old out.new)
+        request input → IsLonger request input → IsStopDue Stop.TooLong result }
 {
     match work(rt, words, source, out, gate) {
         Ok(status) => status,

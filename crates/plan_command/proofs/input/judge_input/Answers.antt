@@ -2,13 +2,12 @@ use Rattle.plan_command.specs.Inputs.{Source}
 use Rattle.plan_command.specs.Intakes.{Judges}
 use Rattle.plan_command.proofs.Inputs.{judged_read, stop_read}
 use Rattle.plan_command.proofs.input.judge_input.Goals as goal
-use Rattle.plan_command.specs.Words.{MOST_JUDGED}
+use Rattle.plan_command.specs.declared.request.TheConstants.{MOST_JUDGED}
 
 pub returns-in-Ok : goal.returns-in-Ok
 returns-in-Ok g c =
-    let before : Source = record { left = g.S.Source.left c.args.source.now; faults = g.S.Source.faults c.args.source.now } in
-    let after : Source = record { left = g.S.Source.left c.read_pieces.new.source; faults = g.S.Source.faults c.read_pieces.new.source } in
-    judged_read MOST_JUDGED before after c.new-intake.result c.read_pieces.new.receiver c.finish.result c.in-Ok.ensures.ok c.new-intake.ensures c.finish.ensures
+    judged_read g.S.Source.left g.S.Source.faults g.S.Source.read_gives MOST_JUDGED c.args.source.now c.read_pieces.new.source
+    c.new-intake.result c.read_pieces.new.receiver c.finish.result c.in-Ok.ensures.ok c.new-intake.ensures c.finish.ensures
 
 pub returns : goal.returns
 returns g c =

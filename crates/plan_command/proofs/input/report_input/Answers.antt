@@ -1,7 +1,7 @@
 use Rattle.std.proofs.Common.{Some}
 use Rattle.plan_command.proofs.Inputs.{report_answered, report_stopped}
 use Rattle.plan_command.proofs.input.report_input.Goals as goal
-use Rattle.plan_command.specs.Words.{MOST_JUDGED}
+use Rattle.plan_command.specs.declared.request.TheConstants.{MOST_JUDGED}
 
 pub answer_report-requires : goal.answer_report-requires
 answer_report-requires g c = (c.in-Ok.ensures.0, c.in-Ok.ensures.2)
