@@ -17,6 +17,8 @@ mod openings;
 #[cfg(test)]
 mod scenarios;
 #[cfg(test)]
+mod scouts;
+#[cfg(test)]
 mod tangent_bounds;
 #[cfg(test)]
 mod walks;
