@@ -1,6 +1,7 @@
 //! The scout's path held against a second program, `bench/scouted`, which computes it on small scenarios. It printed the
 //! rows of the table.
 
+ghost use Rattle.std.specs.Prelude.{IfOk};
 ghost use Rattle.bound_tree.specs.Close.{IsExact};
 
 use crate::scenarios::scenario_of;
@@ -47,8 +48,16 @@ fn answers_a_worker(
     Ok(is(&scratch.scout(sc, first), path, value))
 }
 
+// The opening, which is exact.
+fn first_of(alloc: Global, sc: &Scenario) -> Result<Standing, Fail>
+    ensures { IfOk result (IsExact sc.now) }
+{
+    sc.recall_sound();
+    Ok(opening(alloc, sc)?)
+}
+
 fn is_scouted_over(alloc: Global, sc: &Scenario, path: &[u8], value: u128) -> Result<bool, Fail> {
-    let first = opening(alloc, sc)?;
+    let first = first_of(alloc, sc)?;
     let alone = answers_alone(alloc, sc, &first, path, value)?;
     Ok(alone && answers_a_worker(alloc, sc, &first, path, value)?)
 }
