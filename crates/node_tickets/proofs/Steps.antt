@@ -1,11 +1,12 @@
 -- Each step of the ticket word keeps its rule.
-use Rattle.std.proofs.Common.{◌≡◌, ℕ, ◌+◌, ◌-◌, ◌%◌, ◌^◌, ◌<◌, ◌≤◌, List, [], ◌∷◌, ◌++◌, set, sym, refl, ap, ◌∙◌, subst, arith, All, IsPermutation, slice_index, cond, leb}
+use Rattle.std.proofs.Common.{◌≡◌, ℕ, zero, suc, ◌+◌, ◌-◌, ◌%◌, ◌^◌, ◌<◌, ◌≤◌, List, [], ◌∷◌, ◌++◌, set, sym, refl, ap, ◌∙◌, subst, arith, All, IsPermutation, slice_index, cond, leb, length, length-append}
 use Rattle.std.specs.List.{flat_map, range_with_len, sum_by}
 use Rattle.std.proofs.Math.Nat.{mod-eq_of_lt}
 use Rattle.std.proofs.lemmas.List.Elements.{All-head, All-tail, All-nil, All-cons, All-set, All-push}
 use Rattle.std.proofs.lemmas.List.Sums.{sum_by_push, sum_by-cons}
-use Rattle.std.proofs.lemmas.List.Sorted.{IsPermutation-refl, IsPermutation-sym, IsPermutation-trans, IsPermutation-append_left, sum_by-IsPermutation, All-permutation}
-use mathlib.Core.Option.{some}
+use Rattle.std.proofs.lemmas.List.FromFn.{length-range_with_len}
+use Rattle.std.proofs.lemmas.List.Sorted.{IsPermutation-refl, IsPermutation-sym, IsPermutation-trans, IsPermutation-append_left, sum_by-IsPermutation, All-permutation, length_permutation}
+use mathlib.Core.Option.{some, some-injective, some-ne-none}
 use lib.ListN.{get_elem?}
 use Rattle.atomic_table.specs.Table.{State, Me, Allows, Splits, Joins, keeps, opening}
 use Rattle.atomic_table.proofs.Lists.{set_else, set_again}
@@ -111,6 +112,35 @@ merges limit id v other u some_seat s h at differ at' =
       high = All-set (IsFewHigh limit) vs other none (omega arith) (All-set (IsFewHigh limit) s.views id both few h.high);
       spent = All-set IsSpent vs other none (λ _. refl) (All-set IsSpent s.views id both (λ no. absurd (omega arith)) h.spent);
     }
+
+-- a seat drew no more numbers than all seats together
+few_at : (views : List Hand) (id : ℕ) (v : Hand) → get_elem? views id ≡ some v → length v.drawn ≤ length (flat_map numbers views)
+few_at [] id v at = absurd (some-ne-none v (sym at))
+few_at (x ∷ vs) zero v at = omega (arith, ap (λ (w : Hand). length w.drawn) (some-injective x v at), length-append x.drawn (flat_map numbers vs))
+few_at (x ∷ vs) (suc id) v at = omega (arith, few_at vs id v at, length-append x.drawn (flat_map numbers vs))
+
+-- a load that tells a seat only how many numbers were drawn
+pub reads : (limit slots id : ℕ) (me : Me (Unit {0}) Hand) → limit ≡ me.0.limit → Allows (IsCounted limit) slots id me 0 (λ n. n)
+    (λ n after. (after ≡ me) × (n ≤ me.0.limit + ALL_SEATS) × All (λ x. x < n) me.0.drawn × (length me.0.drawn ≤ n))
+reads limit slots id me its s h homes at small =
+    let n = slice_index s.words 0 in
+    let v = me.0 in
+    let words : set s.words 0 n ≡ s.words = ap (λ (l : List ℕ). set l 0 (slice_index l 0)) h.one.1 ∙ sym h.one.1 in
+    let views : set s.views id v ≡ s.views = set_again s.views id v at in
+    let all_below : All (λ x. x < n) (flat_map numbers s.views) = All-permutation (λ x. x < n) _ _ (IsPermutation-sym _ _ h.once) (range_below n) in
+    let as_many : length (range_with_len 0 n) ≡ length (flat_map numbers s.views) = length_permutation (flat_map numbers s.views) (range_with_len 0 n) h.once in (
+      v,
+      keeps,
+      tt,
+      subst (λ (l : List ℕ). IsCounted limit record { words = l; homes = s.homes; views = set s.views id v }) (sym words)
+          (subst (λ (vs : List Hand). IsCounted limit record { words = s.words; homes = s.homes; views = vs }) (sym views) h),
+      (
+        refl,
+        omega (arith, word_most limit s h),
+        All-flat_map_at (λ x. x < n) numbers s.views id v at all_below,
+        omega (arith, few_at s.views id v at, as_many, length-range_with_len 0 n),
+      ),
+    )
 
 -- the closing load
 pub closes : (limit slots id : ℕ) (me : Me (Unit {0}) Hand) → limit ≡ me.0.limit → Allows (IsCounted limit) slots id me 0 (λ n. n)

@@ -6,7 +6,7 @@ ghost use Rattle.node_tickets.specs.Draws.{number_drawn, IfNumber, IfFull};
 ghost use Rattle.node_tickets.specs.Seats.{ALL_SEATS, MOST_NUMBERS, IsSeatOf, AreAllSeats, IsFresh, MayDraw, drawn_by, numbers_of};
 
 use crate::draw::Draw;
-use crate::word::{Closes, Deals, Draws, Place, Word};
+use crate::word::{Closes, Deals, Draws, Place, Reads, Word};
 use atomic_table::Table;
 use exact_parts::NoMemory;
 use std::alloc::Global;
@@ -105,6 +105,18 @@ impl Tickets {
     {
         let number = self.word.shared.fetch_add::<Draws>(&mut seat.place, 0, 1);
         Draw::of(number, self.limit)
+    }
+
+    /// How many numbers were drawn by the time of one load: at least as many as the seat drew, all of which are below the
+    /// answer. Changes nothing. Takes no memory, and doesn't wait.
+    pub fn drawn(&self, seat: &mut TicketSeat) -> u64
+        requires { IsSeatOf self.now seat.old }
+        ensures same { seat.new ≡ seat.old }
+        ensures above { All (λ x. x < result) seat.old.drawn }
+        ensures many { length seat.old.drawn ≤ result }
+        ensures most { result ≤ self.now.limit + ALL_SEATS }
+    {
+        self.word.shared.load::<Reads>(&mut seat.place, 0)
     }
 
     /// How many numbers were drawn, told once all seats are back: the numbers that they drew are those below the answer,

@@ -49,6 +49,17 @@ impl Play<(), Hand> for Draws {
         (after ≡ (hand v.stands_for v.limit (v.drawn ++ n ∷ []), before.1)) × All (λ x. x < n) v.drawn };
 }
 
+/// What a load between draws tells: at least the numbers that the seat drew are below the word, and nothing changed.
+pub struct Reads;
+
+impl Play<(), Hand> for Reads {
+    ghost use Rattle.std.specs.Prelude.{◌≡◌, ◌+◌, ◌<◌, ◌≤◌, length, All};
+    ghost use Rattle.node_tickets.specs.Seats.{ALL_SEATS};
+
+    ghost then = { λ step before n after. let v = before.0 in
+        (after ≡ before) × (n ≤ v.limit + ALL_SEATS) × All (λ x. x < n) v.drawn × (length v.drawn ≤ n) };
+}
+
 /// What the closing load tells a seat that stands for all: the numbers that it has are those below the word.
 pub struct Closes;
 
