@@ -10,8 +10,8 @@ COARSE = 0.02
 
 
 def percent(share):
-    """A share in percent, with three digits, rounded up."""
-    thousandths = math.ceil(share * 100_000)
+    """A share in percent, with three digits, rounded up, but for what floats are wrong by."""
+    thousandths = math.ceil(round(float(share) * 100_000, 6))
     return f"{thousandths // 1000}.{thousandths % 1000:03}"
 
 
@@ -21,7 +21,7 @@ def decimal(value):
 
 
 def places(shares):
-    """Where each cell and position lies, by name: metres east and south of the north-west corner. What is lost is drawn a cell beyond
+    """Where each cell and position lies, by name: metres east and south of the north-west corner. What is lost is drawn apart, beyond
     the south-east corner."""
     grid = shares.grid
     for it in shares.cells:

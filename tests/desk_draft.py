@@ -8,6 +8,7 @@ import sys
 import tempfile
 import tomllib
 import unittest
+import unittest.mock
 from decimal import Decimal
 from fractions import Fraction
 
@@ -499,6 +500,34 @@ class Drafts(unittest.TestCase):
             with self.subTest(os.path.basename(file)):
                 scenario, _ = draft.drafted(bytes_of(file))
                 self.assertEqual(scenario, bytes_of(file.replace(".toml", ".scenario")))
+
+    def test_what_is_lost_is_drawn_apart(self):
+        text = made(LAKE.replace("columns = 4", 'columns = 4\nedge = "lost"'))[1]
+        # The area is 4 cells of 463 m wide and 3 high; the middles of cells beyond it by a cell are at 5.5 and 4.5 cells.
+        self.assertIn(b"# at lost 2546.5 2083.5\n", text)
+
+    def test_what_is_noted(self):
+        for old, new, note in (
+            ("speed = 4", "speed = 0.9", "note: the searcher makes 416.7 metres in a period, and its next cell is 463 metres away"),
+            ("sweep_width = 231.5", "sweep_width = 600", "note: a look finds more than 99 percent"),
+        ):
+            self.assertFalse(any(it.startswith(note) for it in made(LAKE)[2]))
+            lines = made(LAKE.replace(old, new))[2]
+            self.assertTrue(any(it.startswith(note) for it in lines), lines)
+
+    def test_what_is_at_the_edge(self):
+        # Of 4 by 3 cells r1c1 and r1c2 aren't at the edge. 0.4 of a cell to the north leave 0.36 in r1c1 after two steps.
+        lines = made(LAKE + "[[current]]\nknots = 0.4\ntowards = 0\n")[2]
+        self.assertIn("in the cells at the edge of the area are 0.000 percent at the first look, and 64.000 at the last, if no look finds anything", lines)
+
+    def test_too_many_positions_no_way_and_a_long_text(self):
+        area = LAKE.replace("rows = 3", "rows = 10").replace("columns = 4", "columns = 20")
+        with self.assertRaisesRegex(keys.BadSituation, r"\[searcher\] base: with it there are 201 positions"):
+            made(area.replace('start = "r0c0"', 'base = [-900, 700]\nenters = ["r0c0"]'))
+        with self.assertRaisesRegex(keys.BadSituation, r"\[searcher\] stays: .* from r0c0"):
+            made(LAKE.replace("columns = 4", 'columns = 4\nland = ["r0c1", "r1c0"]').replace("speed = 4", "speed = 4\nstays = false"))
+        with unittest.mock.patch.object(draft, "MOST_SCENARIO", 1000), self.assertRaisesRegex(keys.BadSituation, r"and 1,000 are the most"):
+            made(LAKE)
 
     def test_a_step_of_most_cells(self):
         # 2 knots are 2 cells in a period.
