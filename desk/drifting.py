@@ -111,15 +111,19 @@ def spread_out(grid, report):
     return dict.fromkeys(inside, 1 / len(inside))
 
 
-def after_step(grid, masses, shares, is_lost):
-    """The masses after a step; what is lost stays lost."""
-    shares = {offset: float(it) for offset, it in shares.items()}
+def after_step(grid, water, masses, shares, is_lost):
+    """The masses after a step; what is lost stays lost. `water` are the squares of the grid that aren't land."""
+    shares = [(*offset, float(it)) for offset, it in shares.items()]
     found = {LOST: masses[LOST]} if LOST in masses else {}
     for square, mass in masses.items():
-        if square != LOST:
-            for offset, share in shares.items():
-                to = landed(grid, square, offset, is_lost)
-                found[to] = found.get(to, 0.0) + mass * share
+        if square == LOST:
+            continue
+        row, column = square
+        for south, east, share in shares:
+            to = row + south, column + east
+            if to not in water:
+                to = landed(grid, square, (south, east), is_lost)
+            found[to] = found.get(to, 0.0) + mass * share
     return found
 
 
@@ -130,12 +134,13 @@ def drifted(situation, report):
     its part of it, since what is random adds up by its squares.
     """
     grid = situation.grid.finer(FINER)
-    masses, age = spread_out(grid, report), situation.look_time(1) - report.minutes
+    water, masses = set(grid.cells()), spread_out(grid, report)
+    age = situation.look_time(1) - report.minutes
     count = min(math.ceil(age / situation.minutes), MOST_SUB_STEPS)
     for at in range(count):
         begins, ends = (report.minutes + age * it / count for it in (at, at + 1))
         spread = Fraction(round(math.sqrt((ends - begins) / situation.minutes) * float(situation.spread) * METRE_PART), METRE_PART)
-        masses = after_step(grid, masses, step(situation, begins, ends, spread, grid.side), situation.is_lost)
+        masses = after_step(grid, water, masses, step(situation, begins, ends, spread, grid.side), situation.is_lost)
     found = {}
     for square, mass in masses.items():
         cell = square if square == LOST else (square[0] // FINER, square[1] // FINER)
