@@ -1,5 +1,6 @@
 """Reads a situation: a TOML file that says what is known in metres, knots, degrees and times. docs/PLANNING.md has its keys."""
 import dataclasses
+import re
 import tomllib
 from decimal import Decimal, InvalidOperation
 from fractions import Fraction
@@ -17,6 +18,8 @@ LONGEST_LINE = 1_000
 MOST_ROWS = 200
 MOST_REPORTS = 20
 TOP = ("title", "search", "area", "report", "current", "wind", "drift", "searcher", "light", "visibility", "parts")
+# A time such as 19:30, which TOML takes with seconds alone.
+BARE_TIME = re.compile(rb"=\s*(?:\d{4}-\d\d-\d\d[ T])?\d{1,2}:\d\d\s*(?:#|$)")
 # What lines of a fault have in common.
 AS_IN = "as in examples/situations/kayaker.toml"
 NEAREST = 'a time without a date is the one nearest to the begin of the search, and a date is given as in begins = "2026-07-05 03:00"'
@@ -95,8 +98,16 @@ def parsed(given):
     except RecursionError:
         raise BadSituation(f"tables or lists stand too deep in each other; no key needs more than two, {AS_IN}") from None
     except (ValueError, InvalidOperation, OverflowError) as wrong:
-        said = "".join(it if it.isprintable() else " " for it in str(wrong))
-        raise BadSituation(f"the file isn't TOML: {ascii(said)[1:-1][:120]}; a line is as in rows = 7") from None
+        raise BadSituation(f"the file isn't TOML: {why_not(given, str(wrong))}") from None
+
+
+def why_not(given, said):
+    """Why a text isn't TOML: a time without quotes, which is the likeliest fault, or what the parser said, on one line in ASCII."""
+    for at, line in enumerate(given.split(b"\n"), 1):
+        if BARE_TIME.search(line):
+            return f'line {at} has a time without quotes; it stands in them, as in begins = "19:30"'
+    said = "".join(it if it.isprintable() else " " for it in said)
+    return f"{ascii(said)[1:-1][:120]}; a line is as in rows = 7"
 
 
 def rows_of(tables, name, most=MOST_ROWS):

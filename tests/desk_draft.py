@@ -12,7 +12,7 @@ import unittest.mock
 from decimal import Decimal
 from fractions import Fraction
 
-from desk import detection, draft, drifting, forms, geometry, keys, moments, rounding, situation, writing
+from desk import detection, draft, drifting, forms, geometry, keys, moments, rounding, situation, verdict, writing
 
 TOP = os.path.dirname(os.path.dirname(os.path.realpath(__file__)))
 EXAMPLES = sorted(glob.glob(os.path.join(TOP, "examples", "*.scenario")))
@@ -431,6 +431,7 @@ class Times(unittest.TestCase):
         for begins, time, minutes in (("19:30", "20:00", 30), ("19:30", "01:00", 330), ("01:00", "23:00", -120), ("19:30", "07:30", -720), ("19:30", "07:29", 719)):
             self.assertEqual(self.minutes(begins, "nearest", time), minutes, (begins, time))
         self.assertEqual(self.minutes("22:00", "after", "01:00"), 180)
+        self.assertEqual(self.minutes("22:00", "after", "22:00"), 1440)
         self.assertEqual(self.minutes("00:10", "before", "23:40", 15), -30)
         self.assertEqual(self.minutes("00:10", "before", "00:25", 15), 15)
         self.assertEqual(self.minutes("00:10", "before", "00:26", 15), 16 - 1440)
@@ -500,6 +501,17 @@ class Drafts(unittest.TestCase):
             with self.subTest(os.path.basename(file)):
                 scenario, _ = draft.drafted(bytes_of(file))
                 self.assertEqual(scenario, bytes_of(file.replace(".toml", ".scenario")))
+
+    def test_each_plan_of_a_situation_is_accepted_by_a_checker_of_its_own(self):
+        for file in SITUATIONS:
+            with self.subTest(os.path.basename(file)):
+                sc = read(bytes_of(file.replace(".toml", ".scenario")))
+                plan = forms.read_plan(bytes_of(file.replace(".toml", ".plan")), sc)
+                self.assertIsNone(verdict.first_reason(sc, plan))
+                self.assertLess(plan.nodes, 3000)
+                with open(os.path.join(TOP, "examples", "README.md"), encoding="utf-8") as readme:
+                    row = re.search(rf"(?m)^\| `{os.path.basename(file)[:-5]}` \|.* records \| .*\|$", readme.read().split("## Situations")[1])[0]
+                self.assertTrue(row.endswith(f"; {plan.nodes:,} records | {plan.value * 100_000 // plan.weight / 1000:.3f} % |"), row)
 
     def test_what_is_lost_is_drawn_apart(self):
         text = made(LAKE.replace("columns = 4", 'columns = 4\nedge = "lost"'))[1]
@@ -658,6 +670,11 @@ class Wrong(unittest.TestCase):
             for key in its_keys:
                 if key.needed:
                     self.says(re.sub(rf"(?m)^{key.name} = .*\n", "", LAKE, count=1), f"[{name}] {key.name} is lacking", key.example)
+
+    def test_a_time_without_quotes(self):
+        for time in ("12:00", "2026-07-04 12:00", "9:30  # half past nine"):
+            self.says(LAKE.replace('"12:00"', time), 'line 3 has a time without quotes; it stands in them, as in begins = "19:30"')
+        self.assertNotIn("quotes", self.says(LAKE.replace('"12:00"', "noon")))
 
     def test_what_contradicts(self):
         for old, new, wanted in (
