@@ -92,7 +92,7 @@ def parsed(given):
         if len(line) > LONGEST_LINE:
             raise BadSituation(f"line {at} is longer than {LONGEST_LINE:,} bytes; a list may go over several lines, {AS_IN}")
     try:
-        return tomllib.loads(given.decode("utf-8"), parse_float=Decimal)
+        return tomllib.loads(given.decode("utf-8-sig"), parse_float=Decimal)
     except UnicodeDecodeError:
         raise BadSituation(f"the file isn't text in UTF-8; save it as plain text, {AS_IN}") from None
     except RecursionError:

@@ -297,7 +297,8 @@ class Drifting(unittest.TestCase):
         # a fifth of a cell, 100 m here, each step adds what linear interpolation adds: nothing for a shift of whole squares.
         area = LAKE.replace("cell_size = 463", "cell_size = 500").replace("rows = 3", "rows = 9").replace("columns = 4", "columns = 9")
         for begins, periods in (("12:00", 1), ("11:15", 4), ("11:07:30", 4.5)):
-            given = situation.situation((area.replace('cell = "r1c1"', "at = [2250, 2250]").replace('"12:15"', f'"{begins}"') + "[drift]\nspread = 200\n").encode())
+            text = area.replace('cell = "r1c1"', "at = [2250, 2250]").replace('"12:15"', f'"{begins}"') + "[drift]\nspread = 200\n"
+            given = situation.situation(text.encode())
             masses = drifting.drifted(given, given.reports[0])
             self.assertAlmostEqual(sum(masses.values()), 1)
             variance = sum(mass * ((column - 4) * 500) ** 2 for (_, column), mass in masses.items())
@@ -350,9 +351,15 @@ class Detection(unittest.TestCase):
         self.assertEqual(detection.factor(given.visibility, Fraction(15), Fraction(30)), Fraction(2, 3) * Fraction(2, 5))
 
     def test_sunrise_ends_the_night(self):
-        for keys, factors in (('sunrise = "12:15"', (Fraction(1, 5), 1)), ('sunset = "11:00"\nsunrise = "12:15"', (Fraction(1, 5), 1)), ('sunrise = "06:30"\nsunset = "12:15"', (1, Fraction(1, 5)))):
-            given = situation.situation((LAKE + f"[light]\n{keys}\nnight = 0.2\n").encode())
-            self.assertEqual(tuple(detection.factor(given.visibility, Fraction(at), Fraction(at + 15)) for at in (0, 15)), factors, keys)
+        night = Fraction(1, 5)
+        for turns, factors in (
+            ('sunrise = "12:15"', (night, 1)),
+            ('sunset = "11:00"\nsunrise = "12:15"', (night, 1)),
+            ('sunrise = "06:30"\nsunset = "12:15"', (1, night)),
+        ):
+            given = situation.situation((LAKE + f"[light]\n{turns}\nnight = 0.2\n").encode())
+            found = tuple(detection.factor(given.visibility, Fraction(at), Fraction(at + 15)) for at in (0, 15))
+            self.assertEqual(found, factors, turns)
 
     def test_a_swath_covers_the_cells_beside_the_course(self):
         swath = '[searcher.swath]\ncourse = "{}"\nsweep_width = 115.75\n'
@@ -428,8 +435,9 @@ class Times(unittest.TestCase):
         return getattr(moments.Clock(moments.moment(begins)), how)(moments.moment(time), *rest)
 
     def test_times_without_a_date(self):
-        for begins, time, minutes in (("19:30", "20:00", 30), ("19:30", "01:00", 330), ("01:00", "23:00", -120), ("19:30", "07:30", -720), ("19:30", "07:29", 719)):
-            self.assertEqual(self.minutes(begins, "nearest", time), minutes, (begins, time))
+        for time, minutes in (("20:00", 30), ("01:00", 330), ("19:00", -30), ("07:30", -720), ("07:29", 719)):
+            self.assertEqual(self.minutes("19:30", "nearest", time), minutes, time)
+        self.assertEqual(self.minutes("01:00", "nearest", "23:00"), -120)
         self.assertEqual(self.minutes("22:00", "after", "01:00"), 180)
         self.assertEqual(self.minutes("22:00", "after", "22:00"), 1440)
         self.assertEqual(self.minutes("00:10", "before", "23:40", 15), -30)
@@ -483,6 +491,9 @@ class Drafts(unittest.TestCase):
         self.assertEqual(len(places), 12)
         self.assertEqual(places[b"r2c1"], b"694.5 1157.5")
 
+    def test_a_byte_order_mark_is_no_fault(self):
+        self.assertEqual(made("\ufeff" + LAKE)[0].key(), made(LAKE)[0].key())
+
     def test_who_reaches_what(self):
         sc = made(LAKE.replace("speed = 4", "speed = 4\nreaches = 8\nstays = false"))[0]
         self.assertEqual([sc.positions[it].decode() for it in sc.moves[0]], ["r0c1", "r1c0", "r1c1"])
@@ -530,7 +541,8 @@ class Drafts(unittest.TestCase):
     def test_what_is_at_the_edge(self):
         # Of 4 by 3 cells r1c1 and r1c2 aren't at the edge. 0.4 of a cell to the north leave 0.36 in r1c1 after two steps.
         lines = made(LAKE + "[[current]]\nknots = 0.4\ntowards = 0\n")[2]
-        self.assertIn("in the cells at the edge of the area are 0.000 percent at the first look, and 64.000 at the last, if no look finds anything", lines)
+        told = "in the cells at the edge of the area are 0.000 percent at the first look, and 64.000 at the last, if no look finds anything"
+        self.assertIn(told, lines)
 
     def test_too_many_positions_no_way_and_a_long_text(self):
         area = LAKE.replace("rows = 3", "rows = 10").replace("columns = 4", "columns = 20")
@@ -677,6 +689,8 @@ class Wrong(unittest.TestCase):
         self.assertNotIn("quotes", self.says(LAKE.replace('"12:00"', "noon")))
 
     def test_what_contradicts(self):
+        current = '[[current]]\nbegins = "{}"\nknots = 1\ntowards = 0\n'
+        most = "[parts]\ndrift = 1000000\nlook = 1000000\nfirst = 1000000"
         for old, new, wanted in (
             ("periods = 3", "", "[search] periods: either it or until"),
             ("periods = 3", 'periods = 3\nuntil = "13:00"', "[search] periods: either it or until"),
@@ -700,11 +714,11 @@ class Wrong(unittest.TestCase):
             ('start = "r0c0"', "base = [-10, 10]", "[searcher] enters"),
             ("speed = 4", "speed = 4\nsearch_minutes = 16", "[searcher] search_minutes"),
             ("[[report]]", '[[wind]]\nknots = 9\nfrom = 0\n[[report]]', "[drift] leeway is lacking"),
-            ("[[report]]", '[[current]]\nbegins = "12:20"\nknots = 1\ntowards = 0\n[[report]]', "[[current]] 1 begins: it should be at or before 12:15"),
-            ("[[report]]", '[[current]]\nbegins = "11:00"\nknots = 1\ntowards = 0\n[[current]]\nbegins = "10:00"\nknots = 1\ntowards = 0\n[[report]]', "[[current]] 2 begins: rows should stand in the order of time"),
+            ("[[report]]", current.format("12:20") + "[[report]]", "[[current]] 1 begins: it should be at or before 12:15"),
+            ("[[report]]", current.format("11:00") + current.format("10:00") + "[[report]]", "[[current]] 2 begins: rows should stand in the order"),
             ("[[report]]", "[light]\nnight = 0.5\n[[report]]", "[light] sunset: it or sunrise"),
-            ("periods = 3", "periods = 2\n[parts]\ndrift = 1000000\nlook = 1000000\nfirst = 1000000", None),
-            ("periods = 3", "periods = 3\n[parts]\ndrift = 1000000\nlook = 1000000\nfirst = 1000000", "[parts]: 3 periods don't fit into 128 bits with first = 1000000, drift = 1000000, look = 1000000"),
+            ("periods = 3", f"periods = 2\n{most}", None),
+            ("periods = 3", f"periods = 3\n{most}", "[parts]: 3 periods don't fit into 128 bits with first = 1000000, drift = 1000000,"),
         ):
             with self.subTest(new):
                 self.assertEqual(LAKE.count(old), 1)
@@ -720,10 +734,11 @@ class Wrong(unittest.TestCase):
             self.assertEqual((done.returncode, done.stdout, done.stderr), (2, b"", b"usage: osp draft SITUATION.toml > SCENARIO\n"))
 
     def test_a_file_that_cannot_be_read_and_an_output_that_is_full(self):
-        done = subprocess.run([sys.executable, "-B", "-m", "desk", "draft", os.path.join(TOP, "no-such-file")], capture_output=True, cwd=TOP, timeout=60)
+        words = [sys.executable, "-B", "-m", "desk", "draft"]
+        done = subprocess.run([*words, os.path.join(TOP, "no-such-file")], capture_output=True, cwd=TOP, timeout=60)
         self.assertEqual((done.returncode, done.stderr), (5, b"osp draft: the file can't be read: No such file or directory\n"))
         with open("/dev/full", "wb") as full:
-            done = subprocess.run([sys.executable, "-B", "-m", "desk", "draft", SITUATIONS[0]], stdout=full, stderr=subprocess.PIPE, cwd=TOP, timeout=60)
+            done = subprocess.run([*words, SITUATIONS[0]], stdout=full, stderr=subprocess.PIPE, cwd=TOP, timeout=60)
         self.assertEqual((done.returncode, done.stderr), (6, b"osp draft: the output can't be written: No space left on device\n"))
 
 
