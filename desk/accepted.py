@@ -67,9 +67,10 @@ def shown(name):
 
 
 def read_file(name):
-    """The bytes of a file, up to one more than the program takes."""
+    """The bytes of a file, or of standard input where its name is `-`, which the program doesn't refuse for their length."""
     try:
-        with open(name, "rb") as file:
+        # (The descriptor 0 stays open.)
+        with open(0 if name == "-" else name, "rb", closefd=name != "-") as file:
             text = file.read(MOST_INPUT + 1)
     except (OSError, ValueError) as why:
         raise Refused(UNREADABLE, f"cannot read {shown(name)}: {getattr(why, 'strerror', None) or why}") from None
@@ -144,5 +145,5 @@ def load(scenario_name, plan_name):
     if not agree(sc, report, frames):
         raise Refused(FAILED, "this helper's numbers aren't those of osp report; please tell the project, with both files")
     sums = [hashlib.sha256(it).hexdigest() for it in (scenario, plan)]
-    name = shown(os.path.basename(scenario_name))
+    name = "of standard input" if scenario_name == "-" else shown(os.path.basename(scenario_name))
     return Search(name, scenario, sc, path, version, records, report, frames, *sums, note)

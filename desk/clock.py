@@ -38,11 +38,16 @@ def clock(options):
 
 
 def files_and_clock(words):
-    """The two file names among the words SCENARIO PLAN [--from HH:MM --minutes N], and the clock if any. Raises BadWords."""
+    """The two file names among the words SCENARIO PLAN [--from HH:MM --minutes N], and the clock if any. Raises BadWords.
+
+    Behind `--` all words are names. The name `-` stands for standard input, which can be read once.
+    """
     files, options, rest = [], {}, list(words)
     while rest:
         word = rest.pop(0)
-        if word in ("--from", "--minutes"):
+        if word == "--":
+            files, rest = files + rest, []
+        elif word in ("--from", "--minutes"):
             if word in options or not rest:
                 raise BadWords(f"{word} stands once, and has one word behind it")
             options[word] = rest.pop(0)
@@ -52,4 +57,6 @@ def files_and_clock(words):
             files.append(word)
     if len(files) != 2:
         raise BadWords("a scenario's file and a plan's are needed")
+    if files == ["-", "-"]:
+        raise BadWords("standard input is a scenario or a plan, and not both")
     return files, clock(options)

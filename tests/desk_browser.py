@@ -247,6 +247,12 @@ class Front(Room):
         self.assertEqual((done.returncode, done.stderr, done.stdout[:15]), (0, b"", b"<!DOCTYPE html>"))
         done = subprocess.run([sys.executable, "-m", "desk", "brief", self.files("two-cells")[0], f"{EXAMPLES}/two-cells-lacking.plan"], **how)
         self.assertEqual((done.returncode, done.stdout, done.stderr), (1, b"", b"osp brief: the plan isn't accepted: rejected 8 MissingChild\n"))
+        for words, given in ((["-", self.files("two-cells")[1]], 0), ([self.files("two-cells")[0], "-"], 1)):
+            done = subprocess.run([sys.executable, "-m", "desk", "brief", *words], input=example("two-cells")[given], **how)
+            self.assertEqual((done.returncode, done.stderr), (0, b""))
+            self.assertIn(b"Chance to find them: 75.000 %", done.stdout)
+        done = subprocess.run([sys.executable, "-m", "desk", "brief", "-", self.files("two-cells")[1]], input=b"", **how)
+        self.assertEqual((done.returncode, done.stdout, done.stderr), (3, b"", b"osp brief: bad scenario: line 2 BadLine\n"))
         self.assertEqual(program.OSP, PROGRAM)
 
 

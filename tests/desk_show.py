@@ -143,9 +143,10 @@ class Clocks(unittest.TestCase):
         files, times = clock.files_and_clock(["a", "--minutes", "45", "b", "--from", "9:30"])
         self.assertEqual((files, [times.at(it) for it in (1, 2, 20, 52)]), (["a", "b"], ["09:30", "10:15", "23:45", "23:45+1"]))
         self.assertEqual(clock.files_and_clock(["a", "b"]), (["a", "b"], None))
+        self.assertEqual(clock.files_and_clock(["--", "--from", "-"]), (["--from", "-"], None))
 
     def test_bad_words(self):
-        for words in ("", "a", "a b c", "a b --from", "a b --from 1:00", "a b --from 24:00 --minutes 1", "a b --from 1:60 --minutes 1", "a b --from 1:00 --minutes 0",
+        for words in ("", "a", "a b c", "- -", "a -- b c", "a b --from", "a b --from 1:00", "a b --from 24:00 --minutes 1", "a b --from 1:60 --minutes 1", "a b --from 1:00 --minutes 0",
                       "a b --from 1:00 --minutes 1441", "a b --from 1:00 --minutes 1.5", "a b --all", "a b --from 1:00 --from 1:00", "a b --from ١:00 --minutes 5"):
             with self.assertRaises(clock.BadWords, msg=words):
                 clock.files_and_clock(words.split())
