@@ -52,7 +52,8 @@ def header(search):
         f'<header><h1>Search plan <bdi>{escape(search.name)}</bdi></h1><div class="verdict">'
         f'<p class="chance"><strong>{search.report.percent}&nbsp;%</strong> chance to find them in {looks}</p>'
         f'<p class="accepted">Accepted: no path is better.<small>{escape(search.checked_by)}</small></p></div>'
-        '<p class="note">Percentages are cut off after three digits. The chance is exact for the numbers of the scenario, and as good as they are.</p>'
+        '<p class="note">Percentages are cut off after three digits. '
+        "The chance is exact for the numbers of the scenario, and as good as they are.</p>"
         f"{own}</header>"
     )
 
@@ -75,7 +76,8 @@ def caption(search, frame, clock):
     time = f" ({clock.at(frame.period)} to {clock.at(frame.period + 1)})" if clock and frame.period else ""
     head = escape(picture.when(search, frame))
     found = f"This look finds {masses.percent(frame.found, whole)}&nbsp;%; found so far {masses.percent(frame.so_far, whole)}&nbsp;%. "
-    return f"<figcaption><strong>{head[0].upper()}{head[1:]}{time}</strong>{found if frame.period else ''}{likeliest(search, frame)}</figcaption>"
+    said = f"{found if frame.period else ''}{likeliest(search, frame)}"
+    return f"<figcaption><strong>{head[0].upper()}{head[1:]}{time}</strong>{said}</figcaption>"
 
 
 def figures(search, drawn, clock):

@@ -141,7 +141,8 @@ class Picture:
         for name, (x, y), mass in zip(self.search.cells, self.cells, frame.left):
             at = f'x="{number(x)}" y="{number(y + 38)}"'
             drawn.append(
-                f'<g class="{self.classes(frame, mass)}"><text class="name" x="{number(x - 42)}" y="{number(y - 31)}">{escape(short(name))}</text>'
+                f'<g class="{self.classes(frame, mass)}">'
+                f'<text class="name" x="{number(x - 42)}" y="{number(y - 31)}">{escape(short(name))}</text>'
                 f'<text class="of-all" {at}>{share(mass, self.search.report.weight)}</text>'
                 f'<text class="of-left" {at}>{share(mass, frame.missed)}</text></g>'
             )

@@ -56,7 +56,8 @@ def periods(search, clock, with_map):
     time = [("Begins", False)] if clock else []
     heads = [("Period", False), *time, ("Look from", False), ("This look finds", True), ("Found so far", True)]
     rows = (period_row(search, it, clock, with_map) for it in search.frames[1:])
-    caption = 'In each period the searcher moves, then looks. <span class="on-screen">Point at a number, or go to it by Tab, for its exact fraction.</span>'
+    how = '<span class="on-screen">Point at a number, or go to it by Tab, for its exact fraction.</span>'
+    caption = f"In each period the searcher moves, then looks. {how}"
     return f'<section class="periods"><h2>Period by period</h2>{table(caption, heads, rows)}</section>'
 
 
@@ -81,7 +82,8 @@ def left(search):
     caption = f"After look {last.period}. All cells together hold {masses.percent(last.missed, whole)} % of all."
     rows = [left_row(search, it) for it in order[:MOST_LEFT]]
     rest = sum(last.left[it] for it in order[MOST_LEFT:])
-    more = f"<p class=note>The rest, in {plural(len(order) - MOST_LEFT, 'cell')}: {masses.percent(rest, whole)} % of all.</p>" if rest else ""
+    others = f"The rest, in {plural(len(order) - MOST_LEFT, 'cell')}: {masses.percent(rest, whole)} % of all."
+    more = f'<p class="note">{others}</p>' if rest else ""
     return f'<section class="left">{head}{table(caption, heads, rows)}{more}</section>'
 
 
@@ -99,7 +101,10 @@ def some_looks(search, frames):
     rows = [all_row(search, it, frames) for it in range(len(search.cells))]
     found = "".join(f'<td class="number">{picture.share(it.so_far, search.report.weight)}</td>' for it in frames)
     rows.append(f'<tr class="sum"><th scope="row">found so far</th>{found}</tr>')
-    caption = "Percent of all: how likely they are in the cell, and missed by all looks so far. With what was found, each column sums to 100."
+    caption = (
+        "Percent of all: how likely they are in the cell, and missed by all looks so far. "
+        "With what was found, each column sums to 100."
+    )
     return table(caption, heads, rows)
 
 
@@ -117,10 +122,11 @@ def numbers(search):
     """The numbers behind the page, and the checksums by which its files are known again."""
     a, d, g = search.sc.parts
     t = search.sc.horizon
+    counts = plural(t, "period"), plural(len(search.cells), "cell"), plural(len(search.positions), "position")
     rows = [
         ("Chance", f"{search.report.value} of {search.report.weight}"),
         ("Denominators", f"first distribution {a}, drift {d}, looks {g}; the whole is {a} · {d}<sup>{t - 1}</sup> · {g}<sup>{t}</sup>"),
-        ("Size", f"{plural(t, 'period')}, {plural(len(search.cells), 'cell')}, {plural(len(search.positions), 'position')} of the searcher"),
+        ("Size", f"{', '.join(counts)} of the searcher"),
         ("Plan", f"text of version {search.version}, {plural(search.records, 'record')}: they show that no path is better"),
     ]
     told = "".join(f"<dt>{name}</dt><dd>{text}</dd>" for name, text in rows)

@@ -109,7 +109,8 @@ class Hostile(Room):
         self.assertEqual(told.one("h1").one("bdi").text(), "<svg onload=owned=4>&amp;\"'`.scenario")
         self.assertEqual(told.one("head").one("title").text(), "Search plan <svg onload=owned=4>&amp;\"'`.scenario")
         self.assertIn(MARKUP, told.one("pre").text())
-        status, text, _ = self.run_helper(brief.main, [os.path.join(self.room, "<svg onload=owned=4>&amp;\"'`.scenario"), os.path.join(self.room, "kayaker.plan")])
+        files = [os.path.join(self.room, it) for it in ("<svg onload=owned=4>&amp;\"'`.scenario", "kayaker.plan")]
+        status, text, _ = self.run_helper(brief.main, files)
         self.assertEqual(status, 0)
         self.assertNotIn(MARKUP, text)
 
@@ -159,7 +160,8 @@ class Browser(unittest.TestCase):
         """Holds what is seen against a period: one map, its row of the table, the slider, and the words for a screen reader."""
         report = json.loads(read(f"{EXAMPLES}/kayaker.report.json"))
         told = f"After look {period}, from {report['path'][period - 1]}" if period else "Before the first look; the searcher is at r6c3"
-        self.assertEqual((state["maps"], state["rows"], state["slider"], state["told"]), ([f"after-{period}"], [str(period)] if period else [], str(period), told))
+        seen = state["maps"], state["rows"], state["slider"], state["told"]
+        self.assertEqual(seen, ([f"after-{period}"], [str(period)] if period else [], str(period), told))
 
     def test_it_opens_before_the_first_look(self):
         self.at(self.seen["grid"]["first"], 0)
@@ -209,7 +211,8 @@ class Browser(unittest.TestCase):
         if not shutil.which("pdftotext"):
             self.skipTest("pdftotext (poppler-utils) isn't installed")
         told = subprocess.run(["pdftotext", "-layout", self.base["grid"] + ".pdf", "-"], capture_output=True, text=True, check=True).stdout
-        for part in ("64.127", "Accepted: no path is better.", *(f"After look {it}, from" for it in range(1, 9)), "246250902200800000 of 384000000000000000"):
+        looks = (f"After look {it}, from" for it in range(1, 9))
+        for part in ("64.127", "Accepted: no path is better.", *looks, "246250902200800000 of 384000000000000000"):
             self.assertIn(part, told)
         self.assertNotIn("Play", told)
 

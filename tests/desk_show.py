@@ -71,7 +71,8 @@ class Masses(unittest.TestCase):
         self.assertEqual(told, [(0, 0, 0, [8, 8], []), (1, 8, 8, [0, 8], [0]), (2, 4, 12, [0, 4], [0])])
 
     def test_percent_is_cut_off(self):
-        for part, whole, text in ((2, 3, "66.666"), (1, 1, "100.000"), (0, 7, "0.000"), (1, 100_000, "0.001"), (1, 100_001, "0.000"), (999_999, 1_000_000, "99.999")):
+        rows = (2, 3, "66.666"), (1, 1, "100.000"), (0, 7, "0.000"), (1, 10**5, "0.001"), (1, 10**5 + 1, "0.000"), (999_999, 10**6, "99.999")
+        for part, whole, text in rows:
             self.assertEqual(masses.percent(part, whole), text)
             self.assertEqual(cut(part, whole), text)
 
@@ -123,9 +124,14 @@ class Places(unittest.TestCase):
         self.assertEqual(told.positions, told.cells)
 
     def test_no_places(self):
-        for more, why in (("", "north-west"), (PLACES.replace("# at east 1250 750\n", ""), "north-west"), (PLACES.replace("north 750", "north 250"), "same place"),
-                          (PLACES.replace("north 750 250", "north 250.001 250"), "too far apart"), (PLACES.replace("750 250", "NaN 1e999"), "north-west"),
-                          (PLACES.replace("# at", "#at"), None)):
+        for more, why in (
+            ("", "north-west"),
+            (PLACES.replace("# at east 1250 750\n", ""), "north-west"),
+            (PLACES.replace("north 750", "north 250"), "same place"),
+            (PLACES.replace("north 750 250", "north 250.001 250"), "too far apart"),
+            (PLACES.replace("750 250", "NaN 1e999"), "north-west"),
+            (PLACES.replace("# at", "#at"), None),
+        ):
             sc, text = self.swath(more)
             if why is None:
                 self.assertTrue(layout.layout(sc, text).metres)
@@ -146,8 +152,8 @@ class Clocks(unittest.TestCase):
         self.assertEqual(clock.files_and_clock(["--", "--from", "-"]), (["--from", "-"], None))
 
     def test_bad_words(self):
-        for words in ("", "a", "a b c", "- -", "a -- b c", "a b --from", "a b --from 1:00", "a b --from 24:00 --minutes 1", "a b --from 1:60 --minutes 1", "a b --from 1:00 --minutes 0",
-                      "a b --from 1:00 --minutes 1441", "a b --from 1:00 --minutes 1.5", "a b --all", "a b --from 1:00 --from 1:00", "a b --from ١:00 --minutes 5"):
+        times = "24:00 --minutes 1", "1:60 --minutes 1", "1:00 --minutes 0", "1:00 --minutes 1441", "1:00 --minutes 1.5", "1:00 --from 1:00", "١:00 --minutes 5"
+        for words in ("", "a", "a b c", "- -", "a -- b c", "a b --all", "a b --from", "a b --from 1:00", *(f"a b --from {it}" for it in times)):
             with self.assertRaises(clock.BadWords, msg=words):
                 clock.files_and_clock(words.split())
 
@@ -239,16 +245,17 @@ class Pages(Room):
             self.assertTrue(square.one("title").text().startswith(name.decode() + ": "))
         outlined = {(float(it.attributes["x"]) + 45, float(it.attributes["y"]) + 45) for it in figure.one("g", class_="covers").all("rect")}
         seen = sc.look(t, position) if t else {}
-        self.assertEqual(outlined, {(float(squares[it].attributes["x"]) + 49, float(squares[it].attributes["y"]) + 49) for it, part in seen.items() if part < sc.parts[2]})
+        middles = [(float(it.attributes["x"]) + 49, float(it.attributes["y"]) + 49) for it in squares]
+        self.assertEqual(outlined, {middles[it] for it, part in seen.items() if part < sc.parts[2]})
 
     def test_many_looks_are_split_into_tables_that_fit_on_paper(self):
         whole, _ = self.page("tide")
         with unittest.mock.patch.object(tables, "MOST_COLUMNS", 3):
             parts, _ = self.new_page("tide", b"", ())
-        texts = [[[it.text() for it in row.all() if it.tag in ("th", "td")] for row in part.all("tr")] for part in parts.one("section", class_="all").all("table")]
+        texts = [texts_of(it) for it in parts.one("section", class_="all").all("table")]
         self.assertEqual([len(it[0]) for it in texts], [4, 4, 2])
         joined = [rows[0] + [cell for row in rows[1:] for cell in row[1:]] for rows in zip(*texts)]
-        self.assertEqual(joined, [[it.text() for it in row.all() if it.tag in ("th", "td")] for row in whole.one("section", class_="all").all("tr")])
+        self.assertEqual(joined, texts_of(whole.one("section", class_="all").one("table")))
 
     def test_the_searcher_stands_where_the_path_says(self):
         told, _ = self.page("drifting-grid")
@@ -266,7 +273,8 @@ class Pages(Room):
     def test_the_numbers_behind_it(self):
         told, _ = self.page("drifting-grid")
         said = told.one("section", class_="numbers").text()
-        for part in ("22473449177088000 of 128000000000000000", "first distribution 1, drift 20, looks 10", "8 periods, 49 cells", "version 2, 1288 records:"):
+        chance, records = "22473449177088000 of 128000000000000000", example("drifting-grid")[1].split(b"\n")[3].decode().removeprefix("nodes ")
+        for part in (chance, "first distribution 1, drift 20, looks 10", "8 periods, 49 cells, 49 positions", f"version 2, {records} records:"):
             self.assertIn(part, said)
         sums = [subprocess.run(["sha256sum"], input=it, capture_output=True, check=True).stdout.decode()[:64] for it in example("drifting-grid")]
         self.assertEqual([it.text() for it in told.all("dd", class_="sum")], sums)
@@ -302,9 +310,15 @@ class Pages(Room):
             self.assertTrue(policy.startswith("default-src 'none'; "))
             self.assertIn(f"script-src '{page.checksum(told.one('script').text())}'", policy)
             self.assertIn(f"style-src '{page.checksum(told.one('style').text())}'", policy)
-            self.assertEqual([key for it in told.all() for key in it.attributes if key.startswith("on") or key in ("src", "href", "style", "action")], [])
+            keys = {key for it in told.all() for key in it.attributes}
+            self.assertEqual({it for it in keys if it.startswith("on") or it in ("src", "href", "style", "action")}, set())
             self.assertNotIn("://", out)
             self.assertNotIn("@import", out)
+
+
+def texts_of(table):
+    """What stands in a table, row by row."""
+    return [[it.text() for it in row.all() if it.tag in ("th", "td")] for row in table.all("tr")]
 
 
 def share(it):
@@ -323,7 +337,8 @@ class Drawing(unittest.TestCase):
     def test_the_scale_says_the_limits(self):
         told = dict(picture.class_names())
         self.assertEqual([told[it] for it in range(8)], ["0", "below 0.1", "0.1 to 0.3", "0.3 to 1", "1 to 3", "3 to 10", "10 to 30", "30 and more"])
-        self.assertEqual([picture.class_of(it, 10_000) for it in (0, 1, 9, 10, 29, 30, 99, 100, 299, 300, 999, 1000, 2999, 3000, 10_000)], [0, 1, 1, 2, 2, 3, 3, 4, 4, 5, 5, 6, 6, 7, 7])
+        at_limits = [picture.class_of(it, 10_000) for it in (0, 1, 9, 10, 29, 30, 99, 100, 299, 300, 999, 1000, 2999, 3000, 10_000)]
+        self.assertEqual(at_limits, [0, 1, 1, 2, 2, 3, 3, 4, 4, 5, 5, 6, 6, 7, 7])
 
     def test_colours_grow_darker_and_texts_are_to_be_read_on_them(self):
         css = page.asset("page.css")
@@ -439,7 +454,9 @@ class Refusals(Room):
 
     def test_a_plan_with_a_value_that_is_off_by_one(self):
         scenario, plan = example("kayaker")
-        self.both([self.write("s", scenario), self.write("p", plan.replace(b"246250902200800000", b"246250902200800001"))], 1, "rejected 3 ValueWrong")
+        off = plan.replace(b"246250902200800000", b"246250902200800001")
+        self.assertNotEqual(off, plan)
+        self.both([self.write("s", scenario), self.write("p", off)], 1, "rejected 3 ValueWrong")
 
     def test_a_program_that_does_not_answer(self):
         files = self.files("two-cells")
@@ -458,8 +475,14 @@ class Refusals(Room):
     def test_a_report_that_is_another_ones(self):
         """Each number of the report is held against the masses that the helper computes."""
         right = read(f"{EXAMPLES}/two-cells.report").decode()
-        for old, new in (("period 1 a 8 50.000", "period 1 a 4 25.000"), ("period 1 a", "period 1 b"), ("left a 0 0.000\nleft b 4 25.000", "left a 4 25.000\nleft b 0 0.000"), ("left b", "left c"),
-                         ("chance 12 16", "chance 24 32"), ("period 2 a 12 75.000\n", "")):
+        for old, new in (
+            ("period 1 a 8 50.000", "period 1 a 4 25.000"),
+            ("period 1 a", "period 1 b"),
+            ("left a 0 0.000\nleft b 4 25.000", "left a 4 25.000\nleft b 0 0.000"),
+            ("left b", "left c"),
+            ("chance 12 16", "chance 24 32"),
+            ("period 2 a 12 75.000\n", ""),
+        ):
             self.assertIn(old, right)
             self.with_program(f"cat > /dev/null; [ $1 = check ] && echo accepted || cat << 'END'\n{right.replace(old, new)}END")
             self.both(self.files("two-cells"), 70, "aren't those of osp report" if "24 32" not in new else "isn't understood")
@@ -489,7 +512,8 @@ class Refusals(Room):
         for helper in ("show", "brief"):
             with open("/dev/full", "wb") as full:
                 how = {"cwd": os.path.dirname(EXAMPLES), "env": {**os.environ, "OSP": program.OSP, "PYTHONDONTWRITEBYTECODE": "1"}}
-                done = subprocess.run([sys.executable, "-m", "desk", helper, *self.files("one-cell")], stdout=full, stderr=subprocess.PIPE, check=False, **how)
+                words = [sys.executable, "-m", "desk", helper, *self.files("one-cell")]
+                done = subprocess.run(words, stdout=full, stderr=subprocess.PIPE, check=False, **how)
             self.assertEqual((done.returncode, done.stderr), (6, b"write fault: No space left on device\n"))
 
 
