@@ -1,5 +1,5 @@
 -- What settled desks come to together.
-use Rattle.std.proofs.Common.{◌≡◌, ℕ, zero, suc, ◌<◌, List, [], ◌∷◌, ◌++◌, map, length, get_or, refl, sym, ap, ◌∙◌, subst, inl, arith, All, flat_map, sum_by, length-append, Result, Ok, Err}
+use Rattle.std.proofs.Common.{◌≡◌, ◌≢◌, ℕ, zero, suc, ◌<◌, List, [], ◌∷◌, ◌++◌, map, length, get_or, refl, sym, ap, ◌∙◌, subst, inl, arith, All, flat_map, sum_by, length-append, Result, Ok, Err}
 use Rattle.std.proofs.lemmas.List.{length-map, get_or-map}
 use Rattle.std.proofs.lemmas.List.Elements.{All-nil, All-cons, All-head, All-tail, All-map, All-weaker}
 use Rattle.std.proofs.lemmas.List.Sums.{sum_by-cons}
@@ -20,7 +20,7 @@ use Rattle.search_workers.specs.declared.harvest.Harvest.{Harvest}
 use Rattle.search_workers.specs.declared.left.Left.{Left}
 use Rattle.search_workers.specs.declared.left.Left.TheVariants as left
 use Rattle.search_workers.specs.Desks.{DeskView, haul_at, IsInOrder}
-use Rattle.search_workers.specs.Settled.{closed_at, waiting_at, lasts_at, IsSettled, EndsSearch}
+use Rattle.search_workers.specs.Settled.{closed_at, waiting_at, lasts_at, IsSettled, EndsSearch, WithMemory}
 use Rattle.search_workers.specs.Search.{reached_by, IfFull}
 use Rattle.search_workers.specs.Harvests.{EndsHarvest}
 use Rattle.list_laws.proofs.Mapped.{flat_map-map, map-map}
@@ -88,6 +88,17 @@ ends_at left.Full tasks desks h (k, d, within, at, (drew, some)) waiting tickets
       ),
     )
 ends_at left.NoMemory tasks desks h ends waiting tickets = tt
+
+-- a fact of a search whose end isn't that memory ran out
+pub with_memory : (end : Left) (P : Type 0) → P → WithMemory end P
+with_memory left.Idle P known = known
+with_memory left.Full P known = known
+with_memory left.NoMemory P known = tt
+
+pub known_with : (end : Left) (P : Type 0) → end ≢ left.NoMemory → WithMemory end P → P
+known_with left.Idle P other known = known
+known_with left.Full P other known = known
+known_with left.NoMemory P other known = absurd (other refl)
 
 -- what a search shows whose nodes ran out
 module _ (p : Problem) (first : Standing) (nodes : ℕ) (sound : IsProblem p) where

@@ -20,7 +20,9 @@ use Rattle.incumbent_board.specs.Boards.{BoardView, AreAllSeats}
 use Rattle.search_workers.specs.declared.crew.Member.{Member}
 use Rattle.search_workers.specs.declared.left.Left.{Left}
 use Rattle.search_workers.specs.declared.left.Left.TheVariants.{Idle, Full, NoMemory}
+use Rattle.search_workers.specs.declared.desk.Desk.{Desk}
 use Rattle.search_workers.specs.Desks.{DeskView, IsInOrder}
+use Rattle.search_workers.specs.Seen.{desk_view}
 use Rattle.search_workers.specs.Workers.{begun_by, haul_of, LeavesAs}
 use Rattle.search_workers.specs.Crew.{IsComplete, HasGone, LeaveTogether}
 use Rattle.search_workers.specs.Settled.{closed_at, waiting_at, IsSettled, LeaveDesks}
@@ -81,6 +83,22 @@ module _ (p : Problem) (t : TicketsView) (b : BoardView) (crew : List Member) (t
     order = order_crew;
     even = even_crew some left;
   }
+
+-- the seats of a complete crew are all at its desks, wherever these stand
+module _ (t : TicketsView) (b : BoardView) (crew : List Member) (ds : List DeskView) (at : ds ≡ map (λ m. m.worker.desk) crew) (complete : IsComplete t b crew) where
+  pub tickets_at : AreAllTickets t (map (λ d. d.ticket) ds)
+  tickets_at =
+      subst (λ (ds : List DeskView). AreAllTickets t (map (λ d. d.ticket) ds)) (sym at)
+      (subst (AreAllTickets t) (sym (map-map (λ (d : DeskView). d.ticket) (λ (m : Member). m.worker.desk) crew)) complete.tickets)
+
+  pub seats_at : AreAllSeats b (map (λ d. d.seat) ds)
+  seats_at =
+      subst (λ (ds : List DeskView). AreAllSeats b (map (λ d. d.seat) ds)) (sym at)
+      (subst (AreAllSeats b) (sym (map-map (λ (d : DeskView). d.seat) (λ (m : Member). m.worker.desk) crew)) complete.seats)
+
+-- and there are as many desks as workers
+pub many_at : (crew : List Member) (desks : List Desk) → map desk_view desks ≡ map (λ m. m.worker.desk) crew → length desks ≡ length crew
+many_at crew desks at = sym (length-map desks (λ (d : Desk). desk_view d)) ∙ ap length at ∙ length-map crew (λ (m : Member). m.worker.desk)
 
 -- a worker that left idle has nothing waiting
 idle_desk : (p : Problem) (first : Standing) (m : Member) → HasGone p first m → m.left ≡ Idle → All (IsLegal p) m.worker.desk.waiting → MayDraw m.worker.desk.ticket × (m.worker.desk.waiting ≡ [])

@@ -1,15 +1,17 @@
 -- What is brought in of all desks.
-use Rattle.std.specs.Prelude.{◌≡◌, ◌<◌, [], ◌∷◌, ◌++◌, length, Any, if◌then◌else◌}
+use Rattle.std.specs.Prelude.{◌≡◌, ◌<◌, [], ◌∷◌, ◌++◌, length, Any, IsFalse, if◌then◌else◌}
 use Rattle.search_model.specs.Order.{better}
 use Rattle.search_workers.specs.declared.harvest.Harvest.{Harvest}
 use Rattle.search_workers.specs.declared.left.Left.{Left}
 use Rattle.search_workers.specs.declared.left.Left.TheVariants.{Idle, Full, NoMemory}
 use Rattle.search_workers.specs.Desks.{DeskView, DrewFull}
 
--- what a desk has was added, and of its last standing and the best one before the better one is kept
+-- what a desk has was added: its records and what waits, unless they are short now, and its seats. Of its last standing and
+-- the best one before the better one is kept
 pub record Adds (old : Harvest) (d : DeskView) (new : Harvest) : Type 0 where
-  pub closed : new.closed.items ≡ old.closed.items ++ d.records
-  pub waiting : new.waiting.items ≡ old.waiting.items ++ d.waiting
+  pub before : IsFalse new.short → IsFalse old.short
+  pub closed : IsFalse new.short → new.closed.items ≡ old.closed.items ++ d.records
+  pub waiting : IsFalse new.short → new.waiting.items ≡ old.waiting.items ++ d.waiting
   pub best : new.best ≡ (if better d.last old.best then d.last else old.best)
   pub tickets : new.tickets.items ≡ old.tickets.items ++ d.ticket ∷ []
   pub seats : new.seats.items ≡ old.seats.items ++ d.seat ∷ []

@@ -4,6 +4,7 @@ pub mod Desks
 pub mod Finish
 pub mod Harvests
 pub mod Incumbents
+pub mod Rooms
 pub mod Rounds
 pub mod Runs
 pub mod Search

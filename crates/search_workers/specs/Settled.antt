@@ -42,6 +42,12 @@ EndsSearch Idle tasks desks = waiting_at tasks desks ≡ []
 EndsSearch Full tasks desks = SomeFull desks
 EndsSearch NoMemory tasks desks = Unit {0}
 
+-- a fact of a search whose end isn't that memory ran out
+abbrev pub WithMemory : Left → Type 0 → Type 0
+WithMemory Idle fact = fact
+WithMemory Full fact = fact
+WithMemory NoMemory fact = Unit {0}
+
 -- the first standing of a search, and those that were used last at its desks
 abbrev pub lasts_at : Standing → List DeskView → List Standing
 lasts_at first desks = first ∷ map (λ d. d.last) desks

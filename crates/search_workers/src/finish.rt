@@ -113,6 +113,7 @@ fn take_up_first<R: Wait>(
     requires first { IsExact sc.now board.now.first }
     requires settled { IsSettled sc.now tickets.now board.now tasks.old.items (map desk_view desks.old.items) }
     requires idle { LeaveDesks Left.Idle (map desk_view desks.old.items) }
+    ensures many { length desks.new.items ≡ length desks.old.items }
     ensures settled { IsSettled sc.now tickets.now board.now tasks.new.items (map desk_view desks.new.items) }
     ensures ends { EndsSearch result tasks.new.items (map desk_view desks.new.items) }
 {
@@ -136,6 +137,7 @@ pub fn finish<R: Wait>(
     requires first { IsExact sc.now board.now.first }
     requires settled { IsSettled sc.now tickets.now board.now tasks.old.items (map desk_view desks.old.items) }
     requires left { LeaveDesks left (map desk_view desks.old.items) }
+    ensures many { length desks.new.items ≡ length desks.old.items }
     ensures settled { IsSettled sc.now tickets.now board.now tasks.new.items (map desk_view desks.new.items) }
     ensures ends { EndsSearch result tasks.new.items (map desk_view desks.new.items) }
 {

@@ -1,6 +1,6 @@
 //! What all desks have together.
 
-ghost use Rattle.std.specs.Prelude.{◌≡◌, map, IfOk, OnOk, ◌++◌, ◌∷◌, []};
+ghost use Rattle.std.specs.Prelude.{◌≡◌, ◌<◌, ◌≤◌, length, map, OnOk, ◌++◌, ◌∷◌, [], vec_len, vec_capacity, IsFalse};
 ghost use Rattle.tree_gather.specs.Hauls.{IsBestOf};
 ghost use Rattle.search_workers.specs.Seen.{desk_view};
 ghost use Rattle.search_workers.specs.Settled.{closed_at, waiting_at, lasts_at};
@@ -15,7 +15,8 @@ use node_tickets::TicketSeat;
 use search_model::{Path, Standing, better};
 use std::alloc::Global;
 
-/// All records, all that waits, the best standing, and all seats.
+/// All records, all that waits, the best standing, and all seats. Where memory ran out for the records or for what waits,
+/// these are short.
 #[derive(Drop)]
 pub struct Harvest {
     pub closed: Vec<TreeNode>,
@@ -23,32 +24,52 @@ pub struct Harvest {
     pub best: Standing,
     pub tickets: Vec<TicketSeat>,
     pub seats: Vec<BoardSeat>,
+    pub short: bool,
 }
 
-// Adds the lists and the seats of a desk.
+// Adds the lists of a desk.
 fn add_lists(
-    harvest: &mut Harvest,
+    closed: &mut Vec<TreeNode>,
+    waiting: &mut Vec<Path>,
     mut records: Vec<TreeNode>,
     mut prefixes: Vec<Path>,
-    ticket: TicketSeat,
-    seat: BoardSeat,
 ) -> Result<(), NoMemory>
-    ensures closed { OnOk result (harvest.new.closed.items ≡ harvest.old.closed.items ++ records.items) }
-    ensures waiting { OnOk result (harvest.new.waiting.items ≡ harvest.old.waiting.items ++ prefixes.items) }
-    ensures best { OnOk result (harvest.new.best ≡ harvest.old.best) }
-    ensures tickets { OnOk result (harvest.new.tickets.items ≡ harvest.old.tickets.items ++ ticket ∷ []) }
-    ensures seats { OnOk result (harvest.new.seats.items ≡ harvest.old.seats.items ++ seat ∷ []) }
+    ensures closed { OnOk result (closed.new.items ≡ closed.old.items ++ records.items) }
+    ensures waiting { OnOk result (waiting.new.items ≡ waiting.old.items ++ prefixes.items) }
 {
-    harvest.closed.append(&mut records)?;
-    harvest.waiting.append(&mut prefixes)?;
-    harvest.tickets.push(ticket)?;
-    harvest.seats.push(seat)?;
+    closed.append(&mut records)?;
+    waiting.append(&mut prefixes)?;
     Ok(())
 }
 
-// Adds what a desk has. The lists come last, so that nothing else of the desk is held where memory runs out.
-fn add_desk(harvest: &mut Harvest, desk: Desk) -> Result<(), NoMemory>
-    ensures { OnOk result (Adds harvest.old (desk_view desk) harvest.new) }
+// Adds the seats of a desk, for which there is room.
+fn add_seats(
+    tickets: &mut Vec<TicketSeat>,
+    seats: &mut Vec<BoardSeat>,
+    ticket: TicketSeat,
+    seat: BoardSeat,
+)
+    requires room { (vec_len tickets.old < vec_capacity tickets.old) × (vec_len seats.old < vec_capacity seats.old) }
+    ensures tickets { tickets.new.items ≡ tickets.old.items ++ ticket ∷ [] }
+    ensures seats { seats.new.items ≡ seats.old.items ++ seat ∷ [] }
+    ensures room { (vec_capacity tickets.old ≤ vec_capacity tickets.new) ×
+        (vec_capacity seats.old ≤ vec_capacity seats.new) }
+{
+    let Ok(()) = tickets.push(ticket) else {
+        unreachable!()
+    };
+    let Ok(()) = seats.push(seat) else {
+        unreachable!()
+    };
+}
+
+// Adds what a desk has. Where memory runs out for its lists, that is noted, and its seats are added all the same.
+fn add_desk(harvest: &mut Harvest, desk: Desk)
+    requires room { (vec_len harvest.old.tickets < vec_capacity harvest.old.tickets) ×
+        (vec_len harvest.old.seats < vec_capacity harvest.old.seats) }
+    ensures adds { Adds harvest.old (desk_view desk) harvest.new }
+    ensures room { (vec_capacity harvest.old.tickets ≤ vec_capacity harvest.new.tickets) ×
+        (vec_capacity harvest.old.seats ≤ vec_capacity harvest.new.seats) }
 {
     let Desk {
         ticket,
@@ -65,31 +86,46 @@ fn add_desk(harvest: &mut Harvest, desk: Desk) -> Result<(), NoMemory>
     if better(&standing, &harvest.best) {
         harvest.best = standing;
     }
-    add_lists(harvest, records, stack.into_prefixes(), ticket, seat)
+    add_seats(&mut harvest.tickets, &mut harvest.seats, ticket, seat);
+    let added = add_lists(
+        &mut harvest.closed,
+        &mut harvest.waiting,
+        records,
+        stack.into_prefixes(),
+    );
+    if added.is_err() {
+        harvest.short = true;
+    }
 }
 
-/// What all desks have, and the tasks left, in a search from the standing `first`.
+/// What all desks have, and the tasks left, in a search from the standing `first`. The seats go into room that was taken
+/// for them, so that none is missing where memory runs out.
 pub fn bring_in(
     alloc: Global,
     first: &Standing,
     tasks: Vec<Path>,
     desks: Vec<Desk>,
-) -> Result<Harvest, NoMemory>
-    ensures closed { IfOk result (λ h. h.closed.items ≡ closed_at (map desk_view desks.items)) }
-    ensures waiting { IfOk result (λ h. h.waiting.items ≡ waiting_at tasks.items (map desk_view desks.items)) }
-    ensures best { IfOk result (λ h. IsBestOf (lasts_at first.now (map desk_view desks.items)) h.best) }
-    ensures tickets { IfOk result (λ h. h.tickets.items ≡ map (λ d. d.ticket) (map desk_view desks.items)) }
-    ensures seats { IfOk result (λ h. h.seats.items ≡ map (λ d. d.seat) (map desk_view desks.items)) }
+    tickets: Vec<TicketSeat>,
+    seats: Vec<BoardSeat>,
+) -> Harvest
+    requires empty { (tickets.items ≡ []) × (seats.items ≡ []) }
+    requires room { (length desks.items ≤ vec_capacity tickets) × (length desks.items ≤ vec_capacity seats) }
+    ensures closed { IsFalse result.short → result.closed.items ≡ closed_at (map desk_view desks.items) }
+    ensures waiting { IsFalse result.short → result.waiting.items ≡ waiting_at tasks.items (map desk_view desks.items) }
+    ensures best { IsBestOf (lasts_at first.now (map desk_view desks.items)) result.best }
+    ensures tickets { result.tickets.items ≡ map (λ d. d.ticket) (map desk_view desks.items) }
+    ensures seats { result.seats.items ≡ map (λ d. d.seat) (map desk_view desks.items) }
 {
     let mut all = Harvest {
         closed: Vec::new(alloc),
         waiting: tasks,
         best: *first,
-        tickets: Vec::new(alloc),
-        seats: Vec::new(alloc),
+        tickets,
+        seats,
+        short: false,
     };
     for desk in desks {
-        add_desk(&mut all, desk)?;
+        add_desk(&mut all, desk);
     }
-    Ok(all)
+    all
 }

@@ -1,6 +1,6 @@
 //! Taking the workers of a search apart, once all have left.
 
-ghost use Rattle.std.specs.Prelude.{◌≡◌, ◌≢◌, ◌++◌, map, All, IfOk, MatchBool, IsPermutation};
+ghost use Rattle.std.specs.Prelude.{◌≡◌, ◌≢◌, ◌≤◌, ◌++◌, [], length, map, vec_capacity, All, IfOk, MatchBool, IsPermutation};
 ghost use Rattle.std.specs.List.{flat_map};
 ghost use Rattle.steal_pool.specs.Kits.{put_of, taken_of};
 ghost use Rattle.steal_pool.specs.Pools.{IsWhole};
@@ -40,30 +40,45 @@ pub fn left_together(crew: &[Member]) -> Left
     }
 }
 
-// The kits and the desks of all workers.
-fn part_all(alloc: Global, crew: Vec<Member>) -> Result<(Vec<Kit<Path>>, Vec<Desk>), NoMemory>
-    ensures kits { IfOk result (λ r. r.0.items ≡ map (λ m. m.worker.kit) crew.items) }
-    ensures desks { IfOk result (λ r. map desk_view r.1.items ≡ map (λ m. m.worker.desk) crew.items) }
+// The kits and the desks of all workers, in room for them. Takes no memory.
+fn part_all(
+    crew: Vec<Member>,
+    mut kits: Vec<Kit<Path>>,
+    mut desks: Vec<Desk>,
+) -> (Vec<Kit<Path>>, Vec<Desk>)
+    requires empty { (kits.items ≡ []) × (desks.items ≡ []) }
+    requires room { (length crew.items ≤ vec_capacity kits) × (length crew.items ≤ vec_capacity desks) }
+    ensures kits { result.0.items ≡ map (λ m. m.worker.kit) crew.items }
+    ensures desks { map desk_view result.1.items ≡ map (λ m. m.worker.desk) crew.items }
 {
-    let mut kits = Vec::new(alloc);
-    let mut desks = Vec::new(alloc);
     for member in crew {
         let Member { worker, left: _ } = member;
         let (kit, desk) = worker.part();
-        kits.push(kit)?;
-        desks.push(desk)?;
+        let Ok(()) = kits.push(kit) else {
+            unreachable!()
+        };
+        let Ok(()) = desks.push(desk) else {
+            unreachable!()
+        };
     }
-    Ok((kits, desks))
+    (kits, desks)
 }
 
-/// Settles the kits of all workers: their desks, and the tasks left.
-pub fn settle_all(alloc: Global, crew: Vec<Member>) -> Result<(Vec<Desk>, Vec<Path>), NoMemory>
-    requires { IsWhole (map (λ m. m.worker.kit) crew.items) }
-    ensures desks { IfOk result (λ r. map desk_view r.0.items ≡ map (λ m. m.worker.desk) crew.items) }
-    ensures left { IfOk result (λ r. IsPermutation (flat_map put_of (map (λ m. m.worker.kit) crew.items))
-        (flat_map taken_of (map (λ m. m.worker.kit) crew.items) ++ r.1.items)) }
+/// Settles the kits of all workers: their desks, and the tasks left. Where memory runs out for these, all desks are there
+/// still.
+pub fn settle_all(
+    alloc: Global,
+    crew: Vec<Member>,
+    kits: Vec<Kit<Path>>,
+    desks: Vec<Desk>,
+) -> (Vec<Desk>, Result<Vec<Path>, NoMemory>)
+    requires whole { IsWhole (map (λ m. m.worker.kit) crew.items) }
+    requires empty { (kits.items ≡ []) × (desks.items ≡ []) }
+    requires room { (length crew.items ≤ vec_capacity kits) × (length crew.items ≤ vec_capacity desks) }
+    ensures desks { map desk_view result.0.items ≡ map (λ m. m.worker.desk) crew.items }
+    ensures left { IfOk result.1 (λ tasks. IsPermutation (flat_map put_of (map (λ m. m.worker.kit) crew.items))
+        (flat_map taken_of (map (λ m. m.worker.kit) crew.items) ++ tasks.items)) }
 {
-    let (kits, desks) = part_all(alloc, crew)?;
-    let tasks = settle(alloc, kits)?;
-    Ok((desks, tasks))
+    let (kits, desks) = part_all(crew, kits, desks);
+    (desks, settle(alloc, kits))
 }

@@ -14,6 +14,7 @@ mod incumbent;
 mod joins;
 mod left;
 mod muster;
+mod room;
 mod rounds;
 mod run;
 mod searching;

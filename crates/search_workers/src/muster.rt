@@ -7,10 +7,12 @@ ghost use Rattle.node_tickets.specs.Seats.{IsFresh};
 ghost use Rattle.incumbent_board.specs.Boards.{IsNewSeat};
 ghost use Rattle.search_workers.specs.Workers.{IsReady};
 ghost use Rattle.search_workers.specs.Crew.{IsComplete, MayGo};
+ghost use Rattle.search_workers.specs.Rooms.{IsRoomFor};
 ghost use Rattle.bound_tree.specs.Room.{MOST_NODES};
 
 use crate::crew::Member;
 use crate::left::Left;
+use crate::room::Room;
 use crate::worker::Worker;
 use exact_parts::NoMemory;
 use incumbent_board::{Board, BoardSeat};
@@ -19,12 +21,13 @@ use search_model::{Path, Scenario, Standing};
 use std::alloc::Global;
 use steal_pool::{Kit, Pool};
 
-/// The workers of a search, with the tickets and the board at which they have their seats.
+/// The workers of a search, with the tickets and the board at which they have their seats, and room to take them apart.
 #[derive(Drop)]
 pub struct Crew {
     pub tickets: Tickets,
     pub board: Board,
     pub members: Vec<Member>,
+    pub room: Room,
 }
 
 // One worker for each kit, with a seat at the tickets and one at the board.
@@ -79,16 +82,19 @@ pub fn muster(
     ensures first { IfOk result (λ crew. crew.board.first ≡ first.now) }
     ensures many { IfOk result (λ crew. length crew.members.items ≡ workers) }
     ensures complete { IfOk result (λ crew. IsComplete crew.tickets crew.board crew.members.items) }
+    ensures room { IfOk result (λ crew. IsRoomFor workers crew.room) }
     ensures ready { IfOk result (λ crew. All (λ m. MayGo sc.now crew.tickets crew.board m.worker) crew.members.items) }
 {
     sc.recall_sound();
     let kits = Pool::make(alloc, workers)?;
     let (tickets, ticket_seats) = Tickets::start(alloc, nodes, workers)?;
     let (board, seats) = Board::start(alloc, *first, workers)?;
+    let room = Room::new(alloc, workers as usize)?;
     let members = man_all(alloc, sc, first, kits, ticket_seats, seats)?;
     Ok(Crew {
         tickets,
         board,
         members,
+        room,
     })
 }

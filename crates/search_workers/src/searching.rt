@@ -1,6 +1,6 @@
 //! The search.
 
-ghost use Rattle.std.specs.Prelude.{◌≡◌, ◌<◌, ◌≤◌, length, map, All, IfOk, sum_by};
+ghost use Rattle.std.specs.Prelude.{◌≡◌, ◌≢◌, ◌<◌, ◌≤◌, [], length, map, vec_capacity, All, IfOk, IsFalse, sum_by};
 ghost use Rattle.search_model.specs.Order.{IsBest};
 ghost use Rattle.bound_tree.specs.Accepts.{Accepts};
 ghost use Rattle.bound_tree.specs.Close.{IsExact, IsAtLeast, IsLive, LetsBranch, HasMoreLive};
@@ -10,7 +10,7 @@ ghost use Rattle.node_tickets.specs.Seats.{AreAllSeats as AreAllTickets, numbers
 ghost use Rattle.incumbent_board.specs.Boards.{AreAllSeats};
 ghost use Rattle.search_workers.specs.Seen.{desk_view};
 ghost use Rattle.search_workers.specs.Crew.{IsComplete, MayGo, HasGone, LeaveTogether};
-ghost use Rattle.search_workers.specs.Settled.{IsSettled, EndsSearch};
+ghost use Rattle.search_workers.specs.Settled.{IsSettled, EndsSearch, WithMemory};
 ghost use Rattle.search_workers.specs.Harvests.{EndsHarvest};
 ghost use Rattle.search_workers.specs.Search.{plan_of, reached_by, IfFull};
 ghost use Rattle.bound_tree.specs.Room.{MOST_NODES};
@@ -24,13 +24,13 @@ use crate::harvest::{Harvest, bring_in};
 use crate::joins::{left_together, settle_all};
 use crate::left::Left;
 use crate::muster::{Crew, muster};
-use exact_parts::NoMemory;
 use incumbent_board::Board;
 use node_tickets::Tickets;
 use search_model::{Path, Scenario, Standing};
 use std::alloc::{AllocGlobal, Global};
 use std::sync::Wait;
 use std::thread::Threads;
+use steal_pool::Kit;
 use tree_gather::gather;
 
 // All workers go, beside each other: how they left together.
@@ -54,7 +54,7 @@ fn work_together<R: Threads + Wait + Sync, G: Gate>(
 }
 
 // Settles the kits and goes on over the tasks left: how the search ended, the desks of all workers, and the tasks that
-// are left still.
+// are left still. Where memory runs out for the tasks, no desk is missing.
 fn wind_up<R: Wait>(
     rt: &R,
     alloc: Global,
@@ -63,19 +63,65 @@ fn wind_up<R: Wait>(
     board: &Board,
     left: Left,
     members: Vec<Member>,
-) -> Result<(Left, Vec<Desk>, Vec<Path>), NoMemory>
+    kits: Vec<Kit<Path>>,
+    desks: Vec<Desk>,
+) -> (Left, Vec<Desk>, Vec<Path>)
     requires first { IsExact sc.now board.now.first }
     requires some { 0 < length members.items }
     requires complete { IsComplete tickets.now board.now members.items }
     requires gone { All (HasGone sc.now board.now.first) members.items }
     requires left { LeaveTogether members.items left }
-    ensures settled { IfOk result (λ r. IsSettled sc.now tickets.now board.now r.2.items (map desk_view r.1.items)) }
-    ensures ends { IfOk result (λ r. EndsSearch r.0 r.2.items (map desk_view r.1.items)) }
+    requires empty { (kits.items ≡ []) × (desks.items ≡ []) }
+    requires room { (length members.items ≤ vec_capacity kits) × (length members.items ≤ vec_capacity desks) }
+    ensures many { length result.1.items ≡ length members.items }
+    ensures tickets { AreAllTickets tickets.now (map (λ d. d.ticket) (map desk_view result.1.items)) }
+    ensures seats { AreAllSeats board.now (map (λ d. d.seat) (map desk_view result.1.items)) }
+    ensures settled { WithMemory result.0
+        (IsSettled sc.now tickets.now board.now result.2.items (map desk_view result.1.items)) }
+    ensures ends { EndsSearch result.0 result.2.items (map desk_view result.1.items) }
 {
     sc.recall_sound();
-    let (mut desks, mut tasks) = settle_all(alloc, members)?;
+    let (mut desks, tasks_left) = settle_all(alloc, members, kits, desks);
+    let Ok(mut tasks) = tasks_left else {
+        return (Left::NoMemory, desks, Vec::new(alloc));
+    };
     let end = finish(left, &mut desks, &mut tasks, rt, sc, tickets, board);
-    Ok((end, desks, tasks))
+    (end, desks, tasks)
+}
+
+// Whether memory ran out, for a worker or for what was brought in.
+fn fell_short(left: Left, harvest: &Harvest) -> bool
+    ensures { IsFalse result → IsFalse harvest.now.short × (left ≢ Left.NoMemory) }
+{
+    match left {
+        Left::Idle => harvest.short,
+        Left::Full => harvest.short,
+        Left::NoMemory => true,
+    }
+}
+
+// Takes all seats back where memory ran out, and drops what was brought in.
+fn give_up<R: Wait>(
+    rt: &R,
+    tickets: Tickets,
+    board: Board,
+    harvest: Harvest,
+) -> Result<Found, SearchStop>
+    requires tickets { AreAllTickets tickets harvest.tickets.items }
+    requires seats { AreAllSeats board harvest.seats.items }
+    ensures { result ≡ Err SearchStop.NoMemory }
+{
+    let Harvest {
+        closed: _,
+        waiting: _,
+        best: _,
+        tickets: ticket_seats,
+        seats,
+        short: _,
+    } = harvest;
+    let _drawn = tickets.close(ticket_seats);
+    let _last = board.close(rt, seats);
+    Err(SearchStop::NoMemory)
 }
 
 // Takes all seats back, and answers what was brought in.
@@ -108,6 +154,7 @@ fn conclude<R: Wait>(
         best,
         tickets: ticket_seats,
         seats,
+        short: _,
     } = harvest;
     let _drawn = tickets.close(ticket_seats);
     let _last = board.close(rt, seats);
@@ -161,9 +208,23 @@ pub fn search<R: Threads + Wait + Sync + AllocGlobal, G: Gate>(
         tickets,
         board,
         mut members,
+        room,
     } = muster(rt.alloc(), sc, first, workers, nodes)?;
     let left = work_together(rt, sc, &tickets, &board, gate, &mut members);
-    let (end, desks, tasks) = wind_up(rt, rt.alloc(), sc, &tickets, &board, left, members)?;
-    let harvest = bring_in(rt.alloc(), first, tasks, desks)?;
+    let (end, desks, tasks) = wind_up(
+        rt,
+        rt.alloc(),
+        sc,
+        &tickets,
+        &board,
+        left,
+        members,
+        room.kits,
+        room.desks,
+    );
+    let harvest = bring_in(rt.alloc(), first, tasks, desks, room.tickets, room.seats);
+    if fell_short(end, &harvest) {
+        return give_up(rt, tickets, board, harvest);
+    }
     conclude(rt, sc, tickets, board, end, harvest)
 }

@@ -1,4 +1,4 @@
-use Rattle.std.proofs.Common.{◌≡◌, map}
+use Rattle.std.proofs.Common.{◌≡◌, ◌≤◌, map, length, vec_capacity}
 use Rattle.search_workers.specs.Seen.{desk_view}
 use Rattle.search_workers.proofs.joins.part_all.Given as goal
 
@@ -6,4 +6,6 @@ abbrev pub invariant-loop-member : goal.invariant-loop-member
 invariant-loop-member l = record {
   kits : l.kits.items ≡ map (λ m. m.worker.kit) l.yielded;
   desks : map desk_view l.desks.items ≡ map (λ m. m.worker.desk) l.yielded;
+  many : length l.desks.items ≡ length l.kits.items;
+  room : (length l.fn.crew.items ≤ vec_capacity l.kits) × (length l.fn.crew.items ≤ vec_capacity l.desks);
 }

@@ -6,34 +6,40 @@ use Rattle.node_tickets.specs.Seats.{SeatView as TicketView, numbers_of}
 use Rattle.tree_gather.specs.Hauls.{AreJoined}
 use Rattle.search_workers.specs.Seen.{desk_view}
 use Rattle.search_workers.specs.Settled.{closed_at}
-use Rattle.search_workers.proofs.Concluded.{joined_at, counted_at, ends_at, more_live, distinct_reached, live_reached}
+use Rattle.search_workers.proofs.Concluded.{joined_at, counted_at, ends_at, known_with, more_live, distinct_reached, live_reached}
 use Rattle.search_workers.proofs.searching.search.Goals as goal
 
 pub conclude-requires-clause-joined : goal.conclude-requires-clause-joined
 conclude-requires-clause-joined g c =
     let p = c.args.sc.now in
     let first = c.args.first.now in
-    let desks = map desk_view c.in_ok-end.desks.items in
-    let tasks = c.in_ok-end.tasks.items in
-    let harvest = c.in_ok-harvest.harvest in
-    let brought = c.in_ok-harvest.ensures in
+    let desks = map desk_view c.wind_up-end.result.1.items in
+    let tasks = c.wind_up-end.result.2.items in
+    let harvest = c.bring_in-harvest.result in
+    let brought = c.bring_in-harvest.ensures in
+    let enough = c.fell_short.ensures c.if-fell_short.false in
+    let settled = known_with c.wind_up-end.result.0 _ enough.1 c.wind_up-end.ensures.settled in
     let same : c.in_ok-tickets.field-0.board.first ≡ first = search rules in
-    let joined = joined_at p _ _ first harvest.best tasks desks c.recall_sound.ensures c.requires.exact same c.in_ok-end.ensures.settled brought.best in
+    let joined = joined_at p _ _ first harvest.best tasks desks c.recall_sound.ensures c.requires.exact same settled brought.best in
     subst (λ (s : Standing). AreJoined p s harvest.best harvest.waiting.items harvest.closed.items) (sym same)
-    (subst (λ (rs : List TreeNode). AreJoined p first harvest.best harvest.waiting.items rs) (sym brought.closed)
-    (subst (λ (qs : List (List ℕ)). AreJoined p first harvest.best qs (closed_at desks)) (sym brought.waiting) joined))
+    (subst (λ (rs : List TreeNode). AreJoined p first harvest.best harvest.waiting.items rs) (sym (brought.closed enough.0))
+    (subst (λ (qs : List (List ℕ)). AreJoined p first harvest.best qs (closed_at desks)) (sym (brought.waiting enough.0)) joined))
 
 pub conclude-requires-clause-counted : goal.conclude-requires-clause-counted
 conclude-requires-clause-counted g c =
-    let desks = map desk_view c.in_ok-end.desks.items in
-    let brought = c.in_ok-harvest.ensures in
-    ap length brought.closed
-    ∙ counted_at c.args.sc.now _ desks c.in_ok-end.ensures.settled.order
+    let desks = map desk_view c.wind_up-end.result.1.items in
+    let brought = c.bring_in-harvest.ensures in
+    let enough = c.fell_short.ensures c.if-fell_short.false in
+    let settled = known_with c.wind_up-end.result.0 _ enough.1 c.wind_up-end.ensures.settled in
+    ap length (brought.closed enough.0)
+    ∙ counted_at c.args.sc.now _ desks settled.order
     ∙ ap (λ (ts : List TicketView). sum_by numbers_of ts) (sym brought.tickets)
 
 pub conclude-requires-clause-ends : goal.conclude-requires-clause-ends
 conclude-requires-clause-ends g c =
-    ends_at c.in_ok-end.end c.in_ok-end.tasks.items (map desk_view c.in_ok-end.desks.items) c.in_ok-harvest.harvest c.in_ok-end.ensures.ends c.in_ok-harvest.ensures.waiting c.in_ok-harvest.ensures.tickets
+    let enough = c.fell_short.ensures c.if-fell_short.false in
+    ends_at c.wind_up-end.result.0 c.wind_up-end.result.2.items (map desk_view c.wind_up-end.result.1.items) c.bring_in-harvest.result
+    c.wind_up-end.ensures.ends (c.bring_in-harvest.ensures.waiting enough.0) c.bring_in-harvest.ensures.tickets
 
 pub returns-clause-branches : goal.returns-clause-branches
 returns-clause-branches g c =

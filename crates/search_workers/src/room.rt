@@ -1,0 +1,36 @@
+//! Room to take the workers of a search apart.
+
+ghost use Rattle.std.specs.Prelude.{IfOk};
+ghost use Rattle.search_workers.specs.Rooms.{IsRoomFor};
+
+use crate::desk::Desk;
+use exact_parts::NoMemory;
+use incumbent_board::BoardSeat;
+use node_tickets::TicketSeat;
+use search_model::Path;
+use std::alloc::Global;
+use steal_pool::Kit;
+
+/// Room for the kits, the desks and the seats of all workers. It is taken before they go, so that all can be joined at the
+/// end even where memory has run out.
+#[derive(Drop)]
+pub struct Room {
+    pub kits: Vec<Kit<Path>>,
+    pub desks: Vec<Desk>,
+    pub tickets: Vec<TicketSeat>,
+    pub seats: Vec<BoardSeat>,
+}
+
+impl Room {
+    /// Room for so many workers.
+    pub fn new(alloc: Global, workers: usize) -> Result<Room, NoMemory>
+        ensures { IfOk result (IsRoomFor workers) }
+    {
+        Ok(Room {
+            kits: Vec::with_capacity(alloc, workers)?,
+            desks: Vec::with_capacity(alloc, workers)?,
+            tickets: Vec::with_capacity(alloc, workers)?,
+            seats: Vec::with_capacity(alloc, workers)?,
+        })
+    }
+}
