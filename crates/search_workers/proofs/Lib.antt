@@ -8,6 +8,7 @@ mod Limits
 pub mod Mustered
 mod Ready
 mod Recorded
+mod Scouted
 pub mod Settling
 mod Shared
 pub mod Standings

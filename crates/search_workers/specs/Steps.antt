@@ -3,7 +3,8 @@ use Rattle.std.specs.Prelude.{◌≡◌, ◌≢◌, ℕ, List, [], ◌∷◌, �
 use Rattle.search_model.specs.Problem.{Problem}
 use Rattle.bound_tree.specs.declared.node.Kind.{Kind}
 use Rattle.bound_tree.specs.declared.node.Kind.TheVariants.{Branch}
-use Rattle.bound_tree.specs.Close.{IsClosed}
+use Rattle.bound_tree.specs.Close.{IsClosed, IsAtLeast}
+use Rattle.incumbent_board.specs.Boards.{IsSameSeat}
 use Rattle.node_tickets.specs.Seats.{MayDraw}
 use Rattle.search_workers.specs.declared.closing.Closing.{Closing}
 use Rattle.search_workers.specs.declared.closing.Closing.TheVariants.{Branches, Ends, Full, NoMemory}
@@ -39,3 +40,10 @@ Closes old (Branches q) new = Records old q Branch new × MayDraw new.ticket
 Closes old Ends new = ((q : List ℕ) × (kind : Kind) × (kind ≢ Branch) × Records old q kind new) × MayDraw new.ticket
 Closes old Full new = Stays old new × DrewFull new.ticket
 Closes old NoMemory new = Stays old new × MayDraw new.ticket
+
+-- a scout left: nothing is recorded, and the standing in use is no worse than before
+pub record Scouts (old new : DeskView) : Type 0 where
+  pub stays : Stays old new
+  pub ticket : new.ticket ≡ old.ticket
+  pub seat : IsSameSeat old.seat new.seat
+  pub last : IsAtLeast new.last old.last

@@ -79,8 +79,8 @@ impl Incumbent {
         }
     }
 
-    // The same of a path with its value.
-    fn offer_if_better<R: Wait>(&mut self, rt: &R, board: &Board, path: &Path, value: u128)
+    /// The same of a path with its value. May wait. Takes no memory.
+    pub fn offer_if_better<R: Wait>(&mut self, rt: &R, board: &Board, path: &Path, value: u128)
         requires seat { IsSeatOf board.now self.old.seat }
         requires stands { MayStand board.now.first (record { path = path.now; value = value }) }
         ensures seat { IsSameSeat self.old.seat self.new.seat }

@@ -1,6 +1,6 @@
 //! The run of a worker.
 
-ghost use Rattle.std.specs.Prelude.{◌<◌, length, All};
+ghost use Rattle.std.specs.Prelude.{◌≡◌, ◌<◌, length, All};
 ghost use Rattle.search_model.specs.Legal.{IsLegal};
 ghost use Rattle.node_tickets.specs.Seats.{IsSeatOf as IsTicketOf, MayDraw};
 ghost use Rattle.incumbent_board.specs.Boards.{IsSeatOf};
@@ -18,23 +18,32 @@ use crate::left::Left;
 use crate::rounds::take_task;
 use crate::stack::Stack;
 use incumbent_board::Board;
-use node_tickets::Tickets;
+use node_tickets::{TicketSeat, Tickets};
 use search_model::{Path, Scenario};
 use std::sync::Wait;
 use steal_pool::Kit;
 
 // Whether a legal prefix is on the private stack; where that is empty, a task is taken and put there.
-fn has_work<G: Gate>(kit: &mut Kit<Path>, stack: &mut Stack, sc: &Scenario, gate: &G) -> bool
+fn has_work<G: Gate>(
+    kit: &mut Kit<Path>,
+    stack: &mut Stack,
+    ticket: &mut TicketSeat,
+    sc: &Scenario,
+    tickets: &Tickets,
+    gate: &G,
+) -> bool
+    requires ticket { IsTicketOf tickets.now ticket.old }
     requires legal { All (IsLegal sc.now) stack.old }
     requires room { HasRoom stack.old }
     ensures took { OnlyTook kit.old stack.old kit.new stack.new }
     ensures work { HasWork sc.now kit.new stack.new result }
     ensures room { HasRoom stack.new }
+    ensures ticket { ticket.new ≡ ticket.old }
 {
     if !stack.is_empty() {
         return true;
     }
-    let Some(task) = take_task(kit, gate) else {
+    let Some(task) = take_task(kit, ticket, tickets, gate) else {
         return false;
     };
     stack.push(task);
@@ -87,7 +96,7 @@ fn turn<R: Wait, G: Gate>(
     requires ready { IsReady sc.now board.now.first (worker_view kit.old desk.old) }
     ensures { Turns sc.now board.now.first (worker_view kit.old desk.old) result (worker_view kit.new desk.new) }
 {
-    if !has_work(kit, &mut desk.stack, sc, gate) {
+    if !has_work(kit, &mut desk.stack, &mut desk.ticket, sc, tickets, gate) {
         return Some(Left::Idle);
     }
     let left = step(kit, desk, rt, sc, tickets, board);

@@ -10,6 +10,7 @@ use crate::desk::Desk;
 use crate::gate::Gate;
 use crate::left::Left;
 use crate::run::run;
+use crate::scouting::scout_first;
 use crate::stack::Stack;
 use exact_parts::NoMemory;
 use incumbent_board::{Board, BoardSeat};
@@ -24,7 +25,11 @@ use steal_pool::Kit;
 ///
 /// It closes the last prefix of its private stack. Where that is empty it takes a task: in each round the first one of its
 /// own deque, else one that it steals, with one try at each other worker, in ascending order from its own number plus one
-/// and round the end. After 1,024 rounds in a row that got none it leaves.
+/// and round the end. After 1,024 rounds in a row that got none it leaves. Between two such rounds it pauses, longer each
+/// time, as long as it sees numbers being drawn; a worker without others doesn't.
+///
+/// Where there are 4 periods or more, the worker that begins with the empty prefix sends a scout first, from the standing
+/// that it uses. A better path that the scout found takes that standing's place, and is offered to the board.
 ///
 /// Before it closes a prefix it makes room for the record, looks at the board, and draws a number. A better standing that
 /// the board shows is used from then on if its path is legal and whole and its value is exact, which the worker computes
@@ -111,6 +116,7 @@ impl Worker {
         requires ready { IsReady sc.now board.now.first self.old }
         ensures { Went sc.now board.now.first self.old result self.new }
     {
+        scout_first(&self.kit, &mut self.desk, rt, sc, board);
         run(&mut self.kit, &mut self.desk, rt, sc, tickets, board, gate)
     }
 

@@ -9,8 +9,8 @@ returns-then-not-has_work g c =
     let p = c.args.sc.now in
     let kit' = c.has_work.new.kit in
     let ws = c.has_work.new.stack in
-    took_idle p c.args.board.now.first c.args.kit.now kit' (desk_view c.args.desk.now) ws c.requires.ready c.has_work.ensures.took c.has_work.ensures.room
-    c.requires.may (subst (HasWork p kit' ws) c.if-not-has_work.true c.has_work.ensures.work)
+    rw c.has_work.ensures.ticket (took_idle p c.args.board.now.first c.args.kit.now kit' (desk_view c.args.desk.now) ws c.requires.ready c.has_work.ensures.took c.has_work.ensures.room
+    c.requires.may (subst (HasWork p kit' ws) c.if-not-has_work.true c.has_work.ensures.work))
 
 pub step-left-requires-clause-ready : goal.step-left-requires-clause-ready
 step-left-requires-clause-ready g c =
@@ -18,4 +18,5 @@ step-left-requires-clause-ready g c =
     let kit' = c.has_work.new.kit in
     let ws = c.has_work.new.stack in
     let work = subst (HasWork p kit' ws) c.if-not-has_work.false c.has_work.ensures.work in
-    took_ready p c.args.board.now.first c.args.kit.now kit' (desk_view c.args.desk.now) ws c.requires.ready c.has_work.ensures.took c.has_work.ensures.room work.1
+    rw c.has_work.ensures.ticket
+    (took_ready p c.args.board.now.first c.args.kit.now kit' (desk_view c.args.desk.now) ws c.requires.ready c.has_work.ensures.took c.has_work.ensures.room work.1)
