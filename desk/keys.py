@@ -144,7 +144,8 @@ def squares(value):
     found = set()
     for each in value:
         first, last = block(each)
-        if not 0 < (last[0] + 1 - first[0]) * (last[1] + 1 - first[1]) <= MOST_SQUARES or first[0] > last[0]:
+        rows, columns = (end + 1 - begin for begin, end in zip(first, last))
+        if min(rows, columns) < 1 or rows * columns > MOST_SQUARES:
             raise ValueError("no block from its north-west corner to its south-east corner, or a large one")
         found |= {(row, column) for row in range(first[0], last[0] + 1) for column in range(first[1], last[1] + 1)}
     return frozenset(found)

@@ -345,6 +345,11 @@ class Detection(unittest.TestCase):
         # Coverage 1.6 and 0.8: misses of 0.201897 and 0.449329.
         self.assertAlmostEqual(float(detection.misses(given, 1)[0]), 0.201897, 6)
         self.assertAlmostEqual(float(detection.misses(given, 3)[0]), 0.449329, 6)
+        # In parts of 10 these are 2 and 4.
+        sc, text, _ = made(LAKE + light + "[parts]\nlook = 10\n")
+        self.assertEqual([sc.look(t, 5) for t in (1, 2, 3)], [{5: 2}, {5: 4}, {5: 4}])
+        self.assertIn(b"\nlook r1c1 r1c1 2\n", text)
+        self.assertIn(b"\nlookin 3 r1c1 r1c1 4\n", text)
         haze = '[[visibility]]\nfactor = 1\n[[visibility]]\nbegins = "12:20"\nfactor = 0.5\n'
         given = situation.situation((LAKE + light + haze).encode())
         # 5 of 15 minutes at 1, 10 at 0.5: 2/3; by night 0.4 of it.
