@@ -3,7 +3,7 @@ import dataclasses
 import difflib
 import functools
 
-from desk import forms, quoting, width, wording
+from desk import forms, quoting, rounding, wording
 from desk.wording import KEPT, UNKNOWN, split
 
 # The order of the kinds of fault, for those at one line (docs/FORMATS.md).
@@ -63,6 +63,11 @@ def text_alone(line):
     become `_`, so that a name with a foreign letter stays one name."""
     line = line.removeprefix(b"\xef\xbb\xbf").replace(b"\xc2\xa0", b" ")
     return bytes(it if it in forms.TEXT else 32 if it < 32 else 95 for it in line)
+
+
+def finest_part(horizon, parts, at):
+    """The greatest number in the place `at` (0 to 2: A, D, G) of the denominators with which the horizon fits, or 0."""
+    return rounding.greatest(forms.MOST_PART, lambda it: forms.is_narrow(horizon, (*parts[:at], it, *parts[at + 1 :])))
 
 
 class Survey(forms.ScenarioReader):
@@ -486,10 +491,10 @@ class Survey(forms.ScenarioReader):
         parts, horizon = self.sc.parts, self.sc.horizon
         if horizon is UNKNOWN or any(it is UNKNOWN for it in parts) or forms.is_narrow(horizon, parts):
             return
-        fit = width.longest(parts)
+        fit = rounding.most_periods(parts)
         said = f"{quoting.counted(horizon, 'period')} with parts {' '.join(map(str, parts))} don't fit into 128 bits: "
         said += f"{quoting.counted(fit, 'period')} would fit" if fit else "no horizon fits"
-        finest = [(letter, width.finest(horizon, parts, at)) for at, letter in enumerate("ADG")]
+        finest = [(letter, finest_part(horizon, parts, at)) for at, letter in enumerate("ADG")]
         others = [f"{letter} of at most {most:,}" for letter, most in finest if most]
         self.tell("TooWide", said + (f", or {' or '.join(others)}" if others else ""), at)
 

@@ -6,7 +6,7 @@ mean, to standard error.
 import math
 import re
 
-from desk import accepted, forms, masses, onward, quoting, running, width, writing
+from desk import accepted, forms, masses, onward, quoting, rounding, running, writing
 from desk.accepted import Refused
 
 USAGE = "usage: osp next SCENARIO PLAN [--flown K] [--horizon N]"
@@ -31,7 +31,7 @@ def options(words):
             found[word] = int(rest.pop(0))
         else:
             raise Refused(WRONG_WORDS, USAGE)
-    if len(files) != 2 or (found["--horizon"] or 1) > width.MOST_HORIZON:
+    if len(files) != 2 or (found["--horizon"] or 1) > rounding.MOST_PERIODS:
         raise Refused(WRONG_WORDS, USAGE)
     return *files, found["--flown"], found["--horizon"]
 

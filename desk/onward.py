@@ -4,10 +4,10 @@ All masses are whole numbers and all chances Fractions; only the new first distr
 """
 import copy
 import dataclasses
-import fractions
 import math
+from fractions import Fraction
 
-from desk import forms, paths, verdict, width
+from desk import forms, paths, rounding, verdict
 
 
 # Exit statuses of docs/FORMATS.md.
@@ -32,21 +32,10 @@ class Onward:
     """
 
     sc: forms.Scenario
-    found: fractions.Fraction
-    largest: fractions.Fraction
-    moved: fractions.Fraction
+    found: Fraction
+    largest: Fraction
+    moved: Fraction
     finest: int
-
-
-def largest_remainder(masses, whole):
-    """Whole parts that sum to `whole`, by the shares of masses: each share rounded down, and what lacks given to the largest
-    remainders, of equal ones to the first (the method of Hamilton)."""
-    total = sum(masses)
-    parts = [mass * whole // total for mass in masses]
-    order = sorted(range(len(masses)), key=lambda it: (-(masses[it] * whole % total), it))
-    for it in order[: whole - sum(parts)]:
-        parts[it] += 1
-    return parts
 
 
 def extended(sc, horizon):
@@ -79,9 +68,9 @@ def moved_up(longer, flown):
 
 def denominator(masses, horizon, parts):
     """The new A: with which nothing is rounded, where it fits into 128 bits; else the finest that fits. And the finest."""
-    finest = width.finest(horizon, (1, *parts[1:]), 0)
+    finest = rounding.greatest(forms.MOST_PART, lambda it: forms.is_narrow(horizon, (it, *parts[1:])))
     if finest == 0:
-        most = width.longest((1, *parts[1:]))
+        most = rounding.most_periods((1, *parts[1:]))
         raise NoWay(WRONG_WORDS, f"{horizon} periods don't fit into 128 bits with D {parts[1]} and G {parts[2]}; {most} would")
     return min(sum(masses) // math.gcd(*masses), finest), finest
 
@@ -95,8 +84,9 @@ def onward(sc, path, flown, horizon):
     new = moved_up(longer, flown)
     whole, finest = denominator(masses, horizon, sc.parts)
     new.parts, new.start = (whole, *sc.parts[1:]), path[flown - 1]
-    new.first = largest_remainder(masses, whole)
-    total = sum(masses)
-    changes = [fractions.Fraction(part, whole) - fractions.Fraction(mass, total) for part, mass in zip(new.first, masses)]
-    found = fractions.Fraction(value, paths.weight(longer))
-    return Onward(new, found, max(map(abs, changes)), sum(it for it in changes if it > 0), finest)
+    shares = dict(enumerate(masses))
+    parts = rounding.largest_remainder(shares, whole)
+    new.first = [parts.get(it, 0) for it in shares]
+    changes = [Fraction(part, whole) - Fraction(mass, sum(masses)) for part, mass in zip(new.first, masses)]
+    found = Fraction(value, paths.weight(longer))
+    return Onward(new, found, rounding.largest_error(shares, parts, whole), sum(it for it in changes if it > 0), finest)

@@ -1,9 +1,5 @@
 """Tests of `osp explain`: every kind of fault with its line and what is said, several at once, warnings, rejections, hostile files."""
 import collections
-import contextlib
-import importlib.machinery
-import importlib.util
-import io
 import os
 import random
 import re
@@ -16,9 +12,10 @@ from unittest import mock
 sys.dont_write_bytecode = True
 sys.path.insert(0, os.path.dirname(os.path.realpath(__file__)))
 
-from pages import EXAMPLES, STAND_IN, TOP, Room, example, read  # noqa: E402
+from asking import Asked, module_of  # noqa: E402
+from pages import EXAMPLES, STAND_IN, TOP, example, read  # noqa: E402
 
-from desk import advice, explain, faults, forms, program, quoting, rejection, width  # noqa: E402
+from desk import advice, explain, faults, forms, program, quoting, rejection  # noqa: E402
 
 BUILT = os.path.join(TOP, "crates", "osp", "out", "osp")
 
@@ -203,11 +200,8 @@ class OneFault(unittest.TestCase):
         text = GRID.replace(b"parts 1 20 10", b"parts 100 100 100").replace(b"horizon 4", b"horizon 12").replace(b"spread 4", b"spread 20")
         (found,) = faults.survey(text.replace(b"first r1c1 1", b"first r1c1 100"))
         self.assertIn("12 periods with parts 100 100 100 don't fit into 128 bits: 8 periods would fit", found.says)
-        # The table of periods by denominators in docs/FORMATS.md.
-        for parts, most in (((1, 4, 2), 32), ((1, 10, 10), 18), ((1, 20, 10), 16), ((100, 20, 10), 15), ((1, 100, 100), 9), ((100, 100, 100), 8)):
-            self.assertEqual(width.longest(parts), most)
         for at in range(3):
-            most = width.finest(7, (100, 100, 100), at)
+            most = faults.finest_part(7, (100, 100, 100), at)
             parts = [100, 100, 100]
             self.assertTrue(forms.is_narrow(7, [*parts[:at], most, *parts[at + 1 :]]))
             self.assertFalse(most < 1_000_000 and forms.is_narrow(7, [*parts[:at], most + 1, *parts[at + 1 :]]))
@@ -319,10 +313,7 @@ class SeveralFaults(unittest.TestCase):
 
 def hostile():
     """The module bench/hostile, which makes texts that are almost right."""
-    loader = importlib.machinery.SourceFileLoader("hostile", os.path.join(TOP, "bench", "hostile"))
-    module = importlib.util.module_from_spec(importlib.util.spec_from_loader("hostile", loader))
-    loader.exec_module(module)
-    return module
+    return module_of("hostile", os.path.join(TOP, "bench", "hostile"))
 
 
 def almost_right(count, seed):
@@ -333,7 +324,7 @@ def almost_right(count, seed):
         yield made.changed(chance, chance.choice(originals), chance.randrange(1, 4))
 
 
-class Hostile(Room):
+class Hostile(Asked):
     """Texts that are almost right: the first fault is that of desk.forms, and the verdict that of the program."""
 
     def test_the_first_fault(self):
@@ -372,11 +363,8 @@ class Hostile(Room):
             self.verdicts(almost_right(500, 4))
 
     def ran(self, *words):
-        out = io.TextIOWrapper(io.BytesIO(), "utf-8")
-        with contextlib.redirect_stdout(out), contextlib.redirect_stderr(io.StringIO()):
-            status = explain.main(list(words))
-        out.flush()
-        return status, out.buffer.getvalue().decode()
+        status, out, _ = self.called(explain.main, *words)
+        return status, out.decode()
 
     FILES = {
         "huge": (b"# " + b"x" * (3 << 20), 9, "input too long"),
@@ -401,7 +389,7 @@ class Hostile(Room):
                 self.assertLess(max(map(len, out.split("\n"))), 500)
 
 
-class Verdicts(Room):
+class Verdicts(Asked):
     """`osp explain` as it is called: its first line and its status are the program's."""
 
     ran = Hostile.ran
@@ -469,11 +457,9 @@ class Verdicts(Room):
                 self.assertEqual(self.ran(name), (70, ""))
 
     def test_an_unproved_run_is_told(self):
-        err = io.StringIO()
         with self.stand_in(b"echo 'osp: unproved run, since so' >&2; echo 'too many nodes: 1' >&2; exit 8\n"):
-            with contextlib.redirect_stdout(io.TextIOWrapper(io.BytesIO())), contextlib.redirect_stderr(err):
-                self.assertEqual(explain.main([self.write("s", LAKE)]), 0)
-        self.assertEqual(err.getvalue(), "osp: unproved run, since so\n")
+            status, _, err = self.called(explain.main, self.write("s", LAKE))
+        self.assertEqual((status, err), (0, "osp: unproved run, since so\n"))
 
     def test_words_and_files(self):
         for words in ((), ("a", "b", "c"), ("--all", "a")):
@@ -549,7 +535,7 @@ class Warnings(unittest.TestCase):
         self.assertEqual(self.of(read(f"{EXAMPLES}/tide.scenario")), [])
 
 
-class Rejections(Room):
+class Rejections(Asked):
     """Why a plan isn't accepted, in words: each reason, and each kind of fault of a plan's text."""
 
     ran = Hostile.ran

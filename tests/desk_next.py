@@ -1,9 +1,8 @@
 """Tests of `osp next`: chains of scenarios against the chance of the whole path, what is rounded, what is refused, hostile files."""
-import contextlib
-import io
 import os
 import re
 import stat
+import subprocess
 import sys
 import unittest
 from fractions import Fraction
@@ -12,9 +11,10 @@ from unittest import mock
 sys.dont_write_bytecode = True
 sys.path.insert(0, os.path.dirname(os.path.realpath(__file__)))
 
-from pages import EXAMPLES, PLACES, Room, example, read  # noqa: E402
+from asking import Asked  # noqa: E402
+from pages import EXAMPLES, PLACES, STAND_IN, TOP, example, read  # noqa: E402
 
-from desk import following, forms, masses, onward, paths, program, width  # noqa: E402
+from desk import accepted, following, forms, masses, onward, paths, program  # noqa: E402
 
 NAMES = sorted(it[:-7] for it in os.listdir(EXAMPLES) if it.endswith(".report"))
 
@@ -49,19 +49,6 @@ def walks_on(sc, start, count, most):
     for _ in range(count):
         found = [[*walk, to] for walk in found for to in sc.moves[walk[-1] if walk else start]][:most]
     return found
-
-
-class Remainders(unittest.TestCase):
-    def test_by_hand(self):
-        # 10 of 9: shares 5.56, 3.33, 1.11; the first has the largest remainder.
-        self.assertEqual(onward.largest_remainder([5, 3, 1], 10), [6, 3, 1])
-        # 10 of 3: shares of 3.33 each; of equal remainders the first is served.
-        self.assertEqual(onward.largest_remainder([1, 1, 1], 10), [4, 3, 3])
-        # 3 of 8: shares 0.375, 0.75, 1.875: what lacks goes to the third and the second.
-        self.assertEqual(onward.largest_remainder([1, 2, 5], 3), [0, 1, 2])
-
-    def test_what_is_whole_stays(self):
-        self.assertEqual(onward.largest_remainder([0, 6, 2, 4], 6), [0, 3, 1, 2])
 
 
 class Chains(unittest.TestCase):
@@ -162,19 +149,17 @@ class Longer(unittest.TestCase):
 
 
 class Rounding(unittest.TestCase):
-    def rounded(self):
-        sc, path = searched("drifting-grid")
-        return sc, path, onward.onward(sc, path, 8, 8)
-
     def test_it_is_told_as_it_is(self):
-        sc, path, it = self.rounded()
-        # What is left, by the sums over the walks of desk.masses, and one step of the drift.
+        sc, path = searched("drifting-grid")
+        # What is left, by the sums of desk.masses, and one step of the drift.
         left = masses.frames(sc, path)[8].left
         then = [sum(left[cell] * sc.drift[cell].get(to, 0) for cell in range(49)) for to in range(49)]
-        off = [Fraction(part, it.sc.parts[0]) - Fraction(mass, sum(then)) for part, mass in zip(it.sc.first, then)]
-        self.assertEqual(sum(it.sc.first), it.sc.parts[0])
-        self.assertEqual((it.largest, it.moved), (max(map(abs, off)), sum(map(abs, off)) / 2))
-        self.assertTrue(0 < it.largest < Fraction(1, it.sc.parts[0]))
+        for horizon in range(8, 17):
+            it = onward.onward(sc, path, 8, horizon)
+            off = [Fraction(part, it.sc.parts[0]) - Fraction(mass, sum(then)) for part, mass in zip(it.sc.first, then)]
+            self.assertEqual(sum(it.sc.first), it.sc.parts[0])
+            self.assertEqual((it.largest, it.moved), (max(map(abs, off)), sum(map(abs, off)) / 2))
+            self.assertTrue(0 < it.largest < Fraction(1, it.sc.parts[0]))
 
     def test_the_denominator_is_the_finest_that_fits(self):
         sc, path = searched("kayaker")
@@ -193,23 +178,24 @@ class Rounding(unittest.TestCase):
         self.assertEqual(told, ["0", "0.34", "0.00034", "0.0000020", "1.0"])
 
 
-class Commands(Room):
+class Commands(Asked):
     """`osp next` as it is called."""
 
     def ran(self, *words):
         """The exit status, what is written and what is said."""
-        out, err = io.TextIOWrapper(io.BytesIO(), "utf-8"), io.StringIO()
-        with contextlib.redirect_stdout(out), contextlib.redirect_stderr(err):
-            status = following.main(list(words))
-        out.flush()
-        return status, out.buffer.getvalue(), err.getvalue()
+        return self.called(following.main, *words)
+
+    def accepted(self, name, *words):
+        """The same for an example whose plan counts as accepted, since the stand-in takes long for it."""
+        with mock.patch.object(accepted, "asked", lambda word, given: (b"accepted\n", "")):
+            return self.of(name, *words)
 
     def of(self, name, *words, places=""):
         text, plan = example(name)
         return self.ran(self.write("s", places.encode() + text), self.write("p", plan), *words)
 
     def test_what_is_said_is_what_is_written(self):
-        status, text, said = self.of("drifting-grid", "--flown", "4")
+        status, text, said = self.accepted("drifting-grid", "--flown", "4")
         self.assertEqual(status, 0)
         old, path = searched("drifting-grid")
         new = scenario(text)
@@ -293,13 +279,13 @@ class Commands(Room):
         self.assertIn("nothing is left to search", said)
 
     def test_a_horizon_that_is_too_wide(self):
-        status, out, said = self.of("drifting-grid", "--horizon", "20")
+        status, out, said = self.accepted("drifting-grid", "--horizon", "20")
         self.assertEqual((status, out), (2, b""))
         self.assertIn("20 periods don't fit into 128 bits with D 20 and G 10; 16 would", said)
-        self.assertEqual(width.longest((1, 20, 10)), 16)
+        self.assertTrue(forms.is_narrow(16, (1, 20, 10)) and not forms.is_narrow(17, (1, 20, 10)))
 
     def test_coarse_rounding_is_told(self):
-        status, text, said = self.of("drifting-grid", "--horizon", "16")
+        status, text, said = self.accepted("drifting-grid", "--horizon", "16")
         sc = scenario(text)
         self.assertEqual(status, 0)
         self.assertTrue(forms.is_narrow(16, sc.parts))
@@ -310,6 +296,18 @@ class Commands(Room):
         text, plan = example("two-cells")
         status, out, _ = self.ran(self.write("s", text.rstrip(b"\n")), self.write("p", plan), "--flown", "1")
         self.assertEqual((status, scenario(out).horizon), (0, 1))
+
+    def test_as_it_is_called(self):
+        """python3 -m desk next .., and with a full output."""
+        words = [sys.executable, "-m", "desk", "next", *self.files("two-cells"), "--flown", "1"]
+        how = {"cwd": TOP, "env": {**os.environ, "OSP": STAND_IN, "PYTHONDONTWRITEBYTECODE": "1"}}
+        done = subprocess.run(words, capture_output=True, check=False, **how)
+        self.assertEqual((done.returncode, scenario(done.stdout).horizon), (0, 1))
+        self.assertIn(b"P1, the chance that the 1 period flown find the target, is 50.000 percent: 1/2", done.stderr)
+        with open("/dev/full", "wb") as full:
+            done = subprocess.run(words, stdout=full, stderr=subprocess.PIPE, check=False, **how)
+        self.assertEqual(done.returncode, 6)
+        self.assertIn(b"write fault", done.stderr)
 
     def test_hostile_files(self):
         text, plan = example("two-cells")
