@@ -1,5 +1,5 @@
 -- What is due to a scenario with few live prefixes, and to a plan that is accepted or isn't.
-use Rattle.std.proofs.Common.{ℕ, ◌≡◌, List, [], inl, inr, refl, sym, ap, subst, ◌∙◌}
+use Rattle.std.proofs.Common.{ℕ, ◌≡◌, List, inl, inr, refl, sym, ap, subst, ◌∙◌}
 use Rattle.search_model.specs.Problem.{Problem}
 use Rattle.search_model.specs.Order.{standing_of}
 use Rattle.search_model.specs.Opening.{IsOpening}
@@ -8,7 +8,6 @@ use Rattle.bound_tree.specs.declared.plan.Plan.{Plan as APlan}
 use Rattle.bound_tree.specs.Accepts.{Accepts}
 use Rattle.opening_path.proofs.OneOpening.{one_opening}
 use Rattle.bound_tree.specs.Close.{HasMoreLive}
-use Rattle.tree_format.specs.PlanText.{IsPlanText2}
 use Rattle.tree_checker.specs.declared.verdict.RejectAt.{RejectAt}
 use Rattle.plan_command.specs.declared.request.Request.{Request}
 use Rattle.plan_command.specs.declared.request.Request.TheVariants.{Plan, Check, Report, Make, Drill, Convert}
@@ -17,10 +16,8 @@ use Rattle.plan_command.specs.declared.status.Status.TheVariants as statuses
 use Rattle.plan_command.specs.declared.status.Stop.{Stop}
 use Rattle.plan_command.specs.declared.status.Stop.TheVariants as stops
 use Rattle.plan_command.specs.Lines.{status_of}
-use Rattle.plan_command.specs.Plans.{IsPlanRest}
 use Rattle.plan_command.specs.Commands.{Answers, Refuses, IsTooLarge, IsInput, IsRejected, IsChecked, IsVerdict, NeedsAccepted, LacksAccepted}
 use Rattle.plan_command.specs.Complete.{IsDue, IsFeasible, IsAcceptable, IsRejectable, IsUnlessNoMemory}
-use Rattle.plan_command.specs.Laws.{PlannedIsAccepted}
 use Rattle.plan_command.proofs.Apart.{same_scenario}
 use Rattle.plan_command.proofs.Exclusive.{read_or_not, read_alike, answers_or_refuses, accepted_or_lacking, no_front_fault, no_fault_behind}
 
@@ -123,7 +120,7 @@ rejected_verdict p plan status text turned (inl taken) = absurd (turned taken.0)
 rejected_verdict p plan status text turned (inr more) = more.1
 
 -- an accepted plan is accepted, unless memory runs out
-check_due : (p : Problem) (input : List ℕ) (plan : APlan) (status : Status) → IsInput input p plan → Accepts p plan → IsDue Check input status → IsUnlessNoMemory statuses.Done status
+pub check_due : (p : Problem) (input : List ℕ) (plan : APlan) (status : Status) → IsInput input p plan → Accepts p plan → IsDue Check input status → IsUnlessNoMemory statuses.Done status
 check_due p input plan status is accepts (inl (out, checked)) = inl (accepted_verdict p plan status out accepts (verdict_here p input plan status out is checked))
 check_due p input plan status is accepts (inr (inl (stop, refuses, same))) = absurd (refused_check p input plan stop is refuses)
 check_due p input plan status is accepts (inr (inr none)) = inr none
@@ -153,12 +150,3 @@ needs_turned r input at status needs rejected (inr (inr none)) = inr none
 pub judge_rejects : (request : Request) (input : List ℕ) (status : Status) → IsRejectable request input → IsDue request input status → IsUnlessNoMemory statuses.Rejected status
 judge_rejects request input status (inl check, (at, rejected)) due = check_rejects input at status rejected (subst (λ r. IsDue r input status) check due)
 judge_rejects request input status (inr needs, (at, rejected)) due = needs_turned request input at status needs rejected due
-
--- what is planned is accepted
-pub planned_is_accepted : PlannedIsAccepted
-planned_is_accepted p nodes input text both status is (q, other, (plan, certified, few, spelled)) begins due =
-    let same : q ≡ p = same_scenario q p input other is in
-    let P : Problem → Type 0 = λ z. Accepts z plan × IsPlanText2 z plan text in
-    let here = subst P same (certified.accepted, spelled) in
-    let rest : IsPlanRest p text plan = record { blanks = []; only = refl; text = text; spelled = inr here.1; whole = refl } in
-    check_due p both plan status (text, begins, rest) here.0 due

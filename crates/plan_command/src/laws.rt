@@ -1,8 +1,11 @@
 //! What the two halves of the program say of each other.
 
-ghost use Rattle.plan_command.specs.Laws.{PlannedIsAccepted};
+ghost use Rattle.plan_command.specs.Laws.{PlannedIsAccepted, PlannedBehindCanonical, PlannedIsWithin};
 
-/// What `plan` writes for a scenario is accepted by `check` behind any text of that scenario.
+/// What `plan` writes for a scenario is accepted by `check` behind any text of a scenario that is the same search, so also
+/// behind the canonical text; and `check` reads it whole there.
 pub fn what_is_planned_is_accepted()
-    ensures { PlannedIsAccepted }
+    ensures accepted { PlannedIsAccepted }
+    ensures canonical { PlannedBehindCanonical }
+    ensures within { PlannedIsWithin }
 {}

@@ -1,5 +1,5 @@
-use Rattle.plan_command.proofs.Finishing.{planned_is_accepted}
+use Rattle.plan_command.proofs.Planned.{planned_is_accepted, planned_behind_canonical, planned_is_within}
 use Rattle.plan_command.proofs.laws.what_is_planned_is_accepted.Goals as goal
 
 pub returns : goal.returns
-returns c = planned_is_accepted
+returns c = record { accepted = planned_is_accepted; canonical = planned_behind_canonical; within = planned_is_within }
