@@ -439,7 +439,7 @@ def on_terminal(house, *words, seconds=0.0, whole=False):
 
 
 # What the clock shows, from two seconds on, up to where it goes.
-CLOCK = r"(?:\rosp: (?:[2-9]|\d\d) s +)+\r +\r"
+CLOCK = r"(?:\rosp: (?:[2-9]|\d\d) s +|\rosp: \d min \d+ s +)+\r +\r"
 
 
 # In the place of the program: it takes its time, and then writes to both streams.
@@ -453,12 +453,14 @@ def _(house):
     house.built()
     house.write("lake", SCENARIO)
     lake = f"{house.at}/lake"
-    for words in (["plan", lake], ["plan", lake, "-o", f"{house.at}/new"]):
-        status, out, shown = on_terminal(house, *words, seconds=3.5)
-        want(status == 0 and re.fullmatch(CLOCK, shown), f"{status} {out!r} {shown!r}")
+    for words, rest, whole in ((["plan", lake], "", False), (["plan", lake, "-o", f"{house.at}/new"], "", False), (["plan", lake], f"words <plan>\n{SCENARIO}", True)):
+        # (On a busy machine the clock may begin late: then the program takes longer.)
+        for seconds in (3.5, 15, 60):
+            status, out, shown = on_terminal(house, *words, seconds=seconds, whole=whole)
+            if re.fullmatch(CLOCK + rest, shown):
+                break
+        want(status == 0 and re.fullmatch(CLOCK + rest, shown), f"{status} {out!r} {shown!r}")
     written(f"{house.at}/new", f"words <plan>\n{SCENARIO}")
-    status, out, shown = on_terminal(house, "plan", lake, seconds=3.5, whole=True)
-    want(status == 0 and re.fullmatch(f"{CLOCK}words <plan>\n{SCENARIO}", shown), f"{status} {shown!r}")
     began = time.monotonic()
     status, out, shown = on_terminal(house, "plan", lake, seconds=0.1, whole=True)
     # (On a busy machine this, too, may take two seconds.)
