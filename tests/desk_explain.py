@@ -329,18 +329,18 @@ class Hostile(Asked):
 
     def test_the_first_fault(self):
         met = collections.Counter()
-        for text in almost_right(1500, 1):
+        for text in almost_right(800, 1):
             wanted, found = first_fault(text), faults.survey(text)
             self.assertEqual((brief(found) or [None])[0], wanted, text)
             self.assertEqual([it.says for it in found if "the program says" in it.says], [], text)
             met[wanted and wanted[1]] += 1
         # All kinds but the rarest were among them, and right texts.
         self.assertGreaterEqual(len(met), 12)
-        self.assertGreater(met[None], 200)
+        self.assertGreater(met[None], 100)
 
     def test_every_fault_is_in_its_line(self):
         """Mending the text by leaving out a line with a fault in a row leaves the faults of all other lines as they were."""
-        for text in almost_right(300, 2):
+        for text in almost_right(100, 2):
             lines = text.split(b"\n")
             for it in faults.survey(text):
                 self.assertTrue(1 <= it.line <= len(lines) + 1 and it.more == sorted(set(it.more)), it)
@@ -369,9 +369,9 @@ class Hostile(Asked):
     FILES = {
         "huge": (b"# " + b"x" * (3 << 20), 9, "input too long"),
         "not UTF-8": (LAKE.replace(b"cell b", b"cell \xff\xfe"), 3, "a letter that isn't ASCII"),
-        "many fields": (LAKE.replace(b"drift b a 1 b 8 c 1", b"drift b" + b" x 1" * 200_000), 3, "`x` isn't a cell"),
+        "many fields": (LAKE.replace(b"drift b a 1 b 8 c 1", b"drift b" + b" x 1" * 50_000), 3, "`x` isn't a cell"),
         "many blanks": (LAKE.replace(b"horizon 3", b"horizon" + b"\t \r" * 200_000 + b"3"), 0, "the scenario is right"),
-        "many lines": (b"scenario 1\n" + b"".join(b"w%d\n" % it for it in range(60_000)), 3, "and faults in"),
+        "many lines": (b"scenario 1\n" + b"".join(b"w%d\n" % it for it in range(20_000)), 3, "and faults in"),
         "wrong types": (b'{"scenario": 1, "horizon": [2], "parts": null}\n', 3, "this isn't the text of a scenario"),
         "markup": (LAKE.replace(b"cell b", b"cell <script>alert(1)</script>").replace(b"start a", b"start \x1b[31m\x1b]0;x\x07"), 3, "\\x1b[31m"),
         "long digits": (LAKE.replace(b"horizon 3", b"horizon " + b"9" * 100_000), 3, "is too much"),
