@@ -490,7 +490,10 @@ class Warnings(unittest.TestCase):
 
     def test_misses(self):
         self.has(GRID.replace(b"rate 3", b"rate 7"), "7 of 10. The part says how often a look misses: for a probability of detection of 7 of 10, write 3", GRID)
-        self.has(GRID.replace(b"rate 3", b"rate 6"), "6 of 10", GRID.replace(b"rate 3", b"rate 5"))
+        # Half is no warning: neither a look that misses half, nor half of the looks.
+        self.has(GRID.replace(b"rate 3", b"rate 6"), "most looks miss", GRID.replace(b"rate 3", b"rate 5"))
+        half = read(f"{EXAMPLES}/uneven-overlook.scenario")
+        self.has(half.replace(b"overlook r0c0 1", b"overlook r0c0 8"), "most looks miss", half)
         two = LAKE.replace(b"overlook a 3", b"overlook a 7").replace(b"overlook b 3", b"overlook b 8")
         self.has(two, "most looks miss", LAKE.replace(b"overlook a 3", b"overlook a 7"))
         # A look that sees one of its cells well isn't poor.
@@ -504,6 +507,7 @@ class Warnings(unittest.TestCase):
     def test_most_is_out_of_reach(self):
         text = b"scenario 1\nhorizon 1\nparts 10 1 2\ncell a\ncell b\nstart a\nfirst a 3 b 7\nmoves a a\nmoves b b\ndrift a a 1\ndrift b b 1\noverlook a 0\noverlook b 0\nend\n"
         self.has(text, "at most 30.000 percent can be found", text.replace(b"first a 3 b 7", b"first a 5 b 5"))
+        self.has(text, "percent can be found", text.replace(b"first a 3 b 7", b"first a 5 b 5"))
 
     def test_what_no_look_covers(self):
         self.has(BAY.replace(b"look cliff bay 4 reef 6", b"look cliff reef 6"), "no look from any position covers bay,", BAY)
