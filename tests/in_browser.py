@@ -36,7 +36,14 @@ def browser():
     for word in ("--headless=new", "--no-sandbox", "--disable-gpu", "--disable-dev-shm-usage", "--hide-scrollbars"):
         options.add_argument(word)
     options.set_capability("goog:loggingPrefs", {"browser": "ALL", "performance": "ALL"})
-    return webdriver.Chrome(service=Service(driver), options=options)
+    for left in (2, 1, 0):
+        try:
+            return webdriver.Chrome(service=Service(driver), options=options)
+        except Exception:
+            # A browser may not come up in time where the processors are busy.
+            if not left:
+                raise
+            time.sleep(5)
 
 
 class Visit:
