@@ -166,7 +166,7 @@ COMMAND = re.compile(r"(?:cat (?P<files>[^|<>;]+) \| )?\./osp(?P<words>(?: [\w./
 def texts_of_documents():
     """Each command that a document shows with what it writes: it stands behind "$ "."""
     texts = []
-    for name in ("README.md", "CONTRIBUTING.md", "examples/README.md", *(f"docs/{it}" for it in sorted(os.listdir(f"{TOP}/docs")))):
+    for name in ("README.md", "CONTRIBUTING.md", "examples/README.md", *(f"docs/{it}" for it in sorted(os.listdir(f"{TOP}/docs")) if it.endswith(".md"))):
         for block in re.findall(r"^```\n(\$ .*?)^```", read(f"{TOP}/{name}").decode(), re.M | re.S):
             for command, out in re.findall(r"^\$ (.*)\n((?:(?!\$ ).*\n)*)", block, re.M):
                 found = COMMAND.fullmatch(command)
