@@ -219,6 +219,13 @@ class Pages(Room):
         sums = next(it for it in told.one(class_="all").all("tr") if it.attributes.get("class") == "sum")
         self.assertEqual([it.text() for it in sums.all("td")], ["0", *(in_map(int(it), whole) for it in report["periods"])])
 
+    def test_the_pages_of_the_situations_are_what_is_shown_of_them(self):
+        # (who checked the plan is what the page says of the program that was asked, and stands on it once)
+        checked = "Checked by stand-in-osp, in the place of ./osp.", "Checked by the proved program."
+        for name in (f"situations/{it}" for it in ("kayaker", "tide-and-night", "aircraft")):
+            status, out, err = self.run_helper(show.main, self.files(name))
+            self.assertEqual((status, err, out.replace(*checked)), (0, "", read(f"{EXAMPLES}/{name}.html").decode()), name)
+
     def test_all_numbers_of_the_maps_are_those_of_walks(self):
         for name, more in (("swath", PLACES.encode()), ("lake-with-island", b"")):
             sc, _ = forms.read_scenario(example(name)[0], alone=True)
