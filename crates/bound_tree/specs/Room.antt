@@ -1,9 +1,5 @@
--- How many records a plan may have, and how many prefixes can be expected at once.
+-- How many prefixes can be expected at once.
 use Rattle.std.specs.Prelude.{ℕ, ◌+◌, ◌*◌, ◌≤◌, List, [], ◌∷◌, length}
-
--- the most records of a plan
-abbrev pub MOST_NODES : ℕ
-MOST_NODES = 1048576
 
 -- each branch adds at most 63 prefixes, so at most 63 for each position of a prefix, and one more, are expected from it on
 abbrev pub HasRoom : List (List ℕ) → Type 0

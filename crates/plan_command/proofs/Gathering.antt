@@ -27,9 +27,6 @@ pub ruleset gather_steps = (gathered_byte, none_at_first)
 
 -- A piece more.
 
-some_bytes : (text : List ℕ) → EndsWithEnd text → 0 < length text
-some_bytes text h = omega (arith, ap length h.feed.1, length-append h.feed.0 (10 ∷ []))
-
 pub none_more : (bytes piece : List ℕ) → HasNoEnd bytes → HasNoEndBefore bytes piece (length piece + 1) → HasNoEnd (bytes ++ piece)
 none_more bytes piece before on n le h = elim (cases_lt (length bytes) n) [
   | inl past ↦

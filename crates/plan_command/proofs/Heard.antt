@@ -11,7 +11,7 @@ use Rattle.tree_format.proofs.FedLaws.{items_in_order}
 use Rattle.tree_checker.specs.Reasons.{first_reason}
 use Rattle.tree_checker.specs.Progress.{Progress, reason_if, reason_at_end, IsUnderWay, IsMadeFor}
 use Rattle.plan_command.specs.Intakes.{nodes_in, LeadsToReason, HasHeard, IsNextItem}
-use Rattle.bound_tree.specs.Room.{MOST_NODES}
+use Rattle.bound_tree.specs.declared.tree.TheConstants.{MOST_NODES}
 
 -- The records among items.
 

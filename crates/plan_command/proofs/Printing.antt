@@ -14,7 +14,7 @@ use Rattle.bound_tree.proofs.Rooms.{legal_expected}
 use Rattle.bound_tree.proofs.Placing.{eaten_are_in_place}
 use Rattle.bound_tree.specs.Places.{AreInPlace}
 use Rattle.tree_format.specs.PlanText.{ArePositions, IsPrintableKind, IsPrintableRecord, IsPrintable}
-use Rattle.bound_tree.specs.Room.{MOST_NODES}
+use Rattle.bound_tree.specs.declared.tree.TheConstants.{MOST_NODES}
 
 module _ (p : Problem) (sound : IsProblem p) (s : Standing) where
   follows_positions : (q : List ℕ) → Follows p.moves p.start q → ArePositions p q

@@ -15,7 +15,7 @@ use Rattle.plan_command.specs.declared.request.Request.TheVariants.{Plan, Check,
 use Rattle.plan_command.specs.Words.{Spells, SpellNone, SpellsPlan, IsCrew}
 use Rattle.plan_command.specs.WordReading.{at_least, number_within, workers_in, nodes_in, number_in, asks, asks_both, plan_with_one, plan_with_two, plan_at, alone_at, report_at, make_at, drill_at, request_at}
 use Rattle.plan_command.specs.declared.request.TheConstants.{WORKERS, MOST_WORKERS}
-use Rattle.bound_tree.specs.Room.{MOST_NODES}
+use Rattle.bound_tree.specs.declared.tree.TheConstants.{MOST_NODES}
 
 some_tells : {X : Type 0} (x y : X) → Some x ≡ Some y → x ≡ y
 some_tells x y e = cc

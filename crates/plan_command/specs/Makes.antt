@@ -13,7 +13,7 @@ use Rattle.plan_command.specs.declared.status.Stop.TheVariants as stops
 use Rattle.plan_command.specs.Words.{IsCrew}
 use Rattle.plan_command.specs.Plans.{IsCertified}
 use Rattle.plan_command.specs.Commands.{Answers, Refuses}
-use Rattle.bound_tree.specs.Room.{MOST_NODES}
+use Rattle.bound_tree.specs.declared.tree.TheConstants.{MOST_NODES}
 
 -- a request whose numbers are within their limits
 abbrev pub IsAsked : Request → Type 0

@@ -7,7 +7,7 @@ use Rattle.exact_parts.specs.Decimal.{number_at}
 use Rattle.plan_command.specs.declared.request.Request.{Request}
 use Rattle.plan_command.specs.declared.request.Request.TheVariants.{Plan, Check, Report, Make, Drill, Convert}
 use Rattle.plan_command.specs.declared.request.TheConstants.{WORKERS, MOST_WORKERS}
-use Rattle.bound_tree.specs.Room.{MOST_NODES}
+use Rattle.bound_tree.specs.declared.tree.TheConstants.{MOST_NODES}
 
 -- the number that a word spells, where it is within these limits
 abbrev pub at_least : ℕ → Number → Option ℕ

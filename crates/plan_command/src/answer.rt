@@ -46,7 +46,7 @@ impl From<AllocError> for Stop {
 
 ghost use Rattle.search_workers.specs.Search.{plan_of};
 ghost use Rattle.plan_command.specs.Makes.{PlansFor};
-ghost use Rattle.bound_tree.specs.Room.{MOST_NODES};
+ghost use Rattle.bound_tree.specs.declared.tree.TheConstants.{MOST_NODES};
 
 // The plan of what a search found.
 fn plan_found(sc: &Scenario, found: Found) -> Plan

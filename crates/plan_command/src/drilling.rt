@@ -10,7 +10,7 @@ ghost use Rattle.plan_command.specs.Drills.{drill_text};
 ghost use Rattle.plan_command.specs.Plans.{IsCertified};
 ghost use Rattle.plan_command.specs.Words.{IsCrew};
 ghost use Rattle.plan_command.specs.Makes.{MakesOf, IsTooMany};
-ghost use Rattle.bound_tree.specs.Room.{MOST_NODES};
+ghost use Rattle.bound_tree.specs.declared.tree.TheConstants.{MOST_NODES};
 
 use crate::answer::{Answer, plan_from_opening};
 use crate::status::{Status, Stop};

@@ -5,7 +5,7 @@ ghost use Rattle.plan_command.specs.Inputs.{source_view, InputOf, ReadsAnd};
 ghost use Rattle.plan_command.specs.Intakes.{Judges};
 ghost use Rattle.plan_command.specs.Makes.{MakesOf, IsAsked};
 ghost use Rattle.plan_command.specs.Words.{IsCrew, limit_of};
-ghost use Rattle.bound_tree.specs.Room.{MOST_NODES};
+ghost use Rattle.bound_tree.specs.declared.tree.TheConstants.{MOST_NODES};
 
 use crate::answer::{Answer, answer_plan};
 use crate::checking::{answer_check, answer_report};

@@ -7,7 +7,8 @@ use crate::sides::all_beside;
 use std::alloc::Global;
 use std::marker::Model;
 
-/// Per cell, its moves in ascending order.
+/// Per position, its moves in ascending order. What is called a cell here is a position, in `cells`, too: the names are
+/// older than positions that are no cells.
 #[derive(Debug, Drop)]
 pub struct Grid {
     rows: Vec<Vec<u8>>,

@@ -15,6 +15,7 @@ const LONGEST: usize = 32;
 
 /// Up to 32 position numbers, in place. Paths compare as their lists of positions: the smaller number at the first place
 /// of difference decides, and a proper prefix is smaller.
+/// What `cells` answers are positions: the name is older than positions that are no cells.
 #[derive(Clone, Copy)]
 pub struct Path {
     places: [u8; LONGEST],

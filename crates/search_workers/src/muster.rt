@@ -8,7 +8,7 @@ ghost use Rattle.incumbent_board.specs.Boards.{IsNewSeat};
 ghost use Rattle.search_workers.specs.Workers.{IsReady};
 ghost use Rattle.search_workers.specs.Crew.{IsComplete, MayGo};
 ghost use Rattle.search_workers.specs.Rooms.{IsRoomFor};
-ghost use Rattle.bound_tree.specs.Room.{MOST_NODES};
+ghost use Rattle.bound_tree.specs.declared.tree.TheConstants.{MOST_NODES};
 
 use crate::crew::Member;
 use crate::left::Left;

@@ -13,7 +13,7 @@ ghost use Rattle.search_workers.specs.Crew.{IsComplete, MayGo, HasGone, LeaveTog
 ghost use Rattle.search_workers.specs.Settled.{IsSettled, EndsSearch, WithMemory};
 ghost use Rattle.search_workers.specs.Harvests.{EndsHarvest};
 ghost use Rattle.search_workers.specs.Search.{plan_of, reached_by, IfFull};
-ghost use Rattle.bound_tree.specs.Room.{MOST_NODES};
+ghost use Rattle.bound_tree.specs.declared.tree.TheConstants.{MOST_NODES};
 
 use crate::answer::{Found, Partial, SearchStop};
 use crate::crew::{Member, go_all};

@@ -32,7 +32,7 @@ use Rattle.tree_format.proofs.Said.{amount_in-decimal, place_in-decimal, positio
 use Rattle.tree_format.proofs.Loop.{at_line, at_end}
 use Rattle.tree_format.proofs.SpelledLines.{HasPlace}
 use Rattle.bound_tree.specs.Places.{AreInPlace}
-use Rattle.bound_tree.specs.Room.{MOST_NODES}
+use Rattle.bound_tree.specs.declared.tree.TheConstants.{MOST_NODES}
 
 -- where this is due, a row says this
 pub record Takes (p : Problem) (d : Due) (row : List (List ℕ)) (said : PlanLine) : Type 0 where

@@ -31,7 +31,7 @@ use Rattle.tree_format.specs.Reading.{line_at, stage_line, at_start, with_stage,
 use Rattle.tree_format.specs.ReadingLaws.{OneTextAPlan}
 use Rattle.tree_format.proofs.SpelledLines.{IsVersionLine, version_told, IsPathLine, path_told, IsChanceLine, chance_told, IsCountLine, count_told, HasPlace, IsRecordLine, record_printable, IsEndLine, record_told}
 use Rattle.text_rows.proofs.Splits.{split_joined}
-use Rattle.bound_tree.specs.Room.{MOST_NODES}
+use Rattle.bound_tree.specs.declared.tree.TheConstants.{MOST_NODES}
 
 -- the rows of the lines that were read
 abbrev pub rows_read : Problem → TextVersion → Stage → Plan → List (List (List ℕ))

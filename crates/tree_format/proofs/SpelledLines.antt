@@ -23,7 +23,7 @@ use Rattle.tree_format.specs.Reading.{all_of, amount_in, place_in, position_name
 use Rattle.text_rows.specs.Fields.{is_word}
 use Rattle.tree_format.proofs.Told.{word_told, amount_told, places_told, names_told}
 use Rattle.text_rows.proofs.Results.{err_ok, same_ok, let_through}
-use Rattle.bound_tree.specs.Room.{MOST_NODES}
+use Rattle.bound_tree.specs.declared.tree.TheConstants.{MOST_NODES}
 
 -- `plan 1` or `plan 2`
 pub record IsVersionLine (fields : List (List ℕ)) (said : PlanLine) : Type 0 where

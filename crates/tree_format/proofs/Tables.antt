@@ -21,7 +21,7 @@ use Rattle.tree_format.specs.Reading.{amount_in, place_in, position_named, in_fr
 use Rattle.text_rows.specs.Fields.{is_word, first_alone, behind_first}
 use Rattle.tree_format.specs.KindTable.{bounded_form, tangent_form, node_form, has_form, node_amounts, node_positions, is_bad_number, has_unknown, has_too_many, is_miscounted, lacks_place, awaits_record, has_no_place, is_still_open, KindsByTable}
 use Rattle.text_rows.specs.Kinds.{first_kind, fault_of}
-use Rattle.bound_tree.specs.Room.{MOST_NODES}
+use Rattle.bound_tree.specs.declared.tree.TheConstants.{MOST_NODES}
 
 -- fields say something together where each does
 front_none : (o : Option ℕ) (os : Option (List ℕ)) → is_none (in_front o os) ≡ (is_none o || is_none os)

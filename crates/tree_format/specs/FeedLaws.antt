@@ -12,7 +12,7 @@ use Rattle.tree_format.specs.Reading.{plan_at, summary_of}
 use Rattle.tree_format.specs.Gathering.{nothing_gathered, gathered}
 use Rattle.tree_format.specs.FeedSteps.{Stand}
 use Rattle.tree_format.specs.Feeding.{items_of, HasRead, Tells, IsDecided, IsCutOff}
-use Rattle.bound_tree.specs.Room.{MOST_NODES}
+use Rattle.bound_tree.specs.declared.tree.TheConstants.{MOST_NODES}
 
 -- the bytes alone decide which items were told and what a feed keeps, and not how they were cut into pieces
 abbrev pub CutAnywhere : Type 0

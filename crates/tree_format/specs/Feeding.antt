@@ -16,7 +16,7 @@ use Rattle.tree_format.specs.Faults.{AreSaid, due_behind}
 use Rattle.text_rows.specs.Lines.{HasNoFeed, lines_text}
 use Rattle.tree_format.specs.Reading.{at_start, blank_plan, taken, plan_at}
 use Rattle.tree_format.specs.FeedSteps.{Stand, stand_at}
-use Rattle.bound_tree.specs.Room.{MOST_NODES}
+use Rattle.bound_tree.specs.declared.tree.TheConstants.{MOST_NODES}
 
 -- the items of a plan: its head, its records in their order, and its end
 abbrev pub items_of : Plan → List PlanItem

@@ -13,7 +13,7 @@ use Rattle.tree_format.specs.declared.kind.PlanKind.TheVariants.{BadLine, BadNum
 use Rattle.tree_format.specs.Reading.{amount_in, place_in, position_named, most_positions, has_edges, is_end, line_at}
 use Rattle.text_rows.specs.Fields.{is_word, behind_first, first_alone}
 use Rattle.text_rows.specs.Kinds.{first_kind, fault_of}
-use Rattle.bound_tree.specs.Room.{MOST_NODES}
+use Rattle.bound_tree.specs.declared.tree.TheConstants.{MOST_NODES}
 
 -- The keyword or letter and the number of fields.
 

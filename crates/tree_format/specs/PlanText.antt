@@ -11,7 +11,7 @@ use Rattle.bound_tree.specs.declared.plan.Plan.{Plan}
 use Rattle.bound_tree.specs.Places.{AreInPlace}
 use Rattle.tree_format.specs.declared.plan_line.TextVersion.{TextVersion}
 use Rattle.tree_format.specs.declared.plan_line.TextVersion.TheVariants.{One, Two}
-use Rattle.bound_tree.specs.Room.{MOST_NODES}
+use Rattle.bound_tree.specs.declared.tree.TheConstants.{MOST_NODES}
 
 -- position numbers as fields
 abbrev pub numbers : List ℕ → List (List ℕ)

@@ -24,7 +24,7 @@ use Rattle.tree_format.specs.declared.kind.PlanFault.{PlanFault}
 use Rattle.tree_format.specs.declared.record_lines.Bounded.{Bounded}
 use Rattle.text_rows.specs.Lines.{pieces_of}
 use Rattle.text_rows.specs.Fields.{exact_fields, is_word}
-use Rattle.bound_tree.specs.Room.{MOST_NODES}
+use Rattle.bound_tree.specs.declared.tree.TheConstants.{MOST_NODES}
 
 -- Numbers and names.
 

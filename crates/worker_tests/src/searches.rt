@@ -1,6 +1,6 @@
 ghost use Rattle.std.specs.Prelude.{◌≤◌, IfOk};
 ghost use Rattle.bound_tree.specs.Close.{IsExact};
-ghost use Rattle.bound_tree.specs.Room.{MOST_NODES};
+ghost use Rattle.bound_tree.specs.declared.tree.TheConstants.{MOST_NODES};
 
 use bound_tree::{Kind, TreeNode};
 use opening_path::opening;
