@@ -12,7 +12,7 @@ from fractions import Fraction
 sys.dont_write_bytecode = True
 sys.path.insert(0, os.path.dirname(os.path.realpath(__file__)))
 
-from pages import EXAMPLES, PLACES, Room, example, read, tree  # noqa: E402
+from pages import EXAMPLES, PLACES, Room, example, read, tree, walks  # noqa: E402
 
 from desk import accepted, brief, clock, forms, layout, masses, page, picture, program, reports, show, tables  # noqa: E402
 
@@ -28,14 +28,6 @@ def cut(part, whole):
 def in_map(part, whole):
     """The same as it stands in a cell of a map."""
     return cut(part, whole) if part else "0"
-
-
-def walks(sc):
-    """The walks of the target with their chances, one cell a period."""
-    going = [((cell,), Fraction(part, sc.parts[0])) for cell, part in enumerate(sc.first) if part]
-    for t in range(1, sc.horizon):
-        going = [((*walk, to), chance * Fraction(part, sc.parts[1])) for walk, chance in going for to, part in sc.row(t, walk[-1]).items()]
-    return going
 
 
 def by_walks(sc, path):

@@ -6,6 +6,7 @@ import shutil
 import sys
 import tempfile
 import unittest
+from fractions import Fraction
 from html.parser import HTMLParser
 from unittest import mock
 
@@ -43,6 +44,14 @@ def read(path):
 def example(name):
     """The bytes of an example's scenario and plan."""
     return read(f"{EXAMPLES}/{name}.scenario"), read(f"{EXAMPLES}/{name}.plan")
+
+
+def walks(sc):
+    """The walks of the target with their chances, one cell a period."""
+    going = [((cell,), Fraction(part, sc.parts[0])) for cell, part in enumerate(sc.first) if part]
+    for t in range(1, sc.horizon):
+        going = [((*walk, to), chance * Fraction(part, sc.parts[1])) for walk, chance in going for to, part in sc.row(t, walk[-1]).items()]
+    return going
 
 
 class Room(unittest.TestCase):
