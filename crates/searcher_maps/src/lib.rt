@@ -1,0 +1,7 @@
+//! A scenario with another searcher: the same target, and other positions, moves and looks. What its paths say of the
+//! searcher, or of the team, that each of its positions stands for.
+#![tactic(auto)]
+
+mod laws;
+
+pub use laws::{missed_by_team, one_finds_the_same, team_follows};
