@@ -1,0 +1,3 @@
+pub mod Products
+pub mod Following
+pub mod Finding

@@ -1,10 +1,15 @@
 -- A problem whose searcher stands for a team in another problem: each of its positions says where each of the team is.
-use Rattle.std.specs.Prelude.{ℕ, ◌≡◌, ◌*◌, ◌^◌, ◌<◌, ◌≤◌, List, map, length, product, sum_by, All, Contains}
+use Rattle.std.specs.Prelude.{ℕ, ◌≡◌, ◌*◌, ◌^◌, ◌<◌, ◌≤◌, List, [], ◌∷◌, map, length, sum_by, All, Contains}
 use Rattle.search_grid.specs.Moves.{moves_from}
 use Rattle.sweep_table.specs.LookParts.{factor_of}
 use Rattle.search_model.specs.Problem.{Problem}
 use Rattle.search_model.specs.Tracks.{tracks, weight_of, miss_of}
 use Rattle.searcher_maps.specs.Target.{HasSameTarget}
+
+-- the product of some numbers, 1 of none
+abbrev pub product : List ℕ → ℕ
+product [] = 1
+product (n ∷ ns) = n * product ns
 
 -- over all tracks, weight times what the looks of all these paths miss together
 unfoldable pub missed_together : Problem → List (List ℕ) → ℕ
