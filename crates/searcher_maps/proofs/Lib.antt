@@ -1,3 +1,5 @@
 pub mod Products
 pub mod Following
 pub mod Finding
+pub mod Carrying
+pub mod Behind

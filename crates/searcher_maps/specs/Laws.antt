@@ -1,9 +1,11 @@
 -- What a problem that stands for a team says of the team.
-use Rattle.std.specs.Prelude.{ℕ, ◌≡◌, ◌<◌, List, [], ◌∷◌, map, length, All}
+use Rattle.std.specs.Prelude.{ℕ, ◌≡◌, ◌<◌, ◌≤◌, List, [], ◌∷◌, map, length, All}
 use Rattle.search_model.specs.Problem.{Problem, IsProblem}
-use Rattle.search_model.specs.Legal.{IsPath, Follows}
+use Rattle.search_model.specs.Legal.{IsLegal, IsPath, Follows}
 use Rattle.search_model.specs.Tracks.{missed_weight, value_of, whole_weight}
+use Rattle.search_model.specs.Order.{Starts, IsBest}
 use Rattle.searcher_maps.specs.Stands.{StandsFor, missed_together}
+use Rattle.searcher_maps.specs.Carried.{IsBestAmong, IsBestBehind, IsCarried}
 
 -- each of a team moves as its problem allows
 abbrev pub TeamFollows : Type 0
@@ -22,3 +24,19 @@ abbrev pub OneFindsTheSame : Type 0
 OneFindsTheSame =
     (p q : Problem) (h : ℕ → ℕ) → IsProblem p → IsProblem q → StandsFor p q (h ∷ []) → (z : List ℕ) → IsPath q z →
     (value_of q z ≡ value_of p (map h z)) × (whole_weight q ≡ whole_weight p)
+
+-- where the paths of q stand for the paths of p that begin with a prefix, the best path stands for the best among these
+abbrev pub BestIsCarried : Type 0
+BestIsCarried =
+    (p q : Problem) (h : ℕ → ℕ) (front : List ℕ) → IsProblem p → IsProblem q → StandsFor p q (h ∷ []) → IsCarried p q h (Starts front) →
+    (z : List ℕ) → IsBest q z → IsBestAmong p (Starts front) (map h z)
+
+-- among the paths that begin with a legal prefix there is a best one, and no second one
+abbrev pub OneBestBehind : Type 0
+OneBestBehind =
+    (p : Problem) (q : List ℕ) → IsProblem p → IsLegal p q →
+    (y : List ℕ) × IsBestAmong p (Starts q) y × ((r : List ℕ) → IsBestAmong p (Starts q) r → r ≡ y)
+
+-- the best path is the best among those that are the best behind the legal prefixes of one length
+abbrev pub BestOfFlown : Type 0
+BestOfFlown = (p : Problem) (n : ℕ) (y : List ℕ) → IsProblem p → n ≤ p.horizon → IsBestAmong p (IsBestBehind p n) y → IsBest p y

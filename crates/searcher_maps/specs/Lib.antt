@@ -1,3 +1,4 @@
 pub mod Target
 pub mod Stands
+pub mod Carried
 pub mod Laws
