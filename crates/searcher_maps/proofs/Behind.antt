@@ -1,12 +1,12 @@
 -- The best among the paths that begin with a prefix.
-use Rattle.std.proofs.Common.{ℕ, ◌+◌, ◌-◌, ◌<◌, ◌≤◌, ◌≡◌, true, List, ◌++◌, map, length, take, drop, inl, inr, sym, subst, ◌∙◌, arith, Contains, IsTrue, length-append}
+use Rattle.std.proofs.Common.{ℕ, ◌-◌, ◌<◌, ◌≤◌, ◌≡◌, true, List, ◌++◌, map, length, take, drop, inl, inr, sym, subst, ◌∙◌, arith, Contains, IsTrue}
 use Rattle.std.specs.Cmp.{IsStrictWeakOrder}
 use Rattle.std.proofs.lemmas.Bool.{true≢false, cases_Bool}
 use Rattle.std.proofs.lemmas.List.{length-map, length-take-le, take-append-drop}
 use Rattle.search_model.specs.declared.standing.Standing.{Standing}
 use Rattle.search_model.specs.Problem.{Problem, IsProblem}
 use Rattle.search_model.specs.Legal.{last_of, IsLegal, IsPath, continuations}
-use Rattle.search_model.specs.Order.{better, Starts, standing_of, IsBest}
+use Rattle.search_model.specs.Order.{better, Starts, standing_of}
 use Rattle.search_model.proofs.Best.{unbeaten}
 use Rattle.search_model.proofs.LegalLemmas.{last_within}
 use Rattle.search_model.proofs.Orders.{better_order, better_total, better_one_way, same_or_differ}

@@ -1,5 +1,5 @@
 -- What a problem's looks miss, where it stands for a team.
-use Rattle.std.proofs.Common.{ℕ, ◌+◌, ◌*◌, ◌-◌, ◌^◌, ◌<◌, ◌≤◌, ◌≡◌, ◌∙◌, List, [], ◌∷◌, map, length, refl, ap, arith, sum_by, All, Contains}
+use Rattle.std.proofs.Common.{ℕ, ◌+◌, ◌^◌, ◌<◌, ◌≤◌, ◌≡◌, ◌∙◌, List, [], ◌∷◌, map, length, refl, arith, sum_by, All, Contains}
 use Rattle.std.proofs.Math.Nat.{le-max_right, pow-zero, pow-suc}
 use Rattle.std.proofs.lemmas.List.Elements.{All-head, All-tail, All-weaker, All-contains_itself}
 use Rattle.drift_chain.specs.DriftRows.{row_of}

@@ -1,15 +1,14 @@
 -- What follows the moves of a problem that stands for a team.
-use Rattle.std.proofs.Common.{ℕ, ◌<◌, List, [], ◌∷◌, map, length, arith, All, Contains}
+use Rattle.std.proofs.Common.{ℕ, ◌<◌, List, [], ◌∷◌, map, length, arith, Contains}
 use Rattle.std.proofs.lemmas.List.Elements.{All-weaker}
 use Rattle.search_grid.specs.Moves.{moves_from}
 use Rattle.search_model.specs.Problem.{Problem, IsProblem}
 use Rattle.search_model.specs.Legal.{Follows}
 use Rattle.search_model.proofs.LegalLemmas.{move_within}
-use Rattle.searcher_maps.specs.Stands.{StandsFor}
 use Rattle.searcher_maps.specs.Laws.{TeamFollows}
 
 -- where each of q's moves is one of p's, what follows q's moves follows p's
-abbrev KeepsMoves : Problem → Problem → (ℕ → ℕ) → Type 0
+abbrev pub KeepsMoves : Problem → Problem → (ℕ → ℕ) → Type 0
 KeepsMoves p q h = (a b : ℕ) → a < q.positions → Contains (moves_from q.moves a) b → Contains (moves_from p.moves (h a)) (h b)
 
 follows_one : (p q : Problem) (h : ℕ → ℕ) → IsProblem q → KeepsMoves p q h → (a : ℕ) (z : List ℕ) → a < q.positions → Follows q.moves a z → Follows p.moves (h a) (map h z)

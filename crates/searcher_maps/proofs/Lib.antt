@@ -3,3 +3,4 @@ pub mod Following
 pub mod Finding
 pub mod Carrying
 pub mod Behind
+pub mod Examples

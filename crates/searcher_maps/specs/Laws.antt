@@ -1,5 +1,5 @@
 -- What a problem that stands for a team says of the team.
-use Rattle.std.specs.Prelude.{ℕ, ◌≡◌, ◌<◌, ◌≤◌, List, [], ◌∷◌, map, length, All}
+use Rattle.std.specs.Prelude.{ℕ, ◌≡◌, ◌<◌, ◌≤◌, List, [], ◌∷◌, map, All}
 use Rattle.search_model.specs.Problem.{Problem, IsProblem}
 use Rattle.search_model.specs.Legal.{IsLegal, IsPath, Follows}
 use Rattle.search_model.specs.Tracks.{missed_weight, value_of, whole_weight}
@@ -28,8 +28,8 @@ OneFindsTheSame =
 -- where the paths of q stand for the paths of p that begin with a prefix, the best path stands for the best among these
 abbrev pub BestIsCarried : Type 0
 BestIsCarried =
-    (p q : Problem) (h : ℕ → ℕ) (front : List ℕ) → IsProblem p → IsProblem q → StandsFor p q (h ∷ []) → IsCarried p q h (Starts front) →
-    (z : List ℕ) → IsBest q z → IsBestAmong p (Starts front) (map h z)
+    (p q : Problem) (h : ℕ → ℕ) (front : List ℕ) → IsProblem p → IsProblem q →
+    StandsFor p q (h ∷ []) → IsCarried p q h (Starts front) → (z : List ℕ) → IsBest q z → IsBestAmong p (Starts front) (map h z)
 
 -- among the paths that begin with a legal prefix there is a best one, and no second one
 abbrev pub OneBestBehind : Type 0
@@ -39,4 +39,5 @@ OneBestBehind =
 
 -- the best path is the best among those that are the best behind the legal prefixes of one length
 abbrev pub BestOfFlown : Type 0
-BestOfFlown = (p : Problem) (n : ℕ) (y : List ℕ) → IsProblem p → n ≤ p.horizon → IsBestAmong p (IsBestBehind p n) y → IsBest p y
+BestOfFlown =
+    (p : Problem) (n : ℕ) (y : List ℕ) → IsProblem p → n ≤ p.horizon → IsBestAmong p (IsBestBehind p n) y → IsBest p y

@@ -2,3 +2,4 @@ pub mod Target
 pub mod Stands
 pub mod Carried
 pub mod Laws
+pub mod Worked

@@ -31,3 +31,10 @@ pub fn one_best_behind()
 pub fn best_of_flown()
     ensures { BestOfFlown }
 {}
+
+ghost use Rattle.searcher_maps.specs.Worked.{WorkedTeams};
+
+/// What two searchers miss together in a small problem, worked by hand.
+pub fn worked_teams()
+    ensures { WorkedTeams }
+{}

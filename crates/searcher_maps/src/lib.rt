@@ -4,4 +4,7 @@
 
 mod laws;
 
-pub use laws::{best_is_carried, best_of_flown, missed_by_team, one_best_behind, one_finds_the_same, team_follows};
+pub use laws::{
+    best_is_carried, best_of_flown, missed_by_team, one_best_behind, one_finds_the_same,
+    team_follows, worked_teams,
+};
