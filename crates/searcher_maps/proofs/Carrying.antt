@@ -6,8 +6,8 @@ use Rattle.search_model.specs.Problem.{Problem, IsProblem}
 use Rattle.search_model.specs.Legal.{Follows, IsPath}
 use Rattle.search_model.specs.Order.{smaller, better, standing_of, IsBest}
 use Rattle.searcher_maps.specs.Stands.{StandsFor}
-use Rattle.searcher_maps.specs.Carried.{IsBestAmong, IsCarried}
-use Rattle.searcher_maps.specs.Laws.{BestIsCarried}
+use Rattle.searcher_maps.specs.Carried.{IsBestAmong, IsToldBy, IsCarried}
+use Rattle.searcher_maps.specs.Laws.{BestIsTold, BestIsCarried}
 use Rattle.searcher_maps.proofs.Following.{team_follows}
 use Rattle.searcher_maps.proofs.Finding.{path_within, value_of_one}
 
@@ -36,6 +36,10 @@ module _ (p q : Problem) (h : ℕ → ℕ) (other : IsProblem q) (stands : Stand
         let apart = best.better w second (λ same. differ (sym e ∙ ap (map h) same)) in
         subst (λ y. IsTrue (better (standing_of p (map h z)) (standing_of p y))) e (better_of_one z w best.path second (carried.order z w best.path second) ∙ apart);
   }
+
+pub best_is_told : BestIsTold
+best_is_told p q h sound other stands start order z best =
+    best_is_carried_with p q h other stands (IsToldBy q h) (record { start = start; has = λ z path. (z, path, refl); back = λ y path told. told; order = order }) z best
 
 pub best_is_carried : BestIsCarried
 best_is_carried p q h front sound other stands carried z best = best_is_carried_with p q h other stands _ carried z best

@@ -14,10 +14,17 @@ pub record IsBestAmong (p : Problem) (X : List ℕ → Type 0) (y : List ℕ) : 
 abbrev pub IsBestBehind : Problem → ℕ → List ℕ → Type 0
 IsBestBehind p n y = (q : List ℕ) × IsLegal p q × (length q ≡ n) × IsBestAmong p (Starts q) y
 
--- the paths of q stand for the paths of p that have a property, each for one, in the same order; h says for which
--- position of p each position of q stands
+-- a path of q stands for this path; h says for which position each position of q stands
+abbrev pub IsToldBy : Problem → (ℕ → ℕ) → List ℕ → Type 0
+IsToldBy q h y = (z : List ℕ) × IsPath q z × (map h z ≡ y)
+
+-- paths of q have the order of the paths that they stand for
+abbrev pub KeepsOrder : Problem → (ℕ → ℕ) → Type 0
+KeepsOrder q h = (z r : List ℕ) → IsPath q z → IsPath q r → smaller (map h z) (map h r) ≡ smaller z r
+
+-- the paths of q stand for just those paths of p that have a property, in the same order
 pub record IsCarried (p q : Problem) (h : ℕ → ℕ) (X : List ℕ → Type 0) : Type 0 where
   pub start : h q.start ≡ p.start
   pub has : (z : List ℕ) → IsPath q z → X (map h z)
-  pub back : (y : List ℕ) → IsPath p y → X y → (z : List ℕ) × IsPath q z × (map h z ≡ y)
-  pub order : (z r : List ℕ) → IsPath q z → IsPath q r → smaller (map h z) (map h r) ≡ smaller z r
+  pub back : (y : List ℕ) → IsPath p y → X y → IsToldBy q h y
+  pub order : KeepsOrder q h

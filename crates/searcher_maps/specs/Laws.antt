@@ -5,7 +5,7 @@ use Rattle.search_model.specs.Legal.{IsLegal, IsPath, Follows}
 use Rattle.search_model.specs.Tracks.{missed_weight, value_of, whole_weight}
 use Rattle.search_model.specs.Order.{Starts, IsBest}
 use Rattle.searcher_maps.specs.Stands.{StandsFor, missed_together}
-use Rattle.searcher_maps.specs.Carried.{IsBestAmong, IsBestBehind, IsCarried}
+use Rattle.searcher_maps.specs.Carried.{IsBestAmong, IsBestBehind, IsToldBy, KeepsOrder, IsCarried}
 
 -- each of a team moves as its problem allows
 abbrev pub TeamFollows : Type 0
@@ -24,6 +24,12 @@ abbrev pub OneFindsTheSame : Type 0
 OneFindsTheSame =
     (p q : Problem) (h : ℕ → ℕ) → IsProblem p → IsProblem q → StandsFor p q (h ∷ []) → (z : List ℕ) → IsPath q z →
     (value_of q z ≡ value_of p (map h z)) × (whole_weight q ≡ whole_weight p)
+
+-- the best path stands for the best among all paths that a path of q stands for, where their order is kept
+abbrev pub BestIsTold : Type 0
+BestIsTold =
+    (p q : Problem) (h : ℕ → ℕ) → IsProblem p → IsProblem q → StandsFor p q (h ∷ []) → h q.start ≡ p.start → KeepsOrder q h →
+    (z : List ℕ) → IsBest q z → IsBestAmong p (IsToldBy q h) (map h z)
 
 -- where the paths of q stand for the paths of p that begin with a prefix, the best path stands for the best among these
 abbrev pub BestIsCarried : Type 0

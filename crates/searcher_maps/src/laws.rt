@@ -1,6 +1,6 @@
 //! Laws over the definitions.
 
-ghost use Rattle.searcher_maps.specs.Laws.{TeamFollows, MissedByTeam, OneFindsTheSame, BestIsCarried, OneBestBehind, BestOfFlown};
+ghost use Rattle.searcher_maps.specs.Laws.{TeamFollows, MissedByTeam, OneFindsTheSame, BestIsTold, BestIsCarried, OneBestBehind, BestOfFlown};
 
 /// Each of a team moves as its problem allows.
 pub fn team_follows()
@@ -17,9 +17,11 @@ pub fn one_finds_the_same()
     ensures { OneFindsTheSame }
 {}
 
-/// Where the paths of a problem stand for those that begin with a prefix, its best path stands for the best among these.
+/// Where a problem's paths stand for paths of another in the same order, its best path stands for the best among these,
+/// which may be just those that begin with a prefix.
 pub fn best_is_carried()
-    ensures { BestIsCarried }
+    ensures told { BestIsTold }
+    ensures front { BestIsCarried }
 {}
 
 /// Among the paths that begin with a legal prefix there is a best one, and no second one.
