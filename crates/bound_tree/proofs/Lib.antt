@@ -6,6 +6,7 @@ pub mod Closing
 pub mod Convex
 pub mod TangentBound
 pub mod EatLemmas
+pub mod Along
 pub mod Accepted
 pub mod EdgeBound
 pub mod Rooms

@@ -2,15 +2,15 @@
 use Rattle.std.proofs.Common.{◌≡◌, ℕ, List, [], ◌∷◌, ◌++◌, length, Bool, true, false, cond, refl, sym, subst, All}
 use Rattle.std.specs.Prelude.{nat_lt}
 use Rattle.std.proofs.lemmas.Bool.{cond_both, lt-ltb, ltb-true}
-use Rattle.std.proofs.lemmas.List.Elements.{All-nil}
+use Rattle.std.proofs.lemmas.List.Elements.{All-nil, All-cons, All-head, All-tail}
 use Rattle.search_model.specs.declared.standing.Standing.{Standing}
 use Rattle.search_model.specs.Problem.{Problem}
 use Rattle.search_model.specs.Legal.{IsLegal}
 use Rattle.bound_tree.specs.declared.node.Kind.{Kind}
 use Rattle.bound_tree.specs.declared.node.Kind.TheVariants.{Branch, Whole, Mean, Tangent, Edge}
 use Rattle.bound_tree.specs.declared.node.TreeNode.{TreeNode}
-use Rattle.bound_tree.specs.Accepts.{IsGoodKind, expected_by, AreEaten}
-use Rattle.bound_tree.specs.Places.{opened_by, AreInPlace, EatenAreInPlace}
+use Rattle.bound_tree.specs.Accepts.{IsGoodKind, IsGood, expected_by, AreEaten}
+use Rattle.bound_tree.specs.Places.{opened_by, AreInPlace, EatenIsPlacedAndGood, EatenAreInPlace}
 use Rattle.bound_tree.proofs.Rooms.{legal_expected}
 
 nothing_either_way : (b : Bool) → ◌≡◌ {A = List (List ℕ)} (cond b [] []) []
@@ -18,13 +18,14 @@ nothing_either_way true = refl
 nothing_either_way false = refl
 
 -- a good record makes the same expected whether its length is asked for or not
-opened_by_good : (p : Problem) (s : Standing) (q : List ℕ) (kind : Kind) → IsGoodKind p s q kind → opened_by p q kind ≡ expected_by p q kind
+pub opened_by_good : (p : Problem) (s : Standing) (q : List ℕ) (kind : Kind) → IsGoodKind p s q kind → opened_by p q kind ≡ expected_by p q kind
 opened_by_good p s q Branch good = rw (lt-ltb (length q) p.horizon good) refl
 opened_by_good p s q (Whole n) good = nothing_either_way (nat_lt (length q) p.horizon)
 opened_by_good p s q (Mean b) good = nothing_either_way (nat_lt (length q) p.horizon)
 opened_by_good p s q (Tangent b whole) good = nothing_either_way (nat_lt (length q) p.horizon)
 opened_by_good p s q (Edge b) good = nothing_either_way (nat_lt (length q) p.horizon)
 
+-- records that are eaten are in place
 in_place : (p : Problem) (s : Standing) (rs : List TreeNode) (qs : List (List ℕ)) → AreEaten p s qs rs → AreInPlace p qs rs
 in_place p s [] [] eaten = tt
 in_place p s [] (q ∷ qs) eaten = absurd eaten
@@ -33,8 +34,28 @@ in_place p s (r ∷ rs) (q ∷ qs) eaten =
     let later = subst (λ (xs : List (List ℕ)). AreInPlace p (xs ++ qs) rs) (sym (opened_by_good p s r.prefix r.kind eaten.1)) (in_place p s rs (expected_by p r.prefix r.kind ++ qs) eaten.2) in
     (eaten.0, subst (λ (x : List ℕ). AreInPlace p (opened_by p x r.kind ++ qs) rs) eaten.0 later)
 
+-- and good
+all_good : (p : Problem) (s : Standing) (rs : List TreeNode) (qs : List (List ℕ)) → AreEaten p s qs rs → All (IsGood p s) rs
+all_good p s [] qs eaten = All-nil (IsGood p s)
+all_good p s (r ∷ rs) [] eaten = absurd eaten
+all_good p s (r ∷ rs) (q ∷ qs) eaten = All-cons (IsGood p s) r rs eaten.1 (all_good p s rs (expected_by p r.prefix r.kind ++ qs) eaten.2)
+
+-- good records in place are eaten
+all_eaten : (p : Problem) (s : Standing) (rs : List TreeNode) (qs : List (List ℕ)) → AreInPlace p qs rs → All (IsGood p s) rs → AreEaten p s qs rs
+all_eaten p s [] [] placed good = tt
+all_eaten p s [] (q ∷ qs) placed good = absurd placed
+all_eaten p s (r ∷ rs) [] placed good = absurd placed
+all_eaten p s (r ∷ rs) (q ∷ qs) placed good =
+    let here : IsGood p s r = All-head (IsGood p s) r rs good in
+    let own = subst (λ (x : List ℕ). AreInPlace p (opened_by p x r.kind ++ qs) rs) (sym placed.0) placed.1 in
+    let later = subst (λ (xs : List (List ℕ)). AreInPlace p (xs ++ qs) rs) (opened_by_good p s r.prefix r.kind here) own in
+    (placed.0, here, all_eaten p s rs (expected_by p r.prefix r.kind ++ qs) later (All-tail (IsGood p s) r rs good))
+
+pub eaten_is_placed_and_good : EatenIsPlacedAndGood
+eaten_is_placed_and_good p s qs rs = (λ eaten. (in_place p s rs qs eaten, all_good p s rs qs eaten), λ both. all_eaten p s rs qs both.0 both.1)
+
 pub eaten_are_in_place : EatenAreInPlace
-eaten_are_in_place p s qs rs eaten = in_place p s rs qs eaten
+eaten_are_in_place p s qs rs eaten = ((eaten_is_placed_and_good p s qs rs).0 eaten).0
 
 -- what a record at a legal prefix makes expected is legal
 pub legal_opened : (p : Problem) (q : List ℕ) (kind : Kind) → IsLegal p q → All (IsLegal p) (opened_by p q kind)

@@ -1,10 +1,10 @@
 -- The prefixes that records have where a text leaves them out.
-use Rattle.std.specs.Prelude.{ℕ, ◌≡◌, nat_lt, if◌then◌else◌, List, [], ◌∷◌, ◌++◌, length, Option, Some, None}
+use Rattle.std.specs.Prelude.{ℕ, ◌≡◌, ◌↔◌, nat_lt, if◌then◌else◌, List, [], ◌∷◌, ◌++◌, length, All, Option, Some, None}
 use Rattle.search_model.specs.declared.standing.Standing.{Standing}
 use Rattle.search_model.specs.Problem.{Problem}
 use Rattle.bound_tree.specs.declared.node.Kind.{Kind}
 use Rattle.bound_tree.specs.declared.node.TreeNode.{TreeNode}
-use Rattle.bound_tree.specs.Accepts.{expected_by, AreEaten}
+use Rattle.bound_tree.specs.Accepts.{IsGood, expected_by, AreEaten}
 
 -- the prefixes that a record makes expected before all others: the legal children of a branch, of which one that is as
 -- long as the horizon has none
@@ -28,6 +28,10 @@ abbrev pub expected_behind : Problem → List (List ℕ) → Kind → List (List
 expected_behind p [] kind = []
 expected_behind p (q ∷ qs) kind = opened_by p q kind ++ qs
 
--- the records of an accepted plan are
+-- records are eaten where they are in place and each is good
+abbrev pub EatenIsPlacedAndGood : Type 0
+EatenIsPlacedAndGood = (p : Problem) (s : Standing) (qs : List (List ℕ)) (rs : List TreeNode) → AreEaten p s qs rs ↔ (AreInPlace p qs rs × All (IsGood p s) rs)
+
+-- the records of an accepted plan are in place
 abbrev pub EatenAreInPlace : Type 0
 EatenAreInPlace = (p : Problem) (s : Standing) (qs : List (List ℕ)) (rs : List TreeNode) → AreEaten p s qs rs → AreInPlace p qs rs

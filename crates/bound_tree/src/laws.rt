@@ -5,13 +5,19 @@ ghost use Rattle.bound_tree.specs.CutLaws.{CutStays, FinerCutStays, ClosedStays,
 ghost use Rattle.bound_tree.specs.Eat.{EatenByEither};
 ghost use Rattle.bound_tree.specs.EdgeLaws.{EdgeIsAbove, EdgeIsWithinMean};
 ghost use Rattle.bound_tree.specs.Laws.{AcceptedIsBest};
-ghost use Rattle.bound_tree.specs.Places.{EatenAreInPlace};
+ghost use Rattle.bound_tree.specs.Places.{EatenIsPlacedAndGood, EatenAreInPlace};
 ghost use Rattle.bound_tree.specs.SameLaws.{SameEitherWay, SameIsAlike, SameAccepts};
 
 /// Record by record, or by the list of expected prefixes: the same records are eaten whole.
 #[tactic(auto, using(crate::proofs::EatLemmas::eaten_either_way))]
 pub fn eaten_by_either()
     ensures { EatenByEither }
+{}
+
+/// Records are eaten where each has the prefix that is expected, and each is good in itself.
+#[tactic(auto, using(crate::proofs::Placing::eaten_is_placed_and_good))]
+pub fn eaten_is_placed_and_good()
+    ensures { EatenIsPlacedAndGood }
 {}
 
 /// Records that are eaten have the prefixes that are expected where a text leaves them out.
