@@ -2,6 +2,7 @@
 #![tactic(auto)]
 
 mod cut;
+mod gap;
 mod laws;
 mod node;
 mod plan;
@@ -9,6 +10,7 @@ mod stack;
 mod tree;
 
 pub use cut::{cuts, in_parts};
+pub use gap::{GapKind, GapNode, GapPlan, GapTree};
 pub use laws::{
     accepted_is_best, closed_is_good, closed_stays, closes_once, cut_stays, eaten_are_in_place,
     eaten_by_either, eaten_is_placed_and_good, edge_is_between, looks_are_convex, mean_is_above,
