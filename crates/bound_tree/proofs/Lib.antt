@@ -12,3 +12,4 @@ pub mod EdgeBound
 pub mod Rooms
 pub mod Placing
 pub mod SamePlans
+pub mod Ceilings

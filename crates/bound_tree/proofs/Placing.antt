@@ -2,7 +2,7 @@
 use Rattle.std.proofs.Common.{◌≡◌, ℕ, List, [], ◌∷◌, ◌++◌, length, Bool, true, false, cond, refl, sym, subst, All}
 use Rattle.std.specs.Prelude.{nat_lt}
 use Rattle.std.proofs.lemmas.Bool.{cond_both, lt-ltb, ltb-true}
-use Rattle.std.proofs.lemmas.List.Elements.{All-nil, All-cons, All-head, All-tail}
+use Rattle.std.proofs.lemmas.List.Elements.{All-nil, All-cons, All-head, All-tail, All-append}
 use Rattle.search_model.specs.declared.standing.Standing.{Standing}
 use Rattle.search_model.specs.Problem.{Problem}
 use Rattle.search_model.specs.Legal.{IsLegal}
@@ -63,3 +63,12 @@ legal_opened p q kind legal =
     cond_both (nat_lt (length q) p.horizon) (expected_by p q kind) [] (All (IsLegal p))
     (λ short. legal_expected p q kind legal (λ _. ltb-true (length q) p.horizon short))
     (λ _. All-nil (IsLegal p))
+
+-- records in place have legal prefixes, where those that are expected are legal
+pub placed_are_legal : (p : Problem) (rs : List TreeNode) (qs : List (List ℕ)) → All (IsLegal p) qs → AreInPlace p qs rs → All (λ r. IsLegal p r.prefix) rs
+placed_are_legal p [] qs legal placed = All-nil (λ r. IsLegal p r.prefix)
+placed_are_legal p (r ∷ rs) [] legal placed = absurd placed
+placed_are_legal p (r ∷ rs) (q ∷ qs) legal placed =
+    let here : IsLegal p q = All-head (IsLegal p) q qs legal in
+    let next = All-append (IsLegal p) (opened_by p q r.kind) qs (legal_opened p q r.kind here) (All-tail (IsLegal p) q qs legal) in
+    All-cons (λ r. IsLegal p r.prefix) r rs (subst (IsLegal p) (sym placed.0) here) (placed_are_legal p rs (opened_by p q r.kind ++ qs) next placed.1)

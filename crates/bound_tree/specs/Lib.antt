@@ -9,3 +9,5 @@ pub mod EdgeLaws
 pub mod Room
 pub mod Places
 pub mod SameLaws
+pub mod Gaps
+pub mod GapLaws

@@ -1,0 +1,172 @@
+-- What the ceiling of a gap plan says.
+use Rattle.std.proofs.Common.{◌≡◌, ℕ, ◌+◌, ◌*◌, ◌<◌, ◌≤◌, ◌==◌, eqb-true, ap, List, [], ◌∷◌, map, length, sym, refl, ◌∙◌, subst, arith, Contains, All, false, ◌↔◌}
+use Rattle.std.proofs.lemmas.Bool.{cond_both, eqb-false}
+use Rattle.std.proofs.lemmas.List.{take_all}
+use Rattle.std.proofs.lemmas.List.Elements.{All-nil, All-cons, All-head, All-tail, All-append, All-weaker, All-map, All-contains, All-contains_itself}
+use Rattle.search_model.specs.declared.standing.Standing.{Standing}
+use Rattle.search_model.specs.Problem.{Problem, IsProblem}
+use Rattle.search_model.specs.Legal.{IsLegal}
+use Rattle.search_model.specs.Tracks.{value_of, whole_weight}
+use Rattle.search_model.specs.Bounds.{greatest, mean_of}
+use Rattle.search_model.specs.Order.{standing_of}
+use Rattle.search_model.proofs.BoundSizes.{mean_size}
+use Rattle.search_model.proofs.Greatest.{greatest_above, greatest_below, greatest-one}
+use Rattle.search_model.proofs.Orders.{not_better_parts}
+use Rattle.list_laws.proofs.Members.{Contains-nil, Contains-head, Contains-tail, Contains-map, Contains-flat_map}
+use Rattle.bound_tree.specs.declared.node.TreeNode.{TreeNode}
+use Rattle.bound_tree.specs.declared.gap.GapKind.{GapKind}
+use Rattle.bound_tree.specs.declared.gap.GapKind.TheVariants.{Closed, Waiting}
+use Rattle.bound_tree.specs.declared.gap.GapNode.{GapNode}
+use Rattle.bound_tree.specs.Accepts.{IsGoodKind, IsGood}
+use Rattle.bound_tree.specs.Places.{opened_by}
+use Rattle.bound_tree.specs.Gaps.{shape_of_kind, shape_of, ceiling_of, IsGoodOpenKind, IsGoodOpen, open_number, open_numbers, closed_node, gap_of, plan_of}
+use Rattle.bound_tree.specs.GapLaws.{PrefixCeilingIsAbove, CeilingIsAbove, CeilingSize, GapOfNoneWaiting, NoneWaitingIsBest, PlanIsGapPlan, MetCeilingIsBest}
+use Rattle.bound_tree.proofs.Along.{AllBelow, PassesOn, along_tree}
+use Rattle.bound_tree.proofs.Continuing.{front_legal, front_short}
+use Rattle.bound_tree.proofs.MeanBound.{mean_is_above}
+use Rattle.bound_tree.proofs.Placing.{eaten_is_placed_and_good, placed_are_legal}
+use Rattle.bound_tree.proofs.Accepted.{good_passes, accepted_plan_is_best}
+
+-- a prefix that isn't as long as the horizon is shorter, if it isn't longer
+shorter : (n m : ℕ) → n ≤ m → (n == m) ≡ false → n < m
+shorter n m le other = let differ = eqb-false n m other in omega (arith, le, differ)
+
+pub prefix_ceiling_is_above : PrefixCeilingIsAbove
+prefix_ceiling_is_above p q y sound x =
+    cond_both (length q == p.horizon) (value_of p q) (mean_of p q) (λ c. value_of p y ≤ c)
+    (λ whole.
+    let same : y ≡ q = sym (take_all (length q) y (omega (arith, eqb-true (length q) p.horizon whole, x.path.whole))) ∙ x.front in
+    omega (arith, ap (value_of p) same))
+    (λ other. mean_is_above p q y sound (front_legal p q y x) (shorter (length q) p.horizon (front_short p q y x) other) x)
+
+-- the ceiling of a legal prefix is at most the whole weight, once for each period and once more
+prefix_ceiling_size : (p : Problem) (q : List ℕ) → IsProblem p → length q ≤ p.horizon → ceiling_of p q ≤ (p.horizon + 1) * whole_weight p
+prefix_ceiling_size p q sound short =
+    cond_both (length q == p.horizon) (value_of p q) (mean_of p q) (λ c. c ≤ (p.horizon + 1) * whole_weight p)
+    (λ _. omega arith)
+    (λ other. mean_size p q sound (shorter (length q) p.horizon short other))
+
+-- what holds of the number of each waiting node holds of all their numbers
+All-open : (P : ℕ → Type 0) (nodes : List GapNode) → All (λ node. All P (open_number node.kind)) nodes → All P (open_numbers nodes)
+All-open P [] each = All-nil P
+All-open P (node ∷ nodes) each =
+    All-append P (open_number node.kind) (open_numbers nodes) (All-head (λ node. All P (open_number node.kind)) node nodes each) (All-open P nodes (All-tail (λ node. All P (open_number node.kind)) node nodes each))
+
+-- the number of a waiting node is one of the numbers of all of them
+open_listed : (nodes : List GapNode) (node : GapNode) (n : ℕ) → Contains nodes node → Contains (open_number node.kind) n → Contains (open_numbers nodes) n
+open_listed nodes node n has is = Contains-flat_map (λ node. open_number node.kind) nodes node n has is
+
+-- a path finds at most the ceiling
+abbrev IsWithin : Problem → ℕ → List ℕ → Type 0
+IsWithin p ceiling y = value_of p y ≤ ceiling
+
+module _ (p : Problem) (sound : IsProblem p) (s : Standing) (ceiling : ℕ) (most : s.value ≤ ceiling) where
+  -- a good node passes on that all paths below find at most the ceiling, if its number isn't above it
+  node_passes : (q : List ℕ) (kind : GapKind) → IsGoodOpenKind p s q kind → All (λ n. n ≤ ceiling) (open_number kind) →
+      All (AllBelow p (IsWithin p ceiling)) (opened_by p q (shape_of_kind kind)) → AllBelow p (IsWithin p ceiling) q
+  node_passes q (Closed kind) good low below y x =
+      good_passes p sound s (IsWithin p ceiling) (λ y worse. omega (arith, (not_better_parts (standing_of p y) s worse).0, most)) q kind good below y x
+  node_passes q (Waiting n) good low below y x = omega (arith, All-head (λ n. n ≤ ceiling) n [] low, good, prefix_ceiling_is_above p q y sound x)
+
+pub ceiling_is_above : CeilingIsAbove
+ceiling_is_above p plan y sound a path =
+    let s = plan.standing in
+    let nodes = plan.nodes in
+    let B : List ℕ → Type 0 = AllBelow p (IsWithin p plan.ceiling) in
+    let above : (n : ℕ) → Contains (s.value ∷ open_numbers nodes) n → n ≤ plan.ceiling = λ n has. omega (arith, a.ceiling, greatest_above (s.value ∷ open_numbers nodes) n has) in
+    let low : (node : GapNode) → Contains nodes node → All (λ n. n ≤ plan.ceiling) (open_number node.kind) =
+    λ node has.
+    All-weaker (Contains (open_number node.kind)) (λ n. n ≤ plan.ceiling) (λ n is. above n (Contains-tail s.value n (open_numbers nodes) (open_listed nodes node n has is)))
+    (open_number node.kind) (All-contains_itself (open_number node.kind)) in
+    let most = above s.value (Contains-head s.value (open_numbers nodes)) in
+    let each = All-weaker (Contains nodes) (λ node. PassesOn p B (shape_of node))
+    (λ node has. node_passes p sound s plan.ceiling most node.prefix node.kind (All-contains (IsGoodOpen p s) nodes node a.good has) (low node has))
+    nodes (All-contains_itself nodes) in
+    All-head B [] [] (along_tree p B ([] ∷ []) (map shape_of nodes) a.placed (All-map (PassesOn p B) shape_of nodes each)) y (record { path = path; front = refl })
+
+-- the number of a good waiting node is as small as a ceiling
+number_size : (p : Problem) (s : Standing) (q : List ℕ) (kind : GapKind) → IsProblem p → length q ≤ p.horizon → IsGoodOpenKind p s q kind →
+    All (λ n. n ≤ (p.horizon + 1) * whole_weight p) (open_number kind)
+number_size p s q (Closed kind) sound short good = All-nil (λ n. n ≤ (p.horizon + 1) * whole_weight p)
+number_size p s q (Waiting n) sound short good =
+    All-cons (λ n. n ≤ (p.horizon + 1) * whole_weight p) n [] (omega (arith, good, prefix_ceiling_size p q sound short)) (All-nil (λ n. n ≤ (p.horizon + 1) * whole_weight p))
+
+pub ceiling_size : CeilingSize
+ceiling_size p plan sound a =
+    let s = plan.standing in
+    let nodes = plan.nodes in
+    let most : ℕ = (p.horizon + 1) * whole_weight p in
+    let empty : IsLegal p [] = record { follows = tt; short = omega arith } in
+    let legal = placed_are_legal p (map shape_of nodes) ([] ∷ []) (All-cons (IsLegal p) [] [] empty (All-nil (IsLegal p))) a.placed in
+    let each = All-weaker (Contains nodes) (λ node. All (λ n. n ≤ most) (open_number node.kind))
+    (λ node has.
+    let at = All-contains (λ r. IsLegal p r.prefix) (map shape_of nodes) (shape_of node) legal (Contains-map shape_of nodes node has) in
+    number_size p s node.prefix node.kind sound at.short (All-contains (IsGoodOpen p s) nodes node a.good has))
+    nodes (All-contains_itself nodes) in
+    let value : s.value ≤ most = omega (arith, a.value) in
+    let below = greatest_below most (s.value ∷ open_numbers nodes) (All-cons (λ n. n ≤ most) s.value (open_numbers nodes) value (All-open (λ n. n ≤ most) nodes each)) in
+    let above = greatest_above (s.value ∷ open_numbers nodes) s.value (Contains-head s.value (open_numbers nodes)) in
+    (omega (arith, a.ceiling, above), omega (arith, a.ceiling, below))
+
+-- a kind without a number is that of a closed node
+no_number : (kind : GapKind) → ((n : ℕ) → Contains (open_number kind) n → ⊥) → open_number kind ≡ []
+no_number (Closed kind) none = refl
+no_number (Waiting n) none = absurd (none n (Contains-head n []))
+
+module _ (p : Problem) (s : Standing) where
+  -- a node that doesn't wait is good exactly where its record is
+  closed_good : (q : List ℕ) (kind : GapKind) → open_number kind ≡ [] → IsGoodOpenKind p s q kind ↔ IsGoodKind p s q (shape_of_kind kind)
+  closed_good q (Closed kind) none = (λ good. good, λ good. good)
+  closed_good q (Waiting n) none = absurd (omega (arith, ap length none))
+
+  all_closed_good : (nodes : List GapNode) → open_numbers nodes ≡ [] → All (IsGoodOpen p s) nodes ↔ All (IsGood p s) (map shape_of nodes)
+  all_closed_good nodes none =
+      let closed : (node : GapNode) → Contains nodes node → open_number node.kind ≡ [] =
+      λ node has. no_number node.kind (λ n is. Contains-nil n (subst (λ ns. Contains ns n) none (open_listed nodes node n has is))) in (
+        λ good.
+            All-map (IsGood p s) shape_of nodes
+            (All-weaker (Contains nodes) (λ node. IsGood p s (shape_of node))
+            (λ node has. (closed_good node.prefix node.kind (closed node has)).0 (All-contains (IsGoodOpen p s) nodes node good has))
+            nodes (All-contains_itself nodes)),
+        λ good.
+            All-weaker (Contains nodes) (IsGoodOpen p s)
+            (λ node has. (closed_good node.prefix node.kind (closed node has)).1 (All-contains (IsGood p s) (map shape_of nodes) (shape_of node) good (Contains-map shape_of nodes node has)))
+            nodes (All-contains_itself nodes),
+      )
+
+pub gap_of_none_waiting : GapOfNoneWaiting
+gap_of_none_waiting p plan none =
+    let s = plan.standing in
+    let records = map shape_of plan.nodes in
+    let alone : greatest (s.value ∷ open_numbers plan.nodes) ≡ s.value = ap (λ ns. greatest (s.value ∷ ns)) none ∙ greatest-one s.value in
+    let eaten = eaten_is_placed_and_good p s ([] ∷ []) records in
+    let goods = all_closed_good p s plan.nodes none in (
+      λ a. (record { path = a.path; value = a.value; weight = a.weight; tree = eaten.1 (a.placed, goods.0 a.good) }, a.ceiling ∙ alone),
+      λ both.
+          let (a, met) = both in
+          record { path = a.path; value = a.value; weight = a.weight; placed = (eaten.0 a.tree).0; good = goods.1 (eaten.0 a.tree).1; ceiling = met ∙ sym alone },
+    )
+
+pub none_waiting_is_best : NoneWaitingIsBest
+none_waiting_is_best p plan sound none a = accepted_plan_is_best p (plan_of plan) sound ((gap_of_none_waiting p plan none).0 a).0
+
+-- no closed node waits
+none_of_closed : (rs : List TreeNode) → open_numbers (map closed_node rs) ≡ []
+none_of_closed [] = refl
+none_of_closed (r ∷ rs) = none_of_closed rs
+
+-- a record is the record of its closed node
+shapes_of_closed : (rs : List TreeNode) → map shape_of (map closed_node rs) ≡ rs
+shapes_of_closed [] = refl
+shapes_of_closed (r ∷ rs) = ap (λ (xs : List TreeNode). r ∷ xs) (shapes_of_closed rs)
+
+pub plan_is_gap_plan : PlanIsGapPlan
+plan_is_gap_plan p plan =
+    let both = gap_of_none_waiting p (gap_of plan) (none_of_closed plan.tree) in
+    let same = shapes_of_closed plan.tree in (
+      λ a. both.1 (record { path = a.path; value = a.value; weight = a.weight; tree = rw same a.tree }, refl),
+      λ g. let a = (both.0 g).0 in record { path = a.path; value = a.value; weight = a.weight; tree = rw (← same) a.tree },
+    )
+
+pub met_ceiling_is_best : MetCeilingIsBest
+met_ceiling_is_best p plan y sound a met path = omega (arith, ceiling_is_above p plan y sound a path, met, a.value)
