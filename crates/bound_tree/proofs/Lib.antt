@@ -13,3 +13,4 @@ pub mod Rooms
 pub mod Placing
 pub mod SamePlans
 pub mod Ceilings
+pub mod ExampleGaps

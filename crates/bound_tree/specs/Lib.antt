@@ -11,3 +11,4 @@ pub mod Places
 pub mod SameLaws
 pub mod Gaps
 pub mod GapLaws
+pub mod WorkedGap

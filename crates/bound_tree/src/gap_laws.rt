@@ -28,3 +28,10 @@ pub fn gap_of_none_waiting()
 pub fn met_ceiling_is_best()
     ensures { MetCeilingIsBest }
 {}
+
+ghost use Rattle.bound_tree.specs.WorkedGap.{WorkedGaps};
+
+/// The gap plans of small problems, worked by hand.
+pub fn worked_gaps()
+    ensures { WorkedGaps }
+{}

@@ -12,7 +12,9 @@ mod tree;
 
 pub use cut::{cuts, in_parts};
 pub use gap::{GapKind, GapNode, GapPlan, GapTree};
-pub use gap_laws::{ceiling_is_above, ceiling_size, gap_of_none_waiting, met_ceiling_is_best};
+pub use gap_laws::{
+    ceiling_is_above, ceiling_size, gap_of_none_waiting, met_ceiling_is_best, worked_gaps,
+};
 pub use laws::{
     accepted_is_best, closed_is_good, closed_stays, closes_once, cut_stays, eaten_are_in_place,
     eaten_by_either, eaten_is_placed_and_good, edge_is_between, looks_are_convex, mean_is_above,
