@@ -53,7 +53,8 @@ impl GapTree {
     }
 }
 
-/// A path to fly, its value out of the whole weight, the value that no path exceeds, and the nodes that show why none does.
+/// A path to fly, its value out of the whole weight, the value that no path exceeds, and the nodes that show why none
+/// does.
 #[derive(Drop)]
 pub struct GapPlan {
     pub standing: Standing,

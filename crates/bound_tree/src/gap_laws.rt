@@ -2,8 +2,8 @@
 
 ghost use Rattle.bound_tree.specs.GapLaws.{PrefixCeilingIsAbove, CeilingIsAbove, CeilingSize, GapOfNoneWaiting, NoneWaitingIsBest, PlanIsGapPlan, MetCeilingIsBest};
 
-/// No path finds more than the ceiling of a gap plan that is accepted, and none that extends a prefix more than the ceiling
-/// of the prefix.
+/// No path finds more than the ceiling of a gap plan that is accepted, and none that extends a prefix more than the
+/// ceiling of the prefix.
 #[tactic(auto, using(crate::proofs::Ceilings::ceiling_is_above, crate::proofs::Ceilings::prefix_ceiling_is_above))]
 pub fn ceiling_is_above()
     ensures plan { CeilingIsAbove }
@@ -15,8 +15,8 @@ pub fn ceiling_size()
     ensures { CeilingSize }
 {}
 
-/// A gap plan in which no node waits is accepted exactly where the plan of its records is and its ceiling is its value, and
-/// its path is then the best; and a plan is accepted exactly where it is as such a gap plan.
+/// A gap plan in which no node waits is accepted exactly where the plan of its records is and its ceiling is its value,
+/// and its path is then the best; and a plan is accepted exactly where it is as such a gap plan.
 pub fn gap_of_none_waiting()
     ensures accepted { GapOfNoneWaiting }
     ensures best { NoneWaitingIsBest }
