@@ -10,6 +10,7 @@ use Rattle.search_model.proofs.ExampleBounds.{worked_bounds_hold}
 use Rattle.bound_tree.specs.declared.node.Kind.TheVariants.{Branch}
 use Rattle.bound_tree.specs.declared.gap.GapKind.TheVariants.{Closed}
 use Rattle.bound_tree.specs.Gaps.{IsGoodOpen, GapAccepts}
+use Rattle.bound_tree.proofs.ExampleGreedy.{greedy_gap_holds}
 use Rattle.bound_tree.specs.WorkedGap.{node_at, longer_gap, LongerGap, two_cells_gap, WorkedGaps}
 
 longer_accepted : GapAccepts waiting_longer (longer_gap 8 8)
@@ -60,4 +61,4 @@ two_cells_accepted =
     }
 
 pub worked_gaps_hold : WorkedGaps
-worked_gaps_hold = record { longer = longer_gap_holds; two = two_cells_accepted }
+worked_gaps_hold = record { greedy = greedy_gap_holds; longer = longer_gap_holds; two = two_cells_accepted }

@@ -13,4 +13,5 @@ pub mod Rooms
 pub mod Placing
 pub mod SamePlans
 pub mod Ceilings
+pub mod ExampleGreedy
 pub mod ExampleGaps
