@@ -4,3 +4,10 @@ pub mod Finding
 pub mod Carrying
 pub mod Behind
 pub mod Examples
+pub mod Joined
+pub mod Changed
+pub mod SameRows
+pub mod DriftCopies
+pub mod Searched
+pub mod GivenRows
+pub mod LookTables
