@@ -3,6 +3,7 @@ use Rattle.std.specs.Prelude.{ℕ, ◌-◌, ◌*◌, List, [], ◌∷◌, ◌++�
 use Rattle.drift_chain.specs.DriftRows.{part_of}
 use Rattle.search_model.specs.Problem.{Problem}
 use Rattle.belief_update.specs.Masses.{mass_of, looks_to}
+use Rattle.edge_bound.specs.Found.{one_of}
 
 -- the mass of cell d in period t, after the looks of a prefix, a look from position a in the period before, and no others
 abbrev pub mass_after_look : Problem → List ℕ → ℕ → ℕ → ℕ → ℕ
@@ -11,3 +12,8 @@ mass_after_look p q t a d = mass_of p (looks_to (t - 2) q ++ Some a ∷ [] ++ No
 -- what comes to cell d in period t of the mass of cell c in the period before, with no look after the prefix
 abbrev pub going_on : Problem → List ℕ → ℕ → ℕ → ℕ → ℕ
 going_on p q t d c = mass_of p (looks_to (t - 1) q) c * part_of p.drift (t - 1) c d
+
+-- what a look from position b in period t finds of the mass of cell c in the period before, with no other look after the
+-- prefix
+abbrev pub through : Problem → List ℕ → ℕ → ℕ → ℕ → ℕ
+through p q t b c = mass_of p (looks_to (t - 1) q) c * one_of p t c b

@@ -2,15 +2,21 @@
 use Rattle.std.specs.Prelude.{ℕ, ◌≡◌, List, length}
 use Rattle.search_model.specs.Problem.{Problem}
 use Rattle.belief_update.specs.Onward.{OnwardState, IsMadeFor as IsOnwardFor}
+use Rattle.edge_bound.specs.Units.{UnitTable, HasUnits}
 
--- the beliefs of the periods after the last prefix, and two rows of sums, of one period and of the one before it
+-- the beliefs of the periods after the last prefix, what looks find of units, two rows of sums, of one period and of the one
+-- before it, and what looks in that one find
 pub record EdgeState : Type 0 where
   pub onward : OnwardState
+  pub units : UnitTable
   pub sums : List ℕ
   pub earlier : List ℕ
+  pub finds : List ℕ
 
 -- the tables were made for this scenario
 pub record IsMadeFor (p : Problem) (e : EdgeState) : Type 0 where
   pub onward : IsOnwardFor p e.onward
+  pub units : HasUnits p e.units
   pub sums : length e.sums ≡ p.positions
   pub earlier : length e.earlier ≡ p.positions
+  pub finds : length e.finds ≡ p.positions

@@ -1,5 +1,6 @@
 -- What looks find of masses, in all cells that they cover.
 use Rattle.std.specs.Prelude.{ℕ, ◌*◌, ◌-◌, sum_by}
+use Rattle.drift_chain.specs.DriftRows.{part_of}
 use Rattle.sweep_table.specs.declared.part.LookPart.{LookPart}
 use Rattle.sweep_table.specs.LookParts.{look_row}
 use Rattle.search_model.specs.Problem.{Problem}
@@ -11,3 +12,7 @@ found_in p mass entry = mass entry.cell * (p.sweep.denominator - entry.part)
 -- what a look from position a in period t finds, where each cell has some mass
 abbrev pub found_of : Problem → ℕ → ℕ → (ℕ → ℕ) → ℕ
 found_of p t a mass = sum_by (found_in p mass) (look_row p.sweep t a)
+
+-- what a look from position b in period t finds of a unit that was in cell c a period before
+abbrev pub one_of : Problem → ℕ → ℕ → ℕ → ℕ
+one_of p t c b = found_of p t b (part_of p.drift (t - 1) c)

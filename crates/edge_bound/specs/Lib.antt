@@ -1,4 +1,5 @@
 pub mod Found
+pub mod Units
 pub mod After
 pub mod Moves
 pub mod Edges

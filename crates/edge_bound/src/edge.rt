@@ -6,9 +6,11 @@ ghost use Rattle.search_model.specs.Edge.{edge_of};
 ghost use Rattle.search_model.specs.Tracks.{value_of};
 ghost use Rattle.belief_update.specs.Trails.{IsPast};
 ghost use Rattle.belief_update.specs.Onward.{IsOnward};
+ghost use Rattle.edge_bound.specs.Units.{HasUnits};
 
 use crate::along::sum_after;
 use crate::rows::{best_first, fill_sums};
+use crate::units::Units;
 use belief_update::{Belief, Onward};
 use exact_parts::NoMemory;
 use search_model::{Path, Scenario};
@@ -29,9 +31,13 @@ use std::marker::Model;
 pub struct Edge {
     // The beliefs of the periods after the last prefix that `bound` or `bound_after` was asked.
     onward: Onward,
+    // What looks find of units of mass, made once.
+    units: Units,
     // Per position, the greatest sum over the walks that go on from it.
     sums: Vec<u128>,
     earlier: Vec<u128>,
+    // Per position, what a look from it finds without the look before.
+    finds: Vec<u128>,
 }
 
 impl Model for Edge {
@@ -39,42 +45,60 @@ impl Model for Edge {
 
     ghost Value = { EdgeState };
 
-    ghost view = { λ e. record { onward = e.onward; sums = e.sums.items; earlier = e.earlier.items } };
+    ghost view = { λ e. record {
+      onward = e.onward;
+      units = e.units;
+      sums = e.sums.items;
+      earlier = e.earlier.items;
+      finds = e.finds.items;
+    } };
 }
 
 // The greatest of a prefix's value with the rewards of its continuations, by the beliefs after it.
 fn bound_from(
     value: u128,
     onward: &Onward,
+    units: &Units,
     sums: &mut [u128],
     earlier: &mut [u128],
+    finds: &mut [u128],
     sc: &Scenario,
     prefix: &Path,
 ) -> u128
     requires value { value ≡ value_of sc.now prefix.now }
     requires onward { IsOnward sc.now prefix.now onward.now }
+    requires units { HasUnits sc.now units.now }
     requires width { length sums.old ≡ sc.now.positions }
     requires room { length earlier.old ≡ sc.now.positions }
+    requires finds { length finds.old ≡ sc.now.positions }
     requires legal { IsLegal sc.now prefix.now }
     requires short { length prefix.now < sc.now.horizon }
     ensures { result ≡ edge_of sc.now prefix.now }
 {
     sc.recall_sound();
-    fill_sums(sums, earlier, sc, prefix, onward);
+    fill_sums(sums, earlier, finds, sc, prefix, onward, units);
     value + best_first(sc, prefix, onward, sums)
 }
 
 // A prefix's value with the rewards of one path that extends it, by the beliefs after it.
-fn sum_from(value: u128, onward: &Onward, sc: &Scenario, prefix: &Path, path: &Path) -> u128
+fn sum_from(
+    value: u128,
+    onward: &Onward,
+    units: &Units,
+    sc: &Scenario,
+    prefix: &Path,
+    path: &Path,
+) -> u128
     requires value { value ≡ value_of sc.now prefix.now }
     requires onward { IsOnward sc.now prefix.now onward.now }
+    requires units { HasUnits sc.now units.now }
     requires short { length prefix.now < sc.now.horizon }
     requires path { IsPath sc.now path.now }
     requires begins { take (length prefix.now) path.now ≡ prefix.now }
     ensures { result ≤ edge_of sc.now prefix.now }
 {
     sc.recall_sound();
-    value + sum_after(sc, prefix, onward, path.cells())
+    value + sum_after(sc, prefix, onward, units, path.cells())
 }
 
 impl Edge {
@@ -87,8 +111,10 @@ impl Edge {
         let positions = usize::from(sc.positions());
         Ok(Edge {
             onward: Onward::tables(alloc, sc)?,
+            units: Units::tables(alloc, sc)?,
             sums: vec![in alloc; 0; positions]?,
             earlier: vec![in alloc; 0; positions]?,
+            finds: vec![in alloc; 0; positions]?,
         })
     }
 
@@ -104,8 +130,10 @@ impl Edge {
         bound_from(
             self.onward.value(sc, prefix),
             &self.onward,
+            &self.units,
             &mut self.sums,
             &mut self.earlier,
+            &mut self.finds,
             sc,
             prefix,
         )
@@ -125,8 +153,10 @@ impl Edge {
         bound_from(
             self.onward.value(sc, prefix),
             &self.onward,
+            &self.units,
             &mut self.sums,
             &mut self.earlier,
+            &mut self.finds,
             sc,
             prefix,
         )
@@ -153,9 +183,18 @@ impl Edge {
         ensures made { IsMadeFor sc.now self.new }
     {
         let value = onward.value(sc, prefix);
-        let shown = sum_from(value, onward, sc, prefix, path);
+        let shown = sum_from(value, onward, &self.units, sc, prefix, path);
         if shown < enough {
-            bound_from(value, onward, &mut self.sums, &mut self.earlier, sc, prefix)
+            bound_from(
+                value,
+                onward,
+                &self.units,
+                &mut self.sums,
+                &mut self.earlier,
+                &mut self.finds,
+                sc,
+                prefix,
+            )
         } else {
             shown
         }

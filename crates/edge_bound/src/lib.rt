@@ -7,6 +7,7 @@ mod edge;
 mod laws;
 mod moves;
 mod rows;
+mod units;
 
 pub use edge::Edge;
 pub use laws::worked_edges;

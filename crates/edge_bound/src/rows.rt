@@ -1,22 +1,39 @@
 //! The greatest sums of edge rewards, one row of positions for a period, from the last period back.
 
-ghost use Rattle.std.specs.Prelude.{◌≡◌, ◌<◌, ◌+◌, ◌-◌, ◌*◌, ◌^◌, length, map};
+ghost use Rattle.std.specs.Prelude.{◌≡◌, ◌<◌, ◌≤◌, ◌+◌, ◌-◌, ◌*◌, ◌^◌, length, map};
 ghost use Rattle.search_model.specs.Legal.{IsLegal, continuations};
 ghost use Rattle.search_model.specs.Bounds.{greatest};
 ghost use Rattle.search_model.specs.Edge.{edge_reward_of, edge_sum};
 ghost use Rattle.belief_update.specs.Onward.{IsOnward};
-ghost use Rattle.edge_bound.specs.Moves.{IsLater, HasSums, greatest_moves};
+ghost use Rattle.edge_bound.specs.Moves.{IsLater, HasFinds, HasSums, greatest_moves};
+ghost use Rattle.edge_bound.specs.Units.{HasUnits};
 
-use crate::moves::{found_after, found_first};
+use crate::moves::{found_after, found_by, found_first};
+use crate::units::Units;
 use belief_update::{Onward, later_parts};
 use search_model::{Path, Scenario};
 
-// The greatest sum over the walks that go on from position `a` in period `t`, by the sums of the period after it and the
-// parts of what is to come.
+// Writes what looks in period `t` find with no look between them and the prefix, position by position.
+fn fill_finds(finds: &mut [u128], sc: &Scenario, prefix: &Path, onward: &Onward, t: u32)
+    requires size { length finds.old ≡ sc.now.positions }
+    requires later { length prefix.now < t }
+    requires last { t ≤ sc.now.horizon }
+    requires onward { IsOnward sc.now prefix.now onward.now }
+    ensures { HasFinds sc.now prefix.now t finds.new }
+{
+    for b in 0..sc.positions() {
+        finds[usize::from(b)] = found_by(sc, prefix, onward, t, b);
+    }
+}
+
+// The greatest sum over the walks that go on from position `a` in period `t`, by what looks in that period find, the sums of
+// the period after it and the parts of what is to come.
 fn best_move(
     sc: &Scenario,
     prefix: &Path,
     onward: &Onward,
+    units: &Units,
+    finds: &[u128],
     sums: &[u128],
     parts: u128,
     t: u32,
@@ -28,6 +45,9 @@ fn best_move(
     requires period { IsLater sc.now prefix.now t }
     requires from { a < sc.now.positions }
     requires onward { IsOnward sc.now prefix.now onward.now }
+    requires units { HasUnits sc.now units.now }
+    requires found { length finds.now ≡ sc.now.positions }
+    requires finds { HasFinds sc.now prefix.now t finds.now }
     requires width { length sums.now ≡ sc.now.positions }
     requires sums { HasSums sc.now prefix.now (t + 1) sums.now }
     ensures { result ≡ greatest_moves sc.now.moves (edge_reward_of sc.now prefix.now) (sc.now.horizon + 1 - t) t a }
@@ -35,44 +55,63 @@ fn best_move(
     let moves = sc.grid().moves(a);
     let mut best = 0;
     for b in moves {
-        let reward = found_after(sc, prefix, onward, t, a, *b) * parts;
+        let found = finds[usize::from(*b)];
+        let reward = found_after(sc, prefix, onward, units, found, t, a, *b) * parts;
         best = (reward + sums[usize::from(*b)]).max(best);
     }
     best
 }
 
-// The row of period `t`, by the sums of the period after it.
-fn fill_row(row: &mut [u128], sc: &Scenario, prefix: &Path, onward: &Onward, sums: &[u128], t: u32)
+// The row of period `t`, by what looks in that period find and the sums of the period after it.
+fn fill_row(
+    row: &mut [u128],
+    sc: &Scenario,
+    prefix: &Path,
+    onward: &Onward,
+    units: &Units,
+    finds: &[u128],
+    sums: &[u128],
+    t: u32,
+)
     requires size { length row.old ≡ sc.now.positions }
     requires period { IsLater sc.now prefix.now t }
     requires onward { IsOnward sc.now prefix.now onward.now }
+    requires units { HasUnits sc.now units.now }
+    requires found { length finds.now ≡ sc.now.positions }
+    requires finds { HasFinds sc.now prefix.now t finds.now }
     requires width { length sums.now ≡ sc.now.positions }
     requires sums { HasSums sc.now prefix.now (t + 1) sums.now }
     ensures { HasSums sc.now prefix.now t row.new }
 {
     let parts = later_parts(sc, t, prefix.len() as u32 + 2);
     for a in 0..sc.positions() {
-        row[usize::from(a)] = best_move(sc, prefix, onward, sums, parts, t, a);
+        row[usize::from(a)] = best_move(sc, prefix, onward, units, finds, sums, parts, t, a);
     }
 }
 
-/// The sums of the second period after a prefix, by those of the last period and back; `earlier` is room for one row.
+/// The sums of the second period after a prefix, by those of the last period and back; `earlier` and `finds` are room for
+/// one row each.
 pub(crate) fn fill_sums(
     sums: &mut [u128],
     earlier: &mut [u128],
+    finds: &mut [u128],
     sc: &Scenario,
     prefix: &Path,
     onward: &Onward,
+    units: &Units,
 )
     requires short { length prefix.now < sc.now.horizon }
     requires width { length sums.old ≡ sc.now.positions }
     requires room { length earlier.old ≡ sc.now.positions }
+    requires finds { length finds.old ≡ sc.now.positions }
     requires onward { IsOnward sc.now prefix.now onward.now }
+    requires units { HasUnits sc.now units.now }
     ensures { HasSums sc.now prefix.now (length prefix.now + 2) sums.new }
 {
     sums.fill(0);
     for t in (prefix.len() as u32 + 1..sc.horizon()).rev() {
-        fill_row(earlier, sc, prefix, onward, sums, t + 1);
+        fill_finds(finds, sc, prefix, onward, t + 1);
+        fill_row(earlier, sc, prefix, onward, units, finds, sums, t + 1);
         sums.copy_from_slice(earlier);
     }
 }

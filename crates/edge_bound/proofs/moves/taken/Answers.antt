@@ -2,8 +2,8 @@ use Rattle.std.proofs.Common.{◌-◌}
 use Rattle.search_model.proofs.LookRows.{own_cell, own_part-le}
 use Rattle.edge_bound.proofs.moves.taken.Goals as goal
 
-pub mass_going_on-mass-requires-clause-from : goal.mass_going_on-mass-requires-clause-from
-mass_going_on-mass-requires-clause-from c =
+pub found_through-found-requires-clause-from : goal.found_through-found-requires-clause-from
+found_through-found-requires-clause-from c =
     own_cell c.args.sc.now c.sweep.ensures.sound (c.args.t - 1) c.args.a _ c.sweep.ensures.value _ c.in-Some.ensures.row
 
 pub overflow_sub-denominator : goal.overflow_sub-denominator

@@ -30,12 +30,12 @@ overflow_add-reward c =
     let most = edge_reward-within p sound q t c.args.a b some in
     let rest = greatest_moves-within p sound q some n (t + 1) b in
     let fits = weights-fit p sound n (omega arith) in
-    rw (c.requires.parts, c.found_after.ensures, c.from.ensures, c.requires.sums b there) (omega (arith, most, rest, fits))
+    rw (c.requires.parts, c.found_after.ensures, c.from-in-loop-b.ensures, c.requires.sums b there) (omega (arith, most, rest, fits))
 
 pub loop-b-preserved : goal.loop-b-preserved
 loop-b-preserved c =
     let f : ℕ → ℕ = λ b. edge_reward_of c.args.sc.now c.args.prefix.now c.args.t c.args.a b + slice_index c.args.sums.now b in
-    rw (c.max-best.ensures, c.requires.parts, c.found_after.ensures, c.from.ensures)
+    rw (c.max-best.ensures, c.requires.parts, c.found_after.ensures, c.from-in-loop-b.ensures)
     (best_more f c.moves-moves.result.now c.loop-b.b-index c.loop-b.best _ c.loop-b-test.true c.loop-b.invariant)
 
 pub returns : goal.returns

@@ -1,0 +1,139 @@
+-- The table of what looks find of units: its rows, and which periods one block of it serves.
+use Rattle.std.proofs.Common.{ℕ, ◌+◌, ◌*◌, ◌-◌, ◌<◌, ◌≤◌, ◌≡◌, true, List, slice_index, refl, sym, ap, ◌∙◌, arith, inl, inr, sum_by, mul-le-mul_left}
+use Rattle.std.specs.Prelude.{◌==◌, ◌&&◌}
+use Rattle.std.specs.Cmp.Lexicographic.{pointwise, pointwise_decides}
+use Rattle.std.specs.List.{range_with_len}
+use Rattle.std.proofs.lemmas.Bool.{cases_eq, eq-eqb, eqb-true, and_parts}
+use Rattle.std.proofs.lemmas.Nat.{mul-le}
+use Rattle.std.proofs.Math.Nat.{mul-le-mul_right}
+use Rattle.drift_chain.specs.declared.part.DriftPart.{DriftPart}
+use Rattle.drift_chain.specs.DriftRows.{part_of, part_in}
+use Rattle.sweep_table.specs.declared.part.LookPart.{LookPart}
+use Rattle.sweep_table.specs.LookParts.{look_row, factor_of}
+use Rattle.search_model.specs.Problem.{Problem, IsProblem}
+use Rattle.search_model.proofs.DriftSums.{steps_total}
+use Rattle.search_model.proofs.LookRows.{found_in_cells}
+use Rattle.list_laws.proofs.Sums.{sum_by-range-le, sum_by-times}
+use Rattle.edge_bound.specs.Found.{found_in, one_of}
+use Rattle.edge_bound.specs.Units.{HasUnits, HasBlock, HasBlocks, IsSteady}
+
+-- Rows that are the same.
+
+step_decides : (x y : DriftPart) → (((x.cell == y.cell) && (x.part == y.part)) ≡ true → x ≡ y) × (x ≡ y → ((x.cell == y.cell) && (x.part == y.part)) ≡ true)
+step_decides x y = (
+  λ both.
+      let parts = and_parts (x.cell == y.cell) (x.part == y.part) both in
+      let cell = eqb-true x.cell y.cell parts.0 in
+      let part = eqb-true x.part y.part parts.1 in
+      λ i. record { cell = cell i; part = part i },
+  λ same. rw (eq-eqb x.cell y.cell (ap (λ (e : DriftPart). e.cell) same), eq-eqb x.part y.part (ap (λ (e : DriftPart). e.part) same)) refl,
+)
+
+pub same_steps : (xs ys : List DriftPart) → pointwise (λ x y. (x.cell == y.cell) && (x.part == y.part)) xs ys ≡ true → xs ≡ ys
+same_steps xs ys = (pointwise_decides step_decides xs ys).0
+
+look_decides : (x y : LookPart) → (((x.cell == y.cell) && (x.part == y.part)) ≡ true → x ≡ y) × (x ≡ y → ((x.cell == y.cell) && (x.part == y.part)) ≡ true)
+look_decides x y = (
+  λ both.
+      let parts = and_parts (x.cell == y.cell) (x.part == y.part) both in
+      let cell = eqb-true x.cell y.cell parts.0 in
+      let part = eqb-true x.part y.part parts.1 in
+      λ i. record { cell = cell i; part = part i },
+  λ same. rw (eq-eqb x.cell y.cell (ap (λ (e : LookPart). e.cell) same), eq-eqb x.part y.part (ap (λ (e : LookPart). e.part) same)) refl,
+)
+
+pub same_looks : (xs ys : List LookPart) → pointwise (λ x y. (x.cell == y.cell) && (x.part == y.part)) xs ys ≡ true → xs ≡ ys
+same_looks xs ys = (pointwise_decides look_decides xs ys).0
+
+-- What a look finds of a unit.
+
+-- it is within the product of both denominators
+pub one-within : (p : Problem) → IsProblem p → (t c b : ℕ) → c < p.cells → one_of p t c b ≤ 1000000 * 1000000
+one-within p sound t c b here =
+    let all = range_with_len 0 p.cells in
+    let g = p.sweep.denominator in
+    let part : ℕ → ℕ = part_of p.drift (t - 1) c in
+    let each = sum_by-range-le p.cells (λ d. part d * (g - factor_of p.sweep t b d)) (λ d. part d * g) (λ d lt. mul-le-mul_left (part d) (omega arith)) in
+    let whole : sum_by (λ d. part d * g) all ≡ p.drift.denominator * g = sum_by-times part g all ∙ ap (λ (s : ℕ). s * g) (steps_total p sound (t - 1) c here) in
+    let most = mul-le _ _ _ _ sound.drift.denominator.1 sound.sweep.denominator.1 in
+    omega (arith, found_in_cells p sound t b part, each, whole, most)
+
+-- in a steady problem it is the same in all periods
+steady_one : (p : Problem) → IsSteady p → (t c b : ℕ) → 2 ≤ t → t ≤ p.horizon → c < p.cells → b < p.positions → one_of p t c b ≡ one_of p 2 c b
+steady_one p steady t c b first last here there =
+    ap (λ (row : List DriftPart). sum_by (found_in p (part_in row)) (look_row p.sweep t b)) (steady.steps t c first last here)
+    ∙ ap (λ (row : List LookPart). sum_by (found_in p (part_of p.drift 1 c)) row) (steady.looks t b first last there)
+
+-- Places of a row of cells.
+
+-- a cell's row ends within a block
+pub row_inside : (cells positions c : ℕ) → c < cells → c * positions + positions ≤ cells * positions
+row_inside cells positions c here =
+    let rows : (c + 1) * positions ≤ cells * positions = mul-le-mul_right positions (omega (arith, here)) in
+    omega (arith, rows)
+
+-- a row more of a block
+pub block_more : (p : Problem) (t here c : ℕ) (old new : List ℕ) →
+    ((k b : ℕ) → k < c → b < p.positions → slice_index old (here + (k * p.positions + b)) ≡ one_of p t k b) →
+    ((b : ℕ) → b < p.positions → slice_index new (here + c * p.positions + b) ≡ one_of p t c b) →
+    ((i : ℕ) → i < here + c * p.positions → slice_index new i ≡ slice_index old i) →
+    (k b : ℕ) → k < c + 1 → b < p.positions → slice_index new (here + (k * p.positions + b)) ≡ one_of p t k b
+block_more p t here c old new filled row kept k b short there =
+    elim (cases_eq k c) [
+      | inl same ↦
+          let place : here + (k * p.positions + b) ≡ here + c * p.positions + b = rw same (omega arith) in
+          rw (place, same) (row b there)
+      | inr apart ↦
+          let before : k < c = omega (arith, short, apart) in
+          kept (here + (k * p.positions + b)) (omega (arith, row_inside c p.positions k before, there)) ∙ filled k b before there
+    ]
+
+-- a block more of a table
+pub blocks_more : (p : Problem) (n : ℕ) (old new : List ℕ) →
+    ((m : ℕ) → m < n → HasBlock p (m + 2) old (m * (p.cells * p.positions))) →
+    HasBlock p (n + 2) new (n * (p.cells * p.positions)) →
+    ((i : ℕ) → i < n * (p.cells * p.positions) → slice_index new i ≡ slice_index old i) →
+    (m : ℕ) → m < n + 1 → HasBlock p (m + 2) new (m * (p.cells * p.positions))
+blocks_more p n old new filled block kept m short c b here there =
+    let size = p.cells * p.positions in
+    elim (cases_eq m n) [
+      | inl same ↦ rw same (block c b here there)
+      | inr apart ↦
+          let before : m < n = omega (arith, short, apart) in
+          let place : m * size + (c * p.positions + b) < n * size = omega (arith, row_inside n size m before, row_inside p.cells p.positions c here, there) in
+          kept (m * size + (c * p.positions + b)) place ∙ filled m before c b here there
+    ]
+
+-- The whole table.
+
+-- a block for each period
+pub units_by_period : (p : Problem) (units : List ℕ) → HasBlocks p (p.horizon - 1) units →
+    HasUnits p (record { positions = p.positions; step = p.cells * p.positions; units = units })
+units_by_period p units blocks =
+    let size = p.cells * p.positions in
+    record {
+      inside = λ t c b first last here there.
+          let period : t - 2 < p.horizon - 1 = omega (arith, first, last) in
+          rw blocks.size (omega (arith, row_inside (p.horizon - 1) size (t - 2) period, row_inside p.cells p.positions c here, there));
+      each = λ t c b first last here there.
+          let place : (t - 2) * size + c * p.positions + b ≡ (t - 2) * size + (c * p.positions + b) = omega arith in
+          let back : t - 2 + 2 ≡ t = omega (arith, first) in
+          let at = blocks.each (t - 2) (omega (arith, first, last)) c b here there in
+          rw place (at ∙ ap (λ (u : ℕ). one_of p u c b) back);
+    }
+
+-- one block for all of them
+pub units_steady : (p : Problem) → IsSteady p → (n : ℕ) (units : List ℕ) → (2 ≤ p.horizon → 1 ≤ n) → HasBlocks p n units →
+    HasUnits p (record { positions = p.positions; step = 0; units = units })
+units_steady p steady n units some blocks =
+    let size = p.cells * p.positions in
+    record {
+      inside = λ t c b first last here there.
+          let one : 0 < n = omega (arith, some (omega (arith, first, last))) in
+          let place : (t - 2) * 0 + c * p.positions + b ≡ c * p.positions + b = omega arith in
+          rw (blocks.size, place) (omega (arith, row_inside n size 0 one, row_inside p.cells p.positions c here, there));
+      each = λ t c b first last here there.
+          let place : (t - 2) * 0 + c * p.positions + b ≡ 0 * size + (c * p.positions + b) = omega arith in
+          let at = blocks.each 0 (omega (arith, some (omega (arith, first, last)))) c b here there in
+          rw place (at ∙ sym (steady_one p steady t c b first last here there));
+    }

@@ -1,0 +1,212 @@
+//! What looks find of units of mass, each of which was in one cell a period before.
+
+ghost use Rattle.std.specs.Prelude.{◌≡◌, ◌<◌, ◌≤◌, ◌+◌, ◌-◌, ◌*◌, ℕ, length, slice_index, IsTrue, IfOk};
+ghost use Rattle.drift_chain.specs.DriftRows.{row_of};
+ghost use Rattle.sweep_table.specs.LookParts.{look_row};
+ghost use Rattle.edge_bound.specs.Found.{one_of};
+ghost use Rattle.edge_bound.specs.Units.{HasBlock, HasBlocks, IsSteady};
+
+use crate::moves::look_from;
+use exact_parts::NoMemory;
+use search_model::Scenario;
+use std::alloc::Global;
+use std::marker::Model;
+
+/// Per period from the second on, cell and position, what a look from the position finds of a unit that was in the cell a
+/// period before.
+#[derive(Drop)]
+pub(crate) struct Units {
+    positions: usize,
+    // How far the numbers of a period are from those of the period before: 0 where one block of them serves all periods.
+    step: usize,
+    units: Vec<u64>,
+}
+
+impl Model for Units {
+    ghost use Rattle.edge_bound.specs.Units.{UnitTable};
+
+    ghost Value = { UnitTable };
+
+    ghost view = { λ u. record { positions = u.positions; step = u.step; units = u.units.items } };
+}
+
+// Whether the step from cell `c` after period `t` is that after period 1.
+fn is_same_step(sc: &Scenario, t: u32, c: u8) -> bool
+    requires first { 1 ≤ t }
+    requires last { t < sc.now.horizon }
+    requires cell { c < sc.now.cells }
+    ensures { IsTrue result → row_of sc.now.drift t c ≡ row_of sc.now.drift 1 c }
+{
+    sc.recall_sound();
+    sc.drift().row(t, c) == sc.drift().row(1, c)
+}
+
+// Whether each step after period `t` is that after period 1.
+fn has_first_steps(sc: &Scenario, t: u32) -> bool
+    requires first { 1 ≤ t }
+    requires last { t < sc.now.horizon }
+    ensures { IsTrue result → (c : ℕ) → c < sc.now.cells → row_of sc.now.drift t c ≡ row_of sc.now.drift 1 c }
+{
+    for c in 0..sc.cells() {
+        if !is_same_step(sc, t, c) {
+            return false;
+        }
+    }
+    true
+}
+
+// Whether a look from `b` covers in period `t` what it does in period 2.
+fn is_same_look(sc: &Scenario, t: u32, b: u8) -> bool
+    requires first { 2 ≤ t }
+    requires last { t ≤ sc.now.horizon }
+    requires position { b < sc.now.positions }
+    ensures { IsTrue result → look_row sc.now.sweep t b ≡ look_row sc.now.sweep 2 b }
+{
+    let here = look_from(sc, t, b);
+    let second = look_from(sc, 2, b);
+    here.parts() == second.parts()
+}
+
+// Whether each look of period `t` is that of period 2.
+fn has_second_looks(sc: &Scenario, t: u32) -> bool
+    requires first { 2 ≤ t }
+    requires last { t ≤ sc.now.horizon }
+    ensures { IsTrue result → (b : ℕ) → b < sc.now.positions → look_row sc.now.sweep t b ≡ look_row sc.now.sweep 2 b }
+{
+    for b in 0..sc.positions() {
+        if !is_same_look(sc, t, b) {
+            return false;
+        }
+    }
+    true
+}
+
+// Whether all steps of the drift are as the first one, and all looks after a step as after the first one.
+fn is_steady(sc: &Scenario) -> bool
+    ensures { IsTrue result → IsSteady sc.now }
+{
+    for t in 1..sc.horizon() {
+        if !has_first_steps(sc, t) || !has_second_looks(sc, t + 1) {
+            return false;
+        }
+    }
+    true
+}
+
+// What a look from `b` in period `t` finds of a unit that was in cell `c` a period before.
+fn found_of_one(sc: &Scenario, t: u32, c: u8, b: u8) -> u64
+    requires first { 2 ≤ t }
+    requires last { t ≤ sc.now.horizon }
+    requires from { c < sc.now.cells }
+    requires to { b < sc.now.positions }
+    ensures { result ≡ one_of sc.now t c b }
+{
+    let whole = sc.sweep().denominator();
+    let look = look_from(sc, t, b);
+    let mut sum = 0;
+    for entry in look.parts() {
+        let part = sc.drift().part(t - 1, c, entry.cell);
+        sum += u64::from(part) * u64::from(whole - entry.part);
+    }
+    sum
+}
+
+// Writes the numbers of one cell in a period, position by position, from `here` on.
+fn fill_cell(units: &mut [u64], sc: &Scenario, here: usize, t: u32, c: u8)
+    requires first { 2 ≤ t }
+    requires last { t ≤ sc.now.horizon }
+    requires cell { c < sc.now.cells }
+    requires room { here + sc.now.positions ≤ length units.old }
+    ensures size { length units.new ≡ length units.old }
+    ensures each { (b : ℕ) → b < sc.now.positions → slice_index units.new (here + b) ≡ one_of sc.now t c b }
+    ensures earlier { (i : ℕ) → i < here → slice_index units.new i ≡ slice_index units.old i }
+{
+    for b in 0..sc.positions() {
+        units[here + usize::from(b)] = found_of_one(sc, t, c, b);
+    }
+}
+
+// Writes the numbers of a period, cell by cell, from `here` on.
+fn fill_block(units: &mut [u64], sc: &Scenario, here: usize, t: u32)
+    requires first { 2 ≤ t }
+    requires last { t ≤ sc.now.horizon }
+    requires room { here + sc.now.cells * sc.now.positions ≤ length units.old }
+    ensures size { length units.new ≡ length units.old }
+    ensures block { HasBlock sc.now t units.new here }
+    ensures earlier { (i : ℕ) → i < here → slice_index units.new i ≡ slice_index units.old i }
+{
+    let positions = usize::from(sc.positions());
+    for c in 0..sc.cells() {
+        fill_cell(units, sc, here + usize::from(c) * positions, t, c);
+    }
+}
+
+// Writes the numbers of so many periods from the second on.
+fn fill_blocks(units: &mut [u64], sc: &Scenario, periods: u32)
+    requires last { periods < sc.now.horizon }
+    requires room { length units.old ≡ periods * (sc.now.cells * sc.now.positions) }
+    ensures { HasBlocks sc.now periods units.new }
+{
+    let block = usize::from(sc.cells()) * usize::from(sc.positions());
+    for n in 0..periods {
+        fill_block(units, sc, n as usize * block, n + 2);
+    }
+}
+
+// The numbers of so many periods from the second on.
+fn blocks_of(alloc: Global, sc: &Scenario, periods: u32) -> Result<Vec<u64>, NoMemory>
+    requires { periods < sc.now.horizon }
+    ensures { IfOk result (λ units. HasBlocks sc.now periods units.items) }
+{
+    let block = usize::from(sc.cells()) * usize::from(sc.positions());
+    let mut units = vec![in alloc; 0; periods as usize * block]?;
+    fill_blocks(&mut units, sc, periods);
+    Ok(units)
+}
+
+impl Units {
+    ghost use Rattle.edge_bound.specs.Units.{place_of, unit_at, HasUnits};
+
+    /// The table of a scenario: with one block of numbers where no later period differs, else with one a period.
+    pub(crate) fn tables(alloc: Global, sc: &Scenario) -> Result<Units, NoMemory>
+        ensures { IfOk result (HasUnits sc.now) }
+    {
+        if is_steady(sc) {
+            Units::steady(alloc, sc)
+        } else {
+            Units::by_period(alloc, sc)
+        }
+    }
+
+    // The table whose one block serves all periods.
+    fn steady(alloc: Global, sc: &Scenario) -> Result<Units, NoMemory>
+        requires { IsSteady sc.now }
+        ensures { IfOk result (HasUnits sc.now) }
+    {
+        Ok(Units {
+            positions: usize::from(sc.positions()),
+            step: 0,
+            units: blocks_of(alloc, sc, (sc.horizon() - 1).min(1))?,
+        })
+    }
+
+    // The table with a block for each period.
+    fn by_period(alloc: Global, sc: &Scenario) -> Result<Units, NoMemory>
+        ensures { IfOk result (HasUnits sc.now) }
+    {
+        Ok(Units {
+            positions: usize::from(sc.positions()),
+            step: usize::from(sc.cells()) * usize::from(sc.positions()),
+            units: blocks_of(alloc, sc, sc.horizon() - 1)?,
+        })
+    }
+
+    /// What a look from `b` in period `t` finds of a unit that was in cell `c` a period before.
+    pub(crate) fn unit(&self, t: u32, c: u8, b: u8) -> u64
+        requires first { 2 ≤ t }
+        requires inside { place_of self.now t c b < length self.now.units }
+        ensures { result ≡ unit_at self.now t c b }
+    {
+        self.units[(t as usize - 2) * self.step + usize::from(c) * self.positions + usize::from(b)]
+    }
+}
