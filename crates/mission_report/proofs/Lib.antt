@@ -1,12 +1,12 @@
 pub mod Examples
-pub mod Left
+pub mod PeriodMasses
 pub mod Values
 pub mod CourseSteps
 pub mod LineTexts
 pub mod Shares
 pub mod RowSteps
 pub mod Masses
-pub mod ReportParts
+pub mod TextParts
 pub mod Names
 pub mod Entries
 pub mod JsonText

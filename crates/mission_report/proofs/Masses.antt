@@ -1,9 +1,10 @@
--- The belief after a path has the masses that the path leaves.
-use Rattle.std.proofs.Common.{ℕ, ◌+◌, ◌<◌, ◌≤◌, ◌≡◌, List, Some, map, length, slice_index, refl, sym, ◌∙◌, arith}
-use Rattle.std.specs.Prelude.{All}
-use Rattle.std.proofs.lemmas.List.{length-map}
-use Rattle.std.proofs.lemmas.List.Elements.{All-map}
-use Rattle.std.proofs.lemmas.List.FromFn.{length-range_with_len, get_or-range_with_len, get_or-map-range_with_len, fill_by_all}
+-- The belief after the looks of a prefix has the masses of its period, but for the parts to come.
+use Rattle.std.proofs.Common.{ℕ, ◌+◌, ◌*◌, ◌-◌, ◌^◌, ◌<◌, ◌≤◌, ◌≡◌, List, Some, map, take, length, slice_index, sym, ap, ◌∙◌, arith}
+use Rattle.std.specs.List.{range_with_len}
+use Rattle.std.proofs.lemmas.Nat.{mul-pow}
+use Rattle.std.proofs.Math.Nat.{pow-zero}
+use Rattle.std.proofs.lemmas.List.{length-map, take_all}
+use Rattle.std.proofs.lemmas.List.FromFn.{length-range_with_len, get_or-map-range_with_len, fill_by_all}
 use Rattle.std.proofs.lemmas.List.Sums.{sum-map}
 use Rattle.search_model.specs.Problem.{Problem, IsProblem}
 use Rattle.search_model.specs.Legal.{IsPath}
@@ -12,34 +13,51 @@ use Rattle.list_laws.proofs.Sums.{sum_by-range-part}
 use Rattle.search_model.proofs.Totals.{nothing_is_cut_off}
 use Rattle.belief_update.specs.Belief.{BeliefState, IsBelief}
 use Rattle.belief_update.proofs.BeliefSteps.{mass_at}
-use Rattle.mission_report.specs.Account.{all_cells, mass_left, masses_left}
-use Rattle.mission_report.proofs.Left.{left_is_missed, left_is_mass}
+use Rattle.mission_report.specs.Account.{all_cells, mass_in, mass_left}
+use Rattle.mission_report.specs.Report.{left_row, mass_rows}
+use Rattle.mission_report.proofs.PeriodMasses.{masses_are_missed, masses_by_belief, mass_in-front}
 
-module _ (p : Problem) (sound : IsProblem p) (q : List ℕ) where
-  -- what is left in a cell is a part of the whole weight
-  mass_part : (c : ℕ) → c < p.cells → mass_left p q c ≤ whole_weight p
-  mass_part c lt = omega (arith, sum_by-range-part p.cells (mass_left p q) c lt, sum-map (mass_left p q) (all_cells p), left_is_missed p sound q, nothing_is_cut_off p q sound)
+-- what is made of the numbers below n alike is alike
+same_below : {X : Type 0} (g h : ℕ → X) (n : ℕ) → ((c : ℕ) → c < n → g c ≡ h c) → map g (range_with_len 0 n) ≡ map h (range_with_len 0 n)
+same_below g h n same =
+    let size : length (map g (range_with_len 0 n)) ≡ n = length-map (range_with_len 0 n) g ∙ length-range_with_len 0 n in
+    fill_by_all h (map g (range_with_len 0 n)) n (g 0) size (λ c lt. get_or-map-range_with_len g 0 n c c (g 0) lt (omega arith) ∙ same c lt)
 
-  module _ (b : BeliefState) (path : IsPath p q) (belief : IsBelief p (map Some q) b) where
-    left_at : (c : ℕ) → c < p.cells → slice_index b.masses c ≡ mass_left p q c
-    left_at c lt = mass_at p (map Some q) b belief c lt ∙ sym (left_is_mass p sound q path.whole c lt)
+-- a mass is a part of the whole weight
+pub mass_part : (p : Problem) → IsProblem p → (q : List ℕ) (t c : ℕ) → 1 ≤ t → t ≤ p.horizon → c < p.cells → mass_in p q t c ≤ whole_weight p
+mass_part p sound q t c some last lt =
+    omega (arith, sum_by-range-part p.cells (mass_in p q t) c lt, sum-map (mass_in p q t) (all_cells p), masses_are_missed p sound q t some last, nothing_is_cut_off p (take t q) sound)
 
-    pub masses_are : b.masses ≡ masses_left p q
-    masses_are = fill_by_all (mass_left p q) b.masses p.cells 0 belief.cells left_at
+-- the lines of a period's cells are those of the prefix up to then
+pub mass_rows-front : (p : Problem) (q : List ℕ) (t : ℕ) → mass_rows p (take t q) t ≡ mass_rows p q t
+mass_rows-front p q t = same_below (λ c. left_row p c (mass_in p (take t q) t c)) (λ c. left_row p c (mass_in p q t c)) p.cells (λ c lt. ap (left_row p c) (mass_in-front p q t c))
 
-    pub masses_parts : All (λ mass. mass ≤ whole_weight p) b.masses
-    masses_parts =
-        let P : ℕ → Type 0 = λ mass. mass ≤ whole_weight p in
-        rw masses_are (All-map P (mass_left p q) (all_cells p) (λ k d lt.
-        let size : length (all_cells p) ≡ p.cells = length-range_with_len 0 p.cells in
-        let within : k < p.cells = omega (arith, size, lt) in
-        rw (get_or-range_with_len 0 p.cells k d within) (mass_part (0 + k) (omega (arith, within)))))
+module _ (p : Problem) (sound : IsProblem p) (q : List ℕ) (b : BeliefState) (belief : IsBelief p (map Some q) b) where
+  abbrev later_of : ℕ
+  later_of = p.drift.denominator ^ (p.horizon - b.period) * p.sweep.denominator ^ (p.horizon - b.period)
 
-    -- what is made of each cell and the mass left there, by the belief's masses
-    pub by_masses : {X : Type 0} (f : ℕ → ℕ → X) → map (λ c. f c (slice_index b.masses c)) (all_cells p) ≡ map (λ c. f c (mass_left p q c)) (all_cells p)
-    by_masses f =
-        let read : ℕ → _ = λ c. f c (slice_index b.masses c) in
-        let xs = map read (all_cells p) in
-        let size : length xs ≡ p.cells = length-map (all_cells p) read ∙ length-range_with_len 0 p.cells in
-        fill_by_all (λ c. f c (mass_left p q c)) xs p.cells (f 0 0) size (λ c lt.
-        get_or-map-range_with_len read 0 p.cells c c (f 0 0) lt (omega arith) ∙ rw (left_at c lt) refl)
+  period_is : b.period ≡ length q
+  period_is = sym belief.periods ∙ length-map q Some
+
+  -- the parts to come make a mass of the belief one of the period
+  pub mass_times : (c : ℕ) → c < p.cells → slice_index b.masses c * later_of ≡ mass_in p q b.period c
+  mass_times c lt =
+      let law = masses_by_belief p sound q b.period c belief.first (omega (arith, period_is)) belief.last lt in
+      let whole : take b.period q ≡ q = take_all b.period q (omega (arith, period_is)) in
+      rw (mass_at p (map Some q) b belief c lt) (sym (rw (whole, mul-pow p.drift.denominator p.sweep.denominator (p.horizon - b.period)) at law))
+
+  pub mass_times-part : (c : ℕ) → c < p.cells → slice_index b.masses c * later_of ≤ whole_weight p
+  mass_times-part c lt = rw (mass_times c lt) (mass_part p sound q b.period c belief.first belief.last lt)
+
+  -- what is made of each cell and its mass, by the belief's masses
+  pub by_masses : {X : Type 0} (f : ℕ → ℕ → X) → map (λ c. f c (slice_index b.masses c * later_of)) (all_cells p) ≡ map (λ c. f c (mass_in p q b.period c)) (all_cells p)
+  by_masses f = same_below (λ c. f c (slice_index b.masses c * later_of)) (λ c. f c (mass_in p q b.period c)) p.cells (λ c lt. ap (f c) (mass_times c lt))
+
+  -- and in the last period, by these alone
+  pub by_last_masses : {X : Type 0} (f : ℕ → ℕ → X) → IsPath p q → map (λ c. f c (slice_index b.masses c)) (all_cells p) ≡ map (λ c. f c (mass_left p q c)) (all_cells p)
+  by_last_masses f path =
+      let end : b.period ≡ p.horizon = period_is ∙ path.whole in
+      let none : p.horizon - p.horizon ≡ 0 = omega arith in
+      let one : (m : ℕ) → m * (p.drift.denominator ^ (p.horizon - p.horizon) * p.sweep.denominator ^ (p.horizon - p.horizon)) ≡ m = λ m. rw (none, pow-zero p.drift.denominator, pow-zero p.sweep.denominator) (omega arith) in
+      same_below (λ c. f c (slice_index b.masses c)) (λ c. f c (mass_left p q c)) p.cells (λ c lt.
+      ap (f c) (sym (one (slice_index b.masses c)) ∙ (rw end at (mass_times c lt))))

@@ -1,19 +1,21 @@
 -- The lines of periods and of cells, one after the other.
-use Rattle.std.proofs.Common.{ℕ, ◌+◌, ◌-◌, ◌<◌, ◌≤◌, ◌≡◌, List, [], ◌∷◌, ◌++◌, map, length, get_or, take, take_all, drop, slice_index, refl, sym, ap, ◌∙◌, arith, zero-add}
-use Rattle.std.specs.List.{range_with_len}
-use Rattle.std.proofs.lemmas.List.{length-map}
+use Rattle.std.proofs.Common.{ℕ, ◌+◌, ◌*◌, ◌-◌, ◌<◌, ◌≤◌, ◌≡◌, List, [], ◌∷◌, ◌++◌, map, length, get_or, take, take_all, drop, slice_index, refl, sym, ap, ◌∙◌, arith, zero-add, append_assoc}
+use Rattle.std.specs.List.{flat_map, range_with_len}
+use Rattle.std.proofs.lemmas.List.{length-map, take_more, take-append-drop}
+use Rattle.std.proofs.lemmas.List.Concat.{flat_map-append}
 use Rattle.std.proofs.lemmas.List.FromFn.{length-range_with_len, get_or-range_with_len, get_or-map-range_with_len}
 use Rattle.text_rows.specs.Rows.{text_of}
-use Rattle.text_rows.proofs.RowLemmas.{stands_at_row, text_of-more}
+use Rattle.text_rows.proofs.RowLemmas.{text_of-append, stands_at_row, text_of-more}
 use Rattle.exact_parts.proofs.AppendLemmas.{Stands, then_more}
+use Rattle.list_laws.proofs.Changed.{flat_map-push}
 use Rattle.search_model.specs.Problem.{Problem}
 use Rattle.search_model.specs.Tracks.{whole_weight}
 use Rattle.mission_report.specs.Account.{value_up_to, values_along}
 use Rattle.mission_report.specs.Report.{period_row, period_of, left_row}
 
--- the line of a cell, by masses
-abbrev pub left_by : Problem → List ℕ → ℕ → List (List ℕ)
-left_by p masses c = left_row p c (slice_index masses c)
+-- the line of a cell, by masses and the parts to come
+abbrev pub left_by : Problem → List ℕ → ℕ → ℕ → List (List ℕ)
+left_by p masses later c = left_row p c (slice_index masses c * later)
 
 -- A line for each of some numbers that follow each other.
 module _ (f : ℕ → List (List ℕ)) (a n : ℕ) where
@@ -41,6 +43,46 @@ module _ (f : ℕ → List (List ℕ)) (a n : ℕ) where
   pub lines_all : (k : ℕ) (old now : List ℕ) → n ≤ k → now ≡ old ++ lines_to k → now ≡ old ++ text_of (map f (range_with_len a n))
   lines_all k old now le e = rw (take_all k (range_with_len a n) (omega (arith, length-range_with_len a n, le))) at e
 
+-- Some lines for each of some numbers that follow each other.
+module _ (g : ℕ → List (List (List ℕ))) (a n : ℕ) where
+  abbrev pub blocks_to : ℕ → List ℕ
+  blocks_to k = text_of (flat_map g (take k (range_with_len a n)))
+
+  blocks_from : ℕ → List ℕ
+  blocks_from k = text_of (flat_map g (drop k (range_with_len a n)))
+
+  blocks_one_more : (k : ℕ) → k < n → blocks_to (k + 1) ≡ blocks_to k ++ text_of (g (a + k))
+  blocks_one_more k lt =
+      let xs = range_with_len a n in
+      let next : get_or xs k 0 ≡ a + k = get_or-range_with_len a n k 0 lt in
+      ap (λ (ys : List ℕ). text_of (flat_map g ys)) (take_more xs k 0 (within g a n k lt))
+      ∙ ap text_of (flat_map-push g (take k xs) (get_or xs k 0))
+      ∙ text_of-append (flat_map g (take k xs)) (g (get_or xs k 0))
+      ∙ ap (λ (d : ℕ). blocks_to k ++ text_of (g d)) next
+
+  blocks_cut : (k : ℕ) → k < n → text_of (flat_map g (range_with_len a n)) ≡ blocks_to k ++ (text_of (g (a + k)) ++ blocks_from (k + 1))
+  unfolding blocks_from
+  blocks_cut k lt =
+      let xs = range_with_len a n in
+      ap (λ (ys : List ℕ). text_of (flat_map g ys)) (sym (take-append-drop (k + 1) xs))
+      ∙ ap text_of (flat_map-append g (take (k + 1) xs) (drop (k + 1) xs))
+      ∙ text_of-append (flat_map g (take (k + 1) xs)) (flat_map g (drop (k + 1) xs))
+      ∙ ap (λ (t : List ℕ). t ++ blocks_from (k + 1)) (blocks_one_more k lt)
+      ∙ append_assoc (blocks_to k) (text_of (g (a + k))) (blocks_from (k + 1))
+
+  -- the lines before those of a number stand
+  pub block_next : (k : ℕ) {old now : List ℕ} → k < n → now ≡ old ++ blocks_to k → Stands old now (text_of (g (a + k)) ++ blocks_from (k + 1)) (text_of (flat_map g (range_with_len a n)))
+  block_next k lt e = record { done = blocks_to k; appended = e; whole = blocks_cut k lt }
+
+  -- those of one number more
+  pub block_more : (k : ℕ) (old mid now : List ℕ) → k < n → mid ≡ old ++ blocks_to k → now ≡ mid ++ text_of (g (a + k)) → now ≡ old ++ blocks_to (k + 1)
+  block_more k old mid now lt e lines =
+      then_more old mid now (blocks_to k) (text_of (g (a + k))) e lines ∙ ap (λ (t : List ℕ). old ++ t) (sym (blocks_one_more k lt))
+
+  -- those of all
+  pub blocks_all : (k : ℕ) (old now : List ℕ) → n ≤ k → now ≡ old ++ blocks_to k → now ≡ old ++ text_of (flat_map g (range_with_len a n))
+  blocks_all k old now le e = rw (take_all k (range_with_len a n) (omega (arith, length-range_with_len a n, le))) at e
+
 -- each period has its value
 pub values_long : (p : Problem) (q values : List ℕ) → values ≡ values_along p q → length values ≡ p.horizon
 values_long p q values e = ap length e ∙ length-map (range_with_len 1 p.horizon) (value_up_to p q) ∙ length-range_with_len 1 p.horizon
@@ -61,5 +103,5 @@ period_line p q looks values i same e lt =
     rw (same, value_at p q values i e lt, t, before) refl
 
 -- the line of a cell, by the mass that is read
-pub left_line : (p : Problem) (masses : List ℕ) (c mass : ℕ) → mass ≡ slice_index masses c → left_row p c mass ≡ left_by p masses (0 + c)
-left_line p masses c mass e = rw (e, zero-add c) refl
+pub left_line : (p : Problem) (masses : List ℕ) (later c mass : ℕ) → mass ≡ slice_index masses c → left_row p c (mass * later) ≡ left_by p masses later (0 + c)
+left_line p masses later c mass e = rw (e, zero-add c) refl

@@ -17,14 +17,23 @@ all_cells p = range_with_len 0 p.cells
 abbrev pub value_up_to : Problem → List ℕ → ℕ → ℕ
 value_up_to p q t = value_of p (take t q)
 
--- the mass that a path leaves in cell c: over the tracks that end in c, weight times miss
-unfoldable pub mass_left : Problem → List ℕ → ℕ → ℕ
-mass_left p q c = sum_by (λ x. weight_of p x * miss_of p q x) (filter (λ x. cell_in x p.horizon == c) (tracks p.cells p.horizon))
+-- the mass of cell c in period t, as far as the looks up to then missed it: over the tracks that stand there then, weight
+-- times miss
+unfoldable pub mass_in : Problem → List ℕ → ℕ → ℕ → ℕ
+mass_in p q t c = sum_by (λ x. weight_of p x * miss_of p (take t q) x) (filter (λ x. cell_in x t == c) (tracks p.cells p.horizon))
+
+-- the mass that a path leaves in cell c: its mass in the last period
+abbrev pub mass_left : Problem → List ℕ → ℕ → ℕ
+mass_left p q c = mass_in p q p.horizon c
 
 -- the values up to each period
 abbrev pub values_along : Problem → List ℕ → List ℕ
 values_along p q = map (value_up_to p q) (all_periods p)
 
+-- the masses of the cells in period t
+abbrev pub masses_in : Problem → List ℕ → ℕ → List ℕ
+masses_in p q t = map (mass_in p q t) (all_cells p)
+
 -- the masses that a path leaves in the cells
 abbrev pub masses_left : Problem → List ℕ → List ℕ
-masses_left p q = map (mass_left p q) (all_cells p)
+masses_left p q = masses_in p q p.horizon

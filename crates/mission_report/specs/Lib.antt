@@ -1,5 +1,6 @@
 pub mod Account
 pub mod Report
+pub mod Map
 pub mod Json
 pub mod Laws
 pub mod Worked

@@ -5,7 +5,7 @@ use Rattle.exact_parts.specs.Percent.{percent_text}
 use Rattle.text_rows.specs.Rows.{text_of}
 use Rattle.search_model.specs.Problem.{Problem, cell_name, position_name}
 use Rattle.search_model.specs.Tracks.{whole_weight, value_of}
-use Rattle.mission_report.specs.Account.{all_periods, all_cells, value_up_to, mass_left}
+use Rattle.mission_report.specs.Account.{all_periods, all_cells, value_up_to, mass_in}
 
 -- the share of the whole weight that a weight is: in percent, cut off after three digits
 abbrev pub share_of : Problem → ℕ → List ℕ
@@ -31,9 +31,13 @@ period_of p q t = period_row p t (slice_index q (t - 1)) (value_up_to p q t)
 abbrev pub period_rows : Problem → List ℕ → List (List (List ℕ))
 period_rows p q = map (period_of p q) (all_periods p)
 
+-- a line for each cell: its mass in period t
+abbrev pub mass_rows : Problem → List ℕ → ℕ → List (List (List ℕ))
+mass_rows p q t = map (λ c. left_row p c (mass_in p q t c)) (all_cells p)
+
 -- a line for each cell: the mass that the path leaves there
 abbrev pub left_rows : Problem → List ℕ → List (List (List ℕ))
-left_rows p q = map (λ c. left_row p c (mass_left p q c)) (all_cells p)
+left_rows p q = mass_rows p q p.horizon
 
 -- the version, the chance, the periods, the cells, and `end`
 abbrev pub report_rows : Problem → List ℕ → List (List (List ℕ))

@@ -4,6 +4,7 @@ use Rattle.search_model.specs.Worked.{two_cells, waiting_longer}
 use Rattle.mission_report.specs.Account.{values_along, masses_left}
 use Rattle.mission_report.specs.Report.{report_text}
 use Rattle.mission_report.specs.Json.{report_json}
+use Rattle.mission_report.specs.Map.{map_text}
 
 -- two looks at the first of two cells find 12 of 16, and what is left stands in the other one
 pub record WorkedReport : Type 0 where
@@ -24,3 +25,22 @@ pub record WorkedReport : Type 0 where
 pub record WorkedWaiting : Type 0 where
   pub values : values_along waiting_longer (2 ∷ 2 ∷ 2 ∷ []) ≡ 4 ∷ 6 ∷ 7 ∷ []
   pub left : masses_left waiting_longer (2 ∷ 2 ∷ 2 ∷ []) ≡ 0 ∷ 0 ∷ 1 ∷ []
+
+-- of two cells that are alike, a look at the first leaves the target in the other one; then it may drift back, and a second
+-- look finds it there
+pub record WorkedMap : Type 0 where
+  pub one : map_text two_cells (0 ∷ [])
+      ≡ codes "map 1\n"
+      ++ (codes "period 1 a\n"
+      ++ (codes "left a 0 0.000\n"
+      ++ (codes "left b 8 50.000\n"
+      ++ codes "end\n")))
+  pub two : map_text two_cells (0 ∷ 1 ∷ [])
+      ≡ codes "map 1\n"
+      ++ (codes "period 1 a\n"
+      ++ (codes "left a 0 0.000\n"
+      ++ (codes "left b 8 50.000\n"
+      ++ (codes "period 2 b\n"
+      ++ (codes "left a 4 25.000\n"
+      ++ (codes "left b 0 0.000\n"
+      ++ codes "end\n"))))))

@@ -1,16 +1,17 @@
 //! The report as text.
 
-ghost use Rattle.std.specs.Prelude.{◌≡◌, ◌≤◌, ◌<◌, ◌++◌, ◌∷◌, [], length, map, slice_index, All, OnOk, OnErr};
+ghost use Rattle.std.specs.Prelude.{◌≡◌, ◌≤◌, ◌<◌, ◌++◌, ◌∷◌, [], ℕ, List, Some, map, OnOk, OnErr};
 ghost use Rattle.exact_parts.specs.Appending.{AppendsFront};
 ghost use Rattle.text_rows.specs.Rows.{text_of};
 ghost use Rattle.search_model.specs.Legal.{IsPath};
 ghost use Rattle.search_model.specs.Tracks.{whole_weight};
-ghost use Rattle.mission_report.specs.Account.{all_cells, values_along};
-ghost use Rattle.mission_report.specs.Report.{chance_row, period_row, period_rows, left_row, report_text};
+ghost use Rattle.belief_update.specs.Belief.{IsBelief};
+ghost use Rattle.mission_report.specs.Account.{values_along};
+ghost use Rattle.mission_report.specs.Report.{chance_row, period_row, period_rows, left_row, mass_rows, report_text};
 
 use crate::course::{follow, value_after};
 use crate::lines::{Field, push_line};
-use belief_update::Belief;
+use belief_update::{Belief, later_parts};
 use exact_parts::NoMemory;
 use search_model::{Path, Scenario};
 
@@ -96,17 +97,17 @@ fn push_periods(
     Ok(())
 }
 
-// Appends a line for each cell, by the masses of a belief.
-fn push_masses(out: &mut Vec<u8>, sc: &Scenario, belief: &Belief) -> Result<(), NoMemory>
-    requires cells { length belief.now.masses ≡ sc.now.cells }
-    requires parts { All (λ mass. mass ≤ whole_weight sc.now) belief.now.masses }
-    ensures ok { OnOk result (out.new.items ≡ out.old.items ++
-        text_of (map (λ c. left_row sc.now c (slice_index belief.now.masses c)) (all_cells sc.now))) }
-    ensures err { OnErr result (AppendsFront out.old.items out.new.items
-        (text_of (map (λ c. left_row sc.now c (slice_index belief.now.masses c)) (all_cells sc.now)))) }
+/// Appends a line for each cell: its mass in the belief's period, by the belief after the looks up to then.
+pub fn push_masses(out: &mut Vec<u8>, sc: &Scenario, belief: &Belief) -> Result<(), NoMemory>
+    requires { (q : List ℕ) × IsBelief sc.now (map Some q) belief.now }
+    ensures ok { OnOk result ((q : List ℕ) → IsBelief sc.now (map Some q) belief.now →
+        out.new.items ≡ out.old.items ++ text_of (mass_rows sc.now q belief.now.period)) }
+    ensures err { OnErr result ((q : List ℕ) → IsBelief sc.now (map Some q) belief.now →
+        AppendsFront out.old.items out.new.items (text_of (mass_rows sc.now q belief.now.period))) }
 {
+    let later = later_parts(sc, belief.period(), belief.period());
     for c in 0..sc.cells() {
-        push_left(out, sc, c, belief.at(c))?;
+        push_left(out, sc, c, belief.at(c) * later)?;
     }
     Ok(())
 }

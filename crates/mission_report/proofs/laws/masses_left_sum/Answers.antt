@@ -1,4 +1,4 @@
-use Rattle.mission_report.proofs.Left.{left_is_missed, found_and_left}
+use Rattle.mission_report.proofs.PeriodMasses.{left_is_missed, found_and_left}
 use Rattle.mission_report.proofs.laws.masses_left_sum.Goals as goal
 
 pub returns-clause-missed : goal.returns-clause-missed

@@ -1,23 +1,29 @@
-use Rattle.std.proofs.Common.{arith}
-use Rattle.exact_parts.proofs.AppendLemmas.{stands_stopped, at_refusal}
-use Rattle.mission_report.specs.Report.{left_row}
-use Rattle.mission_report.proofs.RowSteps.{left_by, left_line, line_next, line_more, lines_all}
+use Rattle.std.proofs.Common.{rules, ◌≡◌, ◌≤◌, ◌<◌, ◌++◌, ◌∷◌, [], ℕ, List, Some, map, OnOk, OnErr, ◌+◌, ◌-◌, ◌*◌, length, ◌/◌, ◌%◌, Bool, true, false, nat_eq, nat_lt, slice_index_or, slice_set, bit_and, bit_or, Fits, w8, w32, w64, Bor, MutBor}
+use Rattle.exact_parts.specs.Appending.{AppendsFront}
+use Rattle.text_rows.specs.Rows.{text_of}
+use Rattle.search_model.specs.Legal.{IsPath}
+use Rattle.search_model.specs.Tracks.{whole_weight}
+use Rattle.belief_update.specs.Belief.{IsBelief}
+use Rattle.mission_report.specs.Account.{values_along}
+use Rattle.mission_report.specs.Report.{chance_row, period_row, period_rows, left_row, mass_rows, report_text}
 use Rattle.mission_report.proofs.report.push_masses.Goals as goal
 
+-- src/report.rt:110:31
+pub overflow_mul-at : goal.overflow_mul-at
+overflow_mul-at c = ?
+
+-- src/report.rt:110:9
+pub push_left-requires-clause-mass : goal.push_left-requires-clause-mass
+push_left-requires-clause-mass c = ?
+
+-- src/report.rt:110:9
 pub returns-in_err-push_left-clause-err : goal.returns-in_err-push_left-clause-err
-returns-in_err-push_left-clause-err c =
-    let p = c.args.sc.now in
-    let masses = c.args.belief.now.masses in
-    let before = line_next (left_by p masses) 0 p.cells c.loop-c.c (left_row p c.loop-c.c c.at.result) (omega (arith, c.loop-c-test.true, c.cells-c-end.ensures.value)) (left_line p masses c.loop-c.c c.at.result c.at.ensures) c.loop-c.invariant in
-    at_refusal _ _ (stands_stopped _ _ before c.in_err-push_left.ensures.err)
+returns-in_err-push_left-clause-err c = ?
 
+-- src/report.rt:109:5
 pub loop-c-preserved : goal.loop-c-preserved
-loop-c-preserved c =
-    let p = c.args.sc.now in
-    let masses = c.args.belief.now.masses in
-    line_more (left_by p masses) 0 p.cells c.loop-c.c (left_row p c.loop-c.c c.at.result) _ _ _ (omega (arith, c.loop-c-test.true, c.cells-c-end.ensures.value)) (left_line p masses c.loop-c.c c.at.result c.at.ensures) c.loop-c.invariant c.in_ok-push_left.ensures.ok
+loop-c-preserved c = ?
 
+-- src/report.rt:101:1
 pub returns-clause-ok : goal.returns-clause-ok
-returns-clause-ok c =
-    let p = c.args.sc.now in
-    lines_all (left_by p c.args.belief.now.masses) 0 p.cells c.loop-c.c _ _ (omega (arith, c.loop-c-test.false, c.cells-c-end.ensures.value)) c.loop-c.invariant
+returns-clause-ok c = ?

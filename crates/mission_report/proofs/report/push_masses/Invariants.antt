@@ -5,4 +5,4 @@ use Rattle.mission_report.proofs.RowSteps.{left_by}
 use Rattle.mission_report.proofs.report.push_masses.Given as goal
 
 abbrev pub invariant-loop-c : goal.invariant-loop-c
-invariant-loop-c l = l.out.items ≡ l.fn.out.items ++ text_of (map (left_by l.sc l.belief.masses) (take l.c (all_cells l.sc)))
+invariant-loop-c l = l.out.items ≡ l.fn.out.items ++ text_of (map (left_by l.sc l.belief.masses l.later) (take l.c (all_cells l.sc)))
