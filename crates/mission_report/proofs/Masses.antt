@@ -15,6 +15,7 @@ use Rattle.belief_update.specs.Belief.{BeliefState, IsBelief}
 use Rattle.belief_update.proofs.BeliefSteps.{mass_at}
 use Rattle.mission_report.specs.Account.{all_cells, mass_in, mass_left}
 use Rattle.mission_report.specs.Report.{left_row, mass_rows}
+use Rattle.mission_report.proofs.RowSteps.{left_by}
 use Rattle.mission_report.proofs.PeriodMasses.{masses_are_missed, masses_by_belief, mass_in-front}
 
 -- what is made of the numbers below n alike is alike
@@ -32,31 +33,41 @@ mass_part p sound q t c some last lt =
 pub mass_rows-front : (p : Problem) (q : List ℕ) (t : ℕ) → mass_rows p (take t q) t ≡ mass_rows p q t
 mass_rows-front p q t = same_below (λ c. left_row p c (mass_in p (take t q) t c)) (λ c. left_row p c (mass_in p q t c)) p.cells (λ c lt. ap (left_row p c) (mass_in-front p q t c))
 
+-- the belief after the looks of a prefix is in the period of the last one
+pub period_is : (p : Problem) (q : List ℕ) (b : BeliefState) → IsBelief p (map Some q) b → b.period ≡ length q
+period_is p q b belief = sym belief.periods ∙ length-map q Some
+
+pub last_is : (p : Problem) (q : List ℕ) (b : BeliefState) → IsPath p q → IsBelief p (map Some q) b → b.period ≡ p.horizon
+last_is p q b path belief = period_is p q b belief ∙ path.whole
+
 module _ (p : Problem) (sound : IsProblem p) (q : List ℕ) (b : BeliefState) (belief : IsBelief p (map Some q) b) where
   abbrev later_of : ℕ
   later_of = p.drift.denominator ^ (p.horizon - b.period) * p.sweep.denominator ^ (p.horizon - b.period)
 
-  period_is : b.period ≡ length q
-  period_is = sym belief.periods ∙ length-map q Some
+  here : b.period ≡ length q
+  here = period_is p q b belief
 
   -- the parts to come make a mass of the belief one of the period
   pub mass_times : (c : ℕ) → c < p.cells → slice_index b.masses c * later_of ≡ mass_in p q b.period c
   mass_times c lt =
-      let law = masses_by_belief p sound q b.period c belief.first (omega (arith, period_is)) belief.last lt in
-      let whole : take b.period q ≡ q = take_all b.period q (omega (arith, period_is)) in
+      let law = masses_by_belief p sound q b.period c belief.first (omega (arith, here)) belief.last lt in
+      let whole : take b.period q ≡ q = take_all b.period q (omega (arith, here)) in
       rw (mass_at p (map Some q) b belief c lt) (sym (rw (whole, mul-pow p.drift.denominator p.sweep.denominator (p.horizon - b.period)) at law))
 
-  pub mass_times-part : (c : ℕ) → c < p.cells → slice_index b.masses c * later_of ≤ whole_weight p
-  mass_times-part c lt = rw (mass_times c lt) (mass_part p sound q b.period c belief.first belief.last lt)
+  pub mass_times-part : (c later : ℕ) → later ≡ later_of → c < p.cells → slice_index b.masses c * later ≤ whole_weight p
+  mass_times-part c later e lt = rw (e, mass_times c lt) (mass_part p sound q b.period c belief.first belief.last lt)
 
-  -- what is made of each cell and its mass, by the belief's masses
-  pub by_masses : {X : Type 0} (f : ℕ → ℕ → X) → map (λ c. f c (slice_index b.masses c * later_of)) (all_cells p) ≡ map (λ c. f c (mass_in p q b.period c)) (all_cells p)
-  by_masses f = same_below (λ c. f c (slice_index b.masses c * later_of)) (λ c. f c (mass_in p q b.period c)) p.cells (λ c lt. ap (f c) (mass_times c lt))
+  -- the lines of the cells, by the belief's masses
+  pub mass_lines : (later : ℕ) → later ≡ later_of → map (left_by p b.masses later) (all_cells p) ≡ mass_rows p q b.period
+  mass_lines later e =
+      same_below (left_by p b.masses later) (λ c. left_row p c (mass_in p q b.period c)) p.cells (λ c lt.
+      let mass : slice_index b.masses c * later ≡ mass_in p q b.period c = rw e (mass_times c lt) in
+      ap (left_row p c) mass)
 
-  -- and in the last period, by these alone
+  -- what is made of each cell and the mass that a path leaves there, by the belief's masses alone
   pub by_last_masses : {X : Type 0} (f : ℕ → ℕ → X) → IsPath p q → map (λ c. f c (slice_index b.masses c)) (all_cells p) ≡ map (λ c. f c (mass_left p q c)) (all_cells p)
   by_last_masses f path =
-      let end : b.period ≡ p.horizon = period_is ∙ path.whole in
+      let end = last_is p q b path belief in
       let none : p.horizon - p.horizon ≡ 0 = omega arith in
       let one : (m : ℕ) → m * (p.drift.denominator ^ (p.horizon - p.horizon) * p.sweep.denominator ^ (p.horizon - p.horizon)) ≡ m = λ m. rw (none, pow-zero p.drift.denominator, pow-zero p.sweep.denominator) (omega arith) in
       same_below (λ c. f c (slice_index b.masses c)) (λ c. f c (mass_left p q c)) p.cells (λ c lt.

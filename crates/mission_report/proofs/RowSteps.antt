@@ -48,20 +48,19 @@ module _ (g : ℕ → List (List (List ℕ))) (a n : ℕ) where
   abbrev pub blocks_to : ℕ → List ℕ
   blocks_to k = text_of (flat_map g (take k (range_with_len a n)))
 
-  blocks_from : ℕ → List ℕ
+  abbrev pub blocks_from : ℕ → List ℕ
   blocks_from k = text_of (flat_map g (drop k (range_with_len a n)))
 
   blocks_one_more : (k : ℕ) → k < n → blocks_to (k + 1) ≡ blocks_to k ++ text_of (g (a + k))
   blocks_one_more k lt =
       let xs = range_with_len a n in
       let next : get_or xs k 0 ≡ a + k = get_or-range_with_len a n k 0 lt in
-      ap (λ (ys : List ℕ). text_of (flat_map g ys)) (take_more xs k 0 (within g a n k lt))
+      ap (λ (ys : List ℕ). text_of (flat_map g ys)) (take_more xs k 0 (omega (arith, length-range_with_len a n, lt)))
       ∙ ap text_of (flat_map-push g (take k xs) (get_or xs k 0))
       ∙ text_of-append (flat_map g (take k xs)) (g (get_or xs k 0))
       ∙ ap (λ (d : ℕ). blocks_to k ++ text_of (g d)) next
 
   blocks_cut : (k : ℕ) → k < n → text_of (flat_map g (range_with_len a n)) ≡ blocks_to k ++ (text_of (g (a + k)) ++ blocks_from (k + 1))
-  unfolding blocks_from
   blocks_cut k lt =
       let xs = range_with_len a n in
       ap (λ (ys : List ℕ). text_of (flat_map g ys)) (sym (take-append-drop (k + 1) xs))

@@ -105,7 +105,8 @@ pub fn push_masses(out: &mut Vec<u8>, sc: &Scenario, belief: &Belief) -> Result<
     ensures err { OnErr result ((q : List ℕ) → IsBelief sc.now (map Some q) belief.now →
         AppendsFront out.old.items out.new.items (text_of (mass_rows sc.now q belief.now.period))) }
 {
-    let later = later_parts(sc, belief.period(), belief.period());
+    let t = belief.period();
+    let later = later_parts(sc, t, t);
     for c in 0..sc.cells() {
         push_left(out, sc, c, belief.at(c) * later)?;
     }

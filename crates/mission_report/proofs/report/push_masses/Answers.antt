@@ -1,29 +1,51 @@
-use Rattle.std.proofs.Common.{rules, ◌≡◌, ◌≤◌, ◌<◌, ◌++◌, ◌∷◌, [], ℕ, List, Some, map, OnOk, OnErr, ◌+◌, ◌-◌, ◌*◌, length, ◌/◌, ◌%◌, Bool, true, false, nat_eq, nat_lt, slice_index_or, slice_set, bit_and, bit_or, Fits, w8, w32, w64, Bor, MutBor}
+use Rattle.std.proofs.Common.{ℕ, ◌*◌, ◌<◌, ◌≤◌, ◌≡◌, List, Some, map, slice_index, arith}
 use Rattle.exact_parts.specs.Appending.{AppendsFront}
+use Rattle.exact_parts.proofs.AppendLemmas.{stands_stopped, at_refusal}
 use Rattle.text_rows.specs.Rows.{text_of}
-use Rattle.search_model.specs.Legal.{IsPath}
 use Rattle.search_model.specs.Tracks.{whole_weight}
+use Rattle.search_model.proofs.Totals.{whole_weight-fits}
 use Rattle.belief_update.specs.Belief.{IsBelief}
-use Rattle.mission_report.specs.Account.{values_along}
-use Rattle.mission_report.specs.Report.{chance_row, period_row, period_rows, left_row, mass_rows, report_text}
+use Rattle.mission_report.specs.Report.{left_row, mass_rows}
+use Rattle.mission_report.proofs.Masses.{mass_times-part, mass_lines}
+use Rattle.mission_report.proofs.RowSteps.{left_by, left_line, line_next, line_more, lines_all}
 use Rattle.mission_report.proofs.report.push_masses.Goals as goal
 
--- src/report.rt:110:31
+-- a cell's mass in the period is a part of the whole weight
+part : (c : goal.After-at) → c.at.result * c.later_parts-later.result ≤ whole_weight c.args.sc.now
+part c =
+    let here : c.loop-c.c < c.args.sc.now.cells = omega (arith, c.loop-c-test.true, c.cells-c-end.ensures.value) in
+    let mass : c.at.result ≡ slice_index c.args.belief.now.masses c.loop-c.c = c.at.ensures in
+    rw mass (mass_times-part c.args.sc.now c.cells-c-end.ensures.sound c.requires.0 c.args.belief.now c.requires.1 c.loop-c.c c.later_parts-later.result (rw c.period-t.ensures at c.later_parts-later.ensures) here)
+
 pub overflow_mul-at : goal.overflow_mul-at
-overflow_mul-at c = ?
+overflow_mul-at c = omega (arith, part c, whole_weight-fits c.args.sc.now c.cells-c-end.ensures.sound)
 
--- src/report.rt:110:9
 pub push_left-requires-clause-mass : goal.push_left-requires-clause-mass
-push_left-requires-clause-mass c = ?
+push_left-requires-clause-mass c = part c
 
--- src/report.rt:110:9
 pub returns-in_err-push_left-clause-err : goal.returns-in_err-push_left-clause-err
-returns-in_err-push_left-clause-err c = ?
+returns-in_err-push_left-clause-err c =
+    let p = c.args.sc.now in
+    let belief = c.args.belief.now in
+    let later = c.later_parts-later.result in
+    let here : c.loop-c.c < p.cells = omega (arith, c.loop-c-test.true, c.cells-c-end.ensures.value) in
+    let before = line_next (left_by p belief.masses later) 0 p.cells c.loop-c.c (left_row p c.loop-c.c (c.at.result * later)) here (left_line p belief.masses later c.loop-c.c c.at.result c.at.ensures) c.loop-c.invariant in
+    let told : (q : List ℕ) → IsBelief p (map Some q) belief → AppendsFront c.args.out.now.items c.push_left.new.out.items (text_of (mass_rows p q belief.period)) = λ q is.
+    rw (mass_lines p c.cells-c-end.ensures.sound q belief is later (rw c.period-t.ensures at c.later_parts-later.ensures)) at (stands_stopped _ _ before c.in_err-push_left.ensures.err) in
+    at_refusal _ _ told
 
--- src/report.rt:109:5
 pub loop-c-preserved : goal.loop-c-preserved
-loop-c-preserved c = ?
+loop-c-preserved c =
+    let p = c.args.sc.now in
+    let masses = c.args.belief.now.masses in
+    let later = c.later_parts-later.result in
+    let here : c.loop-c.c < p.cells = omega (arith, c.loop-c-test.true, c.cells-c-end.ensures.value) in
+    line_more (left_by p masses later) 0 p.cells c.loop-c.c (left_row p c.loop-c.c (c.at.result * later)) _ _ _ here (left_line p masses later c.loop-c.c c.at.result c.at.ensures) c.loop-c.invariant c.in_ok-push_left.ensures.ok
 
--- src/report.rt:101:1
 pub returns-clause-ok : goal.returns-clause-ok
-returns-clause-ok c = ?
+returns-clause-ok c q is =
+    let p = c.args.sc.now in
+    let belief = c.args.belief.now in
+    let later = c.later_parts-later.result in
+    let all : p.cells ≤ c.loop-c.c = omega (arith, c.loop-c-test.false, c.cells-c-end.ensures.value) in
+    rw (mass_lines p c.cells-c-end.ensures.sound q belief is later (rw c.period-t.ensures at c.later_parts-later.ensures)) at (lines_all (left_by p belief.masses later) 0 p.cells c.loop-c.c _ _ all c.loop-c.invariant)
