@@ -1,22 +1,21 @@
 -- A path, one look after the other.
 use Rattle.std.proofs.Common.{ℕ, ◌+◌, ◌<◌, ◌≡◌, List, [], ◌∷◌, ◌++◌, Some, map, take, length, slice_index, refl, ap, ◌∙◌, arith, add-one}
-use Rattle.std.specs.Prelude.{All}
 use Rattle.std.specs.List.{range_with_len}
 use Rattle.std.proofs.lemmas.List.{map_push, take_all, take_more}
 use Rattle.search_model.specs.Problem.{Problem, IsProblem}
-use Rattle.search_model.specs.Legal.{IsPath}
+use Rattle.search_model.specs.Legal.{Follows, IsPath}
 use Rattle.search_model.specs.Tracks.{value_of}
 use Rattle.search_model.proofs.PlainSteps.{positions_follow}
 use Rattle.list_laws.proofs.Ranges.{range_with_len-suc}
 use Rattle.belief_update.specs.Belief.{BeliefState, IsBelief}
 use Rattle.mission_report.specs.Account.{value_up_to}
 
--- each look of a path is from a position
-pub all_positions : (p : Problem) → IsProblem p → (q : List ℕ) → IsPath p q → All (λ a. a < p.positions) q
-all_positions p sound q path = positions_follow p sound p.start (omega (arith, sound.start, sound.grid_positions)) q path.follows
+-- each look along the moves is from a position
+pub position_in : (p : Problem) → IsProblem p → (q : List ℕ) → Follows p.moves p.start q → (t : ℕ) → t < length q → slice_index q t < p.positions
+position_in p sound q follows t lt = positions_follow p sound p.start (omega (arith, sound.start, sound.grid_positions)) q follows t 0 lt
 
 pub position_at : (p : Problem) → IsProblem p → (q : List ℕ) → IsPath p q → (t : ℕ) → t < p.horizon → slice_index q t < p.positions
-position_at p sound q path t lt = all_positions p sound q path t 0 (omega (arith, path.whole))
+position_at p sound q path t lt = position_in p sound q path.follows t (omega (arith, path.whole))
 
 -- the belief after one look more
 pub belief_next : (p : Problem) (q : List ℕ) (t : ℕ) (b : BeliefState) → t < length q → IsBelief p (map Some (take t q ++ slice_index q t ∷ [])) b → IsBelief p (map Some (take (t + 1) q)) b

@@ -10,3 +10,4 @@ pub mod TextParts
 pub mod Names
 pub mod Entries
 pub mod JsonText
+pub mod MapSteps

@@ -1,6 +1,6 @@
 //! The map of a prefix: where the target may be in each of its periods.
 
-ghost use Rattle.std.specs.Prelude.{◌≡◌, ◌≤◌, ◌<◌, ◌++◌, ◌∷◌, ℕ, List, Some, map, length, OnOk, OnErr};
+ghost use Rattle.std.specs.Prelude.{◌≡◌, ◌≤◌, ◌<◌, ◌++◌, ◌∷◌, [], ℕ, List, Some, map, length, OnOk, OnErr};
 ghost use Rattle.exact_parts.specs.Appending.{AppendsFront};
 ghost use Rattle.text_rows.specs.Rows.{text_of};
 ghost use Rattle.search_model.specs.Legal.{IsLegal};
@@ -14,6 +14,22 @@ use crate::report::push_masses;
 use belief_update::{Belief, Trail};
 use exact_parts::NoMemory;
 use search_model::{Path, Scenario};
+
+// Appends the line of a period: the position that is looked from.
+fn push_looked(out: &mut Vec<u8>, sc: &Scenario, t: u32, position: u8) -> Result<(), NoMemory>
+    requires { position < sc.now.positions }
+    ensures ok { OnOk result (out.new.items ≡ out.old.items ++ text_of (looked_row sc.now t position ∷ [])) }
+    ensures err { OnErr result (AppendsFront out.old.items out.new.items (text_of (looked_row sc.now t position ∷ []))) }
+{
+    push_line(
+        out,
+        b"period",
+        &[
+            Field::Number(u128::from(t)),
+            Field::Word(sc.position(position).bytes()),
+        ],
+    )
+}
 
 // Appends what a map says of a period, by the belief after its look: the position looked from, and the mass of each cell.
 fn push_look(
@@ -31,14 +47,7 @@ fn push_look(
         AppendsFront out.old.items out.new.items
         (text_of (looked_row sc.now belief.now.period position ∷ mass_rows sc.now q belief.now.period))) }
 {
-    push_line(
-        out,
-        b"period",
-        &[
-            Field::Number(u128::from(belief.period())),
-            Field::Word(sc.position(position).bytes()),
-        ],
-    )?;
+    push_looked(out, sc, belief.period(), position)?;
     push_masses(out, sc, belief)
 }
 

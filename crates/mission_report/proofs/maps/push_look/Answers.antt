@@ -1,21 +1,22 @@
-use Rattle.std.proofs.Common.{rules, ◌≡◌, ◌≤◌, ◌<◌, ◌++◌, ◌∷◌, ℕ, List, Some, map, length, OnOk, OnErr, ◌+◌, ◌-◌, ◌*◌, ◌/◌, ◌%◌, Bool, true, false, nat_eq, nat_lt, [], slice_index_or, slice_set, bit_and, bit_or, Fits, w8, w32, w64, Bor, MutBor}
+use Rattle.std.proofs.Common.{ℕ, List, Some, map}
 use Rattle.exact_parts.specs.Appending.{AppendsFront}
-use Rattle.text_rows.specs.Rows.{text_of}
-use Rattle.search_model.specs.Legal.{IsLegal}
+use Rattle.exact_parts.proofs.AppendLemmas.{at_refusal}
 use Rattle.belief_update.specs.Belief.{IsBelief}
-use Rattle.belief_update.specs.Trails.{IsTrailOf}
-use Rattle.mission_report.specs.Report.{mass_rows}
-use Rattle.mission_report.specs.Map.{looked_row, period_blocks, map_text}
+use Rattle.mission_report.proofs.TextParts.{block_text, block_stopped, block_done, block_cut}
 use Rattle.mission_report.proofs.maps.push_look.Goals as goal
 
--- src/maps.rt:34:5
-pub returns-in_err-push_line-clause-err : goal.returns-in_err-push_line-clause-err
-returns-in_err-push_line-clause-err c = ?
+pub returns-in_err-push_looked-clause-err : goal.returns-in_err-push_looked-clause-err
+returns-in_err-push_looked-clause-err c =
+    let p = c.args.sc.now in
+    let t = c.args.belief.now.period in
+    let line = rw c.period.ensures at c.in_err-push_looked.ensures.err in
+    let told : (q : List ℕ) → IsBelief p (map Some q) c.args.belief.now → AppendsFront c.args.out.now.items c.push_looked.new.out.items (block_text p q t c.args.position) = λ q is. block_stopped p q t c.args.position _ _ line in
+    at_refusal _ _ told
 
--- src/maps.rt:19:1
 pub returns-clause-ok : goal.returns-clause-ok
-returns-clause-ok c = ?
+returns-clause-ok c =
+    block_done c.args.sc.now c.args.belief.now c.args.belief.now.period c.args.position _ _ _ (rw c.period.ensures at c.in_ok-push_looked.ensures.ok) c.push_masses.result c.push_masses.ensures.ok
 
--- src/maps.rt:19:1
 pub returns-clause-err : goal.returns-clause-err
-returns-clause-err c = ?
+returns-clause-err c =
+    block_cut c.args.sc.now c.args.belief.now c.args.belief.now.period c.args.position _ _ _ (rw c.period.ensures at c.in_ok-push_looked.ensures.ok) c.push_masses.result c.push_masses.ensures.err
