@@ -1,5 +1,5 @@
 -- The belief after the looks of a prefix has the masses of its period, but for the parts to come.
-use Rattle.std.proofs.Common.{ℕ, ◌+◌, ◌*◌, ◌-◌, ◌^◌, ◌<◌, ◌≤◌, ◌≡◌, List, Some, map, take, length, slice_index, sym, ap, ◌∙◌, arith}
+use Rattle.std.proofs.Common.{ℕ, ◌*◌, ◌-◌, ◌^◌, ◌<◌, ◌≤◌, ◌≡◌, List, Some, map, take, length, slice_index, sym, ap, ◌∙◌, arith}
 use Rattle.std.specs.List.{range_with_len}
 use Rattle.std.proofs.lemmas.Nat.{mul-pow}
 use Rattle.std.proofs.Math.Nat.{pow-zero}

@@ -52,12 +52,7 @@ fn push_look(
 }
 
 // Appends what a map says of each period, by the beliefs along the prefix.
-fn push_looks(
-    out: &mut Vec<u8>,
-    sc: &Scenario,
-    flown: &Path,
-    trail: &Trail,
-) -> Result<(), NoMemory>
+fn push_looks(out: &mut Vec<u8>, sc: &Scenario, flown: &Path, trail: &Trail) -> Result<(), NoMemory>
     requires legal { IsLegal sc.now flown.now }
     requires trail { IsTrailOf sc.now trail.now }
     requires prefix { trail.now.prefix ≡ flown.now }

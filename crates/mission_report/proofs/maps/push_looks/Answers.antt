@@ -1,4 +1,4 @@
-use Rattle.std.proofs.Common.{ℕ, ◌+◌, ◌<◌, ◌≤◌, ◌≡◌, List, ◌∷◌, ◌++◌, length, take, slice_index, subst, ap, ◌∙◌, arith}
+use Rattle.std.proofs.Common.{ℕ, ◌+◌, ◌<◌, ◌≤◌, ◌≡◌, List, ◌++◌, length, take, subst, ap, ◌∙◌, arith}
 use Rattle.exact_parts.specs.Appending.{AppendsFront}
 use Rattle.exact_parts.proofs.AppendLemmas.{stands_stopped, at_refusal}
 use Rattle.text_rows.specs.Rows.{text_of}
