@@ -3,7 +3,7 @@ ghost use Rattle.search_model.specs.Legal.{IsLegal};
 
 use crate::reports::reports;
 use crate::scenario_texts::read;
-use mission_report::push_map;
+use residual_plan::push_map;
 use search_model::{Path, Scenario};
 use std::alloc::Global;
 use std::test::Fail;
