@@ -7,7 +7,8 @@ use Rattle.belief_update.specs.Trails.{IsAfter}
 use Rattle.belief_update.proofs.Looks.{looks_to-some}
 use Rattle.mission_report.specs.Report.{mass_rows}
 use Rattle.mission_report.specs.Map.{looked_row, period_block}
-use Rattle.mission_report.proofs.Masses.{period_is, mass_rows-front}
+use Rattle.mission_report.proofs.Values.{period_is}
+use Rattle.mission_report.proofs.Masses.{mass_rows-front}
 
 -- the belief after a look of a prefix has a look in each period so far
 pub after_look : (p : Problem) (q prefix : List ℕ) (i : ℕ) (b : BeliefState) → prefix ≡ q → i < length q → IsAfter p (take (i + 1) prefix) b → IsBelief p (map Some (take (i + 1) q)) b

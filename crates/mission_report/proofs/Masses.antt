@@ -16,6 +16,7 @@ use Rattle.belief_update.proofs.BeliefSteps.{mass_at}
 use Rattle.mission_report.specs.Account.{all_cells, mass_in, mass_left}
 use Rattle.mission_report.specs.Report.{left_row, mass_rows}
 use Rattle.mission_report.proofs.RowSteps.{left_by}
+use Rattle.mission_report.proofs.Values.{period_is, last_is}
 use Rattle.mission_report.proofs.PeriodMasses.{masses_are_missed, masses_by_belief, mass_in-front}
 
 -- what is made of the numbers below n alike is alike
@@ -32,13 +33,6 @@ mass_part p sound q t c some last lt =
 -- the lines of a period's cells are those of the prefix up to then
 pub mass_rows-front : (p : Problem) (q : List ℕ) (t : ℕ) → mass_rows p (take t q) t ≡ mass_rows p q t
 mass_rows-front p q t = same_below (λ c. left_row p c (mass_in p (take t q) t c)) (λ c. left_row p c (mass_in p q t c)) p.cells (λ c lt. ap (left_row p c) (mass_in-front p q t c))
-
--- the belief after the looks of a prefix is in the period of the last one
-pub period_is : (p : Problem) (q : List ℕ) (b : BeliefState) → IsBelief p (map Some q) b → b.period ≡ length q
-period_is p q b belief = sym belief.periods ∙ length-map q Some
-
-pub last_is : (p : Problem) (q : List ℕ) (b : BeliefState) → IsPath p q → IsBelief p (map Some q) b → b.period ≡ p.horizon
-last_is p q b path belief = period_is p q b belief ∙ path.whole
 
 module _ (p : Problem) (sound : IsProblem p) (q : List ℕ) (b : BeliefState) (belief : IsBelief p (map Some q) b) where
   abbrev later_of : ℕ

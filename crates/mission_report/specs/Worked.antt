@@ -26,8 +26,8 @@ pub record WorkedWaiting : Type 0 where
   pub values : values_along waiting_longer (2 ∷ 2 ∷ 2 ∷ []) ≡ 4 ∷ 6 ∷ 7 ∷ []
   pub left : masses_left waiting_longer (2 ∷ 2 ∷ 2 ∷ []) ≡ 0 ∷ 0 ∷ 1 ∷ []
 
--- of two cells that are alike, a look at the first leaves the target in the other one; then it may drift back, and a second
--- look finds it there
+-- a look at the first of two cells leaves the target in the other one; half of it drifts back, and a look at the other one
+-- leaves that half
 pub record WorkedMap : Type 0 where
   pub one : map_text two_cells (0 ∷ [])
       ≡ codes "map 1\n"

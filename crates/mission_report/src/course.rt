@@ -6,7 +6,7 @@ ghost use Rattle.search_model.specs.Tracks.{value_of};
 ghost use Rattle.belief_update.specs.Belief.{IsBelief};
 ghost use Rattle.mission_report.specs.Course.{IsCourse};
 
-use belief_update::Belief;
+use belief_update::{Belief, later_parts};
 use exact_parts::NoMemory;
 use search_model::{Path, Scenario};
 use std::alloc::Global;
@@ -25,10 +25,9 @@ pub fn value_after(sc: &Scenario, belief: &Belief) -> u128
     requires { (q : List ℕ) × IsBelief sc.now (map Some q) belief.now }
     ensures { (q : List ℕ) → IsBelief sc.now (map Some q) belief.now → result ≡ value_of sc.now q }
 {
-    // Each period to come counts all parts of its step and of its look.
-    let parts = u128::from(sc.drift().denominator()) * u128::from(sc.sweep().denominator());
-    let later = sc.horizon() - belief.period();
-    sc.weight() - belief.undetected() * parts.pow(later)
+    // There was a look in each period so far.
+    let t = belief.period();
+    sc.weight() - belief.undetected() * later_parts(sc, t, t)
 }
 
 // Looks from a position, in a period that isn't looked at yet, and notes the value of the prefix that ends there.

@@ -1,7 +1,7 @@
 use Rattle.std.proofs.Common.{[], codes, refl}
 use Rattle.std.proofs.lemmas.Result.{on_ok_weaker, on_err_weaker}
 use Rattle.exact_parts.proofs.AppendLemmas.{stands_first, stands_next, stands_last, stands_stopped, at_refusal}
-use Rattle.mission_report.proofs.Masses.{last_is}
+use Rattle.mission_report.proofs.Values.{last_is}
 use Rattle.mission_report.proofs.TextParts.{report_parts}
 use Rattle.mission_report.proofs.report.push_report.Goals as goal
 
