@@ -1,6 +1,7 @@
--- Balanced records in preorder are eaten whole.
-use Rattle.std.proofs.Common.{◌≡◌, ℕ, ◌+◌, ◌<◌, true, false, List, [], ◌∷◌, ◌++◌, map, inl, inr, sym, refl, ap, ◌∙◌, subst, arith, get_or, Contains, All, AllPairs, append_assoc, append-nil}
-use Rattle.std.proofs.lemmas.Bool.{cases_lt, true≢false}
+-- Balanced records in preorder are in place, and eaten where they are good.
+use Rattle.std.proofs.Common.{◌≡◌, ℕ, ◌+◌, ◌<◌, true, false, List, [], ◌∷◌, ◌++◌, map, inl, inr, sym, refl, ap, ◌∙◌, subst, arith, get_or, length, Bool, cond, Contains, All, AllPairs, append_assoc, append-nil}
+use Rattle.std.specs.Prelude.{nat_lt}
+use Rattle.std.proofs.lemmas.Bool.{cases_lt, lt-ltb, true≢false}
 use Rattle.std.proofs.lemmas.List.Elements.{All-nil, All-head, All-tail, All-contains, All-map, All-weaker}
 use Rattle.list_laws.proofs.Pairs.{AllPairs-nil, AllPairs-cons, AllPairs-head, AllPairs-tail, AllPairs-append, AllPairs-map}
 use Rattle.search_model.specs.declared.standing.Standing.{Standing}
@@ -13,10 +14,12 @@ use Rattle.bound_tree.specs.declared.node.Kind.{Kind}
 use Rattle.bound_tree.specs.declared.node.Kind.TheVariants.{Branch, Whole, Mean, Tangent, Edge}
 use Rattle.bound_tree.specs.declared.node.TreeNode.{TreeNode}
 use Rattle.bound_tree.specs.Accepts.{prefixes_of}
-use Rattle.bound_tree.specs.Accepts.{children_of, expected_by, IsGood, AreEaten}
+use Rattle.bound_tree.specs.Accepts.{children_of, expected_by, IsGoodKind, IsGood}
+use Rattle.bound_tree.specs.Places.{opened_by, AreInPlace}
+use Rattle.bound_tree.proofs.Placing.{eaten_is_placed_and_good}
 use Rattle.search_core.specs.Counts.{count_of}
 use Rattle.search_core.specs.Balance.{expected_of}
-use Rattle.search_core.specs.Laws.{IsPreorder, BalancedIsAccepted}
+use Rattle.search_core.specs.Laws.{IsPreorder, BranchesAreShort, BalancedIsPlaced, BalancedIsAccepted}
 use Rattle.search_core.proofs.Counts.{count_of-append, count_of_here, Contains-counted}
 use Rattle.search_core.proofs.Order.{IsAbove}
 use Rattle.search_core.proofs.Children.{Rises, moves_rise, expected_cases}
@@ -53,6 +56,22 @@ first_is_least r rs pre s h = elim (Contains-cons_cases r s rs h) [
       smaller_one_way r.prefix s.prefix (All-contains (IsAbove r.prefix) (prefixes_of rs) s.prefix (AllPairs-head IsAbove r.prefix (prefixes_of rs) pre) (Contains-map (λ (z : TreeNode). z.prefix) rs s later))
 ]
 
+-- a record that branches only below the horizon
+abbrev IsShort : Problem → TreeNode → Type 0
+IsShort p r = r.kind ≡ Branch → length r.prefix < p.horizon
+
+nothing_either_way : (b : Bool) → ◌≡◌ {A = List (List ℕ)} (cond b [] []) []
+nothing_either_way true = refl
+nothing_either_way false = refl
+
+-- it makes the same expected whether its length is asked for or not
+opened_by_short : (p : Problem) (q : List ℕ) (kind : Kind) → (kind ≡ Branch → length q < p.horizon) → opened_by p q kind ≡ expected_by p q kind
+opened_by_short p q Branch short = rw (lt-ltb (length q) p.horizon (short refl)) refl
+opened_by_short p q (Whole n) short = nothing_either_way (nat_lt (length q) p.horizon)
+opened_by_short p q (Mean b) short = nothing_either_way (nat_lt (length q) p.horizon)
+opened_by_short p q (Tangent b whole) short = nothing_either_way (nat_lt (length q) p.horizon)
+opened_by_short p q (Edge b) short = nothing_either_way (nat_lt (length q) p.horizon)
+
 module _ (p : Problem) (sound : IsProblem p) where
   expected_ordered : (q : List ℕ) (kind : Kind) (qs : List (List ℕ)) → AreOrdered (q ∷ qs) → AreOrdered (expected_by p q kind ++ qs)
   expected_ordered q Branch qs h =
@@ -75,46 +94,55 @@ module _ (p : Problem) (sound : IsProblem p) where
   abbrev AreEven : List (List ℕ) → List TreeNode → Type 0
   AreEven qs rs = (q : List ℕ) → count_of q qs + count_of q (expected_of p rs) ≡ count_of q (prefixes_of rs)
 
-  module _ (s : Standing) where
-    first_expected : (q : List ℕ) (qs : List (List ℕ)) (r : TreeNode) (rs : List TreeNode) → AreOrdered (q ∷ qs) → FirstIsLeast r rs →
-        AreEven (q ∷ qs) (r ∷ rs) → r.prefix ≡ q
-    first_expected q qs r rs ord least even =
-        let stands : 0 < count_of q (prefixes_of (r ∷ rs)) = omega (arith, even q, count_of_here q q refl) in
-        let holder = Contains-map_cases (λ (r : TreeNode). r.prefix) (r ∷ rs) q (Contains-counted q (prefixes_of (r ∷ rs)) stands) in
-        let not_below : smaller q r.prefix ≡ false = ap (λ z. smaller z r.prefix) (sym holder.2) ∙ least holder.0 holder.1 in
-        let no_child : count_of r.prefix (expected_of p (r ∷ rs)) ≡ 0 = elim (cases_lt 0 (count_of r.prefix (expected_of p (r ∷ rs)))) [
-          | inl k ↦ absurd (first_is_no_child r rs least (Contains-counted r.prefix (expected_of p (r ∷ rs)) k))
-          | inr k ↦ omega (arith, k)
-        ] in
-        let on_stack : 0 < count_of r.prefix (q ∷ qs) = omega (arith, even r.prefix, no_child, count_of_here r.prefix r.prefix refl) in
-        elim (Contains-cons_cases q r.prefix qs (Contains-counted r.prefix (q ∷ qs) on_stack)) [
-          | inl e ↦ sym e
-          | inr k ↦ absurd (true≢false (sym (rw append-nil at (All-contains (Before q) qs r.prefix (AllPairs-head Before q qs ord) k [])) ∙ not_below))
-        ]
+  first_expected : (q : List ℕ) (qs : List (List ℕ)) (r : TreeNode) (rs : List TreeNode) → AreOrdered (q ∷ qs) → FirstIsLeast r rs →
+      AreEven (q ∷ qs) (r ∷ rs) → r.prefix ≡ q
+  first_expected q qs r rs ord least even =
+      let stands : 0 < count_of q (prefixes_of (r ∷ rs)) = omega (arith, even q, count_of_here q q refl) in
+      let holder = Contains-map_cases (λ (r : TreeNode). r.prefix) (r ∷ rs) q (Contains-counted q (prefixes_of (r ∷ rs)) stands) in
+      let not_below : smaller q r.prefix ≡ false = ap (λ z. smaller z r.prefix) (sym holder.2) ∙ least holder.0 holder.1 in
+      let no_child : count_of r.prefix (expected_of p (r ∷ rs)) ≡ 0 = elim (cases_lt 0 (count_of r.prefix (expected_of p (r ∷ rs)))) [
+        | inl k ↦ absurd (first_is_no_child r rs least (Contains-counted r.prefix (expected_of p (r ∷ rs)) k))
+        | inr k ↦ omega (arith, k)
+      ] in
+      let on_stack : 0 < count_of r.prefix (q ∷ qs) = omega (arith, even r.prefix, no_child, count_of_here r.prefix r.prefix refl) in
+      elim (Contains-cons_cases q r.prefix qs (Contains-counted r.prefix (q ∷ qs) on_stack)) [
+        | inl e ↦ sym e
+        | inr k ↦ absurd (true≢false (sym (rw append-nil at (All-contains (Before q) qs r.prefix (AllPairs-head Before q qs ord) k [])) ∙ not_below))
+      ]
 
-    eaten : (qs : List (List ℕ)) (rs : List TreeNode) → AreOrdered qs → AreEven qs rs → All (IsGood p s) rs → IsPreorder rs → AreEaten p s qs rs
-    eaten [] [] ord even good pre = tt
-    eaten (q ∷ qs) [] ord even good pre = absurd (omega (arith, even q, count_of_here q q refl))
-    eaten [] (r ∷ rs) ord even good pre =
-        absurd (first_is_no_child r rs (first_is_least r rs pre)
-        (Contains-counted r.prefix (expected_of p (r ∷ rs)) (omega (arith, even r.prefix, count_of_here r.prefix r.prefix refl))))
-    eaten (q ∷ qs) (r ∷ rs) ord even good pre =
-        let same = first_expected q qs r rs ord (first_is_least r rs pre) even in
-        let here : AreOrdered (r.prefix ∷ qs) = subst (λ z. AreOrdered (z ∷ qs)) (sym same) ord in
-        let below = expected_by p r.prefix r.kind in (
-          same,
-          All-head (IsGood p s) r rs good,
-          eaten (below ++ qs) rs (expected_ordered r.prefix r.kind qs here)
-              (λ z. let a = even z in let b = count_of-append z below qs in let c = count_of-append z below (expected_of p rs) in
-              let e : count_of z (r.prefix ∷ []) ≡ count_of z (q ∷ []) = ap (λ y. count_of z (y ∷ [])) same in omega (arith, a, b, c, e))
-              (All-tail (IsGood p s) r rs good)
-              (AllPairs-tail IsAbove r.prefix (prefixes_of rs) pre),
-        )
+  placed : (qs : List (List ℕ)) (rs : List TreeNode) → AreOrdered qs → AreEven qs rs → BranchesAreShort p rs → IsPreorder rs → AreInPlace p qs rs
+  placed [] [] ord even short pre = tt
+  placed (q ∷ qs) [] ord even short pre = absurd (omega (arith, even q, count_of_here q q refl))
+  placed [] (r ∷ rs) ord even short pre =
+      absurd (first_is_no_child r rs (first_is_least r rs pre)
+      (Contains-counted r.prefix (expected_of p (r ∷ rs)) (omega (arith, even r.prefix, count_of_here r.prefix r.prefix refl))))
+  placed (q ∷ qs) (r ∷ rs) ord even short pre =
+      let same = first_expected q qs r rs ord (first_is_least r rs pre) even in
+      let here : AreOrdered (r.prefix ∷ qs) = subst (λ z. AreOrdered (z ∷ qs)) (sym same) ord in
+      let below = expected_by p r.prefix r.kind in
+      let later : AreInPlace p (below ++ qs) rs =
+      placed (below ++ qs) rs (expected_ordered r.prefix r.kind qs here)
+      (λ z. let a = even z in let b = count_of-append z below qs in let c = count_of-append z below (expected_of p rs) in
+      let e : count_of z (r.prefix ∷ []) ≡ count_of z (q ∷ []) = ap (λ y. count_of z (y ∷ [])) same in omega (arith, a, b, c, e))
+      (All-tail (IsShort p) r rs short)
+      (AllPairs-tail IsAbove r.prefix (prefixes_of rs) pre) in
+      let opened = subst (λ (xs : List (List ℕ)). AreInPlace p (xs ++ qs) rs) (sym (opened_by_short p r.prefix r.kind (All-head (IsShort p) r rs short))) later in
+      (same, subst (λ (x : List ℕ). AreInPlace p (opened_by p x r.kind ++ qs) rs) same opened)
+
+pub balanced_is_placed : BalancedIsPlaced
+balanced_is_placed p rs sound equation short pre =
+    placed p sound ([] ∷ []) rs (AllPairs-cons Before [] [] (All-nil (Before [])) (AllPairs-nil Before)) (λ q. omega (arith, equation q)) short pre
+
+-- a record that is good branches only below the horizon
+good_is_short : (p : Problem) (s : Standing) (r : TreeNode) → IsGood p s r → IsShort p r
+good_is_short p s r good e = subst (λ (kind : Kind). IsGoodKind p s r.prefix kind) e good
 
 pub balanced_is_accepted : BalancedIsAccepted
 balanced_is_accepted p s rs sound exact equation good pre = record {
   path = exact.path;
   value = exact.value;
   weight = refl;
-  tree = eaten p sound s ([] ∷ []) rs (AllPairs-cons Before [] [] (All-nil (Before [])) (AllPairs-nil Before)) (λ q. omega (arith, equation q)) good pre;
+  tree =
+      (eaten_is_placed_and_good p s ([] ∷ []) rs).1
+      (balanced_is_placed p rs sound equation (All-weaker (IsGood p s) (IsShort p) (good_is_short p s) rs good) pre, good);
 }

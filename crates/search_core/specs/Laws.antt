@@ -1,13 +1,15 @@
 -- Laws of the machine: the balance over any list of events, and what balanced records show.
-use Rattle.std.specs.Prelude.{ℕ, ◌<◌, List, [], length, All, AllPairs, IsTrue}
+use Rattle.std.specs.Prelude.{ℕ, ◌≡◌, ◌<◌, List, [], ◌∷◌, length, All, AllPairs, IsTrue}
 use Rattle.search_model.specs.declared.standing.Standing.{Standing}
 use Rattle.search_model.specs.Problem.{Problem, IsProblem}
 use Rattle.search_model.specs.Tracks.{whole_weight}
 use Rattle.search_model.specs.Order.{smaller}
+use Rattle.bound_tree.specs.declared.node.Kind.TheVariants.{Branch}
 use Rattle.bound_tree.specs.declared.node.TreeNode.{TreeNode}
 use Rattle.bound_tree.specs.Accepts.{prefixes_of}
 use Rattle.bound_tree.specs.Accepts.{IsGood, Accepts}
 use Rattle.bound_tree.specs.Close.{IsLive, IsExact, IsAtLeast, LetsBranch, HasMoreLive}
+use Rattle.bound_tree.specs.Places.{AreInPlace}
 use Rattle.search_core.specs.declared.event.CoreEvent.{CoreEvent}
 use Rattle.search_core.specs.Balance.{Core, standing_in, MeetsEquation, AreDistinct, IsBalanced}
 use Rattle.search_core.specs.Steps.{started, IsAllowed, Steps, Runs}
@@ -35,6 +37,16 @@ RunsAreGood = (p : Problem) (s : Standing) (events : List CoreEvent) (c : Core) 
 -- records in ascending order of their prefixes
 abbrev pub IsPreorder : List TreeNode → Type 0
 IsPreorder records = AllPairs (λ q r. IsTrue (smaller q r)) (prefixes_of records)
+
+-- each Branch record is shorter than the horizon
+abbrev pub BranchesAreShort : Problem → List TreeNode → Type 0
+BranchesAreShort p records = All (λ r. r.kind ≡ Branch → length r.prefix < p.horizon) records
+
+-- records that meet the balance equation with nothing pooled and nothing held, and branch only below the horizon, stand in
+-- preorder where those of the empty prefix's tree do
+abbrev pub BalancedIsPlaced : Type 0
+BalancedIsPlaced = (p : Problem) (records : List TreeNode) →
+    IsProblem p → MeetsEquation p [] [] records → BranchesAreShort p records → IsPreorder records → AreInPlace p ([] ∷ []) records
 
 -- records that meet the balance equation with nothing pooled and nothing held, and are each good in themselves under an
 -- exact standing, are in preorder the tree of an accepted plan of that standing

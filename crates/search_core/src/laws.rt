@@ -1,6 +1,6 @@
 //! Laws of the machine: the balance over any list of events, and what balanced records show.
 
-ghost use Rattle.search_core.specs.Laws.{StartIsBalanced, EventsKeepBalance, RunsAreBalanced, RunsAreGood, BalancedIsAccepted, BalancedIsLive, RunsAreLive, DistinctLiveAreMany};
+ghost use Rattle.search_core.specs.Laws.{StartIsBalanced, EventsKeepBalance, RunsAreBalanced, RunsAreGood, BalancedIsPlaced, BalancedIsAccepted, BalancedIsLive, RunsAreLive, DistinctLiveAreMany};
 
 /// The balance holds at the start, each event keeps it, and so it holds after any list of events.
 #[tactic(auto, using(crate::proofs::Kept::start_is_balanced, crate::proofs::Kept::kept, crate::proofs::Kept::runs_are_balanced))]
@@ -13,6 +13,12 @@ pub fn runs_are_balanced()
 /// After any list of events each record is good in itself under the best standing that is known.
 pub fn runs_are_good()
     ensures { RunsAreGood }
+{}
+
+/// Balanced records that branch only below the horizon stand, in preorder, where those of a whole tree do.
+#[tactic(auto, using(crate::proofs::Preorder::balanced_is_placed))]
+pub fn balanced_is_placed()
+    ensures { BalancedIsPlaced }
 {}
 
 /// Balanced records that are good in themselves are, in preorder, the tree of an accepted plan.

@@ -8,7 +8,7 @@ mod machine;
 
 pub use event::{CoreEvent, CoreFault};
 pub use laws::{
-    balanced_is_accepted, balanced_is_live, distinct_live_are_many, runs_are_balanced,
-    runs_are_good, runs_are_live,
+    balanced_is_accepted, balanced_is_live, balanced_is_placed, distinct_live_are_many,
+    runs_are_balanced, runs_are_good, runs_are_live,
 };
 pub use machine::CoreState;
