@@ -1,0 +1,4 @@
+pub mod Listed
+pub mod Numbered
+pub mod Reordered
+pub mod Made

@@ -1,0 +1,10 @@
+//! Gap plans of searches that ran out of records: what they closed and what still waits shows a ceiling that no path
+//! exceeds.
+#![tactic(auto)]
+
+mod listing;
+mod making;
+mod numbers;
+
+pub use bound_tree::{GapKind, GapNode, GapPlan, GapTree};
+pub use making::make_gap;

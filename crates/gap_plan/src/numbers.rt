@@ -1,0 +1,64 @@
+//! The numbers of the nodes that wait.
+
+ghost use Rattle.std.specs.Prelude.{◌≡◌, ◌∷◌, map, All};
+ghost use Rattle.search_model.specs.Legal.{IsLegal};
+ghost use Rattle.search_model.specs.Bounds.{greatest};
+ghost use Rattle.bound_tree.specs.Gaps.{ceiling_of, open_number, open_numbers};
+ghost use Rattle.mean_bound.specs.Means.{IsMadeFor};
+ghost use Rattle.gap_plan.specs.Nodes.{numbered};
+
+use bound_tree::{GapKind, GapNode};
+use mean_bound::Mean;
+use search_model::{Path, Scenario};
+
+// What no path below a legal prefix exceeds: the value of a path, the mean bound of a shorter prefix.
+fn ceiling(mean: &mut Mean, sc: &Scenario, prefix: &Path) -> u128
+    requires made { IsMadeFor sc.now mean.old }
+    requires legal { IsLegal sc.now prefix.now }
+    ensures ceiling { result ≡ ceiling_of sc.now prefix.now }
+    ensures made { IsMadeFor sc.now mean.new }
+{
+    if prefix.len() == sc.horizon() as usize {
+        mean.value(sc, prefix)
+    } else {
+        mean.bound(sc, prefix)
+    }
+}
+
+// Sets the number of a node, where it waits, and answers the greater of it and `most`.
+fn set_number(mean: &mut Mean, sc: &Scenario, node: &mut GapNode, most: u128) -> u128
+    requires made { IsMadeFor sc.now mean.old }
+    requires legal { IsLegal sc.now node.old.prefix }
+    ensures node { node.new ≡ numbered sc.now node.old }
+    ensures most { result ≡ greatest (most ∷ open_number node.new.kind) }
+    ensures made { IsMadeFor sc.now mean.new }
+{
+    match node.kind {
+        GapKind::Closed(_) => most,
+        GapKind::Waiting(_) => {
+            let number = ceiling(mean, sc, &node.prefix);
+            node.kind = GapKind::Waiting(number);
+            most.max(number)
+        }
+    }
+}
+
+/// Sets the numbers of all nodes that wait, and answers the greatest of them and of a value. Neighbours in preorder share
+/// beliefs, so this is the order that costs least.
+pub(crate) fn set_numbers(
+    mean: &mut Mean,
+    sc: &Scenario,
+    nodes: &mut [GapNode],
+    value: u128,
+) -> u128
+    requires made { IsMadeFor sc.now mean.old }
+    requires legal { All (λ node. IsLegal sc.now node.prefix) nodes.old }
+    ensures nodes { nodes.new ≡ map (numbered sc.now) nodes.old }
+    ensures ceiling { result ≡ greatest (value ∷ open_numbers nodes.new) }
+{
+    let mut most = value;
+    for node in nodes.iter_mut() {
+        most = set_number(mean, sc, node, most);
+    }
+    most
+}
