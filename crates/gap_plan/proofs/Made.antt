@@ -4,7 +4,7 @@ use Rattle.std.specs.Prelude.{nat_lt}
 use Rattle.std.specs.List.Sorted.{IsSortedBy}
 use Rattle.std.proofs.lemmas.Bool.{cond_both}
 use Rattle.std.proofs.lemmas.List.{length-map, get_or-map}
-use Rattle.std.proofs.lemmas.List.Elements.{All-nil, All-cons, All-head, All-tail, All-append, All-map, All-weaker}
+use Rattle.std.proofs.lemmas.List.Elements.{All-nil, All-cons, All-head, All-tail, All-append, All-map}
 use Rattle.std.proofs.lemmas.List.Sorted.{IsPermutation-refl, All-permutation, length_permutation}
 use Rattle.std.proofs.lemmas.List.Sums.{sum_by-cons}
 use Rattle.list_laws.proofs.Mapped.{All-unmap}
@@ -15,21 +15,20 @@ use Rattle.search_model.specs.Tracks.{value_of, whole_weight}
 use Rattle.search_model.specs.Bounds.{greatest}
 use Rattle.search_model.specs.Order.{smaller}
 use Rattle.search_model.proofs.Children.{few_moves}
-use Rattle.bound_tree.specs.declared.node.Kind.{Kind}
 use Rattle.bound_tree.specs.declared.node.Kind.TheVariants.{Branch, Whole, Mean, Tangent, Edge}
 use Rattle.bound_tree.specs.declared.node.TreeNode.{TreeNode}
 use Rattle.bound_tree.specs.declared.gap.GapKind.{GapKind}
 use Rattle.bound_tree.specs.declared.gap.GapKind.TheVariants.{Closed, Waiting}
 use Rattle.bound_tree.specs.declared.gap.GapNode.{GapNode}
 use Rattle.bound_tree.specs.declared.gap.GapPlan.{GapPlan}
-use Rattle.bound_tree.specs.Accepts.{IsGoodKind, IsGood, children_of, expected_by}
+use Rattle.bound_tree.specs.Accepts.{IsGood, children_of}
 use Rattle.bound_tree.specs.Close.{IsExact}
 use Rattle.bound_tree.specs.Gaps.{shape_of_kind, shape_of, IsGoodOpen, open_numbers, closed_node, GapAccepts}
 use Rattle.bound_tree.specs.Places.{opened_by, AreInPlace}
 use Rattle.bound_tree.proofs.Placing.{placed_are_legal}
 use Rattle.search_core.specs.Balance.{MeetsEquation}
-use Rattle.search_core.specs.Laws.{IsPreorder}
-use Rattle.search_core.proofs.Preorder.{balanced_is_placed}
+use Rattle.search_core.specs.Laws.{BranchesAreShort}
+use Rattle.search_core.proofs.Preorder.{good_are_short, balanced_is_placed}
 use Rattle.tree_gather.proofs.Sorted.{sorted_is_gathered}
 use Rattle.gap_plan.specs.Nodes.{waiting_node, nodes_of, numbered, record_at, closed_in}
 use Rattle.gap_plan.proofs.Listed.{shapes_of, nodes_are_even, closed_is_same}
@@ -83,16 +82,11 @@ module _ (p : Problem) (s : Standing) (closed : List TreeNode) (waiting : List (
     abbrev IsShort : TreeNode → Type 0
     IsShort r = r.kind ≡ Branch → length r.prefix < p.horizon
 
-    good_is_short : (r : TreeNode) → IsGood p s r → IsShort r
-    good_is_short r h e = subst (λ (kind : Kind). IsGoodKind p s r.prefix kind) e h
-
     no_branch : (q : List ℕ) → IsShort (shape_of (waiting_node q))
     no_branch q e = cc
 
-    all_short : All IsShort (shapes_of nodes)
-    all_short =
-        All-map IsShort shape_of nodes
-        (in_any_order (λ node. IsShort (shape_of node)) closed waiting nodes same (All-weaker (IsGood p s) IsShort good_is_short closed good) no_branch)
+    all_short : BranchesAreShort p (shapes_of nodes)
+    all_short = All-map IsShort shape_of nodes (in_any_order (λ node. IsShort (shape_of node)) closed waiting nodes same (good_are_short p s closed good) no_branch)
 
     module _ (sorted : IsSortedBy (λ a b. smaller a.prefix b.prefix) nodes) where
       even : MeetsEquation p [] [] (shapes_of nodes)

@@ -4,7 +4,6 @@ use Rattle.std.proofs.lemmas.List.{append-nil, length-map, length-take, take_all
 use Rattle.std.proofs.lemmas.List.Edits.{map_over_more}
 use Rattle.list_laws.proofs.Changed.{flat_map-push}
 use Rattle.search_model.specs.Problem.{Problem}
-use Rattle.bound_tree.specs.declared.node.TreeNode.{TreeNode}
 use Rattle.bound_tree.specs.declared.gap.GapKind.{GapKind}
 use Rattle.bound_tree.specs.declared.gap.GapKind.TheVariants.{Closed, Waiting}
 use Rattle.bound_tree.specs.declared.gap.GapNode.{GapNode}

@@ -133,9 +133,9 @@ pub balanced_is_placed : BalancedIsPlaced
 balanced_is_placed p rs sound equation short pre =
     placed p sound ([] ∷ []) rs (AllPairs-cons Before [] [] (All-nil (Before [])) (AllPairs-nil Before)) (λ q. omega (arith, equation q)) short pre
 
--- a record that is good branches only below the horizon
-good_is_short : (p : Problem) (s : Standing) (r : TreeNode) → IsGood p s r → IsShort p r
-good_is_short p s r good e = subst (λ (kind : Kind). IsGoodKind p s r.prefix kind) e good
+-- records that are good branch only below the horizon
+pub good_are_short : (p : Problem) (s : Standing) (rs : List TreeNode) → All (IsGood p s) rs → BranchesAreShort p rs
+good_are_short p s rs good = All-weaker (IsGood p s) (IsShort p) (λ r here e. subst (λ (kind : Kind). IsGoodKind p s r.prefix kind) e here) rs good
 
 pub balanced_is_accepted : BalancedIsAccepted
 balanced_is_accepted p s rs sound exact equation good pre = record {
@@ -144,5 +144,5 @@ balanced_is_accepted p s rs sound exact equation good pre = record {
   weight = refl;
   tree =
       (eaten_is_placed_and_good p s ([] ∷ []) rs).1
-      (balanced_is_placed p rs sound equation (All-weaker (IsGood p s) (IsShort p) (good_is_short p s) rs good) pre, good);
+      (balanced_is_placed p rs sound equation (good_are_short p s rs good) pre, good);
 }

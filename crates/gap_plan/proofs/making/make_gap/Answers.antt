@@ -1,4 +1,4 @@
-use Rattle.std.proofs.Common.{◌≡◌, ◌≤◌, ◌+◌, ◌*◌, List, length, sym, subst, IsPermutation}
+use Rattle.std.proofs.Common.{◌≤◌, ◌+◌, ◌*◌, List, length, sym, subst, IsPermutation}
 use Rattle.bound_tree.specs.declared.gap.GapNode.{GapNode}
 use Rattle.search_core.specs.Counts.{SameItems}
 use Rattle.gap_plan.specs.Nodes.{closed_in, waiting_in}

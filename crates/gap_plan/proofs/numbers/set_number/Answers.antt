@@ -1,4 +1,4 @@
-use Rattle.std.proofs.Common.{◌≡◌, sym, arith}
+use Rattle.std.proofs.Common.{sym}
 use Rattle.search_model.proofs.Greatest.{greatest-one, greatest-cons}
 use Rattle.gap_plan.proofs.numbers.set_number.Goals as goal
 
