@@ -42,9 +42,9 @@ fn plan_of(mean: &mut Mean, sc: &Scenario, mut nodes: Vec<GapNode>, best: Standi
 /// The gap plan of a search that stopped early: what it closed, what waits, and the best standing that it knows.
 ///
 /// The empty prefix and the legal children of all Branch records are, up to order, the records' prefixes and those that
-/// wait; the standing is a path with its exact value, and each record is good in itself under it. The nodes are the records
-/// and the waiting prefixes in preorder. What waits has its value as its number where it is a path, else its mean bound, and
-/// the ceiling is the greatest of these numbers and of the standing's value: no path finds more.
+/// wait; the standing is a path with its exact value, and each record is good in itself under it. The nodes are the
+/// records and the waiting prefixes in preorder. What waits has its value as its number where it is a path, else its
+/// mean bound, and the ceiling is the greatest of these numbers and of the standing's value: no path finds more.
 pub fn make_gap(
     alloc: Global,
     sc: &Scenario,

@@ -43,8 +43,8 @@ fn set_number(mean: &mut Mean, sc: &Scenario, node: &mut GapNode, most: u128) ->
     }
 }
 
-/// Sets the numbers of all nodes that wait, and answers the greatest of them and of a value. Neighbours in preorder share
-/// beliefs, so this is the order that costs least.
+/// Sets the numbers of all nodes that wait, and answers the greatest of them and of a value. Neighbours in preorder
+/// share beliefs, so this is the order that costs least.
 pub(crate) fn set_numbers(
     mean: &mut Mean,
     sc: &Scenario,

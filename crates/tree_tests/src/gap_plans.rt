@@ -66,7 +66,8 @@ fn shows(plan: &GapPlan, waiting: &[(u8, u128)]) -> bool {
         ))
 }
 
-// Whether the gap plan under a path has this value, weight and ceiling, and what waits at these positions with these numbers.
+// Whether the gap plan under a path has this value, weight and ceiling, and what waits at these positions with these
+// numbers.
 fn has(
     alloc: Global,
     text: &str,
