@@ -1,6 +1,6 @@
 //! Gap plans of searches that closed the empty prefix alone, so that all its children wait.
 
-ghost use Rattle.std.specs.Prelude.{◌≡◌, [], reverse, IfOk};
+ghost use Rattle.std.specs.Prelude.{◌≡◌, ◌∷◌, [], reverse, IfOk};
 ghost use Rattle.bound_tree.specs.declared.node.Kind.TheVariants.{Branch};
 ghost use Rattle.bound_tree.specs.Accepts.{expected_by};
 ghost use Rattle.bound_tree.specs.Close.{IsExact};
@@ -24,17 +24,24 @@ fn children(alloc: Global, sc: &Scenario) -> Result<Vec<Path>, NoMemory>
     Ok(waiting)
 }
 
+// The record of the empty prefix as a branch, alone.
+fn root_alone(alloc: Global) -> Result<Vec<TreeNode>, NoMemory>
+    ensures { IfOk result (λ closed. closed.items ≡ record { prefix = []; kind = Branch } ∷ []) }
+{
+    let root = TreeNode {
+        prefix: Path::empty(),
+        kind: Kind::Branch,
+    };
+    Ok(vec![in alloc; root; 1]?)
+}
+
 // The gap plan where the children wait, under this standing.
 fn branched(alloc: Global, sc: &Scenario, best: Standing) -> Result<GapPlan, NoMemory>
     requires { IsExact sc.now best }
 {
     sc.recall_sound();
     let waiting = children(alloc, sc)?;
-    let root = TreeNode {
-        prefix: Path::empty(),
-        kind: Kind::Branch,
-    };
-    let closed = vec![in alloc; root; 1]?;
+    let closed = root_alone(alloc)?;
     make_gap(alloc, sc, closed, waiting, best)
 }
 
