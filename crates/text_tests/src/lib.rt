@@ -4,6 +4,8 @@
 #![tactic(auto)]
 
 #[cfg(test)]
+mod duos;
+#[cfg(test)]
 mod maps;
 #[cfg(test)]
 mod plan_feeds;

@@ -1,0 +1,10 @@
+pub mod Counted
+pub mod Examples
+pub mod Made
+pub mod Numbers
+pub mod PairLooks
+pub mod PairMoves
+pub mod PairNames
+pub mod PairPaths
+pub mod Reasons
+pub mod Values

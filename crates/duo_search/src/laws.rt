@@ -1,0 +1,30 @@
+//! Laws of the product problem.
+
+ghost use Rattle.duo_search.specs.Laws.{ProductStandsFor, PathsArePairs, PairIsValue, NoPairFindsMore};
+
+/// The product problem stands for both: each of its positions says where they are.
+pub fn product_stands_for()
+    ensures { ProductStandsFor }
+{}
+
+/// Pairs of paths and paths of the product problem correspond one to one, period by period.
+pub fn paths_are_pairs()
+    ensures { PathsArePairs }
+{}
+
+/// The value of a path of the product problem is what its pair of paths finds together.
+pub fn pair_is_value()
+    ensures { PairIsValue }
+{}
+
+/// No pair of paths finds more together than that of the product problem's best path.
+pub fn no_pair_finds_more()
+    ensures { NoPairFindsMore }
+{}
+
+ghost use Rattle.duo_search.specs.Worked.{WorkedPairs};
+
+/// What pairs of paths find in small problems, worked by hand.
+pub fn worked_pairs()
+    ensures { WorkedPairs }
+{}
