@@ -6,6 +6,8 @@
 #[cfg(test)]
 mod duos;
 #[cfg(test)]
+mod forcing;
+#[cfg(test)]
 mod maps;
 #[cfg(test)]
 mod plan_feeds;

@@ -1,0 +1,4 @@
+pub mod Forced
+pub mod Rows
+pub mod Laws
+pub mod Worked
