@@ -1,3 +1,4 @@
 pub mod Paths
 pub mod Rates
 pub mod Reason
+pub mod GapReason

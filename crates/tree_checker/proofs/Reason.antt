@@ -1,9 +1,10 @@
 -- There is no reason against a plan exactly where it is accepted.
-use Rattle.std.proofs.Common.{◌≡◌, ℕ, ◌+◌, Bool, true, false, not, List, [], ◌∷◌, ◌++◌, length, Option, Some, None, ◌↔◌, sym, refl, ap, subst, ◌<◌, ltb-true, lt-ltb, eqb-true, eq-eqb, if◌then◌else◌, Result, Ok, Err, IfOk, IfNone, IsTrue}
+use Rattle.std.proofs.Common.{◌≡◌, ℕ, ◌+◌, Bool, true, false, not, List, [], ◌∷◌, ◌++◌, length, Option, Some, None, ◌↔◌, sym, refl, ap, ◌∙◌, subst, ◌<◌, ltb-true, lt-ltb, eqb-true, eq-eqb, if◌then◌else◌, Result, Ok, Err, IfOk, IfNone, IsTrue}
 use Rattle.std.specs.Option.{option_or}
 use Rattle.std.proofs.lemmas.Bool.{not-true, and_parts, and_from, true≢false}
 use Rattle.search_model.specs.declared.standing.Standing.{Standing}
 use Rattle.search_model.specs.Problem.{Problem}
+use Rattle.search_model.specs.Legal.{IsPath}
 use Rattle.search_model.specs.Tracks.{value_of, whole_weight}
 use Rattle.search_model.specs.Order.{smaller}
 use Rattle.search_model.specs.Bounds.{mean_of, IsRate, tangent_of}
@@ -26,20 +27,20 @@ use Rattle.tree_checker.specs.Laws.{AcceptedWithNoReason}
 use Rattle.tree_checker.proofs.Paths.{is_path-Decides, starts-Decides}
 use Rattle.tree_checker.proofs.Rates.{finds_one_rate}
 
-abbrev AllTrue : List Test → Type 0
+abbrev pub AllTrue : {W : Type 0} → List (Bool × W) → Type 0
 AllTrue [] = Unit {0}
 AllTrue (t ∷ ts) = (t.0 ≡ true) × AllTrue ts
 
-step_true : (b : Bool) (w : Option Why) (v : Why) → (if b then w else Some v) ≡ None → (b ≡ true) × (w ≡ None)
+step_true : {W : Type 0} (b : Bool) (w : Option W) (v : W) → (if b then w else Some v) ≡ None → (b ≡ true) × (w ≡ None)
 step_true true w v h = (refl, h)
 step_true false w v h = cc
 
 -- where no test fails, each holds
-pub all_true : (ts : List Test) → first_failed ts ≡ None → AllTrue ts
+pub all_true : {W : Type 0} (ts : List (Bool × W)) → first_failed ts ≡ None → AllTrue ts
 all_true [] h = tt
 all_true (t ∷ ts) h = let step = step_true t.0 (first_failed ts) t.1 h in (step.0, all_true ts step.1)
 
-none_failed : (ts : List Test) → AllTrue ts → first_failed ts ≡ None
+pub none_failed : {W : Type 0} (ts : List (Bool × W)) → AllTrue ts → first_failed ts ≡ None
 none_failed [] h = refl
 none_failed (t ∷ ts) h = rw h.0 (none_failed ts h.1)
 
@@ -47,7 +48,7 @@ none_at : (line : ℕ) (w : Option Why) → at_line line w ≡ None → w ≡ No
 none_at line None h = refl
 none_at line (Some w) h = cc
 
-both_none : (first later : Option RejectAt) → option_or first later ≡ None → (first ≡ None) × (later ≡ None)
+pub both_none : {R : Type 0} (first later : Option R) → option_or first later ≡ None → (first ≡ None) × (later ≡ None)
 both_none None later h = (refl, h)
 both_none (Some r) later h = cc
 
@@ -68,7 +69,7 @@ module _ (p : Problem) (s : Standing) where
       let reference = and_from _ _ ((is_path-Decides p whole).1 extends.path) ((starts-Decides q whole).1 extends.front) in
       subst (λ o. AllTrue (tangent_tests p s q b whole o)) (sym found) (reference, (eq-eqb b (tangent_of p rate q whole) bound, (cut, tt)))
 
-  good_kind : (q : List ℕ) (kind : Kind) → AllTrue (kind_tests p s q kind) → IsGoodKind p s q kind
+  pub good_kind : (q : List ℕ) (kind : Kind) → AllTrue (kind_tests p s q kind) → IsGoodKind p s q kind
   good_kind q Branch h = ltb-true (length q) p.horizon h.0
   good_kind q (Whole n) h = (eqb-true (length q) p.horizon h.0, eqb-true n (value_of p q) h.1.0, not-true _ h.1.1.0)
   good_kind q (Mean b) h = (ltb-true (length q) p.horizon h.0, eqb-true b (mean_of p q) h.1.0, h.1.1.0)
@@ -77,7 +78,7 @@ module _ (p : Problem) (s : Standing) where
       (ltb-true (length q) p.horizon h.0, tangent.0, tangent.1)
   good_kind q (Edge b) h = (ltb-true (length q) p.horizon h.0, eqb-true b (edge_of p q) h.1.0, h.1.1.0)
 
-  kind_good : (q : List ℕ) (kind : Kind) → IsGoodKind p s q kind → AllTrue (kind_tests p s q kind)
+  pub kind_good : (q : List ℕ) (kind : Kind) → IsGoodKind p s q kind → AllTrue (kind_tests p s q kind)
   kind_good q Branch h = (lt-ltb (length q) p.horizon h, tt)
   kind_good q (Whole n) h = (eq-eqb (length q) p.horizon h.0, (eq-eqb n (value_of p q) h.1, (ap not h.2, tt)))
   kind_good q (Mean b) h = (lt-ltb (length q) p.horizon h.0, (eq-eqb b (mean_of p q) h.1, (h.2, tt)))
@@ -85,15 +86,12 @@ module _ (p : Problem) (s : Standing) where
   kind_good q (Edge b) h = (lt-ltb (length q) p.horizon h.0, (eq-eqb b (edge_of p q) h.1, (h.2, tt)))
 
   -- a branch that passes its tests is shorter than the horizon
-  short_branch : (q : List ℕ) (kind : Kind) → AllTrue (kind_tests p s q kind) → kind ≡ Branch → length q < p.horizon
+  pub short_branch : (q : List ℕ) (kind : Kind) → AllTrue (kind_tests p s q kind) → kind ≡ Branch → length q < p.horizon
   short_branch q Branch h e = ltb-true (length q) p.horizon h.0
   short_branch q (Whole n) h e = cc
   short_branch q (Mean b) h e = cc
   short_branch q (Tangent b whole) h e = cc
   short_branch q (Edge b) h e = cc
-
-  pub branch_is_short : (q : List ℕ) (r : TreeNode) → first_failed (record_tests p s q r) ≡ None → r.kind ≡ Branch → length q < p.horizon
-  branch_is_short q r h e = short_branch q r.kind (all_true (record_tests p s q r) h).1.1 e
 
   eaten : (line : ℕ) (rs : List TreeNode) (qs : List (List ℕ)) → tree_reason p s line rs qs ≡ None → AreEaten p s qs rs
   eaten line [] [] h = tt
@@ -122,7 +120,7 @@ module _ (p : Problem) (s : Standing) where
       rw tests (no_fault (line + 1) rs (expected_by p q r.kind ++ qs) rest)
 
 -- where there is no reason against the head, the path is a path with its value, and the weight is the whole weight
-head_right : (p : Problem) (s : Standing) (weight : ℕ) → head_reason p s weight ≡ None → IsExact p s × (weight ≡ whole_weight p)
+pub head_right : (p : Problem) (s : Standing) (weight : ℕ) → head_reason p s weight ≡ None → IsExact p s × (weight ≡ whole_weight p)
 head_right p s weight h =
     let path = at_line 2 (first_failed (path_tests p s.path)) in
     let values = at_line 3 (first_failed (value_tests p s weight)) in
@@ -132,6 +130,13 @@ head_right p s weight h =
       record { path = (is_path-Decides p s.path).0 legal.0; value = eqb-true s.value (value_of p s.path) right.0 },
       eqb-true weight (whole_weight p) right.1.0,
     )
+
+-- and the other way round
+pub right_head : (p : Problem) (s : Standing) (weight : ℕ) → IsPath p s.path → s.value ≡ value_of p s.path → weight ≡ whole_weight p → head_reason p s weight ≡ None
+right_head p s weight path value whole =
+    let legal = none_failed (path_tests p s.path) ((is_path-Decides p s.path).1 path, tt) in
+    let right = none_failed (value_tests p s weight) (eq-eqb s.value (value_of p s.path) value, (eq-eqb weight (whole_weight p) whole, tt)) in
+    rw (legal, right) refl
 
 pub exact_head : (p : Problem) (s : Standing) (weight : ℕ) (r : Option RejectAt) → r ≡ head_reason p s weight → IfNone r (IsExact p s)
 exact_head p s weight None h = (head_right p s weight (sym h)).0
@@ -150,10 +155,7 @@ no_reason_is_accepted p plan =
             weight = head.1;
             tree = eaten p s 5 plan.tree ([] ∷ []) parts.1;
           }),
-      (λ a.
-          let legal = none_failed (path_tests p s.path) ((is_path-Decides p s.path).1 a.path, tt) in
-          let right = none_failed (value_tests p s plan.weight) (eq-eqb s.value (value_of p s.path) a.value, (eq-eqb plan.weight (whole_weight p) a.weight, tt)) in
-          rw (legal, right) (no_fault p s 5 plan.tree ([] ∷ []) a.tree)),
+      (λ a. ap (λ (o : Option RejectAt). option_or o tree) (right_head p s plan.weight a.path a.value a.weight) ∙ no_fault p s 5 plan.tree ([] ∷ []) a.tree),
     )
 
 verdict_is : (reason : Option RejectAt) (P : Type 0) → (reason ≡ None) ↔ P → (verdict_of reason ≡ Accepted) ↔ P

@@ -1,6 +1,7 @@
 pub mod Whys
 pub mod Rate
 pub mod Reasons
+pub mod GapReasons
 pub mod Tables
 pub mod Progress
 pub mod Laws

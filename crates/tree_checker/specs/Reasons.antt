@@ -27,7 +27,7 @@ abbrev pub Test : Type 0
 Test = Bool × Why
 
 -- of tests in their order, the reason of the first that fails
-abbrev pub first_failed : List Test → Option Why
+abbrev pub first_failed : {W : Type 0} → List (Bool × W) → Option W
 first_failed [] = None
 first_failed (t ∷ ts) = if t.0 then first_failed ts else Some t.1
 
@@ -68,9 +68,13 @@ kind_tests p s q (Mean b) = (nat_lt (length q) p.horizon, WholeWrong) ∷ bound_
 kind_tests p s q (Tangent b whole) = (nat_lt (length q) p.horizon, WholeWrong) ∷ tangent_tests p s q b whole (one_rate_of p)
 kind_tests p s q (Edge b) = (nat_lt (length q) p.horizon, WholeWrong) ∷ bound_tests s q b (edge_of p q)
 
--- the tests of a record where prefix q is expected; past the first two the record's prefix is q
+-- the tests of where a record stands, by its prefix, where prefix q is expected: past both the prefix is q
+abbrev pub place_tests : List ℕ → List ℕ → List Test
+place_tests q prefix = (not (smaller q prefix), MissingChild) ∷ (not (smaller prefix q), NotChild) ∷ []
+
+-- the tests of a record where prefix q is expected
 abbrev pub record_tests : Problem → Standing → List ℕ → TreeNode → List Test
-record_tests p s q r = (not (smaller q r.prefix), MissingChild) ∷ (not (smaller r.prefix q), NotChild) ∷ kind_tests p s q r.kind
+record_tests p s q r = place_tests q r.prefix ++ kind_tests p s q r.kind
 
 -- a reason stands at a line
 abbrev pub at_line : ℕ → Option Why → Option RejectAt

@@ -1,18 +1,25 @@
 //! The checker.
 
-ghost use Rattle.std.specs.Prelude.{◌≡◌, ◌+◌, ◌<◌, ◌≤◌, ◌^◌, ◌⊎◌, ◌∷◌, [], List, IfOk, IfNone, IsSome, reverse, vec_capacity, All};
+ghost use Rattle.std.specs.Prelude.{ℕ, ◌≡◌, ◌+◌, ◌<◌, ◌≤◌, ◌^◌, ◌⊎◌, ◌∷◌, ◌++◌, [], List, length, IfOk, IfNone, IsSome, reverse, vec_len, vec_capacity, All};
 ghost use Rattle.std.specs.Option.{option_or};
 ghost use Rattle.search_model.specs.Legal.{IsLegal};
+ghost use Rattle.search_model.specs.Bounds.{greatest};
+ghost use Rattle.bound_tree.specs.declared.node.Kind.{Kind};
 ghost use Rattle.bound_tree.specs.declared.node.TreeNode.{TreeNode};
+ghost use Rattle.bound_tree.specs.declared.gap.GapNode.{GapNode};
+ghost use Rattle.bound_tree.specs.Accepts.{expected_by};
 ghost use Rattle.bound_tree.specs.Close.{IsExact};
-ghost use Rattle.tree_checker.specs.Reasons.{tree_reason, verdict_of};
+ghost use Rattle.bound_tree.specs.Gaps.{shape_of_kind, open_number};
+ghost use Rattle.tree_checker.specs.Reasons.{at_line, tree_reason, verdict_of};
+ghost use Rattle.tree_checker.specs.GapReasons.{next_reason, expected_past, plain_why, gap_at, gap_verdict_of};
 ghost use Rattle.bound_tree.specs.Room.{HasRoom};
 ghost use Rattle.tree_checker.specs.Tables.{AreMadeFor};
 
-use crate::reasons::{head_reason, record_reason};
+use crate::gap_verdict::{GapRejectAt, GapVerdict, GapWhy};
+use crate::reasons::{head_reason, node_reason};
 use crate::tables::BoundTables;
 use crate::verdict::{RejectAt, Verdict, Why};
-use bound_tree::{TreeNode, pop_prefix, push_expected, push_prefix};
+use bound_tree::{GapKind, GapNode, TreeNode, pop_prefix, push_expected, push_prefix};
 use exact_parts::NoMemory;
 use search_model::{Path, Scenario, Standing};
 use std::alloc::Global;
@@ -21,15 +28,18 @@ use std::marker::Model;
 // Room for the most prefixes that can be expected at once.
 const ROOM: usize = 2_048;
 
-/// Checks a plan that it is given piece by piece: first its head, then each record, then its end. Its lines are those of
-/// the plan's text: 2 and 3 for the head, 5 for the first record. After it was made it takes no memory. It is used with
-/// the scenario that it was made for.
+/// Checks a plan that it is given piece by piece: first its head, then each record, then its end; and so a gap plan, by
+/// `gap_head`, `open_node` and `finish_gap`. Its lines are those of the plan's text: 2 and 3 for the head, 5 for the first
+/// record, 6 for the first node of a gap plan. After it was made it takes no memory. It is used with the scenario that it
+/// was made for.
 #[derive(Drop)]
 pub struct Checker {
     standing: Standing,
     reason: Option<RejectAt>,
+    open_reason: Option<GapRejectAt>,
     expected: Vec<Path>,
     line: u64,
+    most: u128,
     tables: BoundTables,
 }
 
@@ -43,13 +53,76 @@ impl Model for Checker {
     ghost view = { λ c. record {
       standing = c.standing;
       reason = c.reason;
+      open_reason = c.open_reason;
       expected = reverse c.expected.items;
-      line =
-          c.line;
+      line = c.line;
+      most = c.most;
       tables = c.tables;
     } };
 
     ghost invariant = { λ c. (2048 ≤ vec_capacity c.expected) × HasRoom (reverse c.expected.items) };
+}
+
+// Puts on the stack what a node makes expected.
+fn push_opened(stack: &mut Vec<Path>, sc: &Scenario, prefix: &Path, kind: &GapKind)
+    requires legal { IsLegal sc.now prefix.now }
+    requires short { shape_of_kind kind.now ≡ Kind.Branch → length prefix.now < sc.now.horizon }
+    requires room { shape_of_kind kind.now ≡ Kind.Branch → vec_len stack.old + 64 ≤ vec_capacity stack.old }
+    ensures items { reverse stack.new.items ≡
+        expected_by sc.now prefix.now (shape_of_kind kind.now) ++ reverse stack.old.items }
+    ensures capacity { vec_capacity stack.old ≤ vec_capacity stack.new }
+{
+    match kind {
+        GapKind::Closed(kind) => push_expected(stack, sc, prefix, kind),
+        GapKind::Waiting(_) => {}
+    }
+}
+
+// Takes a node where the prefixes on the stack are expected: the reason against it, or nothing, and then its children are
+// expected.
+fn take_node(
+    sc: &Scenario,
+    standing: &Standing,
+    expected: &mut Vec<Path>,
+    tables: &mut BoundTables,
+    node: &GapNode,
+) -> Option<GapWhy>
+    requires legal { All (IsLegal sc.now) (reverse expected.old.items) }
+    requires exact { (expected.old.items ≡ []) ⊎ IsExact sc.now standing.now }
+    requires room { HasRoom (reverse expected.old.items) }
+    requires capacity { 2048 ≤ vec_capacity expected.old }
+    requires made { AreMadeFor sc.now tables.old }
+    ensures reason { result ≡ next_reason sc.now standing.now (reverse expected.old.items) node.now }
+    ensures past { IfNone result
+        (reverse expected.new.items ≡ expected_past sc.now (reverse expected.old.items) node.now) }
+    ensures legal { All (IsLegal sc.now) (reverse expected.new.items) }
+    ensures exact { IfNone result (IsExact sc.now standing.now) }
+    ensures still { (expected.new.items ≡ []) ⊎ IsExact sc.now standing.now }
+    ensures room { HasRoom (reverse expected.new.items) }
+    ensures capacity { 2048 ≤ vec_capacity expected.new }
+    ensures made { AreMadeFor sc.now tables.new }
+{
+    sc.recall_sound();
+    let Some(prefix) = pop_prefix(expected) else {
+        return Some(GapWhy::Plain(Why::NotChild));
+    };
+    match node_reason(sc, tables, standing, &prefix, node) {
+        Some(why) => Some(why),
+        None => {
+            push_opened(expected, sc, &prefix, &node.kind);
+            None
+        }
+    }
+}
+
+// A plan's reason at a line; the others are of gap plans alone.
+fn plain(line: u64, why: Option<GapWhy>) -> Option<RejectAt>
+    ensures { result ≡ at_line line (plain_why why) }
+{
+    match why {
+        Some(GapWhy::Plain(why)) => Some(RejectAt { line, why }),
+        Some(GapWhy::WaitingWrong | GapWhy::CeilingWrong) | None => None,
+    }
 }
 
 // Takes the record of a line where the prefixes on the stack are expected: the reason against it, or nothing, and then
@@ -76,24 +149,35 @@ fn take_record(
     ensures capacity { 2048 ≤ vec_capacity expected.new }
     ensures made { AreMadeFor sc.now tables.new }
 {
-    sc.recall_sound();
-    let Some(prefix) = pop_prefix(expected) else {
-        return Some(RejectAt {
-            line,
-            why: Why::NotChild,
-        });
+    let closed = GapNode {
+        prefix: node.prefix,
+        kind: GapKind::Closed(node.kind),
     };
-    match record_reason(sc, tables, standing, &prefix, node) {
-        Some(why) => Some(RejectAt { line, why }),
-        None => {
-            push_expected(expected, sc, &prefix, &node.kind);
-            None
-        }
+    plain(line, take_node(sc, standing, expected, tables, &closed))
+}
+
+// A reason of a gap plan at a line.
+fn at(line: u64, why: Option<GapWhy>) -> Option<GapRejectAt>
+    ensures { result ≡ gap_at line why }
+{
+    match why {
+        Some(why) => Some(GapRejectAt { line, why }),
+        None => None,
+    }
+}
+
+// The greater of a number and that of a node, where it has one.
+fn most_with(most: u128, kind: &GapKind) -> u128
+    ensures { (numbers : List ℕ) → greatest (result ∷ numbers) ≡ greatest (most ∷ open_number kind.now ++ numbers) }
+{
+    match kind {
+        GapKind::Closed(_) => most,
+        GapKind::Waiting(number) => most.max(*number),
     }
 }
 
 impl Checker {
-    ghost use Rattle.tree_checker.specs.Progress.{at_start, after_head, reason_if, reason_at_end, IsUnderWay, IsMadeFor};
+    ghost use Rattle.tree_checker.specs.Progress.{at_start, after_head, after_gap_head, reason_if, reason_at_end, gap_reason_so_far, gap_reason_if, gap_reason_at_end, IsUnderWay, IsMadeFor};
 
     /// A checker for the plans of a scenario, with all the memory that it will need.
     pub fn tables(alloc: Global, sc: &Scenario) -> Result<Checker, NoMemory>
@@ -107,8 +191,10 @@ impl Checker {
                 value: 0,
             },
             reason: None,
+            open_reason: None,
             expected: Vec::with_capacity(alloc, ROOM)?,
             line: 5,
+            most: 0,
             tables: BoundTables::start(alloc, sc)?,
         })
     }
@@ -122,9 +208,22 @@ impl Checker {
     {
         self.standing = *standing;
         self.reason = head_reason(sc, &mut self.tables, standing, weight);
+        self.open_reason = None;
+        self.most = standing.value;
         self.expected.clear();
         push_prefix(&mut self.expected, Path::empty());
         self.line = 5;
+    }
+
+    /// Begins a gap plan: its path with its value, and the weight that the value is out of.
+    pub fn gap_head(&mut self, sc: &Scenario, standing: &Standing, weight: u128)
+        requires { IsMadeFor sc.now self.old }
+        ensures begun { self.new ≡ after_gap_head sc.now self.new.tables standing.now weight }
+        ensures under_way { IsUnderWay sc.now self.new }
+        ensures made { IsMadeFor sc.now self.new }
+    {
+        self.head(sc, standing, weight);
+        self.line = 6;
     }
 
     /// Takes the next record.
@@ -152,6 +251,32 @@ impl Checker {
         }
     }
 
+    /// Takes the next node of a gap plan.
+    pub fn open_node(&mut self, sc: &Scenario, node: &GapNode)
+        requires under_way { IsUnderWay sc.now self.old }
+        requires line { self.old.line < 2 ^ 63 }
+        requires made { IsMadeFor sc.now self.old }
+        ensures reason { (ceiling : ℕ) (nodes : List GapNode) →
+            gap_reason_if sc.now self.new ceiling nodes ≡ gap_reason_if sc.now self.old ceiling (node.now ∷ nodes) }
+        ensures under_way { IsUnderWay sc.now self.new }
+        ensures line { self.new.line ≤ self.old.line + 1 }
+        ensures made { IsMadeFor sc.now self.new }
+        ensures settled { IsSome (gap_reason_so_far self.old) → self.new ≡ self.old }
+    {
+        if self.reason.is_none() && self.open_reason.is_none() {
+            let why = take_node(
+                sc,
+                &self.standing,
+                &mut self.expected,
+                &mut self.tables,
+                node,
+            );
+            self.open_reason = at(self.line, why);
+            self.most = most_with(self.most, &node.kind);
+            self.line += 1;
+        }
+    }
+
     /// The verdict, where the plan ends after the records so far.
     pub fn finish(&self) -> Verdict
         ensures { result ≡ verdict_of (reason_at_end self.now) }
@@ -162,6 +287,25 @@ impl Checker {
             None => Verdict::Rejected(RejectAt {
                 line: self.line,
                 why: Why::MissingChild,
+            }),
+        }
+    }
+    /// The verdict, where the gap plan ends after the nodes so far, and its head has this ceiling.
+    pub fn finish_gap(&self, ceiling: u128) -> GapVerdict
+        ensures { result ≡ gap_verdict_of (gap_reason_at_end self.now ceiling) }
+    {
+        if let Some(at) = self.open_reason {
+            return GapVerdict::Rejected(at);
+        }
+        match self.finish() {
+            Verdict::Rejected(RejectAt { line, why }) => GapVerdict::Rejected(GapRejectAt {
+                line,
+                why: GapWhy::Plain(why),
+            }),
+            Verdict::Accepted if ceiling == self.most => GapVerdict::Accepted,
+            Verdict::Accepted => GapVerdict::Rejected(GapRejectAt {
+                line: 4,
+                why: GapWhy::CeilingWrong,
             }),
         }
     }

@@ -1,12 +1,15 @@
-//! The check of a whole plan.
+//! The check of a whole plan, and of a whole gap plan.
 
 ghost use Rattle.std.specs.Prelude.{◌≡◌, ◌↔◌, IfOk};
 ghost use Rattle.bound_tree.specs.Accepts.{Accepts};
+ghost use Rattle.bound_tree.specs.Gaps.{GapAccepts};
 ghost use Rattle.tree_checker.specs.Reasons.{first_reason, verdict_of};
+ghost use Rattle.tree_checker.specs.GapReasons.{gap_reason, gap_verdict_of};
 
 use crate::checker::Checker;
+use crate::gap_verdict::GapVerdict;
 use crate::verdict::Verdict;
-use bound_tree::Plan;
+use bound_tree::{GapPlan, Plan};
 use exact_parts::NoMemory;
 use search_model::Scenario;
 use std::alloc::Global;
@@ -32,4 +35,26 @@ pub fn check(alloc: Global, sc: &Scenario, plan: &Plan) -> Result<Verdict, NoMem
     ensures accepted { IfOk result (λ v. (v ≡ Verdict.Accepted) ↔ Accepts sc.now plan.now) }
 {
     verdict(alloc, sc, plan)
+}
+
+// The verdict on a gap plan.
+fn gap_verdict(alloc: Global, sc: &Scenario, plan: &GapPlan) -> Result<GapVerdict, NoMemory>
+    ensures { IfOk result (λ v. v ≡ gap_verdict_of (gap_reason sc.now plan.now)) }
+{
+    let mut checker = Checker::tables(alloc, sc)?;
+    checker.gap_head(sc, &plan.standing, plan.weight);
+    for node in plan.nodes.nodes() {
+        checker.open_node(sc, node);
+    }
+    Ok(checker.finish_gap(plan.ceiling))
+}
+
+/// Whether a gap plan is accepted; else the first reason against it. The nodes are tested as the records of a plan, and
+/// the ceiling last of all.
+#[tactic(auto, using(crate::proofs::GapReason::accepted_gap_verdict))]
+pub fn check_gap(alloc: Global, sc: &Scenario, plan: &GapPlan) -> Result<GapVerdict, NoMemory>
+    ensures exact { IfOk result (λ v. v ≡ gap_verdict_of (gap_reason sc.now plan.now)) }
+    ensures accepted { IfOk result (λ v. (v ≡ GapVerdict.Accepted) ↔ GapAccepts sc.now plan.now) }
+{
+    gap_verdict(alloc, sc, plan)
 }

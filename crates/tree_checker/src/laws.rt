@@ -1,11 +1,17 @@
 //! Laws of acceptance and of the one rate.
 
-ghost use Rattle.tree_checker.specs.Laws.{AcceptedWithNoReason, FindsOneRate};
+ghost use Rattle.tree_checker.specs.Laws.{AcceptedWithNoReason, GapAcceptedWithNoReason, FindsOneRate};
 
 /// A plan is accepted exactly where there is no reason against it.
 #[tactic(auto, using(crate::proofs::Reason::no_reason_is_accepted))]
 pub fn accepted_with_no_reason()
     ensures { AcceptedWithNoReason }
+{}
+
+/// A gap plan is accepted exactly where there is no reason against it.
+#[tactic(auto, using(crate::proofs::GapReason::no_reason_is_accepted_gap))]
+pub fn gap_accepted_with_no_reason()
+    ensures { GapAcceptedWithNoReason }
 {}
 
 /// The rate that is found among a problem's look factors is their one rate, and where none is found there is none.

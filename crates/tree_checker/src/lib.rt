@@ -1,9 +1,10 @@
-//! The checker of plans: the first reason against a plan, or that there is none.
+//! The checker of plans and of gap plans: the first reason against one, or that there is none.
 #![tactic(auto)]
 
 mod bounds;
 mod checker;
 mod checking;
+mod gap_verdict;
 mod laws;
 mod path_tests;
 mod reasons;
@@ -11,6 +12,7 @@ mod tables;
 mod verdict;
 
 pub use checker::Checker;
-pub use checking::check;
-pub use laws::{accepted_with_no_reason, finds_one_rate};
+pub use checking::{check, check_gap};
+pub use gap_verdict::{GapRejectAt, GapVerdict, GapWhy, gap_why_name};
+pub use laws::{accepted_with_no_reason, finds_one_rate, gap_accepted_with_no_reason};
 pub use verdict::{RejectAt, Verdict, Why, why_name};

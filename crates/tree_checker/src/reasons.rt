@@ -3,14 +3,16 @@
 ghost use Rattle.std.specs.Prelude.{◌≡◌, IfNone};
 ghost use Rattle.search_model.specs.Legal.{IsLegal};
 ghost use Rattle.bound_tree.specs.Close.{IsExact};
-ghost use Rattle.tree_checker.specs.Reasons.{first_failed, value_tests, kind_tests, record_tests, head_reason as head_reason_lem};
+ghost use Rattle.tree_checker.specs.Reasons.{first_failed, value_tests, kind_tests, head_reason as head_reason_lem};
+ghost use Rattle.tree_checker.specs.GapReasons.{open_tests, node_tests};
 ghost use Rattle.tree_checker.specs.Tables.{AreMadeFor};
 
 use crate::bounds::{edge_reason, mean_reason, tangent_reason};
+use crate::gap_verdict::GapWhy;
 use crate::path_tests::is_path;
 use crate::tables::BoundTables;
 use crate::verdict::{RejectAt, Why};
-use bound_tree::{Kind, TreeNode};
+use bound_tree::{GapKind, GapNode, Kind};
 use search_model::{Path, Scenario, Standing, better};
 
 // The first reason against the value and the weight of a path.
@@ -115,25 +117,54 @@ fn kind_reason(
     }
 }
 
-/// The first reason against a record where a legal prefix is expected.
-pub(crate) fn record_reason(
+// The first reason against a node at a legal prefix, by how far the search came below it.
+fn open_reason(
+    sc: &Scenario,
+    tables: &mut BoundTables,
+    standing: &Standing,
+    prefix: &Path,
+    kind: &GapKind,
+) -> Option<GapWhy>
+    requires made { AreMadeFor sc.now tables.old }
+    requires legal { IsLegal sc.now prefix.now }
+    requires exact { IsExact sc.now standing.now }
+    ensures reason { result ≡ first_failed (open_tests sc.now standing.now prefix.now kind.now) }
+    ensures made { AreMadeFor sc.now tables.new }
+{
+    match kind {
+        GapKind::Closed(kind) => {
+            let why = kind_reason(sc, tables, standing, prefix, kind)?;
+            Some(GapWhy::Plain(why))
+        }
+        GapKind::Waiting(number) => {
+            if *number != tables.ceiling(sc, prefix) {
+                Some(GapWhy::WaitingWrong)
+            } else {
+                None
+            }
+        }
+    }
+}
+
+/// The first reason against a node where a legal prefix is expected.
+pub(crate) fn node_reason(
     sc: &Scenario,
     tables: &mut BoundTables,
     standing: &Standing,
     expected: &Path,
-    node: &TreeNode,
-) -> Option<Why>
+    node: &GapNode,
+) -> Option<GapWhy>
     requires made { AreMadeFor sc.now tables.old }
     requires legal { IsLegal sc.now expected.now }
     requires exact { IsExact sc.now standing.now }
-    ensures reason { result ≡ first_failed (record_tests sc.now standing.now expected.now node.now) }
+    ensures reason { result ≡ first_failed (node_tests sc.now standing.now expected.now node.now) }
     ensures made { AreMadeFor sc.now tables.new }
 {
     if expected.cells().cmp(node.prefix.cells()).is_lt() {
-        Some(Why::MissingChild)
+        Some(GapWhy::Plain(Why::MissingChild))
     } else if node.prefix.cells().cmp(expected.cells()).is_lt() {
-        Some(Why::NotChild)
+        Some(GapWhy::Plain(Why::NotChild))
     } else {
-        kind_reason(sc, tables, standing, expected, &node.kind)
+        open_reason(sc, tables, standing, expected, &node.kind)
     }
 }

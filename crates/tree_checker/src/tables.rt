@@ -6,6 +6,7 @@ ghost use Rattle.search_model.specs.Legal.{IsLegal, IsPath};
 ghost use Rattle.search_model.specs.Tracks.{value_of};
 ghost use Rattle.search_model.specs.Bounds.{mean_of, IsRate, tangent_of};
 ghost use Rattle.search_model.specs.Edge.{edge_of};
+ghost use Rattle.bound_tree.specs.Gaps.{ceiling_of};
 ghost use Rattle.tree_checker.specs.Rate.{one_rate_of};
 ghost use Rattle.tree_checker.specs.Tables.{AreMadeFor};
 
@@ -62,6 +63,20 @@ impl BoundTables {
         self.trail.go_to(sc, prefix);
         let ahead = self.trail.ahead(prefix.len());
         self.mean.bound_after(sc, ahead, prefix)
+    }
+
+    /// What no path below a legal prefix exceeds: the value of a path, the mean bound of a shorter prefix.
+    pub(crate) fn ceiling(&mut self, sc: &Scenario, prefix: &Path) -> u128
+        requires made { AreMadeFor sc.now self.old }
+        requires legal { IsLegal sc.now prefix.now }
+        ensures value { result ≡ ceiling_of sc.now prefix.now }
+        ensures made { AreMadeFor sc.now self.new }
+    {
+        if prefix.len() == sc.horizon() as usize {
+            self.value(sc, prefix)
+        } else {
+            self.mean_bound(sc, prefix)
+        }
     }
 
     /// The rate of all looks of the scenario that the tables were made for, where they have one. It was found when they

@@ -5,6 +5,8 @@
 #[cfg(test)]
 mod cores;
 #[cfg(test)]
+mod gap_checks;
+#[cfg(test)]
 mod gap_plans;
 #[cfg(test)]
 mod gathers;

@@ -49,8 +49,8 @@ rate 1
 end
 ";
 
-// Positions as digits, or `-` for none.
-fn path_of(digits: &str) -> Option<Path> {
+/// Positions as digits, or `-` for none.
+pub(crate) fn path_of(digits: &str) -> Option<Path> {
     if digits == "-" {
         return Some(Path::empty());
     }
@@ -64,7 +64,8 @@ fn path_of(digits: &str) -> Option<Path> {
     Some(path)
 }
 
-fn kind_of(letter: &str, number: u128, reference: Path) -> Option<Kind> {
+/// How a record was closed, by its letter.
+pub(crate) fn kind_of(letter: &str, number: u128, reference: Path) -> Option<Kind> {
     match letter {
         "B" => Some(Kind::Branch),
         "W" => Some(Kind::Whole(number)),

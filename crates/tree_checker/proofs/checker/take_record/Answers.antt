@@ -1,38 +1,13 @@
-use Rattle.std.proofs.Common.{reverse, sym, subst, arith, All}
-use Rattle.std.proofs.lemmas.List.{length-reverse}
-use Rattle.std.proofs.lemmas.List.Elements.{All-append}
-use Rattle.search_model.specs.Legal.{IsLegal}
-use Rattle.bound_tree.specs.Room.{HasRoom}
-use Rattle.bound_tree.proofs.Rooms.{split_legal, legal_expected, room_left, room_expected}
-use Rattle.tree_checker.proofs.Reason.{branch_is_short}
+use Rattle.bound_tree.specs.Close.{IsExact}
+use Rattle.tree_checker.proofs.GapReason.{record_step, plain_none}
 use Rattle.tree_checker.proofs.checker.take_record.Goals as goal
 
-pub record_reason-requires-clause-legal : goal.record_reason-requires-clause-legal
-record_reason-requires-clause-legal c = (split_legal c.args.sc.now _ _ _ c.in-Some.ensures.some c.requires.legal).0
+pub returns-clause-reason : goal.returns-clause-reason
+returns-clause-reason c = λ rs.
+    record_step c.args.sc.now c.args.standing.now c.args.line c.args.node.now rs _ _ _ _ c.plain.ensures c.take_node.ensures.reason c.take_node.ensures.past
 
-pub push_expected-requires-clause-legal : goal.push_expected-requires-clause-legal
-push_expected-requires-clause-legal c = (split_legal c.args.sc.now _ _ _ c.in-Some.ensures.some c.requires.legal).0
-
-pub push_expected-requires-clause-room : goal.push_expected-requires-clause-room
-push_expected-requires-clause-room c = λ branch.
-    let rest = c.pop_prefix.new.stack in
-    let short = branch_is_short c.args.sc.now c.args.standing.now c.in-Some.prefix c.args.node.now (sym c.in-None.ensures.reason) branch in
-    let left = room_left c.args.sc.now c.in-Some.prefix (reverse rest.items) c.recall_sound.ensures short (subst HasRoom c.in-Some.ensures.some c.requires.room) in
-    omega (arith, left, length-reverse rest.items, rest.ok.0)
-
-pub returns-in-Some-record_reason-clause-legal : goal.returns-in-Some-record_reason-clause-legal
-returns-in-Some-record_reason-clause-legal c = (split_legal c.args.sc.now _ _ _ c.in-Some.ensures.some c.requires.legal).1
-
-pub returns-in-None-clause-legal : goal.returns-in-None-clause-legal
-returns-in-None-clause-legal c =
-    let legal = IsLegal c.args.sc.now in
-    let parts = split_legal c.args.sc.now _ _ _ c.in-Some.ensures.some c.requires.legal in
-    let short = branch_is_short c.args.sc.now c.args.standing.now c.in-Some.prefix c.args.node.now (sym c.in-None.ensures.reason) in
-    subst (All legal) (sym c.push_expected.ensures.items)
-    (All-append legal _ _ (legal_expected c.args.sc.now c.in-Some.prefix c.args.node.now.kind parts.0 short) parts.1)
-
-pub returns-in-None-clause-room : goal.returns-in-None-clause-room
-returns-in-None-clause-room c =
-    let legal = (split_legal c.args.sc.now _ _ _ c.in-Some.ensures.some c.requires.legal).0 in
-    subst HasRoom (sym c.push_expected.ensures.items)
-    (room_expected c.args.sc.now c.in-Some.prefix c.args.node.now.kind _ c.recall_sound.ensures legal (subst HasRoom c.in-Some.ensures.some c.requires.room))
+pub returns-clause-exact : goal.returns-clause-exact
+returns-clause-exact c =
+    let sc = c.args.sc.now in
+    let s = c.args.standing.now in
+    plain_none sc s c.args.line c.args.node.now _ (IsExact sc s) _ _ c.plain.ensures c.take_node.ensures.reason c.take_node.ensures.exact
