@@ -296,7 +296,12 @@ fn found(sc: &Scenario, path: &[u8]) -> Option<u128> {
 }
 
 // What both find together on a path of the product.
-fn found_by_both(alloc: Global, sc: &Scenario, second: u8, path: &[u8]) -> Result<Option<u128>, Fail> {
+fn found_by_both(
+    alloc: Global,
+    sc: &Scenario,
+    second: u8,
+    path: &[u8],
+) -> Result<Option<u128>, Fail> {
     let made = product_of(alloc, sc, second)?;
     Ok(found(&made, path))
 }

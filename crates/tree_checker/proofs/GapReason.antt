@@ -1,5 +1,5 @@
 -- That the reasons against gap plans are all there are.
-use Rattle.std.proofs.Common.{◌≡◌, ◌↔◌, ℕ, ◌+◌, ◌<◌, ◌==◌, Bool, true, false, cond, not, ◌⊎◌, List, [], ◌∷◌, ◌++◌, map, length, Option, Some, None, inl, inr, refl, sym, ap, ◌∙◌, subst, arith, max, All, eqb-true, eq-eqb, if◌then◌else◌, Result, Ok, Err, IfOk, IfNone, IsSome}
+use Rattle.std.proofs.Common.{◌≡◌, ◌↔◌, ℕ, ◌+◌, ◌<◌, ◌==◌, Bool, true, false, cond, not, List, [], ◌∷◌, ◌++◌, map, length, Option, Some, None, refl, sym, ap, ◌∙◌, subst, arith, max, All, eqb-true, eq-eqb, if◌then◌else◌, Result, Ok, Err, IfOk, IfNone}
 use Rattle.std.specs.Prelude.{nat_lt}
 use Rattle.std.specs.Option.{option_or, option_map}
 use Rattle.std.proofs.lemmas.Bool.{not-true}
@@ -11,7 +11,7 @@ use Rattle.search_model.specs.Bounds.{greatest}
 use Rattle.search_model.proofs.Greatest.{greatest-one}
 use Rattle.search_model.proofs.Orders.{smaller_irreflexive, same_from_neither}
 use Rattle.bound_tree.specs.declared.node.Kind.{Kind}
-use Rattle.bound_tree.specs.declared.node.Kind.TheVariants.{Branch, Mean}
+use Rattle.bound_tree.specs.declared.node.Kind.TheVariants.{Branch}
 use Rattle.bound_tree.specs.declared.node.TreeNode.{TreeNode}
 use Rattle.bound_tree.specs.declared.gap.GapKind.{GapKind}
 use Rattle.bound_tree.specs.declared.gap.GapKind.TheVariants.{Closed, Waiting}
@@ -19,12 +19,12 @@ use Rattle.bound_tree.specs.declared.gap.GapNode.{GapNode}
 use Rattle.bound_tree.specs.declared.gap.GapPlan.{GapPlan}
 use Rattle.bound_tree.specs.Accepts.{expected_by}
 use Rattle.bound_tree.specs.Places.{opened_by, AreInPlace}
-use Rattle.bound_tree.specs.Gaps.{shape_of_kind, shape_of, ceiling_of, IsGoodOpenKind, IsGoodOpen, open_number, open_numbers, closed_node, GapAccepts}
+use Rattle.bound_tree.specs.Gaps.{shape_of_kind, shape_of, ceiling_of, IsGoodOpenKind, IsGoodOpen, open_numbers, closed_node, GapAccepts}
 use Rattle.bound_tree.proofs.Placing.{opened_by_good}
 use Rattle.tree_checker.specs.declared.verdict.Why.{Why}
 use Rattle.tree_checker.specs.declared.verdict.RejectAt.{RejectAt}
 use Rattle.tree_checker.specs.declared.gap_verdict.GapWhy.{GapWhy}
-use Rattle.tree_checker.specs.declared.gap_verdict.GapWhy.TheVariants.{Plain, WaitingWrong, CeilingWrong}
+use Rattle.tree_checker.specs.declared.gap_verdict.GapWhy.TheVariants.{Plain, CeilingWrong}
 use Rattle.tree_checker.specs.declared.gap_verdict.GapRejectAt.{GapRejectAt}
 use Rattle.tree_checker.specs.declared.gap_verdict.GapVerdict.{GapVerdict}
 use Rattle.tree_checker.specs.declared.gap_verdict.GapVerdict.TheVariants.{Accepted}

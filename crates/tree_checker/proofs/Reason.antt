@@ -22,7 +22,7 @@ use Rattle.tree_checker.specs.declared.verdict.RejectAt.{RejectAt}
 use Rattle.tree_checker.specs.declared.verdict.Verdict.{Verdict}
 use Rattle.tree_checker.specs.declared.verdict.Verdict.TheVariants.{Accepted}
 use Rattle.tree_checker.specs.Rate.{one_rate_of}
-use Rattle.tree_checker.specs.Reasons.{Test, first_failed, path_tests, value_tests, tangent_tests, kind_tests, record_tests, at_line, head_reason, tree_reason, first_reason, verdict_of}
+use Rattle.tree_checker.specs.Reasons.{first_failed, path_tests, value_tests, tangent_tests, kind_tests, record_tests, at_line, head_reason, tree_reason, first_reason, verdict_of}
 use Rattle.tree_checker.specs.Laws.{AcceptedWithNoReason}
 use Rattle.tree_checker.proofs.Paths.{is_path-Decides, starts-Decides}
 use Rattle.tree_checker.proofs.Rates.{finds_one_rate}

@@ -290,6 +290,7 @@ impl Checker {
             }),
         }
     }
+
     /// The verdict, where the gap plan ends after the nodes so far, and its head has this ceiling.
     pub fn finish_gap(&self, ceiling: u128) -> GapVerdict
         ensures { result ≡ gap_verdict_of (gap_reason_at_end self.now ceiling) }

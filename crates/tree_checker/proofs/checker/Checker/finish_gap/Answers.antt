@@ -1,4 +1,4 @@
-use Rattle.std.proofs.Common.{◌≡◌, ℕ, true, false, None, eq-eqb, ap, sym, ◌∙◌}
+use Rattle.std.proofs.Common.{◌≡◌, true, false, None, eq-eqb, ap, sym, ◌∙◌}
 use Rattle.std.proofs.lemmas.Bool.{ne_eqb}
 use Rattle.tree_checker.specs.GapReasons.{gap_verdict_of}
 use Rattle.tree_checker.specs.Progress.{Progress}
