@@ -274,7 +274,11 @@ fn the_first_cause_is_told(rt: HostRuntime) -> Result<(), Fail> {
 // Whether a path of the product of `sc` says these two.
 fn says(sc: &Scenario, both: &[u8], first: &[u8], second: &[u8]) -> bool {
     let positions = sc.positions();
-    if positions > 14 || both.iter().any(|n| *n >= positions * positions) {
+    if positions > 14 {
+        return false;
+    }
+    let pairs = positions * positions;
+    if both.iter().any(|n| *n >= pairs) {
         return false;
     }
     match Path::of(both) {
