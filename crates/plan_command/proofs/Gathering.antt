@@ -1,10 +1,11 @@
 -- The lines of a scenario, which are gathered up to the first line `end`.
-use Rattle.std.proofs.Common.{ℕ, ◌≡◌, ◌≢◌, ◌+◌, ◌-◌, ◌<◌, inl, inr, List, [], ◌∷◌, ◌++◌, length, get_or, take, ap, ◌∙◌, subst, arith, below_more}
+use Rattle.std.proofs.Common.{ℕ, ◌≡◌, ◌≢◌, ◌+◌, ◌-◌, ◌<◌, inl, inr, List, [], ◌∷◌, ◌++◌, length, get_or, take, Option, Some, None, ap, ◌∙◌, subst, arith, below_more}
 use Rattle.std.proofs.Math.Seq.{take-append-add}
 use Rattle.std.proofs.lemmas.Bool.{cases_lt}
 use Rattle.std.proofs.lemmas.List.{take-append-le, same_from_push, length-append}
 use Rattle.scenario_text.specs.Laws.{EndsWithEnd}
-use Rattle.plan_command.specs.Intakes.{HasNoEnd, HasNoEndBefore}
+use Rattle.plan_command.specs.declared.intake.Intake.{Intake}
+use Rattle.plan_command.specs.Intakes.{HasNoEnd, HasNoEndBefore, HasTaken, GathersOn, Becomes}
 use Rattle.plan_command.proofs.Judging.{gathered_byte}
 
 -- A byte more of a piece.
@@ -39,3 +40,9 @@ none_more bytes piece before on n le h = elim (cases_lt (length bytes) n) [
 pub lines_more : (bytes old piece new : List ℕ) → (old ≡ bytes) × HasNoEnd bytes → (new ≡ old ++ piece) × HasNoEndBefore old piece (length piece + 1) → (new ≡ bytes ++ piece) × HasNoEnd (bytes ++ piece)
 lines_more bytes old piece new (same, before) (whole, on) =
     (whole ∙ ap (λ (t : List ℕ). t ++ piece) same, none_more bytes piece before (subst (λ (t : List ℕ). HasNoEndBefore t piece (length piece + 1)) same on))
+
+-- so they were, or the intake became another where they ended
+pub gathered_more : (bytes old piece new : List ℕ) (intake : Intake) (next : Option Intake) → (old ≡ bytes) × HasNoEnd bytes → GathersOn old piece new next →
+    ((new ≡ bytes ++ piece) × HasNoEnd (bytes ++ piece) → HasTaken (bytes ++ piece) intake) → Becomes (bytes ++ piece) intake next
+gathered_more bytes old piece new intake None before added taken = taken (lines_more bytes old piece new before added)
+gathered_more bytes old piece new intake (Some next) (same, none) became taken = subst (λ (t : List ℕ). HasTaken (t ++ piece) next) same became

@@ -215,13 +215,13 @@ module _ (piece : List ℕ) (old new : Judge) (r : Result (Unit {0}) PlanFault) 
 verdict_on : (p : Problem) (plan : Plan) (verdict : Verdict) → verdict ≡ verdict_of (first_reason p plan) → IsVerdictOn p plan verdict
 verdict_on p plan verdict is = record { exact = is; accepted = accepted_verdict {E = Unit {0}} p plan (Ok verdict) is }
 
-pub told_verdict : (rest : List ℕ) (judge : Judge) (verdict : Verdict) → IsProblem judge.sc → (h : HasTakenRest rest judge) → IsWhole judge.sc h.text h.taken.told → verdict ≡ verdict_of (reason_at_end judge.checker) → TellsRest judge rest (Ok verdict)
+pub told_verdict : (rest : List ℕ) (judge : Judge) (verdict : Verdict) → IsProblem judge.sc → (h : HasTakenRest rest judge) → IsWhole judge.sc h.text h.taken.told → verdict ≡ verdict_of (reason_at_end judge.checker) → TellsRest judge.sc judge.path rest (Ok verdict)
 told_verdict rest judge verdict sound h whole is =
     let plan = whole.plan in
     let reason = plan_reason judge.sc plan h.taken.told judge.path judge.checker whole.tell h.taken.heard in
     (plan, (plan_behind judge.sc rest h.text plan sound h.skips whole.spelled, verdict_on judge.sc plan verdict (is ∙ ap verdict_of reason.1)), reason.0)
 
-pub told_early : (rest : List ℕ) (judge : Judge) (fault : PlanFault) → (h : HasTakenRest rest judge) → IsCutOff judge.sc h.text fault → TellsRest judge rest (Err fault)
+pub told_early : (rest : List ℕ) (judge : Judge) (fault : PlanFault) → (h : HasTakenRest rest judge) → IsCutOff judge.sc h.text fault → TellsRest judge.sc judge.path rest (Err fault)
 told_early rest judge fault h cut = record { text = h.text; skips = h.skips; read = cut.first }
 
 -- Behind the scenario of an input.
@@ -240,12 +240,13 @@ begins_on p text rest more ends begins =
 pub begins_here : (p : Problem) (text rest : List ℕ) → BeginsWith p (text ++ []) (rest ++ []) → BeginsWith p text rest
 begins_here p text rest begins = subst (λ (t : List ℕ). BeginsWith p t rest) (append-nil text) (subst (λ (t : List ℕ). BeginsWith p (text ++ []) t) (append-nil rest) begins)
 
--- what is said of an input where its judge ends
-pub judged_input : (input : List ℕ) (judge : Judge) (verdict : Verdict) (h : IsBehind input judge) → TellsRest judge h.rest (Ok verdict) → Judges input (Ok (record { sc = judge.sc; path = judge.path; verdict = verdict }))
-judged_input input judge verdict h (plan, (behind, on), path) = (plan, (h.rest, h.begins, behind), on, path)
+-- what is said of an input, by what was said of the plan behind its scenario
+module _ (p : Problem) (path input rest : List ℕ) (said : Result Verdict PlanFault) (begins : BeginsWith p input rest) (tells : TellsRest p path rest said) where
+  pub judged_input : (verdict : Verdict) → said ≡ Ok verdict → Judges input (Ok (record { sc = p; path = path; verdict = verdict }))
+  judged_input verdict is = let (plan, (behind, on), same) = subst (TellsRest p path rest) is tells in (plan, (rest, begins, behind), on, same)
 
-pub faulty_input : (input : List ℕ) (judge : Judge) (fault : PlanFault) (h : IsBehind input judge) → TellsRest judge h.rest (Err fault) → Judges input (Err (stops.BadPlan fault))
-faulty_input input judge fault h has = (judge.sc, (h.rest, h.begins, has))
+  pub faulty_input : (fault : PlanFault) → said ≡ Err fault → Judges input (Err (stops.BadPlan fault))
+  faulty_input fault is = (p, (rest, begins, subst (TellsRest p path rest) is tells))
 
 -- What was made of the bytes behind a scenario is said of the whole text.
 

@@ -1,6 +1,7 @@
 -- The summary of a drill, and why its scenario's live prefixes are few.
-use Rattle.std.proofs.Common.{ℕ, ◌≡◌, List, [], ◌∷◌, ◌++◌, map, codes, ap, ◌∙◌, arith, append_assoc}
+use Rattle.std.proofs.Common.{ℕ, ◌≡◌, List, [], ◌∷◌, ◌++◌, map, codes, Result, Ok, Err, ap, ◌∙◌, subst, arith, append_assoc}
 use Rattle.std.specs.Fmt.{decimal}
+use Rattle.std.specs.Prelude.{IfOk}
 use Rattle.std.proofs.lemmas.List.{append-nil}
 use Rattle.std.proofs.lemmas.List.Elements.{All-weaker}
 use Rattle.text_rows.specs.Rows.{text_of, spaced}
@@ -9,11 +10,13 @@ use Rattle.exact_parts.proofs.AppendLemmas.{stands_first, stands_next, stands_la
 use Rattle.search_model.specs.Problem.{Problem, position_name}
 use Rattle.search_model.specs.Legal.{IsLegal}
 use Rattle.search_model.specs.Tracks.{value_of}
+use Rattle.search_model.specs.Order.{IsBest}
 use Rattle.bound_tree.specs.Close.{IsLive}
 use Rattle.mission_report.specs.Report.{chance_row}
 use Rattle.scenario_maker.specs.Made.{made_problem}
 use Rattle.scenario_maker.proofs.Prefixes.{few_made_prefixes}
 use Rattle.plan_command.specs.Drills.{drill_text}
+use Rattle.plan_command.specs.Commands.{IsDrilled}
 use Rattle.plan_command.specs.Makes.{IsTooMany}
 use Rattle.bound_tree.specs.declared.tree.TheConstants.{MOST_NODES}
 
@@ -43,6 +46,14 @@ summary_written number p path a b c d e f g ha hb hc hd he hf hg =
     let feed = stands_next {now = e} (10 ∷ []) _ names he in
     let chance = stands_next {now = f} (text_of (chance_row p (value_of p path) ∷ [])) _ feed hf in
     stands_last {now = g} chance hg
+
+-- the summary of the best path of the problem that the number makes
+pub summary_of_best : {V E : Type 0} (number : ℕ) (p : Problem) (path : List ℕ) (told : Result V E) (items : V → List ℕ) → p ≡ made_problem number → IsBest p path →
+    IfOk told (λ text. items text ≡ drill_text number p path) → IfOk told (λ text. IsDrilled number (items text))
+summary_of_best number p path (Ok text) items same best is =
+    let P : Problem → Type 0 = λ q. IsBest q path × (items text ≡ drill_text number q path) in
+    let here = subst P same (best, is) in (path, here.0, here.1)
+summary_of_best number p path (Err none) items same best is = tt
 
 -- a made scenario has few live prefixes
 pub made_few : (number : ℕ) → IsTooMany (made_problem number) MOST_NODES → ⊥

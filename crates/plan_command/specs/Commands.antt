@@ -26,10 +26,13 @@ use Rattle.plan_command.specs.Lines.{rejection_of}
 use Rattle.plan_command.specs.Plans.{IsCertified, BeginsWith, IsPlanRest, HasFault}
 use Rattle.plan_command.specs.Drills.{drill_text}
 
--- the text of version 2 of a certified plan of the input's scenario, which has at most so many records
+-- the text of version 2 of a certified plan of this problem, which has at most so many records
+abbrev pub IsPlanOf : ℕ → Problem → List ℕ → Type 0
+IsPlanOf nodes p text = (plan : APlan) × IsCertified p plan × (length plan.tree ≤ nodes) × IsPlanText2 p plan text
+
+-- the same of the input's scenario
 abbrev pub IsPlanned : ℕ → List ℕ → List ℕ → Type 0
-IsPlanned nodes input text =
-    (p : Problem) × IsTextOf p input × ((plan : APlan) × IsCertified p plan × (length plan.tree ≤ nodes) × IsPlanText2 p plan text)
+IsPlanned nodes input text = (p : Problem) × IsTextOf p input × IsPlanOf nodes p text
 
 -- the input is a scenario and this plan
 abbrev pub IsInput : List ℕ → Problem → APlan → Type 0

@@ -87,10 +87,10 @@ pub record IsVerdictOn (p : Problem) (plan : Plan) (verdict : Verdict) : Type 0 
 abbrev pub IsJudged : Problem → List ℕ → Plan → Verdict → Type 0
 IsJudged p rest plan verdict = IsPlanRest p rest plan × IsVerdictOn p plan verdict
 
--- the verdict on the plan that these bytes are, or what is wrong with them
-abbrev pub TellsRest : Judge → List ℕ → Result Verdict PlanFault → Type 0
-TellsRest judge rest (Ok verdict) = (plan : Plan) × IsJudged judge.sc rest plan verdict × (judge.path ≡ plan.standing.path)
-TellsRest judge rest (Err fault) = HasFault judge.sc rest fault
+-- the verdict on the plan that these bytes are, which has this path, or what is wrong with them
+abbrev pub TellsRest : Problem → List ℕ → List ℕ → Result Verdict PlanFault → Type 0
+TellsRest p path rest (Ok verdict) = (plan : Plan) × IsJudged p rest plan verdict × (path ≡ plan.standing.path)
+TellsRest p path rest (Err fault) = HasFault p rest fault
 
 -- the input is a scenario and a plan, and this is the plan's path and the verdict on it, or what the input lacks
 abbrev pub Judges : List ℕ → Result Judgement Stop → Type 0
@@ -158,3 +158,8 @@ GoesOn judge piece (intakes.Refused _) = ⊥
 abbrev pub GathersOn : List ℕ → List ℕ → List ℕ → Option Intake → Type 0
 GathersOn old piece new None = (new ≡ old ++ piece) × HasNoEndBefore old piece (length piece + 1)
 GathersOn old piece new (Some intake) = HasTaken (old ++ piece) intake
+
+-- an intake took these bytes, or the one that it becomes
+abbrev pub Becomes : List ℕ → Intake → Option Intake → Type 0
+Becomes bytes intake None = HasTaken bytes intake
+Becomes bytes intake (Some next) = HasTaken bytes next

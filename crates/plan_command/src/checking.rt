@@ -78,9 +78,9 @@ fn report(alloc: Global, json: bool, sc: &Scenario, path: &Path) -> Result<Vec<u
 }
 
 /// The report of an accepted plan, or the first reason against the plan.
-pub fn answer_report(alloc: Global, json: bool, judgement: Judgement) -> Result<Answer, Stop>
-    requires { (input : List ℕ) × Judges input (Ok judgement) }
-    ensures { (input : List ℕ) → Judges input (Ok judgement) → MakesOf (Request.Report json) input result }
+pub fn answer_report(alloc: Global, json: bool, judgement: &Judgement) -> Result<Answer, Stop>
+    requires { (input : List ℕ) × Judges input (Ok judgement.now) }
+    ensures { (input : List ℕ) → Judges input (Ok judgement.now) → MakesOf (Request.Report json) input result }
 {
     match judgement.verdict {
         Verdict::Accepted => Ok(Answer {

@@ -1,33 +1,19 @@
 //! The command `convert`.
 
-ghost use Rattle.std.specs.Prelude.{◌∷◌, [], IfOk};
-ghost use Rattle.bound_tree.specs.Places.{AreInPlace};
-ghost use Rattle.tree_format.specs.PlanText.{IsPrintable, IsPlanText2};
+ghost use Rattle.tree_format.specs.PlanText.{IsPrintable};
 ghost use Rattle.plan_command.specs.declared.request.Request.{Request};
 ghost use Rattle.plan_command.specs.Conversions.{ConvertsPlan, ConvertsRest};
 ghost use Rattle.plan_command.specs.Makes.{MakesOf};
 
-use crate::answer::Answer;
+use crate::answer::{Answer, text_of_plan};
 use crate::spaces::{rest_from, skip_spaces};
 use crate::status::{Status, Stop};
 use bound_tree::Plan;
-use exact_parts::NoMemory;
 use scenario_text::{TextStop, read_scenario};
 use search_model::Scenario;
 use std::alloc::Global;
 use tree_checker::{Verdict, check};
-use tree_format::{PlanStop, print_plan_2, read_plan};
-
-// The text of version 2 of a plan whose records have the prefixes that are expected.
-fn text_of_plan(alloc: Global, sc: &Scenario, plan: &Plan) -> Result<Vec<u8>, NoMemory>
-    requires printable { IsPrintable sc.now plan.now }
-    requires in_place { AreInPlace sc.now ([] ∷ []) plan.now.tree }
-    ensures { IfOk result (λ text. IsPlanText2 sc.now plan.now text.items) }
-{
-    let mut text = Vec::new(alloc);
-    print_plan_2(&mut text, sc, plan)?;
-    Ok(text)
-}
+use tree_format::{PlanStop, read_plan};
 
 // The text of an accepted plan, or the first reason against the plan.
 fn convert_plan(alloc: Global, sc: &Scenario, plan: &Plan) -> Result<Answer, Stop>

@@ -6,7 +6,9 @@ ghost use Rattle.bound_tree.specs.Accepts.{Accepts};
 ghost use Rattle.bound_tree.specs.Places.{AreInPlace};
 ghost use Rattle.tree_format.specs.PlanText.{IsPrintable, ArePositions};
 ghost use Rattle.plan_command.specs.declared.request.Request.{Request};
+ghost use Rattle.scenario_maker.specs.Made.{made_problem};
 ghost use Rattle.plan_command.specs.Drills.{drill_text};
+ghost use Rattle.plan_command.specs.Commands.{IsDrilled};
 ghost use Rattle.plan_command.specs.Plans.{IsCertified};
 ghost use Rattle.plan_command.specs.Words.{IsCrew};
 ghost use Rattle.plan_command.specs.Makes.{MakesOf, IsTooMany};
@@ -120,6 +122,40 @@ fn drilled<R: AllocGlobal + Threads + Wait + Sync, G: Gate>(
     Ok(again)
 }
 
+// The summary of the scenario that is made from a number, once it was planned, and the plan read again and checked.
+fn drilled_summary<R: AllocGlobal + Threads + Wait + Sync, G: Gate>(
+    rt: &R,
+    number: u64,
+    sc: &Scenario,
+    workers: u32,
+    gate: &G,
+) -> Result<Vec<u8>, NoMemory>
+    requires crew { IsCrew workers }
+    requires made { sc.now ≡ made_problem number }
+    ensures { IfOk result (λ text. IsDrilled number text.items) }
+{
+    let plan = drilled(rt, sc, workers, gate)?;
+    summary(rt.alloc(), number, sc, &plan.standing)
+}
+
+// The answer of a drill of that scenario.
+fn answer_made<R: AllocGlobal + Threads + Wait + Sync, G: Gate>(
+    rt: &R,
+    number: u64,
+    sc: &Scenario,
+    workers: u32,
+    gate: &G,
+) -> Result<Answer, Stop>
+    requires crew { IsCrew workers }
+    requires made { sc.now ≡ made_problem number }
+    ensures { MakesOf (Request.Drill number workers) [] result }
+{
+    Ok(Answer {
+        status: Status::Done,
+        text: drilled_summary(rt, number, sc, workers, gate)?,
+    })
+}
+
 /// Makes a scenario from a number, plans it, reads the plan again and checks it.
 pub fn answer_drill<R: AllocGlobal + Threads + Wait + Sync, G: Gate>(
     rt: &R,
@@ -131,10 +167,5 @@ pub fn answer_drill<R: AllocGlobal + Threads + Wait + Sync, G: Gate>(
     ensures { MakesOf (Request.Drill number workers) [] result }
 {
     let sc = make(rt.alloc(), number)?;
-    let plan = drilled(rt, &sc, workers, gate)?;
-    let text = summary(rt.alloc(), number, &sc, &plan.standing)?;
-    Ok(Answer {
-        status: Status::Done,
-        text,
-    })
+    answer_made(rt, number, &sc, workers, gate)
 }

@@ -1,6 +1,6 @@
 //! What each request makes of its input, which is read as it is needed.
 
-ghost use Rattle.std.specs.Prelude.{◌≡◌, ◌≤◌, ◌<◌, ◌^◌, Some, None};
+ghost use Rattle.std.specs.Prelude.{◌≡◌, ◌≤◌, ◌<◌, ◌^◌, Some, None, length};
 ghost use Rattle.plan_command.specs.Inputs.{source_view, InputOf, ReadsAnd};
 ghost use Rattle.plan_command.specs.Intakes.{Judges};
 ghost use Rattle.plan_command.specs.Makes.{MakesOf, IsAsked};
@@ -48,17 +48,30 @@ fn unread(stop: InputStop) -> Stop
     }
 }
 
+// The verdict on the plan behind the scenario in the input, of which so many bytes are read at once as there is room for.
+fn judge_pieces<S: Source>(
+    alloc: Global,
+    source: &mut S,
+    piece: &mut [u8],
+) -> Result<Judgement, Stop>
+    requires { 0 < length piece.old }
+    ensures { ReadsAnd (Some MOST_JUDGED) (source_view S.left S.faults source.old)
+        (source_view S.left S.faults source.new) Judges result }
+{
+    let mut intake = Intake::new(alloc);
+    match read_pieces(source, piece, MOST_JUDGED, &mut intake) {
+        Ok(()) => intake.finish(),
+        Err(stop) => Err(unread(stop)),
+    }
+}
+
 // The verdict on the plan behind the scenario in the input. Of both only the scenario is kept.
 fn judge_input<S: Source>(alloc: Global, source: &mut S) -> Result<Judgement, Stop>
     ensures { ReadsAnd (Some MOST_JUDGED) (source_view S.left S.faults source.old)
         (source_view S.left S.faults source.new) Judges result }
 {
     let mut piece = vec![in alloc; 0; PIECE_LEN]?;
-    let mut intake = Intake::new(alloc);
-    match read_pieces(source, &mut piece, MOST_JUDGED, &mut intake) {
-        Ok(()) => intake.finish(),
-        Err(stop) => Err(unread(stop)),
-    }
+    judge_pieces(alloc, source, &mut piece)
 }
 
 // What `check` makes of its input.
@@ -78,7 +91,7 @@ fn report_input<S: Source>(alloc: Global, json: bool, source: &mut S) -> Result<
         (source_view S.left S.faults source.new) (MakesOf (Request.Report json)) result }
 {
     match judge_input(alloc, source) {
-        Ok(judgement) => answer_report(alloc, json, judgement),
+        Ok(judgement) => answer_report(alloc, json, &judgement),
         Err(stop) => Err(stop),
     }
 }

@@ -2,7 +2,8 @@
 
 ghost use Rattle.std.specs.Prelude.{◌++◌, [], ℕ, List, IfOk};
 ghost use Rattle.scenario_text.specs.Laws.{EndsWithEnd};
-ghost use Rattle.plan_command.specs.Intakes.{HasGathered, GathersOn, HasTakenRest, GoesOn, IsBehind, JudgesRest, JudgesFront, Judges, HasTaken};
+ghost use Rattle.plan_command.specs.Plans.{BeginsWith};
+ghost use Rattle.plan_command.specs.Intakes.{HasGathered, GathersOn, HasTakenRest, GoesOn, TellsRest, IsBehind, JudgesRest, JudgesFront, Judges, HasTaken, Becomes};
 
 use crate::judge::Judge;
 use crate::scenario_end::ends_with_end;
@@ -14,6 +15,7 @@ use scenario_text::{TextStop, read_scenario};
 use search_model::{Path, Scenario};
 use std::alloc::Global;
 use tree_checker::Verdict;
+use tree_format::PlanFault;
 
 /// What was made of the bytes so far.
 #[derive(Drop)]
@@ -104,18 +106,26 @@ fn gathered_on(alloc: Global, text: &mut Vec<u8>, piece: &[u8]) -> Option<Intake
     }
 }
 
+// What is made of what was said of a plan for this scenario.
+fn judgement_of(
+    sc: Scenario,
+    path: Path,
+    said: Result<Verdict, PlanFault>,
+) -> Result<Judgement, Stop>
+    ensures { (input rest : List ℕ) → BeginsWith sc input rest → TellsRest sc path rest said → Judges input result }
+{
+    match said {
+        Ok(verdict) => Ok(Judgement { sc, path, verdict }),
+        Err(fault) => Err(Stop::BadPlan(fault)),
+    }
+}
+
 // What is made of a plan's judge that ends.
 fn judged(judge: Judge) -> Result<Judgement, Stop>
     ensures { (input : List ℕ) → IsBehind input judge → Judges input result }
 {
-    match judge.finish() {
-        Ok(verdict) => Ok(Judgement {
-            sc: judge.sc,
-            path: judge.path,
-            verdict,
-        }),
-        Err(fault) => Err(Stop::BadPlan(fault)),
-    }
+    let said = judge.finish();
+    judgement_of(judge.sc, judge.path, said)
 }
 
 // What is made of an input that is a scenario's lines alone.
@@ -132,18 +142,9 @@ impl Receiver for Intake {
     ghost took = { HasTaken };
 
     fn take(&mut self, piece: &[u8]) {
-        match self {
-            Intake::Scenario(alloc, text) => {
-                if let Some(next) = gathered_on(*alloc, text, piece) {
-                    *self = next;
-                }
-            }
-            Intake::Plan(judge) => {
-                if let Err(fault) = judge.take(piece) {
-                    *self = Intake::Refused(Stop::BadPlan(fault));
-                }
-            }
-            Intake::Refused(_) => {}
+        match self.take_piece(piece) {
+            Some(next) => *self = next,
+            None => {}
         }
     }
 }
@@ -154,6 +155,21 @@ impl Intake {
         ensures { HasTaken [] result }
     {
         Intake::Scenario(alloc, Vec::new(alloc))
+    }
+
+    // Takes the next bytes: what the intake becomes, where it becomes another.
+    fn take_piece(&mut self, piece: &[u8]) -> Option<Intake>
+        requires { (bytes : List ℕ) × HasTaken bytes self.old }
+        ensures { (bytes : List ℕ) → HasTaken bytes self.old → Becomes (bytes ++ piece.now) self.new result }
+    {
+        match self {
+            Intake::Scenario(alloc, text) => gathered_on(*alloc, text, piece),
+            Intake::Plan(judge) => match judge.take(piece) {
+                Ok(()) => None,
+                Err(fault) => Some(Intake::Refused(Stop::BadPlan(fault))),
+            },
+            Intake::Refused(_) => None,
+        }
     }
 
     /// What is said of the input, where it ends here.

@@ -141,7 +141,7 @@ impl Judge {
     ///
     /// The bytes end before the plan.
     pub fn finish(&self) -> Result<Verdict, PlanFault>
-        ensures { (rest : List ℕ) → HasTakenRest rest self.now → TellsRest self.now rest result }
+        ensures { (rest : List ℕ) → HasTakenRest rest self.now → TellsRest self.now.sc self.now.path rest result }
     {
         self.sc.recall_sound();
         match self.feed.finish() {
