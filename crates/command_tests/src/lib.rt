@@ -1,5 +1,6 @@
-//! What the commands of `osp` write and end with, over texts in memory, by `run` alone. There is no code here but tests: they
-//! stand apart so that a crate need not be proved once more for them.
+//! What the commands of `osp` write and end with, over texts in memory, by `run` alone, and what the calls answer on which
+//! commands will stand. There is no code here but tests: they stand apart so that a crate need not be proved once more for
+//! them.
 #![tactic(auto)]
 
 #[cfg(test)]
@@ -8,5 +9,7 @@ mod commands;
 mod hostile;
 #[cfg(test)]
 mod listed;
+#[cfg(test)]
+mod made;
 #[cfg(test)]
 mod trials;

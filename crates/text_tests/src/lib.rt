@@ -1,14 +1,7 @@
-//! What is read of texts of scenarios and plans, and what is printed of these, of reports and of maps, row by row, by
-//! public calls alone. There is no code here but tests: they stand apart so that a crate need not be proved once more for
-//! them.
+//! What is read of texts of scenarios and plans, and what is printed of these and of reports, row by row, by public calls
+//! alone. There is no code here but tests: they stand apart so that a crate need not be proved once more for them.
 #![tactic(auto)]
 
-#[cfg(test)]
-mod duos;
-#[cfg(test)]
-mod forcing;
-#[cfg(test)]
-mod maps;
 #[cfg(test)]
 mod plan_feeds;
 #[cfg(test)]

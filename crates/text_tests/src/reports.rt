@@ -40,8 +40,7 @@ fn is_json(alloc: Global, sc: &Scenario, positions: &[u8], text: &str) -> Result
     Ok(out.as_slice() == text.as_bytes())
 }
 
-/// Whether the report of the path that has these positions is this text.
-pub fn reports(alloc: Global, scenario: &str, positions: &[u8], text: &str) -> Result<bool, Fail> {
+fn reports(alloc: Global, scenario: &str, positions: &[u8], text: &str) -> Result<bool, Fail> {
     let sc = read(alloc, scenario.as_bytes())?;
     is_report(alloc, &sc, positions, text)
 }

@@ -109,8 +109,7 @@ pub(crate) fn read(alloc: Global, text: &[u8]) -> Result<Scenario, Fail> {
     }
 }
 
-/// The canonical text of a scenario.
-pub(crate) fn printed(alloc: Global, sc: &Scenario) -> Result<Vec<u8>, Fail> {
+fn printed(alloc: Global, sc: &Scenario) -> Result<Vec<u8>, Fail> {
     let mut text = Vec::new(alloc);
     print_scenario(&mut text, sc)?;
     Ok(text)

@@ -1,0 +1,33 @@
+-- What is planned of a scenario that is made is the best of the scenario that it is made of, and is accepted.
+use Rattle.std.proofs.Common.{ℕ, ◌≡◌, ◌≤◌, List, [], ◌++◌, length, inr, refl, sym, subst, ◌∙◌}
+use Rattle.std.proofs.Math.Seq.{drop-append_seam}
+use Rattle.search_model.specs.Problem.{Problem}
+use Rattle.scenario_text.specs.Canonical.{canonical_text}
+use Rattle.scenario_text.proofs.Back.{canonical_front_reads_back}
+use Rattle.bound_tree.proofs.SamePlans.{accepts_same}
+use Rattle.tree_format.proofs.SameTexts.{same_search_same_texts}
+use Rattle.residual_plan.proofs.Carried.{forced_best}
+use Rattle.duo_search.specs.Product.{pair_value}
+use Rattle.duo_search.proofs.PairPaths.{paths_are_pairs}
+use Rattle.duo_search.proofs.Values.{pair_is_value, no_pair_finds_more}
+use Rattle.plan_command.specs.Plans.{BeginsWith, IsPlanRest}
+use Rattle.plan_command.specs.Commands.{IsInput}
+use Rattle.plan_command.specs.MadeLaws.{ReplannedIsBest, PairedIsBest, MadeIsAccepted}
+
+pub replanned_is_best : ReplannedIsBest
+replanned_is_best p q flown plan sound made legal forced certified = forced_best p q flown plan.standing.path sound made legal forced certified.best
+
+pub paired_is_best : PairedIsBest
+paired_is_best p q second plan sound made within product certified =
+    let path = plan.standing.path in
+    let both = (paths_are_pairs p q second sound made product within).pair path certified.best.path in
+    let value = certified.accepted.value ∙ pair_is_value p q second sound made product path certified.best.path in
+    (both.0, both.1, value, λ a b from_start from_second.
+    subst (λ n. pair_value p a b ≤ n) (sym value) (no_pair_finds_more p q second sound made product within path certified.best a b from_start from_second))
+
+pub made_is_accepted : MadeIsAccepted
+made_is_accepted q nodes text sound (rest, (plan, certified, few, spelled), whole) =
+    let (r, same, front) = canonical_front_reads_back q rest sound in
+    let begins : BeginsWith r (canonical_text q ++ rest) rest = record { bytes = length (canonical_text q); front = front; follows = sym (drop-append_seam (canonical_text q) rest) } in
+    let behind : IsPlanRest r rest plan = record { blanks = []; only = refl; text = rest; spelled = same_search_same_texts q r plan rest same (inr spelled); whole = refl } in
+    (r, plan, same, subst (λ both. IsInput both r plan) (sym whole) (rest, begins, behind), accepts_same q r plan sound same certified.accepted)

@@ -1,0 +1,33 @@
+-- What the plan of a scenario that is made says of the scenario that it is made of.
+use Rattle.std.specs.Prelude.{ℕ, ◌≡◌, ◌<◌, ◌≤◌, List, map}
+use Rattle.search_model.specs.Problem.{Problem, IsProblem}
+use Rattle.search_model.specs.Legal.{IsLegal}
+use Rattle.search_model.specs.Same.{AreSame}
+use Rattle.search_model.specs.Order.{Starts}
+use Rattle.searcher_maps.specs.Carried.{IsBestAmong}
+use Rattle.residual_plan.specs.Forced.{source_of, IsForced}
+use Rattle.duo_search.specs.Product.{pair_value, IsProduct}
+use Rattle.duo_search.specs.Pairs.{IsPathFrom, firsts_of, seconds_of}
+use Rattle.bound_tree.specs.declared.plan.Plan.{Plan}
+use Rattle.bound_tree.specs.Accepts.{Accepts}
+use Rattle.plan_command.specs.Plans.{IsCertified}
+use Rattle.plan_command.specs.Commands.{IsInput}
+use Rattle.plan_command.specs.MadePlans.{IsMadeAndPlanned}
+
+-- the planned path, taken back, is the best of those that begin with the flown prefix
+abbrev pub ReplannedIsBest : Type 0
+ReplannedIsBest = (p q : Problem) (flown : List ℕ) (plan : Plan) → IsProblem p → IsProblem q → IsLegal p flown → IsForced p flown q → IsCertified q plan →
+    IsBestAmong p (Starts flown) (map (source_of p flown) plan.standing.path)
+
+-- the planned path stands for a pair of paths that finds what the plan says, and no pair finds more
+abbrev pub PairedIsBest : Type 0
+PairedIsBest = (p q : Problem) (second : ℕ) (plan : Plan) → IsProblem p → IsProblem q → second < p.positions → IsProduct p second q → IsCertified q plan →
+    let path = plan.standing.path in
+    IsPathFrom p p.start (firsts_of p.positions path) × IsPathFrom p second (seconds_of p.positions path)
+    × (plan.standing.value ≡ pair_value p (firsts_of p.positions path) (seconds_of p.positions path))
+    × ((a b : List ℕ) → IsPathFrom p p.start a → IsPathFrom p second b → pair_value p a b ≤ plan.standing.value)
+
+-- the text of a scenario and of its plan is an input: of a scenario that is the same search, and of a plan that is accepted for it
+abbrev pub MadeIsAccepted : Type 0
+MadeIsAccepted = (q : Problem) (nodes : ℕ) (text : List ℕ) → IsProblem q → IsMadeAndPlanned nodes q text →
+    (r : Problem) × (plan : Plan) × AreSame q r × IsInput text r plan × Accepts r plan

@@ -1,0 +1,60 @@
+//! Positions by their names, and the prefixes that words name.
+
+ghost use Rattle.std.specs.Prelude.{◌≡◌, ◌≤◌, ◌<◌, length, map, string_bytes, IfOk, IfErr, IfSome, IfNone, Contains};
+ghost use Rattle.search_model.specs.Problem.{position_name};
+ghost use Rattle.plan_command.specs.Flown.{AreNamed, HasStranger, IsFlown, IsUnflown};
+
+use search_model::{Path, Scenario};
+
+/// Why no scenario forces a flown prefix; the first of these that holds is named.
+#[derive(Clone, Copy, Debug, PartialEq, Eq)]
+pub enum FlownWhy {
+    /// One of the names is no position's.
+    UnknownName,
+    /// The positions don't follow the moves from the start, or there are more than periods.
+    NotLegal,
+    /// There would be more than 200 positions.
+    TooManyPositions,
+    /// A position has a name that a new one would have.
+    NameTaken,
+}
+
+/// The number of the position that has this name.
+pub fn position_named(sc: &Scenario, name: &[u8]) -> Option<u8>
+    ensures position { IfSome result (λ a. a < sc.now.positions) }
+    ensures named { IfSome result (λ a. position_name sc.now a ≡ name.now) }
+    ensures none { IfNone result (¬ Contains sc.now.position_names name.now) }
+{
+    for a in 0..sc.positions() {
+        if sc.position(a).bytes() == name {
+            return Some(a);
+        }
+    }
+    None
+}
+
+// The positions of these names, where each is one's.
+fn positions_named(sc: &Scenario, names: &[String]) -> Option<Path>
+    requires { length names.now ≤ 32 }
+    ensures some { IfSome result (AreNamed sc.now (map string_bytes names.now)) }
+    ensures none { IfNone result (HasStranger sc.now (map string_bytes names.now)) }
+{
+    let mut flown = Path::empty();
+    for name in names {
+        flown.push(position_named(sc, name.as_bytes())?);
+    }
+    Some(flown)
+}
+
+/// The legal prefix of these names, or why it isn't one. All names are looked up before its moves are asked.
+pub fn flown_from(sc: &Scenario, names: &[String]) -> Result<Path, FlownWhy>
+    requires { length names.now ≤ 32 }
+    ensures ok { IfOk result (IsFlown sc.now (map string_bytes names.now)) }
+    ensures err { IfErr result (IsUnflown sc.now (map string_bytes names.now)) }
+{
+    match positions_named(sc, names) {
+        None => Err(FlownWhy::UnknownName),
+        Some(flown) if sc.is_legal(&flown) => Ok(flown),
+        Some(_) => Err(FlownWhy::NotLegal),
+    }
+}

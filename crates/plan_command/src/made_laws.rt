@@ -1,0 +1,18 @@
+//! What the plan of a scenario that is made says of the scenario that it is made of.
+
+ghost use Rattle.plan_command.specs.MadeLaws.{ReplannedIsBest, PairedIsBest, MadeIsAccepted};
+
+/// The planned path of a scenario that forces a prefix, taken back, is the best of those that begin with the prefix.
+pub fn replanned_is_best()
+    ensures { ReplannedIsBest }
+{}
+
+/// The planned path of a product scenario stands for a pair of paths that finds what the plan says, and no pair finds more.
+pub fn paired_is_best()
+    ensures { PairedIsBest }
+{}
+
+/// What is written for a scenario that is made is an input whose plan is accepted, for a scenario that is the same search.
+pub fn made_is_accepted()
+    ensures { MadeIsAccepted }
+{}

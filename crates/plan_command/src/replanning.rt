@@ -1,0 +1,63 @@
+//! Replanning behind a flown prefix.
+
+ghost use Rattle.std.specs.Prelude.{◌≡◌, ◌≤◌, length, map, string_bytes};
+ghost use Rattle.search_model.specs.Legal.{IsLegal};
+ghost use Rattle.plan_command.specs.Words.{IsCrew};
+ghost use Rattle.plan_command.specs.Replans.{Replans, ReplansFlown};
+ghost use Rattle.bound_tree.specs.declared.tree.TheConstants.{MOST_NODES};
+
+use crate::flown::{FlownWhy, flown_from};
+use crate::made_plans::{MadeStop, made_and_planned};
+use residual_plan::{ForceFault, forced};
+use search_model::{Path, Scenario};
+use search_workers::Gate;
+use std::sync::Wait;
+use std::thread::Threads;
+
+// The scenario that forces a legal prefix, and its plan.
+fn replan_flown<R: AllocGlobal + Threads + Wait + Sync, G: Gate>(
+    rt: &R,
+    sc: &Scenario,
+    flown: &Path,
+    workers: u32,
+    nodes: u64,
+    gate: &G,
+) -> Result<Vec<u8>, MadeStop>
+    requires legal { IsLegal sc.now flown.now }
+    requires some { 1 ≤ length flown.now }
+    requires crew { IsCrew workers }
+    requires nodes { (1 ≤ nodes) × (nodes ≤ MOST_NODES) }
+    ensures { ReplansFlown nodes sc.now flown.now result }
+{
+    match forced(rt.alloc(), sc, flown) {
+        Ok(made) => {
+            made.recall_sound();
+            made_and_planned(rt, &made, workers, nodes, gate)
+        }
+        Err(ForceFault::NotLegal) => unreachable!(),
+        Err(ForceFault::TooManyPositions) => Err(MadeStop::BadFlown(FlownWhy::TooManyPositions)),
+        Err(ForceFault::NameTaken) => Err(MadeStop::BadFlown(FlownWhy::NameTaken)),
+        Err(ForceFault::NoMemory) => Err(MadeStop::NoMemory),
+    }
+}
+
+/// The scenario that forces the prefix of these names, and its plan: the best path among those that begin with the prefix.
+pub fn replan<R: AllocGlobal + Threads + Wait + Sync, G: Gate>(
+    rt: &R,
+    sc: &Scenario,
+    names: &[String],
+    workers: u32,
+    nodes: u64,
+    gate: &G,
+) -> Result<Vec<u8>, MadeStop>
+    requires some { 1 ≤ length names.now }
+    requires most { length names.now ≤ 32 }
+    requires crew { IsCrew workers }
+    requires nodes { (1 ≤ nodes) × (nodes ≤ MOST_NODES) }
+    ensures { Replans nodes sc.now (map string_bytes names.now) result }
+{
+    match flown_from(sc, names) {
+        Ok(flown) => replan_flown(rt, sc, &flown, workers, nodes, gate),
+        Err(why) => Err(MadeStop::BadFlown(why)),
+    }
+}
