@@ -21,9 +21,13 @@ pub paired_is_best : PairedIsBest
 paired_is_best p q second plan sound made within product certified =
     let path = plan.standing.path in
     let both = (paths_are_pairs p q second sound made product within).pair path certified.best.path in
-    let value = certified.accepted.value ∙ pair_is_value p q second sound made product path certified.best.path in
-    (both.0, both.1, value, λ a b from_start from_second.
-    subst (λ n. pair_value p a b ≤ n) (sym value) (no_pair_finds_more p q second sound made product within path certified.best a b from_start from_second))
+    let value = certified.accepted.value ∙ pair_is_value p q second sound made product path certified.best.path in (
+      both.0,
+      both.1,
+      value,
+      λ a b from_start from_second.
+          subst (λ n. pair_value p a b ≤ n) (sym value) (no_pair_finds_more p q second sound made product within path certified.best a b from_start from_second),
+    )
 
 pub made_is_accepted : MadeIsAccepted
 made_is_accepted q nodes text sound (rest, (plan, certified, few, spelled), whole) =

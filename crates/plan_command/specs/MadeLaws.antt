@@ -12,6 +12,10 @@ use Rattle.bound_tree.specs.declared.plan.Plan.{Plan}
 use Rattle.bound_tree.specs.Accepts.{Accepts}
 use Rattle.plan_command.specs.Plans.{IsCertified}
 use Rattle.plan_command.specs.Commands.{IsInput}
+use Rattle.plan_command.specs.declared.flown.FlownWhy.{FlownWhy}
+use Rattle.plan_command.specs.declared.pairing.DuoWhy.{DuoWhy}
+use Rattle.plan_command.specs.Flown.{AreNamed, IsFlown, IsUnflown, IsBadFlown}
+use Rattle.plan_command.specs.Duos.{Names, IsBadDuo}
 use Rattle.plan_command.specs.MadePlans.{IsMadeAndPlanned}
 
 -- the planned path, taken back, is the best of those that begin with the flown prefix
@@ -31,3 +35,28 @@ PairedIsBest = (p q : Problem) (second : ℕ) (plan : Plan) → IsProblem p → 
 abbrev pub MadeIsAccepted : Type 0
 MadeIsAccepted = (q : Problem) (nodes : ℕ) (text : List ℕ) → IsProblem q → IsMadeAndPlanned nodes q text →
     (r : Problem) × (plan : Plan) × AreSame q r × IsInput text r plan × Accepts r plan
+
+-- names are those of one prefix
+abbrev pub OnePrefixIsNamed : Type 0
+OnePrefixIsNamed = (p : Problem) (names : List (List ℕ)) (flown other : List ℕ) → IsProblem p → AreNamed p names flown → AreNamed p names other → flown ≡ other
+
+-- the names of a legal prefix aren't refused
+abbrev pub FlownIsntRefused : Type 0
+FlownIsntRefused = (p : Problem) (names : List (List ℕ)) (flown : List ℕ) (why : FlownWhy) → IsProblem p → IsFlown p names flown → ¬ IsUnflown p names why
+
+-- nor are those of a prefix that a scenario forces
+abbrev pub ForcedIsntRefused : Type 0
+ForcedIsntRefused = (p q : Problem) (names : List (List ℕ)) (flown : List ℕ) (why : FlownWhy) → IsProblem p → IsProblem q → IsFlown p names flown → IsForced p flown q →
+    ¬ IsBadFlown p names why
+
+-- and what is refused is refused for one reason
+abbrev pub OneWhyIsntForced : Type 0
+OneWhyIsntForced = (p : Problem) (names : List (List ℕ)) (why other : FlownWhy) → IsProblem p → IsBadFlown p names why → IsBadFlown p names other → why ≡ other
+
+-- a second start of which there is a product isn't refused
+abbrev pub ProductIsntRefused : Type 0
+ProductIsntRefused = (p q : Problem) (name : List ℕ) (second : ℕ) (why : DuoWhy) → IsProblem p → IsProblem q → Names p name second → IsProduct p second q → ¬ IsBadDuo p name why
+
+-- and one that is refused is refused for one reason
+abbrev pub OneWhyIsntPaired : Type 0
+OneWhyIsntPaired = (p : Problem) (name : List ℕ) (why other : DuoWhy) → IsProblem p → IsBadDuo p name why → IsBadDuo p name other → why ≡ other

@@ -27,7 +27,10 @@ mod words;
 pub use bound_tree::MOST_NODES;
 pub use flown::FlownWhy;
 pub use laws::what_is_planned_is_accepted;
-pub use made_laws::{made_is_accepted, paired_is_best, replanned_is_best};
+pub use made_laws::{
+    made_is_accepted, pair_refused_for_one_reason, paired_is_best, refused_for_one_reason,
+    replanned_is_best,
+};
 pub use made_plans::MadeStop;
 pub use mapping::map_flown;
 pub use pairing::{DuoWhy, pair};

@@ -1,6 +1,6 @@
 //! What the plan of a scenario that is made says of the scenario that it is made of.
 
-ghost use Rattle.plan_command.specs.MadeLaws.{ReplannedIsBest, PairedIsBest, MadeIsAccepted};
+ghost use Rattle.plan_command.specs.MadeLaws.{ReplannedIsBest, PairedIsBest, MadeIsAccepted, OnePrefixIsNamed, FlownIsntRefused, ForcedIsntRefused, OneWhyIsntForced, ProductIsntRefused, OneWhyIsntPaired};
 
 /// The planned path of a scenario that forces a prefix, taken back, is the best of those that begin with the prefix.
 pub fn replanned_is_best()
@@ -15,4 +15,18 @@ pub fn paired_is_best()
 /// What is written for a scenario that is made is an input whose plan is accepted, for a scenario that is the same search.
 pub fn made_is_accepted()
     ensures { MadeIsAccepted }
+{}
+
+/// Names are those of one prefix. They are refused for one reason, and aren't where the prefix is flown, or forced.
+pub fn refused_for_one_reason()
+    ensures one_prefix { OnePrefixIsNamed }
+    ensures flown { FlownIsntRefused }
+    ensures forced { ForcedIsntRefused }
+    ensures one_why { OneWhyIsntForced }
+{}
+
+/// A second start is refused for one reason, and isn't where there is a product.
+pub fn pair_refused_for_one_reason()
+    ensures product { ProductIsntRefused }
+    ensures one_why { OneWhyIsntPaired }
 {}
