@@ -1,7 +1,6 @@
 -- What is planned of a scenario that is made is the best of the scenario that it is made of, and is accepted.
-use Rattle.std.proofs.Common.{ℕ, ◌≡◌, ◌≤◌, List, [], ◌++◌, length, inr, refl, sym, subst, ◌∙◌}
+use Rattle.std.proofs.Common.{◌≤◌, [], ◌++◌, length, inr, refl, sym, subst, ◌∙◌}
 use Rattle.std.proofs.Math.Seq.{drop-append_seam}
-use Rattle.search_model.specs.Problem.{Problem}
 use Rattle.scenario_text.specs.Canonical.{canonical_text}
 use Rattle.scenario_text.proofs.Back.{canonical_front_reads_back}
 use Rattle.bound_tree.proofs.SamePlans.{accepts_same}

@@ -22,7 +22,7 @@ use Rattle.plan_command.specs.declared.flown.FlownWhy.{FlownWhy}
 use Rattle.plan_command.specs.declared.flown.FlownWhy.TheVariants.{UnknownName, NotLegal, TooManyPositions, NameTaken}
 use Rattle.plan_command.specs.declared.pairing.DuoWhy.{DuoWhy}
 use Rattle.plan_command.specs.declared.pairing.DuoWhy.TheVariants as duos
-use Rattle.plan_command.specs.Flown.{AreNamed, IsFlown, HasStranger, IsAstray, IsUnflown, IsUnforced, IsBadFlown}
+use Rattle.plan_command.specs.Flown.{AreNamed, IsFlown, HasStranger, IsAstray, IsUnforced}
 use Rattle.plan_command.specs.Duos.{Names, IsUnpaired, IsBadDuo}
 use Rattle.plan_command.specs.MadeLaws.{OnePrefixIsNamed, FlownIsntRefused, ForcedIsntRefused, OneWhyIsntForced, ProductIsntRefused, OneWhyIsntPaired}
 

@@ -7,12 +7,14 @@ pub fn replanned_is_best()
     ensures { ReplannedIsBest }
 {}
 
-/// The planned path of a product scenario stands for a pair of paths that finds what the plan says, and no pair finds more.
+/// The planned path of a product scenario stands for a pair of paths that finds what the plan says, and no pair finds
+/// more.
 pub fn paired_is_best()
     ensures { PairedIsBest }
 {}
 
-/// What is written for a scenario that is made is an input whose plan is accepted, for a scenario that is the same search.
+/// What is written for a scenario that is made is an input whose plan is accepted, for a scenario that is the same
+/// search.
 pub fn made_is_accepted()
     ensures { MadeIsAccepted }
 {}

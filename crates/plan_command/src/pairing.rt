@@ -52,8 +52,8 @@ fn pair_from<R: AllocGlobal + Threads + Wait + Sync, G: Gate>(
     }
 }
 
-/// The product scenario in which the second searcher starts at the position of this name, and its plan: the pair of paths
-/// that finds most.
+/// The product scenario in which the second searcher starts at the position of this name, and its plan: the pair of
+/// paths that finds most.
 pub fn pair<R: AllocGlobal + Threads + Wait + Sync, G: Gate>(
     rt: &R,
     sc: &Scenario,

@@ -41,7 +41,8 @@ fn replan_flown<R: AllocGlobal + Threads + Wait + Sync, G: Gate>(
     }
 }
 
-/// The scenario that forces the prefix of these names, and its plan: the best path among those that begin with the prefix.
+/// The scenario that forces the prefix of these names, and its plan: the best path among those that begin with the
+/// prefix.
 pub fn replan<R: AllocGlobal + Threads + Wait + Sync, G: Gate>(
     rt: &R,
     sc: &Scenario,
