@@ -23,12 +23,6 @@ def numbers_of(sc, names):
     return [sc.positions.index(it) for it in names]
 
 
-def is_legal(sc, prefix):
-    """Whether a list of positions follows the moves from the start, and isn't longer than the horizon."""
-    before = [sc.start, *prefix]
-    return len(prefix) <= sc.horizon and all(to in sc.moves[at] for at, to in zip(before, prefix))
-
-
 def with_searcher(sc, positions, start, moves, looks, denominator):
     """A scenario with the same target; looks are by period and position."""
     made = copy.copy(sc)
@@ -39,14 +33,19 @@ def with_searcher(sc, positions, start, moves, looks, denominator):
     return made
 
 
+def sources(sc, flown):
+    """The positions that those of the scenario that forces a flown prefix stand for."""
+    return [*range(len(sc.positions)), sc.start, *flown]
+
+
 def forced(sc, flown):
     """The scenario in which the searcher first goes through the positions of a flown prefix, which isn't empty, and then on from there."""
-    need(is_legal(sc, flown), "NotLegal")
+    need(paths.is_legal(sc, flown), "NotLegal")
     count, k = len(sc.positions), len(flown)
     need(count + k + 1 <= MOST_CELLS, "TooManyPositions")
     names = [b"flown-%d" % it for it in range(k + 1)]
     need(not set(names) & set(sc.positions), "NameTaken")
-    source = [*range(count), sc.start, *flown]
+    source = sources(sc, flown)
     moves = dict(sc.moves)
     moves.update({count + it: [count + it + 1] for it in range(k)})
     moves[count + k] = sc.moves[flown[-1]]
@@ -55,7 +54,7 @@ def forced(sc, flown):
 
 def unforced(sc, flown, path):
     """The path of a scenario that a path of the forced one stands for."""
-    source = [*range(len(sc.positions)), sc.start, *flown]
+    source = sources(sc, flown)
     return [source[it] for it in path]
 
 
@@ -82,7 +81,7 @@ def product(sc, second):
 
 def map_text(sc, flown):
     """The map of the masses that a flown prefix, which isn't empty, leaves period by period, as bytes."""
-    need(is_legal(sc, flown), "NotLegal")
+    need(paths.is_legal(sc, flown), "NotLegal")
     whole, lines = paths.weight(sc), [b"map 1"]
     for frame in masses.frames(sc, flown)[1:]:
         lines.append(b"period %d %s" % (frame.period, sc.positions[frame.position]))

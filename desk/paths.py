@@ -7,14 +7,15 @@ def weight(sc):
     return a * d ** (sc.horizon - 1) * g**sc.horizon
 
 
+def is_legal(sc, prefix):
+    """Whether a list of positions follows the moves from the start, and isn't longer than the horizon."""
+    before = [sc.start, *prefix]
+    return len(prefix) <= sc.horizon and all(to in sc.moves[at] for at, to in zip(before, prefix))
+
+
 def is_path(sc, path):
-    """Whether a list of positions follows the moves from the start, as long as the horizon."""
-    at = sc.start
-    for position in path:
-        if position not in sc.moves[at]:
-            return False
-        at = position
-    return len(path) == sc.horizon
+    """Whether it does, and is as long as the horizon."""
+    return len(path) == sc.horizon and is_legal(sc, path)
 
 
 def looked(sc, belief, t, position):
