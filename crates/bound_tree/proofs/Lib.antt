@@ -3,6 +3,7 @@ pub mod Misses
 pub mod MeanBound
 pub mod Tangents
 pub mod Closing
+pub mod Longer
 pub mod Convex
 pub mod TangentBound
 pub mod EatLemmas

@@ -4,6 +4,7 @@ use Rattle.search_model.specs.Problem.{Problem, IsProblem}
 use Rattle.search_model.specs.Legal.{IsLegal}
 use Rattle.search_model.specs.Tracks.{value_of}
 use Rattle.search_model.specs.Bounds.{mean_of, IsRate, tangent_of}
+use Rattle.search_model.specs.Order.{Starts}
 use Rattle.bound_tree.specs.Accepts.{Extends}
 
 -- no path finds more than the mean bound of a prefix that it extends (Martins 1993)
@@ -26,3 +27,7 @@ LooksAreConvex = (g rate looks n m : ℕ) → rate ≤ g → n ≤ looks → m �
 -- path that extends the prefix
 abbrev pub TangentIsAbove : Type 0
 TangentIsAbove = (p : Problem) (rate : ℕ) (q x y : List ℕ) → IsProblem p → IsRate p rate → Extends p q x → Extends p q y → p.sweep.denominator * value_of p y ≤ tangent_of p rate q x
+
+-- of two prefixes of a path, the tangent bound of the longer one at that path is no more than that of the shorter one
+abbrev pub TangentGrows : Type 0
+TangentGrows = (p : Problem) (rate : ℕ) (q r x : List ℕ) → IsProblem p → Starts q r → Extends p r x → tangent_of p rate r x ≤ tangent_of p rate q x

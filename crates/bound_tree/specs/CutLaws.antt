@@ -18,6 +18,10 @@ CutStays = (b : ℕ) (q : List ℕ) (s t : Standing) → IsTrue (better t s) →
 abbrev pub FinerCutStays : Type 0
 FinerCutStays = (g b : ℕ) (q : List ℕ) (s t : Standing) → 1 ≤ g → IsAtLeast t s → IsTrue (is_cut b q (times g s)) → IsTrue (is_cut b q (times g t))
 
+-- a bound that is no less than one that a standing doesn't cut isn't cut, either
+abbrev pub UncutAbove : Type 0
+UncutAbove = (b c : ℕ) (q : List ℕ) (s : Standing) → b ≤ c → IsFalse (is_cut b q s) → IsFalse (is_cut c q s)
+
 -- a mean, a tangent or an edge
 abbrev pub IsBoundKind : Kind → Type 0
 IsBoundKind Branch = ⊥

@@ -1,7 +1,7 @@
 //! Laws over the definitions.
 
-ghost use Rattle.bound_tree.specs.BoundLaws.{MeanIsAbove, LooksAreConvex, TangentIsAbove};
-ghost use Rattle.bound_tree.specs.CutLaws.{CutStays, FinerCutStays, ClosedStays, MeanStays, BranchedBefore, ClosesOnce, ClosedIsGood};
+ghost use Rattle.bound_tree.specs.BoundLaws.{MeanIsAbove, LooksAreConvex, TangentIsAbove, TangentGrows};
+ghost use Rattle.bound_tree.specs.CutLaws.{CutStays, FinerCutStays, UncutAbove, ClosedStays, MeanStays, BranchedBefore, ClosesOnce, ClosedIsGood};
 ghost use Rattle.bound_tree.specs.Eat.{EatenByEither};
 ghost use Rattle.bound_tree.specs.EdgeLaws.{EdgeIsAbove, EdgeIsWithinMean};
 ghost use Rattle.bound_tree.specs.Laws.{AcceptedIsBest};
@@ -49,6 +49,17 @@ pub fn looks_are_convex()
 #[tactic(auto, using(crate::proofs::TangentBound::tangent_is_above))]
 pub fn tangent_is_above()
     ensures { TangentIsAbove }
+{}
+
+/// Of two prefixes of a path, the tangent bound of the longer one at that path is no more than that of the shorter one.
+pub fn tangent_grows()
+    ensures { TangentGrows }
+{}
+
+/// A bound that is no less than one that a standing doesn't cut isn't cut, either.
+#[tactic(auto, using(crate::proofs::Longer::uncut_above))]
+pub fn uncut_above()
+    ensures { UncutAbove }
 {}
 
 /// What a standing cuts, every better standing cuts, also in finer parts, with which a tangent is compared.

@@ -1,9 +1,9 @@
 //! Closing a prefix.
 
-ghost use Rattle.std.specs.Prelude.{◌≡◌, ◌<◌, ◌≤◌, ◌+◌, ℕ, length, IfOk, IsFalse};
+ghost use Rattle.std.specs.Prelude.{◌≡◌, ◌<◌, ◌≤◌, ◌+◌, ℕ, length, IfOk, IsTrue, IsFalse};
 ghost use Rattle.search_model.specs.Problem.{Problem};
 ghost use Rattle.search_model.specs.Legal.{IsLegal, moves_after};
-ghost use Rattle.search_model.specs.Bounds.{IsRate, mean_of};
+ghost use Rattle.search_model.specs.Bounds.{IsRate, mean_of, tangent_of};
 ghost use Rattle.search_model.specs.Reference.{IsReference};
 ghost use Rattle.belief_update.specs.Trails.{IsPast, IsTrailOf};
 ghost use Rattle.bound_tree.specs.Close.{IsClosed, IsExact, IsAtLeast, IsLeftOpen};
@@ -129,6 +129,38 @@ fn close_by_edge(
     }
 }
 
+// Whether the reference without its last look shows that the standing doesn't cut the prefix's tangent bound: the tangent
+// bound of a longer prefix of the reference is no more than that, and takes less time.
+fn is_seen_open(
+    tangent: &mut Tangent,
+    sc: &Scenario,
+    ahead: &Belief,
+    prefix: &Path,
+    reference: &Path,
+    finer: &Standing,
+) -> bool
+    requires made { IsTangentFor sc.now tangent.old }
+    requires ahead { IsPast sc.now prefix.now ahead.now }
+    requires near { ahead.now.period ≤ length prefix.now + 1 }
+    requires rate { (rate : ℕ) × IsRate sc.now rate }
+    requires legal { IsLegal sc.now prefix.now }
+    requires shorter { length prefix.now < sc.now.horizon }
+    requires reference { IsReference sc.now prefix.now reference.now }
+    requires long { length finer.now.path ≡ sc.now.horizon }
+    ensures open { IsTrue result → (rate : ℕ) → IsRate sc.now rate →
+        IsFalse (is_cut (tangent_of sc.now rate prefix.now reference.now) prefix.now finer.now) }
+    ensures made { IsTangentFor sc.now tangent.new }
+{
+    sc.recall_sound();
+    let most = sc.horizon() - 1;
+    // Where no look is left out, that is the tangent bound itself.
+    if most as usize == prefix.len() {
+        return false;
+    }
+    let shown = tangent.bound_beyond(sc, ahead, prefix, reference, most);
+    !cuts(finer, shown, prefix)
+}
+
 // Closes a prefix whose mean bound isn't cut, where the looks have one rate: by its tangent bound at the reference, if
 // the standing cuts that.
 fn close_by_tangent(
@@ -151,9 +183,12 @@ fn close_by_tangent(
     ensures made { IsMadeFor sc.now scratch.new }
 {
     let whole = sc.sweep().denominator();
-    let ahead = ahead_of(&scratch.trail, sc, prefix);
-    let tangent = scratch.tangent.bound_after(sc, ahead, prefix, reference);
     let finer = in_parts(standing, whole);
+    let ahead = ahead_of(&scratch.trail, sc, prefix);
+    if is_seen_open(&mut scratch.tangent, sc, ahead, prefix, reference, &finer) {
+        return close_by_edge(scratch, sc, prefix, reference, standing);
+    }
+    let tangent = scratch.tangent.bound_after(sc, ahead, prefix, reference);
     if cuts(&finer, tangent, prefix) {
         Kind::Tangent(tangent, *reference)
     } else {

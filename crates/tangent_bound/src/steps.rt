@@ -27,3 +27,18 @@ pub(crate) fn look_on(sc: &Scenario, belief: &mut Belief, path: &Path, looks: u3
     belief.advance(sc);
     belief.look(sc, path.cells()[looks as usize]);
 }
+
+/// Looks from the positions of a path in the periods after `from` up to `to`.
+pub(crate) fn look_along(sc: &Scenario, belief: &mut Belief, path: &Path, from: u32, to: u32)
+    requires path { IsLegal sc.now path.now }
+    requires belief { IsPast sc.now (take from path.now) belief.old }
+    requires near { belief.old.period ≤ from + 1 }
+    requires order { from ≤ to }
+    requires inside { to ≤ length path.now }
+    ensures belief { IsPast sc.now (take to path.now) belief.new }
+    ensures near { belief.new.period ≤ to + 1 }
+{
+    for n in from..to {
+        look_on(sc, belief, path, n);
+    }
+}

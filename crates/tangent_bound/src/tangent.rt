@@ -8,7 +8,7 @@ ghost use Rattle.backward_mass.specs.Table.{IsMadeFor as IsBackwardFor};
 ghost use Rattle.tangent_bound.specs.Room.{IsMadeFor};
 
 use crate::gains::{fill_after, sum_after};
-use crate::steps::one_rate;
+use crate::steps::{look_along, one_rate};
 use backward_mass::Backward;
 use belief_update::{Belief, follow, value_by};
 use exact_parts::NoMemory;
@@ -177,6 +177,45 @@ impl Tangent {
             sc,
             rate,
             prefix,
+            reference,
+        )
+    }
+
+    /// The tangent bound of the first `j` positions of a reference path at that path, by a belief after a prefix of them,
+    /// in the period of the prefix's last look or in the next one. It is no more than that of the prefix, and takes the
+    /// less time the greater `j` is. Takes no memory.
+    pub fn bound_beyond(
+        &mut self,
+        sc: &Scenario,
+        row: &Belief,
+        prefix: &Path,
+        reference: &Path,
+        j: u32,
+    ) -> u128
+        requires made { IsMadeFor sc.now self.old }
+        requires row { IsPast sc.now prefix.now row.now }
+        requires near { row.now.period ≤ length prefix.now + 1 }
+        requires rate { (rate : ℕ) × IsRate sc.now rate }
+        requires path { IsPath sc.now reference.now }
+        requires begins { take (length prefix.now) reference.now ≡ prefix.now }
+        requires order { length prefix.now ≤ j }
+        requires open { j < sc.now.horizon }
+        ensures value { (rate : ℕ) → IsRate sc.now rate →
+            result ≡ tangent_of sc.now rate (take j reference.now) reference.now }
+        ensures made { IsMadeFor sc.now self.new }
+    {
+        let rate = self.rate.unwrap();
+        self.belief.copy_from(row);
+        let k = prefix.len() as u32;
+        look_along(sc, &mut self.belief, reference, k, j);
+        bound_by(
+            &mut self.belief,
+            &mut self.backward,
+            &mut self.gains,
+            &mut self.walk,
+            sc,
+            rate,
+            &reference.first(j as usize),
             reference,
         )
     }

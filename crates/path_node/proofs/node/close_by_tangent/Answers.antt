@@ -1,8 +1,8 @@
-use Rattle.std.proofs.Common.{◌≡◌, ◌∙◌, ℕ, List, sym, ap, arith, IsFalse}
+use Rattle.std.proofs.Common.{◌≡◌, ◌∙◌, ℕ, List, refl, sym, ap, arith, IsFalse}
 use Rattle.search_model.specs.declared.standing.Standing.{Standing}
 use Rattle.search_model.specs.Problem.{Problem, IsProblem}
 use Rattle.search_model.specs.Legal.{IsLegal}
-use Rattle.search_model.specs.Bounds.{mean_of}
+use Rattle.search_model.specs.Bounds.{mean_of, tangent_of}
 use Rattle.bound_tree.specs.Close.{IsTangent, IsLeftOpen}
 use Rattle.bound_tree.specs.Cut.{is_cut, times}
 use Rattle.bound_tree.proofs.Tangents.{one_tangent, reference_extends}
@@ -23,8 +23,21 @@ left_open p s q b whole sound legal mean tangent free = record {
   tangent = λ c other is. ap (λ n. is_cut n q (times p.sweep.denominator s)) (one_tangent p q sound legal c b other whole is tangent).0 ∙ free;
 }
 
+-- where the reference without its last look shows it
 pub close_by_edge-requires-clause-open : goal.close_by_edge-requires-clause-open
 close_by_edge-requires-clause-open c =
+    let p = c.args.sc.now in
+    let q = c.args.prefix.now in
+    let whole = c.args.reference.now in
+    let (rate, is) = c.requires.rate in
+    let tangent : IsTangent p q (tangent_of p rate q whole) whole = record { rate = rate; is_rate = is; reference = c.requires.reference; bound = refl } in
+    let free : IsFalse (is_cut (tangent_of p rate q whole) q (times p.sweep.denominator c.args.standing.now)) =
+    rw (c.in_parts-finer.ensures, c.denominator-whole.ensures.value, c.sweep.ensures.value) at (c.is_seen_open.ensures.open c.if-is_seen_open.true rate is) in
+    left_open p c.args.standing.now q (tangent_of p rate q whole) whole c.sweep.ensures.sound c.requires.legal c.requires.free tangent free
+
+-- and where the tangent bound isn't cut
+pub close_by_edge-requires-else-cuts-clause-open : goal.close_by_edge-requires-else-cuts-clause-open
+close_by_edge-requires-else-cuts-clause-open c =
     let p = c.args.sc.now in
     let q = c.args.prefix.now in
     let whole = c.args.reference.now in
