@@ -6,3 +6,4 @@ pub mod Filling
 pub mod LeastSteps
 pub mod Entries
 pub mod Examples
+pub mod NearSteps

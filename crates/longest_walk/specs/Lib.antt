@@ -1,4 +1,5 @@
 pub mod Sums
+pub mod Near
 pub mod Tables
 pub mod Rows
 pub mod Laws

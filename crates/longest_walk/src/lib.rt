@@ -3,8 +3,10 @@
 #![tactic(auto)]
 
 mod laws;
+mod near;
 mod rows;
 mod walk;
 
 pub use laws::{highest_above, highest_below, same_rewards_same_sum, worked_walks};
+pub use near::Near;
 pub use walk::Walk;
