@@ -4,34 +4,32 @@ use Rattle.std.proofs.lemmas.List.{drop-append-le, length-append}
 use Rattle.search_grid.specs.Moves.{moves_from, IsGrid}
 use Rattle.search_model.specs.Bounds.{greatest}
 use Rattle.search_model.specs.Order.{Starts}
-use Rattle.search_model.proofs.LegalLemmas.{move_within}
-use Rattle.longest_walk.specs.Sums.{entry_at}
 use Rattle.search_model.specs.Reference.{IsLeastBest}
 use Rattle.longest_walk.specs.Rows.{sums_at, IsLeastMove}
-use Rattle.longest_walk.specs.Tables.{HasSums}
+use Rattle.longest_walk.specs.Near.{IsNear}
+use Rattle.longest_walk.specs.Tables.{HasSumsNear}
 use Rattle.longest_walk.proofs.Steps.{sum_through}
 use Rattle.longest_walk.proofs.LeastWalks.{IsLeastBest-cons}
-use Rattle.longest_walk.proofs.Filling.{next_entry, next_entries}
+use Rattle.longest_walk.proofs.Filling.{HasSumsOf, NearPositions, near_closed, next_entry, next_entries}
 
--- the sums of later periods are among those of more periods
-pub HasSums-later : (rows : List (List ℕ)) (positions horizon : ℕ) (rewards sums : List ℕ) (k p : ℕ) → k ≤ p → HasSums rows positions horizon rewards k sums → HasSums rows positions horizon rewards p sums
-HasSums-later rows positions horizon rewards sums k p le filled t q from to within = filled t q (omega (arith, le, from)) to within
-
--- the least move, and then the least walk from there
-pub IsLeastBest-step : (rows : List (List ℕ)) → IsGrid rows → (horizon : ℕ) (rewards sums : List ℕ) (p a d : ℕ) (y : List ℕ) → HasSums rows (length rows) horizon rewards p sums → p < horizon → a < length rows →
+-- the least move, and then the least walk from there, for positions within reach of one after period k
+pub IsLeastBest-step : (rows : List (List ℕ)) → IsGrid rows → (horizon : ℕ) (r : ℕ → ℕ → ℕ) (sums : List ℕ) (from k p a d : ℕ) (y : List ℕ) → from < length rows → k ≤ p →
+    HasSumsNear rows (length rows) horizon r from k sums → p < horizon → IsNear rows (p - k) from a →
     IsLeastMove sums (p * length rows) (moves_from rows a) d →
-    IsLeastBest rows (entry_at (length rows) rewards) (horizon - (p + 1)) (p + 1 + 1) d y →
-    IsLeastBest rows (entry_at (length rows) rewards) (horizon - p) (p + 1) a (d ∷ y)
-IsLeastBest-step rows grid horizon rewards sums p a d y filled below here step rest =
-    let r : ℕ → ℕ → ℕ = entry_at (length rows) rewards in
+    IsLeastBest rows r (horizon - (p + 1)) (p + 1 + 1) d y →
+    IsLeastBest rows r (horizon - p) (p + 1) a (d ∷ y)
+IsLeastBest-step rows grid horizon r sums from k p a d y start le filled below near step rest =
     let n : ℕ = horizon - (p + 1) in
     let long : suc n ≡ horizon - p = omega (arith, below) in
+    let N : ℕ → ℕ → Type 0 = NearPositions rows from k in
+    let parts = near_closed rows grid from k p a start le near in
+    let later : HasSumsOf rows horizon r N p sums = λ t q after last here. filled t q (omega (arith, le, after)) last here in
     let entry : (e : ℕ) → Contains (moves_from rows a) e → slice_index sums (p * length rows + e) ≡ sum_through rows r n (p + 1) e =
-    λ e move. next_entry rows grid horizon rewards sums p filled below e (move_within rows grid a e here move) in
+    λ e move. next_entry rows grid horizon r N sums p later below e (parts.1 e move) in
     let whole : greatest (sums_at sums (p * length rows) (moves_from rows a)) ≡ greatest (map (sum_through rows r n (p + 1)) (moves_from rows a)) =
-    ap greatest (next_entries rows grid horizon rewards sums p filled below a here) in
+    ap greatest (next_entries rows grid horizon r N sums p later below a parts.1) in
     subst (λ m. IsLeastBest rows r m (p + 1) a (d ∷ y)) long
-    (IsLeastBest-cons rows grid r n (p + 1) a d y here step.move
+    (IsLeastBest-cons rows grid r n (p + 1) a d y parts.0 step.move
     (sym (entry d step.move) ∙ step.best ∙ whole)
     (λ e move same. step.least e move (entry e move ∙ same ∙ sym whole))
     rest)

@@ -7,3 +7,4 @@ pub mod LeastSteps
 pub mod Entries
 pub mod Examples
 pub mod NearSteps
+pub mod Places

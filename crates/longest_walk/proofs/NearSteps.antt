@@ -1,10 +1,10 @@
 -- The positions within reach of one, a number of moves after another.
-use Rattle.std.proofs.Common.{ℕ, zero, suc, ◌+◌, ◌-◌, ◌≤◌, ◌<◌, ◌≡◌, ◌⊎◌, ◌↔◌, Bool, true, false, List, [], ◌∷◌, ◌++◌, length, take, slice_index, slice_index_or, get_or, set, replicate, inl, inr, refl, sym, ap, ◌∙◌, subst, arith, All, Contains, append_assoc, append-nil, length-append}
+use Rattle.std.proofs.Common.{ℕ, zero, suc, ◌+◌, ◌≤◌, ◌<◌, ◌≡◌, ◌↔◌, Bool, true, false, List, [], ◌∷◌, ◌++◌, length, take, slice_index, slice_index_or, set, replicate, inl, inr, refl, sym, ap, ◌∙◌, subst, arith, All, Contains, append_assoc, append-nil, length-append}
 use Rattle.std.proofs.Math.ListN.{get_or-eq_default}
 use Rattle.std.proofs.Math.Seq.{take-length, get_or-append_seam}
-use Rattle.std.proofs.lemmas.Bool.{cases_lt, cases_eq, cases_order, cases_Bool, true≢false}
+use Rattle.std.proofs.lemmas.Bool.{cases_lt, cases_eq, true≢false}
 use Rattle.std.proofs.lemmas.List.{take-append-le, get_or_append_left, get_or-set_same, get_or-set_other, get_or_default, get_or-replicate, length-replicate}
-use Rattle.std.proofs.lemmas.List.Elements.{Contains-append_left, Contains-append_right, Contains-append_cases, Contains-get_or, All-contains, All-weaker, All-contains_itself}
+use Rattle.std.proofs.lemmas.List.Elements.{Contains-append_left, Contains-append_right, Contains-append_cases, Contains-get_or, All-weaker, All-contains_itself}
 use Rattle.search_grid.specs.Moves.{moves_from, IsGrid}
 use Rattle.search_model.specs.Order.{Starts}
 use Rattle.search_model.proofs.LegalLemmas.{move_within}
@@ -41,18 +41,27 @@ starts_front old new (rest, is) n few = ap (take n) is ∙ take-append-le n old 
 pub joined_there : (order : List ℕ) (v : ℕ) → Contains order v → IsJoined order (v ∷ []) order
 joined_there order v there = record {
   starts = starts-itself order;
-  has = λ u. ((λ had. inl had), λ either. elim either [
-    | inl had ↦ had
-    | inr one ↦ elim (Contains-cons_cases v u [] one) [ inl same ↦ subst (Contains order) same there | inr none ↦ absurd (Contains-nil u none) ]
-  ]);
+  has = λ u. (
+    (λ had. inl had),
+    λ either. elim either [
+      | inl had ↦ had
+      | inr one ↦ elim (Contains-cons_cases v u [] one) [ inl same ↦ subst (Contains order) same there | inr none ↦ absurd (Contains-nil u none) ]
+    ],
+  );
 }
 
 -- a position that is added
 pub joined_push : (order new : List ℕ) (v : ℕ) → new ≡ order ++ v ∷ [] → IsJoined order (v ∷ []) new
-joined_push order new v is = rw is (record { starts = (v ∷ [], refl); has = λ u. (Contains-append_cases order (v ∷ []) u, λ either. elim either [
-  | inl had ↦ Contains-append_left order (v ∷ []) u had
-  | inr one ↦ Contains-append_right order (v ∷ []) u one
-]) })
+joined_push order new v is = rw is (record {
+  starts = (v ∷ [], refl);
+  has = λ u. (
+    Contains-append_cases order (v ∷ []) u,
+    λ either. elim either [
+      | inl had ↦ Contains-append_left order (v ∷ []) u had
+      | inr one ↦ Contains-append_right order (v ∷ []) u one
+    ],
+  );
+})
 
 -- with its mark
 pub marks_push : (order new : List ℕ) (marks : List Bool) (v : ℕ) → AreMarks order marks → v < length marks → new ≡ order ++ v ∷ [] → AreMarks new (set marks v true)

@@ -68,12 +68,7 @@ fn add_moves(order: &mut Vec<u8>, marks: &mut [bool], moves: &[u8]) -> Result<()
 }
 
 // Adds the moves of the positions from a place on.
-fn grow(
-    order: &mut Vec<u8>,
-    marks: &mut [bool],
-    grid: &Grid,
-    from: usize,
-) -> Result<(), NoMemory>
+fn grow(order: &mut Vec<u8>, marks: &mut [bool], grid: &Grid, from: usize) -> Result<(), NoMemory>
     requires inside { All (λ u. u < length grid.now) order.old.items }
     requires marks { length marks.old ≡ length grid.now }
     requires marked { AreMarks order.old.items marks.old }

@@ -1,15 +1,17 @@
 //! The rows of the table, one for each period, with one sum for each position.
 
-ghost use Rattle.std.specs.Prelude.{◌≡◌, ℕ, ◌+◌, ◌-◌, ◌*◌, ◌^◌, ◌<◌, ◌≤◌, List, length, drop, slice_index, All};
+ghost use Rattle.std.specs.Prelude.{◌≡◌, ℕ, ◌+◌, ◌-◌, ◌*◌, ◌^◌, ◌<◌, ◌≤◌, List, length, drop, slice_index, All, Contains};
 ghost use Rattle.std.specs.List.Sorted.{IsStrictlyIncreasing};
 ghost use Rattle.search_grid.specs.Moves.{moves_from};
 ghost use Rattle.search_model.specs.Bounds.{greatest};
 ghost use Rattle.search_model.specs.Order.{Starts};
 ghost use Rattle.longest_walk.specs.Sums.{entry_at, highest_sum};
 ghost use Rattle.search_model.specs.Reference.{IsLeastBest};
-ghost use Rattle.longest_walk.specs.Tables.{HasSums};
+ghost use Rattle.longest_walk.specs.Near.{AreNear};
+ghost use Rattle.longest_walk.specs.Tables.{HasSums, HasNear, HasSumsNear};
 ghost use Rattle.longest_walk.specs.Rows.{sums_at, IsLeastMove};
 
+use crate::near::Near;
 use search_grid::Grid;
 use search_model::Path;
 
@@ -59,6 +61,33 @@ fn fill_row(sums: &mut [u128], grid: &Grid, rewards: &[u128], here: usize, next:
     }
 }
 
+// Fills the places of some positions in the row that starts at `here` from the row of the period after it, which starts
+// at `next`.
+fn fill_places(
+    sums: &mut [u128],
+    grid: &Grid,
+    rewards: &[u128],
+    some: &[u8],
+    here: usize,
+    next: usize,
+)
+    requires inside { All (λ c. c < length grid.now) some.now }
+    requires order { here + length grid.now ≤ next }
+    requires rewards { here + length grid.now ≤ length rewards.now }
+    requires sums { next + length grid.now ≤ length sums.old }
+    requires fits { (c : ℕ) → Contains some.now c
+        → slice_index rewards.now (here + c) + greatest (sums_at sums.old next (moves_from grid.now c)) < 2 ^ 128 }
+    ensures row { (c : ℕ) → Contains some.now c
+        → slice_index sums.new (here + c) ≡
+        slice_index rewards.now (here + c) + greatest (sums_at sums.old next (moves_from grid.now c)) }
+    ensures later { (i : ℕ) → next ≤ i → slice_index sums.new i ≡ slice_index sums.old i }
+{
+    for c in some {
+        let place = here + usize::from(*c);
+        sums[place] = rewards[place] + greatest_at(sums, next, grid.moves(*c));
+    }
+}
+
 // Fills the row of the last period, which starts at `last`: after it comes nothing.
 fn fill_last(sums: &mut [u128], rewards: &[u128], last: usize)
     requires last { last ≤ length sums.old }
@@ -85,6 +114,46 @@ pub(crate) fn fill_rows(sums: &mut [u128], grid: &Grid, rewards: &[u128], horizo
     }
 }
 
+/// Fills in the rows of the periods after `k` the places of the positions that are within reach of one then, the last
+/// period first.
+pub(crate) fn fill_near_rows(
+    sums: &mut [u128],
+    grid: &Grid,
+    near: &Near,
+    rewards: &[u128],
+    horizon: usize,
+    from: u8,
+    k: usize,
+)
+    requires horizon { horizon ≤ 32 }
+    requires period { k < horizon }
+    requires from { from < length grid.now }
+    requires near { AreNear grid.now horizon near.now }
+    requires rewards { length rewards.now ≡ horizon * length grid.now }
+    requires sums { length sums.old ≡ horizon * length grid.now }
+    requires fits { let positions = length grid.now in
+        (r : ℕ → ℕ → ℕ) × HasNear grid.now positions horizon r from k rewards.now
+        × (highest_sum positions r (horizon - k) (k + 1) < 2 ^ 127) }
+    ensures { let positions = length grid.now in
+        (r : ℕ → ℕ → ℕ) → HasNear grid.now positions horizon r from k rewards.now
+        → HasSumsNear grid.now positions horizon r from k sums.new }
+{
+    let positions = usize::from(grid.cells());
+    fill_last(sums, rewards, (horizon - 1) * positions);
+    let first = k + 1;
+    for t in (first..horizon).rev() {
+        let some = near.within(grid, from, (t - k) as u32);
+        fill_places(
+            sums,
+            grid,
+            rewards,
+            some,
+            (t - 1) * positions,
+            t * positions,
+        );
+    }
+}
+
 /// Appends the positions of the least walk of the greatest sum from a position, one least move after another.
 pub(crate) fn append_least(sums: &[u128], grid: &Grid, horizon: usize, from: u8, to: &mut Path)
     requires horizon { horizon ≤ 32 }
@@ -92,9 +161,9 @@ pub(crate) fn append_least(sums: &[u128], grid: &Grid, horizon: usize, from: u8,
     requires sums { length sums.now ≡ horizon * length grid.now }
     requires room { length to.old ≤ horizon }
     ensures kept { Starts to.old to.new }
-    ensures least { let k = length to.old in let positions = length grid.now in
-        (rewards : List ℕ) → HasSums grid.now positions horizon rewards k sums.now
-        → IsLeastBest grid.now (entry_at positions rewards) (horizon - k) (k + 1) from (drop k to.new) }
+    ensures least { let k = length to.old in
+        (r : ℕ → ℕ → ℕ) → HasSumsNear grid.now (length grid.now) horizon r from k sums.now
+        → IsLeastBest grid.now r (horizon - k) (k + 1) from (drop k to.new) }
 {
     let positions = usize::from(grid.cells());
     let mut at = from;

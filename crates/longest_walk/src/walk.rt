@@ -5,7 +5,8 @@ ghost use Rattle.search_model.specs.Order.{Starts};
 ghost use Rattle.longest_walk.specs.Sums.{entry_at, highest_sum};
 ghost use Rattle.search_model.specs.Reference.{greatest_sum, IsLeastBest};
 
-use crate::rows::{append_least, fill_rows, greatest_at};
+use crate::near::Near;
+use crate::rows::{append_least, fill_near_rows, fill_rows, greatest_at};
 use exact_parts::NoMemory;
 use search_grid::Grid;
 use search_model::Path;
@@ -46,7 +47,8 @@ impl Model for Walk {
 }
 
 impl Walk {
-    ghost use Rattle.longest_walk.specs.Tables.{IsFilled};
+    ghost use Rattle.longest_walk.specs.Near.{AreNear};
+    ghost use Rattle.longest_walk.specs.Tables.{IsFilled, HasNear, IsFilledNear};
 
     /// Tables for so many positions, 1 to 200, and so many periods, 1 to 32. Only this call takes memory.
     pub fn tables(alloc: Global, positions: u8, horizon: u32) -> Result<Walk, NoMemory>
@@ -84,11 +86,41 @@ impl Walk {
         self.from = from;
     }
 
+    /// Fills the tables for the walks from position `from` through the periods after `k`, in each period for the positions
+    /// that such a walk can be on. Only of these the rewards are read.
+    ///
+    /// The rewards of each period's best position may not sum to 2 ^ 127 or more over those periods.
+    pub fn fill_near(&mut self, grid: &Grid, near: &Near, rewards: &[u128], from: u8, k: u32)
+        requires positions { length grid.now ≡ self.old.positions }
+        requires near { AreNear grid.now self.old.horizon near.now }
+        requires rewards { length rewards.now ≡ self.old.horizon * self.old.positions }
+        requires from { from < self.old.positions }
+        requires period { k < self.old.horizon }
+        requires fits { let positions = self.old.positions in let horizon = self.old.horizon in
+            (r : ℕ → ℕ → ℕ) × HasNear grid.now positions horizon r from k rewards.now
+            × (highest_sum positions r (horizon - k) (k + 1) < 2 ^ 127) }
+        ensures filled { (r : ℕ → ℕ → ℕ)
+            → HasNear grid.now self.old.positions self.old.horizon r from k rewards.now
+            → IsFilledNear self.new grid.now r from k }
+        ensures positions { self.new.positions ≡ self.old.positions }
+        ensures horizon { self.new.horizon ≡ self.old.horizon }
+    {
+        let after = k as usize;
+        let horizon = self.horizon as usize;
+        fill_near_rows(&mut self.sums, grid, near, rewards, horizon, from, after);
+        let first = after * usize::from(self.positions);
+        self.best = greatest_at(&self.sums, first, grid.moves(from));
+        self.from = from;
+    }
+
     /// The greatest sum of rewards over all walks that the tables are filled for.
     pub fn greatest(&self) -> u128
-        ensures { let walk = self.now in
+        ensures all { let walk = self.now in
             (rows : List (List ℕ)) (rewards : List ℕ) (from k : ℕ) → IsFilled walk rows rewards from k
             → result ≡ greatest_sum rows (entry_at walk.positions rewards) (walk.horizon - k) (k + 1) from }
+        ensures near { let walk = self.now in
+            (rows : List (List ℕ)) (r : ℕ → ℕ → ℕ) (from k : ℕ) → IsFilledNear walk rows r from k
+            → result ≡ greatest_sum rows r (walk.horizon - k) (k + 1) from }
     {
         self.best
     }
@@ -102,6 +134,18 @@ impl Walk {
         ensures least { let walk = self.now in let k = length to.old in
             IsLeastBest grid.now (entry_at walk.positions _rewards.now) (walk.horizon - k) (k + 1) walk.from
             (drop k to.new) }
+    {
+        append_least(&self.sums, grid, self.horizon as usize, self.from, to);
+    }
+
+    /// The same where the tables are filled for the positions that a walk can be on.
+    pub fn least_near(&self, grid: &Grid, to: &mut Path)
+        requires filled { (r : ℕ → ℕ → ℕ) × IsFilledNear self.now grid.now r self.now.from (length to.old) }
+        requires room { length to.old ≤ self.now.horizon }
+        ensures kept { Starts to.old to.new }
+        ensures least { let walk = self.now in let k = length to.old in
+            (r : ℕ → ℕ → ℕ) → IsFilledNear walk grid.now r walk.from k
+            → IsLeastBest grid.now r (walk.horizon - k) (k + 1) walk.from (drop k to.new) }
     {
         append_least(&self.sums, grid, self.horizon as usize, self.from, to);
     }

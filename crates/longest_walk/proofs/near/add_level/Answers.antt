@@ -1,5 +1,5 @@
-use Rattle.std.proofs.Common.{ℕ, ◌≡◌, ◌<◌, ◌+◌, ◌∷◌, ◌++◌, [], List, length, ap, ◌∙◌, sym, subst, All}
-use Rattle.longest_walk.specs.Near.{NearRow, IsLevel, IsGrown}
+use Rattle.std.proofs.Common.{◌≡◌, ◌<◌, ◌∷◌, ◌++◌, [], length, ap, ◌∙◌, sym, subst, All}
+use Rattle.longest_walk.specs.Near.{NearRow}
 use Rattle.longest_walk.proofs.NearSteps.{level_within, level_more}
 use Rattle.longest_walk.proofs.near.add_level.Goals as goal
 

@@ -1,6 +1,5 @@
-use Rattle.std.proofs.Common.{ℕ, ◌≡◌, ◌+◌, ◌∷◌, ◌++◌, take, ◌∙◌}
+use Rattle.std.proofs.Common.{take, ◌∙◌}
 use Rattle.std.proofs.lemmas.List.{take_more}
-use Rattle.longest_walk.specs.Near.{IsJoined}
 use Rattle.longest_walk.proofs.NearSteps.{joined_more}
 use Rattle.longest_walk.proofs.near.add_moves.Goals as goal
 
