@@ -8,3 +8,4 @@ pub mod Entries
 pub mod Examples
 pub mod NearSteps
 pub mod Places
+pub mod NearEntries

@@ -12,14 +12,14 @@ use Rattle.search_model.specs.Tracks.{missed_weight, whole_weight}
 use Rattle.search_model.specs.Bounds.{reward_of}
 use Rattle.list_laws.proofs.Sums.{sum_by-range-le, sum_by-times}
 use Rattle.search_model.proofs.Totals.{nothing_is_cut_off, whole_weight-fits}
-use Rattle.longest_walk.specs.Sums.{entry_at, highest_sum}
+use Rattle.longest_walk.specs.Sums.{highest_sum}
 use Rattle.search_model.specs.Reference.{greatest_sum}
 use Rattle.longest_walk.proofs.Highest.{highest_above, highest_below}
 use Rattle.belief_update.specs.Masses.{mass_of, masses_of, looks_to}
 use Rattle.belief_update.specs.Belief.{BeliefState, IsBelief}
 use Rattle.belief_update.proofs.Missed.{missed_by_masses_hold}
 use Rattle.belief_update.proofs.Rewards.{rewards_by_masses_hold}
-use Rattle.mean_bound.specs.Rewards.{found_of, HasRewards}
+use Rattle.mean_bound.specs.Rewards.{found_of}
 use Rattle.mean_bound.proofs.Found.{found_is}
 
 -- what is found of some masses, times the parts to come, is within all of them times these and one look's parts
@@ -51,13 +51,10 @@ module _ (p : Problem) (sound : IsProblem p) (q : List ℕ) where
   reward-le t a later last = omega (arith, reward-le_missed t a later last, nothing_is_cut_off p q sound)
 
   -- nor do the greatest rewards of all periods sum to more than so many times the whole weight
-  pub highest-le : (rewards : List ℕ) → length q < p.horizon → HasRewards p q rewards →
-      highest_sum p.positions (entry_at p.positions rewards) (p.horizon - length q) (length q + 1) ≤ (p.horizon - length q) * whole_weight p
-  highest-le rewards short each =
-      highest_below p.positions (whole_weight p) (entry_at p.positions rewards) (p.horizon - length q) (length q + 1) (λ u a from to here.
-      let later : length q < u = omega (arith, from) in
-      let last : u ≤ p.horizon = omega (arith, to, short) in
-      rw (each u a later last here) (reward-le u a later last))
+  pub highest-le : length q < p.horizon → highest_sum p.positions (reward_of p q) (p.horizon - length q) (length q + 1) ≤ (p.horizon - length q) * whole_weight p
+  highest-le short =
+      highest_below p.positions (whole_weight p) (reward_of p q) (p.horizon - length q) (length q + 1) (λ u a from to here.
+      reward-le u a (omega (arith, from)) (omega (arith, to, short)))
 
   -- and no walk after the prefix has more
   pub greatest-le : (a : ℕ) → length q < p.horizon → a < length p.moves →

@@ -2,14 +2,17 @@
 use Rattle.std.specs.Prelude.{ℕ, ◌≡◌, ◌*◌, ◌<◌, List, length}
 use Rattle.search_model.specs.Problem.{Problem}
 use Rattle.search_model.specs.Legal.{last_of, IsLegal}
-use Rattle.longest_walk.specs.Tables.{Tables, IsFilled}
+use Rattle.search_model.specs.Bounds.{reward_of}
+use Rattle.longest_walk.specs.Near.{NearRow, AreNear}
+use Rattle.longest_walk.specs.Tables.{Tables, IsFilledNear}
 use Rattle.belief_update.specs.Trails.{TrailState, IsTrailOf}
 use Rattle.belief_update.specs.Onward.{OnwardState, IsOnward, IsMadeFor as IsOnwardFor}
 use Rattle.mean_bound.specs.Rewards.{HasRewards}
 
 -- the beliefs along the last prefix, the beliefs and the rewards after the last prefix that was bounded, and the walks of
--- these rewards
+-- these rewards; and for each position the positions within reach of it
 pub record MeanState : Type 0 where
+  pub near : List NearRow
   pub trail : TrailState
   pub onward : OnwardState
   pub rewards : List ℕ
@@ -17,6 +20,7 @@ pub record MeanState : Type 0 where
 
 -- the tables are for this scenario, and the beliefs that they keep are right in it
 pub record IsMadeFor (p : Problem) (m : MeanState) : Type 0 where
+  pub near : AreNear p.moves p.horizon m.near
   pub trail : IsTrailOf p m.trail
   pub onward : IsOnwardFor p m.onward
   pub size : length m.rewards ≡ p.horizon * p.positions
@@ -29,4 +33,4 @@ pub record IsFilledFor (p : Problem) (q : List ℕ) (m : MeanState) : Type 0 whe
   pub short : length q < p.horizon
   pub onward : IsOnward p q m.onward
   pub rewarded : HasRewards p q m.rewards
-  pub walked : IsFilled m.walk p.moves m.rewards (last_of p.start q) (length q)
+  pub walked : IsFilledNear m.walk p.moves (reward_of p q) (last_of p.start q) (length q)

@@ -1,18 +1,18 @@
 -- The rewards after a prefix, in one list with a row of positions for each period.
-use Rattle.std.specs.Prelude.{ℕ, ◌≡◌, ◌-◌, ◌*◌, ◌<◌, ◌≤◌, List, length, slice_index, sum_by}
+use Rattle.std.specs.Prelude.{ℕ, ◌-◌, ◌*◌, List, length, slice_index, sum_by}
 use Rattle.sweep_table.specs.declared.part.LookPart.{LookPart}
 use Rattle.sweep_table.specs.LookParts.{look_row}
 use Rattle.search_model.specs.Problem.{Problem}
+use Rattle.search_model.specs.Legal.{last_of}
 use Rattle.search_model.specs.Bounds.{reward_of}
-use Rattle.longest_walk.specs.Sums.{entry_at}
+use Rattle.longest_walk.specs.Tables.{HasNear}
 use Rattle.belief_update.specs.Belief.{BeliefState}
 
--- the rewards of the periods after the prefix, up to a last one
+-- the rewards of the periods after the prefix, up to a last one, for the positions that the searcher can be on then
 abbrev pub HasRewardsTo : Problem → List ℕ → ℕ → List ℕ → Type 0
-HasRewardsTo p q last rewards =
-    (t a : ℕ) → length q < t → t ≤ last → a < p.positions → entry_at p.positions rewards t a ≡ reward_of p q t a
+HasRewardsTo p q last rewards = HasNear p.moves p.positions last (reward_of p q) (last_of p.start q) (length q) rewards
 
--- the rewards of all periods after the prefix
+-- those of all periods after the prefix
 abbrev pub HasRewards : Problem → List ℕ → List ℕ → Type 0
 HasRewards p q rewards = HasRewardsTo p q p.horizon rewards
 

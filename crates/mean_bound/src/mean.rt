@@ -3,8 +3,9 @@
 ghost use Rattle.std.specs.Prelude.{◌≡◌, ◌<◌, ◌≤◌, ◌+◌, ◌*◌, ℕ, List, length, IfOk};
 ghost use Rattle.search_model.specs.Legal.{IsLegal, last_of};
 ghost use Rattle.search_model.specs.Tracks.{value_of};
-ghost use Rattle.search_model.specs.Bounds.{mean_of};
-ghost use Rattle.longest_walk.specs.Tables.{IsFilled};
+ghost use Rattle.search_model.specs.Bounds.{mean_of, reward_of};
+ghost use Rattle.longest_walk.specs.Near.{AreNear};
+ghost use Rattle.longest_walk.specs.Tables.{IsFilledNear};
 ghost use Rattle.belief_update.specs.Trails.{IsPast};
 ghost use Rattle.belief_update.specs.Onward.{IsOnward, IsMadeFor as IsOnwardFor};
 ghost use Rattle.mean_bound.specs.Rewards.{HasRewards};
@@ -12,7 +13,7 @@ ghost use Rattle.mean_bound.specs.Rewards.{HasRewards};
 use crate::rewards::fill_rewards;
 use belief_update::{Belief, Onward, Trail, value_by};
 use exact_parts::NoMemory;
-use longest_walk::Walk;
+use longest_walk::{Near, Walk};
 use search_model::{Path, Scenario};
 use std::alloc::Global;
 use std::marker::Model;
@@ -28,6 +29,7 @@ use std::marker::Model;
 /// who keeps these beliefs already.
 #[derive(Drop)]
 pub struct Mean {
+    near: Near,
     trail: Trail,
     onward: Onward,
     rewards: Vec<u128>,
@@ -39,11 +41,12 @@ impl Model for Mean {
 
     ghost Value = { MeanState };
 
-    ghost view = { λ m. record { trail = m.trail; onward = m.onward; rewards = m.rewards.items; walk = m.walk } };
+    ghost view = { λ m. record { near = m.near; trail = m.trail; onward = m.onward; rewards = m.rewards.items; walk = m.walk } };
 }
 
 // The mean bound of a prefix, by a belief after it. Fills in the beliefs and the rewards after the prefix, and their walks.
 fn bound_by(
+    near: &Near,
     onward: &mut Onward,
     rewards: &mut [u128],
     walk: &mut Walk,
@@ -51,6 +54,7 @@ fn bound_by(
     row: &Belief,
     prefix: &Path,
 ) -> u128
+    requires within { AreNear sc.now.moves sc.now.horizon near.now }
     requires onward { IsOnwardFor sc.now onward.old }
     requires size { length rewards.old ≡ sc.now.horizon * sc.now.positions }
     requires positions { walk.old.positions ≡ sc.now.positions }
@@ -63,15 +67,16 @@ fn bound_by(
     ensures made { IsOnwardFor sc.now onward.new }
     ensures onward { IsOnward sc.now prefix.now onward.new }
     ensures rewards { HasRewards sc.now prefix.now rewards.new }
-    ensures walked { IsFilled walk.new sc.now.moves rewards.new (last_of sc.now.start prefix.now) (length prefix.now) }
+    ensures walked { IsFilledNear walk.new sc.now.moves (reward_of sc.now prefix.now)
+        (last_of sc.now.start prefix.now) (length prefix.now) }
     ensures positions { walk.new.positions ≡ sc.now.positions }
     ensures horizon { walk.new.horizon ≡ sc.now.horizon }
 {
     onward.go_by(sc, row, prefix);
     let value = onward.value(sc, prefix);
-    fill_rewards(rewards, sc, onward, prefix);
+    fill_rewards(rewards, sc, near, onward, prefix);
     let from = sc.last_after(prefix);
-    walk.fill(sc.grid(), rewards, from, prefix.len() as u32);
+    walk.fill_near(sc.grid(), near, rewards, from, prefix.len() as u32);
     value + walk.greatest()
 }
 
@@ -86,6 +91,7 @@ impl Mean {
         let positions = sc.positions();
         let horizon = sc.horizon();
         Ok(Mean {
+            near: Near::tables(alloc, sc.grid(), horizon)?,
             trail: Trail::tables(alloc, sc)?,
             onward: Onward::tables(alloc, sc)?,
             rewards: vec![in alloc; 0; horizon as usize * usize::from(positions)]?,
@@ -105,6 +111,7 @@ impl Mean {
     {
         self.trail.go_to(sc, prefix);
         bound_by(
+            &self.near,
             &mut self.onward,
             &mut self.rewards,
             &mut self.walk,
@@ -126,6 +133,7 @@ impl Mean {
         ensures filled { IsFilledFor sc.now prefix.now self.new }
     {
         bound_by(
+            &self.near,
             &mut self.onward,
             &mut self.rewards,
             &mut self.walk,
@@ -161,6 +169,6 @@ impl Mean {
         requires filled { IsFilledFor sc.now to.old self.now }
         ensures { IsReference sc.now to.old to.new }
     {
-        self.walk.least_best(sc.grid(), &self.rewards, to);
+        self.walk.least_near(sc.grid(), to);
     }
 }

@@ -1,8 +1,11 @@
-use Rattle.std.proofs.Common.{arith}
+use Rattle.std.proofs.Common.{ℕ, ◌<◌, arith, slice_index}
+use Rattle.std.proofs.lemmas.List.Elements.{All-get_or}
 use Rattle.exact_parts.proofs.Widths.{le-times}
 use Rattle.mean_bound.specs.Rewards.{found_of}
 use Rattle.mean_bound.proofs.rewards.fill_period.Goals as goal
 
 pub found-requires-clause-fits : goal.found-requires-clause-fits
 found-requires-clause-fits c =
-    omega (arith, c.requires.fits c.loop-a.a (omega arith), le-times (found_of c.args.sc.now c.args.belief.now c.loop-a.a) c.args.parts c.requires.parts)
+    let a : ℕ = slice_index c.args.some.now c.loop-a.a-index in
+    let here : a < c.args.sc.now.positions = All-get_or (λ b. b < c.args.sc.now.positions) c.args.some.now c.loop-a.a-index 0 c.loop-a-test.true c.requires.inside in
+    omega (arith, c.requires.fits a here, le-times (found_of c.args.sc.now c.args.belief.now a) c.args.parts c.requires.parts)
