@@ -1,7 +1,6 @@
 -- The walks below a prefix of a path, over a table of gains.
-use Rattle.std.proofs.Common.{ℕ, ◌+◌, ◌*◌, ◌-◌, ◌<◌, ◌≤◌, ◌≡◌, List, ◌++◌, length, take, drop, sym, ap, ◌∙◌, arith, subst, length-drop}
+use Rattle.std.proofs.Common.{ℕ, ◌+◌, ◌*◌, ◌-◌, ◌<◌, ◌≤◌, ◌≡◌, List, ◌++◌, length, take, drop, refl, sym, ap, ◌∙◌, arith, subst, length-drop}
 use Rattle.std.proofs.lemmas.List.{take-append-drop}
-use Rattle.std.proofs.lemmas.List.Elements.{All-drop}
 use Rattle.search_model.specs.Problem.{Problem, IsProblem}
 use Rattle.search_model.specs.Legal.{last_of, Follows, IsLegal, IsPath}
 use Rattle.search_model.specs.Bounds.{sum_along, gain_of}
@@ -9,12 +8,12 @@ use Rattle.search_model.proofs.LegalLemmas.{last_within}
 use Rattle.search_model.proofs.WalkLemmas.{walk_listed, follows-append}
 use Rattle.longest_walk.specs.Sums.{entry_at, highest_sum}
 use Rattle.search_model.specs.Reference.{greatest_sum}
-use Rattle.search_model.proofs.LeastBest.{sum_along-below, sum_along-agree}
-use Rattle.longest_walk.proofs.Highest.{same_rewards_same_sum, highest_above, highest_below}
+use Rattle.search_model.proofs.LeastBest.{sum_along-below}
+use Rattle.longest_walk.proofs.Highest.{highest_above, highest_below}
+use Rattle.longest_walk.proofs.NearEntries.{along_near}
 use Rattle.tangent_bound.specs.Gains.{AreGains}
 use Rattle.tangent_bound.proofs.Found.{gain-le}
 use Rattle.tangent_bound.proofs.Sizes.{most_of}
-use Rattle.tangent_bound.proofs.WholePath.{all_within}
 
 -- a prefix with periods left, a reference path that begins with it, and the gains of the periods after it
 pub record IsTable (p : Problem) (rate : ℕ) (q x gains : List ℕ) : Type 0 where
@@ -23,7 +22,7 @@ pub record IsTable (p : Problem) (rate : ℕ) (q x gains : List ℕ) : Type 0 wh
   pub more : length q < p.horizon
   pub path : IsPath p x
   pub begins : take (length q) x ≡ q
-  pub are : AreGains p rate x (length q) p.horizon gains
+  pub are : AreGains p rate x (last_of p.start q) (length q) p.horizon gains
 
 module _ {p : Problem} {rate : ℕ} {q x gains : List ℕ} (table : IsTable p rate q x gains) where
   positions : length p.moves ≡ p.positions
@@ -42,34 +41,24 @@ module _ {p : Problem} {rate : ℕ} {q x gains : List ℕ} (table : IsTable p ra
   rest_long : length (drop (length q) x) ≡ p.horizon - length q
   rest_long = omega (arith, length-drop (length q) x, table.path.whole)
 
-  -- so its sum is no more than the greatest
-  pub rest_below : sum_along (entry_at p.positions gains) (length q + 1) (drop (length q) x) ≤ greatest_sum p.moves (entry_at p.positions gains) (p.horizon - length q) (length q + 1) (last_of p.start q)
-  rest_below = sum_along-below p.moves (entry_at p.positions gains) (p.horizon - length q) (length q + 1) (last_of p.start q) (drop (length q) x) (walk_listed p.moves (p.horizon - length q) (last_of p.start q) (drop (length q) x) rest_follows rest_long)
+  -- so its gains sum to no more than the greatest sum
+  pub rest_below : sum_along (gain_of p rate x) (length q + 1) (drop (length q) x) ≤ greatest_sum p.moves (gain_of p rate x) (p.horizon - length q) (length q + 1) (last_of p.start q)
+  rest_below = sum_along-below p.moves (gain_of p rate x) (p.horizon - length q) (length q + 1) (last_of p.start q) (drop (length q) x) (walk_listed p.moves (p.horizon - length q) (last_of p.start q) (drop (length q) x) rest_follows rest_long)
 
-  -- the numbers of the periods after the prefix are gains
-  agree : (u a : ℕ) → length q + 1 ≤ u → u < length q + 1 + (p.horizon - length q) → a < p.positions → entry_at p.positions gains u a ≡ gain_of p rate x u a
-  agree u a from to here = table.are u (omega (arith, from)) (omega (arith, to, table.more)) a here
-
-  -- the highest of them are bounded
-  pub highest_bounded : highest_sum p.positions (entry_at p.positions gains) (p.horizon - length q) (length q + 1) ≤ (p.horizon - length q) * most_of p
+  -- the highest gains are bounded
+  pub highest_bounded : highest_sum p.positions (gain_of p rate x) (p.horizon - length q) (length q + 1) ≤ (p.horizon - length q) * most_of p
   highest_bounded =
-      highest_below p.positions (most_of p) (entry_at p.positions gains) (p.horizon - length q) (length q + 1)
-      (λ u a from to here. rw (agree u a from to here) (gain-le p table.sound x table.path u (omega (arith, from)) (omega (arith, to, table.more)) a rate))
+      highest_below p.positions (most_of p) (gain_of p rate x) (p.horizon - length q) (length q + 1)
+      (λ u a from to here. gain-le p table.sound x table.path u (omega (arith, from)) (omega (arith, to, table.more)) a rate)
 
   -- so is the greatest sum
-  pub greatest_bounded : greatest_sum p.moves (entry_at p.positions gains) (p.horizon - length q) (length q + 1) (last_of p.start q) ≤ (p.horizon - length q) * most_of p
+  pub greatest_bounded : greatest_sum p.moves (gain_of p rate x) (p.horizon - length q) (length q + 1) (last_of p.start q) ≤ (p.horizon - length q) * most_of p
   greatest_bounded =
-      omega (arith, rw positions at (highest_above p.moves (entry_at p.positions gains) (p.horizon - length q) (length q + 1) (last_of p.start q) table.sound.grid last_inside), highest_bounded)
+      omega (arith, rw positions at (highest_above p.moves (gain_of p rate x) (p.horizon - length q) (length q + 1) (last_of p.start q) table.sound.grid last_inside), highest_bounded)
 
-  -- the greatest sum is that of the gains
-  pub greatest_is : greatest_sum p.moves (entry_at p.positions gains) (p.horizon - length q) (length q + 1) (last_of p.start q) ≡ greatest_sum p.moves (gain_of p rate x) (p.horizon - length q) (length q + 1) (last_of p.start q)
-  greatest_is =
-      same_rewards_same_sum p.moves (entry_at p.positions gains) (gain_of p rate x) (p.horizon - length q) (length q + 1) (last_of p.start q) table.sound.grid last_inside
-      (λ u a from to here. agree u a from to (omega (arith, here, positions)))
-
-  -- and so is the sum along the rest of the reference
+  -- the numbers along the rest of the reference are its gains
   pub rest_is : sum_along (entry_at p.positions gains) (length q + 1) (drop (length q) x) ≡ sum_along (gain_of p rate x) (length q + 1) (drop (length q) x)
   rest_is =
-      sum_along-agree p.positions (entry_at p.positions gains) (gain_of p rate x) (length q + 1) (drop (length q) x)
-      (All-drop (λ a. a < p.positions) (length q) x (all_within p table.sound x table.path.follows))
-      (λ u a from to here. agree u a from (omega (arith, to, rest_long)) here)
+      let none : length q + 1 - 1 - length q ≡ 0 = omega arith in
+      along_near p.moves (entry_at p.positions gains) (gain_of p rate x) (last_of p.start q) (length q) (length q + 1) (last_of p.start q) (drop (length q) x) (omega arith) (rw none refl) rest_follows
+      (λ u a from to near. table.are u a (omega (arith, from)) (omega (arith, to, rest_long, table.more)) near)

@@ -1,5 +1,5 @@
 -- The gains of one more look, along a reference path: forward masses meet backward masses.
-use Rattle.std.specs.Prelude.{ℕ, ◌≡◌, ◌*◌, ◌<◌, ◌≤◌, nat_lt, if◌then◌else◌, List, take, sum_by}
+use Rattle.std.specs.Prelude.{ℕ, ◌≡◌, ◌*◌, nat_lt, if◌then◌else◌, List, take, sum_by, Contains}
 use Rattle.sweep_table.specs.declared.part.LookPart.{LookPart}
 use Rattle.sweep_table.specs.LookParts.{look_row}
 use Rattle.search_model.specs.Problem.{Problem}
@@ -10,6 +10,7 @@ use Rattle.belief_update.specs.Trails.{IsAfter}
 use Rattle.backward_mass.specs.Masses.{forward_of, backward_of}
 use Rattle.backward_mass.specs.Table.{BackwardTable, IsFilledFrom}
 use Rattle.longest_walk.specs.Sums.{entry_at}
+use Rattle.longest_walk.specs.Tables.{HasNear}
 
 -- the belief after the looks of a path up to period t, and the backward masses of the same path from then on
 pub record IsMet (p : Problem) (x : List ℕ) (t : ℕ) (b : BeliefState) (w : BackwardTable) : Type 0 where
@@ -29,10 +30,10 @@ missed_at p x t entry = if nat_lt entry.part p.sweep.denominator then missed_in 
 abbrev pub missed_by_look : Problem → List ℕ → ℕ → ℕ → ℕ
 missed_by_look p x t a = sum_by (missed_at p x t) (look_row p.sweep t a)
 
--- the numbers of a period are the gains of its looks, position by position
-abbrev pub IsGainRow : Problem → ℕ → List ℕ → ℕ → List ℕ → Type 0
-IsGainRow p rate x t gains = (a : ℕ) → a < p.positions → entry_at p.positions gains t a ≡ gain_of p rate x t a
+-- the numbers of some positions in a period are the gains of its looks
+abbrev pub IsGainRow : Problem → ℕ → List ℕ → ℕ → List ℕ → List ℕ → Type 0
+IsGainRow p rate x t some gains = (a : ℕ) → Contains some a → entry_at p.positions gains t a ≡ gain_of p rate x t a
 
--- so are the numbers of each period after k up to t
-abbrev pub AreGains : Problem → ℕ → List ℕ → ℕ → ℕ → List ℕ → Type 0
-AreGains p rate x k t gains = (u : ℕ) → k < u → u ≤ t → IsGainRow p rate x u gains
+-- so are the numbers of each period after k up to t for the positions that are within reach of one then
+abbrev pub AreGains : Problem → ℕ → List ℕ → ℕ → ℕ → ℕ → List ℕ → Type 0
+AreGains p rate x from k t gains = HasNear p.moves p.positions t (gain_of p rate x) from k gains

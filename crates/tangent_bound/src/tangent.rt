@@ -5,6 +5,7 @@ ghost use Rattle.search_model.specs.Legal.{IsLegal, IsPath};
 ghost use Rattle.search_model.specs.Bounds.{IsRate, tangent_of};
 ghost use Rattle.belief_update.specs.Trails.{IsPast};
 ghost use Rattle.backward_mass.specs.Table.{IsMadeFor as IsBackwardFor};
+ghost use Rattle.longest_walk.specs.Near.{AreNear};
 ghost use Rattle.tangent_bound.specs.Room.{IsMadeFor};
 
 use crate::gains::{fill_after, sum_after};
@@ -12,12 +13,12 @@ use crate::steps::{look_along, one_rate};
 use backward_mass::Backward;
 use belief_update::{Belief, follow, value_by};
 use exact_parts::NoMemory;
-use longest_walk::Walk;
+use longest_walk::{Near, Walk};
 use search_model::{Path, Scenario};
 use std::alloc::Global;
 use std::marker::Model;
 
-/// Tables for the tangent bound of a scenario's prefixes, made once for its sizes and its rate and filled anew for each
+/// Tables for the tangent bound of a scenario's prefixes, made once for its sizes, its moves and its rate and filled anew for each
 /// bound. The bound is this project's own, by convexity; it is for scenarios of one rate.
 ///
 /// Where each look misses all of a target or one rate of it, what is missed of a track is convex in the number of looks
@@ -25,6 +26,7 @@ use std::marker::Model;
 /// what the reference misses, and the gains add up.
 #[derive(Drop)]
 pub struct Tangent {
+    near: Near,
     // The belief that goes along the reference.
     belief: Belief,
     backward: Backward,
@@ -46,8 +48,8 @@ impl Model for Tangent {
       cells = w.backward.cells;
       positions = w.walk.positions;
       horizon = w.walk.horizon;
-      rate
-          = w.rate;
+      rate = w.rate;
+      near = w.near;
     } };
 
     ghost invariant = { λ w. record {
@@ -60,6 +62,7 @@ impl Model for Tangent {
 // The bound, by a belief after the prefix, in the period of its last look or in the next one. It goes along the
 // reference.
 fn bound_by(
+    near: &Near,
     belief: &mut Belief,
     backward: &mut Backward,
     gains: &mut [u128],
@@ -69,6 +72,7 @@ fn bound_by(
     prefix: &Path,
     reference: &Path,
 ) -> u128
+    requires within { AreNear sc.now.moves sc.now.horizon near.now }
     requires belief { IsPast sc.now prefix.now belief.old }
     requires near { belief.old.period ≤ length prefix.now + 1 }
     requires backward { IsBackwardFor sc.now backward.old }
@@ -87,9 +91,9 @@ fn bound_by(
     ensures horizon { walk.new.horizon ≡ sc.now.horizon }
 {
     let positions = sc.positions();
-    fill_after(gains, sc, rate, belief, backward, prefix, reference);
+    fill_after(gains, sc, near, rate, belief, backward, prefix, reference);
     let k = prefix.len() as u32;
-    walk.fill(sc.grid(), gains, sc.last_after(prefix), k);
+    walk.fill_near(sc.grid(), near, gains, sc.last_after(prefix), k);
     let own = sum_after(gains, positions, reference.cells(), k);
     let value = value_by(sc, belief, reference);
     u128::from(sc.sweep().denominator()) * value + walk.greatest() - own
@@ -103,6 +107,7 @@ impl Tangent {
     {
         let size = sc.horizon() as usize * usize::from(sc.positions());
         Ok(Tangent {
+            near: Near::tables(alloc, sc.grid(), sc.horizon())?,
             belief: Belief::start(alloc, sc)?,
             backward: Backward::tables(alloc, sc)?,
             gains: vec![in alloc; 0; size]?,
@@ -137,6 +142,7 @@ impl Tangent {
         let rate = self.rate.unwrap();
         follow(sc, &mut self.belief, prefix);
         bound_by(
+            &self.near,
             &mut self.belief,
             &mut self.backward,
             &mut self.gains,
@@ -170,6 +176,7 @@ impl Tangent {
         let rate = self.rate.unwrap();
         self.belief.copy_from(row);
         bound_by(
+            &self.near,
             &mut self.belief,
             &mut self.backward,
             &mut self.gains,
@@ -209,6 +216,7 @@ impl Tangent {
         let k = prefix.len() as u32;
         look_along(sc, &mut self.belief, reference, k, j);
         bound_by(
+            &self.near,
             &mut self.belief,
             &mut self.backward,
             &mut self.gains,
