@@ -5,3 +5,4 @@ pub mod Fitting
 pub mod PathSums
 pub mod UnitTable
 pub mod Walking
+mod Reached

@@ -1,6 +1,6 @@
 -- The greatest sums of edge rewards, by way of a first move.
-use Rattle.std.proofs.Common.{ℕ, suc, ◌+◌, ◌-◌, ◌<◌, ◌≤◌, ◌≡◌, List, ◌∷◌, map, length, slice_index, refl, sym, ap, ◌∙◌, arith}
-use Rattle.std.proofs.lemmas.List.Elements.{All-get_or}
+use Rattle.std.proofs.Common.{ℕ, suc, ◌+◌, ◌-◌, ◌<◌, ◌≤◌, ◌≡◌, List, ◌∷◌, map, length, slice_index, inr, refl, sym, ap, ◌∙◌, arith, Contains}
+use Rattle.std.proofs.lemmas.List.Elements.{All-get_or, All-weaker, All-contains_itself}
 use Rattle.search_grid.specs.Moves.{moves_from}
 use Rattle.search_model.specs.Problem.{Problem, IsProblem}
 use Rattle.search_model.specs.Legal.{IsLegal, walks, continuations, last_of, moves_after}
@@ -10,7 +10,11 @@ use Rattle.search_model.proofs.LegalLemmas.{last_within}
 use Rattle.search_model.proofs.Greatest.{greatest-one}
 use Rattle.list_laws.proofs.Agreeing.{map_agree}
 use Rattle.longest_walk.proofs.Steps.{greatest_walks-suc, All-moves}
-use Rattle.edge_bound.specs.Moves.{greatest_moves, HasSums}
+use Rattle.longest_walk.specs.Near.{IsNear}
+use Rattle.longest_walk.proofs.NearSteps.{near_within}
+use Rattle.belief_update.specs.Masses.{mass_of, looks_to}
+use Rattle.edge_bound.specs.Found.{found_of}
+use Rattle.edge_bound.specs.Moves.{greatest_moves, HasSums, HasFinds}
 
 pub sum_moves-cons : (r : ℕ → ℕ → ℕ → ℕ) (t a b : ℕ) (y : List ℕ) → sum_moves r t a (b ∷ y) ≡ r t a b + sum_moves r (t + 1) b y
 unfolding sum_moves
@@ -23,26 +27,36 @@ greatest_moves-zero rows r t a = greatest-one 0
 
 module _ (p : Problem) (sound : IsProblem p) (q sums : List ℕ) where
   -- past the horizon the sums are 0
-  pub sums_none : (t : ℕ) → p.horizon < t → ((a : ℕ) → a < p.positions → slice_index sums a ≡ 0) → HasSums p q t sums
-  sums_none t past zeros a here =
+  pub sums_none : (t : ℕ) → IsLegal p q → p.horizon < t → ((a : ℕ) → a < p.positions → slice_index sums a ≡ 0) → HasSums p q t sums
+  sums_none t legal past zeros a m is near =
+      let start = last_within p.moves sound.grid p.start (omega (arith, sound.start, sound.grid_positions)) q legal.follows in
+      let here : a < p.positions = omega (arith, near_within p.moves sound.grid m (last_of p.start q) a start near, sound.grid_positions) in
       let none : p.horizon + 1 - t ≡ 0 = omega (arith, past) in
       rw none (zeros a here ∙ sym (greatest_moves-zero p.moves (edge_reward_of p q) t a))
 
   -- the greatest of a move's parts and sums
-  with_sums : (t n : ℕ) (part : ℕ → ℕ) (a : ℕ) → a < length p.moves → n ≡ p.horizon + 1 - t → HasSums p q t sums →
+  with_sums : (t n : ℕ) (part : ℕ → ℕ) (a : ℕ) → n ≡ p.horizon + 1 - t →
+      ((b : ℕ) → Contains (moves_from p.moves a) b → slice_index sums b ≡ greatest_moves p.moves (edge_reward_of p q) (p.horizon + 1 - t) t b) →
       greatest (map (λ b. part b + greatest_moves p.moves (edge_reward_of p q) n t b) (moves_from p.moves a)) ≡ greatest (map (λ b. part b + slice_index sums b) (moves_from p.moves a))
-  with_sums t n part a here left filled =
+  with_sums t n part a left filled =
       let f : ℕ → ℕ = λ b. part b + greatest_moves p.moves (edge_reward_of p q) n t b in
       let g : ℕ → ℕ = λ b. part b + slice_index sums b in
       ap greatest (map_agree f g (moves_from p.moves a)
-      (All-moves p.moves sound.grid (λ b. f b ≡ g b) (λ b there.
-      let at : slice_index sums b ≡ greatest_moves p.moves (edge_reward_of p q) (p.horizon + 1 - t) t b = filled b (omega (arith, there, sound.grid_positions)) in
-      rw (at, left) refl) a here))
+      (All-weaker (Contains (moves_from p.moves a)) (λ b. f b ≡ g b) (λ b move. rw (filled b move, left) refl) (moves_from p.moves a) (All-contains_itself (moves_from p.moves a))))
+
+  -- a move of a position that the searcher can be on is one that it can be on a period later
+  pub sum_there : (t a b : ℕ) → length q + 2 ≤ t → IsNear p.moves (t - 1 - length q) (last_of p.start q) a → Contains (moves_from p.moves a) b → HasSums p q (t + 1) sums →
+      slice_index sums b ≡ greatest_moves p.moves (edge_reward_of p q) (p.horizon + 1 - (t + 1)) (t + 1) b
+  sum_there t a b later near move filled = filled b (suc (t - 1 - length q)) (omega (arith, later)) (inr (a, near, move))
+
+  pub find_there : (finds : List ℕ) (t a b : ℕ) → length q + 2 ≤ t → IsNear p.moves (t - 1 - length q) (last_of p.start q) a → Contains (moves_from p.moves a) b → HasFinds p q t finds →
+      slice_index finds b ≡ found_of p t b (mass_of p (looks_to t q))
+  find_there finds t a b later near move filled = filled b (suc (t - 1 - length q)) (omega (arith, later)) (inr (a, near, move))
 
   -- in a period by the sums of the next one
-  pub sums_before : (t a : ℕ) → t ≤ p.horizon → a < p.positions → HasSums p q (t + 1) sums →
+  pub sums_before : (t a : ℕ) → length q + 2 ≤ t → t ≤ p.horizon → a < p.positions → IsNear p.moves (t - 1 - length q) (last_of p.start q) a → HasSums p q (t + 1) sums →
       greatest_moves p.moves (edge_reward_of p q) (p.horizon + 1 - t) t a ≡ greatest (map (λ b. edge_reward_of p q t a b + slice_index sums b) (moves_from p.moves a))
-  sums_before t a last here filled =
+  sums_before t a later last here near filled =
       let n = p.horizon - t in
       let r = edge_reward_of p q in
       let at : a < length p.moves = omega (arith, here, sound.grid_positions) in
@@ -50,7 +64,11 @@ module _ (p : Problem) (sound : IsProblem p) (q sums : List ℕ) where
       let left : n ≡ p.horizon + 1 - (t + 1) = omega (arith, last) in
       rw long
       (greatest_walks-suc p.moves sound.grid (sum_moves r t a) (r t a) (λ b. sum_moves r (t + 1) b) (λ b y. sum_moves-cons r t a b y) n a at
-      ∙ with_sums (t + 1) n (r t a) a at left filled)
+      ∙ with_sums (t + 1) n (r t a) a left (λ b move. sum_there t a b later near move filled))
+
+  -- the sums of the moves after the prefix
+  pub sum_first : (b : ℕ) → Contains (moves_after p q) b → HasSums p q (length q + 2) sums → slice_index sums b ≡ greatest_moves p.moves (edge_reward_of p q) (p.horizon + 1 - (length q + 2)) (length q + 2) b
+  sum_first b move filled = filled b 1 (omega arith) (inr (last_of p.start q, refl, move))
 
   -- and over all continuations by the sums of the second period after the prefix
   pub sums_first : IsLegal p q → length q < p.horizon → HasSums p q (length q + 2) sums →
@@ -63,7 +81,7 @@ module _ (p : Problem) (sound : IsProblem p) (q sums : List ℕ) where
       let left : n ≡ p.horizon + 1 - (length q + 2) = omega (arith, short) in
       rw long
       (greatest_walks-suc p.moves sound.grid (edge_sum p q) (reward_of p q (length q + 1)) (λ b. sum_moves (edge_reward_of p q) (length q + 2) b) (λ b y. refl) n a at
-      ∙ with_sums (length q + 2) n (reward_of p q (length q + 1)) a at left filled)
+      ∙ with_sums (length q + 2) n (reward_of p q (length q + 1)) a left (λ b move. sum_first b move filled))
 
   -- each move is a position
   pub move_there : (a i : ℕ) → a < length p.moves → i < length (moves_from p.moves a) → slice_index (moves_from p.moves a) i < p.positions

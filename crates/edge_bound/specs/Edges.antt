@@ -2,11 +2,13 @@
 use Rattle.std.specs.Prelude.{ℕ, ◌≡◌, List, length}
 use Rattle.search_model.specs.Problem.{Problem}
 use Rattle.belief_update.specs.Onward.{OnwardState, IsMadeFor as IsOnwardFor}
+use Rattle.longest_walk.specs.Near.{NearRow, AreNear}
 use Rattle.edge_bound.specs.Units.{UnitTable, HasUnits}
 
--- the beliefs of the periods after the last prefix, what looks find of units, two rows of sums, of one period and of the one
+-- for each position what is within reach of it, the beliefs of the periods after the last prefix, what looks find of units, two rows of sums, of one period and of the one
 -- before it, and what looks in that one find
 pub record EdgeState : Type 0 where
+  pub near : List NearRow
   pub onward : OnwardState
   pub units : UnitTable
   pub sums : List ℕ
@@ -15,6 +17,7 @@ pub record EdgeState : Type 0 where
 
 -- the tables were made for this scenario
 pub record IsMadeFor (p : Problem) (e : EdgeState) : Type 0 where
+  pub near : AreNear p.moves p.horizon e.near
   pub onward : IsOnwardFor p e.onward
   pub units : HasUnits p e.units
   pub sums : length e.sums ≡ p.positions

@@ -4,6 +4,7 @@ ghost use Rattle.std.specs.Prelude.{◌≡◌, ◌<◌, ◌≤◌, ◌+◌, leng
 ghost use Rattle.search_model.specs.Legal.{IsLegal, IsPath};
 ghost use Rattle.search_model.specs.Edge.{edge_of};
 ghost use Rattle.search_model.specs.Tracks.{value_of};
+ghost use Rattle.longest_walk.specs.Near.{AreNear};
 ghost use Rattle.belief_update.specs.Trails.{IsPast};
 ghost use Rattle.belief_update.specs.Onward.{IsOnward};
 ghost use Rattle.edge_bound.specs.Units.{HasUnits};
@@ -13,6 +14,7 @@ use crate::rows::{best_first, fill_sums};
 use crate::units::Units;
 use belief_update::{Belief, Onward};
 use exact_parts::NoMemory;
+use longest_walk::Near;
 use search_model::{Path, Scenario};
 use std::alloc::Global;
 use std::marker::Model;
@@ -29,6 +31,7 @@ use std::marker::Model;
 /// along the prefix; `bound` goes along the prefix from the start.
 #[derive(Drop)]
 pub struct Edge {
+    near: Near,
     // The beliefs of the periods after the last prefix that `bound` or `bound_after` was asked.
     onward: Onward,
     // What looks find of units of mass, made once.
@@ -46,6 +49,7 @@ impl Model for Edge {
     ghost Value = { EdgeState };
 
     ghost view = { λ e. record {
+      near = e.near;
       onward = e.onward;
       units = e.units;
       sums = e.sums.items;
@@ -63,8 +67,10 @@ fn bound_from(
     earlier: &mut [u128],
     finds: &mut [u128],
     sc: &Scenario,
+    near: &Near,
     prefix: &Path,
 ) -> u128
+    requires near { AreNear sc.now.moves sc.now.horizon near.now }
     requires value { value ≡ value_of sc.now prefix.now }
     requires onward { IsOnward sc.now prefix.now onward.now }
     requires units { HasUnits sc.now units.now }
@@ -76,7 +82,7 @@ fn bound_from(
     ensures { result ≡ edge_of sc.now prefix.now }
 {
     sc.recall_sound();
-    fill_sums(sums, earlier, finds, sc, prefix, onward, units);
+    fill_sums(sums, earlier, finds, sc, near, prefix, onward, units);
     value + best_first(sc, prefix, onward, sums)
 }
 
@@ -110,6 +116,7 @@ impl Edge {
     {
         let positions = usize::from(sc.positions());
         Ok(Edge {
+            near: Near::tables(alloc, sc.grid(), sc.horizon())?,
             onward: Onward::tables(alloc, sc)?,
             units: Units::tables(alloc, sc)?,
             sums: vec![in alloc; 0; positions]?,
@@ -135,6 +142,7 @@ impl Edge {
             &mut self.earlier,
             &mut self.finds,
             sc,
+            &self.near,
             prefix,
         )
     }
@@ -158,6 +166,7 @@ impl Edge {
             &mut self.earlier,
             &mut self.finds,
             sc,
+            &self.near,
             prefix,
         )
     }
@@ -193,6 +202,7 @@ impl Edge {
                 &mut self.earlier,
                 &mut self.finds,
                 sc,
+                &self.near,
                 prefix,
             )
         } else {

@@ -1,28 +1,42 @@
 //! The greatest sums of edge rewards, one row of positions for a period, from the last period back.
 
-ghost use Rattle.std.specs.Prelude.{◌≡◌, ◌<◌, ◌≤◌, ◌+◌, ◌-◌, ◌*◌, ◌^◌, length, map};
-ghost use Rattle.search_model.specs.Legal.{IsLegal, continuations};
+ghost use Rattle.std.specs.Prelude.{◌≡◌, ◌<◌, ◌≤◌, ◌+◌, ◌-◌, ◌*◌, ◌^◌, ℕ, length, map, slice_index, All, Contains};
+ghost use Rattle.search_model.specs.Legal.{IsLegal, continuations, last_of};
 ghost use Rattle.search_model.specs.Bounds.{greatest};
 ghost use Rattle.search_model.specs.Edge.{edge_reward_of, edge_sum};
+ghost use Rattle.longest_walk.specs.Near.{IsNear, AreNear};
+ghost use Rattle.belief_update.specs.Masses.{mass_of, looks_to};
 ghost use Rattle.belief_update.specs.Onward.{IsOnward};
+ghost use Rattle.edge_bound.specs.Found.{found_of};
 ghost use Rattle.edge_bound.specs.Moves.{IsLater, HasFinds, HasSums, greatest_moves};
 ghost use Rattle.edge_bound.specs.Units.{HasUnits};
 
 use crate::moves::{found_after, found_by, found_first};
 use crate::units::Units;
 use belief_update::{Onward, later_parts};
+use longest_walk::Near;
 use search_model::{Path, Scenario};
 
-// Writes what looks in period `t` find with no look between them and the prefix, position by position.
-fn fill_finds(finds: &mut [u128], sc: &Scenario, prefix: &Path, onward: &Onward, t: u32)
+// Writes what looks from some positions in period `t` find with no look between them and the prefix.
+fn fill_finds(
+    finds: &mut [u128],
+    sc: &Scenario,
+    prefix: &Path,
+    onward: &Onward,
+    some: &[u8],
+    t: u32,
+)
+    requires inside { All (λ b. b < sc.now.positions) some.now }
     requires size { length finds.old ≡ sc.now.positions }
     requires later { length prefix.now < t }
     requires last { t ≤ sc.now.horizon }
     requires onward { IsOnward sc.now prefix.now onward.now }
-    ensures { HasFinds sc.now prefix.now t finds.new }
+    ensures found { (b : ℕ) → Contains some.now b →
+        slice_index finds.new b ≡ found_of sc.now t b (mass_of sc.now (looks_to t prefix.now)) }
+    ensures size { length finds.new ≡ length finds.old }
 {
-    for b in 0..sc.positions() {
-        finds[usize::from(b)] = found_by(sc, prefix, onward, t, b);
+    for b in some {
+        finds[usize::from(*b)] = found_by(sc, prefix, onward, t, *b);
     }
 }
 
@@ -44,6 +58,7 @@ fn best_move(
         (sc.now.horizon - (length prefix.now + 2)) }
     requires period { IsLater sc.now prefix.now t }
     requires from { a < sc.now.positions }
+    requires near { IsNear sc.now.moves (t - 1 - length prefix.now) (last_of sc.now.start prefix.now) a }
     requires onward { IsOnward sc.now prefix.now onward.now }
     requires units { HasUnits sc.now units.now }
     requires found { length finds.now ≡ sc.now.positions }
@@ -62,7 +77,8 @@ fn best_move(
     best
 }
 
-// The row of period `t`, by what looks in that period find and the sums of the period after it.
+// The row of period `t` for some positions that the searcher can be on before it, by what looks in that period find and the
+// sums of the period after it.
 fn fill_row(
     row: &mut [u128],
     sc: &Scenario,
@@ -71,8 +87,12 @@ fn fill_row(
     units: &Units,
     finds: &[u128],
     sums: &[u128],
+    some: &[u8],
     t: u32,
 )
+    requires inside { All (λ a. a < sc.now.positions) some.now }
+    requires near { (a : ℕ) → Contains some.now a →
+        IsNear sc.now.moves (t - 1 - length prefix.now) (last_of sc.now.start prefix.now) a }
     requires size { length row.old ≡ sc.now.positions }
     requires period { IsLater sc.now prefix.now t }
     requires onward { IsOnward sc.now prefix.now onward.now }
@@ -81,11 +101,13 @@ fn fill_row(
     requires finds { HasFinds sc.now prefix.now t finds.now }
     requires width { length sums.now ≡ sc.now.positions }
     requires sums { HasSums sc.now prefix.now (t + 1) sums.now }
-    ensures { HasSums sc.now prefix.now t row.new }
+    ensures row { (a : ℕ) → Contains some.now a → slice_index row.new a ≡
+        greatest_moves sc.now.moves (edge_reward_of sc.now prefix.now) (sc.now.horizon + 1 - t) t a }
+    ensures size { length row.new ≡ length row.old }
 {
     let parts = later_parts(sc, t, prefix.len() as u32 + 2);
-    for a in 0..sc.positions() {
-        row[usize::from(a)] = best_move(sc, prefix, onward, units, finds, sums, parts, t, a);
+    for a in some {
+        row[usize::from(*a)] = best_move(sc, prefix, onward, units, finds, sums, parts, t, *a);
     }
 }
 
@@ -96,10 +118,13 @@ pub(crate) fn fill_sums(
     earlier: &mut [u128],
     finds: &mut [u128],
     sc: &Scenario,
+    near: &Near,
     prefix: &Path,
     onward: &Onward,
     units: &Units,
 )
+    requires near { AreNear sc.now.moves sc.now.horizon near.now }
+    requires legal { IsLegal sc.now prefix.now }
     requires short { length prefix.now < sc.now.horizon }
     requires width { length sums.old ≡ sc.now.positions }
     requires room { length earlier.old ≡ sc.now.positions }
@@ -108,10 +133,23 @@ pub(crate) fn fill_sums(
     requires units { HasUnits sc.now units.now }
     ensures { HasSums sc.now prefix.now (length prefix.now + 2) sums.new }
 {
+    let from = sc.last_after(prefix);
     sums.fill(0);
     for t in (prefix.len() as u32 + 1..sc.horizon()).rev() {
-        fill_finds(finds, sc, prefix, onward, t + 1);
-        fill_row(earlier, sc, prefix, onward, units, finds, sums, t + 1);
+        let before = near.within(sc.grid(), from, t - prefix.len() as u32);
+        let then = near.within(sc.grid(), from, t + 1 - prefix.len() as u32);
+        fill_finds(finds, sc, prefix, onward, then, t + 1);
+        fill_row(
+            earlier,
+            sc,
+            prefix,
+            onward,
+            units,
+            finds,
+            sums,
+            before,
+            t + 1,
+        );
         sums.copy_from_slice(earlier);
     }
 }

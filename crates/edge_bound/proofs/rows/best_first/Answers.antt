@@ -1,4 +1,5 @@
-use Rattle.std.proofs.Common.{◌≡◌, ◌+◌, ◌-◌, ◌<◌, ℕ, length, slice_index, sym, ◌∙◌, arith}
+use Rattle.std.proofs.Common.{◌≡◌, ◌+◌, ◌-◌, ℕ, length, slice_index, sym, ◌∙◌, arith, Contains}
+use Rattle.std.proofs.lemmas.List.Elements.{Contains-get_or}
 use Rattle.search_grid.specs.Moves.{moves_from}
 use Rattle.search_model.specs.Legal.{last_of, moves_after}
 use Rattle.search_model.specs.Bounds.{reward_of}
@@ -7,7 +8,7 @@ use Rattle.search_model.proofs.Totals.{whole_weight-fits}
 use Rattle.search_model.proofs.EdgeRewards.{reward-within, weights-fit}
 use Rattle.longest_walk.proofs.RowSteps.{best_more, best_all}
 use Rattle.edge_bound.proofs.Fitting.{sums_first-within}
-use Rattle.edge_bound.proofs.Walking.{sums_first, move_there}
+use Rattle.edge_bound.proofs.Walking.{sums_first, sum_first, move_there}
 use Rattle.edge_bound.proofs.rows.best_first.Goals as goal
 
 pub found_first-requires-clause-to : goal.found_first-requires-clause-to
@@ -46,11 +47,12 @@ overflow_add-first c =
     let here = last_within p.moves sound.grid p.start (omega (arith, sound.start, sound.grid_positions)) q c.requires.legal.follows in
     let b = slice_index c.moves_after-moves.result.now c.loop-b.b-index in
     let moves : c.moves_after-moves.result.now ≡ moves_from p.moves (last_of p.start q) = c.moves_after-moves.ensures.value in
-    let there : b < p.positions = rw moves (move_there p sound q c.args.sums.now (last_of p.start q) c.loop-b.b-index here (rw moves at c.loop-b-test.true)) in
     let most = reward-within p sound q (length q + 1) b c.requires.short in
     let rest = sums_first-within p sound q b c.requires.short in
     let fits = weights-fit p sound (p.horizon - length q - 1) (omega arith) in
-    rw (c.later_parts-parts.ensures, c.len.ensures.value, c.found_first.ensures, c.from.ensures, c.requires.sums b there) (omega (arith, most, rest, fits))
+    let move : Contains (moves_after p q) b = rw moves (Contains-get_or (moves_from p.moves (last_of p.start q)) c.loop-b.b-index 0 (rw moves at c.loop-b-test.true)) in
+    let sum = sum_first p sound q c.args.sums.now b move c.requires.sums in
+    rw (c.later_parts-parts.ensures, c.len.ensures.value, c.found_first.ensures, c.from.ensures, sum) (omega (arith, most, rest, fits))
 
 pub loop-b-preserved : goal.loop-b-preserved
 loop-b-preserved c =
