@@ -1,4 +1,4 @@
-use Rattle.std.proofs.Common.{◌≡◌, ◌-◌, ◌∙◌, sym, arith, IsFalse}
+use Rattle.std.proofs.Common.{◌-◌, ◌∙◌, sym, arith, IsFalse}
 use Rattle.std.proofs.lemmas.Bool.{not-true}
 use Rattle.bound_tree.specs.Accepts.{Extends}
 use Rattle.bound_tree.specs.Cut.{is_cut}
