@@ -5,17 +5,22 @@ use Rattle.std.proofs.lemmas.Bool.{cond_both, eqb-true, eqb-false}
 use Rattle.std.proofs.lemmas.List.{map-append}
 use Rattle.std.proofs.lemmas.List.Elements.{All-nil, All-push}
 use Rattle.search_model.specs.Problem.{Problem, IsProblem}
-use Rattle.bound_tree.specs.declared.node.TreeNode.{TreeNode}
-use Rattle.bound_tree.specs.declared.plan.Plan.{Plan}
+use Rattle.bound_tree.specs.declared.gap.GapKind.{GapKind}
+use Rattle.bound_tree.specs.declared.gap.GapKind.TheVariants.{Closed, Waiting}
+use Rattle.bound_tree.specs.declared.gap.GapNode.{GapNode}
+use Rattle.bound_tree.specs.declared.gap.GapPlan.{GapPlan}
 use Rattle.tree_format.specs.declared.kind.PlanKind.{PlanKind}
 use Rattle.tree_format.specs.declared.kind.PlanKind.TheVariants.{BadLine, Rest}
 use Rattle.search_model.specs.Legal.{IsLegal}
 use Rattle.tree_format.specs.declared.due.Due.{Due}
-use Rattle.tree_format.specs.declared.plan_line.TextVersion.{TextVersion}
+use Rattle.tree_format.specs.declared.plan_line.Dialect.{Dialect}
+use Rattle.tree_format.specs.declared.plan_line.Dialect.TheVariants.{One, Two, Gap}
+use Rattle.tree_format.specs.declared.plan_line.Family.{Family}
+use Rattle.tree_format.specs.Dialects.{family_of, most_records, prefixes_in}
 use Rattle.tree_format.specs.declared.plan_line.Stage.{Stage}
 use Rattle.tree_format.specs.declared.plan_line.Stage.TheVariants as due
 use Rattle.tree_format.specs.declared.plan_line.PlanLine.{PlanLine}
-use Rattle.tree_format.specs.declared.plan_line.PlanLine.TheVariants.{Version, Path, Chance, Count, Node, End}
+use Rattle.tree_format.specs.declared.plan_line.PlanLine.TheVariants.{Version, Path, Chance, Ceiling, Count, Node, End}
 use Rattle.tree_format.specs.declared.plan_item.PlanItem.{PlanItem}
 use Rattle.tree_format.specs.declared.plan_item.PlanItem.TheVariants as item
 use Rattle.tree_format.specs.declared.plan_item.Step.{Step}
@@ -25,96 +30,114 @@ use Rattle.text_rows.specs.Lines.{HasNoFeed, lines_text}
 use Rattle.text_rows.proofs.Splits.{split_piece}
 use Rattle.text_rows.proofs.Results.{err_ok}
 use Rattle.tree_format.specs.Faults.{due_behind}
-use Rattle.tree_format.specs.Reading.{line_at, stage_line, at_start, blank_plan, next, taken, is_ended, at_line_number}
+use Rattle.tree_format.specs.Reading.{line_at, stage_line, at_start, blank_plan, behind_chance, next, taken, is_ended, at_line_number}
 use Rattle.tree_format.specs.Gathering.{Gathered, nothing_gathered, gathered}
 use Rattle.tree_format.specs.FeedSteps.{Stand, Moved, stand_at, moved, step_of, line_ended, line_begun, byte_fed}
-use Rattle.tree_format.specs.Feeding.{told, plan_behind, HasRead, IsDecided, IsItem, GoesOn}
+use Rattle.tree_format.specs.Feeding.{told, plan_behind, HasRead, IsDecided, IsKindOf, IsItem, GoesOn}
 use Rattle.tree_format.proofs.Loop.{at_fault, at_rest}
 use Rattle.tree_format.proofs.FirstFaults.{unended_stage}
-use Rattle.tree_format.proofs.SpelledLines.{version_told, path_told, chance_told, count_told, record_told, IsRecordLine, record_printable, IsEndLine}
-use Rattle.tree_format.proofs.Spelled.{IsReadAt, IsRead, expected_legal, ended_stage}
+use Rattle.tree_format.proofs.SpelledLines.{IsLettered, version_told, path_told, chance_told, ceiling_told, count_told, record_told, IsRecordLine, record_printable, IsEndLine}
+use Rattle.tree_format.proofs.Spelled.{IsReadAt, IsRead, family_due, expected_legal, ended_stage}
 use Rattle.tree_format.proofs.Gatherings.{gathered_more, gathered_judged}
-use Rattle.tree_format.proofs.Feedings.{lines_more, due_more, plan_more, said_more, read_behind, text_behind}
+use Rattle.tree_format.proofs.Feedings.{lines_more, due_more, plan_more, said_more, read_behind, text_behind, family_behind}
 
 -- the items with a step more
-abbrev StepTells : Problem → List PlanItem → Step → List PlanItem → Type 0
-StepTells p old More new = new ≡ old
-StepTells p old (Item told) new = (new ≡ old ++ told ∷ []) × IsItem p told
-StepTells p old (Fault fault) new = ⊥
+abbrev StepTells : Family → Problem → List PlanItem → Step → List PlanItem → Type 0
+StepTells family p old More new = new ≡ old
+StepTells family p old (Item told) new = (new ≡ old ++ told ∷ []) × IsItem family p told
+StepTells family p old (Fault fault) new = ⊥
 
 -- at the end of a line that says this
-abbrev LineTells : Problem → ℕ → Due → Plan → List ℕ → PlanLine → Type 0
-LineTells p number d plan begun said = StepTells p (told d.stage plan) (step_of (stand_at number d plan begun) said) (told (next p d said).stage (taken plan said))
+abbrev LineTells : Problem → ℕ → Due → GapPlan → List ℕ → PlanLine → Type 0
+LineTells p number d plan begun said =
+    StepTells (family_due d) p (told d.stage plan) (step_of (stand_at number d plan begun) said) (told (next p d said).stage (taken plan said))
 
-module _ (p : Problem) (h : IsProblem p) (number : ℕ) (plan : Plan) (begun : List ℕ) (v : TextVersion) (expected fields : List (List ℕ)) (said : PlanLine) where
+-- a kind for which a dialect has a letter may stand in its family
+known_kind : (v : Dialect) (kind : GapKind) → IsLettered v kind → IsKindOf (family_of v) kind
+known_kind One (Closed kind) known = tt
+known_kind One (Waiting n) known = absurd known
+known_kind Two (Closed kind) known = tt
+known_kind Two (Waiting n) known = absurd known
+known_kind Gap kind known = tt
+
+-- no item is told by the line of the chance
+nothing_told : (v : Dialect) (plan : GapPlan) → told (behind_chance v) plan ≡ []
+nothing_told One plan = refl
+nothing_told Two plan = refl
+nothing_told Gap plan = refl
+
+module _ (p : Problem) (h : IsProblem p) (number : ℕ) (plan : GapPlan) (begun : List ℕ) (v : Dialect) (expected fields : List (List ℕ)) (said : PlanLine) where
   abbrev at_stage : Stage → Due
-  at_stage stage = record { version = v; stage = stage; expected = expected }
+  at_stage stage = record { dialect = v; stage = stage; expected = expected }
 
   record_tells : (left : ℕ) → All (IsLegal p) expected → IsRecordLine p v left expected fields said → LineTells p number (at_stage (due.Records left)) plan begun said
   record_tells left legal line =
       let r = line.node in
-      let tree = plan.tree in
-      let head : ℕ → PlanItem = λ n. item.Head plan.standing plan.weight n in
-      let nodes : List TreeNode → List PlanItem = map (λ r. item.Node r) in
+      let tree = plan.nodes in
+      let head : ℕ → PlanItem = λ n. item.Head plan.standing plan.weight plan.ceiling n in
+      let nodes : List GapNode → List PlanItem = map (λ r. item.Node r) in
       let long : length (tree ++ r ∷ []) + (left - 1) ≡ length tree + left = omega (arith, length-append tree (r ∷ []), line.more) in
       subst (LineTells p number (at_stage (due.Records left)) plan begun) (sym line.is) (
         ap (λ (n : ℕ). head n ∷ nodes (tree ++ r ∷ [])) long ∙ ap (λ (xs : List PlanItem). head (length tree + left) ∷ xs) (map-append (λ r. item.Node r) tree (r ∷ [])),
-        record_printable p h v left expected fields said legal line,
+        record { printable = record_printable p h v left expected fields said legal line; kind = known_kind v r.kind line.lettered },
       )
 
-  end_tells : (left : ℕ) → IsEndLine v left expected fields said → LineTells p number (at_stage (due.Records left)) plan begun said
+  end_tells : (left : ℕ) → IsEndLine (prefixes_in v) left expected fields said → LineTells p number (at_stage (due.Records left)) plan begun said
   end_tells left line =
-      let long : length plan.tree ≡ length plan.tree + left = omega (arith, line.none) in
+      let long : length plan.nodes ≡ length plan.nodes + left = omega (arith, line.none) in
       subst (LineTells p number (at_stage (due.Records left)) plan begun) (sym line.is) (
-        ap (λ (n : ℕ). item.Head plan.standing plan.weight n ∷ (map (λ r. item.Node r) plan.tree ++ item.End ∷ [])) long,
+        ap (λ (n : ℕ). item.Head plan.standing plan.weight plan.ceiling n ∷ (map (λ r. item.Node r) plan.nodes ++ item.End ∷ [])) long,
         tt,
       )
 
   stage_tells : (stage : Stage) → IsReadAt p v expected stage plan → stage_line p v stage expected fields ≡ Ok said → LineTells p number (at_stage stage) plan begun said
-  stage_tells due.Version read e = subst (LineTells p number (at_stage due.Version) plan begun) (sym (version_told fields said e).is) refl
+  stage_tells (due.Version family) read e = subst (LineTells p number (at_stage (due.Version family)) plan begun) (sym (version_told family fields said e).is) refl
   stage_tells due.Path read e = subst (LineTells p number (at_stage due.Path) plan begun) (sym (path_told p h fields said e).is) refl
-  stage_tells due.Chance read e = subst (LineTells p number (at_stage due.Chance) plan begun) (sym (chance_told fields said e).is) refl
+  stage_tells due.Chance read e = subst (LineTells p number (at_stage due.Chance) plan begun) (sym (chance_told fields said e).is) (nothing_told v _)
+  stage_tells due.Ceiling read e = subst (LineTells p number (at_stage due.Ceiling) plan begun) (sym (ceiling_told fields said e).is) refl
   stage_tells due.Count read e =
-      let line = count_told fields said e in
+      let line = count_told (most_records (family_of v)) fields said e in
       let n = line.count in
-      let (path, value, weight, (empty, nothing)) = read in
-      let head : ℕ → PlanItem = λ k. item.Head plan.standing plan.weight k in
-      let none : length {A = TreeNode} [] + n ≡ n = omega arith in
+      let (heading, (empty, nothing)) = read in
+      let path = heading.chance.path in
+      let head : ℕ → PlanItem = λ k. item.Head plan.standing plan.weight plan.ceiling k in
+      let none : length {A = GapNode} [] + n ≡ n = omega arith in
       subst (LineTells p number (at_stage due.Count) plan begun) (sym line.is) (
-        ap (λ (tree : List TreeNode). head (length tree + n) ∷ map (λ r. item.Node r) tree) nothing ∙ ap (λ (k : ℕ). head k ∷ []) none,
+        ap (λ (tree : List GapNode). head (length tree + n) ∷ map (λ r. item.Node r) tree) nothing ∙ ap (λ (k : ℕ). head k ∷ []) none,
         record { positions = path.positions; some = path.some; short = path.short; few = line.few },
       )
   stage_tells (due.Records left) read e = elim (record_told p h v left expected fields said e) [
-    | inl line ↦ record_tells left read.3.legal line
+    | inl line ↦ record_tells left read.1.legal line
     | inr line ↦ end_tells left line
   ]
   stage_tells due.Ended read e = absurd (err_ok BadLine said e)
 
-line_tells : (p : Problem) → IsProblem p → (number : ℕ) (plan : Plan) (begun : List ℕ) (d : Due) (fields : List (List ℕ)) (said : PlanLine) → IsRead p d plan → line_at p d fields ≡ Ok said → LineTells p number d plan begun said
+line_tells : (p : Problem) → IsProblem p → (number : ℕ) (plan : GapPlan) (begun : List ℕ) (d : Due) (fields : List (List ℕ)) (said : PlanLine) → IsRead p d plan → line_at p d fields ≡ Ok said → LineTells p number d plan begun said
 unfolding line_at
 line_tells p h number plan begun d fields said read e =
-    cond_both _ _ _ (λ (x : Result PlanLine PlanKind). x ≡ Ok said → LineTells p number d plan begun said) (λ _ e'. absurd (err_ok BadLine said e')) (λ _ e'. stage_tells p h number plan begun d.version d.expected fields said d.stage read e') e
+    cond_both _ _ _ (λ (x : Result PlanLine PlanKind). x ≡ Ok said → LineTells p number d plan begun said) (λ _ e'. absurd (err_ok BadLine said e')) (λ _ e'. stage_tells p h number plan begun d.dialect d.expected fields said d.stage read e') e
 
-moved_at : (p : Problem) (number : ℕ) (d : Due) (plan : Plan) (begun : List ℕ) (said : PlanLine) → moved p (stand_at number d plan begun) said ≡ stand_at (number + 1) (next p d said) (taken plan said) []
+moved_at : (p : Problem) (number : ℕ) (d : Due) (plan : GapPlan) (begun : List ℕ) (said : PlanLine) → moved p (stand_at number d plan begun) said ≡ stand_at (number + 1) (next p d said) (taken plan said) []
 unfolding gathered
 moved_at p number d plan begun (Version v) = refl
 moved_at p number d plan begun (Path q) = refl
 moved_at p number d plan begun (Chance v w) = refl
+moved_at p number d plan begun (Ceiling n) = refl
 moved_at p number d plan begun (Count n) = refl
 moved_at p number d plan begun (Node r) = refl
 moved_at p number d plan begun End = refl
 
 -- what follows from a step, by the items that there are then
-goes_on : (p : Problem) (fed : List ℕ) (items new : List PlanItem) (step : Step) (feed : Stand) → StepTells p items step new → HasRead p fed new feed → GoesOn p fed items step feed
-goes_on p fed items new More feed tells read = subst (λ (xs : List PlanItem). HasRead p fed xs feed) tells read
-goes_on p fed items new (Item told) feed tells read = (subst (λ (xs : List PlanItem). HasRead p fed xs feed) tells.0 read, tells.1)
-goes_on p fed items new (Fault fault) feed tells read = absurd tells
+goes_on : (family : Family) (p : Problem) (fed : List ℕ) (items new : List PlanItem) (step : Step) (feed : Stand) → StepTells family p items step new → HasRead family p fed new feed → GoesOn family p fed items step feed
+goes_on family p fed items new More feed tells read = subst (λ (xs : List PlanItem). HasRead family p fed xs feed) tells read
+goes_on family p fed items new (Item told) feed tells read = (subst (λ (xs : List PlanItem). HasRead family p fed xs feed) tells.0 read, tells.1)
+goes_on family p fed items new (Fault fault) feed tells read = absurd tells
 
-module _ (p : Problem) (h : IsProblem p) (fed : List ℕ) (items : List PlanItem) (s : Stand) (read : HasRead p fed items s) where
+module _ (family : Family) (p : Problem) (h : IsProblem p) (fed : List ℕ) (items : List PlanItem) (s : Stand) (read : HasRead family p fed items s) where
   abbrev d : Due
-  d = due_behind p at_start read.said
+  d = due_behind p (at_start family) read.said
 
-  abbrev plan : Plan
+  abbrev plan : GapPlan
   plan = plan_behind blank_plan read.said
 
   abbrev number : ℕ
@@ -124,18 +147,18 @@ module _ (p : Problem) (h : IsProblem p) (fed : List ℕ) (items : List PlanItem
   here = stand_at number d plan read.begun
 
   -- a byte behind the end
-  byte_behind : (c : ℕ) → d.stage ≡ due.Ended → IsDecided p (fed ++ c ∷ []) (at_line_number number Rest)
+  byte_behind : (c : ℕ) → d.stage ≡ due.Ended → IsDecided family p (fed ++ c ∷ []) (at_line_number number Rest)
   byte_behind c ended = λ more.
       let long = length-append read.begun (c ∷ more) in
-      at_rest p number d plan (read.begun ++ c ∷ more) _ ended (λ none. omega (arith, none, long)) (text_behind p fed items s read c more)
+      at_rest p number d plan (read.begun ++ c ∷ more) _ ended (λ none. omega (arith, none, long)) (text_behind family p fed items s read c more)
 
   -- a line that says something
-  line_read : (said : PlanLine) → line_at p d (exact_fields read.begun) ≡ Ok said → HasRead p (fed ++ 10 ∷ []) (told (next p d said).stage (taken plan said)) (moved p here said)
+  line_read : (said : PlanLine) → line_at p d (exact_fields read.begun) ≡ Ok said → HasRead family p (fed ++ 10 ∷ []) (told (next p d said).stage (taken plan said)) (moved p here said)
   line_read said e =
       let lines = read.before ++ read.begun ∷ [] in
       let all = read.said ++ said ∷ [] in
       let later : number + 1 ≡ 1 + length lines = omega (arith, length-append read.before (read.begun ∷ [])) in
-      let stages = due_more p at_start read.said said in
+      let stages = due_more p (at_start family) read.said said in
       let plans = plan_more blank_plan read.said said in
       record {
         before = lines;
@@ -144,26 +167,29 @@ module _ (p : Problem) (h : IsProblem p) (fed : List ℕ) (items : List PlanItem
         whole = ap (λ (t : List ℕ). t ++ 10 ∷ []) read.whole ∙ append_assoc (lines_text read.before) read.begun (10 ∷ []) ∙ sym (lines_more read.before read.begun []);
         feeds = All-push HasNoFeed read.before read.begun read.feeds read.open_line;
         open_line = All-nil (λ (b : ℕ). b ≡ 10 → ⊥);
-        right = said_more p at_start read.before read.said read.begun said read.right e;
+        right = said_more p (at_start family) read.before read.said read.begun said read.right e;
         behind_end = λ _. refl;
         tell = sym (ap (λ (t : Due). told t.stage (plan_behind blank_plan all)) stages ∙ ap (told (next p d said).stage) plans);
         stand = moved_at p number d plan read.begun said
             ∙ ap (λ (n : ℕ). stand_at n (next p d said) (taken plan said) []) later
             ∙ ap (λ (t : Due). stand_at (1 + length lines) t (taken plan said) []) (sym stages)
-            ∙ ap (λ (q : Plan). stand_at (1 + length lines) (due_behind p at_start all) q []) (sym plans);
+            ∙ ap (λ (q : GapPlan). stand_at (1 + length lines) (due_behind p (at_start family) all) q []) (sym plans);
       }
 
-  line_end : (r : Result PlanLine PlanKind) → (d.stage ≡ due.Ended → ⊥) → line_at p d (exact_fields read.begun) ≡ r → GoesOn p (fed ++ 10 ∷ []) items (line_ended p here r).step (line_ended p here r).stand
+  line_end : (r : Result PlanLine PlanKind) → (d.stage ≡ due.Ended → ⊥) → line_at p d (exact_fields read.begun) ≡ r → GoesOn family p (fed ++ 10 ∷ []) items (line_ended p here r).step (line_ended p here r).stand
   line_end (Err kind) goes e = λ more.
-      at_fault p number d plan kind (read.begun ++ 10 ∷ more) read.begun more _ goes (split_piece 10 read.begun more read.open_line) e (text_behind p fed items s read 10 more)
+      at_fault p number d plan kind (read.begun ++ 10 ∷ more) read.begun more _ goes (split_piece 10 read.begun more read.open_line) e (text_behind family p fed items s read 10 more)
   line_end (Ok said) goes e =
-      let settled = read_behind p h at_start blank_plan read.before read.said read.right (refl, refl) in
-      let tells : StepTells p items (step_of here said) (told (next p d said).stage (taken plan said)) =
-      subst (λ (xs : List PlanItem). StepTells p xs (step_of here said) (told (next p d said).stage (taken plan said))) (sym read.tell) (line_tells p h number plan read.begun d (exact_fields read.begun) said settled e) in
-      goes_on p (fed ++ 10 ∷ []) items (told (next p d said).stage (taken plan said)) (step_of here said) (moved p here said) tells (line_read said e)
+      let settled = read_behind p h (at_start family) blank_plan read.before read.said read.right (refl, refl) in
+      let here_is : family_due d ≡ family = family_behind p h (at_start family) blank_plan read.before read.said read.right (refl, refl) in
+      let ends = told (next p d said).stage (taken plan said) in
+      let tells : StepTells family p items (step_of here said) ends =
+      subst (λ (xs : List PlanItem). StepTells family p xs (step_of here said) ends) (sym read.tell)
+      (subst (λ (f : Family). StepTells f p (told d.stage plan) (step_of here said) ends) here_is (line_tells p h number plan read.begun d (exact_fields read.begun) said settled e)) in
+      goes_on family p (fed ++ 10 ∷ []) items (told (next p d said).stage (taken plan said)) (step_of here said) (moved p here said) tells (line_read said e)
 
   -- a byte of the line that is due
-  byte_begun : (c : ℕ) → (d.stage ≡ due.Ended → ⊥) → (c ≡ 10 → ⊥) → HasRead p (fed ++ c ∷ []) items (line_begun c here).stand
+  byte_begun : (c : ℕ) → (d.stage ≡ due.Ended → ⊥) → (c ≡ 10 → ⊥) → HasRead family p (fed ++ c ∷ []) items (line_begun c here).stand
   byte_begun c goes other = record {
     before = read.before;
     said = read.said;
@@ -174,26 +200,26 @@ module _ (p : Problem) (h : IsProblem p) (fed : List ℕ) (items : List PlanItem
     right = read.right;
     behind_end = λ ended. absurd (goes ended);
     tell = read.tell;
-    stand = ap (λ (g : Gathered). record { number = number; due = d; standing = plan.standing; weight = plan.weight; line = g }) (sym (gathered_more read.begun nothing_gathered c));
+    stand = ap (λ (g : Gathered). record { number = number; due = d; standing = plan.standing; weight = plan.weight; ceiling = plan.ceiling; line = g }) (sym (gathered_more read.begun nothing_gathered c));
   }
 
-  byte_here : (c : ℕ) → GoesOn p (fed ++ c ∷ []) items (byte_fed p c here).step (byte_fed p c here).stand
+  byte_here : (c : ℕ) → GoesOn family p (fed ++ c ∷ []) items (byte_fed p c here).step (byte_fed p c here).stand
   byte_here c =
-      let G : Moved → Type 0 = λ m. GoesOn p (fed ++ c ∷ []) items m.step m.stand in
+      let G : Moved → Type 0 = λ m. GoesOn family p (fed ++ c ∷ []) items m.step m.stand in
       cond_both (is_ended d.stage) _ _ G (λ ended. byte_behind c (ended_stage d.stage ended))
       (λ unended.
       let goes = unended_stage d.stage unended in
       cond_both (c == 10) _ (line_begun c here) G
-      (λ feed. subst (λ (b : ℕ). GoesOn p (fed ++ b ∷ []) items (line_ended p here (line_at p d (exact_fields here.line.text))).step (line_ended p here (line_at p d (exact_fields here.line.text))).stand) (sym (eqb-true c 10 feed))
+      (λ feed. subst (λ (b : ℕ). GoesOn family p (fed ++ b ∷ []) items (line_ended p here (line_at p d (exact_fields here.line.text))).step (line_ended p here (line_at p d (exact_fields here.line.text))).stand) (sym (eqb-true c 10 feed))
       (line_end _ goes (sym (gathered_judged p h d read.begun))))
       (λ other. byte_begun c goes (eqb-false c 10 other)))
 
-  pub byte_read : (c : ℕ) → GoesOn p (fed ++ c ∷ []) items (byte_fed p c s).step (byte_fed p c s).stand
-  byte_read c = subst (λ (t : Stand). GoesOn p (fed ++ c ∷ []) items (byte_fed p c t).step (byte_fed p c t).stand) (sym read.stand) (byte_here c)
+  pub byte_read : (c : ℕ) → GoesOn family p (fed ++ c ∷ []) items (byte_fed p c s).step (byte_fed p c s).stand
+  byte_read c = subst (λ (t : Stand). GoesOn family p (fed ++ c ∷ []) items (byte_fed p c t).step (byte_fed p c t).stand) (sym read.stand) (byte_here c)
 
 -- what is expected where bytes were read is legal
-pub fed_legal : (p : Problem) → IsProblem p → (fed : List ℕ) (items : List PlanItem) (s : Stand) → HasRead p fed items s → All (IsLegal p) s.due.expected
-fed_legal p h fed items s read =
-    let settled = read_behind p h at_start blank_plan read.before read.said read.right (refl, refl) in
-    let legal = expected_legal p (due_behind p at_start read.said) (plan_behind blank_plan read.said) settled in
+pub fed_legal : (family : Family) (p : Problem) → IsProblem p → (fed : List ℕ) (items : List PlanItem) (s : Stand) → HasRead family p fed items s → All (IsLegal p) s.due.expected
+fed_legal family p h fed items s read =
+    let settled = read_behind p h (at_start family) blank_plan read.before read.said read.right (refl, refl) in
+    let legal = expected_legal p (due_behind p (at_start family) read.said) (plan_behind blank_plan read.said) settled in
     subst (λ (t : Stand). All (IsLegal p) t.due.expected) (sym read.stand) legal

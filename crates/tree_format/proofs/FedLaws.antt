@@ -4,13 +4,15 @@ use Rattle.std.specs.Prelude.{All}
 use Rattle.std.proofs.lemmas.List.{append-nil, take-append-drop}
 use Rattle.std.proofs.lemmas.List.Elements.{All-head, All-tail}
 use Rattle.search_model.specs.Problem.{Problem, IsProblem}
-use Rattle.bound_tree.specs.declared.plan.Plan.{Plan}
+use Rattle.bound_tree.specs.declared.gap.GapPlan.{GapPlan}
+use Rattle.tree_format.specs.declared.plan_line.Family.{Family}
+use Rattle.tree_format.specs.Dialects.{family_of, most_records}
 use Rattle.tree_format.specs.declared.kind.PlanKind.{PlanKind}
 use Rattle.tree_format.specs.declared.kind.PlanKind.TheVariants.{BadLine, BadNumber, UnknownName, TooManyNodes, WrongCount, EarlyEnd, NoPlace, StillOpen}
 use Rattle.tree_format.specs.declared.kind.PlanFault.{PlanFault}
 use Rattle.tree_format.specs.declared.due.Due.{Due}
 use Rattle.tree_format.specs.declared.plan_line.Stage.{Stage}
-use Rattle.tree_format.specs.declared.plan_line.TextVersion.{TextVersion}
+use Rattle.tree_format.specs.declared.plan_line.Dialect.{Dialect}
 use Rattle.tree_format.specs.declared.plan_line.Stage.TheVariants as due
 use Rattle.tree_format.specs.declared.plan_line.PlanLine.{PlanLine}
 use Rattle.tree_format.specs.declared.plan_item.PlanItem.{PlanItem}
@@ -21,17 +23,17 @@ use Rattle.text_rows.specs.Fields.{exact_fields}
 use Rattle.text_rows.proofs.Splits.{split_piece, split_whole, split_nothing}
 use Rattle.text_rows.proofs.Results.{same_ok}
 use Rattle.tree_format.specs.Faults.{AreSaid, due_behind}
-use Rattle.tree_format.specs.Reading.{line_at, at_start, blank_plan, next, taken, is_ended, at_line_number, pieces_at, plan_at}
+use Rattle.tree_format.specs.Reading.{line_at, at_start, blank_plan, next, taken, is_ended, at_line_number, pieces_at, text_at}
 use Rattle.text_rows.specs.Kinds.{first_kind, fault_of}
 use Rattle.tree_format.specs.FeedSteps.{Stand, stand_at, byte_fed}
 use Rattle.tree_format.specs.Feeding.{items_of, told, plan_behind, HasRead, Tells, IsDecided, IsWhole, IsCutOff, GoesOn}
 use Rattle.tree_format.specs.FeedLaws.{CutAnywhere, ItemsOfThePlan, EachFaultIsMet, FaultIsLast, AreInOrder, ItemsInOrder, GatheredIsSummary}
 use Rattle.tree_format.proofs.Loop.{at_line, at_fault, at_early, at_end}
 use Rattle.tree_format.proofs.FirstFaults.{unended_stage}
-use Rattle.tree_format.proofs.Spelled.{IsReadAt, ended_stage}
+use Rattle.tree_format.proofs.Spelled.{IsReadAt, family_at, ended_stage}
 use Rattle.tree_format.proofs.Tables.{kinds_by_table}
 use Rattle.tree_format.proofs.Gatherings.{gathered_summary}
-use Rattle.tree_format.proofs.Feedings.{read_behind, text_behind}
+use Rattle.tree_format.proofs.Feedings.{read_behind, family_behind, text_behind}
 use Rattle.tree_format.proofs.BytesFed.{byte_read}
 use Rattle.tree_format.proofs.FedPieces.{nothing_read, read_whole, read_early}
 
@@ -70,15 +72,15 @@ said_same p d (line ∷ before) (x ∷ xs) (y ∷ ys) right right' =
     ap (λ (z : PlanLine). z ∷ xs) same ∙ ap (λ (zs : List PlanLine). y ∷ zs) (said_same p (next p d x) before xs ys right.1 later)
 
 pub cut_anywhere : CutAnywhere
-cut_anywhere p fed items others feed other a b =
+cut_anywhere family p fed items others feed other a b =
     let text : lines_text a.before ++ a.begun ≡ lines_text b.before ++ b.begun = sym a.whole ∙ b.whole in
     let pieces = ends_same a.before b.before a.begun b.begun (sym (pieces_lines a.before a.begun a.feeds a.open_line) ∙ ap pieces_of text ∙ pieces_lines b.before b.begun b.feeds b.open_line) in
-    let said = said_same p at_start b.before a.said b.said (subst (λ (lines : List (List ℕ)). AreSaid p at_start lines a.said) pieces.0 a.right) b.right in (
-      a.tell ∙ ap (λ (ls : List PlanLine). told (due_behind p at_start ls).stage (plan_behind blank_plan ls)) said ∙ sym b.tell,
+    let said = said_same p (at_start family) b.before a.said b.said (subst (λ (lines : List (List ℕ)). AreSaid p (at_start family) lines a.said) pieces.0 a.right) b.right in (
+      a.tell ∙ ap (λ (ls : List PlanLine). told (due_behind p (at_start family) ls).stage (plan_behind blank_plan ls)) said ∙ sym b.tell,
       a.stand
-          ∙ ap (λ (lines : List (List ℕ)). stand_at (1 + length lines) (due_behind p at_start a.said) (plan_behind blank_plan a.said) a.begun) pieces.0
-          ∙ ap (λ (line : List ℕ). stand_at (1 + length b.before) (due_behind p at_start a.said) (plan_behind blank_plan a.said) line) pieces.1
-          ∙ ap (λ (ls : List PlanLine). stand_at (1 + length b.before) (due_behind p at_start ls) (plan_behind blank_plan ls) b.begun) said
+          ∙ ap (λ (lines : List (List ℕ)). stand_at (1 + length lines) (due_behind p (at_start family) a.said) (plan_behind blank_plan a.said) a.begun) pieces.0
+          ∙ ap (λ (line : List ℕ). stand_at (1 + length b.before) (due_behind p (at_start family) a.said) (plan_behind blank_plan a.said) line) pieces.1
+          ∙ ap (λ (ls : List PlanLine). stand_at (1 + length b.before) (due_behind p (at_start family) ls) (plan_behind blank_plan ls) b.begun) said
           ∙ sym b.stand,
     )
 
@@ -102,14 +104,14 @@ by_test : (b : Bool) → (b ≡ true → ⊥) → (b ≡ false → ⊥) → ⊥
 by_test true t f = t refl
 by_test false t f = f refl
 
-same_fault : (f g : PlanFault) → ◌≡◌ {A = Result Plan PlanFault} (Err f) (Err g) → f ≡ g
+same_fault : (f g : PlanFault) → ◌≡◌ {A = Result GapPlan PlanFault} (Err f) (Err g) → f ≡ g
 same_fault f g e = cc
 
-no_both : (plan : Plan) (f : PlanFault) → ◌≡◌ {A = Result Plan PlanFault} (Err f) (Ok plan) → ⊥
+no_both : (plan : GapPlan) (f : PlanFault) → ◌≡◌ {A = Result GapPlan PlanFault} (Err f) (Ok plan) → ⊥
 no_both plan f e = let bad : ⊥ = cc in bad
 
-module _ (p : Problem) (number : ℕ) (d : Due) (plan : Plan) (begun : List ℕ) (goes : d.stage ≡ due.Ended → ⊥) (free : HasNoFeed begun) where
-  abbrev ends : Result Plan PlanFault
+module _ (p : Problem) (number : ℕ) (d : Due) (plan : GapPlan) (begun : List ℕ) (goes : d.stage ≡ due.Ended → ⊥) (free : HasNoFeed begun) where
+  abbrev ends : Result GapPlan PlanFault
   ends = pieces_at p number d plan (pieces_of (begun ++ 10 ∷ []))
 
   -- with its line feed the line has another fault, or none
@@ -131,19 +133,19 @@ module _ (p : Problem) (number : ℕ) (d : Due) (plan : Plan) (begun : List ℕ)
       never_early p d (exact_fields begun) (e ∙ ap Err same)
 
 pub fault_is_last : FaultIsLast
-fault_is_last p fed items fault (feed, read) decided =
-    let at_once : plan_at p fed ≡ Err fault = ap (plan_at p) (sym (append-nil fed)) ∙ decided [] in
-    let d = due_behind p at_start read.said in
+fault_is_last family p fed items fault (feed, read) decided =
+    let at_once : text_at family p fed ≡ Err fault = ap (text_at family p) (sym (append-nil fed)) ∙ decided [] in
+    let d = due_behind p (at_start family) read.said in
     let number = 1 + length read.before in
     let due_is : feed.due.stage ≡ d.stage = ap (λ (s : Stand). s.due.stage) read.stand in
     by_test (is_ended d.stage)
-    (λ ended. let whole = read_whole p fed items feed read (due_is ∙ ended_stage d.stage ended) in no_both whole.plan fault (sym at_once ∙ whole.spelled))
+    (λ ended. let whole = read_whole family p fed items feed read (due_is ∙ ended_stage d.stage ended) in no_both whole.plan fault (sym at_once ∙ whole.spelled))
     (λ unended.
     let goes = unended_stage d.stage unended in
-    let early = read_early p fed items feed read (λ over. goes (sym due_is ∙ over)) in
+    let early = read_early family p fed items feed read (λ over. goes (sym due_is ∙ over)) in
     let same : fault ≡ at_line_number number EarlyEnd = same_fault _ _ (sym at_once ∙ early.first) ∙ ap (λ (s : Stand). at_line_number s.number EarlyEnd) read.stand in
-    let with_feed : plan_at p (fed ++ 10 ∷ []) ≡ Err fault = ap (λ (t : List ℕ). plan_at p t) (sym (append-nil (fed ++ 10 ∷ []))) ∙ ap (plan_at p) (append_assoc fed (10 ∷ []) []) ∙ decided (10 ∷ []) in
-    let ends = text_behind p fed items feed read 10 [] ∙ ap (plan_at p) (append-nil (fed ++ 10 ∷ [])) ∙ with_feed ∙ ap Err same in
+    let with_feed : text_at family p (fed ++ 10 ∷ []) ≡ Err fault = ap (λ (t : List ℕ). text_at family p t) (sym (append-nil (fed ++ 10 ∷ []))) ∙ ap (text_at family p) (append_assoc fed (10 ∷ []) []) ∙ decided (10 ∷ []) in
+    let ends = text_behind family p fed items feed read 10 [] ∙ ap (text_at family p) (append-nil (fed ++ 10 ∷ [])) ∙ with_feed ∙ ap Err same in
     line_fed p number d (plan_behind blank_plan read.said) read.begun goes read.open_line _ refl ends)
 
 -- A step is what the bytes decide.
@@ -152,127 +154,137 @@ longer : {X : Type 0} (xs : List X) (x : X) → xs ≡ xs ++ x ∷ [] → ⊥
 longer xs x e = let same = ap length e in omega (arith, same, length-append xs (x ∷ []))
 
 -- a fault that is decided is answered
-pub fault_answered : (p : Problem) (bytes : List ℕ) (items : List PlanItem) (step : Step) (feed : Stand) → GoesOn p bytes items step feed → (fault : PlanFault) → IsDecided p bytes fault → step ≡ Fault fault
-fault_answered p bytes items More feed goes fault decided = absurd (fault_is_last p bytes items fault (feed, goes) decided)
-fault_answered p bytes items (Item told) feed goes fault decided = absurd (fault_is_last p bytes (items ++ told ∷ []) fault (feed, goes.0) decided)
-fault_answered p bytes items (Fault found) feed goes fault decided = ap Fault (same_fault found fault (sym (goes []) ∙ decided []))
+pub fault_answered : (family : Family) (p : Problem) (bytes : List ℕ) (items : List PlanItem) (step : Step) (feed : Stand) → GoesOn family p bytes items step feed → (fault : PlanFault) → IsDecided family p bytes fault → step ≡ Fault fault
+fault_answered family p bytes items More feed goes fault decided = absurd (fault_is_last family p bytes items fault (feed, goes) decided)
+fault_answered family p bytes items (Item told) feed goes fault decided = absurd (fault_is_last family p bytes (items ++ told ∷ []) fault (feed, goes.0) decided)
+fault_answered family p bytes items (Fault found) feed goes fault decided = ap Fault (same_fault found fault (sym (goes []) ∙ decided []))
 
 -- and an item that is complete
-pub item_answered : (p : Problem) (bytes : List ℕ) (items : List PlanItem) (step : Step) (feed : Stand) → GoesOn p bytes items step feed → (told : PlanItem) → Tells p bytes (items ++ told ∷ []) → step ≡ Item told
-item_answered p bytes items More feed goes told (other, tells) = absurd (longer items told (cut_anywhere p bytes items (items ++ told ∷ []) feed other goes tells).0)
-item_answered p bytes items (Item found) feed goes told (other, tells) =
-    let same = (cut_anywhere p bytes (items ++ found ∷ []) (items ++ told ∷ []) feed other goes.0 tells).0 in
+pub item_answered : (family : Family) (p : Problem) (bytes : List ℕ) (items : List PlanItem) (step : Step) (feed : Stand) → GoesOn family p bytes items step feed → (told : PlanItem) → Tells family p bytes (items ++ told ∷ []) → step ≡ Item told
+item_answered family p bytes items More feed goes told (other, tells) = absurd (longer items told (cut_anywhere family p bytes items (items ++ told ∷ []) feed other goes tells).0)
+item_answered family p bytes items (Item found) feed goes told (other, tells) =
+    let same = (cut_anywhere family p bytes (items ++ found ∷ []) (items ++ told ∷ []) feed other goes.0 tells).0 in
     ap Item (ends_same items items found told same).1
-item_answered p bytes items (Fault found) feed goes told tells = absurd (fault_is_last p bytes (items ++ told ∷ []) found tells goes)
+item_answered family p bytes items (Fault found) feed goes told tells = absurd (fault_is_last family p bytes (items ++ told ∷ []) found tells goes)
 
 -- Whole texts.
 
 -- so many bytes more decide a fault
-record Decides (p : Problem) (fed more : List ℕ) : Type 0 where
+record Decides (family : Family) (p : Problem) (fed more : List ℕ) : Type 0 where
   count : ℕ
   fault : PlanFault
   within : count ≤ length more
-  decided : IsDecided p (fed ++ take count more) fault
+  decided : IsDecided family p (fed ++ take count more) fault
 
 -- these bytes more tell these items more
-record TellsMore (p : Problem) (fed more : List ℕ) (items : List PlanItem) : Type 0 where
+record TellsMore (family : Family) (p : Problem) (fed more : List ℕ) (items : List PlanItem) : Type 0 where
   later : List PlanItem
   feed : Stand
-  read : HasRead p (fed ++ more) (items ++ later) feed
+  read : HasRead family p (fed ++ more) (items ++ later) feed
 
-abbrev Runs : Problem → List ℕ → List ℕ → List PlanItem → Type 0
-Runs p fed more items = Decides p fed more ⊎ TellsMore p fed more items
+abbrev Runs : Family → Problem → List ℕ → List ℕ → List PlanItem → Type 0
+Runs family p fed more items = Decides family p fed more ⊎ TellsMore family p fed more items
 
 -- behind a byte more
-runs_behind : (p : Problem) (fed more : List ℕ) (c : ℕ) (items new later : List PlanItem) → new ≡ items ++ later → Runs p (fed ++ c ∷ []) more new → Runs p fed (c ∷ more) items
-runs_behind p fed more c items new later same runs = elim runs [
+runs_behind : (family : Family) (p : Problem) (fed more : List ℕ) (c : ℕ) (items new later : List PlanItem) → new ≡ items ++ later → Runs family p (fed ++ c ∷ []) more new → Runs family p fed (c ∷ more) items
+runs_behind family p fed more c items new later same runs = elim runs [
   | inl found ↦ inl (record {
     count = suc found.count;
     fault = found.fault;
     within = omega (arith, found.within);
-    decided = subst (λ (t : List ℕ). IsDecided p t found.fault) (append_assoc fed (c ∷ []) (take found.count more)) found.decided;
+    decided = subst (λ (t : List ℕ). IsDecided family p t found.fault) (append_assoc fed (c ∷ []) (take found.count more)) found.decided;
   })
   | inr told ↦ inr (record {
     later = later ++ told.later;
     feed = told.feed;
-    read = subst (λ (t : List ℕ). HasRead p t (items ++ (later ++ told.later)) told.feed) (append_assoc fed (c ∷ []) more)
-        (subst (λ (xs : List PlanItem). HasRead p ((fed ++ c ∷ []) ++ more) xs told.feed) (ap (λ (xs : List PlanItem). xs ++ told.later) same ∙ append_assoc items later told.later) told.read);
+    read = subst (λ (t : List ℕ). HasRead family p t (items ++ (later ++ told.later)) told.feed) (append_assoc fed (c ∷ []) more)
+        (subst (λ (xs : List PlanItem). HasRead family p ((fed ++ c ∷ []) ++ more) xs told.feed) (ap (λ (xs : List PlanItem). xs ++ told.later) same ∙ append_assoc items later told.later) told.read);
   })
 ]
 
-run_step : (p : Problem) (fed more : List ℕ) (c : ℕ) (items : List PlanItem) (step : Step) (feed : Stand) → GoesOn p (fed ++ c ∷ []) items step feed → ((new : List PlanItem) → HasRead p (fed ++ c ∷ []) new feed → Runs p (fed ++ c ∷ []) more new) → Runs p fed (c ∷ more) items
-run_step p fed more c items More feed goes later = runs_behind p fed more c items items [] (sym (append-nil items)) (later items goes)
-run_step p fed more c items (Item told) feed goes later = runs_behind p fed more c items (items ++ told ∷ []) (told ∷ []) refl (later (items ++ told ∷ []) goes.0)
-run_step p fed more c items (Fault fault) feed goes later = inl (record { count = 1; fault = fault; within = omega arith; decided = goes })
+run_step : (family : Family) (p : Problem) (fed more : List ℕ) (c : ℕ) (items : List PlanItem) (step : Step) (feed : Stand) → GoesOn family p (fed ++ c ∷ []) items step feed → ((new : List PlanItem) → HasRead family p (fed ++ c ∷ []) new feed → Runs family p (fed ++ c ∷ []) more new) → Runs family p fed (c ∷ more) items
+run_step family p fed more c items More feed goes later = runs_behind family p fed more c items items [] (sym (append-nil items)) (later items goes)
+run_step family p fed more c items (Item told) feed goes later = runs_behind family p fed more c items (items ++ told ∷ []) (told ∷ []) refl (later (items ++ told ∷ []) goes.0)
+run_step family p fed more c items (Fault fault) feed goes later = inl (record { count = 1; fault = fault; within = omega arith; decided = goes })
 
-run : (p : Problem) → IsProblem p → (more fed : List ℕ) (items : List PlanItem) (feed : Stand) → HasRead p fed items feed → Runs p fed more items
-run p h [] fed items feed read = inr (record {
+run : (family : Family) (p : Problem) → IsProblem p → (more fed : List ℕ) (items : List PlanItem) (feed : Stand) → HasRead family p fed items feed → Runs family p fed more items
+run family p h [] fed items feed read = inr (record {
   later = [];
   feed = feed;
-  read = subst (λ (t : List ℕ). HasRead p t (items ++ []) feed) (sym (append-nil fed)) (subst (λ (xs : List PlanItem). HasRead p fed xs feed) (sym (append-nil items)) read);
+  read = subst (λ (t : List ℕ). HasRead family p t (items ++ []) feed) (sym (append-nil fed)) (subst (λ (xs : List PlanItem). HasRead family p fed xs feed) (sym (append-nil items)) read);
 })
-run p h (c ∷ more) fed items feed read =
-    run_step p fed more c items (byte_fed p c feed).step (byte_fed p c feed).stand (byte_read p h fed items feed read c) (λ new read'. run p h more (fed ++ c ∷ []) new (byte_fed p c feed).stand read')
+run family p h (c ∷ more) fed items feed read =
+    run_step family p fed more c items (byte_fed p c feed).step (byte_fed p c feed).stand (byte_read family p h fed items feed read c) (λ new read'. run family p h more (fed ++ c ∷ []) new (byte_fed p c feed).stand read')
 
 -- bytes that are right so far are the text of a plan or end early
-whole_or_early : (p : Problem) (fed : List ℕ) (items : List PlanItem) (feed : Stand) → HasRead p fed items feed → IsWhole p fed items ⊎ ((fault : PlanFault) × IsCutOff p fed fault)
-whole_or_early p fed items feed read = by_end (is_ended feed.due.stage) (λ ended. read_whole p fed items feed read (ended_stage feed.due.stage ended)) (λ unended. read_early p fed items feed read (unended_stage feed.due.stage unended))
+whole_or_early : (family : Family) (p : Problem) (fed : List ℕ) (items : List PlanItem) (feed : Stand) → HasRead family p fed items feed → IsWhole family p fed items ⊎ ((fault : PlanFault) × IsCutOff family p fed fault)
+whole_or_early family p fed items feed read = by_end (is_ended feed.due.stage) (λ ended. read_whole family p fed items feed read (ended_stage feed.due.stage ended)) (λ unended. read_early family p fed items feed read (unended_stage feed.due.stage unended))
   where
-    by_end : (b : Bool) → (b ≡ true → IsWhole p fed items) → (b ≡ false → IsCutOff p fed (at_line_number feed.number EarlyEnd)) → IsWhole p fed items ⊎ ((fault : PlanFault) × IsCutOff p fed fault)
+    by_end : (b : Bool) → (b ≡ true → IsWhole family p fed items) → (b ≡ false → IsCutOff family p fed (at_line_number feed.number EarlyEnd)) → IsWhole family p fed items ⊎ ((fault : PlanFault) × IsCutOff family p fed fault)
     by_end true w e = inl (w refl)
     by_end false w e = inr (at_line_number feed.number EarlyEnd, e refl)
 
-same_plan : (a b : Plan) → ◌≡◌ {A = Result Plan PlanFault} (Ok a) (Ok b) → a ≡ b
+same_plan : (a b : GapPlan) → ◌≡◌ {A = Result GapPlan PlanFault} (Ok a) (Ok b) → a ≡ b
 same_plan a b e = cc
 
 pub items_of_the_plan : ItemsOfThePlan
-items_of_the_plan p fed more items plan h (feed, read) e = elim (run p h more fed items feed read) [
+items_of_the_plan family p fed more items plan h (feed, read) e = elim (run family p h more fed items feed read) [
   | inl found ↦
       let text : (fed ++ take found.count more) ++ drop found.count more ≡ fed ++ more = append_assoc fed (take found.count more) (drop found.count more) ∙ ap (λ (t : List ℕ). fed ++ t) (take-append-drop found.count more) in
-      absurd (no_both plan found.fault (sym (found.decided (drop found.count more)) ∙ ap (plan_at p) text ∙ e))
-  | inr told ↦ elim (whole_or_early p (fed ++ more) (items ++ told.later) told.feed told.read) [
+      absurd (no_both plan found.fault (sym (found.decided (drop found.count more)) ∙ ap (text_at family p) text ∙ e))
+  | inr told ↦ elim (whole_or_early family p (fed ++ more) (items ++ told.later) told.feed told.read) [
     | inl whole ↦ (told.later, whole.tell ∙ ap items_of (same_plan whole.plan plan (sym whole.spelled ∙ e)))
     | inr early ↦ absurd (no_both plan early.0 (sym early.1.first ∙ e))
   ]
 ]
 
 pub each_fault_is_met : EachFaultIsMet
-each_fault_is_met p text fault h e =
-    elim (run p h text [] [] _ (nothing_read p at_start [] _ refl refl refl)) [
+each_fault_is_met family p text fault h e =
+    elim (run family p h text [] [] _ (nothing_read family p (at_start family) [] _ refl refl refl)) [
       | inl found ↦
           let again = found.decided (drop found.count text) ∙ refl in
-          let same = same_fault found.fault fault (sym again ∙ ap (plan_at p) (take-append-drop found.count text) ∙ e) in
-          inl (record { count = found.count; within = found.within; decided = subst (IsDecided p (take found.count text)) same found.decided })
-      | inr told ↦ elim (whole_or_early p text told.later told.feed told.read) [
+          let same = same_fault found.fault fault (sym again ∙ ap (text_at family p) (take-append-drop found.count text) ∙ e) in
+          inl (record { count = found.count; within = found.within; decided = subst (IsDecided family p (take found.count text)) same found.decided })
+      | inr told ↦ elim (whole_or_early family p text told.later told.feed told.read) [
         | inl whole ↦ absurd (no_both whole.plan fault (sym e ∙ whole.spelled))
-        | inr early ↦ inr (told.later, (told.feed, told.read), subst (IsCutOff p text) (same_fault early.0 fault (sym early.1.first ∙ e)) early.1)
+        | inr early ↦ inr (told.later, (told.feed, told.read), subst (IsCutOff family p text) (same_fault early.0 fault (sym early.1.first ∙ e)) early.1)
       ]
     ]
 
-in_order : (p : Problem) (v : TextVersion) (expected : List (List ℕ)) (stage : Stage) (plan : Plan) → IsReadAt p v expected stage plan → (told stage plan ≡ []) ⊎ AreInOrder (told stage plan)
-in_order p v expected due.Version plan read = inl refl
-in_order p v expected due.Path plan read = inl refl
-in_order p v expected due.Chance plan read = inl refl
-in_order p v expected due.Count plan read = inl refl
-in_order p v expected (due.Records left) plan read = inr (record {
+-- as many records as there may be
+few_told : (family : Family) (v : Dialect) (n : ℕ) → family_of v ≡ family → n ≤ most_records (family_of v) → n ≤ most_records family
+few_told family v n e few = subst (λ (f : Family). n ≤ most_records f) e few
+
+in_order : (family : Family) (p : Problem) (v : Dialect) (expected : List (List ℕ)) (stage : Stage) (plan : GapPlan) → family_at v stage ≡ family → IsReadAt p v expected stage plan → (told stage plan ≡ []) ⊎ AreInOrder family (told stage plan)
+in_order family p v expected (due.Version f) plan e read = inl refl
+in_order family p v expected due.Path plan e read = inl refl
+in_order family p v expected due.Chance plan e read = inl refl
+in_order family p v expected due.Ceiling plan e read = inl refl
+in_order family p v expected due.Count plan e read = inl refl
+in_order family p v expected (due.Records left) plan e read = inr (record {
   standing = plan.standing;
   weight = plan.weight;
-  nodes = length plan.tree + left;
-  records = plan.tree;
-  few = read.3.few;
+  ceiling = plan.ceiling;
+  nodes = length plan.nodes + left;
+  records = plan.nodes;
+  few = few_told family v (length plan.nodes + left) e read.1.few;
   within = omega arith;
   order = inl refl;
 })
-in_order p v expected due.Ended plan read = inr (record {
+in_order family p v expected due.Ended plan e read = inr (record {
   standing = plan.standing;
   weight = plan.weight;
-  nodes = length plan.tree;
-  records = plan.tree;
-  few = (let few = read.3.few in omega (arith, few));
+  ceiling = plan.ceiling;
+  nodes = length plan.nodes;
+  records = plan.nodes;
+  few = few_told family v (length plan.nodes) e (let few = read.1.few in omega (arith, few));
   within = omega arith;
   order = inr (refl, refl);
 })
 
 pub items_in_order : ItemsInOrder
-items_in_order p fed items h (feed, read) =
-    subst (λ (xs : List PlanItem). (xs ≡ []) ⊎ AreInOrder xs) (sym read.tell) (in_order p _ _ (due_behind p at_start read.said).stage (plan_behind blank_plan read.said) (read_behind p h at_start blank_plan read.before read.said read.right (refl, refl)))
+items_in_order family p fed items h (feed, read) =
+    let start = at_start family in
+    let d = due_behind p start read.said in
+    subst (λ (xs : List PlanItem). (xs ≡ []) ⊎ AreInOrder family xs) (sym read.tell)
+    (in_order family p d.dialect d.expected d.stage (plan_behind blank_plan read.said) (family_behind p h start blank_plan read.before read.said read.right (refl, refl)) (read_behind p h start blank_plan read.before read.said read.right (refl, refl)))

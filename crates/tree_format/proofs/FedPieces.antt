@@ -4,7 +4,8 @@ use Rattle.std.proofs.lemmas.Bool.{cases_lt}
 use Rattle.std.proofs.lemmas.List.{take_all, take_more}
 use Rattle.std.proofs.lemmas.List.Elements.{All-nil}
 use Rattle.search_model.specs.Problem.{Problem}
-use Rattle.bound_tree.specs.declared.plan.Plan.{Plan}
+use Rattle.bound_tree.specs.declared.gap.GapPlan.{GapPlan}
+use Rattle.tree_format.specs.declared.plan_line.Family.{Family}
 use Rattle.tree_format.specs.declared.kind.PlanKind.TheVariants.{EarlyEnd}
 use Rattle.tree_format.specs.declared.due.Due.{Due}
 use Rattle.tree_format.specs.declared.plan_line.Stage.{Stage}
@@ -15,7 +16,7 @@ use Rattle.tree_format.specs.declared.plan_item.Step.TheVariants.{More}
 use Rattle.text_rows.specs.Lines.{pieces_of, HasNoFeed}
 use Rattle.text_rows.proofs.Splits.{split_whole}
 use Rattle.tree_format.specs.Faults.{due_behind}
-use Rattle.tree_format.specs.Reading.{at_start, blank_plan, at_line_number, pieces_at, plan_at}
+use Rattle.tree_format.specs.Reading.{at_start, blank_plan, at_line_number, pieces_at, text_at}
 use Rattle.tree_format.specs.Gathering.{Gathered, nothing_gathered}
 use Rattle.tree_format.specs.FeedSteps.{Stand}
 use Rattle.tree_format.specs.Feeding.{told, plan_behind, HasRead, IfRead, Tells, IsWhole, IsCutOff, GoesOn}
@@ -24,8 +25,8 @@ use Rattle.tree_format.proofs.Gatherings.{gathered_nothing}
 use Rattle.tree_format.proofs.Feedings.{reads_on}
 
 -- a feed that was fed nothing
-pub nothing_read : (p : Problem) (d : Due) (path : List ℕ) (line : Gathered) → d ≡ at_start → path ≡ [] → line ≡ nothing_gathered → HasRead p [] [] (record { number = 1; due = d; standing = record { path = path; value = 0 }; weight = 0; line = line })
-nothing_read p d path line first none nothing = record {
+pub nothing_read : (family : Family) (p : Problem) (d : Due) (path : List ℕ) (line : Gathered) → d ≡ at_start family → path ≡ [] → line ≡ nothing_gathered → HasRead family p [] [] (record { number = 1; due = d; standing = record { path = path; value = 0 }; weight = 0; ceiling = 0; line = line })
+nothing_read family p d path line first none nothing = record {
   before = [];
   said = [];
   begun = [];
@@ -35,57 +36,57 @@ nothing_read p d path line first none nothing = record {
   right = tt;
   behind_end = λ _. refl;
   tell = refl;
-  stand = ap (λ (x : Due). record { number = 1; due = x; standing = record { path = path; value = 0 }; weight = 0; line = line }) first
-      ∙ ap (λ (q : List ℕ). record { number = 1; due = at_start; standing = record { path = q; value = 0 }; weight = 0; line = line }) none
-      ∙ ap (λ (g : Gathered). record { number = 1; due = at_start; standing = record { path = []; value = 0 }; weight = 0; line = g }) (nothing ∙ sym (gathered_nothing nothing_gathered));
+  stand = ap (λ (x : Due). record { number = 1; due = x; standing = record { path = path; value = 0 }; weight = 0; ceiling = 0; line = line }) first
+      ∙ ap (λ (q : List ℕ). record { number = 1; due = at_start family; standing = record { path = q; value = 0 }; weight = 0; ceiling = 0; line = line }) none
+      ∙ ap (λ (g : Gathered). record { number = 1; due = at_start family; standing = record { path = []; value = 0 }; weight = 0; ceiling = 0; line = g }) (nothing ∙ sym (gathered_nothing nothing_gathered));
 }
 
 -- so many bytes of a piece were fed, and none of them completed an item or decided a fault
-pub record IsFedTo (p : Problem) (fed : List ℕ) (items : List PlanItem) (piece : List ℕ) (i : ℕ) (feed : Stand) : Type 0 where
-  pub here : HasRead p (fed ++ take i piece) items feed
-  pub earlier : (n : ℕ) → n < i → Tells p (fed ++ take n piece) items
+pub record IsFedTo (family : Family) (p : Problem) (fed : List ℕ) (items : List PlanItem) (piece : List ℕ) (i : ℕ) (feed : Stand) : Type 0 where
+  pub here : HasRead family p (fed ++ take i piece) items feed
+  pub earlier : (n : ℕ) → n < i → Tells family p (fed ++ take n piece) items
 
 -- those before a place, where none before it did
-pub fed_before : (p : Problem) (fed : List ℕ) (items : List PlanItem) (piece : List ℕ) (i : ℕ) (feed : Stand) → IsFedTo p fed items piece i feed → (n : ℕ) → n < i + 1 → Tells p (fed ++ take n piece) items
-fed_before p fed items piece i feed to n lt = elim (cases_lt n i) [
+pub fed_before : (family : Family) (p : Problem) (fed : List ℕ) (items : List PlanItem) (piece : List ℕ) (i : ℕ) (feed : Stand) → IsFedTo family p fed items piece i feed → (n : ℕ) → n < i + 1 → Tells family p (fed ++ take n piece) items
+fed_before family p fed items piece i feed to n lt = elim (cases_lt n i) [
   | inl below ↦ to.earlier n below
-  | inr above ↦ let same : i ≡ n = omega (arith, lt, above) in subst (λ (k : ℕ). Tells p (fed ++ take k piece) items) same (feed, to.here)
+  | inr above ↦ let same : i ≡ n = omega (arith, lt, above) in subst (λ (k : ℕ). Tells family p (fed ++ take k piece) items) same (feed, to.here)
 ]
 
 -- a byte more of it, and what it brought
-pub fed_byte : (p : Problem) (fed : List ℕ) (items : List PlanItem) (piece : List ℕ) (i : ℕ) (step brought : Step) (old new : Stand) → i < length piece → IsFedTo p fed items piece i old → IfRead p old (λ bytes told. GoesOn p (bytes ++ get_or piece i 0 ∷ []) told step new) → step ≡ brought → GoesOn p (fed ++ take (i + 1) piece) items brought new
-fed_byte p fed items piece i step brought old new lt to taken is =
+pub fed_byte : (family : Family) (p : Problem) (fed : List ℕ) (items : List PlanItem) (piece : List ℕ) (i : ℕ) (step brought : Step) (old new : Stand) → i < length piece → IsFedTo family p fed items piece i old → IfRead p old (λ family bytes told. GoesOn family p (bytes ++ get_or piece i 0 ∷ []) told step new) → step ≡ brought → GoesOn family p (fed ++ take (i + 1) piece) items brought new
+fed_byte family p fed items piece i step brought old new lt to taken is =
     let bytes : (fed ++ take i piece) ++ get_or piece i 0 ∷ [] ≡ fed ++ take (i + 1) piece = append_assoc fed (take i piece) (get_or piece i 0 ∷ []) ∙ ap (λ (t : List ℕ). fed ++ t) (sym (take_more piece i 0 lt)) in
-    subst (λ (s : Step). GoesOn p (fed ++ take (i + 1) piece) items s new) is (subst (λ (t : List ℕ). GoesOn p t items step new) bytes (taken (fed ++ take i piece) items to.here))
+    subst (λ (s : Step). GoesOn family p (fed ++ take (i + 1) piece) items s new) is (subst (λ (t : List ℕ). GoesOn family p t items step new) bytes (taken family (fed ++ take i piece) items to.here))
 
 -- and its last byte
-pub fed_all : (p : Problem) (fed : List ℕ) (items : List PlanItem) (piece : List ℕ) (i : ℕ) (feed : Stand) → length piece ≤ i → IsFedTo p fed items piece i feed → GoesOn p (fed ++ take (length piece) piece) items More feed
-fed_all p fed items piece i feed le to =
+pub fed_all : (family : Family) (p : Problem) (fed : List ℕ) (items : List PlanItem) (piece : List ℕ) (i : ℕ) (feed : Stand) → length piece ≤ i → IsFedTo family p fed items piece i feed → GoesOn family p (fed ++ take (length piece) piece) items More feed
+fed_all family p fed items piece i feed le to =
     let same : take i piece ≡ take (length piece) piece = take_all i piece le ∙ sym (take_all (length piece) piece (omega arith)) in
-    subst (λ (t : List ℕ). HasRead p (fed ++ t) items feed) same to.here
+    subst (λ (t : List ℕ). HasRead family p (fed ++ t) items feed) same to.here
 
-pub fed_more : (p : Problem) (fed : List ℕ) (items : List PlanItem) (piece : List ℕ) (i : ℕ) (old new : Stand) → IsFedTo p fed items piece i old → HasRead p (fed ++ take (i + 1) piece) items new → IsFedTo p fed items piece (i + 1) new
-fed_more p fed items piece i old new to read = record { here = read; earlier = fed_before p fed items piece i old to }
+pub fed_more : (family : Family) (p : Problem) (fed : List ℕ) (items : List PlanItem) (piece : List ℕ) (i : ℕ) (old new : Stand) → IsFedTo family p fed items piece i old → HasRead family p (fed ++ take (i + 1) piece) items new → IsFedTo family p fed items piece (i + 1) new
+fed_more family p fed items piece i old new to read = record { here = read; earlier = fed_before family p fed items piece i old to }
 
 -- The end of the bytes.
-module _ (p : Problem) (fed : List ℕ) (items : List PlanItem) (feed : Stand) (read : HasRead p fed items feed) where
+module _ (family : Family) (p : Problem) (fed : List ℕ) (items : List PlanItem) (feed : Stand) (read : HasRead family p fed items feed) where
   abbrev d : Due
-  d = due_behind p at_start read.said
+  d = due_behind p (at_start family) read.said
 
-  abbrev plan : Plan
+  abbrev plan : GapPlan
   plan = plan_behind blank_plan read.said
 
   abbrev number : ℕ
   number = 1 + length read.before
 
-  line_left : pieces_at p number d plan (pieces_of read.begun) ≡ plan_at p fed
-  line_left = sym (ap (plan_at p) read.whole ∙ reads_on p read.before read.said at_start blank_plan 1 read.begun read.feeds read.right)
+  line_left : pieces_at p number d plan (pieces_of read.begun) ≡ text_at family p fed
+  line_left = sym (ap (text_at family p) read.whole ∙ reads_on p read.before read.said (at_start family) blank_plan 1 read.begun read.feeds read.right)
 
   is_due : feed.due ≡ d
   is_due = ap (λ (s : Stand). s.due) read.stand
 
   -- behind the end they are the text of a plan
-  pub read_whole : feed.due.stage ≡ due.Ended → IsWhole p fed items
+  pub read_whole : feed.due.stage ≡ due.Ended → IsWhole family p fed items
   read_whole over =
       let ended : d.stage ≡ due.Ended = sym (ap (λ (x : Due). x.stage) is_due) ∙ over in
       record {
@@ -95,7 +96,7 @@ module _ (p : Problem) (fed : List ℕ) (items : List PlanItem) (feed : Stand) (
       }
 
   -- before it a line feed is missing
-  pub read_early : (feed.due.stage ≡ due.Ended → ⊥) → IsCutOff p fed (at_line_number feed.number EarlyEnd)
+  pub read_early : (feed.due.stage ≡ due.Ended → ⊥) → IsCutOff family p fed (at_line_number feed.number EarlyEnd)
   read_early goes =
       let early = at_early p number d plan read.begun _ (λ ended. goes (ap (λ (x : Due). x.stage) is_due ∙ ended)) (split_whole 10 read.begun read.open_line) line_left in
       record {

@@ -3,7 +3,8 @@ use Rattle.std.proofs.Common.{◌≡◌, ℕ, suc, ◌+◌, List, [], ◌∷◌,
 use Rattle.std.specs.Prelude.{All}
 use Rattle.std.proofs.lemmas.List.Elements.{All-head, All-tail}
 use Rattle.search_model.specs.Problem.{Problem, IsProblem}
-use Rattle.bound_tree.specs.declared.plan.Plan.{Plan}
+use Rattle.bound_tree.specs.declared.gap.GapPlan.{GapPlan}
+use Rattle.tree_format.specs.declared.plan_line.Family.{Family}
 use Rattle.tree_format.specs.declared.due.Due.{Due}
 use Rattle.tree_format.specs.declared.plan_line.PlanLine.{PlanLine}
 use Rattle.tree_format.specs.declared.plan_item.PlanItem.{PlanItem}
@@ -11,12 +12,12 @@ use Rattle.text_rows.specs.Lines.{pieces_of, HasNoFeed, lines_text}
 use Rattle.text_rows.specs.Fields.{exact_fields}
 use Rattle.text_rows.proofs.Splits.{split_piece}
 use Rattle.tree_format.specs.Faults.{AreSaid, due_behind}
-use Rattle.tree_format.specs.Reading.{line_at, at_start, blank_plan, next, taken, pieces_at, plan_at}
+use Rattle.tree_format.specs.Reading.{line_at, at_start, blank_plan, next, taken, pieces_at, text_at}
 use Rattle.tree_format.specs.FeedSteps.{Stand}
 use Rattle.tree_format.specs.Feeding.{plan_behind, HasRead}
 use Rattle.tree_format.proofs.Loop.{at_line}
 use Rattle.tree_format.proofs.FirstFaults.{due_still}
-use Rattle.tree_format.proofs.Spelled.{IsRead, line_on}
+use Rattle.tree_format.proofs.Spelled.{IsRead, family_due, line_on}
 
 -- One line more.
 
@@ -29,7 +30,7 @@ pub due_more : (p : Problem) (d : Due) (said : List PlanLine) (x : PlanLine) →
 due_more p d [] x = refl
 due_more p d (first ∷ said) x = due_more p (next p d first) said x
 
-pub plan_more : (plan : Plan) (said : List PlanLine) (x : PlanLine) → plan_behind plan (said ++ x ∷ []) ≡ taken (plan_behind plan said) x
+pub plan_more : (plan : GapPlan) (said : List PlanLine) (x : PlanLine) → plan_behind plan (said ++ x ∷ []) ≡ taken (plan_behind plan said) x
 plan_more plan [] x = refl
 plan_more plan (first ∷ said) x = plan_more (taken plan first) said x
 
@@ -40,15 +41,24 @@ said_more p d (l ∷ before) [] line x right e = absurd right
 said_more p d (l ∷ before) (first ∷ said) line x right e = (right.0, said_more p (next p d first) before said line x right.1 e)
 
 -- what lines have settled that say this
-pub read_behind : (p : Problem) → IsProblem p → (d : Due) (plan : Plan) (before : List (List ℕ)) (said : List PlanLine) → AreSaid p d before said → IsRead p d plan → IsRead p (due_behind p d said) (plan_behind plan said)
+pub read_behind : (p : Problem) → IsProblem p → (d : Due) (plan : GapPlan) (before : List (List ℕ)) (said : List PlanLine) → AreSaid p d before said → IsRead p d plan → IsRead p (due_behind p d said) (plan_behind plan said)
 read_behind p h d plan [] [] right read = read
 read_behind p h d plan [] (first ∷ said) right read = absurd right
 read_behind p h d plan (line ∷ before) [] right read = absurd right
 read_behind p h d plan (line ∷ before) (first ∷ said) right read =
     read_behind p h (next p d first) (taken plan first) before said right.1 (line_on p h d plan (exact_fields line) first read right.0).read
 
+-- they stay in their family
+pub family_behind : (p : Problem) → IsProblem p → (d : Due) (plan : GapPlan) (before : List (List ℕ)) (said : List PlanLine) → AreSaid p d before said → IsRead p d plan → family_due (due_behind p d said) ≡ family_due d
+family_behind p h d plan [] [] right read = refl
+family_behind p h d plan [] (first ∷ said) right read = absurd right
+family_behind p h d plan (line ∷ before) [] right read = absurd right
+family_behind p h d plan (line ∷ before) (first ∷ said) right read =
+    let on = line_on p h d plan (exact_fields line) first read right.0 in
+    family_behind p h (next p d first) (taken plan first) before said right.1 on.read ∙ on.family
+
 -- reading goes on behind right lines
-pub reads_on : (p : Problem) (before : List (List ℕ)) (said : List PlanLine) (d : Due) (plan : Plan) (number : ℕ) (rest : List ℕ) → All HasNoFeed before → AreSaid p d before said → pieces_at p number d plan (pieces_of (lines_text before ++ rest)) ≡ pieces_at p (number + length before) (due_behind p d said) (plan_behind plan said) (pieces_of rest)
+pub reads_on : (p : Problem) (before : List (List ℕ)) (said : List PlanLine) (d : Due) (plan : GapPlan) (number : ℕ) (rest : List ℕ) → All HasNoFeed before → AreSaid p d before said → pieces_at p number d plan (pieces_of (lines_text before ++ rest)) ≡ pieces_at p (number + length before) (due_behind p d said) (plan_behind plan said) (pieces_of rest)
 reads_on p [] [] d plan number rest feeds right = let same : number ≡ number + 0 = omega arith in ap (λ (n : ℕ). pieces_at p n d plan (pieces_of rest)) same
 reads_on p [] (first ∷ said) d plan number rest feeds right = absurd right
 reads_on p (line ∷ before) [] d plan number rest feeds right = absurd right
@@ -64,7 +74,7 @@ reads_on p (line ∷ before) (first ∷ said) d plan number rest feeds right =
     ∙ ap (λ (n : ℕ). pieces_at p n (due_behind p (next p d first) said) (plan_behind (taken plan first) said) (pieces_of rest)) later
 
 -- where a byte and more follows what a feed was fed
-pub text_behind : (p : Problem) (fed : List ℕ) (items : List PlanItem) (feed : Stand) (read : HasRead p fed items feed) (c : ℕ) (more : List ℕ) → pieces_at p (1 + length read.before) (due_behind p at_start read.said) (plan_behind blank_plan read.said) (pieces_of (read.begun ++ c ∷ more)) ≡ plan_at p ((fed ++ c ∷ []) ++ more)
-text_behind p fed items feed read c more =
+pub text_behind : (family : Family) (p : Problem) (fed : List ℕ) (items : List PlanItem) (feed : Stand) (read : HasRead family p fed items feed) (c : ℕ) (more : List ℕ) → pieces_at p (1 + length read.before) (due_behind p (at_start family) read.said) (plan_behind blank_plan read.said) (pieces_of (read.begun ++ c ∷ more)) ≡ text_at family p ((fed ++ c ∷ []) ++ more)
+text_behind family p fed items feed read c more =
     let text : (fed ++ c ∷ []) ++ more ≡ lines_text read.before ++ (read.begun ++ c ∷ more) = ap (λ (t : List ℕ). (t ++ c ∷ []) ++ more) read.whole ∙ simp append_assoc in
-    sym (ap (plan_at p) text ∙ reads_on p read.before read.said at_start blank_plan 1 (read.begun ++ c ∷ more) read.feeds read.right)
+    sym (ap (text_at family p) text ∙ reads_on p read.before read.said (at_start family) blank_plan 1 (read.begun ++ c ∷ more) read.feeds read.right)

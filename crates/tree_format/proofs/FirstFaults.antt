@@ -5,7 +5,7 @@ use Rattle.std.specs.List.{join_with_byte}
 use Rattle.std.proofs.lemmas.Bool.{cond_both, eqb-true}
 use Rattle.std.proofs.lemmas.List.Elements.{All-nil, All-cons, All-head, All-tail}
 use Rattle.search_model.specs.Problem.{Problem}
-use Rattle.bound_tree.specs.declared.plan.Plan.{Plan}
+use Rattle.bound_tree.specs.declared.gap.GapPlan.{GapPlan}
 use Rattle.tree_format.specs.declared.kind.PlanKind.{PlanKind}
 use Rattle.tree_format.specs.declared.kind.PlanKind.TheVariants.{BadLine, EarlyEnd, Rest}
 use Rattle.tree_format.specs.declared.kind.PlanFault.{PlanFault}
@@ -17,7 +17,7 @@ use Rattle.text_rows.specs.Lines.{pieces_of, HasNoFeed, lines_text}
 use Rattle.text_rows.specs.Fields.{exact_fields}
 use Rattle.text_rows.proofs.Splits.{split_piece, split_whole, some_piece, split_joined, split_free}
 use Rattle.text_rows.proofs.Results.{err_ok}
-use Rattle.tree_format.specs.Reading.{line_at, at_start, with_stage, blank_plan, next, taken, is_ended, at_line_number, go_on, pieces_at, plan_at}
+use Rattle.tree_format.specs.Reading.{line_at, at_start, with_stage, blank_plan, next, taken, is_ended, at_line_number, go_on, pieces_at, text_at}
 use Rattle.tree_format.specs.Faults.{AreSaid, due_behind, HasFault, IsFaultFrom, IsFirstFault}
 use Rattle.tree_format.specs.ReadingLaws.{FirstFaultDecides}
 use Rattle.tree_format.proofs.Loop.{at_line, at_fault, at_early, at_rest}
@@ -37,7 +37,7 @@ due_still p d fields said e ended =
 
 module _ (p : Problem) (fault : PlanFault) where
   -- the bytes in which it is
-  fault_here : (d : Due) (plan : Plan) (number : ℕ) (rest : List ℕ) → fault.line ≡ number → HasFault p d rest fault.kind → pieces_at p number d plan (pieces_of rest) ≡ Err fault
+  fault_here : (d : Due) (plan : GapPlan) (number : ℕ) (rest : List ℕ) → fault.line ≡ number → HasFault p d rest fault.kind → pieces_at p number d plan (pieces_of rest) ≡ Err fault
   fault_here d plan number rest line here = elim here [
     | inl early ↦ at_early p number d plan rest _ early.1 (split_whole 10 rest early.2) refl ∙ ap Err (made_fault fault number EarlyEnd line early.0)
     | inr other ↦ elim other [
@@ -53,7 +53,7 @@ module _ (p : Problem) (fault : PlanFault) where
       no_elements (x ∷ xs) e = absurd (omega arith)
 
   -- and the lines before
-  fault_behind : (before : List (List ℕ)) (said : List PlanLine) (d : Due) (plan : Plan) (number : ℕ) (rest : List ℕ) → All HasNoFeed before → AreSaid p d before said → fault.line ≡ number + length before → HasFault p (due_behind p d said) rest fault.kind → pieces_at p number d plan (pieces_of (lines_text before ++ rest)) ≡ Err fault
+  fault_behind : (before : List (List ℕ)) (said : List PlanLine) (d : Due) (plan : GapPlan) (number : ℕ) (rest : List ℕ) → All HasNoFeed before → AreSaid p d before said → fault.line ≡ number + length before → HasFault p (due_behind p d said) rest fault.kind → pieces_at p number d plan (pieces_of (lines_text before ++ rest)) ≡ Err fault
   fault_behind [] [] d plan number rest feeds right line here = fault_here d plan number rest (omega (arith, line)) here
   fault_behind [] (said ∷ more) d plan number rest feeds right line here = absurd right
   fault_behind (first ∷ before) [] d plan number rest feeds right line here = absurd right
@@ -82,7 +82,7 @@ line_before p d number first left text said fault whole feed right h = record {
 }
 
 -- none before it
-none_before : (p : Problem) (d : Due) (number : ℕ) (text : List ℕ) (kind : PlanKind) (fault : PlanFault) → ◌≡◌ {A = Result Plan PlanFault} (Err (at_line_number number kind)) (Err fault) → HasFault p d text kind → IsFaultFrom p d number text fault
+none_before : (p : Problem) (d : Due) (number : ℕ) (text : List ℕ) (kind : PlanKind) (fault : PlanFault) → ◌≡◌ {A = Result GapPlan PlanFault} (Err (at_line_number number kind)) (Err fault) → HasFault p d text kind → IsFaultFrom p d number text fault
 none_before p d number text kind fault e here =
     let same : at_line_number number kind ≡ fault = cc in
     subst (IsFaultFrom p d number text) same (record {
@@ -110,18 +110,18 @@ last_piece line [] e feed = feed
 last_piece line (piece ∷ pieces) e feed = absurd (let none = eqb-true (length (piece ∷ pieces)) 0 e in omega (arith, none))
 
 -- the fault of a line, or of what follows it
-line_or_later : (p : Problem) (number : ℕ) (r : Result PlanLine PlanKind) (more : PlanLine → Result Plan PlanFault) (fault : PlanFault) → go_on number r more ≡ Err fault →
+line_or_later : (p : Problem) (number : ℕ) (r : Result PlanLine PlanKind) (more : PlanLine → Result GapPlan PlanFault) (fault : PlanFault) → go_on number r more ≡ Err fault →
     ((kind : PlanKind) × (r ≡ Err kind) × (at_line_number number kind ≡ fault)) ⊎ ((said : PlanLine) × (r ≡ Ok said) × (more said ≡ Err fault))
 line_or_later p number (Err kind) more fault e = inl (kind, refl, (let same : at_line_number number kind ≡ fault = cc in same))
 line_or_later p number (Ok said) more fault e = inr (said, refl, e)
 
-fault_told : (p : Problem) (fault : PlanFault) (pieces : List (List ℕ)) (number : ℕ) (d : Due) (plan : Plan) → (length pieces == 0) ≡ false → All HasNoFeed pieces → pieces_at p number d plan pieces ≡ Err fault → IsFaultFrom p d number (join_with_byte 10 pieces) fault
+fault_told : (p : Problem) (fault : PlanFault) (pieces : List (List ℕ)) (number : ℕ) (d : Due) (plan : GapPlan) → (length pieces == 0) ≡ false → All HasNoFeed pieces → pieces_at p number d plan pieces ≡ Err fault → IsFaultFrom p d number (join_with_byte 10 pieces) fault
 unfolding pieces_at
 fault_told p fault [] number d plan some feeds e = absurd (let bad : ⊥ = cc in bad)
 fault_told p fault (line ∷ rest) number d plan some feeds e =
     let text = join_with_byte 10 (line ∷ rest) in
     let feed = All-head HasNoFeed line rest feeds in
-    let G : Result Plan PlanFault → Type 0 = λ x. x ≡ Err fault → IsFaultFrom p d number text fault in
+    let G : Result GapPlan PlanFault → Type 0 = λ x. x ≡ Err fault → IsFaultFrom p d number text fault in
     cond_both (is_ended d.stage) _ _ G
     (λ ended. cond_both (length line == 0 && length rest == 0) (Ok plan) (Err (at_line_number number Rest)) G
     (λ _ e'. absurd (let bad : ⊥ = cc in bad))
@@ -142,7 +142,7 @@ fault_told p fault (line ∷ rest) number d plan some feeds e =
     ])) e
 
 pub first_fault_decides : FirstFaultDecides
-first_fault_decides p text fault = (
-  λ e. subst (λ (t : List ℕ). IsFirstFault p t fault) (split_joined 10 text) (fault_told p fault (pieces_of text) 1 at_start blank_plan (some_piece 10 text) (split_free 10 text) e),
-  λ h. ap (λ (t : List ℕ). plan_at p t) h.whole ∙ fault_behind p fault h.before h.said at_start blank_plan 1 h.rest h.feeds h.right h.line h.here,
+first_fault_decides family p text fault = (
+  λ e. subst (λ (t : List ℕ). IsFirstFault family p t fault) (split_joined 10 text) (fault_told p fault (pieces_of text) 1 (at_start family) blank_plan (some_piece 10 text) (split_free 10 text) e),
+  λ h. ap (λ (t : List ℕ). text_at family p t) h.whole ∙ fault_behind p fault h.before h.said (at_start family) blank_plan 1 h.rest h.feeds h.right h.line h.here,
 )

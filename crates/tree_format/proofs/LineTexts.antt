@@ -1,22 +1,28 @@
 -- The text of a line as the pieces that are written one after the other.
-use Rattle.std.proofs.Common.{◌≡◌, ℕ, List, [], ◌∷◌, ◌++◌, map, length, codes, ◌∙◌, ap, append_assoc}
+use Rattle.std.proofs.Common.{◌≡◌, ℕ, List, [], ◌∷◌, ◌++◌, map, length, codes, refl, sym, ◌∙◌, ap, append_assoc}
 use Rattle.std.specs.Fmt.{decimal}
 use Rattle.std.proofs.lemmas.List.Concat.{flat_map-append}
+use Rattle.std.proofs.lemmas.List.{append-nil, length-map}
 use Rattle.text_rows.specs.Rows.{text_of, spaced}
 use Rattle.text_rows.proofs.RowLemmas.{join-fields, text_of-append}
 use Rattle.exact_parts.proofs.AppendLemmas.{Stands}
 use Rattle.search_model.specs.Problem.{Problem, position_name}
-use Rattle.bound_tree.specs.declared.node.Kind.{Kind}
 use Rattle.bound_tree.specs.declared.node.Kind.TheVariants.{Branch, Whole, Mean, Tangent, Edge}
+use Rattle.bound_tree.specs.declared.gap.GapKind.{GapKind}
+use Rattle.bound_tree.specs.declared.gap.GapKind.TheVariants.{Closed, Waiting}
+use Rattle.bound_tree.specs.declared.gap.GapPlan.{GapPlan}
 use Rattle.bound_tree.specs.declared.node.TreeNode.{TreeNode}
 use Rattle.bound_tree.specs.declared.plan.Plan.{Plan}
-use Rattle.tree_format.specs.declared.plan_line.TextVersion.{TextVersion}
-use Rattle.tree_format.specs.declared.plan_line.TextVersion.TheVariants.{One, Two}
-use Rattle.tree_format.specs.PlanText.{numbers, kind_fields, written, record_row, first_words, path_rows, chance_row, count_row, text_in}
+use Rattle.bound_tree.specs.Gaps.{closed_node, gap_of}
+use Rattle.search_model.specs.declared.standing.Standing.{Standing}
+use Rattle.tree_format.specs.declared.plan_line.Dialect.{Dialect}
+use Rattle.tree_format.specs.declared.plan_line.Dialect.TheVariants.{One, Two, Gap}
+use Rattle.tree_format.specs.declared.plan_line.Prefixes.{Prefixes}
+use Rattle.tree_format.specs.PlanText.{numbers, node_fields, written, node_row, first_words, path_rows, chance_row, ceiling_row, ceiling_rows, count_row, head_rows, text_in}
 use Rattle.tree_format.specs.RecordParts.{letter_of, bound_fields, reference_of}
 
--- `plan 1` or `plan 2`, a line feed and `path`; then the names are left
-pub path_begun : (v : TextVersion) (p : Problem) (q old now : List ℕ) → now ≡ old ++ first_words v → Stands old now (spaced (map (position_name p) q) ++ 10 ∷ []) (text_of (path_rows v p q))
+-- the first line, a line feed and `path`; then the names are left
+pub path_begun : (v : Dialect) (p : Problem) (q old now : List ℕ) → now ≡ old ++ first_words v → Stands old now (spaced (map (position_name p) q) ++ 10 ∷ []) (text_of (path_rows v p q))
 path_begun One p q old now e = record {
   done = codes "plan 1" ++ 10 ∷ codes "path";
   appended = e;
@@ -27,43 +33,71 @@ path_begun Two p q old now e = record {
   appended = e;
   whole = ap (λ (x : List ℕ). codes "plan 2" ++ 10 ∷ (x ++ 10 ∷ [])) (join-fields (codes "path") (map (position_name p) q));
 }
+path_begun Gap p q old now e = record {
+  done = codes "gap 1" ++ 10 ∷ codes "path";
+  appended = e;
+  whole = ap (λ (x : List ℕ). codes "gap 1" ++ 10 ∷ (x ++ 10 ∷ [])) (join-fields (codes "path") (map (position_name p) q));
+}
 
 -- `chance`; then the value and the weight are left
 pub chance_begun : (value weight : ℕ) (old now : List ℕ) → now ≡ old ++ codes "chance" → Stands old now ((32 ∷ decimal value) ++ ((32 ∷ decimal weight) ++ 10 ∷ [])) (text_of (chance_row value weight ∷ []))
 chance_begun value weight old now e = record { done = codes "chance"; appended = e; whole = simp append_assoc }
+
+-- `ceiling`; then the number is left
+pub ceiling_begun : (n : ℕ) (old now : List ℕ) → now ≡ old ++ codes "ceiling" → Stands old now ((32 ∷ decimal n) ++ 10 ∷ []) (text_of (ceiling_row n ∷ []))
+ceiling_begun n old now e = record { done = codes "ceiling"; appended = e; whole = simp append_assoc }
 
 -- `nodes`; then the number is left
 pub count_begun : (n : ℕ) (old now : List ℕ) → now ≡ old ++ codes "nodes" → Stands old now ((32 ∷ decimal n) ++ 10 ∷ []) (text_of (count_row n ∷ []))
 count_begun n old now e = record { done = codes "nodes"; appended = e; whole = simp append_assoc }
 
 -- what stands behind a record's letter
-abbrev pub after_letter : Kind → List ℕ → List ℕ
+abbrev pub after_letter : GapKind → List ℕ → List ℕ
 after_letter kind q = spaced (bound_fields kind) ++ (spaced (numbers q) ++ (spaced (numbers (reference_of kind)) ++ 10 ∷ []))
 
-pub kind_text : (q : List ℕ) (kind : Kind) → text_of (kind_fields q kind ∷ []) ≡ letter_of kind ∷ after_letter kind q
-kind_text q Branch = ap (λ (x : List ℕ). x ++ 10 ∷ []) (join-fields (codes "B") (numbers q))
-kind_text q (Whole value) = ap (λ (x : List ℕ). x ++ 10 ∷ []) (join-fields (codes "W") (decimal value ∷ numbers q)) ∙ simp (append_assoc)
-kind_text q (Mean bound) = ap (λ (x : List ℕ). x ++ 10 ∷ []) (join-fields (codes "M") (decimal bound ∷ numbers q)) ∙ simp (append_assoc)
-kind_text q (Tangent bound reference) =
+pub kind_text : (q : List ℕ) (kind : GapKind) → text_of (node_fields q kind ∷ []) ≡ letter_of kind ∷ after_letter kind q
+kind_text q (Closed Branch) = ap (λ (x : List ℕ). x ++ 10 ∷ []) (join-fields (codes "B") (numbers q))
+kind_text q (Closed (Whole value)) = ap (λ (x : List ℕ). x ++ 10 ∷ []) (join-fields (codes "W") (decimal value ∷ numbers q)) ∙ simp (append_assoc)
+kind_text q (Closed (Mean bound)) = ap (λ (x : List ℕ). x ++ 10 ∷ []) (join-fields (codes "M") (decimal bound ∷ numbers q)) ∙ simp (append_assoc)
+kind_text q (Closed (Tangent bound reference)) =
     ap (λ (x : List ℕ). x ++ 10 ∷ []) (join-fields (codes "T") (decimal bound ∷ (numbers q ++ numbers reference)))
     ∙ simp (append_assoc, flat_map-append)
-kind_text q (Edge bound) = ap (λ (x : List ℕ). x ++ 10 ∷ []) (join-fields (codes "E") (decimal bound ∷ numbers q)) ∙ simp (append_assoc)
+kind_text q (Closed (Edge bound)) = ap (λ (x : List ℕ). x ++ 10 ∷ []) (join-fields (codes "E") (decimal bound ∷ numbers q)) ∙ simp (append_assoc)
+kind_text q (Waiting n) = ap (λ (x : List ℕ). x ++ 10 ∷ []) (join-fields (codes "O") (decimal n ∷ numbers q)) ∙ simp (append_assoc)
 
 -- a record's letter; then what stands behind it is left
-pub record_begun : (v : TextVersion) (r : TreeNode) (old now : List ℕ) → now ≡ old ++ letter_of r.kind ∷ [] → Stands old now (after_letter r.kind (written v r.prefix)) (text_of (record_row v r ∷ []))
-record_begun v r old now e = record { done = letter_of r.kind ∷ []; appended = e; whole = kind_text (written v r.prefix) r.kind }
+pub record_begun : (w : Prefixes) (q : List ℕ) (kind : GapKind) (old now : List ℕ) → now ≡ old ++ letter_of kind ∷ [] → Stands old now (after_letter kind (written w q)) (text_of (node_fields (written w q) kind ∷ []))
+record_begun w q kind old now e = record { done = letter_of kind ∷ []; appended = e; whole = kind_text (written w q) kind }
+
+-- the parts of the lines before the records
+pub head_parts : (v : Dialect) (p : Problem) (s : Standing) (weight ceiling n : ℕ) → text_of (head_rows v p s weight ceiling n)
+    ≡ text_of (path_rows v p s.path) ++ (text_of (chance_row s.value weight ∷ []) ++ (text_of (ceiling_rows v ceiling) ++ (text_of (count_row n ∷ []) ++ [])))
+head_parts v p s weight ceiling n =
+    let chance = chance_row s.value weight in
+    let above = ceiling_rows v ceiling in
+    text_of-append (path_rows v p s.path) (chance ∷ (above ++ count_row n ∷ []))
+    ∙ ap (λ (x : List ℕ). text_of (path_rows v p s.path) ++ x)
+    (text_of-append (chance ∷ []) (above ++ count_row n ∷ [])
+    ∙ ap (λ (x : List ℕ). text_of (chance ∷ []) ++ x)
+    (text_of-append above (count_row n ∷ []) ∙ ap (λ (x : List ℕ). text_of above ++ x) (sym (append-nil (text_of (count_row n ∷ []))))))
 
 -- the parts of the whole text
-pub plan_parts : (v : TextVersion) (p : Problem) (plan : Plan) → text_in v p plan
-    ≡ text_of (path_rows v p plan.standing.path) ++ (text_of (chance_row plan.standing.value plan.weight ∷ []) ++ (text_of (count_row (length plan.tree) ∷ [])
-    ++ (text_of (map (record_row v) plan.tree) ++ (codes "end" ++ 10 ∷ []))))
-plan_parts v p plan =
-    let chance = chance_row plan.standing.value plan.weight in
-    let count = count_row (length plan.tree) in
-    let records = map (record_row v) plan.tree in
+pub gap_parts : (v : Dialect) (p : Problem) (plan : GapPlan) → text_in v p plan
+    ≡ text_of (head_rows v p plan.standing plan.weight plan.ceiling (length plan.nodes)) ++ (text_of (map (node_row v) plan.nodes) ++ (codes "end" ++ 10 ∷ []))
+gap_parts v p plan =
+    let head = head_rows v p plan.standing plan.weight plan.ceiling (length plan.nodes) in
+    let records = map (node_row v) plan.nodes in
     let ending : List (List (List ℕ)) = (codes "end" ∷ []) ∷ [] in
-    text_of-append (path_rows v p plan.standing.path) (chance ∷ count ∷ (records ++ ending))
-    ∙ ap (λ (x : List ℕ). text_of (path_rows v p plan.standing.path) ++ x)
-    (text_of-append (chance ∷ []) (count ∷ (records ++ ending))
-    ∙ ap (λ (x : List ℕ). text_of (chance ∷ []) ++ x)
-    (text_of-append (count ∷ []) (records ++ ending) ∙ ap (λ (x : List ℕ). text_of (count ∷ []) ++ x) (text_of-append records ending)))
+    text_of-append head (records ++ ending) ∙ ap (λ (x : List ℕ). text_of head ++ x) (text_of-append records ending)
+
+-- the rows of the records of a plan
+closed_rows : (v : Dialect) (rs : List TreeNode) → map (node_row v) (map closed_node rs) ≡ map (λ r. node_row v (closed_node r)) rs
+closed_rows v [] = refl
+closed_rows v (r ∷ rs) = ap (λ (rows : List (List (List ℕ))). node_row v (closed_node r) ∷ rows) (closed_rows v rs)
+
+pub plan_parts : (v : Dialect) (p : Problem) (plan : Plan) → text_in v p (gap_of plan)
+    ≡ text_of (head_rows v p plan.standing plan.weight plan.standing.value (length plan.tree)) ++ (text_of (map (λ r. node_row v (closed_node r)) plan.tree) ++ (codes "end" ++ 10 ∷ []))
+plan_parts v p plan =
+    gap_parts v p (gap_of plan)
+    ∙ ap (λ (n : ℕ). text_of (head_rows v p plan.standing plan.weight plan.standing.value n) ++ (text_of (map (node_row v) (map closed_node plan.tree)) ++ (codes "end" ++ 10 ∷ []))) (length-map plan.tree closed_node)
+    ∙ ap (λ (rows : List (List (List ℕ))). text_of (head_rows v p plan.standing plan.weight plan.standing.value (length plan.tree)) ++ (text_of rows ++ (codes "end" ++ 10 ∷ []))) (closed_rows v plan.tree)

@@ -5,7 +5,7 @@ use Rattle.std.proofs.lemmas.Grind.{common_steps}
 use Rattle.std.specs.List.{onto_first}
 use Rattle.std.proofs.lemmas.Bool.{ne_eqb}
 use Rattle.search_model.specs.Problem.{Problem}
-use Rattle.bound_tree.specs.declared.plan.Plan.{Plan}
+use Rattle.bound_tree.specs.declared.gap.GapPlan.{GapPlan}
 use Rattle.tree_format.specs.declared.due.Due.{Due}
 use Rattle.tree_format.specs.declared.plan_line.Stage.{Stage}
 use Rattle.tree_format.specs.declared.plan_line.Stage.TheVariants as due
@@ -19,35 +19,36 @@ use Rattle.tree_format.specs.declared.stop.PlanStop.TheVariants.{Fault, NoMemory
 use Rattle.text_rows.specs.Lines.{pieces_of}
 use Rattle.text_rows.specs.Fields.{exact_fields}
 use Rattle.text_rows.proofs.Splits.{some_piece, split_nothing, some_left}
-use Rattle.tree_format.specs.Gives.{Adds, TakesLine, Gives, plan_of}
+use Rattle.tree_format.specs.Gives.{Adds, TakesLine, Gives, gap_in}
 use Rattle.tree_format.specs.Reading.{line_at, pieces_at, is_ended, next, taken, at_line_number}
 
 unended : (stage : Stage) → (stage ≡ due.Ended → ⊥) → is_ended stage ≡ false
-unended due.Version h = refl
+unended (due.Version family) h = refl
 unended due.Path h = refl
 unended due.Chance h = refl
+unended due.Ceiling h = refl
 unended due.Count h = refl
 unended (due.Records left) h = refl
 unended due.Ended h = absurd (h refl)
 
-module _ (p : Problem) (number : ℕ) (d : Due) (plan : Plan) where
+module _ (p : Problem) (number : ℕ) (d : Due) (plan : GapPlan) where
   -- a line that is taken
-  pub at_line : (said : PlanLine) (rest line after : List ℕ) (all : Result Plan PlanFault) → (d.stage ≡ due.Ended → ⊥) → pieces_of rest ≡ line ∷ pieces_of after → line_at p d (exact_fields line) ≡ Ok said → pieces_at p number d plan (pieces_of rest) ≡ all → pieces_at p (number + 1) (next p d said) (taken plan said) (pieces_of after) ≡ all
+  pub at_line : (said : PlanLine) (rest line after : List ℕ) (all : Result GapPlan PlanFault) → (d.stage ≡ due.Ended → ⊥) → pieces_of rest ≡ line ∷ pieces_of after → line_at p d (exact_fields line) ≡ Ok said → pieces_at p number d plan (pieces_of rest) ≡ all → pieces_at p (number + 1) (next p d said) (taken plan said) (pieces_of after) ≡ all
   unfolding pieces_at
   at_line said rest line after all goes e f so_far = sym (rw (e, unended d.stage goes, some_piece 10 after, f) refl) ∙ so_far
 
   -- a line with a fault
-  pub at_fault : (kind : PlanKind) (rest line after : List ℕ) (all : Result Plan PlanFault) → (d.stage ≡ due.Ended → ⊥) → pieces_of rest ≡ line ∷ pieces_of after → line_at p d (exact_fields line) ≡ Err kind → pieces_at p number d plan (pieces_of rest) ≡ all → all ≡ Err (at_line_number number kind)
+  pub at_fault : (kind : PlanKind) (rest line after : List ℕ) (all : Result GapPlan PlanFault) → (d.stage ≡ due.Ended → ⊥) → pieces_of rest ≡ line ∷ pieces_of after → line_at p d (exact_fields line) ≡ Err kind → pieces_at p number d plan (pieces_of rest) ≡ all → all ≡ Err (at_line_number number kind)
   unfolding pieces_at
   at_fault kind rest line after all goes e f so_far = sym so_far ∙ rw (e, unended d.stage goes, some_piece 10 after, f) refl
 
   -- a line without its line feed
-  pub at_early : (rest : List ℕ) (all : Result Plan PlanFault) → (d.stage ≡ due.Ended → ⊥) → pieces_of rest ≡ rest ∷ [] → pieces_at p number d plan (pieces_of rest) ≡ all → all ≡ Err (at_line_number number EarlyEnd)
+  pub at_early : (rest : List ℕ) (all : Result GapPlan PlanFault) → (d.stage ≡ due.Ended → ⊥) → pieces_of rest ≡ rest ∷ [] → pieces_at p number d plan (pieces_of rest) ≡ all → all ≡ Err (at_line_number number EarlyEnd)
   unfolding pieces_at
   at_early rest all goes e so_far = sym so_far ∙ rw (e, unended d.stage goes) refl
 
   -- nothing behind the end
-  pub at_end : (rest : List ℕ) (all : Result Plan PlanFault) → d.stage ≡ due.Ended → length rest ≡ 0 → pieces_at p number d plan (pieces_of rest) ≡ all → all ≡ Ok plan
+  pub at_end : (rest : List ℕ) (all : Result GapPlan PlanFault) → d.stage ≡ due.Ended → length rest ≡ 0 → pieces_at p number d plan (pieces_of rest) ≡ all → all ≡ Ok plan
   unfolding pieces_at
   at_end [] all ended none so_far = sym so_far ∙ rw (split_nothing 10, ended) refl
   at_end (c ∷ cs) all ended none so_far = absurd (omega arith)
@@ -62,7 +63,7 @@ module _ (p : Problem) (number : ℕ) (d : Due) (plan : Plan) where
   feed_left cs ended = rw (ended, some_piece 10 cs) refl
 
   -- a byte behind the end
-  pub at_rest : (rest : List ℕ) (all : Result Plan PlanFault) → d.stage ≡ due.Ended → (length rest ≡ 0 → ⊥) → pieces_at p number d plan (pieces_of rest) ≡ all → all ≡ Err (at_line_number number Rest)
+  pub at_rest : (rest : List ℕ) (all : Result GapPlan PlanFault) → d.stage ≡ due.Ended → (length rest ≡ 0 → ⊥) → pieces_at p number d plan (pieces_of rest) ≡ all → all ≡ Err (at_line_number number Rest)
   at_rest [] all ended some so_far = absurd (some refl)
   at_rest (c ∷ cs) all ended some so_far =
       elim (some_left 10 c cs) [
@@ -71,16 +72,16 @@ module _ (p : Problem) (number : ℕ) (d : Due) (plan : Plan) where
       ]
 
   -- reading stopped at a line
-  pub at_stop : (old new : Draft) (stop : PlanStop) (rest line after : List ℕ) (all : Result Plan PlanFault) → (d.stage ≡ due.Ended → ⊥) → pieces_of rest ≡ line ∷ pieces_of after → TakesLine p number old new (Err stop) (line_at p d (exact_fields line)) → pieces_at p number d plan (pieces_of rest) ≡ all → Gives (Err stop) all
+  pub at_stop : (old new : Draft) (stop : PlanStop) (rest line after : List ℕ) (all : Result GapPlan PlanFault) → (d.stage ≡ due.Ended → ⊥) → pieces_of rest ≡ line ∷ pieces_of after → TakesLine p number old new (Err stop) (line_at p d (exact_fields line)) → pieces_at p number d plan (pieces_of rest) ≡ all → Gives (Err stop) all
   at_stop old new (Fault fault) rest line after all goes e f so_far = at_fault f.0 rest line after all goes e f.1 so_far ∙ ap Err (sym f.2)
   at_stop old new NoMemory rest line after all goes e f so_far = tt
 
 -- a line was added to a draft
-pub at_added : (p : Problem) (number : ℕ) (old new : Draft) (rest line after : List ℕ) (all : Result Plan PlanFault) → (old.due.stage ≡ due.Ended → ⊥) → pieces_of rest ≡ line ∷ pieces_of after → (said : PlanLine) × (line_at p old.due (exact_fields line) ≡ Ok said) × Adds p old new said → pieces_at p number old.due (plan_of old) (pieces_of rest) ≡ all → pieces_at p (number + 1) new.due (plan_of new) (pieces_of after) ≡ all
+pub at_added : (p : Problem) (number : ℕ) (old new : Draft) (rest line after : List ℕ) (all : Result GapPlan PlanFault) → (old.due.stage ≡ due.Ended → ⊥) → pieces_of rest ≡ line ∷ pieces_of after → (said : PlanLine) × (line_at p old.due (exact_fields line) ≡ Ok said) × Adds p old new said → pieces_at p number old.due (gap_in old) (pieces_of rest) ≡ all → pieces_at p (number + 1) new.due (gap_in new) (pieces_of after) ≡ all
 at_added p number old new rest line after all goes e f so_far =
-    ap (λ (d : Due). pieces_at p (number + 1) d (plan_of new) (pieces_of after)) f.2.due
-    ∙ ap (λ (plan : Plan). pieces_at p (number + 1) (next p old.due f.0) plan (pieces_of after)) f.2.plan
-    ∙ at_line p number old.due (plan_of old) f.0 rest line after all goes e f.1 so_far
+    ap (λ (d : Due). pieces_at p (number + 1) d (gap_in new) (pieces_of after)) f.2.due
+    ∙ ap (λ (plan : GapPlan). pieces_at p (number + 1) (next p old.due f.0) plan (pieces_of after)) f.2.plan
+    ∙ at_line p number old.due (gap_in old) f.0 rest line after all goes e f.1 so_far
 
 -- a test that the end was read failed
 pub goes_on : (ended : Bool) (stage : Stage) → (stage ≡ due.Ended → IsTrue ended) → ended ≡ false → stage ≡ due.Ended → ⊥

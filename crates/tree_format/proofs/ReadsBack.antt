@@ -6,42 +6,56 @@ use Rattle.std.specs.List.{join_with_byte}
 use Rattle.std.proofs.Math.Seq.{take-append_seam, drop-append_seam}
 use Rattle.std.proofs.lemmas.Bool.{le-leb, ne_eqb}
 use Rattle.std.proofs.lemmas.List.{append-nil, length-map}
-use Rattle.std.proofs.lemmas.List.Elements.{All-nil, All-get_or, All-head, All-tail}
+use Rattle.std.proofs.lemmas.List.Elements.{All-nil, All-cons, All-get_or, All-head, All-tail, All-append, All-map, All-weaker}
 use Rattle.text_rows.specs.Rows.{text_of}
 use Rattle.text_rows.specs.Lines.{pieces_of}
 use Rattle.text_rows.specs.Fields.{is_word}
 use Rattle.text_rows.proofs.RowTexts.{IsField, AreFields, IsRow, exact_fields-row, pieces_of-row, row_fields, none_empty, word, field_by, IsField-decimal, AreFields-map, AreFields-append}
 use Rattle.search_model.specs.Problem.{Problem, IsProblem, position_name}
-use Rattle.bound_tree.specs.declared.node.Kind.{Kind}
 use Rattle.bound_tree.specs.declared.node.Kind.TheVariants.{Branch, Whole, Mean, Tangent, Edge}
 use Rattle.bound_tree.specs.declared.node.TreeNode.{TreeNode}
+use Rattle.bound_tree.specs.declared.gap.GapKind.{GapKind}
+use Rattle.bound_tree.specs.declared.gap.GapKind.TheVariants.{Closed, Waiting}
+use Rattle.bound_tree.specs.declared.gap.GapNode.{GapNode}
+use Rattle.bound_tree.specs.declared.gap.GapPlan.{GapPlan}
+use Rattle.bound_tree.specs.Gaps.{shape_of_kind, shape_of, closed_node, gap_of, plan_of}
 use Rattle.bound_tree.specs.declared.plan.Plan.{Plan}
+use Rattle.bound_tree.specs.Places.{opened_by}
+use Rattle.bound_tree.proofs.Placing.{legal_opened}
+use Rattle.search_model.specs.Legal.{IsLegal}
+use Rattle.search_model.proofs.PlainSteps.{positions_follow}
 use Rattle.search_model.specs.Names.{IsName, is_name_byte}
 use Rattle.std.proofs.lemmas.Grind.{common_steps}
-use Rattle.tree_format.specs.PlanText.{numbers, kind_fields, written, record_row, version_row, chance_row, count_row, text_in, ArePositions, IsPrintableKind, IsPrintableRecord, IsPrintable, IsNarrowKind, IsNarrow, IsNoEdge, IsLettered, IsTextOfPlan}
+use Rattle.tree_format.specs.PlanText.{numbers, node_fields, written, node_row, chance_row, ceiling_row, ceiling_rows, count_row, text_in, ArePositions, IsPrintableKind, IsPrintableRecord, IsPrintable, IsNarrow, IsTextOfPlan, IsNarrowNode, IsGapText}
 use Rattle.tree_format.specs.declared.due.Due.{Due}
-use Rattle.tree_format.specs.declared.plan_line.TextVersion.{TextVersion}
-use Rattle.tree_format.specs.declared.plan_line.TextVersion.TheVariants.{One, Two}
+use Rattle.tree_format.specs.declared.plan_line.Dialect.{Dialect}
+use Rattle.tree_format.specs.declared.plan_line.Dialect.TheVariants.{One, Two, Gap}
+use Rattle.tree_format.specs.declared.plan_line.Family.{Family}
+use Rattle.tree_format.specs.declared.plan_line.Family.TheVariants.{Plans}
+use Rattle.tree_format.specs.declared.plan_line.Prefixes.{Prefixes}
+use Rattle.tree_format.specs.declared.plan_line.Prefixes.TheVariants.{Written, LeftOut}
+use Rattle.tree_format.specs.Dialects.{family_of, version_row, most_records, prefixes_in}
 use Rattle.tree_format.specs.declared.plan_line.Stage.{Stage}
 use Rattle.tree_format.specs.declared.plan_line.Stage.TheVariants as due
 use Rattle.tree_format.specs.declared.plan_line.PlanLine.{PlanLine}
-use Rattle.tree_format.specs.declared.plan_line.PlanLine.TheVariants.{Version, Path, Chance, Count, Node, End}
-use Rattle.tree_format.specs.ReadingLaws.{PlanTextReadsBack, PlanText2ReadsBack, OnePlanAText}
-use Rattle.tree_format.specs.Reading.{is_end, all_of, place_in, position_named, most_positions, node_line, placed, stage_line, line_at, at_start, blank_plan, places_behind, next, taken, pieces_at, plan_at}
+use Rattle.tree_format.specs.declared.plan_line.PlanLine.TheVariants.{Version, Path, Chance, Ceiling, Count, Node, End}
+use Rattle.tree_format.specs.ReadingLaws.{PlanTextReadsBack, PlanText2ReadsBack, GapTextReadsBack, OnePlanAText, OneGapAText}
+use Rattle.tree_format.specs.Reading.{is_end, ending, all_of, place_in, position_named, most_positions, node_line, placed, stage_line, line_at, at_start, blank_plan, places_behind, next, taken, pieces_at, text_at, as_plan, plan_at, gap_at}
 use Rattle.tree_format.proofs.Said.{amount_in-decimal, place_in-decimal, position_named-name, all_of-map}
 use Rattle.tree_format.proofs.Loop.{at_line, at_end}
-use Rattle.tree_format.proofs.SpelledLines.{HasPlace}
+use Rattle.tree_format.proofs.SpelledLines.{IsLettered, HasPlace}
+use Rattle.tree_format.proofs.Spelled.{IsPathOf, IsCeiling, IsChanceOf, IsHeadOf, empty_legal}
+use Rattle.tree_format.proofs.LineNumbers.{few_records}
 use Rattle.bound_tree.specs.Places.{AreInPlace}
-use Rattle.bound_tree.specs.declared.tree.TheConstants.{MOST_NODES}
 
 -- where this is due, a row says this
 pub record Takes (p : Problem) (d : Due) (row : List (List ℕ)) (said : PlanLine) : Type 0 where
   pub fields : IsRow row
   pub goes : d.stage ≡ due.Ended → ⊥
-  pub says : stage_line p d.version d.stage d.expected row ≡ Ok said
+  pub says : stage_line p d.dialect d.stage d.expected row ≡ Ok said
 
 -- from here on the text of the rows is read to its end as this plan, whatever the number of its first line
-abbrev pub Reads : Problem → Due → Plan → List (List (List ℕ)) → Plan → Type 0
+abbrev pub Reads : Problem → Due → GapPlan → List (List (List ℕ)) → GapPlan → Type 0
 Reads p d plan rows whole = (number : ℕ) → pieces_at p number d plan (pieces_of (text_of rows)) ≡ Ok whole
 
 line_at-row : (p : Problem) (d : Due) (said : PlanLine) (row : List (List ℕ)) → Takes p d row said → line_at p d row ≡ Ok said
@@ -49,27 +63,27 @@ unfolding line_at
 line_at-row p d said row h = rw (none_empty row (row_fields row h.fields)) h.says
 
 -- one row more at the front
-Reads-row : (p : Problem) (d : Due) (plan whole : Plan) (said : PlanLine) (row : List (List ℕ)) (rows : List (List (List ℕ))) → Takes p d row said → Reads p (next p d said) (taken plan said) rows whole → Reads p d plan (row ∷ rows) whole
+Reads-row : (p : Problem) (d : Due) (plan whole : GapPlan) (said : PlanLine) (row : List (List ℕ)) (rows : List (List (List ℕ))) → Takes p d row said → Reads p (next p d said) (taken plan said) rows whole → Reads p d plan (row ∷ rows) whole
 Reads-row p d plan whole said row rows h rest = λ number.
     let line = join_with_byte 32 row in
     let read = ap (line_at p d) (exact_fields-row row h.fields) ∙ line_at-row p d said row h in
     sym (at_line p number d plan said (line ++ 10 ∷ text_of rows) line (text_of rows) _ h.goes (pieces_of-row row (text_of rows) (row_fields row h.fields)) read refl) ∙ rest (number + 1)
 
-abbrev at_stage : TextVersion → List (List ℕ) → Stage → Due
-at_stage v expected stage = record { version = v; stage = stage; expected = expected }
+abbrev at_stage : Dialect → List (List ℕ) → Stage → Due
+at_stage v expected stage = record { dialect = v; stage = stage; expected = expected }
 
-Takes-version : (p : Problem) (v : TextVersion) → Takes p at_start (version_row v) (Version v)
+Takes-version : (p : Problem) (v : Dialect) → Takes p (at_start (family_of v)) (version_row v) (Version v)
 Takes-version p One = record { fields = (word (codes "plan") (omega arith) refl, (word (codes "1") (omega arith) refl, tt)); goes = λ e. cc; says = refl }
 Takes-version p Two = record { fields = (word (codes "plan") (omega arith) refl, (word (codes "2") (omega arith) refl, tt)); goes = λ e. cc; says = refl }
+Takes-version p Gap = record { fields = (word (codes "gap") (omega arith) refl, (word (codes "1") (omega arith) refl, tt)); goes = λ e. cc; says = refl }
 
 name_field : (p : Problem) → IsProblem p → (q : ℕ) → q < p.positions → IsField (position_name p q)
 name_field p h q lt =
     let name = All-get_or IsName p.position_names q [] (omega (arith, h.position_names.count)) h.position_names.each in
     field_by is_name_byte (λ c is. grind (arith, common_steps)) (position_name p q) (omega (arith, name.some)) name.bytes
 
-Takes-path : (p : Problem) → IsProblem p → (v : TextVersion) (expected : List (List ℕ)) (plan : Plan) → IsPrintable p plan → Takes p (at_stage v expected due.Path) (codes "path" ∷ map (position_name p) plan.standing.path) (Path plan.standing.path)
-Takes-path p h v expected plan k =
-    let q = plan.standing.path in
+Takes-path : (p : Problem) → IsProblem p → (v : Dialect) (expected : List (List ℕ)) (q : List ℕ) → IsPathOf p q → Takes p (at_stage v expected due.Path) (codes "path" ∷ map (position_name p) q) (Path q)
+Takes-path p h v expected q k =
     let P : ℕ → Type 0 = λ a. a < p.positions in
     record {
       fields = (word (codes "path") (omega arith) refl, AreFields-map (position_name p) P (name_field p h) q k.positions);
@@ -77,20 +91,27 @@ Takes-path p h v expected plan k =
       says = rw (length-map q (position_name p), le-leb 1 (length q) k.some, le-leb (length q) 32 k.short, all_of-map (position_named p) (position_name p) P (position_named-name p h) q k.positions) refl;
     }
 
-Takes-chance : (p : Problem) (v : TextVersion) (expected : List (List ℕ)) (plan : Plan) → IsNarrow plan → Takes p (at_stage v expected due.Chance) (chance_row plan.standing.value plan.weight) (Chance plan.standing.value plan.weight)
-Takes-chance p v expected plan k = record {
-  fields = (word (codes "chance") (omega arith) refl, (IsField-decimal plan.standing.value k.value, (IsField-decimal plan.weight k.weight, tt)));
+Takes-chance : (p : Problem) (v : Dialect) (expected : List (List ℕ)) (value weight : ℕ) → value < 2 ^ 128 → weight < 2 ^ 128 → Takes p (at_stage v expected due.Chance) (chance_row value weight) (Chance value weight)
+Takes-chance p v expected value weight narrow narrow_weight = record {
+  fields = (word (codes "chance") (omega arith) refl, (IsField-decimal value narrow, (IsField-decimal weight narrow_weight, tt)));
   goes = λ e. cc;
-  says = rw (amount_in-decimal plan.standing.value k.value, amount_in-decimal plan.weight k.weight) refl;
+  says = rw (amount_in-decimal value narrow, amount_in-decimal weight narrow_weight) refl;
 }
 
-Takes-count : (p : Problem) (v : TextVersion) (expected : List (List ℕ)) (n : ℕ) → n ≤ MOST_NODES → Takes p (at_stage v expected due.Count) (count_row n) (Count n)
+Takes-ceiling : (p : Problem) (v : Dialect) (expected : List (List ℕ)) (ceiling : ℕ) → ceiling < 2 ^ 128 → Takes p (at_stage v expected due.Ceiling) (ceiling_row ceiling) (Ceiling ceiling)
+Takes-ceiling p v expected ceiling narrow = record {
+  fields = (word (codes "ceiling") (omega arith) refl, (IsField-decimal ceiling narrow, tt));
+  goes = λ e. cc;
+  says = rw (amount_in-decimal ceiling narrow) refl;
+}
+
+Takes-count : (p : Problem) (v : Dialect) (expected : List (List ℕ)) (n : ℕ) → n ≤ most_records (family_of v) → Takes p (at_stage v expected due.Count) (count_row n) (Count n)
 Takes-count p v expected n few =
-    let small : n < 2 ^ 128 = omega arith in
+    let small : n < 2 ^ 128 = omega (arith, few, few_records (family_of v)) in
     record {
       fields = (word (codes "nodes") (omega arith) refl, (IsField-decimal n small, tt));
       goes = λ e. cc;
-      says = rw (amount_in-decimal n small, le-leb n MOST_NODES few) refl;
+      says = rw (amount_in-decimal n small, le-leb n (most_records (family_of v)) few) refl;
     }
 
 -- Records.
@@ -101,136 +122,233 @@ places-numbers p h q k = all_of-map (place_in p) decimal (λ a. a < p.positions)
 number_fields : (p : Problem) → IsProblem p → (q : List ℕ) → ArePositions p q → AreFields (numbers q)
 number_fields p h q k = AreFields-map decimal (λ a. a < p.positions) (λ a lt. IsField-decimal a (omega (arith, h.positions.1))) q k
 
-kind_line : (p : Problem) → IsProblem p → (v : TextVersion) (q : List ℕ) (kind : Kind) → ArePositions p q → length q ≤ most_positions p v → IsPrintableKind p kind → IsNarrowKind kind → IsLettered v kind → node_line p v (kind_fields q kind) ≡ Ok (record { prefix = q; kind = kind })
-kind_line p h v q Branch places short k narrow known = rw (length-map q decimal, le-leb (length q) (most_positions p v) short, places-numbers p h q places) refl
-kind_line p h v q (Whole value) places short k narrow known =
-    rw (length-map q decimal, le-leb (length q) (most_positions p v) short, amount_in-decimal value narrow, places-numbers p h q places) refl
-kind_line p h v q (Mean bound) places short k narrow known =
-    rw (length-map q decimal, le-leb (length q) (most_positions p v) short, amount_in-decimal bound narrow, places-numbers p h q places) refl
-kind_line p h v q (Tangent bound reference) places short k narrow known =
+kind_line : (p : Problem) → IsProblem p → (v : Dialect) (q : List ℕ) (kind : GapKind) → ArePositions p q → length q ≤ most_positions p (prefixes_in v) → IsPrintableKind p (shape_of_kind kind) → IsNarrowNode kind → IsLettered v kind → node_line p v (node_fields q kind) ≡ Ok (record { prefix = q; kind = kind })
+kind_line p h v q (Closed Branch) places short k narrow known = rw (length-map q decimal, le-leb (length q) (most_positions p (prefixes_in v)) short, places-numbers p h q places) refl
+kind_line p h v q (Closed (Whole value)) places short k narrow known =
+    rw (length-map q decimal, le-leb (length q) (most_positions p (prefixes_in v)) short, amount_in-decimal value narrow, places-numbers p h q places) refl
+kind_line p h v q (Closed (Mean bound)) places short k narrow known =
+    rw (length-map q decimal, le-leb (length q) (most_positions p (prefixes_in v)) short, amount_in-decimal bound narrow, places-numbers p h q places) refl
+kind_line p h v q (Closed (Tangent bound reference)) places short k narrow known =
+    let most = most_positions p (prefixes_in v) in
     let cells = numbers q ++ numbers reference in
     let own : length (numbers q) ≡ length q = length-map q decimal in
     let long : length cells ≡ length q + p.horizon = omega (arith, length-append (numbers q) (numbers reference), own, length-map reference decimal, k.1) in
     let cut : length q + p.horizon - p.horizon ≡ length q = omega arith in
     let front : take (length q) cells ≡ numbers q = rw (← own) (take-append_seam (numbers q) (numbers reference)) in
     let back : drop (length q) cells ≡ numbers reference = rw (← own) (drop-append_seam (numbers q) (numbers reference)) in
-    rw (long, le-leb p.horizon (length q + p.horizon) (omega arith), le-leb (length q + p.horizon) (most_positions p v + p.horizon) (omega (arith, short)), cut, front, back, amount_in-decimal bound narrow, places-numbers p h q places, places-numbers p h reference k.0) refl
-kind_line p h One q (Edge bound) places short k narrow known = absurd known
-kind_line p h Two q (Edge bound) places short k narrow known =
+    rw (long, le-leb p.horizon (length q + p.horizon) (omega arith), le-leb (length q + p.horizon) (most + p.horizon) (omega (arith, short)), cut, front, back, amount_in-decimal bound narrow, places-numbers p h q places, places-numbers p h reference k.0) refl
+kind_line p h One q (Closed (Edge bound)) places short k narrow known = absurd known
+kind_line p h Two q (Closed (Edge bound)) places short k narrow known =
     rw (length-map q decimal, le-leb (length q) 0 short, amount_in-decimal bound narrow, places-numbers p h q places) refl
+kind_line p h Gap q (Closed (Edge bound)) places short k narrow known =
+    rw (length-map q decimal, le-leb (length q) 0 short, amount_in-decimal bound narrow, places-numbers p h q places) refl
+kind_line p h One q (Waiting n) places short k narrow known = absurd known
+kind_line p h Two q (Waiting n) places short k narrow known = absurd known
+kind_line p h Gap q (Waiting n) places short k narrow known =
+    rw (length-map q decimal, le-leb (length q) 0 short, amount_in-decimal n narrow, places-numbers p h q places) refl
 
 -- a record's row has a letter, which isn't `end`, and fields
-kind_row : (p : Problem) → IsProblem p → (q : List ℕ) (kind : Kind) → ArePositions p q → IsPrintableKind p kind → IsNarrowKind kind → IsRow (kind_fields q kind)
-kind_row p h q Branch places k narrow = (word (codes "B") (omega arith) refl, number_fields p h q places)
-kind_row p h q (Whole value) places k narrow = (word (codes "W") (omega arith) refl, (IsField-decimal value narrow, number_fields p h q places))
-kind_row p h q (Mean bound) places k narrow = (word (codes "M") (omega arith) refl, (IsField-decimal bound narrow, number_fields p h q places))
-kind_row p h q (Tangent bound reference) places k narrow = (
+kind_row : (p : Problem) → IsProblem p → (q : List ℕ) (kind : GapKind) → ArePositions p q → IsPrintableKind p (shape_of_kind kind) → IsNarrowNode kind → IsRow (node_fields q kind)
+kind_row p h q (Closed Branch) places k narrow = (word (codes "B") (omega arith) refl, number_fields p h q places)
+kind_row p h q (Closed (Whole value)) places k narrow = (word (codes "W") (omega arith) refl, (IsField-decimal value narrow, number_fields p h q places))
+kind_row p h q (Closed (Mean bound)) places k narrow = (word (codes "M") (omega arith) refl, (IsField-decimal bound narrow, number_fields p h q places))
+kind_row p h q (Closed (Tangent bound reference)) places k narrow = (
   word (codes "T") (omega arith) refl,
   (IsField-decimal bound narrow, AreFields-append (numbers q) (numbers reference) (number_fields p h q places) (number_fields p h reference k.0)),
 )
-kind_row p h q (Edge bound) places k narrow = (word (codes "E") (omega arith) refl, (IsField-decimal bound narrow, number_fields p h q places))
+kind_row p h q (Closed (Edge bound)) places k narrow = (word (codes "E") (omega arith) refl, (IsField-decimal bound narrow, number_fields p h q places))
+kind_row p h q (Waiting n) places k narrow = (word (codes "O") (omega arith) refl, (IsField-decimal n narrow, number_fields p h q places))
 
 not_end : (letter : List ℕ) (fields : List (List ℕ)) → is_word letter (codes "end") ≡ false → is_end (letter ∷ fields) ≡ false
 not_end letter [] other = other
 not_end letter (f ∷ fs) other = refl
 
-kind_goes_on : (q : List ℕ) (kind : Kind) → is_end (kind_fields q kind) ≡ false
-kind_goes_on q Branch = not_end (codes "B") (numbers q) refl
-kind_goes_on q (Whole value) = refl
-kind_goes_on q (Mean bound) = refl
-kind_goes_on q (Tangent bound reference) = refl
-kind_goes_on q (Edge bound) = refl
+kind_goes_on : (q : List ℕ) (kind : GapKind) → is_end (node_fields q kind) ≡ false
+kind_goes_on q (Closed Branch) = not_end (codes "B") (numbers q) refl
+kind_goes_on q (Closed (Whole value)) = refl
+kind_goes_on q (Closed (Mean bound)) = refl
+kind_goes_on q (Closed (Tangent bound reference)) = refl
+kind_goes_on q (Closed (Edge bound)) = refl
+kind_goes_on q (Waiting n) = refl
 
 -- the prefix that a record's line has is right
-written_fits : (p : Problem) (v : TextVersion) (q : List ℕ) → ArePositions p q → length q ≤ p.horizon → ArePositions p (written v q) × (length (written v q) ≤ most_positions p v)
-written_fits p One q positions short = (positions, short)
-written_fits p Two q positions short = (All-nil (λ (a : ℕ). a < p.positions), omega arith)
+written_fits : (p : Problem) (w : Prefixes) (q : List ℕ) → ArePositions p q → length q ≤ p.horizon → ArePositions p (written w q) × (length (written w q) ≤ most_positions p w)
+written_fits p Written q positions short = (positions, short)
+written_fits p LeftOut q positions short = (All-nil (λ (a : ℕ). a < p.positions), omega arith)
 
 -- and the record is the one that was written, where it has the prefix that is expected next
-placed_back : (p : Problem) (v : TextVersion) (expected : List (List ℕ)) (r : TreeNode) → HasPlace v expected r.prefix → placed v expected (record { prefix = written v r.prefix; kind = r.kind }) ≡ Ok (Node r)
-placed_back p One expected r has = refl
-placed_back p Two [] r has = absurd has
-placed_back p Two (q ∷ expected) r has = ap (λ (x : List ℕ). Ok (Node (record { prefix = x; kind = r.kind }))) (sym has)
+placed_back : (p : Problem) (w : Prefixes) (expected : List (List ℕ)) (r : GapNode) → HasPlace w expected r.prefix → placed w expected (record { prefix = written w r.prefix; kind = r.kind }) ≡ Ok (Node r)
+placed_back p Written expected r has = refl
+placed_back p LeftOut [] r has = absurd has
+placed_back p LeftOut (q ∷ expected) r has = ap (λ (x : List ℕ). Ok (Node (record { prefix = x; kind = r.kind }))) (sym has)
 
-Takes-record : (p : Problem) → IsProblem p → (v : TextVersion) (expected : List (List ℕ)) (left : ℕ) (r : TreeNode) → IsPrintableRecord p r → IsNarrowKind r.kind → IsLettered v r.kind → HasPlace v expected r.prefix → Takes p (at_stage v expected (due.Records (suc left))) (record_row v r) (Node r)
+Takes-record : (p : Problem) → IsProblem p → (v : Dialect) (expected : List (List ℕ)) (left : ℕ) (r : GapNode) → IsPrintableRecord p (shape_of r) → IsNarrowNode r.kind → IsLettered v r.kind → HasPlace (prefixes_in v) expected r.prefix → Takes p (at_stage v expected (due.Records (suc left))) (node_row v r) (Node r)
 Takes-record p h v expected left r k narrow known has =
-    let q = written v r.prefix in
-    let fits = written_fits p v r.prefix k.positions k.short in
+    let w = prefixes_in v in
+    let q = written w r.prefix in
+    let fits = written_fits p w r.prefix k.positions k.short in
     record {
       fields = kind_row p h q r.kind fits.0 k.kind narrow;
       goes = λ e. cc;
-      says = rw (kind_goes_on q r.kind, kind_line p h v q r.kind fits.0 fits.1 k.kind narrow known, ne_eqb (suc left) 0 (λ e. omega arith)) (placed_back p v expected r has);
+      says = rw (kind_goes_on q r.kind, kind_line p h v q r.kind fits.0 fits.1 k.kind narrow known, ne_eqb (suc left) 0 (λ e. omega arith)) (placed_back p w expected r has);
     }
 
--- the plan with these records
-abbrev with_tree : Plan → List TreeNode → Plan
-with_tree plan tree = record { standing = plan.standing; weight = plan.weight; tree = tree }
+-- the plan with these nodes
+abbrev with_nodes : GapPlan → List GapNode → GapPlan
+with_nodes plan nodes = record { standing = plan.standing; weight = plan.weight; ceiling = plan.ceiling; nodes = nodes }
 
--- these records have the prefixes that are expected, where the text leaves them out, and where it doesn't they have letters
-abbrev HavePlaces : Problem → TextVersion → List (List ℕ) → List TreeNode → Type 0
-HavePlaces p One expected rs = All (λ r. IsNoEdge r.kind) rs
-HavePlaces p Two expected rs = AreInPlace p expected rs
+-- these records have the prefixes that are expected, where the text leaves them out
+abbrev HavePlaces : Problem → Prefixes → List (List ℕ) → List GapNode → Type 0
+HavePlaces p Written expected rs = Unit {0}
+HavePlaces p LeftOut expected rs = AreInPlace p expected (map shape_of rs)
 
 -- and then none is expected
-abbrev IsClosed : TextVersion → List (List ℕ) → Type 0
-IsClosed One expected = Unit {0}
-IsClosed Two expected = expected ≡ []
+abbrev IsClosed : Prefixes → List (List ℕ) → Type 0
+IsClosed Written expected = Unit {0}
+IsClosed LeftOut expected = expected ≡ []
 
-first_place : (p : Problem) (v : TextVersion) (expected : List (List ℕ)) (r : TreeNode) (rs : List TreeNode) → HavePlaces p v expected (r ∷ rs) → HasPlace v expected r.prefix × HavePlaces p v (places_behind p v expected r.kind) rs × IsLettered v r.kind
-first_place p One expected r rs h = let N : TreeNode → Type 0 = λ x. IsNoEdge x.kind in (tt, All-tail N r rs h, All-head N r rs h)
-first_place p Two [] r rs h = absurd h
-first_place p Two (q ∷ expected) r rs h = (h.0, h.1, tt)
+first_place : (p : Problem) (w : Prefixes) (expected : List (List ℕ)) (r : GapNode) (rs : List GapNode) → HavePlaces p w expected (r ∷ rs) → HasPlace w expected r.prefix × HavePlaces p w (places_behind p w expected r.kind) rs
+first_place p Written expected r rs h = (tt, tt)
+first_place p LeftOut [] r rs h = absurd h
+first_place p LeftOut (q ∷ expected) r rs h = (h.0, h.1)
 
-no_more : (p : Problem) (v : TextVersion) (expected : List (List ℕ)) → HavePlaces p v expected [] → IsClosed v expected
-no_more p One expected h = tt
-no_more p Two [] h = refl
-no_more p Two (q ∷ expected) h = absurd h
+no_more : (p : Problem) (w : Prefixes) (expected : List (List ℕ)) → HavePlaces p w expected [] → IsClosed w expected
+no_more p Written expected h = tt
+no_more p LeftOut [] h = refl
+no_more p LeftOut (q ∷ expected) h = absurd h
 
 -- behind the records the rows are read, whatever was expected
-abbrev ReadsEnd : Problem → TextVersion → Plan → List (List (List ℕ)) → Plan → Type 0
-ReadsEnd p v plan rows whole = (expected : List (List ℕ)) → IsClosed v expected → Reads p (at_stage v expected (due.Records 0)) plan rows whole
+abbrev ReadsEnd : Problem → Dialect → GapPlan → List (List (List ℕ)) → GapPlan → Type 0
+ReadsEnd p v plan rows whole = (expected : List (List ℕ)) → IsClosed (prefixes_in v) expected → Reads p (at_stage v expected (due.Records 0)) plan rows whole
 
 -- what is left of the records, and the rows behind them
-Reads-records : (p : Problem) → IsProblem p → (v : TextVersion) (plan whole : Plan) (expected : List (List ℕ)) (done rs : List TreeNode) (rows : List (List (List ℕ))) → All (IsPrintableRecord p) rs → All (λ r. IsNarrowKind r.kind) rs → HavePlaces p v expected rs → ReadsEnd p v (with_tree plan (done ++ rs)) rows whole → Reads p (at_stage v expected (due.Records (length rs))) (with_tree plan done) (map (record_row v) rs ++ rows) whole
-Reads-records p h v plan whole expected done [] rows k narrow places rest =
-    subst (λ (records : List TreeNode). Reads p (at_stage v expected (due.Records 0)) (with_tree plan records) rows whole) (append-nil done) (rest expected (no_more p v expected places))
-Reads-records p h v plan whole expected done (r ∷ rs) rows k narrow places rest =
-    let N : TreeNode → Type 0 = λ x. IsNarrowKind x.kind in
+Reads-records : (p : Problem) → IsProblem p → (v : Dialect) (plan whole : GapPlan) (expected : List (List ℕ)) (done rs : List GapNode) (rows : List (List (List ℕ))) → All (λ r. IsPrintableRecord p (shape_of r)) rs → All (λ r. IsNarrowNode r.kind) rs → All (λ r. IsLettered v r.kind) rs → HavePlaces p (prefixes_in v) expected rs → ReadsEnd p v (with_nodes plan (done ++ rs)) rows whole → Reads p (at_stage v expected (due.Records (length rs))) (with_nodes plan done) (map (node_row v) rs ++ rows) whole
+Reads-records p h v plan whole expected done [] rows k narrow known places rest =
+    subst (λ (records : List GapNode). Reads p (at_stage v expected (due.Records 0)) (with_nodes plan records) rows whole) (append-nil done) (rest expected (no_more p (prefixes_in v) expected places))
+Reads-records p h v plan whole expected done (r ∷ rs) rows k narrow known places rest =
+    let P : GapNode → Type 0 = λ x. IsPrintableRecord p (shape_of x) in
+    let N : GapNode → Type 0 = λ x. IsNarrowNode x.kind in
+    let L : GapNode → Type 0 = λ x. IsLettered v x.kind in
     let less : suc (length rs) - 1 ≡ length rs = omega arith in
-    let place = first_place p v expected r rs places in
-    let later = places_behind p v expected r.kind in
-    let after = Reads-records p h v plan whole later (done ++ r ∷ []) rs rows (All-tail (IsPrintableRecord p) r rs k) (All-tail N r rs narrow) place.1
-    (subst (λ (records : List TreeNode). ReadsEnd p v (with_tree plan records) rows whole) (sym (append_assoc done (r ∷ []) rs)) rest) in
-    Reads-row p (at_stage v expected (due.Records (suc (length rs)))) (with_tree plan done) whole (Node r) (record_row v r) (map (record_row v) rs ++ rows)
-    (Takes-record p h v expected (length rs) r (All-head (IsPrintableRecord p) r rs k) (All-head N r rs narrow) place.2 place.0)
-    (subst (λ (left : ℕ). Reads p (at_stage v later (due.Records left)) (with_tree plan (done ++ r ∷ [])) (map (record_row v) rs ++ rows) whole) (sym less) after)
+    let place = first_place p (prefixes_in v) expected r rs places in
+    let later = places_behind p (prefixes_in v) expected r.kind in
+    let after = Reads-records p h v plan whole later (done ++ r ∷ []) rs rows (All-tail P r rs k) (All-tail N r rs narrow) (All-tail L r rs known) place.1
+    (subst (λ (records : List GapNode). ReadsEnd p v (with_nodes plan records) rows whole) (sym (append_assoc done (r ∷ []) rs)) rest) in
+    Reads-row p (at_stage v expected (due.Records (suc (length rs)))) (with_nodes plan done) whole (Node r) (node_row v r) (map (node_row v) rs ++ rows)
+    (Takes-record p h v expected (length rs) r (All-head P r rs k) (All-head N r rs narrow) (All-head L r rs known) place.0)
+    (subst (λ (left : ℕ). Reads p (at_stage v later (due.Records left)) (with_nodes plan (done ++ r ∷ [])) (map (node_row v) rs ++ rows) whole) (sym less) after)
 
-Takes-end : (p : Problem) (v : TextVersion) (expected : List (List ℕ)) → IsClosed v expected → Takes p (at_stage v expected (due.Records 0)) (codes "end" ∷ []) End
-Takes-end p One expected closed = record { fields = (word (codes "end") (omega arith) refl, tt); goes = λ e. cc; says = refl }
-Takes-end p Two [] closed = record { fields = (word (codes "end") (omega arith) refl, tt); goes = λ e. cc; says = refl }
-Takes-end p Two (q ∷ expected) closed = absurd (let bad : ⊥ = cc in bad)
+end_place : (w : Prefixes) (expected : List (List ℕ)) → IsClosed w expected → ending w expected ≡ Ok End
+end_place Written expected closed = refl
+end_place LeftOut [] closed = refl
+end_place LeftOut (q ∷ expected) closed = absurd (let bad : ⊥ = cc in bad)
 
-text_reads_back : (p : Problem) (v : TextVersion) (plan : Plan) → IsProblem p → IsPrintable p plan → IsNarrow plan → HavePlaces p v ([] ∷ []) plan.tree → plan_at p (text_in v p plan) ≡ Ok plan
-text_reads_back p v plan h k narrow places =
+Takes-end : (p : Problem) (v : Dialect) (expected : List (List ℕ)) → IsClosed (prefixes_in v) expected → Takes p (at_stage v expected (due.Records 0)) (codes "end" ∷ []) End
+Takes-end p v expected closed = record { fields = (word (codes "end") (omega arith) refl, tt); goes = λ e. cc; says = end_place (prefixes_in v) expected closed }
+
+-- the lines between the path and the number of records
+Reads-chance : (p : Problem) (v : Dialect) (plan whole : GapPlan) (rows : List (List (List ℕ))) → IsHeadOf p v plan.standing plan.weight plan.ceiling →
+    Reads p (at_stage v ([] ∷ []) due.Count) (with_nodes plan []) (count_row (length plan.nodes) ∷ rows) whole →
+    Reads p (at_stage v ([] ∷ []) due.Chance) (taken blank_plan (Path plan.standing.path)) (chance_row plan.standing.value plan.weight ∷ ((ceiling_rows v plan.ceiling ++ count_row (length plan.nodes) ∷ []) ++ rows)) whole
+Reads-chance p One plan whole rows head rest =
+    Reads-row p (at_stage One ([] ∷ []) due.Chance) _ whole (Chance plan.standing.value plan.weight) _ (count_row (length plan.nodes) ∷ rows) (Takes-chance p One ([] ∷ []) plan.standing.value plan.weight head.chance.value head.chance.weight_small)
+    (subst (λ (c : ℕ). Reads p (at_stage One ([] ∷ []) due.Count) (record { standing = plan.standing; weight = plan.weight; ceiling = c; nodes = [] }) (count_row (length plan.nodes) ∷ rows) whole) head.ceiling_is rest)
+Reads-chance p Two plan whole rows head rest =
+    Reads-row p (at_stage Two ([] ∷ []) due.Chance) _ whole (Chance plan.standing.value plan.weight) _ (count_row (length plan.nodes) ∷ rows) (Takes-chance p Two ([] ∷ []) plan.standing.value plan.weight head.chance.value head.chance.weight_small)
+    (subst (λ (c : ℕ). Reads p (at_stage Two ([] ∷ []) due.Count) (record { standing = plan.standing; weight = plan.weight; ceiling = c; nodes = [] }) (count_row (length plan.nodes) ∷ rows) whole) head.ceiling_is rest)
+Reads-chance p Gap plan whole rows head rest =
+    Reads-row p (at_stage Gap ([] ∷ []) due.Chance) _ whole (Chance plan.standing.value plan.weight) _ (ceiling_row plan.ceiling ∷ count_row (length plan.nodes) ∷ rows) (Takes-chance p Gap ([] ∷ []) plan.standing.value plan.weight head.chance.value head.chance.weight_small)
+    (Reads-row p (at_stage Gap ([] ∷ []) due.Ceiling) _ whole (Ceiling plan.ceiling) _ (count_row (length plan.nodes) ∷ rows) (Takes-ceiling p Gap ([] ∷ []) plan.ceiling head.ceiling_is) rest)
+
+-- a gap plan that has a text of this dialect
+pub record HasText (p : Problem) (v : Dialect) (plan : GapPlan) : Type 0 where
+  pub head : IsHeadOf p v plan.standing plan.weight plan.ceiling
+  pub few : length plan.nodes ≤ most_records (family_of v)
+  pub printable : All (λ r. IsPrintableRecord p (shape_of r)) plan.nodes
+  pub narrow : All (λ r. IsNarrowNode r.kind) plan.nodes
+  pub known : All (λ r. IsLettered v r.kind) plan.nodes
+  pub places : HavePlaces p (prefixes_in v) ([] ∷ []) plan.nodes
+
+text_reads_back : (p : Problem) (v : Dialect) (plan : GapPlan) → IsProblem p → HasText p v plan → text_at (family_of v) p (text_in v p plan) ≡ Ok plan
+text_reads_back p v plan h k =
     let empty : List (List ℕ) = [] ∷ [] in
     let end : List (List (List ℕ)) = (codes "end" ∷ []) ∷ [] in
-    let record_rows = map (record_row v) plan.tree ++ end in
-    let count_rows = count_row (length plan.tree) ∷ record_rows in
-    let chance_rows = chance_row plan.standing.value plan.weight ∷ count_rows in
+    let record_rows = map (node_row v) plan.nodes ++ end in
+    let chance_rows = chance_row plan.standing.value plan.weight ∷ ((ceiling_rows v plan.ceiling ++ count_row (length plan.nodes) ∷ []) ++ record_rows) in
     let path_rows = (codes "path" ∷ map (position_name p) plan.standing.path) ∷ chance_rows in
-    let last : ReadsEnd p v (with_tree plan plan.tree) end plan = λ expected closed.
+    let last : ReadsEnd p v (with_nodes plan plan.nodes) end plan = λ expected closed.
     Reads-row p (at_stage v expected (due.Records 0)) plan plan End (codes "end" ∷ []) [] (Takes-end p v expected closed) (λ number. at_end p number (at_stage v expected due.Ended) plan [] _ refl refl refl) in
-    let records = Reads-records p h v plan plan empty [] plan.tree end k.records narrow.records places last in
-    let count = Reads-row p (at_stage v empty due.Count) _ plan (Count (length plan.tree)) _ record_rows (Takes-count p v empty (length plan.tree) k.few) records in
-    let chance = Reads-row p (at_stage v empty due.Chance) _ plan (Chance plan.standing.value plan.weight) _ count_rows (Takes-chance p v empty plan narrow) count in
-    let path = Reads-row p (at_stage v empty due.Path) _ plan (Path plan.standing.path) _ chance_rows (Takes-path p h v empty plan k) chance in
-    Reads-row p at_start blank_plan plan (Version v) _ path_rows (Takes-version p v) path 1
+    let records = Reads-records p h v plan plan empty [] plan.nodes end k.printable k.narrow k.known k.places last in
+    let count = Reads-row p (at_stage v empty due.Count) (with_nodes plan []) plan (Count (length plan.nodes)) _ record_rows (Takes-count p v empty (length plan.nodes) k.few) records in
+    let chance = Reads-chance p v plan plan record_rows k.head count in
+    let path = Reads-row p (at_stage v empty due.Path) blank_plan plan (Path plan.standing.path) _ chance_rows (Takes-path p h v empty plan.standing.path k.head.chance.path) chance in
+    Reads-row p (at_start (family_of v)) blank_plan plan (Version v) _ path_rows (Takes-version p v) path 1
+
+-- A plan is the plan of its gap plan.
+
+shapes_of_closed : (rs : List TreeNode) → map shape_of (map closed_node rs) ≡ rs
+shapes_of_closed [] = refl
+shapes_of_closed (r ∷ rs) = ap (λ (xs : List TreeNode). r ∷ xs) (shapes_of_closed rs)
+
+plan_of_gap : (plan : Plan) → plan_of (gap_of plan) ≡ plan
+plan_of_gap plan = ap (λ (tree : List TreeNode). record { standing = plan.standing; weight = plan.weight; tree = tree }) (shapes_of_closed plan.tree)
+
+chance_has_text : (p : Problem) (plan : Plan) → IsPrintable p plan → IsNarrow plan → IsChanceOf p plan.standing plan.weight
+chance_has_text p plan k narrow = record { path = record { positions = k.positions; some = k.some; short = k.short }; value = narrow.value; weight_small = narrow.weight }
+
+few_has_text : (v : Dialect) (tree : List TreeNode) → family_of v ≡ Plans → length tree ≤ most_records Plans → length (map closed_node tree) ≤ most_records (family_of v)
+few_has_text v tree e few = subst (λ (family : Family). length (map closed_node tree) ≤ most_records family) (sym e) (let long = length-map tree closed_node in omega (arith, few, long))
+
+-- a plan that can be printed has a text of a dialect that has letters for its records
+plan_has_text : (p : Problem) (v : Dialect) (plan : Plan) → IsPrintable p plan → IsNarrow plan → family_of v ≡ Plans → IsCeiling v plan.standing.value plan.standing.value → All (λ r. IsLettered v (Closed r.kind)) plan.tree → HavePlaces p (prefixes_in v) ([] ∷ []) (map closed_node plan.tree) → HasText p v (gap_of plan)
+plan_has_text p v plan k narrow e ceiling known places = record {
+  head = record { chance = chance_has_text p plan k narrow; ceiling_is = ceiling };
+  few = few_has_text v plan.tree e k.few;
+  printable = All-map (λ (r : GapNode). IsPrintableRecord p (shape_of r)) closed_node plan.tree k.records;
+  narrow = All-map (λ (r : GapNode). IsNarrowNode r.kind) closed_node plan.tree narrow.records;
+  known = All-map (λ (r : GapNode). IsLettered v r.kind) closed_node plan.tree known;
+  places = places;
+}
 
 pub plan_text_reads_back : PlanTextReadsBack
-plan_text_reads_back p plan h k narrow no_edge = text_reads_back p One plan h k narrow no_edge
+plan_text_reads_back p plan h k narrow no_edge =
+    ap as_plan (text_reads_back p One (gap_of plan) h (plan_has_text p One plan k narrow refl refl no_edge tt)) ∙ ap Ok (plan_of_gap plan)
 
 pub plan_text_2_reads_back : PlanText2ReadsBack
-plan_text_2_reads_back p plan h k narrow places = text_reads_back p Two plan h k narrow places
+plan_text_2_reads_back p plan h k narrow places =
+    let known = All-weaker (IsPrintableRecord p) (λ (r : TreeNode). IsLettered Two (Closed r.kind)) (λ r _. tt) plan.tree k.records in
+    let here = subst (AreInPlace p ([] ∷ [])) (sym (shapes_of_closed plan.tree)) places in
+    ap as_plan (text_reads_back p Two (gap_of plan) h (plan_has_text p Two plan k narrow refl refl known here)) ∙ ap Ok (plan_of_gap plan)
+
+-- nodes that have the prefixes that are expected can be printed, where these are legal
+placed_printable : (p : Problem) → IsProblem p → (nodes : List GapNode) (qs : List (List ℕ)) → All (IsLegal p) qs → AreInPlace p qs (map shape_of nodes) → All (λ r. IsPrintableKind p (shape_of r).kind) nodes → All (λ r. IsPrintableRecord p (shape_of r)) nodes
+placed_printable p h [] qs legal placed kinds = All-nil (λ (r : GapNode). IsPrintableRecord p (shape_of r))
+placed_printable p h (r ∷ nodes) [] legal placed kinds = absurd placed
+placed_printable p h (r ∷ nodes) (q ∷ qs) legal placed kinds =
+    let K : GapNode → Type 0 = λ x. IsPrintableKind p (shape_of x).kind in
+    let first : IsLegal p q = All-head (IsLegal p) q qs legal in
+    let here : IsLegal p r.prefix = subst (IsLegal p) (sym placed.0) first in
+    let next = opened_by p q (shape_of_kind r.kind) in
+    let later = All-append (IsLegal p) next qs (legal_opened p q (shape_of_kind r.kind) first) (All-tail (IsLegal p) q qs legal) in
+    All-cons (λ (x : GapNode). IsPrintableRecord p (shape_of x)) r nodes
+    (record {
+      positions = positions_follow p h p.start (omega (arith, h.start, h.grid_positions)) r.prefix here.follows;
+      short = here.short;
+      kind = All-head K r nodes kinds;
+    })
+    (placed_printable p h nodes (next ++ qs) later placed.1 (All-tail K r nodes kinds))
+
+pub gap_text_reads_back : GapTextReadsBack
+gap_text_reads_back p plan h k narrow places =
+    let printable = placed_printable p h plan.nodes ([] ∷ []) (empty_legal p ([] ∷ []) refl) places k.kinds in
+    text_reads_back p Gap plan h (record {
+      head = record { chance = record { path = record { positions = k.positions; some = k.some; short = k.short }; value = narrow.value; weight_small = narrow.weight }; ceiling_is = narrow.ceiling };
+      few = k.few;
+      printable = printable;
+      narrow = narrow.nodes;
+      known = All-weaker (λ (r : GapNode). IsPrintableRecord p (shape_of r)) (λ (r : GapNode). IsLettered Gap r.kind) (λ r _. tt) plan.nodes printable;
+      places = places;
+    })
 
 -- the text of a plan in either version is read as that plan
 pub text_read : (p : Problem) → IsProblem p → (plan : Plan) (text : List ℕ) → IsTextOfPlan p plan text → plan_at p text ≡ Ok plan
@@ -239,9 +357,19 @@ text_read p h plan text spelled = elim spelled [
   | inr two ↦ ap (plan_at p) two.spelled ∙ plan_text_2_reads_back p plan h two.printable two.narrow two.in_place
 ]
 
+-- and that of a gap plan as that gap plan
+pub gap_read : (p : Problem) → IsProblem p → (plan : GapPlan) (text : List ℕ) → IsGapText p plan text → gap_at p text ≡ Ok plan
+gap_read p h plan text is = ap (gap_at p) is.spelled ∙ gap_text_reads_back p plan h is.printable is.narrow is.in_place
+
 -- what was read is one plan
 pub one_plan_a_text : OnePlanAText
 one_plan_a_text p a b text h a_spelled b_spelled =
     let as_a : plan_at p text ≡ Ok a = text_read p h a text a_spelled in
     let as_b : plan_at p text ≡ Ok b = text_read p h b text b_spelled in
+    cc
+
+pub one_gap_a_text : OneGapAText
+one_gap_a_text p a b text h a_spelled b_spelled =
+    let as_a : gap_at p text ≡ Ok a = gap_read p h a text a_spelled in
+    let as_b : gap_at p text ≡ Ok b = gap_read p h b text b_spelled in
     cc

@@ -8,9 +8,11 @@ use Rattle.bound_tree.specs.declared.node.Kind.{Kind}
 use Rattle.bound_tree.specs.declared.node.Kind.TheVariants.{Branch, Whole, Mean, Tangent, Edge}
 use Rattle.bound_tree.specs.declared.node.TreeNode.{TreeNode}
 use Rattle.bound_tree.specs.declared.plan.Plan.{Plan}
+use Rattle.bound_tree.specs.declared.gap.GapPlan.{GapPlan}
+use Rattle.bound_tree.specs.Gaps.{gap_of}
 use Rattle.bound_tree.proofs.SamePlans.{in_place_same}
-use Rattle.tree_format.specs.declared.plan_line.TextVersion.{TextVersion}
-use Rattle.tree_format.specs.declared.plan_line.TextVersion.TheVariants.{One, Two}
+use Rattle.tree_format.specs.declared.plan_line.Dialect.{Dialect}
+use Rattle.tree_format.specs.declared.plan_line.Dialect.TheVariants.{One, Two}
 use Rattle.tree_format.specs.PlanText.{text_in, ArePositions, IsPrintableKind, IsPrintableRecord, IsPrintable, IsTextOfPlan}
 use Rattle.tree_format.specs.TextLaws.{SameSearchSameTexts}
 
@@ -38,18 +40,18 @@ module _ (p o : Problem) (same : AreSame p o) where
   }
 
   -- the names stand in it, and no other part of the problem
-  text_same : (v : TextVersion) (plan : Plan) → text_in v p plan ≡ text_in v o plan
+  text_same : (v : Dialect) (plan : GapPlan) → text_in v p plan ≡ text_in v o plan
   text_same v plan =
       let names : map (position_name p) plan.standing.path ≡ map (position_name o) plan.standing.path = ap (λ (all : List (List ℕ)). map (name_in all) plan.standing.path) same.position_names in
       rw names refl
 
   plan_text_same : (plan : Plan) (text : List ℕ) → IsTextOfPlan p plan text → IsTextOfPlan o plan text
-  plan_text_same plan text (inl one) = inl (record { printable = plan_same plan one.printable; narrow = one.narrow; no_edge = one.no_edge; spelled = one.spelled ∙ text_same One plan })
+  plan_text_same plan text (inl one) = inl (record { printable = plan_same plan one.printable; narrow = one.narrow; no_edge = one.no_edge; spelled = one.spelled ∙ text_same One (gap_of plan) })
   plan_text_same plan text (inr two) = inr (record {
     printable = plan_same plan two.printable;
     narrow = two.narrow;
     in_place = in_place_same p o same ([] ∷ []) plan.tree two.in_place;
-    spelled = two.spelled ∙ text_same Two plan;
+    spelled = two.spelled ∙ text_same Two (gap_of plan);
   })
 
 pub same_search_same_texts : SameSearchSameTexts

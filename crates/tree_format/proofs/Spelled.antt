@@ -3,8 +3,8 @@ use Rattle.std.proofs.Common.{◌≡◌, ℕ, ◌<◌, ◌≤◌, ◌+◌, ◌-�
 use Rattle.std.specs.Prelude.{All, codes, ◌&&◌, ◌==◌}
 use Rattle.std.specs.List.{join_with_byte}
 use Rattle.std.proofs.lemmas.Bool.{cond_both, and_parts, eqb-true}
-use Rattle.std.proofs.lemmas.List.{append-nil, map-append}
-use Rattle.std.proofs.lemmas.List.Elements.{All-nil, All-cons, All-head, All-tail, All-append, All-push}
+use Rattle.std.proofs.lemmas.List.{append-nil, map-append, length-map}
+use Rattle.std.proofs.lemmas.List.Elements.{All-nil, All-cons, All-head, All-tail, All-append, All-push, All-map, All-weaker}
 use Rattle.text_rows.specs.Rows.{text_of}
 use Rattle.text_rows.proofs.RowLemmas.{text_of-append}
 use Rattle.text_rows.specs.Lines.{pieces_of}
@@ -14,32 +14,44 @@ use Rattle.search_model.specs.Problem.{Problem, IsProblem}
 use Rattle.search_model.specs.Legal.{IsLegal}
 use Rattle.bound_tree.specs.declared.node.Kind.{Kind}
 use Rattle.bound_tree.specs.declared.node.TreeNode.{TreeNode}
+use Rattle.search_model.specs.declared.standing.Standing.{Standing}
 use Rattle.bound_tree.specs.Places.{opened_by, AreInPlace, expected_behind}
 use Rattle.bound_tree.proofs.Placing.{legal_opened}
+use Rattle.bound_tree.specs.declared.gap.GapKind.{GapKind}
+use Rattle.bound_tree.specs.declared.gap.GapKind.TheVariants.{Closed, Waiting}
+use Rattle.bound_tree.specs.declared.gap.GapNode.{GapNode}
+use Rattle.bound_tree.specs.declared.gap.GapPlan.{GapPlan}
+use Rattle.bound_tree.specs.Gaps.{shape_of_kind, shape_of, closed_node, gap_of, plan_of}
 use Rattle.bound_tree.specs.declared.plan.Plan.{Plan}
 use Rattle.tree_format.specs.declared.kind.PlanKind.{PlanKind}
 use Rattle.tree_format.specs.declared.kind.PlanKind.TheVariants.{BadLine, EarlyEnd, Rest}
 use Rattle.tree_format.specs.declared.kind.PlanFault.{PlanFault}
 use Rattle.tree_format.specs.declared.due.Due.{Due}
-use Rattle.tree_format.specs.declared.plan_line.TextVersion.{TextVersion}
-use Rattle.tree_format.specs.declared.plan_line.TextVersion.TheVariants.{One, Two}
+use Rattle.tree_format.specs.declared.plan_line.Dialect.{Dialect}
+use Rattle.tree_format.specs.declared.plan_line.Dialect.TheVariants.{One, Two, Gap}
+use Rattle.tree_format.specs.declared.plan_line.Family.{Family}
+use Rattle.tree_format.specs.declared.plan_line.Family.TheVariants.{Plans, Gaps}
+use Rattle.tree_format.specs.declared.plan_line.Prefixes.{Prefixes}
+use Rattle.tree_format.specs.declared.plan_line.Prefixes.TheVariants.{Written, LeftOut}
+use Rattle.tree_format.specs.Dialects.{family_of, version_row, most_records, prefixes_in}
 use Rattle.tree_format.specs.declared.plan_line.Stage.{Stage}
 use Rattle.tree_format.specs.declared.plan_line.Stage.TheVariants as due
 use Rattle.tree_format.specs.declared.plan_line.PlanLine.{PlanLine}
-use Rattle.tree_format.specs.PlanText.{record_row, version_row, path_rows, chance_row, count_row, plan_rows, text_in, ArePositions, IsPrintableRecord, IsPrintable, IsNarrowKind, IsNarrow, IsLettered, IsTextOfPlan}
-use Rattle.tree_format.specs.Reading.{line_at, stage_line, at_start, with_stage, blank_plan, places_behind, next, taken, is_ended, at_line_number, go_on, pieces_at}
-use Rattle.tree_format.specs.ReadingLaws.{OneTextAPlan}
-use Rattle.tree_format.proofs.SpelledLines.{IsVersionLine, version_told, IsPathLine, path_told, IsChanceLine, chance_told, IsCountLine, count_told, HasPlace, IsRecordLine, record_printable, IsEndLine, record_told}
+use Rattle.tree_format.specs.declared.plan_line.PlanLine.TheVariants.{Chance}
+use Rattle.tree_format.specs.PlanText.{node_row, path_rows, chance_row, ceiling_rows, head_rows, plan_rows, text_in, ArePositions, IsPrintableKind, IsPrintableRecord, IsPrintable, IsNarrowKind, IsNarrow, IsNoEdge, IsTextOfPlan, IsNarrowNode, IsGapText}
+use Rattle.tree_format.specs.Reading.{line_at, stage_line, at_start, with_stage, blank_plan, places_behind, behind_chance, next, taken, is_ended, at_line_number, go_on, pieces_at, text_at, as_plan}
+use Rattle.tree_format.specs.ReadingLaws.{OneTextAPlan, OneTextAGap}
+use Rattle.tree_format.proofs.SpelledLines.{IsVersionLine, version_told, IsPathLine, path_told, IsChanceLine, chance_told, IsCeilingLine, ceiling_told, IsCountLine, count_told, IsLettered, HasPlace, IsRecordLine, record_printable, IsEndLine, record_told}
 use Rattle.text_rows.proofs.Splits.{split_joined}
-use Rattle.bound_tree.specs.declared.tree.TheConstants.{MOST_NODES}
 
 -- the rows of the lines that were read
-abbrev pub rows_read : Problem → TextVersion → Stage → Plan → List (List (List ℕ))
-rows_read p v due.Version plan = []
+abbrev pub rows_read : Problem → Dialect → Stage → GapPlan → List (List (List ℕ))
+rows_read p v (due.Version family) plan = []
 rows_read p v due.Path plan = version_row v ∷ []
 rows_read p v due.Chance plan = path_rows v p plan.standing.path
-rows_read p v due.Count plan = path_rows v p plan.standing.path ++ chance_row plan.standing.value plan.weight ∷ []
-rows_read p v (due.Records left) plan = path_rows v p plan.standing.path ++ (chance_row plan.standing.value plan.weight ∷ count_row (length plan.tree + left) ∷ map (record_row v) plan.tree)
+rows_read p v due.Ceiling plan = path_rows v p plan.standing.path ++ chance_row plan.standing.value plan.weight ∷ []
+rows_read p v due.Count plan = path_rows v p plan.standing.path ++ (chance_row plan.standing.value plan.weight ∷ ceiling_rows v plan.ceiling)
+rows_read p v (due.Records left) plan = head_rows v p plan.standing plan.weight plan.ceiling (length plan.nodes + left) ++ map (node_row v) plan.nodes
 rows_read p v due.Ended plan = plan_rows v p plan
 
 -- what they have settled
@@ -48,34 +60,63 @@ pub record IsPathOf (p : Problem) (q : List ℕ) : Type 0 where
   pub some : 1 ≤ length q
   pub short : length q ≤ 32
 
--- in version 2 the records have the prefixes that were expected, and those that are expected are left
-abbrev pub IsPlaced : Problem → TextVersion → List (List ℕ) → List TreeNode → Type 0
-IsPlaced p One expected tree = Unit {0}
-IsPlaced p Two expected tree = (rs : List TreeNode) → AreInPlace p expected rs → AreInPlace p ([] ∷ []) (tree ++ rs)
+-- the ceiling is the value where no line says it
+abbrev pub IsCeiling : Dialect → ℕ → ℕ → Type 0
+IsCeiling One value ceiling = ceiling ≡ value
+IsCeiling Two value ceiling = ceiling ≡ value
+IsCeiling Gap value ceiling = ceiling < 2 ^ 128
 
-pub record IsTreeOf (p : Problem) (v : TextVersion) (expected : List (List ℕ)) (left : ℕ) (tree : List TreeNode) : Type 0 where
-  pub few : length tree + left ≤ MOST_NODES
-  pub printable : All (IsPrintableRecord p) tree
-  pub narrow : All (λ r. IsNarrowKind r.kind) tree
-  pub lettered : All (λ r. IsLettered v r.kind) tree
+pub record IsChanceOf (p : Problem) (s : Standing) (weight : ℕ) : Type 0 where
+  pub path : IsPathOf p s.path
+  pub value : s.value < 2 ^ 128
+  pub weight_small : weight < 2 ^ 128
+
+pub record IsHeadOf (p : Problem) (v : Dialect) (s : Standing) (weight ceiling : ℕ) : Type 0 where
+  pub chance : IsChanceOf p s weight
+  pub ceiling_is : IsCeiling v s.value ceiling
+
+-- where prefixes are left out the records have those that were expected, and those that are expected are left
+abbrev pub IsPlaced : Problem → Prefixes → List (List ℕ) → List GapNode → Type 0
+IsPlaced p Written expected nodes = Unit {0}
+IsPlaced p LeftOut expected nodes = (rs : List TreeNode) → AreInPlace p expected rs → AreInPlace p ([] ∷ []) (map shape_of nodes ++ rs)
+
+pub record IsTreeOf (p : Problem) (v : Dialect) (expected : List (List ℕ)) (left : ℕ) (nodes : List GapNode) : Type 0 where
+  pub few : length nodes + left ≤ most_records (family_of v)
+  pub printable : All (λ r. IsPrintableRecord p (shape_of r)) nodes
+  pub narrow : All (λ r. IsNarrowNode r.kind) nodes
+  pub lettered : All (λ r. IsLettered v r.kind) nodes
   pub legal : All (IsLegal p) expected
-  pub placed : IsPlaced p v expected tree
+  pub placed : IsPlaced p (prefixes_in v) expected nodes
 
 -- before the records the empty prefix alone is expected
-abbrev pub IsUntouched : List (List ℕ) → Plan → Type 0
-IsUntouched expected plan = (expected ≡ [] ∷ []) × (plan.tree ≡ [])
+abbrev pub IsUntouched : List (List ℕ) → GapPlan → Type 0
+IsUntouched expected plan = (expected ≡ [] ∷ []) × (plan.nodes ≡ [])
 
-abbrev pub IsReadAt : Problem → TextVersion → List (List ℕ) → Stage → Plan → Type 0
-IsReadAt p v expected due.Version plan = IsUntouched expected plan
+abbrev pub IsReadAt : Problem → Dialect → List (List ℕ) → Stage → GapPlan → Type 0
+IsReadAt p v expected (due.Version family) plan = IsUntouched expected plan
 IsReadAt p v expected due.Path plan = IsUntouched expected plan
 IsReadAt p v expected due.Chance plan = IsPathOf p plan.standing.path × IsUntouched expected plan
-IsReadAt p v expected due.Count plan = IsPathOf p plan.standing.path × (plan.standing.value < 2 ^ 128) × (plan.weight < 2 ^ 128) × IsUntouched expected plan
-IsReadAt p v expected (due.Records left) plan = IsPathOf p plan.standing.path × (plan.standing.value < 2 ^ 128) × (plan.weight < 2 ^ 128) × IsTreeOf p v expected left plan.tree
+IsReadAt p v expected due.Ceiling plan = IsChanceOf p plan.standing plan.weight × (v ≡ Gap) × IsUntouched expected plan
+IsReadAt p v expected due.Count plan = IsHeadOf p v plan.standing plan.weight plan.ceiling × IsUntouched expected plan
+IsReadAt p v expected (due.Records left) plan = IsHeadOf p v plan.standing plan.weight plan.ceiling × IsTreeOf p v expected left plan.nodes
 IsReadAt p v expected due.Ended plan =
-    IsPathOf p plan.standing.path × (plan.standing.value < 2 ^ 128) × (plan.weight < 2 ^ 128) × IsTreeOf p v expected 0 plan.tree × (v ≡ Two → expected ≡ [])
+    IsHeadOf p v plan.standing plan.weight plan.ceiling × IsTreeOf p v expected 0 plan.nodes × (prefixes_in v ≡ LeftOut → expected ≡ [])
 
-abbrev pub IsRead : Problem → Due → Plan → Type 0
-IsRead p d plan = IsReadAt p d.version d.expected d.stage plan
+abbrev pub IsRead : Problem → Due → GapPlan → Type 0
+IsRead p d plan = IsReadAt p d.dialect d.expected d.stage plan
+
+-- the family of the text, which the first line goes by and then says
+abbrev pub family_at : Dialect → Stage → Family
+family_at v (due.Version family) = family
+family_at v due.Path = family_of v
+family_at v due.Chance = family_of v
+family_at v due.Ceiling = family_of v
+family_at v due.Count = family_of v
+family_at v (due.Records left) = family_of v
+family_at v due.Ended = family_of v
+
+abbrev pub family_due : Due → Family
+family_due d = family_at d.dialect d.stage
 
 -- the empty prefix is legal
 pub empty_legal : (p : Problem) (expected : List (List ℕ)) → expected ≡ [] ∷ [] → All (IsLegal p) expected
@@ -84,27 +125,31 @@ empty_legal p expected e =
     subst (All (IsLegal p)) (sym e) (All-cons (IsLegal p) [] [] empty (All-nil (IsLegal p)))
 
 -- what is expected is legal
-read_legal : (p : Problem) (v : TextVersion) (expected : List (List ℕ)) (stage : Stage) (plan : Plan) → IsReadAt p v expected stage plan → All (IsLegal p) expected
-read_legal p v expected due.Version plan read = empty_legal p expected read.0
+read_legal : (p : Problem) (v : Dialect) (expected : List (List ℕ)) (stage : Stage) (plan : GapPlan) → IsReadAt p v expected stage plan → All (IsLegal p) expected
+read_legal p v expected (due.Version family) plan read = empty_legal p expected read.0
 read_legal p v expected due.Path plan read = empty_legal p expected read.0
 read_legal p v expected due.Chance plan read = empty_legal p expected read.1.0
-read_legal p v expected due.Count plan read = empty_legal p expected read.3.0
-read_legal p v expected (due.Records left) plan read = read.3.legal
-read_legal p v expected due.Ended plan read = read.3.legal
+read_legal p v expected due.Ceiling plan read = empty_legal p expected read.2.0
+read_legal p v expected due.Count plan read = empty_legal p expected read.1.0
+read_legal p v expected (due.Records left) plan read = read.1.legal
+read_legal p v expected due.Ended plan read = read.1.legal
 
-pub expected_legal : (p : Problem) (d : Due) (plan : Plan) → IsRead p d plan → All (IsLegal p) d.expected
-expected_legal p d plan read = read_legal p d.version d.expected d.stage plan read
+pub expected_legal : (p : Problem) (d : Due) (plan : GapPlan) → IsRead p d plan → All (IsLegal p) d.expected
+expected_legal p d plan read = read_legal p d.dialect d.expected d.stage plan read
 
 -- nothing is out of place where nothing was read
-placed_nothing : (p : Problem) (v : TextVersion) (expected : List (List ℕ)) → expected ≡ [] ∷ [] → IsPlaced p v expected []
-placed_nothing p One expected e = tt
-placed_nothing p Two expected e = λ rs placed. subst (λ (qs : List (List ℕ)). AreInPlace p qs rs) e placed
+placed_nothing : (p : Problem) (w : Prefixes) (expected : List (List ℕ)) → expected ≡ [] ∷ [] → IsPlaced p w expected []
+placed_nothing p Written expected e = tt
+placed_nothing p LeftOut expected e = λ rs placed. subst (λ (qs : List (List ℕ)). AreInPlace p qs rs) e placed
 
 -- a record that has its place
-placed_on : (p : Problem) (v : TextVersion) (expected : List (List ℕ)) (tree : List TreeNode) (r : TreeNode) → HasPlace v expected r.prefix → IsPlaced p v expected tree → IsPlaced p v (places_behind p v expected r.kind) (tree ++ r ∷ [])
-placed_on p One expected tree r has so_far = tt
-placed_on p Two [] tree r has so_far = absurd has
-placed_on p Two (q ∷ expected) tree r has so_far = λ rs placed. subst (AreInPlace p ([] ∷ [])) (sym (append_assoc tree (r ∷ []) rs)) (so_far (r ∷ rs) (has, placed))
+placed_on : (p : Problem) (w : Prefixes) (expected : List (List ℕ)) (nodes : List GapNode) (r : GapNode) → HasPlace w expected r.prefix → IsPlaced p w expected nodes → IsPlaced p w (places_behind p w expected r.kind) (nodes ++ r ∷ [])
+placed_on p Written expected nodes r has so_far = tt
+placed_on p LeftOut [] nodes r has so_far = absurd has
+placed_on p LeftOut (q ∷ expected) nodes r has so_far = λ rs placed.
+    let records : map shape_of (nodes ++ r ∷ []) ++ rs ≡ map shape_of nodes ++ (shape_of r ∷ rs) =
+    ap (λ (xs : List TreeNode). xs ++ rs) (map-append shape_of nodes (r ∷ [])) ∙ append_assoc (map shape_of nodes) (shape_of r ∷ []) rs in
+    subst (AreInPlace p ([] ∷ [])) (sym records) (so_far (shape_of r ∷ rs) (has, placed))
 
 -- what is expected behind a record is legal
 pub legal_behind : (p : Problem) (expected : List (List ℕ)) (kind : Kind) → All (IsLegal p) expected → All (IsLegal p) (expected_behind p expected kind)
@@ -112,127 +157,163 @@ legal_behind p [] kind legal = All-nil (IsLegal p)
 legal_behind p (q ∷ expected) kind legal =
     All-append (IsLegal p) (opened_by p q kind) expected (legal_opened p q kind (All-head (IsLegal p) q expected legal)) (All-tail (IsLegal p) q expected legal)
 
-legal_on : (p : Problem) (v : TextVersion) (expected : List (List ℕ)) (kind : Kind) → All (IsLegal p) expected → All (IsLegal p) (places_behind p v expected kind)
-legal_on p One expected kind legal = legal
-legal_on p Two expected kind legal = legal_behind p expected kind legal
+legal_on : (p : Problem) (w : Prefixes) (expected : List (List ℕ)) (kind : GapKind) → All (IsLegal p) expected → All (IsLegal p) (places_behind p w expected kind)
+legal_on p Written expected kind legal = legal
+legal_on p LeftOut expected kind legal = legal_behind p expected (shape_of_kind kind) legal
 
 -- a line more was read
-pub record IsReadOn (p : Problem) (d : Due) (plan : Plan) (fields : List (List ℕ)) (said : PlanLine) : Type 0 where
-  pub rows : rows_read p (next p d said).version (next p d said).stage (taken plan said) ≡ rows_read p d.version d.stage plan ++ fields ∷ []
+pub record IsReadOn (p : Problem) (d : Due) (plan : GapPlan) (fields : List (List ℕ)) (said : PlanLine) : Type 0 where
+  pub rows : rows_read p (next p d said).dialect (next p d said).stage (taken plan said) ≡ rows_read p d.dialect d.stage plan ++ fields ∷ []
   pub read : IsRead p (next p d said) (taken plan said)
+  pub family : family_due (next p d said) ≡ family_due d
 
-module _ (p : Problem) (h : IsProblem p) (v : TextVersion) (expected : List (List ℕ)) (plan : Plan) (fields : List (List ℕ)) (said : PlanLine) where
+-- behind the chance, by whether the text has a ceiling
+chance_rows : (p : Problem) (v : Dialect) (plan : GapPlan) (value weight : ℕ) → rows_read p v (behind_chance v) (taken plan (Chance value weight)) ≡ path_rows v p plan.standing.path ++ chance_row value weight ∷ []
+chance_rows p One plan value weight = refl
+chance_rows p Two plan value weight = refl
+chance_rows p Gap plan value weight = refl
+
+chance_read : (p : Problem) (v : Dialect) (expected : List (List ℕ)) (plan : GapPlan) (value weight : ℕ) → IsChanceOf p (record { path = plan.standing.path; value = value }) weight → IsUntouched expected plan → IsReadAt p v expected (behind_chance v) (taken plan (Chance value weight))
+chance_read p One expected plan value weight chance untouched = (record { chance = chance; ceiling_is = refl }, untouched)
+chance_read p Two expected plan value weight chance untouched = (record { chance = chance; ceiling_is = refl }, untouched)
+chance_read p Gap expected plan value weight chance untouched = (chance, refl, untouched)
+
+chance_family : (v : Dialect) → family_at v (behind_chance v) ≡ family_of v
+chance_family One = refl
+chance_family Two = refl
+chance_family Gap = refl
+
+module _ (p : Problem) (h : IsProblem p) (v : Dialect) (expected : List (List ℕ)) (plan : GapPlan) (fields : List (List ℕ)) (said : PlanLine) where
   abbrev at_stage : Stage → Due
-  at_stage stage = record { version = v; stage = stage; expected = expected }
+  at_stage stage = record { dialect = v; stage = stage; expected = expected }
 
-  version_on : IsRead p (at_stage due.Version) plan → IsVersionLine fields said → IsReadOn p (at_stage due.Version) plan fields said
-  version_on read told =
-      subst (IsReadOn p (at_stage due.Version) plan fields) (sym told.is) (record { rows = ap (λ (row : List (List ℕ)). row ∷ []) (sym told.row); read = read })
+  version_on : (family : Family) → IsRead p (at_stage (due.Version family)) plan → IsVersionLine family fields said → IsReadOn p (at_stage (due.Version family)) plan fields said
+  version_on family read told =
+      subst (IsReadOn p (at_stage (due.Version family)) plan fields) (sym told.is) (record { rows = ap (λ (row : List (List ℕ)). row ∷ []) (sym told.row); read = read; family = told.family_is })
 
   path_on : IsRead p (at_stage due.Path) plan → IsPathLine p fields said → IsReadOn p (at_stage due.Path) plan fields said
   path_on read told =
       subst (IsReadOn p (at_stage due.Path) plan fields) (sym told.is) (record {
         rows = ap (λ (row : List (List ℕ)). version_row v ∷ row ∷ []) (sym told.row);
         read = (record { positions = told.positions; some = told.some; short = told.short }, read);
+        family = refl;
       })
 
   chance_on : IsRead p (at_stage due.Chance) plan → IsChanceLine fields said → IsReadOn p (at_stage due.Chance) plan fields said
   chance_on read told =
       subst (IsReadOn p (at_stage due.Chance) plan fields) (sym told.is) (record {
-        rows = ap (λ (row : List (List ℕ)). path_rows v p plan.standing.path ++ row ∷ []) (sym told.row);
-        read = (read.0, told.narrow, told.narrow_weight, read.1);
+        rows = chance_rows p v plan told.value told.weight ∙ ap (λ (row : List (List ℕ)). path_rows v p plan.standing.path ++ row ∷ []) (sym told.row);
+        read = chance_read p v expected plan told.value told.weight (record { path = read.0; value = told.narrow; weight_small = told.narrow_weight }) read.1;
+        family = chance_family v;
       })
 
-  count_on : IsRead p (at_stage due.Count) plan → IsCountLine fields said → IsReadOn p (at_stage due.Count) plan fields said
+  count_on : IsRead p (at_stage due.Count) plan → IsCountLine (most_records (family_of v)) fields said → IsReadOn p (at_stage due.Count) plan fields said
   count_on read told =
-      let (path, value, weight, (empty, none)) = read in
+      let (head, (empty, none)) = read in
       let n = told.count in
-      let nothing_more : length {A = TreeNode} [] + n ≡ n = omega arith in
-      let chance = chance_row plan.standing.value plan.weight in
+      let nothing_more : length {A = GapNode} [] + n ≡ n = omega arith in
+      let above = ceiling_rows v plan.ceiling in
+      let rows : List GapNode → List (List (List ℕ)) = λ nodes. head_rows v p plan.standing plan.weight plan.ceiling (length nodes + n) ++ map (node_row v) nodes in
       let no_tree : IsTreeOf p v expected n [] = record {
         few = omega (arith, told.few);
-        printable = All-nil (IsPrintableRecord p);
-        narrow = All-nil (λ (r : TreeNode). IsNarrowKind r.kind);
-        lettered = All-nil (λ (r : TreeNode). IsLettered v r.kind);
+        printable = All-nil (λ (r : GapNode). IsPrintableRecord p (shape_of r));
+        narrow = All-nil (λ (r : GapNode). IsNarrowNode r.kind);
+        lettered = All-nil (λ (r : GapNode). IsLettered v r.kind);
         legal = empty_legal p expected empty;
-        placed = placed_nothing p v expected empty;
+        placed = placed_nothing p (prefixes_in v) expected empty;
       } in
       subst (IsReadOn p (at_stage due.Count) plan fields) (sym told.is) (record {
-        rows = ap (λ (tree : List TreeNode). path_rows v p plan.standing.path ++ (chance ∷ count_row (length tree + n) ∷ map (record_row v) tree)) none
-            ∙ ap (λ (k : ℕ). path_rows v p plan.standing.path ++ (chance ∷ count_row k ∷ [])) nothing_more
-            ∙ ap (λ (row : List (List ℕ)). path_rows v p plan.standing.path ++ (chance ∷ row ∷ [])) (sym told.row);
-        read = (path, value, weight, subst (IsTreeOf p v expected n) (sym none) no_tree);
+        rows = ap rows none
+            ∙ ap (λ (k : ℕ). head_rows v p plan.standing plan.weight plan.ceiling k ++ []) nothing_more
+            ∙ append-nil (head_rows v p plan.standing plan.weight plan.ceiling n)
+            ∙ ap (λ (row : List (List ℕ)). path_rows v p plan.standing.path ++ (chance_row plan.standing.value plan.weight ∷ (above ++ row ∷ []))) (sym told.row);
+        read = (head, subst (IsTreeOf p v expected n) (sym none) no_tree);
+        family = refl;
       })
 
   record_on : (left : ℕ) → IsRead p (at_stage (due.Records left)) plan → IsRecordLine p v left expected fields said → IsReadOn p (at_stage (due.Records left)) plan fields said
   record_on left read told =
       let r = told.node in
-      let tree = read.3 in
-      let chance = chance_row plan.standing.value plan.weight in
-      let long : length (plan.tree ++ r ∷ []) + (left - 1) ≡ length plan.tree + left = omega (arith, length-append plan.tree (r ∷ []), told.more) in
+      let tree = read.1 in
+      let head : ℕ → List (List (List ℕ)) = λ n. head_rows v p plan.standing plan.weight plan.ceiling n in
+      let long : length (plan.nodes ++ r ∷ []) + (left - 1) ≡ length plan.nodes + left = omega (arith, length-append plan.nodes (r ∷ []), told.more) in
       subst (IsReadOn p (at_stage (due.Records left)) plan fields) (sym told.is) (record {
-        rows = ap (λ (n : ℕ). path_rows v p plan.standing.path ++ (chance ∷ count_row n ∷ map (record_row v) (plan.tree ++ r ∷ []))) long
-            ∙ ap (λ (rows : List (List (List ℕ))). path_rows v p plan.standing.path ++ (chance ∷ count_row (length plan.tree + left) ∷ rows)) (map-append (record_row v) plan.tree (r ∷ []))
-            ∙ ap (λ (row : List (List ℕ)). path_rows v p plan.standing.path ++ (chance ∷ count_row (length plan.tree + left) ∷ (map (record_row v) plan.tree ++ row ∷ []))) (sym told.row);
+        rows = ap (λ (n : ℕ). head n ++ map (node_row v) (plan.nodes ++ r ∷ [])) long
+            ∙ ap (λ (rows : List (List (List ℕ))). head (length plan.nodes + left) ++ rows) (map-append (node_row v) plan.nodes (r ∷ []))
+            ∙ ap (λ (row : List (List ℕ)). head (length plan.nodes + left) ++ (map (node_row v) plan.nodes ++ row ∷ [])) (sym told.row)
+            ∙ sym (append_assoc (head (length plan.nodes + left)) (map (node_row v) plan.nodes) (fields ∷ []));
         read = (
           read.0,
-          read.1,
-          read.2,
           record {
             few = omega (arith, long, tree.few);
-            printable = All-push (IsPrintableRecord p) plan.tree r tree.printable (record_printable p h v left expected fields said tree.legal told);
-            narrow = All-push (λ (x : TreeNode). IsNarrowKind x.kind) plan.tree r tree.narrow told.narrow;
-            lettered = All-push (λ (x : TreeNode). IsLettered v x.kind) plan.tree r tree.lettered told.lettered;
-            legal = legal_on p v expected r.kind tree.legal;
-            placed = placed_on p v expected plan.tree r told.place tree.placed;
+            printable = All-push (λ (x : GapNode). IsPrintableRecord p (shape_of x)) plan.nodes r tree.printable (record_printable p h v left expected fields said tree.legal told);
+            narrow = All-push (λ (x : GapNode). IsNarrowNode x.kind) plan.nodes r tree.narrow told.narrow;
+            lettered = All-push (λ (x : GapNode). IsLettered v x.kind) plan.nodes r tree.lettered told.lettered;
+            legal = legal_on p (prefixes_in v) expected r.kind tree.legal;
+            placed = placed_on p (prefixes_in v) expected plan.nodes r told.place tree.placed;
           },
         );
+        family = refl;
       })
 
-  end_on : (left : ℕ) → IsRead p (at_stage (due.Records left)) plan → IsEndLine v left expected fields said → IsReadOn p (at_stage (due.Records left)) plan fields said
+  end_on : (left : ℕ) → IsRead p (at_stage (due.Records left)) plan → IsEndLine (prefixes_in v) left expected fields said → IsReadOn p (at_stage (due.Records left)) plan fields said
   end_on left read told =
-      let tree = read.3 in
-      let chance = chance_row plan.standing.value plan.weight in
-      let long : length plan.tree ≡ length plan.tree + left = omega (arith, told.none) in
+      let tree = read.1 in
+      let head : ℕ → List (List (List ℕ)) = λ n. head_rows v p plan.standing plan.weight plan.ceiling n in
+      let long : length plan.nodes ≡ length plan.nodes + left = omega (arith, told.none) in
       subst (IsReadOn p (at_stage (due.Records left)) plan fields) (sym told.is) (record {
-        rows = ap (λ (n : ℕ). path_rows v p plan.standing.path ++ (chance ∷ count_row n ∷ (map (record_row v) plan.tree ++ (codes "end" ∷ []) ∷ []))) long
-            ∙ ap (λ (row : List (List ℕ)). path_rows v p plan.standing.path ++ (chance ∷ count_row (length plan.tree + left) ∷ (map (record_row v) plan.tree ++ row ∷ []))) (sym told.row);
+        rows = ap (λ (n : ℕ). head n ++ (map (node_row v) plan.nodes ++ (codes "end" ∷ []) ∷ [])) long
+            ∙ ap (λ (row : List (List ℕ)). head (length plan.nodes + left) ++ (map (node_row v) plan.nodes ++ row ∷ [])) (sym told.row)
+            ∙ sym (append_assoc (head (length plan.nodes + left)) (map (node_row v) plan.nodes) (fields ∷ []));
         read = (
           read.0,
-          read.1,
-          read.2,
           record { few = omega (arith, told.none, tree.few); printable = tree.printable; narrow = tree.narrow; lettered = tree.lettered; legal = tree.legal; placed = tree.placed },
           told.closed,
         );
+        family = refl;
       })
 
-  stage_on : (stage : Stage) → IsRead p (at_stage stage) plan → stage_line p v stage expected fields ≡ Ok said → IsReadOn p (at_stage stage) plan fields said
-  stage_on due.Version read e = version_on read (version_told fields said e)
-  stage_on due.Path read e = path_on read (path_told p h fields said e)
-  stage_on due.Chance read e = chance_on read (chance_told fields said e)
-  stage_on due.Count read e = count_on read (count_told fields said e)
-  stage_on (due.Records left) read e = elim (record_told p h v left expected fields said e) [
-    | inl told ↦ record_on left read told
-    | inr told ↦ end_on left read told
-  ]
-  stage_on due.Ended read e = absurd (err_ok BadLine said e)
+-- the line `ceiling N`
+ceiling_on : (p : Problem) (v : Dialect) (expected : List (List ℕ)) (plan : GapPlan) (fields : List (List ℕ)) (said : PlanLine) → IsReadAt p v expected due.Ceiling plan → IsCeilingLine fields said → IsReadOn p (record { dialect = v; stage = due.Ceiling; expected = expected }) plan fields said
+ceiling_on p One expected plan fields said read told = absurd (let other = read.1 in let bad : ⊥ = cc in bad)
+ceiling_on p Two expected plan fields said read told = absurd (let other = read.1 in let bad : ⊥ = cc in bad)
+ceiling_on p Gap expected plan fields said read told =
+    subst (IsReadOn p (record { dialect = Gap; stage = due.Ceiling; expected = expected }) plan fields) (sym told.is) (record {
+      rows = ap (λ (row : List (List ℕ)). path_rows Gap p plan.standing.path ++ (chance_row plan.standing.value plan.weight ∷ row ∷ [])) (sym told.row);
+      read = (record { chance = read.0; ceiling_is = told.narrow }, read.2);
+      family = refl;
+    })
 
-pub line_on : (p : Problem) → IsProblem p → (d : Due) (plan : Plan) (fields : List (List ℕ)) (said : PlanLine) → IsRead p d plan → line_at p d fields ≡ Ok said → IsReadOn p d plan fields said
+stage_on : (p : Problem) → IsProblem p → (v : Dialect) (expected : List (List ℕ)) (plan : GapPlan) (fields : List (List ℕ)) (said : PlanLine) (stage : Stage) → IsReadAt p v expected stage plan → stage_line p v stage expected fields ≡ Ok said → IsReadOn p (record { dialect = v; stage = stage; expected = expected }) plan fields said
+stage_on p h v expected plan fields said (due.Version family) read e = version_on p h v expected plan fields said family read (version_told family fields said e)
+stage_on p h v expected plan fields said due.Path read e = path_on p h v expected plan fields said read (path_told p h fields said e)
+stage_on p h v expected plan fields said due.Chance read e = chance_on p h v expected plan fields said read (chance_told fields said e)
+stage_on p h v expected plan fields said due.Ceiling read e = ceiling_on p v expected plan fields said read (ceiling_told fields said e)
+stage_on p h v expected plan fields said due.Count read e = count_on p h v expected plan fields said read (count_told (most_records (family_of v)) fields said e)
+stage_on p h v expected plan fields said (due.Records left) read e = elim (record_told p h v left expected fields said e) [
+  | inl told ↦ record_on p h v expected plan fields said left read told
+  | inr told ↦ end_on p h v expected plan fields said left read told
+]
+stage_on p h v expected plan fields said due.Ended read e = absurd (err_ok BadLine said e)
+
+pub line_on : (p : Problem) → IsProblem p → (d : Due) (plan : GapPlan) (fields : List (List ℕ)) (said : PlanLine) → IsRead p d plan → line_at p d fields ≡ Ok said → IsReadOn p d plan fields said
 unfolding line_at
 line_on p h d plan fields said read e =
-    cond_both _ _ _ (λ (x : Result PlanLine PlanKind). x ≡ Ok said → IsReadOn p d plan fields said) (λ _ e'. absurd (err_ok BadLine said e')) (λ _ e'. stage_on p h d.version d.expected plan fields said d.stage read e') e
+    cond_both _ _ _ (λ (x : Result PlanLine PlanKind). x ≡ Ok said → IsReadOn p d plan fields said) (λ _ e'. absurd (err_ok BadLine said e')) (λ _ e'. stage_on p h d.dialect d.expected plan fields said d.stage read e') e
 
 -- the pieces that are left, behind the rows that were read, are the text
-record IsWhole (p : Problem) (d : Due) (plan whole : Plan) (pieces : List (List ℕ)) : Type 0 where
-  version : TextVersion
+record IsWhole (p : Problem) (d : Due) (plan whole : GapPlan) (pieces : List (List ℕ)) : Type 0 where
+  version : Dialect
+  family : family_of version ≡ family_due d
   expected : List (List ℕ)
-  text : text_of (rows_read p d.version d.stage plan) ++ join_with_byte 10 pieces ≡ text_of (plan_rows version p whole)
+  text : text_of (rows_read p d.dialect d.stage plan) ++ join_with_byte 10 pieces ≡ text_of (plan_rows version p whole)
   read : IsReadAt p version expected due.Ended whole
 
 pub ended_stage : (stage : Stage) → is_ended stage ≡ true → stage ≡ due.Ended
-ended_stage due.Version e = absurd (let bad : ⊥ = cc in bad)
+ended_stage (due.Version family) e = absurd (let bad : ⊥ = cc in bad)
 ended_stage due.Path e = absurd (let bad : ⊥ = cc in bad)
 ended_stage due.Chance e = absurd (let bad : ⊥ = cc in bad)
+ended_stage due.Ceiling e = absurd (let bad : ⊥ = cc in bad)
 ended_stage due.Count e = absurd (let bad : ⊥ = cc in bad)
 ended_stage (due.Records left) e = absurd (let bad : ⊥ = cc in bad)
 ended_stage due.Ended e = refl
@@ -241,39 +322,40 @@ no_bytes : {X : Type 0} (xs : List X) → (length xs == 0) ≡ true → xs ≡ [
 no_bytes [] e = refl
 no_bytes (x ∷ xs) e = absurd (let none = eqb-true (length (x ∷ xs)) 0 e in omega (arith, none))
 
-whole_read : (p : Problem) (d : Due) (plan whole : Plan) (line : List ℕ) (rest : List (List ℕ)) → d.stage ≡ due.Ended → IsRead p d plan → line ≡ [] → rest ≡ [] → plan ≡ whole → IsWhole p d plan whole (line ∷ rest)
+whole_read : (p : Problem) (d : Due) (plan whole : GapPlan) (line : List ℕ) (rest : List (List ℕ)) → d.stage ≡ due.Ended → IsRead p d plan → line ≡ [] → rest ≡ [] → plan ≡ whole → IsWhole p d plan whole (line ∷ rest)
 whole_read p d plan whole line rest ended read none nothing same =
-    let end : IsReadAt p d.version d.expected due.Ended plan = subst (λ (s : Stage). IsReadAt p d.version d.expected s plan) ended read in
-    let here : IsWhole p (with_stage due.Ended d) plan plan ([] ∷ []) = record { version = d.version; expected = d.expected; text = append-nil (text_of (plan_rows d.version p plan)); read = end } in
+    let end : IsReadAt p d.dialect d.expected due.Ended plan = subst (λ (s : Stage). IsReadAt p d.dialect d.expected s plan) ended read in
+    let here : IsWhole p (with_stage due.Ended d) plan plan ([] ∷ []) = record { version = d.dialect; family = refl; expected = d.expected; text = append-nil (text_of (plan_rows d.dialect p plan)); read = end } in
     let there : IsWhole p d plan plan ([] ∷ []) = subst (λ (s : Stage). IsWhole p (with_stage s d) plan plan ([] ∷ [])) (sym ended) here in
-    rw (none, nothing) (subst (λ (w : Plan). IsWhole p d plan w ([] ∷ [])) same there)
+    rw (none, nothing) (subst (λ (w : GapPlan). IsWhole p d plan w ([] ∷ [])) same there)
 
 -- a line and what follows its line feed
 pub feed_join : (line : List ℕ) (rest : List (List ℕ)) → (length rest == 0) ≡ false → join_with_byte 10 (line ∷ rest) ≡ line ++ 10 ∷ join_with_byte 10 rest
 feed_join line [] e = absurd (let bad : ⊥ = cc in bad)
 feed_join line (piece ∷ pieces) e = refl
 
-line_added : (p : Problem) (d : Due) (plan whole : Plan) (line : List ℕ) (rest : List (List ℕ)) (said : PlanLine) → (length rest == 0) ≡ false → IsReadOn p d plan (exact_fields line) said → IsWhole p (next p d said) (taken plan said) whole rest → IsWhole p d plan whole (line ∷ rest)
+line_added : (p : Problem) (d : Due) (plan whole : GapPlan) (line : List ℕ) (rest : List (List ℕ)) (said : PlanLine) → (length rest == 0) ≡ false → IsReadOn p d plan (exact_fields line) said → IsWhole p (next p d said) (taken plan said) whole rest → IsWhole p d plan whole (line ∷ rest)
 line_added p d plan whole line rest said some on more =
-    let rows = rows_read p d.version d.stage plan in
-    let joined : text_of (rows_read p (next p d said).version (next p d said).stage (taken plan said)) ≡ text_of rows ++ (line ++ 10 ∷ []) =
+    let rows = rows_read p d.dialect d.stage plan in
+    let joined : text_of (rows_read p (next p d said).dialect (next p d said).stage (taken plan said)) ≡ text_of rows ++ (line ++ 10 ∷ []) =
     ap text_of on.rows ∙ text_of-append rows (exact_fields line ∷ []) ∙ ap (λ (x : List ℕ). text_of rows ++ (x ++ 10 ∷ [])) (split_joined 32 line) in
     record {
       version = more.version;
+      family = more.family ∙ on.family;
       expected = more.expected;
       text = ap (λ (x : List ℕ). text_of rows ++ x) (feed_join line rest some) ∙ sym (simp append_assoc) ∙ ap (λ (x : List ℕ). x ++ join_with_byte 10 rest) (sym joined) ∙ more.text;
       read = more.read;
     }
 
-went_on : (number : ℕ) (r : Result PlanLine PlanKind) (more : PlanLine → Result Plan PlanFault) (whole : Plan) → go_on number r more ≡ Ok whole → (said : PlanLine) × (r ≡ Ok said) × (more said ≡ Ok whole)
+went_on : (number : ℕ) (r : Result PlanLine PlanKind) (more : PlanLine → Result GapPlan PlanFault) (whole : GapPlan) → go_on number r more ≡ Ok whole → (said : PlanLine) × (r ≡ Ok said) × (more said ≡ Ok whole)
 went_on number (Err kind) more whole e = absurd (err_ok (at_line_number number kind) whole e)
 went_on number (Ok said) more whole e = (said, refl, e)
 
-pieces_told : (p : Problem) → IsProblem p → (pieces : List (List ℕ)) (number : ℕ) (d : Due) (plan whole : Plan) → IsRead p d plan → pieces_at p number d plan pieces ≡ Ok whole → IsWhole p d plan whole pieces
+pieces_told : (p : Problem) → IsProblem p → (pieces : List (List ℕ)) (number : ℕ) (d : Due) (plan whole : GapPlan) → IsRead p d plan → pieces_at p number d plan pieces ≡ Ok whole → IsWhole p d plan whole pieces
 unfolding pieces_at
 pieces_told p h [] number d plan whole read e = absurd (err_ok (at_line_number number EarlyEnd) whole e)
 pieces_told p h (line ∷ rest) number d plan whole read e =
-    let G : Result Plan PlanFault → Type 0 = λ x. x ≡ Ok whole → IsWhole p d plan whole (line ∷ rest) in
+    let G : Result GapPlan PlanFault → Type 0 = λ x. x ≡ Ok whole → IsWhole p d plan whole (line ∷ rest) in
     cond_both (is_ended d.stage) _ _ G
     (λ ended. cond_both (length line == 0 && length rest == 0) (Ok plan) (Err (at_line_number number Rest)) G
     (λ both e'.
@@ -286,36 +368,121 @@ pieces_told p h (line ∷ rest) number d plan whole read e =
     let here = line_on p h d plan (exact_fields line) on.0 read on.1 in
     line_added p d plan whole line rest on.0 some here (pieces_told p h rest (number + 1) (next p d on.0) (taken plan on.0) whole here.read on.2))) e
 
-printable_whole : (p : Problem) (v : TextVersion) (expected : List (List ℕ)) (plan : Plan) → IsReadAt p v expected due.Ended plan → IsPrintable p plan × IsNarrow plan
-printable_whole p v expected plan read =
-    let (path, value, weight, tree, closed) = read in (
+-- what was read as a text of plans is the gap plan of a plan
+kind_back : (v : Dialect) (kind : GapKind) → family_of v ≡ Plans → IsLettered v kind → Closed (shape_of_kind kind) ≡ kind
+kind_back One (Closed kind) e known = refl
+kind_back One (Waiting n) e known = absurd known
+kind_back Two (Closed kind) e known = refl
+kind_back Two (Waiting n) e known = absurd known
+kind_back Gap kind e known = absurd (let bad : ⊥ = cc in bad)
+
+nodes_back : (v : Dialect) (nodes : List GapNode) → family_of v ≡ Plans → All (λ r. IsLettered v r.kind) nodes → map closed_node (map shape_of nodes) ≡ nodes
+nodes_back v [] e known = refl
+nodes_back v (r ∷ nodes) e known =
+    let L : GapNode → Type 0 = λ x. IsLettered v x.kind in
+    let here : closed_node (shape_of r) ≡ r = ap (λ (k : GapKind). record { prefix = r.prefix; kind = k }) (kind_back v r.kind e (All-head L r nodes known)) in
+    ap (λ (x : GapNode). x ∷ map closed_node (map shape_of nodes)) here ∙ ap (λ (xs : List GapNode). r ∷ xs) (nodes_back v nodes e (All-tail L r nodes known))
+
+ceiling_back : (v : Dialect) (value ceiling : ℕ) → family_of v ≡ Plans → IsCeiling v value ceiling → value ≡ ceiling
+ceiling_back One value ceiling e is = sym is
+ceiling_back Two value ceiling e is = sym is
+ceiling_back Gap value ceiling e is = absurd (let bad : ⊥ = cc in bad)
+
+plan_back : (p : Problem) (v : Dialect) (expected : List (List ℕ)) (plan : GapPlan) → family_of v ≡ Plans → IsReadAt p v expected due.Ended plan → gap_of (plan_of plan) ≡ plan
+plan_back p v expected plan e read =
+    ap (λ (c : ℕ). record { standing = plan.standing; weight = plan.weight; ceiling = c; nodes = map closed_node (map shape_of plan.nodes) }) (ceiling_back v plan.standing.value plan.ceiling e read.0.ceiling_is)
+    ∙ ap (λ (nodes : List GapNode). record { standing = plan.standing; weight = plan.weight; ceiling = plan.ceiling; nodes = nodes }) (nodes_back v plan.nodes e read.1.lettered)
+
+-- the number of a record that stands for a node is narrow
+narrow_shape : (kind : GapKind) → IsNarrowNode kind → IsNarrowKind (shape_of_kind kind)
+narrow_shape (Closed kind) narrow = narrow
+narrow_shape (Waiting n) narrow = omega arith
+
+plain_shape : (kind : GapKind) → IsLettered One kind → IsNoEdge (shape_of_kind kind)
+plain_shape (Closed kind) known = known
+plain_shape (Waiting n) known = absurd known
+
+few_plan : (v : Dialect) (n : ℕ) → family_of v ≡ Plans → n + 0 ≤ most_records (family_of v) → n ≤ most_records Plans
+few_plan v n e few = subst (λ (family : Family). n ≤ most_records family) e (omega (arith, few))
+
+printable_whole : (p : Problem) (v : Dialect) (expected : List (List ℕ)) (plan : GapPlan) → family_of v ≡ Plans → IsReadAt p v expected due.Ended plan → IsPrintable p (plan_of plan) × IsNarrow (plan_of plan)
+printable_whole p v expected plan e read =
+    let chance = read.0.chance in
+    let tree = read.1 in
+    let few = few_plan v (length plan.nodes) e tree.few in (
       record {
-        some = path.some;
-        short = path.short;
-        positions = path.positions;
-        few = (let few = tree.few in omega (arith, few));
-        records = tree.printable;
+        some = chance.path.some;
+        short = chance.path.short;
+        positions = chance.path.positions;
+        few = omega (arith, few, length-map plan.nodes shape_of);
+        records = All-map (IsPrintableRecord p) shape_of plan.nodes tree.printable;
       },
-      record { value = value; weight = weight; records = tree.narrow },
+      record {
+        value = chance.value;
+        weight = chance.weight_small;
+        records = All-map (λ (r : TreeNode). IsNarrowKind r.kind) shape_of plan.nodes (All-weaker (λ (r : GapNode). IsNarrowNode r.kind) (λ (r : GapNode). IsNarrowKind (shape_of r).kind) (λ r narrow. narrow_shape r.kind narrow) plan.nodes tree.narrow);
+      },
     )
 
--- the text of the version that was read
-text_told : (p : Problem) (v : TextVersion) (expected : List (List ℕ)) (plan : Plan) (text : List ℕ) → IsReadAt p v expected due.Ended plan → text ≡ text_in v p plan → IsTextOfPlan p plan text
-text_told p One expected plan text read spelled =
-    let parts = printable_whole p One expected plan read in
-    inl (record { printable = parts.0; narrow = parts.1; no_edge = read.3.lettered; spelled = spelled })
-text_told p Two expected plan text read spelled =
-    let parts = printable_whole p Two expected plan read in
-    let none : expected ≡ [] = read.4 refl in
+-- the records have the prefixes that were expected, where none is expected any more
+whole_in_place : (p : Problem) (expected : List (List ℕ)) (nodes : List GapNode) → IsPlaced p LeftOut expected nodes → expected ≡ [] → AreInPlace p ([] ∷ []) (map shape_of nodes)
+whole_in_place p expected nodes placed none =
     let nothing_left : AreInPlace p expected [] = subst (λ (qs : List (List ℕ)). AreInPlace p qs []) (sym none) tt in
+    subst (AreInPlace p ([] ∷ [])) (append-nil (map shape_of nodes)) (placed [] nothing_left)
+
+-- the text of the version that was read
+text_told : (p : Problem) (v : Dialect) (expected : List (List ℕ)) (plan : GapPlan) (text : List ℕ) → family_of v ≡ Plans → IsReadAt p v expected due.Ended plan → text ≡ text_in v p plan → IsTextOfPlan p (plan_of plan) text
+text_told p One expected plan text e read spelled =
+    let parts = printable_whole p One expected plan e read in
+    inl (record {
+      printable = parts.0;
+      narrow = parts.1;
+      no_edge = All-map (λ (r : TreeNode). IsNoEdge r.kind) shape_of plan.nodes (All-weaker (λ (r : GapNode). IsLettered One r.kind) (λ (r : GapNode). IsNoEdge (shape_of r).kind) (λ r known. plain_shape r.kind known) plan.nodes read.1.lettered);
+      spelled = spelled ∙ ap (text_in One p) (sym (plan_back p One expected plan e read));
+    })
+text_told p Two expected plan text e read spelled =
+    let parts = printable_whole p Two expected plan e read in
     inr (record {
       printable = parts.0;
       narrow = parts.1;
-      in_place = subst (AreInPlace p ([] ∷ [])) (append-nil plan.tree) (read.3.placed [] nothing_left);
-      spelled = spelled;
+      in_place = whole_in_place p expected plan.nodes read.1.placed (read.2 refl);
+      spelled = spelled ∙ ap (text_in Two p) (sym (plan_back p Two expected plan e read));
     })
+text_told p Gap expected plan text e read spelled = absurd (let bad : ⊥ = cc in bad)
+
+-- a plan that was read is that of a gap plan
+pub plan_told : (r : Result GapPlan PlanFault) (plan : Plan) → as_plan r ≡ Ok plan → (whole : GapPlan) × (r ≡ Ok whole) × (plan_of whole ≡ plan)
+plan_told (Ok whole) plan e = (whole, refl, same_ok (plan_of whole) plan e)
+plan_told (Err fault) plan e = absurd (err_ok fault plan e)
 
 pub one_text_a_plan : OneTextAPlan
 one_text_a_plan p plan text h e =
-    let whole = pieces_told p h (pieces_of text) 1 at_start blank_plan plan (refl, refl) e in
-    text_told p whole.version whole.expected plan text whole.read (sym (split_joined 10 text) ∙ whole.text)
+    let read = plan_told (text_at Plans p text) plan e in
+    let whole = pieces_told p h (pieces_of text) 1 (at_start Plans) blank_plan read.0 (refl, refl) read.1 in
+    subst (λ (x : Plan). IsTextOfPlan p x text) read.2 (text_told p whole.version whole.expected read.0 text whole.family whole.read (sym (split_joined 10 text) ∙ whole.text))
+
+-- the text of the gap plan that was read
+gap_told : (p : Problem) (v : Dialect) (expected : List (List ℕ)) (plan : GapPlan) (text : List ℕ) → family_of v ≡ Gaps → IsReadAt p v expected due.Ended plan → text ≡ text_in v p plan → IsGapText p plan text
+gap_told p One expected plan text e read spelled = absurd (let bad : ⊥ = cc in bad)
+gap_told p Two expected plan text e read spelled = absurd (let bad : ⊥ = cc in bad)
+gap_told p Gap expected plan text e read spelled =
+    let chance = read.0.chance in
+    let tree = read.1 in
+    let few = tree.few in
+    record {
+      printable = record {
+        some = chance.path.some;
+        short = chance.path.short;
+        positions = chance.path.positions;
+        few = omega (arith, few);
+        kinds = All-weaker (λ (r : GapNode). IsPrintableRecord p (shape_of r)) (λ (r : GapNode). IsPrintableKind p (shape_of r).kind) (λ r k. k.kind) plan.nodes tree.printable;
+      };
+      narrow = record { value = chance.value; weight = chance.weight_small; ceiling = read.0.ceiling_is; nodes = tree.narrow };
+      in_place = whole_in_place p expected plan.nodes tree.placed (read.2 refl);
+      spelled = spelled;
+    }
+
+pub one_text_a_gap : OneTextAGap
+one_text_a_gap p plan text h e =
+    let whole = pieces_told p h (pieces_of text) 1 (at_start Gaps) blank_plan plan (refl, refl) e in
+    gap_told p whole.version whole.expected plan text whole.family whole.read (sym (split_joined 10 text) ∙ whole.text)

@@ -10,44 +10,61 @@ use Rattle.search_model.proofs.PlainSteps.{positions_follow}
 use Rattle.search_model.specs.Problem.{Problem, IsProblem, position_name}
 use Rattle.bound_tree.specs.declared.node.Kind.{Kind}
 use Rattle.bound_tree.specs.declared.node.Kind.TheVariants.{Branch, Whole, Mean, Tangent, Edge}
-use Rattle.bound_tree.specs.declared.node.TreeNode.{TreeNode}
+use Rattle.bound_tree.specs.declared.gap.GapKind.{GapKind}
+use Rattle.bound_tree.specs.declared.gap.GapKind.TheVariants.{Closed, Waiting}
+use Rattle.bound_tree.specs.declared.gap.GapNode.{GapNode}
+use Rattle.bound_tree.specs.Gaps.{shape_of_kind, shape_of}
 use Rattle.tree_format.specs.declared.kind.PlanKind.{PlanKind}
 use Rattle.tree_format.specs.declared.kind.PlanKind.TheVariants.{BadLine, BadNumber, UnknownName, TooManyNodes, WrongCount, NoPlace, StillOpen}
-use Rattle.tree_format.specs.declared.plan_line.TextVersion.{TextVersion}
-use Rattle.tree_format.specs.declared.plan_line.TextVersion.TheVariants.{One, Two}
+use Rattle.tree_format.specs.declared.plan_line.Dialect.{Dialect}
+use Rattle.tree_format.specs.declared.plan_line.Dialect.TheVariants.{One, Two, Gap}
+use Rattle.tree_format.specs.declared.plan_line.Family.{Family}
+use Rattle.tree_format.specs.declared.plan_line.Family.TheVariants.{Plans, Gaps}
+use Rattle.tree_format.specs.declared.plan_line.Prefixes.{Prefixes}
+use Rattle.tree_format.specs.declared.plan_line.Prefixes.TheVariants.{Written, LeftOut}
+use Rattle.tree_format.specs.Dialects.{family_of, version_row, has_edges, has_open, prefixes_in}
 use Rattle.tree_format.specs.declared.plan_line.PlanLine.{PlanLine}
-use Rattle.tree_format.specs.declared.plan_line.PlanLine.TheVariants.{Version, Path, Chance, Count, Node, End}
+use Rattle.tree_format.specs.declared.plan_line.PlanLine.TheVariants.{Version, Path, Chance, Ceiling, Count, Node, End}
 use Rattle.tree_format.specs.declared.record_lines.Bounded.{Bounded}
-use Rattle.tree_format.specs.PlanText.{numbers, kind_fields, record_row, version_word, version_row, chance_row, count_row, ArePositions, IsPrintableKind, IsPrintableRecord, IsNarrowKind, IsNoEdge, IsLettered}
-use Rattle.tree_format.specs.Reading.{all_of, amount_in, place_in, position_named, version_line, path_said, path_line, chance_said, chance_line, count_said, count_line, most_positions, has_edges, branch_of, branch_line, bounded_of, bounded_line, node_of, tangent_of, tangent_line, node_line, placed, node_said, is_end, ending, end_said, record_line}
+use Rattle.tree_format.specs.PlanText.{numbers, node_fields, written, chance_row, ceiling_row, count_row, ArePositions, IsPrintableKind, IsPrintableRecord, IsNarrowNode, IsNoEdge}
+use Rattle.tree_format.specs.Reading.{all_of, amount_in, place_in, position_named, version_line, path_said, path_line, chance_said, chance_line, ceiling_said, ceiling_line, count_said, count_line, most_positions, branch_of, branch_line, bounded_of, bounded_line, node_of, tangent_of, tangent_line, node_line, placed, node_said, is_end, ending, end_said, record_line}
 use Rattle.text_rows.specs.Fields.{is_word}
 use Rattle.tree_format.proofs.Told.{word_told, amount_told, places_told, names_told}
 use Rattle.text_rows.proofs.Results.{err_ok, same_ok, let_through}
-use Rattle.bound_tree.specs.declared.tree.TheConstants.{MOST_NODES}
 
--- `plan 1` or `plan 2`
-pub record IsVersionLine (fields : List (List ℕ)) (said : PlanLine) : Type 0 where
-  pub version : TextVersion
-  pub row : fields ≡ version_row version
-  pub is : said ≡ Version version
+-- the first line of a text of the family
+pub record IsVersionLine (family : Family) (fields : List (List ℕ)) (said : PlanLine) : Type 0 where
+  pub dialect : Dialect
+  pub row : fields ≡ version_row dialect
+  pub is : said ≡ Version dialect
+  pub family_is : family_of dialect ≡ family
 
-version_made : (word number : List ℕ) (v : TextVersion) (said : PlanLine) → is_word word (codes "plan") ≡ true → is_word number (version_word v) ≡ true → ◌≡◌ {A = Result PlanLine PlanKind} (Ok (Version v)) (Ok said) → IsVersionLine (word ∷ number ∷ []) said
-version_made word number v said plan which e = record {
-  version = v;
-  row = rw (word_told word (codes "plan") plan, word_told number (version_word v) which) refl;
+version_made : (word number first second : List ℕ) (v : Dialect) (said : PlanLine) → version_row v ≡ first ∷ second ∷ [] → is_word word first ≡ true → is_word number second ≡ true → ◌≡◌ {A = Result PlanLine PlanKind} (Ok (Version v)) (Ok said) → IsVersionLine (family_of v) (word ∷ number ∷ []) said
+version_made word number first second v said row plan which e = record {
+  dialect = v;
+  row = rw (word_told word first plan, word_told number second which) (sym row);
   is = sym (same_ok (Version v) said e);
+  family_is = refl;
 }
 
-pub version_told : (fields : List (List ℕ)) (said : PlanLine) → version_line fields ≡ Ok said → IsVersionLine fields said
-version_told [] said e = absurd (err_ok BadLine said e)
-version_told (word ∷ []) said e = absurd (err_ok BadLine said e)
-version_told (word ∷ number ∷ []) said e =
-    let G : Result PlanLine PlanKind → Type 0 = λ x. x ≡ Ok said → IsVersionLine (word ∷ number ∷ []) said in
+pub version_told : (family : Family) (fields : List (List ℕ)) (said : PlanLine) → version_line family fields ≡ Ok said → IsVersionLine family fields said
+version_told Plans [] said e = absurd (err_ok BadLine said e)
+version_told Plans (word ∷ []) said e = absurd (err_ok BadLine said e)
+version_told Plans (word ∷ number ∷ []) said e =
+    let G : Result PlanLine PlanKind → Type 0 = λ x. x ≡ Ok said → IsVersionLine Plans (word ∷ number ∷ []) said in
     cond_both (is_word word (codes "plan")) _ _ G
-    (λ plan. cond_both (is_word number (codes "1")) _ _ G (version_made word number One said plan)
-    (λ _. cond_both (is_word number (codes "2")) _ _ G (version_made word number Two said plan) (λ _ e'. absurd (err_ok BadLine said e'))))
+    (λ plan. cond_both (is_word number (codes "1")) _ _ G (version_made word number (codes "plan") (codes "1") One said refl plan)
+    (λ _. cond_both (is_word number (codes "2")) _ _ G (version_made word number (codes "plan") (codes "2") Two said refl plan) (λ _ e'. absurd (err_ok BadLine said e'))))
     (λ _ e'. absurd (err_ok BadLine said e')) e
-version_told (word ∷ number ∷ more ∷ rest) said e = absurd (err_ok BadLine said e)
+version_told Plans (word ∷ number ∷ more ∷ rest) said e = absurd (err_ok BadLine said e)
+version_told Gaps [] said e = absurd (err_ok BadLine said e)
+version_told Gaps (word ∷ []) said e = absurd (err_ok BadLine said e)
+version_told Gaps (word ∷ number ∷ []) said e =
+    let G : Result PlanLine PlanKind → Type 0 = λ x. x ≡ Ok said → IsVersionLine Gaps (word ∷ number ∷ []) said in
+    cond_both (is_word word (codes "gap")) _ _ G
+    (λ gap. cond_both (is_word number (codes "1")) _ _ G (version_made word number (codes "gap") (codes "1") Gap said refl gap) (λ _ e'. absurd (err_ok BadLine said e')))
+    (λ _ e'. absurd (err_ok BadLine said e')) e
+version_told Gaps (word ∷ number ∷ more ∷ rest) said e = absurd (err_ok BadLine said e)
 
 -- `path NAME ..`
 pub record IsPathLine (p : Problem) (fields : List (List ℕ)) (said : PlanLine) : Type 0 where
@@ -113,64 +130,100 @@ chance_told (word ∷ value ∷ weight ∷ []) said e =
     chance_of word value weight (amount_in value) (amount_in weight) said (word_told word (codes "chance") through.0) refl refl through.1
 chance_told (word ∷ value ∷ weight ∷ more ∷ rest) said e = absurd (err_ok BadLine said e)
 
+-- `ceiling N`
+pub record IsCeilingLine (fields : List (List ℕ)) (said : PlanLine) : Type 0 where
+  pub ceiling : ℕ
+  pub row : fields ≡ ceiling_row ceiling
+  pub is : said ≡ Ceiling ceiling
+  pub narrow : ceiling < 2 ^ 128
+
+ceiling_of : (word n : List ℕ) (o : Option ℕ) (said : PlanLine) → word ≡ codes "ceiling" → amount_in n ≡ o → ceiling_said o ≡ Ok said → IsCeilingLine (word ∷ n ∷ []) said
+ceiling_of word n None said is a e = absurd (err_ok BadNumber said e)
+ceiling_of word n (Some k) said is a e =
+    let told = amount_told n k a in
+    record {
+      ceiling = k;
+      row = rw (is, told.0) refl;
+      is = sym (same_ok (Ceiling k) said e);
+      narrow = told.1;
+    }
+
+pub ceiling_told : (fields : List (List ℕ)) (said : PlanLine) → ceiling_line fields ≡ Ok said → IsCeilingLine fields said
+ceiling_told [] said e = absurd (err_ok BadLine said e)
+ceiling_told (word ∷ []) said e = absurd (err_ok BadLine said e)
+ceiling_told (word ∷ n ∷ []) said e =
+    let through = let_through (is_word word (codes "ceiling")) BadLine (ceiling_said (amount_in n)) said e in
+    ceiling_of word n (amount_in n) said (word_told word (codes "ceiling") through.0) refl through.1
+ceiling_told (word ∷ n ∷ more ∷ rest) said e = absurd (err_ok BadLine said e)
+
 -- `nodes N`
-pub record IsCountLine (fields : List (List ℕ)) (said : PlanLine) : Type 0 where
+pub record IsCountLine (most : ℕ) (fields : List (List ℕ)) (said : PlanLine) : Type 0 where
   pub count : ℕ
   pub row : fields ≡ count_row count
   pub is : said ≡ Count count
-  pub few : count ≤ MOST_NODES
+  pub few : count ≤ most
 
-count_of : (word n : List ℕ) (o : Option ℕ) (said : PlanLine) → word ≡ codes "nodes" → amount_in n ≡ o → count_said o ≡ Ok said → IsCountLine (word ∷ n ∷ []) said
-count_of word n None said is a e = absurd (err_ok BadNumber said e)
-count_of word n (Some k) said is a e =
-    let through = let_through (nat_le k MOST_NODES) TooManyNodes (Ok (Count k)) said e in
+count_of : (most : ℕ) (word n : List ℕ) (o : Option ℕ) (said : PlanLine) → word ≡ codes "nodes" → amount_in n ≡ o → count_said most o ≡ Ok said → IsCountLine most (word ∷ n ∷ []) said
+count_of most word n None said is a e = absurd (err_ok BadNumber said e)
+count_of most word n (Some k) said is a e =
+    let through = let_through (nat_le k most) TooManyNodes (Ok (Count k)) said e in
     record {
       count = k;
       row = rw (is, (amount_told n k a).0) refl;
       is = sym (same_ok (Count k) said through.1);
-      few = leb-true k MOST_NODES through.0;
+      few = leb-true k most through.0;
     }
 
-pub count_told : (fields : List (List ℕ)) (said : PlanLine) → count_line fields ≡ Ok said → IsCountLine fields said
-count_told [] said e = absurd (err_ok BadLine said e)
-count_told (word ∷ []) said e = absurd (err_ok BadLine said e)
-count_told (word ∷ n ∷ []) said e =
-    let through = let_through (is_word word (codes "nodes")) BadLine (count_said (amount_in n)) said e in
-    count_of word n (amount_in n) said (word_told word (codes "nodes") through.0) refl through.1
-count_told (word ∷ n ∷ more ∷ rest) said e = absurd (err_ok BadLine said e)
+pub count_told : (most : ℕ) (fields : List (List ℕ)) (said : PlanLine) → count_line most fields ≡ Ok said → IsCountLine most fields said
+count_told most [] said e = absurd (err_ok BadLine said e)
+count_told most (word ∷ []) said e = absurd (err_ok BadLine said e)
+count_told most (word ∷ n ∷ []) said e =
+    let through = let_through (is_word word (codes "nodes")) BadLine (count_said most (amount_in n)) said e in
+    count_of most word n (amount_in n) said (word_told word (codes "nodes") through.0) refl through.1
+count_told most (word ∷ n ∷ more ∷ rest) said e = absurd (err_ok BadLine said e)
 
 -- Records.
-pub record IsNodeLine (p : Problem) (v : TextVersion) (fields : List (List ℕ)) (r : TreeNode) : Type 0 where
-  pub row : fields ≡ kind_fields r.prefix r.kind
+
+-- a kind for which a dialect has a letter
+abbrev pub IsLettered : Dialect → GapKind → Type 0
+IsLettered One (Closed kind) = IsNoEdge kind
+IsLettered One (Waiting n) = ⊥
+IsLettered Two (Closed kind) = Unit {0}
+IsLettered Two (Waiting n) = ⊥
+IsLettered Gap kind = Unit {0}
+
+pub record IsNodeLine (p : Problem) (v : Dialect) (w : Prefixes) (fields : List (List ℕ)) (r : GapNode) : Type 0 where
+  pub row : fields ≡ node_fields r.prefix r.kind
   pub positions : ArePositions p r.prefix
-  pub short : length r.prefix ≤ most_positions p v
-  pub kind : IsPrintableKind p r.kind
-  pub narrow : IsNarrowKind r.kind
+  pub short : length r.prefix ≤ most_positions p w
+  pub kind : IsPrintableKind p (shape_of_kind r.kind)
+  pub narrow : IsNarrowNode r.kind
   pub lettered : IsLettered v r.kind
 
--- a kind that both versions have
-lettered : (v : TextVersion) (kind : Kind) → IsNoEdge kind → IsLettered v kind
+-- a kind that all dialects have
+lettered : (v : Dialect) (kind : Kind) → IsNoEdge kind → IsLettered v (Closed kind)
 lettered One kind plain = plain
 lettered Two kind plain = tt
+lettered Gap kind plain = tt
 
 -- a record of this kind, whose prefix the last fields spell
-node_made : (p : Problem) → IsProblem p → (v : TextVersion) (fields : List (List ℕ)) (q : List ℕ) (kind : Kind) (r : TreeNode) → fields ≡ kind_fields q kind → ArePositions p q → length q ≤ most_positions p v → IsPrintableKind p kind → IsNarrowKind kind → IsLettered v kind → ◌≡◌ {A = Result TreeNode PlanKind} (Ok (record { prefix = q; kind = kind })) (Ok r) → IsNodeLine p v fields r
-node_made p h v fields q kind r row positions short k narrow letter e =
-    let made : TreeNode = record { prefix = q; kind = kind } in
-    subst (IsNodeLine p v fields) (same_ok made r e) (record { row = row; positions = positions; short = short; kind = k; narrow = narrow; lettered = letter })
+node_made : (p : Problem) → IsProblem p → (v : Dialect) (w : Prefixes) (fields : List (List ℕ)) (q : List ℕ) (kind : GapKind) (r : GapNode) → fields ≡ node_fields q kind → ArePositions p q → length q ≤ most_positions p w → IsPrintableKind p (shape_of_kind kind) → IsNarrowNode kind → IsLettered v kind → ◌≡◌ {A = Result GapNode PlanKind} (Ok (record { prefix = q; kind = kind })) (Ok r) → IsNodeLine p v w fields r
+node_made p h v w fields q kind r row positions short k narrow letter e =
+    let made : GapNode = record { prefix = q; kind = kind } in
+    subst (IsNodeLine p v w fields) (same_ok made r e) (record { row = row; positions = positions; short = short; kind = k; narrow = narrow; lettered = letter })
 
 -- `B`
-branch_made : (p : Problem) → IsProblem p → (v : TextVersion) (letter : List ℕ) (cells : List (List ℕ)) (o : Option (List ℕ)) (r : TreeNode) → letter ≡ codes "B" → length cells ≤ most_positions p v → all_of (place_in p) cells ≡ o → branch_of o ≡ Ok r → IsNodeLine p v (letter ∷ cells) r
-branch_made p h v letter cells None r is short all e = absurd (err_ok BadNumber r e)
-branch_made p h v letter cells (Some q) r is short all e =
+branch_made : (p : Problem) → IsProblem p → (v : Dialect) (w : Prefixes) (letter : List ℕ) (cells : List (List ℕ)) (o : Option (List ℕ)) (r : GapNode) → letter ≡ codes "B" → length cells ≤ most_positions p w → all_of (place_in p) cells ≡ o → branch_of o ≡ Ok r → IsNodeLine p v w (letter ∷ cells) r
+branch_made p h v w letter cells None r is short all e = absurd (err_ok BadNumber r e)
+branch_made p h v w letter cells (Some q) r is short all e =
     let told = places_told p h cells q all in
     let long : length cells ≡ length q = ap length told.0 ∙ length-map q decimal in
-    node_made p h v (letter ∷ cells) q Branch r (rw is (ap (λ (x : List (List ℕ)). codes "B" ∷ x) told.0)) told.1 (omega (arith, long, short)) tt tt (lettered v Branch tt) e
+    node_made p h v w (letter ∷ cells) q (Closed Branch) r (rw is (ap (λ (x : List (List ℕ)). codes "B" ∷ x) told.0)) told.1 (omega (arith, long, short)) tt tt (lettered v Branch tt) e
 
-branch_told : (p : Problem) → IsProblem p → (v : TextVersion) (letter : List ℕ) (cells : List (List ℕ)) (r : TreeNode) → letter ≡ codes "B" → branch_line p (most_positions p v) cells ≡ Ok r → IsNodeLine p v (letter ∷ cells) r
-branch_told p h v letter cells r is e =
-    let through = let_through (nat_le (length cells) (most_positions p v)) BadLine (branch_of (all_of (place_in p) cells)) r e in
-    branch_made p h v letter cells (all_of (place_in p) cells) r is (leb-true _ _ through.0) refl through.1
+branch_told : (p : Problem) → IsProblem p → (v : Dialect) (w : Prefixes) (letter : List ℕ) (cells : List (List ℕ)) (r : GapNode) → letter ≡ codes "B" → branch_line p (most_positions p w) cells ≡ Ok r → IsNodeLine p v w (letter ∷ cells) r
+branch_told p h v w letter cells r is e =
+    let through = let_through (nat_le (length cells) (most_positions p w)) BadLine (branch_of (all_of (place_in p) cells)) r e in
+    branch_made p h v w letter cells (all_of (place_in p) cells) r is (leb-true _ _ through.0) refl through.1
 
 -- `W`, `M` and `E`
 record IsBounded (p : Problem) (most : ℕ) (fields : List (List ℕ)) (b : Bounded) : Type 0 where
@@ -201,35 +254,41 @@ bounded_told p h most (bound ∷ cells) b e =
     bounded_made p h most bound cells (amount_in bound) (all_of (place_in p) cells) b (leb-true _ _ through.0) refl refl through.1
 
 -- a kind that has such a line behind its letter
-record HasLetter (p : Problem) (v : TextVersion) (letter : List ℕ) (kind : ℕ → Kind) : Type 0 where
-  fields : (q : List ℕ) (n : ℕ) → kind_fields q (kind n) ≡ letter ∷ (decimal n ∷ numbers q)
-  printable : (n : ℕ) → IsPrintableKind p (kind n)
-  narrow : (n : ℕ) → n < 2 ^ 128 → IsNarrowKind (kind n)
+record HasLetter (p : Problem) (v : Dialect) (letter : List ℕ) (kind : ℕ → GapKind) : Type 0 where
+  fields : (q : List ℕ) (n : ℕ) → node_fields q (kind n) ≡ letter ∷ (decimal n ∷ numbers q)
+  printable : (n : ℕ) → IsPrintableKind p (shape_of_kind (kind n))
+  narrow : (n : ℕ) → n < 2 ^ 128 → IsNarrowNode (kind n)
   known : (n : ℕ) → IsLettered v (kind n)
 
-whole_letter : (p : Problem) (v : TextVersion) → HasLetter p v (codes "W") (λ n. Whole n)
+whole_letter : (p : Problem) (v : Dialect) → HasLetter p v (codes "W") (λ n. Closed (Whole n))
 whole_letter p v = record { fields = λ q n. refl; printable = λ n. tt; narrow = λ n small. small; known = λ n. lettered v (Whole n) tt }
 
-mean_letter : (p : Problem) (v : TextVersion) → HasLetter p v (codes "M") (λ n. Mean n)
+mean_letter : (p : Problem) (v : Dialect) → HasLetter p v (codes "M") (λ n. Closed (Mean n))
 mean_letter p v = record { fields = λ q n. refl; printable = λ n. tt; narrow = λ n small. small; known = λ n. lettered v (Mean n) tt }
 
-edge_letter : (p : Problem) (v : TextVersion) → has_edges v ≡ true → HasLetter p v (codes "E") (λ n. Edge n)
+edge_letter : (p : Problem) (v : Dialect) → has_edges v ≡ true → HasLetter p v (codes "E") (λ n. Closed (Edge n))
 edge_letter p One has = absurd (let bad : ⊥ = cc in bad)
 edge_letter p Two has = record { fields = λ q n. refl; printable = λ n. tt; narrow = λ n small. small; known = λ n. tt }
+edge_letter p Gap has = record { fields = λ q n. refl; printable = λ n. tt; narrow = λ n small. small; known = λ n. tt }
 
-bounded_node : (p : Problem) → IsProblem p → (v : TextVersion) (letter word : List ℕ) (fields : List (List ℕ)) (kind : ℕ → Kind) (o : Result Bounded PlanKind) (r : TreeNode) → HasLetter p v word kind → letter ≡ word → bounded_line p (most_positions p v) fields ≡ o → node_of kind o ≡ Ok r → IsNodeLine p v (letter ∷ fields) r
-bounded_node p h v letter word fields kind (Err k) r has is line e = absurd (err_ok k r e)
-bounded_node p h v letter word fields kind (Ok b) r has is line e =
-    let told = bounded_told p h (most_positions p v) fields b line in
-    node_made p h v (letter ∷ fields) b.prefix (kind b.bound) r (ap (λ (x : List ℕ). x ∷ fields) is ∙ ap (λ (x : List (List ℕ)). word ∷ x) told.row ∙ sym (has.fields b.prefix b.bound))
+waiting_letter : (p : Problem) (v : Dialect) → has_open v ≡ true → HasLetter p v (codes "O") (λ n. Waiting n)
+waiting_letter p One has = absurd (let bad : ⊥ = cc in bad)
+waiting_letter p Two has = absurd (let bad : ⊥ = cc in bad)
+waiting_letter p Gap has = record { fields = λ q n. refl; printable = λ n. tt; narrow = λ n small. small; known = λ n. tt }
+
+bounded_node : (p : Problem) → IsProblem p → (v : Dialect) (w : Prefixes) (letter word : List ℕ) (fields : List (List ℕ)) (kind : ℕ → GapKind) (o : Result Bounded PlanKind) (r : GapNode) → HasLetter p v word kind → letter ≡ word → bounded_line p (most_positions p w) fields ≡ o → node_of kind o ≡ Ok r → IsNodeLine p v w (letter ∷ fields) r
+bounded_node p h v w letter word fields kind (Err k) r has is line e = absurd (err_ok k r e)
+bounded_node p h v w letter word fields kind (Ok b) r has is line e =
+    let told = bounded_told p h (most_positions p w) fields b line in
+    node_made p h v w (letter ∷ fields) b.prefix (kind b.bound) r (ap (λ (x : List ℕ). x ∷ fields) is ∙ ap (λ (x : List (List ℕ)). word ∷ x) told.row ∙ sym (has.fields b.prefix b.bound))
     told.positions told.short (has.printable b.bound) (has.narrow b.bound told.narrow) (has.known b.bound) e
 
 -- `T`
-tangent_made : (p : Problem) → IsProblem p → (v : TextVersion) (letter bound : List ℕ) (cells : List (List ℕ)) (n : Option ℕ) (o u : Option (List ℕ)) (r : TreeNode) → letter ≡ codes "T" → p.horizon ≤ length cells → length cells ≤ most_positions p v + p.horizon → amount_in bound ≡ n → all_of (place_in p) (take (length cells - p.horizon) cells) ≡ o → all_of (place_in p) (drop (length cells - p.horizon) cells) ≡ u → tangent_of n o u ≡ Ok r → IsNodeLine p v (letter ∷ bound ∷ cells) r
-tangent_made p h v letter bound cells None o u r is low high a front back e = absurd (err_ok BadNumber r e)
-tangent_made p h v letter bound cells (Some n) None u r is low high a front back e = absurd (err_ok BadNumber r e)
-tangent_made p h v letter bound cells (Some n) (Some q) None r is low high a front back e = absurd (err_ok BadNumber r e)
-tangent_made p h v letter bound cells (Some n) (Some q) (Some x) r is low high a front back e =
+tangent_made : (p : Problem) → IsProblem p → (v : Dialect) (w : Prefixes) (letter bound : List ℕ) (cells : List (List ℕ)) (n : Option ℕ) (o u : Option (List ℕ)) (r : GapNode) → letter ≡ codes "T" → p.horizon ≤ length cells → length cells ≤ most_positions p w + p.horizon → amount_in bound ≡ n → all_of (place_in p) (take (length cells - p.horizon) cells) ≡ o → all_of (place_in p) (drop (length cells - p.horizon) cells) ≡ u → tangent_of n o u ≡ Ok r → IsNodeLine p v w (letter ∷ bound ∷ cells) r
+tangent_made p h v w letter bound cells None o u r is low high a front back e = absurd (err_ok BadNumber r e)
+tangent_made p h v w letter bound cells (Some n) None u r is low high a front back e = absurd (err_ok BadNumber r e)
+tangent_made p h v w letter bound cells (Some n) (Some q) None r is low high a front back e = absurd (err_ok BadNumber r e)
+tangent_made p h v w letter bound cells (Some n) (Some q) (Some x) r is low high a front back e =
     let k = length cells - p.horizon in
     let own = places_told p h (take k cells) q front in
     let reference = places_told p h (drop k cells) x back in
@@ -237,59 +296,65 @@ tangent_made p h v letter bound cells (Some n) (Some q) (Some x) r is low high a
     let whole : cells ≡ numbers q ++ numbers x = sym (take-append-drop k cells) ∙ ap (λ (y : List (List ℕ)). y ++ drop k cells) own.0 ∙ ap (λ (y : List (List ℕ)). numbers q ++ y) reference.0 in
     let behind : length x ≡ length cells - k = sym (length-map x decimal) ∙ sym (ap length reference.0) ∙ length-drop k cells in
     let both : length cells ≡ length q + length x = ap length whole ∙ simp (length-append, length-map) in
-    node_made p h v (letter ∷ bound ∷ cells) q (Tangent n x) r
+    node_made p h v w (letter ∷ bound ∷ cells) q (Closed (Tangent n x)) r
     (ap (λ (y : List ℕ). y ∷ bound ∷ cells) is ∙ ap (λ (y : List ℕ). codes "T" ∷ y ∷ cells) number.0 ∙ ap (λ (y : List (List ℕ)). codes "T" ∷ decimal n ∷ y) whole)
     own.1 (omega (arith, behind, both, low, high)) (reference.1, omega (arith, behind, low)) number.1 (lettered v (Tangent n x) tt) e
 
-tangent_told : (p : Problem) → IsProblem p → (v : TextVersion) (letter : List ℕ) (fields : List (List ℕ)) (r : TreeNode) → letter ≡ codes "T" → tangent_line p (most_positions p v) fields ≡ Ok r → IsNodeLine p v (letter ∷ fields) r
-tangent_told p h v letter [] r is e = absurd (err_ok BadLine r e)
-tangent_told p h v letter (bound ∷ cells) r is e =
+tangent_told : (p : Problem) → IsProblem p → (v : Dialect) (w : Prefixes) (letter : List ℕ) (fields : List (List ℕ)) (r : GapNode) → letter ≡ codes "T" → tangent_line p (most_positions p w) fields ≡ Ok r → IsNodeLine p v w (letter ∷ fields) r
+tangent_told p h v w letter [] r is e = absurd (err_ok BadLine r e)
+tangent_told p h v w letter (bound ∷ cells) r is e =
     let k = length cells - p.horizon in
-    let through = let_through (nat_le p.horizon (length cells) && nat_le (length cells) (most_positions p v + p.horizon)) BadLine _ r e in
-    let within = and_parts (nat_le p.horizon (length cells)) (nat_le (length cells) (most_positions p v + p.horizon)) through.0 in
-    tangent_made p h v letter bound cells (amount_in bound) (all_of (place_in p) (take k cells)) (all_of (place_in p) (drop k cells)) r is (leb-true _ _ within.0) (leb-true _ _ within.1) refl refl refl through.1
+    let through = let_through (nat_le p.horizon (length cells) && nat_le (length cells) (most_positions p w + p.horizon)) BadLine _ r e in
+    let within = and_parts (nat_le p.horizon (length cells)) (nat_le (length cells) (most_positions p w + p.horizon)) through.0 in
+    tangent_made p h v w letter bound cells (amount_in bound) (all_of (place_in p) (take k cells)) (all_of (place_in p) (drop k cells)) r is (leb-true _ _ within.0) (leb-true _ _ within.1) refl refl refl through.1
 
-pub node_told : (p : Problem) → IsProblem p → (v : TextVersion) (fields : List (List ℕ)) (r : TreeNode) → node_line p v fields ≡ Ok r → IsNodeLine p v fields r
+pub node_told : (p : Problem) → IsProblem p → (v : Dialect) (fields : List (List ℕ)) (r : GapNode) → node_line p v fields ≡ Ok r → IsNodeLine p v (prefixes_in v) fields r
 node_told p h v [] r e = absurd (err_ok BadLine r e)
 node_told p h v (letter ∷ fields) r e =
-    let G : Result TreeNode PlanKind → Type 0 = λ x. x ≡ Ok r → IsNodeLine p v (letter ∷ fields) r in
-    let line = bounded_line p (most_positions p v) fields in
-    cond_both (is_word letter (codes "B")) _ _ G (λ is. branch_told p h v letter fields r (word_told letter (codes "B") is))
-    (λ _. cond_both (is_word letter (codes "W")) _ _ G (λ is. bounded_node p h v letter (codes "W") fields (λ n. Whole n) line r (whole_letter p v) (word_told letter (codes "W") is) refl)
-    (λ _. cond_both (is_word letter (codes "M")) _ _ G (λ is. bounded_node p h v letter (codes "M") fields (λ n. Mean n) line r (mean_letter p v) (word_told letter (codes "M") is) refl)
-    (λ _. cond_both (is_word letter (codes "T")) _ _ G (λ is. tangent_told p h v letter fields r (word_told letter (codes "T") is))
+    let w = prefixes_in v in
+    let G : Result GapNode PlanKind → Type 0 = λ x. x ≡ Ok r → IsNodeLine p v w (letter ∷ fields) r in
+    let line = bounded_line p (most_positions p w) fields in
+    cond_both (is_word letter (codes "B")) _ _ G (λ is. branch_told p h v w letter fields r (word_told letter (codes "B") is))
+    (λ _. cond_both (is_word letter (codes "W")) _ _ G (λ is. bounded_node p h v w letter (codes "W") fields (λ n. Closed (Whole n)) line r (whole_letter p v) (word_told letter (codes "W") is) refl)
+    (λ _. cond_both (is_word letter (codes "M")) _ _ G (λ is. bounded_node p h v w letter (codes "M") fields (λ n. Closed (Mean n)) line r (mean_letter p v) (word_told letter (codes "M") is) refl)
+    (λ _. cond_both (is_word letter (codes "T")) _ _ G (λ is. tangent_told p h v w letter fields r (word_told letter (codes "T") is))
     (λ _. cond_both (is_word letter (codes "E") && has_edges v) _ _ G
-    (λ both. let is = and_parts (is_word letter (codes "E")) (has_edges v) both in bounded_node p h v letter (codes "E") fields (λ n. Edge n) line r (edge_letter p v is.1) (word_told letter (codes "E") is.0) refl)
-    (λ _ e'. absurd (err_ok BadLine r e')))))) e
+    (λ both. let is = and_parts (is_word letter (codes "E")) (has_edges v) both in bounded_node p h v w letter (codes "E") fields (λ n. Closed (Edge n)) line r (edge_letter p v is.1) (word_told letter (codes "E") is.0) refl)
+    (λ _. cond_both (is_word letter (codes "O") && has_open v) _ _ G
+    (λ both. let is = and_parts (is_word letter (codes "O")) (has_open v) both in bounded_node p h v w letter (codes "O") fields (λ n. Waiting n) line r (waiting_letter p v is.1) (word_told letter (codes "O") is.0) refl)
+    (λ _ e'. absurd (err_ok BadLine r e'))))))) e
 
 -- a record has the prefix that is expected next, where the text leaves prefixes out
-abbrev pub HasPlace : TextVersion → List (List ℕ) → List ℕ → Type 0
-HasPlace One expected q = Unit {0}
-HasPlace Two [] q = ⊥
-HasPlace Two (x ∷ expected) q = q ≡ x
+abbrev pub HasPlace : Prefixes → List (List ℕ) → List ℕ → Type 0
+HasPlace Written expected q = Unit {0}
+HasPlace LeftOut [] q = ⊥
+HasPlace LeftOut (x ∷ expected) q = q ≡ x
 
 -- where it has them, they are right in themselves
-abbrev pub IsWritten : TextVersion → Problem → List ℕ → Type 0
-IsWritten One p q = ArePositions p q × (length q ≤ p.horizon)
-IsWritten Two p q = Unit {0}
+abbrev pub IsWritten : Prefixes → Problem → List ℕ → Type 0
+IsWritten Written p q = ArePositions p q × (length q ≤ p.horizon)
+IsWritten LeftOut p q = Unit {0}
 
 -- a record where one is left
-pub record IsRecordLine (p : Problem) (v : TextVersion) (left : ℕ) (expected fields : List (List ℕ)) (said : PlanLine) : Type 0 where
-  pub node : TreeNode
-  pub row : fields ≡ record_row v node
-  pub written : IsWritten v p node.prefix
-  pub place : HasPlace v expected node.prefix
-  pub kind : IsPrintableKind p node.kind
-  pub narrow : IsNarrowKind node.kind
+pub record IsRecordIn (p : Problem) (v : Dialect) (w : Prefixes) (left : ℕ) (expected fields : List (List ℕ)) (said : PlanLine) : Type 0 where
+  pub node : GapNode
+  pub row : fields ≡ node_fields (written w node.prefix) node.kind
+  pub wrote : IsWritten w p node.prefix
+  pub place : HasPlace w expected node.prefix
+  pub kind : IsPrintableKind p (shape_of_kind node.kind)
+  pub narrow : IsNarrowNode node.kind
   pub lettered : IsLettered v node.kind
   pub is : said ≡ Node node
   pub more : 1 ≤ left
 
+abbrev pub IsRecordLine : Problem → Dialect → ℕ → List (List ℕ) → List (List ℕ) → PlanLine → Type 0
+IsRecordLine p v left expected fields said = IsRecordIn p v (prefixes_in v) left expected fields said
+
 -- so it can be printed, where what is expected is legal
-pub record_printable : (p : Problem) → IsProblem p → (v : TextVersion) (left : ℕ) (expected fields : List (List ℕ)) (said : PlanLine) → All (IsLegal p) expected → (line : IsRecordLine p v left expected fields said) → IsPrintableRecord p line.node
-record_printable p h One left expected fields said legal line = record { positions = line.written.0; short = line.written.1; kind = line.kind }
-record_printable p h Two left [] fields said legal line = absurd line.place
-record_printable p h Two left (q ∷ expected) fields said legal line =
+record_in_printable : (p : Problem) → IsProblem p → (v : Dialect) (w : Prefixes) (left : ℕ) (expected fields : List (List ℕ)) (said : PlanLine) → All (IsLegal p) expected → (line : IsRecordIn p v w left expected fields said) → IsPrintableRecord p (shape_of line.node)
+record_in_printable p h v Written left expected fields said legal line = record { positions = line.wrote.0; short = line.wrote.1; kind = line.kind }
+record_in_printable p h v LeftOut left [] fields said legal line = absurd line.place
+record_in_printable p h v LeftOut left (q ∷ expected) fields said legal line =
     let first : IsLegal p q = All-head (IsLegal p) q expected legal in
     let here : IsLegal p line.node.prefix = subst (IsLegal p) (sym line.place) first in
     record {
@@ -298,12 +363,15 @@ record_printable p h Two left (q ∷ expected) fields said legal line =
       kind = line.kind;
     }
 
+pub record_printable : (p : Problem) → IsProblem p → (v : Dialect) (left : ℕ) (expected fields : List (List ℕ)) (said : PlanLine) → All (IsLegal p) expected → (line : IsRecordLine p v left expected fields said) → IsPrintableRecord p (shape_of line.node)
+record_printable p h v left expected fields said legal line = record_in_printable p h v (prefixes_in v) left expected fields said legal line
+
 -- or `end` where none is
-pub record IsEndLine (v : TextVersion) (left : ℕ) (expected fields : List (List ℕ)) (said : PlanLine) : Type 0 where
+pub record IsEndLine (w : Prefixes) (left : ℕ) (expected fields : List (List ℕ)) (said : PlanLine) : Type 0 where
   pub row : fields ≡ codes "end" ∷ []
   pub is : said ≡ End
   pub none : left ≡ 0
-  pub closed : v ≡ Two → expected ≡ []
+  pub closed : w ≡ LeftOut → expected ≡ []
 
 end_fields : (fields : List (List ℕ)) → is_end fields ≡ true → fields ≡ codes "end" ∷ []
 end_fields [] e = absurd (let bad : ⊥ = cc in bad)
@@ -319,11 +387,11 @@ no_cells [] short = refl
 no_cells (a ∷ q) short = absurd (omega (arith, short))
 
 -- a record of a line that has a place
-node_placed : (p : Problem) (v : TextVersion) (left : ℕ) (expected fields : List (List ℕ)) (r : TreeNode) (said : PlanLine) → IsNodeLine p v fields r → 1 ≤ left → placed v expected r ≡ Ok said → IsRecordLine p v left expected fields said
-node_placed p One left expected fields r said line some e = record {
+node_placed : (p : Problem) (v : Dialect) (w : Prefixes) (left : ℕ) (expected fields : List (List ℕ)) (r : GapNode) (said : PlanLine) → IsNodeLine p v w fields r → 1 ≤ left → placed w expected r ≡ Ok said → IsRecordIn p v w left expected fields said
+node_placed p v Written left expected fields r said line some e = record {
   node = r;
   row = line.row;
-  written = (line.positions, line.short);
+  wrote = (line.positions, line.short);
   place = tt;
   kind = line.kind;
   narrow = line.narrow;
@@ -331,13 +399,13 @@ node_placed p One left expected fields r said line some e = record {
   is = sym (same_ok (Node r) said e);
   more = some;
 }
-node_placed p Two left [] fields r said line some e = absurd (err_ok NoPlace said e)
-node_placed p Two left (q ∷ expected) fields r said line some e =
-    let here : TreeNode = record { prefix = q; kind = r.kind } in
+node_placed p v LeftOut left [] fields r said line some e = absurd (err_ok NoPlace said e)
+node_placed p v LeftOut left (q ∷ expected) fields r said line some e =
+    let here : GapNode = record { prefix = q; kind = r.kind } in
     record {
       node = here;
-      row = line.row ∙ ap (λ (x : List ℕ). kind_fields x r.kind) (no_cells r.prefix line.short);
-      written = tt;
+      row = line.row ∙ ap (λ (x : List ℕ). node_fields x r.kind) (no_cells r.prefix line.short);
+      wrote = tt;
       place = refl;
       kind = line.kind;
       narrow = line.narrow;
@@ -346,25 +414,25 @@ node_placed p Two left (q ∷ expected) fields r said line some e =
       more = some;
     }
 
-node_left : (p : Problem) → IsProblem p → (v : TextVersion) (left : ℕ) (expected fields : List (List ℕ)) (o : Result TreeNode PlanKind) (said : PlanLine) → node_line p v fields ≡ o → node_said v left expected o ≡ Ok said → IsRecordLine p v left expected fields said
+node_left : (p : Problem) → IsProblem p → (v : Dialect) (left : ℕ) (expected fields : List (List ℕ)) (o : Result GapNode PlanKind) (said : PlanLine) → node_line p v fields ≡ o → node_said (prefixes_in v) left expected o ≡ Ok said → IsRecordLine p v left expected fields said
 node_left p h v left expected fields (Err kind) said line e = absurd (err_ok kind said e)
 node_left p h v left expected fields (Ok r) said line e =
-    cond_both (left == 0) (Err WrongCount) (placed v expected r) (λ (x : Result PlanLine PlanKind). x ≡ Ok said → IsRecordLine p v left expected fields said)
+    cond_both (left == 0) (Err WrongCount) (placed (prefixes_in v) expected r) (λ (x : Result PlanLine PlanKind). x ≡ Ok said → IsRecordLine p v left expected fields said)
     (λ _ e'. absurd (err_ok WrongCount said e'))
-    (λ some e'. node_placed p v left expected fields r said (node_told p h v fields r line) (positive left some) e') e
+    (λ some e'. node_placed p v (prefixes_in v) left expected fields r said (node_told p h v fields r line) (positive left some) e') e
 
-end_closed : (v : TextVersion) (expected : List (List ℕ)) (said : PlanLine) → ending v expected ≡ Ok said → (said ≡ End) × (v ≡ Two → expected ≡ [])
-end_closed One expected said e = (sym (same_ok End said e), λ two. absurd (let bad : ⊥ = cc in bad))
-end_closed Two [] said e = (sym (same_ok End said e), λ _. refl)
-end_closed Two (q ∷ expected) said e = absurd (err_ok StillOpen said e)
+end_closed : (w : Prefixes) (expected : List (List ℕ)) (said : PlanLine) → ending w expected ≡ Ok said → (said ≡ End) × (w ≡ LeftOut → expected ≡ [])
+end_closed Written expected said e = (sym (same_ok End said e), λ out. absurd (let bad : ⊥ = cc in bad))
+end_closed LeftOut [] said e = (sym (same_ok End said e), λ _. refl)
+end_closed LeftOut (q ∷ expected) said e = absurd (err_ok StillOpen said e)
 
-end_left : (v : TextVersion) (left : ℕ) (expected fields : List (List ℕ)) (said : PlanLine) → is_end fields ≡ true → end_said v left expected ≡ Ok said → IsEndLine v left expected fields said
-end_left v left expected fields said is e =
-    let through = let_through (left == 0) WrongCount (ending v expected) said e in
-    let closed = end_closed v expected said through.1 in
+end_left : (w : Prefixes) (left : ℕ) (expected fields : List (List ℕ)) (said : PlanLine) → is_end fields ≡ true → end_said w left expected ≡ Ok said → IsEndLine w left expected fields said
+end_left w left expected fields said is e =
+    let through = let_through (left == 0) WrongCount (ending w expected) said e in
+    let closed = end_closed w expected said through.1 in
     record { row = end_fields fields is; is = closed.0; none = eqb-true left 0 through.0; closed = closed.1 }
 
-pub record_told : (p : Problem) → IsProblem p → (v : TextVersion) (left : ℕ) (expected fields : List (List ℕ)) (said : PlanLine) → record_line p v left expected fields ≡ Ok said → IsRecordLine p v left expected fields said ⊎ IsEndLine v left expected fields said
+pub record_told : (p : Problem) → IsProblem p → (v : Dialect) (left : ℕ) (expected fields : List (List ℕ)) (said : PlanLine) → record_line p v left expected fields ≡ Ok said → IsRecordLine p v left expected fields said ⊎ IsEndLine (prefixes_in v) left expected fields said
 record_told p h v left expected fields said e =
-    cond_both (is_end fields) (end_said v left expected) (node_said v left expected (node_line p v fields)) (λ (x : Result PlanLine PlanKind). x ≡ Ok said → IsRecordLine p v left expected fields said ⊎ IsEndLine v left expected fields said)
-    (λ is e'. inr (end_left v left expected fields said is e')) (λ _ e'. inl (node_left p h v left expected fields (node_line p v fields) said refl e')) e
+    cond_both (is_end fields) (end_said (prefixes_in v) left expected) (node_said (prefixes_in v) left expected (node_line p v fields)) (λ (x : Result PlanLine PlanKind). x ≡ Ok said → IsRecordLine p v left expected fields said ⊎ IsEndLine (prefixes_in v) left expected fields said)
+    (λ is e'. inr (end_left (prefixes_in v) left expected fields said is e')) (λ _ e'. inl (node_left p h v left expected fields (node_line p v fields) said refl e')) e

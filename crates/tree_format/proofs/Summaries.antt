@@ -15,16 +15,20 @@ use Rattle.exact_parts.proofs.Decimals.{spells-number_at, spelled_text}
 use Rattle.exact_parts.proofs.Written.{digits_fit}
 use Rattle.search_model.specs.Names.{IsName}
 use Rattle.search_model.specs.Problem.{Problem, IsProblem}
-use Rattle.bound_tree.specs.declared.node.TreeNode.{TreeNode}
+use Rattle.bound_tree.specs.declared.gap.GapNode.{GapNode}
 use Rattle.tree_format.specs.declared.kind.PlanKind.{PlanKind}
 use Rattle.tree_format.specs.declared.kind.PlanKind.TheVariants.{BadLine}
 use Rattle.tree_format.specs.declared.due.Due.{Due}
-use Rattle.tree_format.specs.declared.plan_line.TextVersion.{TextVersion}
-use Rattle.tree_format.specs.declared.plan_line.TextVersion.TheVariants.{One, Two}
+use Rattle.tree_format.specs.declared.plan_line.Dialect.{Dialect}
+use Rattle.tree_format.specs.declared.plan_line.Family.{Family}
+use Rattle.tree_format.specs.declared.plan_line.Family.TheVariants.{Plans, Gaps}
+use Rattle.tree_format.specs.declared.plan_line.Prefixes.{Prefixes}
+use Rattle.tree_format.specs.declared.plan_line.Prefixes.TheVariants.{Written, LeftOut}
+use Rattle.tree_format.specs.Dialects.{family_of, most_records, has_edges, has_open, prefixes_in}
 use Rattle.tree_format.specs.declared.plan_line.Stage.{Stage}
 use Rattle.tree_format.specs.declared.plan_line.Stage.TheVariants as due
 use Rattle.tree_format.specs.declared.plan_line.PlanLine.{PlanLine}
-use Rattle.tree_format.specs.Reading.{said, amount_in, place_in, position_named, all_of, version_line, path_line, chance_line, count_line, most_positions, branch_line, bounded_line, tangent_line, has_edges, node_line, is_end, record_line, stage_line, line_at}
+use Rattle.tree_format.specs.Reading.{said, amount_in, place_in, position_named, all_of, version_line, path_line, chance_line, ceiling_line, count_line, most_positions, branch_line, bounded_line, tangent_line, node_line, is_end, record_line, stage_line, line_at}
 use Rattle.text_rows.specs.Fields.{is_word}
 use Rattle.list_laws.proofs.Firsts.{position-none}
 use Rattle.tree_format.specs.ReadingLaws.{SummaryDecides}
@@ -85,11 +89,15 @@ module _ (p : Problem) (h : IsProblem p) where
   front_places : (fs : List (List ℕ)) → all_of (place_in p) (map front fs) ≡ all_of (place_in p) fs
   front_places fs = front_all (place_in p) front_place fs
 
-  front_version : (fs : List (List ℕ)) → version_line (map front fs) ≡ version_line fs
-  front_version [] = refl
-  front_version (f ∷ []) = refl
-  front_version (f ∷ g ∷ []) = rw (front_word f (codes "plan") (omega arith), front_word g (codes "1") (omega arith), front_word g (codes "2") (omega arith)) refl
-  front_version (f ∷ g ∷ more ∷ rest) = refl
+  front_version : (family : Family) (fs : List (List ℕ)) → version_line family (map front fs) ≡ version_line family fs
+  front_version Plans [] = refl
+  front_version Plans (f ∷ []) = refl
+  front_version Plans (f ∷ g ∷ []) = rw (front_word f (codes "plan") (omega arith), front_word g (codes "1") (omega arith), front_word g (codes "2") (omega arith)) refl
+  front_version Plans (f ∷ g ∷ more ∷ rest) = refl
+  front_version Gaps [] = refl
+  front_version Gaps (f ∷ []) = refl
+  front_version Gaps (f ∷ g ∷ []) = rw (front_word f (codes "gap") (omega arith), front_word g (codes "1") (omega arith)) refl
+  front_version Gaps (f ∷ g ∷ more ∷ rest) = refl
 
   front_path : (fs : List (List ℕ)) → path_line p (map front fs) ≡ path_line p fs
   front_path [] = refl
@@ -102,11 +110,17 @@ module _ (p : Problem) (h : IsProblem p) where
   front_chance (f ∷ v ∷ w ∷ []) = rw (front_word f (codes "chance") (omega arith), front_amount v, front_amount w) refl
   front_chance (f ∷ v ∷ w ∷ more ∷ rest) = refl
 
-  front_count : (fs : List (List ℕ)) → count_line (map front fs) ≡ count_line fs
-  front_count [] = refl
-  front_count (f ∷ []) = refl
-  front_count (f ∷ n ∷ []) = rw (front_word f (codes "nodes") (omega arith), front_amount n) refl
-  front_count (f ∷ n ∷ more ∷ rest) = refl
+  front_ceiling : (fs : List (List ℕ)) → ceiling_line (map front fs) ≡ ceiling_line fs
+  front_ceiling [] = refl
+  front_ceiling (f ∷ []) = refl
+  front_ceiling (f ∷ n ∷ []) = rw (front_word f (codes "ceiling") (omega arith), front_amount n) refl
+  front_ceiling (f ∷ n ∷ more ∷ rest) = refl
+
+  front_count : (most : ℕ) (fs : List (List ℕ)) → count_line most (map front fs) ≡ count_line most fs
+  front_count most [] = refl
+  front_count most (f ∷ []) = refl
+  front_count most (f ∷ n ∷ []) = rw (front_word f (codes "nodes") (omega arith), front_amount n) refl
+  front_count most (f ∷ n ∷ more ∷ rest) = refl
 
   front_branch : (most : ℕ) (fs : List (List ℕ)) → branch_line p most (map front fs) ≡ branch_line p most fs
   front_branch most fs = rw (length-map fs front, front_places fs) refl
@@ -121,28 +135,29 @@ module _ (p : Problem) (h : IsProblem p) where
       let k = length fs - p.horizon in
       rw (length-map fs front, front_amount n, take-map front k fs, drop-map front k fs, front_places (take k fs), front_places (drop k fs)) refl
 
-  front_node : (v : TextVersion) (fs : List (List ℕ)) → node_line p v (map front fs) ≡ node_line p v fs
+  front_node : (v : Dialect) (fs : List (List ℕ)) → node_line p v (map front fs) ≡ node_line p v fs
   front_node v [] = refl
   front_node v (f ∷ fs) =
-      let most = most_positions p v in
-      rw (front_word f (codes "B") (omega arith), front_word f (codes "W") (omega arith), front_word f (codes "M") (omega arith), front_word f (codes "T") (omega arith), front_word f (codes "E") (omega arith), front_branch most fs, front_bounded most fs, front_tangent most fs) refl
+      let most = most_positions p (prefixes_in v) in
+      rw (front_word f (codes "B") (omega arith), front_word f (codes "W") (omega arith), front_word f (codes "M") (omega arith), front_word f (codes "T") (omega arith), front_word f (codes "E") (omega arith), front_word f (codes "O") (omega arith), front_branch most fs, front_bounded most fs, front_tangent most fs) refl
 
   front_end : (fs : List (List ℕ)) → is_end (map front fs) ≡ is_end fs
   front_end [] = refl
   front_end (f ∷ []) = front_word f (codes "end") (omega arith)
   front_end (f ∷ more ∷ rest) = refl
 
-  front_stage : (v : TextVersion) (stage : Stage) (expected fs : List (List ℕ)) → stage_line p v stage expected (map front fs) ≡ stage_line p v stage expected fs
-  front_stage v due.Version expected fs = front_version fs
+  front_stage : (v : Dialect) (stage : Stage) (expected fs : List (List ℕ)) → stage_line p v stage expected (map front fs) ≡ stage_line p v stage expected fs
+  front_stage v (due.Version family) expected fs = front_version family fs
   front_stage v due.Path expected fs = front_path fs
   front_stage v due.Chance expected fs = front_chance fs
-  front_stage v due.Count expected fs = front_count fs
+  front_stage v due.Ceiling expected fs = front_ceiling fs
+  front_stage v due.Count expected fs = front_count (most_records (family_of v)) fs
   front_stage v (due.Records left) expected fs = rw (front_end fs, front_node v fs) refl
   front_stage v due.Ended expected fs = refl
 
   front_line : (d : Due) (fs : List (List ℕ)) → line_at p d (map front fs) ≡ line_at p d fs
   unfolding line_at
-  front_line d fs = rw (front_any fs, front_stage d.version d.stage d.expected fs) refl
+  front_line d fs = rw (front_any fs, front_stage d.dialect d.stage d.expected fs) refl
 
   -- No line has so many fields.
   no_path : (fs : List (List ℕ)) → 67 ≤ length fs → path_line p fs ≡ Err BadLine
@@ -162,36 +177,41 @@ module _ (p : Problem) (h : IsProblem p) where
   no_tangent most few (n ∷ fs) long =
       rw (lt-leb (length fs) (most + p.horizon) (omega (arith, long, few, h.horizon.1)), and-false (nat_le p.horizon (length fs))) refl
 
-  no_letter : (b w m t e : Bool) → ◌≡◌ {A = Result TreeNode PlanKind} (cond b (Err BadLine) (cond w (Err BadLine) (cond m (Err BadLine) (cond t (Err BadLine) (cond e (Err BadLine) (Err BadLine)))))) (Err BadLine)
-  no_letter true w m t e = refl
-  no_letter false true m t e = refl
-  no_letter false false true t e = refl
-  no_letter false false false true e = refl
-  no_letter false false false false true = refl
-  no_letter false false false false false = refl
+  no_letter : (b w m t e o : Bool) → ◌≡◌ {A = Result GapNode PlanKind} (cond b (Err BadLine) (cond w (Err BadLine) (cond m (Err BadLine) (cond t (Err BadLine) (cond e (Err BadLine) (cond o (Err BadLine) (Err BadLine))))))) (Err BadLine)
+  no_letter true w m t e o = refl
+  no_letter false true m t e o = refl
+  no_letter false false true t e o = refl
+  no_letter false false false true e o = refl
+  no_letter false false false false true o = refl
+  no_letter false false false false false true = refl
+  no_letter false false false false false false = refl
 
-  few_cells : (v : TextVersion) → most_positions p v ≤ 32
-  few_cells One = h.horizon.1
-  few_cells Two = omega arith
+  few_cells : (w : Prefixes) → most_positions p w ≤ 32
+  few_cells Written = h.horizon.1
+  few_cells LeftOut = omega arith
 
-  no_node : (v : TextVersion) (fs : List (List ℕ)) → 67 ≤ length fs → node_line p v fs ≡ Err BadLine
+  no_node : (v : Dialect) (fs : List (List ℕ)) → 67 ≤ length fs → node_line p v fs ≡ Err BadLine
   no_node v [] long = absurd (omega arith)
   no_node v (f ∷ fs) long =
-      let most = most_positions p v in
-      let few = few_cells v in
+      let most = most_positions p (prefixes_in v) in
+      let few = few_cells (prefixes_in v) in
       let more : 66 ≤ length fs = omega (arith, long) in
-      rw (no_branch most few fs more, no_bounded most few fs more, no_tangent most few fs more) (no_letter (is_word f (codes "B")) (is_word f (codes "W")) (is_word f (codes "M")) (is_word f (codes "T")) (is_word f (codes "E") && has_edges v))
+      rw (no_branch most few fs more, no_bounded most few fs more, no_tangent most few fs more) (no_letter (is_word f (codes "B")) (is_word f (codes "W")) (is_word f (codes "M")) (is_word f (codes "T")) (is_word f (codes "E") && has_edges v) (is_word f (codes "O") && has_open v))
 
-  no_record : (v : TextVersion) (left : ℕ) (expected fs : List (List ℕ)) → 67 ≤ length fs → record_line p v left expected fs ≡ Err BadLine
+  no_record : (v : Dialect) (left : ℕ) (expected fs : List (List ℕ)) → 67 ≤ length fs → record_line p v left expected fs ≡ Err BadLine
   no_record v left expected [] long = absurd (omega arith)
   no_record v left expected (f ∷ []) long = absurd (omega arith)
   no_record v left expected (f ∷ g ∷ fs) long = rw (no_node v (f ∷ g ∷ fs) long) refl
 
-  no_version : (fs : List (List ℕ)) → 67 ≤ length fs → version_line fs ≡ Err BadLine
-  no_version [] long = refl
-  no_version (f ∷ []) long = refl
-  no_version (f ∷ g ∷ []) long = absurd (omega arith)
-  no_version (f ∷ g ∷ more ∷ rest) long = refl
+  no_version : (family : Family) (fs : List (List ℕ)) → 67 ≤ length fs → version_line family fs ≡ Err BadLine
+  no_version Plans [] long = refl
+  no_version Plans (f ∷ []) long = refl
+  no_version Plans (f ∷ g ∷ []) long = absurd (omega arith)
+  no_version Plans (f ∷ g ∷ more ∷ rest) long = refl
+  no_version Gaps [] long = refl
+  no_version Gaps (f ∷ []) long = refl
+  no_version Gaps (f ∷ g ∷ []) long = absurd (omega arith)
+  no_version Gaps (f ∷ g ∷ more ∷ rest) long = refl
 
   no_chance : (fs : List (List ℕ)) → 67 ≤ length fs → chance_line fs ≡ Err BadLine
   no_chance [] long = refl
@@ -200,24 +220,31 @@ module _ (p : Problem) (h : IsProblem p) where
   no_chance (f ∷ v ∷ w ∷ []) long = absurd (omega arith)
   no_chance (f ∷ v ∷ w ∷ more ∷ rest) long = refl
 
-  no_count : (fs : List (List ℕ)) → 67 ≤ length fs → count_line fs ≡ Err BadLine
-  no_count [] long = refl
-  no_count (f ∷ []) long = refl
-  no_count (f ∷ n ∷ []) long = absurd (omega arith)
-  no_count (f ∷ n ∷ more ∷ rest) long = refl
+  no_ceiling : (fs : List (List ℕ)) → 67 ≤ length fs → ceiling_line fs ≡ Err BadLine
+  no_ceiling [] long = refl
+  no_ceiling (f ∷ []) long = refl
+  no_ceiling (f ∷ n ∷ []) long = absurd (omega arith)
+  no_ceiling (f ∷ n ∷ more ∷ rest) long = refl
 
-  no_stage : (v : TextVersion) (stage : Stage) (expected fs : List (List ℕ)) → 67 ≤ length fs → stage_line p v stage expected fs ≡ Err BadLine
-  no_stage v due.Version expected fs long = no_version fs long
+  no_count : (most : ℕ) (fs : List (List ℕ)) → 67 ≤ length fs → count_line most fs ≡ Err BadLine
+  no_count most [] long = refl
+  no_count most (f ∷ []) long = refl
+  no_count most (f ∷ n ∷ []) long = absurd (omega arith)
+  no_count most (f ∷ n ∷ more ∷ rest) long = refl
+
+  no_stage : (v : Dialect) (stage : Stage) (expected fs : List (List ℕ)) → 67 ≤ length fs → stage_line p v stage expected fs ≡ Err BadLine
+  no_stage v (due.Version family) expected fs long = no_version family fs long
   no_stage v due.Path expected fs long = no_path fs long
   no_stage v due.Chance expected fs long = no_chance fs long
-  no_stage v due.Count expected fs long = no_count fs long
+  no_stage v due.Ceiling expected fs long = no_ceiling fs long
+  no_stage v due.Count expected fs long = no_count (most_records (family_of v)) fs long
   no_stage v (due.Records left) expected fs long = no_record v left expected fs long
   no_stage v due.Ended expected fs long = refl
 
   no_line : (d : Due) (fs : List (List ℕ)) → 67 ≤ length fs → line_at p d fs ≡ Err BadLine
   unfolding line_at
   no_line d fs long =
-      cond_both (list_any (λ f. length f == 0) fs) (Err BadLine) (stage_line p d.version d.stage d.expected fs) (λ (x : Result PlanLine PlanKind). x ≡ Err BadLine) (λ _. refl) (λ _. no_stage d.version d.stage d.expected fs long)
+      cond_both (list_any (λ f. length f == 0) fs) (Err BadLine) (stage_line p d.dialect d.stage d.expected fs) (λ (x : Result PlanLine PlanKind). x ≡ Err BadLine) (λ _. refl) (λ _. no_stage d.dialect d.stage d.expected fs long)
 
   first_decide : (d : Due) (fs : List (List ℕ)) → line_at p d (take 70 fs) ≡ line_at p d fs
   first_decide d fs = elim (cases_lt 70 (length fs)) [

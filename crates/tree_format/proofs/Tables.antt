@@ -5,23 +5,27 @@ use Rattle.std.specs.List.{list_any}
 use Rattle.std.proofs.lemmas.List.{take-append-drop}
 use Rattle.std.proofs.lemmas.List.Folds.{list_any-append}
 use Rattle.search_model.specs.Problem.{Problem}
-use Rattle.bound_tree.specs.declared.node.Kind.{Kind}
 use Rattle.bound_tree.specs.declared.node.Kind.TheVariants.{Branch, Whole, Mean, Tangent, Edge}
-use Rattle.bound_tree.specs.declared.node.TreeNode.{TreeNode}
+use Rattle.bound_tree.specs.declared.gap.GapKind.{GapKind}
+use Rattle.bound_tree.specs.declared.gap.GapKind.TheVariants.{Closed, Waiting}
+use Rattle.bound_tree.specs.declared.gap.GapNode.{GapNode}
 use Rattle.tree_format.specs.declared.kind.PlanKind.{PlanKind}
 use Rattle.tree_format.specs.declared.kind.PlanKind.TheVariants.{BadLine, BadNumber, UnknownName, TooManyNodes, WrongCount, NoPlace, StillOpen}
-use Rattle.tree_format.specs.declared.plan_line.TextVersion.{TextVersion}
-use Rattle.tree_format.specs.declared.plan_line.TextVersion.TheVariants.{One, Two}
+use Rattle.tree_format.specs.declared.plan_line.Dialect.{Dialect}
+use Rattle.tree_format.specs.declared.plan_line.Dialect.TheVariants.{One, Two, Gap}
+use Rattle.tree_format.specs.declared.plan_line.Family.TheVariants.{Plans, Gaps}
+use Rattle.tree_format.specs.declared.plan_line.Prefixes.{Prefixes}
+use Rattle.tree_format.specs.declared.plan_line.Prefixes.TheVariants.{Written, LeftOut}
+use Rattle.tree_format.specs.Dialects.{family_of, most_records, has_edges, has_open, prefixes_in}
 use Rattle.tree_format.specs.declared.plan_line.Stage.{Stage}
 use Rattle.tree_format.specs.declared.plan_line.Stage.TheVariants as due
 use Rattle.tree_format.specs.declared.plan_line.PlanLine.{PlanLine}
 use Rattle.tree_format.specs.declared.plan_line.PlanLine.TheVariants.{Version, Count}
 use Rattle.tree_format.specs.declared.record_lines.Bounded.{Bounded}
-use Rattle.tree_format.specs.Reading.{amount_in, place_in, position_named, in_front, all_of, path_said, chance_said, count_said, most_positions, has_edges, branch_of, branch_line, bounded_of, bounded_line, node_of, tangent_of, tangent_line, node_line, placed, node_said, is_end, ending, end_said, stage_line, line_at}
+use Rattle.tree_format.specs.Reading.{amount_in, place_in, position_named, in_front, all_of, path_said, chance_said, ceiling_said, count_said, most_positions, branch_of, branch_line, bounded_of, bounded_line, node_of, tangent_of, tangent_line, node_line, placed, node_said, is_end, ending, end_said, stage_line, line_at}
 use Rattle.text_rows.specs.Fields.{is_word, first_alone, behind_first}
 use Rattle.tree_format.specs.KindTable.{bounded_form, tangent_form, node_form, has_form, node_amounts, node_positions, is_bad_number, has_unknown, has_too_many, is_miscounted, lacks_place, awaits_record, has_no_place, is_still_open, KindsByTable}
 use Rattle.text_rows.specs.Kinds.{first_kind, fault_of}
-use Rattle.bound_tree.specs.declared.tree.TheConstants.{MOST_NODES}
 
 -- fields say something together where each does
 front_none : (o : Option ℕ) (os : Option (List ℕ)) → is_none (in_front o os) ≡ (is_none o || is_none os)
@@ -68,46 +72,57 @@ version_table true true two = refl
 version_table true false true = refl
 version_table true false false = refl
 
+-- `gap 1`
+gap_table : (gap one : Bool) → fault_of (cond gap (cond one (Ok (Version Gap)) (Err BadLine)) (Err BadLine)) ≡ table_of (gap && one) false false false
+gap_table false one = refl
+gap_table true true = refl
+gap_table true false = refl
+
+-- `ceiling N`
+ceiling_table : (n : Option ℕ) → fault_of (ceiling_said n) ≡ tail_of ((is_none n || false) || false) false false
+ceiling_table None = refl
+ceiling_table (Some n) = refl
+
 -- a record or the end, by how many are left and by what is expected
-place_table : (v : TextVersion) (expected : List (List ℕ)) (r : TreeNode) → fault_of (placed v expected r) ≡ placed_table true false false (lacks_place v expected) false
-place_table One expected r = refl
-place_table Two [] r = refl
-place_table Two (q ∷ expected) r = refl
+place_table : (w : Prefixes) (expected : List (List ℕ)) (r : GapNode) → fault_of (placed w expected r) ≡ placed_table true false false (lacks_place w expected) false
+place_table Written expected r = refl
+place_table LeftOut [] r = refl
+place_table LeftOut (q ∷ expected) r = refl
 
-left_table : (none : Bool) (v : TextVersion) (expected : List (List ℕ)) (r : TreeNode) → fault_of (cond none (Err WrongCount) (placed v expected r)) ≡ placed_table true false none (lacks_place v expected) false
-left_table true v expected r = refl
-left_table false v expected r = place_table v expected r
+left_table : (none : Bool) (w : Prefixes) (expected : List (List ℕ)) (r : GapNode) → fault_of (cond none (Err WrongCount) (placed w expected r)) ≡ placed_table true false none (lacks_place w expected) false
+left_table true w expected r = refl
+left_table false w expected r = place_table w expected r
 
-ending_table : (v : TextVersion) (expected : List (List ℕ)) → fault_of (ending v expected) ≡ placed_table true false false false (awaits_record v expected)
-ending_table One expected = refl
-ending_table Two [] = refl
-ending_table Two (q ∷ expected) = refl
+ending_table : (w : Prefixes) (expected : List (List ℕ)) → fault_of (ending w expected) ≡ placed_table true false false false (awaits_record w expected)
+ending_table Written expected = refl
+ending_table LeftOut [] = refl
+ending_table LeftOut (q ∷ expected) = refl
 
-end_table : (none : Bool) (v : TextVersion) (expected : List (List ℕ)) → fault_of (cond none (ending v expected) (Err WrongCount)) ≡ placed_table true false (not none) false (awaits_record v expected)
-end_table true v expected = ending_table v expected
-end_table false v expected = refl
+end_table : (none : Bool) (w : Prefixes) (expected : List (List ℕ)) → fault_of (cond none (ending w expected) (Err WrongCount)) ≡ placed_table true false (not none) false (awaits_record w expected)
+end_table true w expected = ending_table w expected
+end_table false w expected = refl
 
 -- what the fields of a record say, by whether one says nothing
-record IsSaid (r : Result TreeNode PlanKind) (number : Bool) : Type 0 where
+record IsSaid (r : Result GapNode PlanKind) (number : Bool) : Type 0 where
   worse : number ≡ true → r ≡ Err BadNumber
-  right : number ≡ false → (x : TreeNode) × (r ≡ Ok x)
+  right : number ≡ false → (x : GapNode) × (r ≡ Ok x)
 
 -- and by whether its form is right
-record IsJudged (r : Result TreeNode PlanKind) (form number : Bool) : Type 0 where
+record IsJudged (r : Result GapNode PlanKind) (form number : Bool) : Type 0 where
   bad : form ≡ false → r ≡ Err BadLine
   good : form ≡ true → IsSaid r number
 
 no_number : IsSaid (Err BadNumber) true
 no_number = record { worse = λ _. refl; right = λ e. absurd (let bad : ⊥ = cc in bad) }
 
-all_numbers : (x : TreeNode) → IsSaid (Ok x) false
+all_numbers : (x : GapNode) → IsSaid (Ok x) false
 all_numbers x = record { worse = λ e. absurd (let bad : ⊥ = cc in bad); right = λ _. (x, refl) }
 
 branch_said : (o : Option (List ℕ)) → IsSaid (branch_of o) (is_none o)
 branch_said None = no_number
-branch_said (Some q) = all_numbers (record { prefix = q; kind = Branch })
+branch_said (Some q) = all_numbers (record { prefix = q; kind = Closed Branch })
 
-bounded_said : (kind : ℕ → Kind) (a : Option ℕ) (o : Option (List ℕ)) → IsSaid (node_of kind (bounded_of a o)) ((is_none a || false) || is_none o)
+bounded_said : (kind : ℕ → GapKind) (a : Option ℕ) (o : Option (List ℕ)) → IsSaid (node_of kind (bounded_of a o)) ((is_none a || false) || is_none o)
 bounded_said kind None o = no_number
 bounded_said kind (Some n) None = no_number
 bounded_said kind (Some n) (Some q) = all_numbers (record { prefix = q; kind = kind n })
@@ -116,21 +131,21 @@ tangent_said : (a : Option ℕ) (o u : Option (List ℕ)) → IsSaid (tangent_of
 tangent_said None o u = no_number
 tangent_said (Some n) None u = no_number
 tangent_said (Some n) (Some q) None = no_number
-tangent_said (Some n) (Some q) (Some x) = all_numbers (record { prefix = q; kind = Tangent n x })
+tangent_said (Some n) (Some q) (Some x) = all_numbers (record { prefix = q; kind = Closed (Tangent n x) })
 
-judged : (form : Bool) (r : Result TreeNode PlanKind) (number : Bool) → IsSaid r number → IsJudged (cond form r (Err BadLine)) form number
+judged : (form : Bool) (r : Result GapNode PlanKind) (number : Bool) → IsSaid r number → IsJudged (cond form r (Err BadLine)) form number
 judged true r number said = record { bad = λ e. absurd (let bad : ⊥ = cc in bad); good = λ _. said }
 judged false r number said = record { bad = λ _. refl; good = λ e. absurd (let bad : ⊥ = cc in bad) }
 
 misformed : (number : Bool) → IsJudged (Err BadLine) false number
 misformed number = record { bad = λ _. refl; good = λ e. absurd (let bad : ⊥ = cc in bad) }
 
-inside : (kind : ℕ → Kind) (form : Bool) (r : Result Bounded PlanKind) → node_of kind (cond form r (Err BadLine)) ≡ cond form (node_of kind r) (Err BadLine)
+inside : (kind : ℕ → GapKind) (form : Bool) (r : Result Bounded PlanKind) → node_of kind (cond form r (Err BadLine)) ≡ cond form (node_of kind r) (Err BadLine)
 inside kind true r = refl
 inside kind false r = refl
 
 -- one letter or the others
-by_letter : (b : Bool) (x y : Result TreeNode PlanKind) (form other : Bool) (number : Bool → Bool) → IsJudged x form (number true) → IsJudged y other (number false) → IsJudged (cond b x y) (cond b form other) (number b)
+by_letter : (b : Bool) (x y : Result GapNode PlanKind) (form other : Bool) (number : Bool → Bool) → IsJudged x form (number true) → IsJudged y other (number false) → IsJudged (cond b x y) (cond b form other) (number b)
 by_letter true x y form other number h k = h
 by_letter false x y form other number h k = k
 
@@ -146,13 +161,13 @@ module _ (p : Problem) (most : ℕ) where
       subst (IsJudged (branch_line p most fields) (nat_le (length fields) most)) (all_none (place_in p) fields)
       (judged (nat_le (length fields) most) (branch_of (all_of (place_in p) fields)) _ (branch_said (all_of (place_in p) fields)))
 
-  bounded_judged : (kind : ℕ → Kind) (fields : List (List ℕ)) → IsJudged (node_of kind (bounded_line p most fields)) (bounded_form most fields) (list_any no_amount (first_alone fields) || list_any no_place (behind_first fields))
+  bounded_judged : (kind : ℕ → GapKind) (fields : List (List ℕ)) → IsJudged (node_of kind (bounded_line p most fields)) (bounded_form most fields) (list_any no_amount (first_alone fields) || list_any no_place (behind_first fields))
   bounded_judged kind [] = misformed false
   bounded_judged kind (n ∷ cells) =
       let form = nat_le (length cells) most in
       let o = all_of (place_in p) cells in
       let here = judged form (node_of kind (bounded_of (amount_in n) o)) _ (bounded_said kind (amount_in n) o) in
-      subst (λ (r : Result TreeNode PlanKind). IsJudged r form ((no_amount n || false) || list_any no_place cells)) (sym (inside kind form (bounded_of (amount_in n) o)))
+      subst (λ (r : Result GapNode PlanKind). IsJudged r form ((no_amount n || false) || list_any no_place cells)) (sym (inside kind form (bounded_of (amount_in n) o)))
       (subst (λ (none : Bool). IsJudged (cond form (node_of kind (bounded_of (amount_in n) o)) (Err BadLine)) form ((no_amount n || false) || none)) (all_none (place_in p) cells) here)
 
   tangent_judged : (fields : List (List ℕ)) → IsJudged (tangent_line p most fields) (tangent_form p most fields) (list_any no_amount (first_alone fields) || list_any no_place (behind_first fields))
@@ -172,16 +187,17 @@ module _ (p : Problem) where
   abbrev numberless : List (List ℕ) → List (List ℕ) → Bool
   numberless amounts cells = list_any (λ f. is_none (amount_in f)) amounts || list_any (λ f. is_none (place_in p f)) cells
 
-  node_judged : (v : TextVersion) (fields : List (List ℕ)) → IsJudged (node_line p v fields) (node_form p v fields) (numberless (node_amounts fields) (node_positions fields))
+  node_judged : (v : Dialect) (fields : List (List ℕ)) → IsJudged (node_line p v fields) (node_form p v fields) (numberless (node_amounts fields) (node_positions fields))
   node_judged v [] = misformed false
   node_judged v (letter ∷ fields) =
-      let most = most_positions p v in
+      let most = most_positions p (prefixes_in v) in
       let number : Bool → Bool = λ _. numberless (first_alone fields) (behind_first fields) in
       by_letter (is_word letter (codes "B")) _ _ _ _ (λ (b : Bool). numberless (cond b [] (first_alone fields)) (cond b fields (behind_first fields))) (branch_judged p most fields)
-      (by_letter (is_word letter (codes "W")) _ _ _ _ number (bounded_judged p most (λ n. Whole n) fields)
-      (by_letter (is_word letter (codes "M")) _ _ _ _ number (bounded_judged p most (λ n. Mean n) fields)
+      (by_letter (is_word letter (codes "W")) _ _ _ _ number (bounded_judged p most (λ n. Closed (Whole n)) fields)
+      (by_letter (is_word letter (codes "M")) _ _ _ _ number (bounded_judged p most (λ n. Closed (Mean n)) fields)
       (by_letter (is_word letter (codes "T")) _ _ _ _ number (tangent_judged p most fields)
-      (by_letter (is_word letter (codes "E") && has_edges v) _ _ _ _ number (bounded_judged p most (λ n. Edge n) fields) (misformed _)))))
+      (by_letter (is_word letter (codes "E") && has_edges v) _ _ _ _ number (bounded_judged p most (λ n. Closed (Edge n)) fields)
+      (by_letter (is_word letter (codes "O") && has_open v) _ _ _ _ number (bounded_judged p most (λ n. Waiting n) fields) (misformed _))))))
 
   end_numbers : (fields : List (List ℕ)) → is_end fields ≡ true → numberless (node_amounts fields) (node_positions fields) ≡ false
   end_numbers [] e = absurd (let bad : ⊥ = cc in bad)
@@ -192,34 +208,38 @@ module _ (p : Problem) where
       none_there false = refl
   end_numbers (word ∷ more ∷ rest) e = absurd (let bad : ⊥ = cc in bad)
 
-said_table : (v : TextVersion) (left : ℕ) (expected : List (List ℕ)) (r : Result TreeNode PlanKind) (form number : Bool) → IsJudged r form number → fault_of (node_said v left expected r) ≡ placed_table form number (left == 0) (lacks_place v expected) false
-said_table v left expected r false number h = ap (λ (x : Result TreeNode PlanKind). fault_of (node_said v left expected x)) (h.bad refl)
-said_table v left expected r true true h = ap (λ (x : Result TreeNode PlanKind). fault_of (node_said v left expected x)) ((h.good refl).worse refl)
-said_table v left expected r true false h =
+said_table : (w : Prefixes) (left : ℕ) (expected : List (List ℕ)) (r : Result GapNode PlanKind) (form number : Bool) → IsJudged r form number → fault_of (node_said w left expected r) ≡ placed_table form number (left == 0) (lacks_place w expected) false
+said_table w left expected r false number h = ap (λ (x : Result GapNode PlanKind). fault_of (node_said w left expected x)) (h.bad refl)
+said_table w left expected r true true h = ap (λ (x : Result GapNode PlanKind). fault_of (node_said w left expected x)) ((h.good refl).worse refl)
+said_table w left expected r true false h =
     let x = (h.good refl).right refl in
-    ap (λ (y : Result TreeNode PlanKind). fault_of (node_said v left expected y)) x.1 ∙ left_table (left == 0) v expected x.0
+    ap (λ (y : Result GapNode PlanKind). fault_of (node_said w left expected y)) x.1 ∙ left_table (left == 0) w expected x.0
 
-record_table : (e : Bool) (v : TextVersion) (left : ℕ) (expected : List (List ℕ)) (r : Result TreeNode PlanKind) (form number : Bool) → (e ≡ true → number ≡ false) → IsJudged r form number →
-    fault_of (cond e (end_said v left expected) (node_said v left expected r)) ≡ placed_table (e || form) number (cond e (not (left == 0)) (left == 0)) (not e && lacks_place v expected) (e && awaits_record v expected)
-record_table true v left expected r form number none h = end_table (left == 0) v expected ∙ ap (λ (b : Bool). placed_table true b (not (left == 0)) false (awaits_record v expected)) (sym (none refl))
-record_table false v left expected r form number none h = said_table v left expected r form number h
+record_table : (e : Bool) (w : Prefixes) (left : ℕ) (expected : List (List ℕ)) (r : Result GapNode PlanKind) (form number : Bool) → (e ≡ true → number ≡ false) → IsJudged r form number →
+    fault_of (cond e (end_said w left expected) (node_said w left expected r)) ≡ placed_table (e || form) number (cond e (not (left == 0)) (left == 0)) (not e && lacks_place w expected) (e && awaits_record w expected)
+record_table true w left expected r form number none h = end_table (left == 0) w expected ∙ ap (λ (b : Bool). placed_table true b (not (left == 0)) false (awaits_record w expected)) (sym (none refl))
+record_table false w left expected r form number none h = said_table w left expected r form number h
 
 -- `nodes N`
 many_table : (few : Bool) (n : ℕ) → fault_of (cond few (Ok (Count n)) (Err TooManyNodes)) ≡ cond (not few) (Some TooManyNodes) None
 many_table true n = refl
 many_table false n = refl
 
-count_table : (form : Bool) (n : Option ℕ) → fault_of (cond form (count_said n) (Err BadLine)) ≡ first_kind ((not form, BadLine) ∷ ((is_none n || false) || false, BadNumber) ∷ (false, UnknownName) ∷ (not (nat_le (unwrap_or n 0) MOST_NODES), TooManyNodes) ∷ (false, WrongCount) ∷ (false, NoPlace) ∷ (false, StillOpen) ∷ [])
-count_table false n = refl
-count_table true None = refl
-count_table true (Some n) = many_table (nat_le n MOST_NODES) n
+count_table : (most : ℕ) (form : Bool) (n : Option ℕ) → fault_of (cond form (count_said most n) (Err BadLine)) ≡ first_kind ((not form, BadLine) ∷ ((is_none n || false) || false, BadNumber) ∷ (false, UnknownName) ∷ (not (nat_le (unwrap_or n 0) most), TooManyNodes) ∷ (false, WrongCount) ∷ (false, NoPlace) ∷ (false, StillOpen) ∷ [])
+count_table most false n = refl
+count_table most true None = refl
+count_table most true (Some n) = many_table (nat_le n most) n
 
-stage_table : (p : Problem) (v : TextVersion) (stage : Stage) (expected fields : List (List ℕ)) → fault_of (stage_line p v stage expected fields)
-    ≡ first_kind ((not (has_form p v stage fields), BadLine) ∷ (is_bad_number p stage fields, BadNumber) ∷ (has_unknown p stage fields, UnknownName) ∷ (has_too_many stage fields, TooManyNodes) ∷ (is_miscounted stage fields, WrongCount) ∷ (has_no_place v stage expected fields, NoPlace) ∷ (is_still_open v stage expected fields, StillOpen) ∷ [])
-stage_table p v due.Version expected [] = refl
-stage_table p v due.Version expected (word ∷ []) = refl
-stage_table p v due.Version expected (word ∷ version ∷ []) = version_table (is_word word (codes "plan")) (is_word version (codes "1")) (is_word version (codes "2"))
-stage_table p v due.Version expected (word ∷ version ∷ more ∷ rest) = refl
+stage_table : (p : Problem) (v : Dialect) (stage : Stage) (expected fields : List (List ℕ)) → fault_of (stage_line p v stage expected fields)
+    ≡ first_kind ((not (has_form p v stage fields), BadLine) ∷ (is_bad_number p stage fields, BadNumber) ∷ (has_unknown p stage fields, UnknownName) ∷ (has_too_many v stage fields, TooManyNodes) ∷ (is_miscounted stage fields, WrongCount) ∷ (has_no_place v stage expected fields, NoPlace) ∷ (is_still_open v stage expected fields, StillOpen) ∷ [])
+stage_table p v (due.Version Plans) expected [] = refl
+stage_table p v (due.Version Plans) expected (word ∷ []) = refl
+stage_table p v (due.Version Plans) expected (word ∷ version ∷ []) = version_table (is_word word (codes "plan")) (is_word version (codes "1")) (is_word version (codes "2"))
+stage_table p v (due.Version Plans) expected (word ∷ version ∷ more ∷ rest) = refl
+stage_table p v (due.Version Gaps) expected [] = refl
+stage_table p v (due.Version Gaps) expected (word ∷ []) = refl
+stage_table p v (due.Version Gaps) expected (word ∷ version ∷ []) = gap_table (is_word word (codes "gap")) (is_word version (codes "1"))
+stage_table p v (due.Version Gaps) expected (word ∷ version ∷ more ∷ rest) = refl
 stage_table p v due.Path expected [] = refl
 stage_table p v due.Path expected (word ∷ names) =
     let o = all_of (position_named p) names in
@@ -230,12 +250,16 @@ stage_table p v due.Chance expected (word ∷ value ∷ []) = refl
 stage_table p v due.Chance expected (word ∷ value ∷ weight ∷ []) =
     by_form (is_word word (codes "chance")) (chance_said (amount_in value) (amount_in weight)) _ false false (chance_table (amount_in value) (amount_in weight))
 stage_table p v due.Chance expected (word ∷ value ∷ weight ∷ more ∷ rest) = refl
+stage_table p v due.Ceiling expected [] = refl
+stage_table p v due.Ceiling expected (word ∷ []) = refl
+stage_table p v due.Ceiling expected (word ∷ n ∷ []) = by_form (is_word word (codes "ceiling")) (ceiling_said (amount_in n)) _ false false (ceiling_table (amount_in n))
+stage_table p v due.Ceiling expected (word ∷ n ∷ more ∷ rest) = refl
 stage_table p v due.Count expected [] = refl
 stage_table p v due.Count expected (word ∷ []) = refl
-stage_table p v due.Count expected (word ∷ n ∷ []) = count_table (is_word word (codes "nodes")) (amount_in n)
+stage_table p v due.Count expected (word ∷ n ∷ []) = count_table (most_records (family_of v)) (is_word word (codes "nodes")) (amount_in n)
 stage_table p v due.Count expected (word ∷ n ∷ more ∷ rest) = refl
 stage_table p v (due.Records left) expected fields =
-    record_table (is_end fields) v left expected (node_line p v fields) (node_form p v fields) _ (end_numbers p fields) (node_judged p v fields)
+    record_table (is_end fields) (prefixes_in v) left expected (node_line p v fields) (node_form p v fields) _ (end_numbers p fields) (node_judged p v fields)
 stage_table p v due.Ended expected fields = refl
 
 by_empty : (empty form number unknown many miscounted homeless open_still : Bool) (r : Result PlanLine PlanKind) → fault_of r ≡ first_kind ((not form, BadLine) ∷ (number, BadNumber) ∷ (unknown, UnknownName) ∷ (many, TooManyNodes) ∷ (miscounted, WrongCount) ∷ (homeless, NoPlace) ∷ (open_still, StillOpen) ∷ []) →
@@ -245,4 +269,4 @@ by_empty false form number unknown many miscounted homeless open_still r e = e
 
 pub kinds_by_table : KindsByTable
 unfolding line_at
-kinds_by_table p d fields = by_empty (list_any (λ f. length f == 0) fields) _ _ _ _ _ _ _ (stage_line p d.version d.stage d.expected fields) (stage_table p d.version d.stage d.expected fields)
+kinds_by_table p d fields = by_empty (list_any (λ f. length f == 0) fields) _ _ _ _ _ _ _ (stage_line p d.dialect d.stage d.expected fields) (stage_table p d.dialect d.stage d.expected fields)

@@ -5,6 +5,7 @@ use Rattle.tree_format.specs.declared.kind.PlanKind.{PlanKind}
 use Rattle.tree_format.specs.declared.kind.PlanKind.TheVariants.{EarlyEnd, Rest}
 use Rattle.tree_format.specs.declared.kind.PlanFault.{PlanFault}
 use Rattle.tree_format.specs.declared.due.Due.{Due}
+use Rattle.tree_format.specs.declared.plan_line.Family.{Family}
 use Rattle.tree_format.specs.declared.plan_line.Stage.TheVariants as due
 use Rattle.tree_format.specs.declared.plan_line.PlanLine.{PlanLine}
 use Rattle.text_rows.specs.Fields.{exact_fields}
@@ -48,5 +49,6 @@ pub record IsFaultFrom (p : Problem) (d : Due) (number : ℕ) (text : List ℕ) 
   pub here : HasFault p (due_behind p d said) rest fault.kind
   pub line : fault.line ≡ number + length before
 
-abbrev pub IsFirstFault : Problem → List ℕ → PlanFault → Type 0
-IsFirstFault p text fault = IsFaultFrom p at_start 1 text fault
+-- from the first line of a text of the family on
+abbrev pub IsFirstFault : Family → Problem → List ℕ → PlanFault → Type 0
+IsFirstFault family p text fault = IsFaultFrom p (at_start family) 1 text fault

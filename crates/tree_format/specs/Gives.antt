@@ -2,22 +2,23 @@
 use Rattle.std.specs.Prelude.{◌≡◌, ℕ, List, Result, Ok, Err}
 use Rattle.search_model.specs.Problem.{Problem}
 use Rattle.bound_tree.specs.declared.plan.Plan.{Plan}
+use Rattle.bound_tree.specs.declared.gap.GapPlan.{GapPlan}
 use Rattle.tree_format.specs.declared.draft.Draft.{Draft}
 use Rattle.tree_format.specs.declared.kind.PlanKind.{PlanKind}
 use Rattle.tree_format.specs.declared.kind.PlanFault.{PlanFault}
 use Rattle.tree_format.specs.declared.plan_line.PlanLine.{PlanLine}
 use Rattle.tree_format.specs.declared.stop.PlanStop.{PlanStop}
 use Rattle.tree_format.specs.declared.stop.PlanStop.TheVariants.{Fault, NoMemory}
-use Rattle.tree_format.specs.Reading.{plan_at, next, taken, at_line_number}
+use Rattle.tree_format.specs.Reading.{plan_at, gap_at, next, taken, at_line_number}
 
--- the plan of what a draft has read
-abbrev pub plan_of : Draft → Plan
-plan_of d = record { standing = record { path = d.path; value = d.value }; weight = d.weight; tree = d.nodes.items }
+-- the gap plan of what a draft has read
+abbrev pub gap_in : Draft → GapPlan
+gap_in d = record { standing = record { path = d.path; value = d.value }; weight = d.weight; ceiling = d.ceiling; nodes = d.nodes.items }
 
 -- a line was added, unless memory ran out
 pub record Adds (p : Problem) (old new : Draft) (line : PlanLine) : Type 0 where
   pub due : new.due ≡ next p old.due line
-  pub plan : plan_of new ≡ taken (plan_of old) line
+  pub plan : gap_in new ≡ taken (gap_in old) line
 
 -- the line of this number was added, or has that fault, unless memory ran out
 abbrev pub TakesLine : Problem → ℕ → Draft → Draft → Result (Unit {0}) PlanStop → Result PlanLine PlanKind → Type 0
@@ -26,31 +27,39 @@ TakesLine p number old new (Err (Fault fault)) said = (kind : PlanKind) × (said
 TakesLine p number old new (Err NoMemory) said = Unit {0}
 
 -- the text was read as its lines are, or has that fault, unless memory ran out
-abbrev pub Gives : Result Draft PlanStop → Result Plan PlanFault → Type 0
-Gives (Ok draft) read = read ≡ Ok (plan_of draft)
+abbrev pub Gives : Result Draft PlanStop → Result GapPlan PlanFault → Type 0
+Gives (Ok draft) read = read ≡ Ok (gap_in draft)
 Gives (Err (Fault fault)) read = read ≡ Err fault
 Gives (Err NoMemory) read = Unit {0}
 
--- the plan that the text spells, or its first fault, unless memory ran out
+-- what reading gives was answered, or its fault, unless memory ran out
+abbrev pub Reads : {A : Type 0} → Result A PlanFault → Result A PlanStop → Type 0
+Reads read (Ok plan) = read ≡ Ok plan
+Reads read (Err (Fault fault)) = read ≡ Err fault
+Reads read (Err NoMemory) = Unit {0}
+
+-- the plan that the text spells, or its first fault
 abbrev pub ReadsPlan : Problem → List ℕ → Result Plan PlanStop → Type 0
-ReadsPlan p text (Ok plan) = plan_at p text ≡ Ok plan
-ReadsPlan p text (Err (Fault fault)) = plan_at p text ≡ Err fault
-ReadsPlan p text (Err NoMemory) = Unit {0}
+ReadsPlan p text result = Reads (plan_at p text) result
+
+-- the gap plan that the text spells, or its first fault
+abbrev pub ReadsGap : Problem → List ℕ → Result GapPlan PlanStop → Type 0
+ReadsGap p text result = Reads (gap_at p text) result
 
 -- this plan was read, unless memory ran out
-abbrev pub Says : Result Plan PlanStop → Plan → Type 0
+abbrev pub Says : {A : Type 0} → Result A PlanStop → A → Type 0
 Says (Ok read) plan = read ≡ plan
 Says (Err (Fault fault)) plan = ⊥
 Says (Err NoMemory) plan = Unit {0}
 
 -- this fault was told, unless memory ran out
-abbrev pub Tells : Result Plan PlanStop → PlanFault → Type 0
+abbrev pub Tells : {A : Type 0} → Result A PlanStop → PlanFault → Type 0
 Tells (Ok read) fault = ⊥
 Tells (Err (Fault told)) fault = told ≡ fault
 Tells (Err NoMemory) fault = Unit {0}
 
 -- this holds of a fault that was told
-abbrev pub IfFault : Result Plan PlanStop → (PlanFault → Type 0) → Type 0
+abbrev pub IfFault : {A : Type 0} → Result A PlanStop → (PlanFault → Type 0) → Type 0
 IfFault (Ok read) P = Unit {0}
 IfFault (Err (Fault told)) P = P told
 IfFault (Err NoMemory) P = Unit {0}

@@ -4,23 +4,27 @@ use Rattle.std.specs.List.{list_any}
 use Rattle.search_model.specs.Problem.{Problem}
 use Rattle.bound_tree.specs.Places.{first_of}
 use Rattle.tree_format.specs.declared.due.Due.{Due}
-use Rattle.tree_format.specs.declared.plan_line.TextVersion.{TextVersion}
-use Rattle.tree_format.specs.declared.plan_line.TextVersion.TheVariants.{One, Two}
+use Rattle.tree_format.specs.declared.plan_line.Dialect.{Dialect}
+use Rattle.tree_format.specs.declared.plan_line.Family.{Family}
+use Rattle.tree_format.specs.declared.plan_line.Family.TheVariants.{Plans, Gaps}
+use Rattle.tree_format.specs.declared.plan_line.Prefixes.{Prefixes}
+use Rattle.tree_format.specs.declared.plan_line.Prefixes.TheVariants.{Written, LeftOut}
+use Rattle.tree_format.specs.Dialects.{family_of, most_records, has_edges, has_open, prefixes_in}
 use Rattle.tree_format.specs.declared.plan_line.Stage.{Stage}
 use Rattle.tree_format.specs.declared.plan_line.Stage.TheVariants as due
 use Rattle.tree_format.specs.declared.kind.PlanKind.{PlanKind}
 use Rattle.tree_format.specs.declared.kind.PlanKind.TheVariants.{BadLine, BadNumber, UnknownName, TooManyNodes, WrongCount, NoPlace, StillOpen}
-use Rattle.tree_format.specs.Reading.{amount_in, place_in, position_named, most_positions, has_edges, is_end, line_at}
+use Rattle.tree_format.specs.Reading.{amount_in, place_in, position_named, most_positions, is_end, line_at}
 use Rattle.text_rows.specs.Fields.{is_word, behind_first, first_alone}
 use Rattle.text_rows.specs.Kinds.{first_kind, fault_of}
-use Rattle.bound_tree.specs.declared.tree.TheConstants.{MOST_NODES}
 
 -- The keyword or letter and the number of fields.
 
--- `plan 1` or `plan 2`
-abbrev pub version_form : List (List ℕ) → Bool
-version_form (word ∷ number ∷ []) = is_word word (codes "plan") && (is_word number (codes "1") || is_word number (codes "2"))
-version_form _ = false
+-- `plan 1` or `plan 2`; or `gap 1`
+abbrev pub version_form : Family → List (List ℕ) → Bool
+version_form Plans (word ∷ number ∷ []) = is_word word (codes "plan") && (is_word number (codes "1") || is_word number (codes "2"))
+version_form Gaps (word ∷ number ∷ []) = is_word word (codes "gap") && is_word number (codes "1")
+version_form _ _ = false
 
 -- `path` and 1 to 32 names
 abbrev pub path_form : List (List ℕ) → Bool
@@ -31,6 +35,11 @@ path_form [] = false
 abbrev pub chance_form : List (List ℕ) → Bool
 chance_form (word ∷ value ∷ weight ∷ []) = is_word word (codes "chance")
 chance_form _ = false
+
+-- `ceiling` and a number
+abbrev pub ceiling_form : List (List ℕ) → Bool
+ceiling_form (word ∷ n ∷ []) = is_word word (codes "ceiling")
+ceiling_form _ = false
 
 -- `nodes` and a number
 abbrev pub count_form : List (List ℕ) → Bool
@@ -47,21 +56,23 @@ abbrev pub tangent_form : Problem → ℕ → List (List ℕ) → Bool
 tangent_form p most [] = false
 tangent_form p most (n ∷ positions) = nat_le p.horizon (length positions) && nat_le (length positions) (most + p.horizon)
 
--- a record, by its letter, of which version 1 lacks `E`
-abbrev pub node_form : Problem → TextVersion → List (List ℕ) → Bool
+-- a record, by its letter; not all dialects have `E` and `O`
+abbrev pub node_form : Problem → Dialect → List (List ℕ) → Bool
 node_form p v [] = false
 node_form p v (letter ∷ fields) =
-    if is_word letter (codes "B") then nat_le (length fields) (most_positions p v) else
-    (if is_word letter (codes "W") then bounded_form (most_positions p v) fields else
-    (if is_word letter (codes "M") then bounded_form (most_positions p v) fields else
-    (if is_word letter (codes "T") then tangent_form p (most_positions p v) fields else
-    (if is_word letter (codes "E") && has_edges v then bounded_form (most_positions p v) fields else false))))
+    if is_word letter (codes "B") then nat_le (length fields) (most_positions p (prefixes_in v)) else
+    (if is_word letter (codes "W") then bounded_form (most_positions p (prefixes_in v)) fields else
+    (if is_word letter (codes "M") then bounded_form (most_positions p (prefixes_in v)) fields else
+    (if is_word letter (codes "T") then tangent_form p (most_positions p (prefixes_in v)) fields else
+    (if is_word letter (codes "E") && has_edges v then bounded_form (most_positions p (prefixes_in v)) fields else
+    (if is_word letter (codes "O") && has_open v then bounded_form (most_positions p (prefixes_in v)) fields else false)))))
 
 -- the form of a line that may stand where this is due
-abbrev pub has_form : Problem → TextVersion → Stage → List (List ℕ) → Bool
-has_form p v due.Version fields = version_form fields
+abbrev pub has_form : Problem → Dialect → Stage → List (List ℕ) → Bool
+has_form p v (due.Version family) fields = version_form family fields
 has_form p v due.Path fields = path_form fields
 has_form p v due.Chance fields = chance_form fields
+has_form p v due.Ceiling fields = ceiling_form fields
 has_form p v due.Count fields = count_form fields
 has_form p v (due.Records left) fields = is_end fields || node_form p v fields
 has_form p v due.Ended fields = false
@@ -81,6 +92,7 @@ node_positions (letter ∷ fields) = if is_word letter (codes "B") then fields e
 -- the fields of a line in the places of numbers
 abbrev pub amounts : Stage → List (List ℕ) → List (List ℕ)
 amounts due.Chance fields = behind_first fields
+amounts due.Ceiling fields = behind_first fields
 amounts due.Count fields = behind_first fields
 amounts (due.Records left) fields = node_amounts fields
 amounts _ fields = []
@@ -98,7 +110,7 @@ names _ fields = []
 -- The tests.
 
 -- a field is empty, or the form is wrong for this line
-abbrev pub is_bad_line : Problem → TextVersion → Stage → List (List ℕ) → Bool
+abbrev pub is_bad_line : Problem → Dialect → Stage → List (List ℕ) → Bool
 is_bad_line p v stage fields = list_any (λ f. length f == 0) fields || not (has_form p v stage fields)
 
 -- a field in a number's place is no plain decimal below 2 to the power 128, or one in a position's place is no position's number
@@ -111,14 +123,14 @@ abbrev pub has_unknown : Problem → Stage → List (List ℕ) → Bool
 has_unknown p stage fields = list_any (λ f. is_none (position_named p f)) (names stage fields)
 
 -- a number of records above the limit
-abbrev pub announces_more : List (List ℕ) → Bool
-announces_more (word ∷ n ∷ []) = not (nat_le (unwrap_or (amount_in n) 0) MOST_NODES)
-announces_more _ = false
+abbrev pub announces_more : ℕ → List (List ℕ) → Bool
+announces_more most (word ∷ n ∷ []) = not (nat_le (unwrap_or (amount_in n) 0) most)
+announces_more most _ = false
 
--- more records are announced than a plan may have
-abbrev pub has_too_many : Stage → List (List ℕ) → Bool
-has_too_many due.Count fields = announces_more fields
-has_too_many _ fields = false
+-- more records are announced than a text of the family may have
+abbrev pub has_too_many : Dialect → Stage → List (List ℕ) → Bool
+has_too_many v due.Count fields = announces_more (most_records (family_of v)) fields
+has_too_many v _ fields = false
 
 -- a record where none is left, or the end where one is
 abbrev pub is_miscounted : Stage → List (List ℕ) → Bool
@@ -126,35 +138,35 @@ is_miscounted (due.Records left) fields = if is_end fields then not (left == 0) 
 is_miscounted _ fields = false
 
 -- no prefix is expected where the text leaves them out, or one is
-abbrev pub lacks_place : TextVersion → List (List ℕ) → Bool
-lacks_place One expected = false
-lacks_place Two expected = is_none (first_of expected)
+abbrev pub lacks_place : Prefixes → List (List ℕ) → Bool
+lacks_place Written expected = false
+lacks_place LeftOut expected = is_none (first_of expected)
 
-abbrev pub awaits_record : TextVersion → List (List ℕ) → Bool
-awaits_record One expected = false
-awaits_record Two expected = not (is_none (first_of expected))
+abbrev pub awaits_record : Prefixes → List (List ℕ) → Bool
+awaits_record Written expected = false
+awaits_record LeftOut expected = not (is_none (first_of expected))
 
--- in version 2 a record where no prefix is expected
-abbrev pub has_no_place : TextVersion → Stage → List (List ℕ) → List (List ℕ) → Bool
-has_no_place v (due.Records left) expected fields = not (is_end fields) && lacks_place v expected
+-- where prefixes are left out, a record where none is expected
+abbrev pub has_no_place : Dialect → Stage → List (List ℕ) → List (List ℕ) → Bool
+has_no_place v (due.Records left) expected fields = not (is_end fields) && lacks_place (prefixes_in v) expected
 has_no_place v _ expected fields = false
 
--- in version 2 the end where one is
-abbrev pub is_still_open : TextVersion → Stage → List (List ℕ) → List (List ℕ) → Bool
-is_still_open v (due.Records left) expected fields = is_end fields && awaits_record v expected
+-- and the end where one is
+abbrev pub is_still_open : Dialect → Stage → List (List ℕ) → List (List ℕ) → Bool
+is_still_open v (due.Records left) expected fields = is_end fields && awaits_record (prefixes_in v) expected
 is_still_open v _ expected fields = false
 
 -- the kinds in their order
 abbrev pub kind_by_table : Problem → Due → List (List ℕ) → Option PlanKind
 kind_by_table p d fields =
     first_kind
-    ((is_bad_line p d.version d.stage fields, BadLine)
+    ((is_bad_line p d.dialect d.stage fields, BadLine)
     ∷ (is_bad_number p d.stage fields, BadNumber)
     ∷ (has_unknown p d.stage fields, UnknownName)
-    ∷ (has_too_many d.stage fields, TooManyNodes)
+    ∷ (has_too_many d.dialect d.stage fields, TooManyNodes)
     ∷ (is_miscounted d.stage fields, WrongCount)
-    ∷ (has_no_place d.version d.stage d.expected fields, NoPlace)
-    ∷ (is_still_open d.version d.stage d.expected fields, StillOpen)
+    ∷ (has_no_place d.dialect d.stage d.expected fields, NoPlace)
+    ∷ (is_still_open d.dialect d.stage d.expected fields, StillOpen)
     ∷ [])
 
 -- a line has the fault that the table gives

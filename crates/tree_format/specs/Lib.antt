@@ -1,3 +1,4 @@
+pub mod Dialects
 pub mod PlanText
 pub mod RecordParts
 pub mod Kinds

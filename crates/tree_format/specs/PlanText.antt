@@ -1,16 +1,27 @@
 -- The text of a plan: it has one spelling of version 1 where no record is an edge bound, and one of version 2 where its
--- records have the prefixes that are expected.
-use Rattle.std.specs.Prelude.{ℕ, ◌^◌, ◌≡◌, ◌⊎◌, ◌<◌, ◌≤◌, List, [], ◌∷◌, ◌++◌, map, length, codes, All}
+-- records have the prefixes that are expected. A gap plan has one spelling where its nodes have the prefixes that are
+-- expected. A plan is written as the gap plan in which all nodes are closed and the ceiling is the value.
+use Rattle.std.specs.Prelude.{ℕ, ◌^◌, ◌≡◌, ◌⊎◌, ◌<◌, ◌≤◌, if◌then◌else◌, List, [], ◌∷◌, ◌++◌, map, length, codes, All}
 use Rattle.std.specs.Fmt.{decimal}
 use Rattle.text_rows.specs.Rows.{text_of}
+use Rattle.search_model.specs.declared.standing.Standing.{Standing}
 use Rattle.search_model.specs.Problem.{Problem, position_name}
 use Rattle.bound_tree.specs.declared.node.Kind.{Kind}
 use Rattle.bound_tree.specs.declared.node.Kind.TheVariants.{Branch, Whole, Mean, Tangent, Edge}
 use Rattle.bound_tree.specs.declared.node.TreeNode.{TreeNode}
 use Rattle.bound_tree.specs.declared.plan.Plan.{Plan}
+use Rattle.bound_tree.specs.declared.gap.GapKind.{GapKind}
+use Rattle.bound_tree.specs.declared.gap.GapKind.TheVariants.{Closed, Waiting}
+use Rattle.bound_tree.specs.declared.gap.GapNode.{GapNode}
+use Rattle.bound_tree.specs.declared.gap.GapPlan.{GapPlan}
+use Rattle.bound_tree.specs.Gaps.{shape_of, gap_of}
 use Rattle.bound_tree.specs.Places.{AreInPlace}
-use Rattle.tree_format.specs.declared.plan_line.TextVersion.{TextVersion}
-use Rattle.tree_format.specs.declared.plan_line.TextVersion.TheVariants.{One, Two}
+use Rattle.tree_format.specs.declared.plan_line.Dialect.{Dialect}
+use Rattle.tree_format.specs.declared.plan_line.Dialect.TheVariants.{One, Two, Gap}
+use Rattle.tree_format.specs.declared.plan_line.Prefixes.{Prefixes}
+use Rattle.tree_format.specs.declared.plan_line.Prefixes.TheVariants.{Written, LeftOut}
+use Rattle.tree_format.specs.Dialects.{version_row, has_ceiling, prefixes_in}
+use Rattle.tree_format.specs.declared.dialects.TheConstants.{MOST_GAP_NODES}
 use Rattle.bound_tree.specs.declared.tree.TheConstants.{MOST_NODES}
 
 -- position numbers as fields
@@ -25,53 +36,63 @@ kind_fields q (Mean bound) = codes "M" ∷ decimal bound ∷ numbers q
 kind_fields q (Tangent bound reference) = codes "T" ∷ decimal bound ∷ (numbers q ++ numbers reference)
 kind_fields q (Edge bound) = codes "E" ∷ decimal bound ∷ numbers q
 
--- the prefix of a record as its line has it, which version 2 leaves out
-abbrev pub written : TextVersion → List ℕ → List ℕ
-written One q = q
-written Two q = []
+-- a node that waits has its number as a bound
+abbrev pub node_fields : List ℕ → GapKind → List (List ℕ)
+node_fields q (Closed kind) = kind_fields q kind
+node_fields q (Waiting n) = codes "O" ∷ decimal n ∷ numbers q
 
-abbrev pub record_row : TextVersion → TreeNode → List (List ℕ)
-record_row v r = kind_fields (written v r.prefix) r.kind
+-- the prefix of a record as its line has it
+abbrev pub written : Prefixes → List ℕ → List ℕ
+written Written q = q
+written LeftOut q = []
 
--- the rows of the lines, each as its fields: `plan 1` or `plan 2`, `path NAME ..`, `chance V W`, `nodes N`
-abbrev pub version_word : TextVersion → List ℕ
-version_word One = codes "1"
-version_word Two = codes "2"
+abbrev pub node_row : Dialect → GapNode → List (List ℕ)
+node_row v node = node_fields (written (prefixes_in v) node.prefix) node.kind
 
-abbrev pub version_row : TextVersion → List (List ℕ)
-version_row v = codes "plan" ∷ version_word v ∷ []
-
-abbrev pub path_rows : TextVersion → Problem → List ℕ → List (List (List ℕ))
+-- the rows of the lines, each as its fields: the first line, `path NAME ..`, `chance V W`, `nodes N`
+abbrev pub path_rows : Dialect → Problem → List ℕ → List (List (List ℕ))
 path_rows v p q = version_row v ∷ (codes "path" ∷ map (position_name p) q) ∷ []
 
--- the line of the version with its line feed, and the word of the next line
-abbrev pub first_words : TextVersion → List ℕ
+-- the first line with its line feed, and the word of the next line
+abbrev pub first_words : Dialect → List ℕ
 first_words One = codes "plan 1" ++ 10 ∷ codes "path"
 first_words Two = codes "plan 2" ++ 10 ∷ codes "path"
+first_words Gap = codes "gap 1" ++ 10 ∷ codes "path"
 
 abbrev pub chance_row : ℕ → ℕ → List (List ℕ)
 chance_row value weight = codes "chance" ∷ decimal value ∷ decimal weight ∷ []
 
+abbrev pub ceiling_row : ℕ → List (List ℕ)
+ceiling_row ceiling = codes "ceiling" ∷ decimal ceiling ∷ []
+
+-- `ceiling N`, where a text has it
+abbrev pub ceiling_rows : Dialect → ℕ → List (List (List ℕ))
+ceiling_rows v ceiling = if has_ceiling v then ceiling_row ceiling ∷ [] else []
+
 abbrev pub count_row : ℕ → List (List ℕ)
 count_row n = codes "nodes" ∷ decimal n ∷ []
 
--- and then the records, and `end`
-abbrev pub plan_rows : TextVersion → Problem → Plan → List (List (List ℕ))
-plan_rows v p plan =
-    path_rows v p plan.standing.path
-    ++ (chance_row plan.standing.value plan.weight
-    ∷ count_row (length plan.tree)
-    ∷ (map (record_row v) plan.tree ++ (codes "end" ∷ []) ∷ []))
+-- all lines before the records, of which so many follow
+abbrev pub head_rows : Dialect → Problem → Standing → ℕ → ℕ → ℕ → List (List (List ℕ))
+head_rows v p s weight ceiling n = path_rows v p s.path ++ (chance_row s.value weight ∷ (ceiling_rows v ceiling ++ count_row n ∷ []))
 
--- the text of that version
-abbrev pub text_in : TextVersion → Problem → Plan → List ℕ
+-- and then the records, and `end`
+abbrev pub plan_rows : Dialect → Problem → GapPlan → List (List (List ℕ))
+plan_rows v p plan =
+    head_rows v p plan.standing plan.weight plan.ceiling (length plan.nodes) ++ (map (node_row v) plan.nodes ++ (codes "end" ∷ []) ∷ [])
+
+-- the text of that dialect
+abbrev pub text_in : Dialect → Problem → GapPlan → List ℕ
 text_in v p plan = text_of (plan_rows v p plan)
 
 abbrev pub plan_text : Problem → Plan → List ℕ
-plan_text p plan = text_in One p plan
+plan_text p plan = text_in One p (gap_of plan)
 
 abbrev pub plan_text_2 : Problem → Plan → List ℕ
-plan_text_2 p plan = text_in Two p plan
+plan_text_2 p plan = text_in Two p (gap_of plan)
+
+abbrev pub gap_text : Problem → GapPlan → List ℕ
+gap_text p plan = text_in Gap p plan
 
 -- all are positions of the problem
 abbrev pub ArePositions : Problem → List ℕ → Type 0
@@ -120,12 +141,7 @@ IsNoEdge (Mean bound) = Unit {0}
 IsNoEdge (Tangent bound reference) = Unit {0}
 IsNoEdge (Edge bound) = ⊥
 
--- for an edge bound version 1 has no letter
-abbrev pub IsLettered : TextVersion → Kind → Type 0
-IsLettered One kind = IsNoEdge kind
-IsLettered Two kind = Unit {0}
-
--- so version 1 has a text of a plan none of whose records is one
+-- for an edge bound version 1 has no letter, so it has a text of a plan none of whose records is one
 abbrev pub HasNoEdge : Plan → Type 0
 HasNoEdge plan = All (λ r. IsNoEdge r.kind) plan.tree
 
@@ -146,3 +162,30 @@ pub record IsPlanText2 (p : Problem) (plan : Plan) (text : List ℕ) : Type 0 wh
 -- they are the text of this plan in one of the versions
 abbrev pub IsTextOfPlan : Problem → Plan → List ℕ → Type 0
 IsTextOfPlan p plan text = IsPlanText p plan text ⊎ IsPlanText2 p plan text
+
+-- the number of a node that waits is as narrow
+abbrev pub IsNarrowNode : GapKind → Type 0
+IsNarrowNode (Closed kind) = IsNarrowKind kind
+IsNarrowNode (Waiting n) = n < 2 ^ 128
+
+-- what can be written of a gap plan and read again, where its nodes have the prefixes that are expected: a path of 1 to 32
+-- positions, and at most 4,194,305 nodes
+pub record IsPrintableGap (p : Problem) (plan : GapPlan) : Type 0 where
+  pub some : 1 ≤ length plan.standing.path
+  pub short : length plan.standing.path ≤ 32
+  pub positions : ArePositions p plan.standing.path
+  pub few : length plan.nodes ≤ MOST_GAP_NODES
+  pub kinds : All (λ node. IsPrintableKind p (shape_of node).kind) plan.nodes
+
+pub record IsNarrowGap (plan : GapPlan) : Type 0 where
+  pub value : plan.standing.value < 2 ^ 128
+  pub weight : plan.weight < 2 ^ 128
+  pub ceiling : plan.ceiling < 2 ^ 128
+  pub nodes : All (λ node. IsNarrowNode node.kind) plan.nodes
+
+-- the bytes are the one text of this gap plan, whose nodes have the prefixes that are expected
+pub record IsGapText (p : Problem) (plan : GapPlan) (text : List ℕ) : Type 0 where
+  pub printable : IsPrintableGap p plan
+  pub narrow : IsNarrowGap plan
+  pub in_place : AreInPlace p ([] ∷ []) (map shape_of plan.nodes)
+  pub spelled : text ≡ gap_text p plan

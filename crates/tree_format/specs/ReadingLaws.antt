@@ -1,12 +1,15 @@
 -- What holds of reading the text of a plan.
-use Rattle.std.specs.Prelude.{ℕ, ◌≡◌, ◌↔◌, List, [], ◌∷◌, Ok, Err}
+use Rattle.std.specs.Prelude.{ℕ, ◌≡◌, ◌↔◌, List, [], ◌∷◌, map, Ok, Err}
 use Rattle.search_model.specs.Problem.{Problem, IsProblem}
 use Rattle.bound_tree.specs.declared.plan.Plan.{Plan}
+use Rattle.bound_tree.specs.declared.gap.GapPlan.{GapPlan}
+use Rattle.bound_tree.specs.Gaps.{shape_of}
 use Rattle.bound_tree.specs.Places.{AreInPlace}
+use Rattle.tree_format.specs.declared.plan_line.Family.{Family}
 use Rattle.tree_format.specs.declared.kind.PlanFault.{PlanFault}
 use Rattle.tree_format.specs.declared.due.Due.{Due}
-use Rattle.tree_format.specs.PlanText.{IsPrintable, IsNarrow, HasNoEdge, IsTextOfPlan, plan_text, plan_text_2}
-use Rattle.tree_format.specs.Reading.{line_at, plan_at, summary_of}
+use Rattle.tree_format.specs.PlanText.{IsPrintable, IsNarrow, HasNoEdge, IsTextOfPlan, IsPrintableGap, IsNarrowGap, IsGapText, plan_text, plan_text_2, gap_text}
+use Rattle.tree_format.specs.Reading.{line_at, text_at, plan_at, gap_at, summary_of}
 use Rattle.tree_format.specs.Faults.{IsFirstFault}
 
 -- the text of version 1 of a plan without edge bounds reads back as the plan
@@ -17,13 +20,25 @@ PlanTextReadsBack = (p : Problem) (plan : Plan) → IsProblem p → IsPrintable 
 abbrev pub PlanText2ReadsBack : Type 0
 PlanText2ReadsBack = (p : Problem) (plan : Plan) → IsProblem p → IsPrintable p plan → IsNarrow plan → AreInPlace p ([] ∷ []) plan.tree → plan_at p (plan_text_2 p plan) ≡ Ok plan
 
+-- and so does the text of a gap plan, where the nodes have the prefixes that are expected
+abbrev pub GapTextReadsBack : Type 0
+GapTextReadsBack = (p : Problem) (plan : GapPlan) → IsProblem p → IsPrintableGap p plan → IsNarrowGap plan → AreInPlace p ([] ∷ []) (map shape_of plan.nodes) → gap_at p (gap_text p plan) ≡ Ok plan
+
 -- what is read as a plan is the text of that plan in one of the versions
 abbrev pub OneTextAPlan : Type 0
 OneTextAPlan = (p : Problem) (plan : Plan) (text : List ℕ) → IsProblem p → plan_at p text ≡ Ok plan → IsTextOfPlan p plan text
 
+-- what is read as a gap plan is the text of that gap plan, which has one
+abbrev pub OneTextAGap : Type 0
+OneTextAGap = (p : Problem) (plan : GapPlan) (text : List ℕ) → IsProblem p → gap_at p text ≡ Ok plan → IsGapText p plan text
+
 -- two plans of one text are one plan
 abbrev pub OnePlanAText : Type 0
 OnePlanAText = (p : Problem) (a b : Plan) (text : List ℕ) → IsProblem p → IsTextOfPlan p a text → IsTextOfPlan p b text → a ≡ b
+
+-- and two gap plans of one text are one
+abbrev pub OneGapAText : Type 0
+OneGapAText = (p : Problem) (a b : GapPlan) (text : List ℕ) → IsProblem p → IsGapText p a text → IsGapText p b text → a ≡ b
 
 -- a line is judged by the first 40 bytes of each of its first 70 fields
 abbrev pub SummaryDecides : Type 0
@@ -31,4 +46,4 @@ SummaryDecides = (p : Problem) (d : Due) (fields : List (List ℕ)) → IsProble
 
 -- the fault that reading gives is the first one
 abbrev pub FirstFaultDecides : Type 0
-FirstFaultDecides = (p : Problem) (text : List ℕ) (fault : PlanFault) → (plan_at p text ≡ Err fault) ↔ IsFirstFault p text fault
+FirstFaultDecides = (family : Family) (p : Problem) (text : List ℕ) (fault : PlanFault) → (text_at family p text ≡ Err fault) ↔ IsFirstFault family p text fault

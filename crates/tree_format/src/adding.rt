@@ -2,13 +2,15 @@
 
 ghost use Rattle.std.specs.Prelude.{◌≡◌, OnOk, All};
 ghost use Rattle.search_model.specs.Legal.{IsLegal};
-ghost use Rattle.tree_format.specs.Reading.{next, taken, places_behind, one_less as one_less_lem};
-ghost use Rattle.tree_format.specs.Gives.{Adds, plan_of};
+ghost use Rattle.tree_format.specs.Reading.{next, taken, places_behind, behind_chance as behind_chance_lem, one_less as one_less_lem};
+ghost use Rattle.tree_format.specs.Dialects.{prefixes_in as prefixes_in_lem};
+ghost use Rattle.tree_format.specs.Gives.{Adds, gap_in};
 
+use crate::dialects::{has_ceiling, prefixes_in};
 use crate::draft::Draft;
 use crate::due::Due;
-use crate::plan_line::{PlanLine, Stage, TextVersion};
-use bound_tree::{Kind, TreeNode};
+use crate::plan_line::{Dialect, PlanLine, Prefixes, Stage};
+use bound_tree::{GapKind, GapNode};
 use exact_parts::NoMemory;
 use search_model::Scenario;
 
@@ -18,21 +20,37 @@ fn one_less(stage: Stage) -> Stage
 {
     match stage {
         Stage::Records(left) => Stage::Records(left.saturating_sub(1)),
-        Stage::Version | Stage::Path | Stage::Chance | Stage::Count | Stage::Ended => stage,
+        Stage::Version(_)
+        | Stage::Path
+        | Stage::Chance
+        | Stage::Ceiling
+        | Stage::Count
+        | Stage::Ended => stage,
     }
 }
 
 // A record of this kind was read.
-fn pass_record(due: &mut Due, sc: &Scenario, kind: &Kind)
-    ensures version { due.new.version ≡ due.old.version }
+fn pass_record(due: &mut Due, sc: &Scenario, kind: &GapKind)
+    ensures dialect { due.new.dialect ≡ due.old.dialect }
     ensures stage { due.new.stage ≡ one_less_lem due.old.stage }
     ensures expected { All (IsLegal sc.now) due.old.expected →
-        due.new.expected ≡ places_behind sc.now due.old.version due.old.expected kind.now }
+        due.new.expected ≡ places_behind sc.now (prefixes_in_lem due.old.dialect) due.old.expected kind.now }
 {
     due.stage = one_less(due.stage);
-    match due.version {
-        TextVersion::One => {}
-        TextVersion::Two => due.expected.go_on(sc, kind),
+    match prefixes_in(due.dialect) {
+        Prefixes::Written => {}
+        Prefixes::LeftOut => due.expected.go_on(sc, kind),
+    }
+}
+
+// The line behind `chance V W`.
+fn behind_chance(dialect: Dialect) -> Stage
+    ensures { result ≡ behind_chance_lem dialect }
+{
+    if has_ceiling(dialect) {
+        Stage::Ceiling
+    } else {
+        Stage::Count
     }
 }
 
@@ -42,12 +60,13 @@ pub fn pass_line(due: &mut Due, sc: &Scenario, said: &PlanLine)
     ensures due { All (IsLegal sc.now) due.old.expected → due.new ≡ next sc.now due.old said.now }
 {
     match said {
-        PlanLine::Version(version) => {
-            due.version = *version;
+        PlanLine::Version(dialect) => {
+            due.dialect = *dialect;
             due.stage = Stage::Path;
         }
         PlanLine::Path(_) => due.stage = Stage::Chance,
-        PlanLine::Chance(..) => due.stage = Stage::Count,
+        PlanLine::Chance(..) => due.stage = behind_chance(due.dialect),
+        PlanLine::Ceiling(_) => due.stage = Stage::Count,
         PlanLine::Count(count) => due.stage = Stage::Records(*count),
         PlanLine::Node(node) => pass_record(due, sc, &node.kind),
         PlanLine::End => due.stage = Stage::Ended,
@@ -57,15 +76,17 @@ pub fn pass_line(due: &mut Due, sc: &Scenario, said: &PlanLine)
 // Keeps what a line says of the plan.
 fn keep(draft: &mut Draft, said: &PlanLine) -> Result<(), NoMemory>
     ensures due { OnOk result (draft.new.due ≡ draft.old.due) }
-    ensures plan { OnOk result (plan_of draft.new ≡ taken (plan_of draft.old) said.now) }
+    ensures plan { OnOk result (gap_in draft.new ≡ taken (gap_in draft.old) said.now) }
 {
     match said {
         PlanLine::Path(path) => draft.path = *path,
         PlanLine::Chance(value, weight) => {
             draft.value = *value;
             draft.weight = *weight;
+            draft.ceiling = *value;
         }
-        PlanLine::Node(TreeNode { prefix, kind }) => draft.nodes.push(TreeNode {
+        PlanLine::Ceiling(ceiling) => draft.ceiling = *ceiling,
+        PlanLine::Node(GapNode { prefix, kind }) => draft.nodes.push(GapNode {
             prefix: *prefix,
             kind: *kind,
         })?,

@@ -1,5 +1,5 @@
 use crate::due::Due;
-use bound_tree::TreeNode;
+use bound_tree::GapNode;
 use search_model::Path;
 
 /// What was read so far, and the line that is due.
@@ -9,5 +9,6 @@ pub struct Draft {
     pub path: Path,
     pub value: u128,
     pub weight: u128,
-    pub nodes: Vec<TreeNode>,
+    pub ceiling: u128,
+    pub nodes: Vec<GapNode>,
 }

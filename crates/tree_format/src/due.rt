@@ -4,25 +4,25 @@ ghost use Rattle.std.specs.Prelude.{◌≡◌, ◌↔◌, IsTrue, IfOk};
 ghost use Rattle.tree_format.specs.Reading.{at_start};
 
 use crate::places::Places;
-use crate::plan_line::{Stage, TextVersion};
+use crate::plan_line::{Dialect, Family, Stage};
 use exact_parts::NoMemory;
 use std::alloc::Global;
 
-/// The line that is due: the version that was read, where the line stands, and the prefixes that are expected.
+/// The line that is due: the dialect that was read, where the line stands, and the prefixes that are expected.
 #[derive(Drop)]
 pub struct Due {
-    pub version: TextVersion,
+    pub dialect: Dialect,
     pub stage: Stage,
     pub expected: Places,
 }
 
-/// The first line.
-pub fn first_due(alloc: Global) -> Result<Due, NoMemory>
-    ensures { IfOk result (λ due. due ≡ at_start) }
+/// The first line of a text of the family.
+pub fn first_due(alloc: Global, family: Family) -> Result<Due, NoMemory>
+    ensures { IfOk result (λ due. due ≡ at_start family) }
 {
     Ok(Due {
-        version: TextVersion::One,
-        stage: Stage::Version,
+        dialect: Dialect::One,
+        stage: Stage::Version(family),
         expected: Places::start(alloc)?,
     })
 }

@@ -1,4 +1,4 @@
-//! A plan from its text in pieces of any length.
+//! A plan or a gap plan from its text in pieces of any length.
 
 ghost use Rattle.std.specs.Prelude.{◌≡◌, ◌<◌, ◌≤◌, ◌+◌, ◌∷◌, [], ◌++◌, ℕ, List, length, take, IfOk, IfErr, All};
 ghost use Rattle.search_model.specs.Legal.{IsLegal};
@@ -10,6 +10,7 @@ ghost use Rattle.tree_format.specs.declared.plan_item.PlanItem.{PlanItem as Item
 ghost use Rattle.tree_format.specs.declared.plan_item.Step.TheVariants as step;
 ghost use Rattle.tree_format.specs.declared.kind.PlanFault.{PlanFault as FaultLem};
 ghost use Rattle.search_model.specs.Problem.{Problem};
+ghost use Rattle.tree_format.specs.declared.plan_line.Family.{Family as FamilyLem};
 
 use crate::adding::pass_line;
 use crate::due::{Due, first_due, is_ended};
@@ -18,13 +19,13 @@ use crate::kind::{PlanFault, PlanKind};
 use crate::lines::read_line;
 use crate::pieces::first_fields;
 use crate::plan_item::{Fed, PlanItem, Step};
-use crate::plan_line::PlanLine;
+use crate::plan_line::{Family, PlanLine};
 use exact_parts::NoMemory;
 use search_model::{Path, Scenario, Standing};
 use std::alloc::Global;
 use std::marker::Model;
 
-/// What was read of a plan's text, which comes in pieces: the head, and the front of the line that is due. Only the call
+/// What was read of the text of a plan or of a gap plan, which comes in pieces: the head, and the front of the line that is due. Only the call
 /// that makes it takes memory, and a line of any length needs no more of it.
 #[derive(Drop)]
 pub struct PlanFeed {
@@ -32,6 +33,7 @@ pub struct PlanFeed {
     due: Due,
     standing: Standing,
     weight: u128,
+    ceiling: u128,
     line: GatheredLine,
 }
 
@@ -45,6 +47,7 @@ impl Model for PlanFeed {
       due = f.due;
       standing = f.standing;
       weight = f.weight;
+      ceiling = f.ceiling;
       line = f.line;
     } };
 
@@ -81,11 +84,19 @@ impl PlanFeed {
             PlanLine::Chance(value, weight) => {
                 self.standing.value = value;
                 self.weight = weight;
+                self.ceiling = value;
                 Step::More
             }
-            PlanLine::Count(count) => {
-                Step::Item(PlanItem::Head(self.standing, self.weight, count))
+            PlanLine::Ceiling(ceiling) => {
+                self.ceiling = ceiling;
+                Step::More
             }
+            PlanLine::Count(count) => Step::Item(PlanItem::Head(
+                self.standing,
+                self.weight,
+                self.ceiling,
+                count,
+            )),
             PlanLine::Node(node) => Step::Item(PlanItem::Node(node)),
             PlanLine::End => Step::Item(PlanItem::End),
         }
@@ -128,17 +139,17 @@ impl PlanFeed {
 
     // Takes a byte: what follows from it.
     fn take(&mut self, sc: &Scenario, byte: u8) -> Step
-        ensures { IfRead sc.now self.old (λ fed items. GoesOn sc.now (fed ++ byte ∷ []) items result self.new) }
+        ensures { IfRead sc.now self.old (λ family fed items. GoesOn family sc.now (fed ++ byte ∷ []) items result self.new) }
     {
         sc.recall_sound();
         self.step(sc, byte)
     }
 
-    /// Nothing was fed. It takes all the memory that the feed will ever need.
-    pub fn start(alloc: Global, sc: &Scenario) -> Result<PlanFeed, NoMemory>
-        ensures { IfOk result (λ feed. HasRead sc.now [] [] feed) }
+    /// Nothing was fed of a text of the family. It takes all the memory that the feed will ever need.
+    pub fn start(alloc: Global, sc: &Scenario, family: Family) -> Result<PlanFeed, NoMemory>
+        ensures { IfOk result (λ feed. HasRead family sc.now [] [] feed) }
     {
-        let due = first_due(alloc)?;
+        let due = first_due(alloc, family)?;
         let line = GatheredLine::empty(alloc)?;
         Ok(PlanFeed {
             number: 1,
@@ -148,6 +159,7 @@ impl PlanFeed {
                 value: 0,
             },
             weight: 0,
+            ceiling: 0,
             line,
         })
     }
@@ -158,22 +170,22 @@ impl PlanFeed {
         requires some { 1 ≤ length piece.now }
         ensures used { (1 ≤ result.used) × (result.used ≤ length piece.now) }
         ensures all { IfMore result.step (result.used ≡ length piece.now) }
-        ensures more { IfRead sc.now self.old (λ fed items.
-            IfMore result.step (HasRead sc.now (fed ++ piece.now) items self.new)) }
-        ensures item { IfRead sc.now self.old (λ fed items.
+        ensures more { IfRead sc.now self.old (λ family fed items.
+            IfMore result.step (HasRead family sc.now (fed ++ piece.now) items self.new)) }
+        ensures item { IfRead sc.now self.old (λ family fed items.
             IfItem result.step (λ told.
-            HasRead sc.now (fed ++ take result.used piece.now) (items ++ told ∷ []) self.new)) }
-        ensures completed { IfRead sc.now self.old (λ fed items.
-            (told : ItemLem) → Tells sc.now (fed ++ take result.used piece.now) (items ++ told ∷ []) →
+            HasRead family sc.now (fed ++ take result.used piece.now) (items ++ told ∷ []) self.new)) }
+        ensures completed { IfRead sc.now self.old (λ family fed items.
+            (told : ItemLem) → Tells family sc.now (fed ++ take result.used piece.now) (items ++ told ∷ []) →
             result.step ≡ step.Item told) }
-        ensures sound { IfRead sc.now self.old (λ fed items. IfItem result.step (λ told. IsItem sc.now told)) }
-        ensures fault { IfRead sc.now self.old (λ fed items.
-            IfFaulty result.step (λ fault. IsDecided sc.now (fed ++ take result.used piece.now) fault)) }
-        ensures decided { IfRead sc.now self.old (λ fed items.
-            (fault : FaultLem) → IsDecided sc.now (fed ++ take result.used piece.now) fault →
+        ensures sound { IfRead sc.now self.old (λ family fed items. IfItem result.step (λ told. IsItem family sc.now told)) }
+        ensures fault { IfRead sc.now self.old (λ family fed items.
+            IfFaulty result.step (λ fault. IsDecided family sc.now (fed ++ take result.used piece.now) fault)) }
+        ensures decided { IfRead sc.now self.old (λ family fed items.
+            (fault : FaultLem) → IsDecided family sc.now (fed ++ take result.used piece.now) fault →
             result.step ≡ step.Fault fault) }
-        ensures first { IfRead sc.now self.old (λ fed items.
-            (n : ℕ) → n < result.used → Tells sc.now (fed ++ take n piece.now) items) }
+        ensures first { IfRead sc.now self.old (λ family fed items.
+            (n : ℕ) → n < result.used → Tells family sc.now (fed ++ take n piece.now) items) }
     {
         for (i, byte) in piece.iter().enumerate() {
             match self.take(sc, *byte) {
@@ -198,16 +210,16 @@ impl PlanFeed {
         }
     }
 
-    /// Whether the bytes that were fed are the text of a plan, from its first byte to its last. It takes no memory.
+    /// Whether the bytes that were fed are a text of its family, from its first byte to its last. It takes no memory.
     ///
     /// # Errors
     ///
     /// `EarlyEnd` in the line that is due: the bytes end before its line feed.
     pub fn finish(&self) -> Result<(), PlanFault>
-        ensures whole { (p : Problem) (fed : List ℕ) (items : List ItemLem) → HasRead p fed items self.now →
-            IfOk result (λ _. IsWhole p fed items) }
-        ensures early { (p : Problem) (fed : List ℕ) (items : List ItemLem) → HasRead p fed items self.now →
-            IfErr result (λ fault. IsCutOff p fed fault) }
+        ensures whole { (family : FamilyLem) (p : Problem) (fed : List ℕ) (items : List ItemLem) →
+            HasRead family p fed items self.now → IfOk result (λ _. IsWhole family p fed items) }
+        ensures early { (family : FamilyLem) (p : Problem) (fed : List ℕ) (items : List ItemLem) →
+            HasRead family p fed items self.now → IfErr result (λ fault. IsCutOff family p fed fault) }
     {
         if is_ended(self.due.stage) {
             Ok(())

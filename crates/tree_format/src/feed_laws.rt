@@ -7,12 +7,12 @@ pub fn cut_anywhere()
     ensures { CutAnywhere }
 {}
 
-/// The items are those of the plan that `read_plan` gives for the bytes.
+/// The items are those of the plan that reading gives for the bytes.
 pub fn items_of_the_plan()
     ensures { ItemsOfThePlan }
 {}
 
-/// The fault that `read_plan` gives for bytes is decided by first bytes of them, or the bytes end early.
+/// The fault that reading gives for bytes is decided by first bytes of them, or the bytes end early.
 pub fn each_fault_is_met()
     ensures { EachFaultIsMet }
 {}

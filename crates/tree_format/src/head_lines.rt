@@ -1,12 +1,11 @@
 //! The lines above the records.
 
 ghost use Rattle.std.specs.Prelude.{◌≡◌, map};
-ghost use Rattle.tree_format.specs.Reading.{version_said, version_line, path_line, chance_line, count_said, count_line};
+ghost use Rattle.tree_format.specs.Reading.{version_said, gap_said, version_line, path_line, chance_line, ceiling_said, ceiling_line, count_said, count_line};
 
 use crate::fields::{amount_in, positions_named};
 use crate::kind::PlanKind;
-use crate::plan_line::{PlanLine, TextVersion};
-use bound_tree::MOST_NODES;
+use crate::plan_line::{Dialect, Family, PlanLine};
 use search_model::Scenario;
 
 // The version of this number.
@@ -14,21 +13,52 @@ fn version_of(number: &[u8]) -> Result<PlanLine, PlanKind>
     ensures { result ≡ version_said number.now }
 {
     if number == b"1".as_slice() {
-        Ok(PlanLine::Version(TextVersion::One))
+        Ok(PlanLine::Version(Dialect::One))
     } else if number == b"2".as_slice() {
-        Ok(PlanLine::Version(TextVersion::Two))
+        Ok(PlanLine::Version(Dialect::Two))
     } else {
         Err(PlanKind::BadLine)
     }
 }
 
-/// `plan 1` or `plan 2`
-pub fn read_version(fields: &[&[u8]]) -> Result<PlanLine, PlanKind>
-    ensures { result ≡ version_line (map (λ f. f.now) fields.now) }
+// The version of this number, of a gap text.
+fn gap_of(number: &[u8]) -> Result<PlanLine, PlanKind>
+    ensures { result ≡ gap_said number.now }
+{
+    if number == b"1".as_slice() {
+        Ok(PlanLine::Version(Dialect::Gap))
+    } else {
+        Err(PlanKind::BadLine)
+    }
+}
+
+// `plan 1` or `plan 2`
+fn plan_version(fields: &[&[u8]]) -> Result<PlanLine, PlanKind>
+    ensures { result ≡ version_line Family.Plans (map (λ f. f.now) fields.now) }
 {
     match fields {
         [word, number] if *word == b"plan".as_slice() => version_of(number),
         _ => Err(PlanKind::BadLine),
+    }
+}
+
+// `gap 1`
+fn gap_version(fields: &[&[u8]]) -> Result<PlanLine, PlanKind>
+    ensures { result ≡ version_line Family.Gaps (map (λ f. f.now) fields.now) }
+{
+    match fields {
+        [word, number] if *word == b"gap".as_slice() => gap_of(number),
+        _ => Err(PlanKind::BadLine),
+    }
+}
+
+/// The first line of a text of the family.
+pub fn read_version(family: Family, fields: &[&[u8]]) -> Result<PlanLine, PlanKind>
+    ensures { result ≡ version_line family (map (λ f. f.now) fields.now) }
+{
+    match family {
+        Family::Plans => plan_version(fields),
+        Family::Gaps => gap_version(fields),
     }
 }
 
@@ -63,22 +93,41 @@ pub fn read_chance(fields: &[&[u8]]) -> Result<PlanLine, PlanKind>
     }
 }
 
-fn announced(count: Option<u128>) -> Result<PlanLine, PlanKind>
-    ensures { result ≡ count_said count }
+fn ceiling_of(ceiling: Option<u128>) -> Result<PlanLine, PlanKind>
+    ensures { result ≡ ceiling_said ceiling }
+{
+    match ceiling {
+        None => Err(PlanKind::BadNumber),
+        Some(ceiling) => Ok(PlanLine::Ceiling(ceiling)),
+    }
+}
+
+/// `ceiling N`
+pub fn read_ceiling(fields: &[&[u8]]) -> Result<PlanLine, PlanKind>
+    ensures { result ≡ ceiling_line (map (λ f. f.now) fields.now) }
+{
+    match fields {
+        [word, n] if *word == b"ceiling".as_slice() => ceiling_of(amount_in(n)),
+        _ => Err(PlanKind::BadLine),
+    }
+}
+
+fn announced(most: u64, count: Option<u128>) -> Result<PlanLine, PlanKind>
+    ensures { result ≡ count_said most count }
 {
     match count {
         None => Err(PlanKind::BadNumber),
-        Some(count) if count > u128::from(MOST_NODES) => Err(PlanKind::TooManyNodes),
+        Some(count) if count > u128::from(most) => Err(PlanKind::TooManyNodes),
         Some(count) => Ok(PlanLine::Count(count as u64)),
     }
 }
 
-/// `nodes N`
-pub fn read_count(fields: &[&[u8]]) -> Result<PlanLine, PlanKind>
-    ensures { result ≡ count_line (map (λ f. f.now) fields.now) }
+/// `nodes N`, of which there may be so many
+pub fn read_count(most: u64, fields: &[&[u8]]) -> Result<PlanLine, PlanKind>
+    ensures { result ≡ count_line most (map (λ f. f.now) fields.now) }
 {
     match fields {
-        [word, n] if *word == b"nodes".as_slice() => announced(amount_in(n)),
+        [word, n] if *word == b"nodes".as_slice() => announced(most, amount_in(n)),
         _ => Err(PlanKind::BadLine),
     }
 }

@@ -10,7 +10,7 @@ pub enum PlanKind {
     BadNumber,
     /// A name of the path is no position's.
     UnknownName,
-    /// More records are announced than a plan may have.
+    /// More records are announced than the text may have.
     TooManyNodes,
     /// A record past the last, or the end before it.
     WrongCount,
@@ -18,9 +18,9 @@ pub enum PlanKind {
     EarlyEnd,
     /// A byte follows the last line.
     Rest,
-    /// In version 2 a record where no prefix is expected.
+    /// Where prefixes are left out, a record where none is expected.
     NoPlace,
-    /// In version 2 the end where a prefix is expected.
+    /// Where prefixes are left out, the end where one is expected.
     StillOpen,
 }
 

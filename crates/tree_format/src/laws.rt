@@ -1,7 +1,7 @@
 //! Laws over the definitions.
 
 ghost use Rattle.tree_format.specs.KindTable.{KindsByTable};
-ghost use Rattle.tree_format.specs.ReadingLaws.{PlanTextReadsBack, PlanText2ReadsBack, OneTextAPlan, OnePlanAText, FirstFaultDecides, SummaryDecides};
+ghost use Rattle.tree_format.specs.ReadingLaws.{PlanTextReadsBack, PlanText2ReadsBack, GapTextReadsBack, OneTextAPlan, OneTextAGap, OnePlanAText, OneGapAText, FirstFaultDecides, SummaryDecides};
 ghost use Rattle.tree_format.specs.TextLaws.{PlanTextIsShort, SameSearchSameTexts};
 
 /// The text of version 1 of a plan without edge bounds reads back as that plan.
@@ -16,16 +16,34 @@ pub fn plan_text_2_reads_back()
     ensures { PlanText2ReadsBack }
 {}
 
+/// And so does the text of a gap plan whose nodes have the prefixes that are expected.
+#[tactic(auto, using(crate::proofs::ReadsBack::gap_text_reads_back))]
+pub fn gap_text_reads_back()
+    ensures { GapTextReadsBack }
+{}
+
 /// What is read as a plan is the text of that plan in one of the versions: a plan has at most one in each.
 #[tactic(auto, using(crate::proofs::Spelled::one_text_a_plan))]
 pub fn one_text_a_plan()
     ensures { OneTextAPlan }
 {}
 
+/// What is read as a gap plan is the text of that gap plan, which has one.
+#[tactic(auto, using(crate::proofs::Spelled::one_text_a_gap))]
+pub fn one_text_a_gap()
+    ensures { OneTextAGap }
+{}
+
 /// Two plans of one text are one plan.
 #[tactic(auto, using(crate::proofs::ReadsBack::one_plan_a_text))]
 pub fn one_plan_a_text()
     ensures { OnePlanAText }
+{}
+
+/// And two gap plans of one text are one.
+#[tactic(auto, using(crate::proofs::ReadsBack::one_gap_a_text))]
+pub fn one_gap_a_text()
+    ensures { OneGapAText }
 {}
 
 /// The fault that reading gives is the first: the lines before it are right.

@@ -2,6 +2,7 @@
 #![tactic(auto)]
 
 mod adding;
+mod dialects;
 mod draft;
 mod due;
 mod feed;
@@ -25,6 +26,7 @@ mod records;
 mod stop;
 mod writing;
 
+pub use dialects::MOST_GAP_NODES;
 pub use feed::PlanFeed;
 pub use feed_laws::{
     cut_anywhere, each_fault_is_met, fault_is_last, gathered_is_summary, items_in_order,
@@ -32,12 +34,14 @@ pub use feed_laws::{
 };
 pub use kind::{PlanFault, PlanKind, plan_kind_name};
 pub use laws::{
-    first_fault_decides, kinds_by_table, one_plan_a_text, one_text_a_plan, plan_text_2_reads_back,
-    plan_text_is_short, plan_text_reads_back, same_search_same_texts, summary_decides,
+    first_fault_decides, gap_text_reads_back, kinds_by_table, one_gap_a_text, one_plan_a_text,
+    one_text_a_gap, one_text_a_plan, plan_text_2_reads_back, plan_text_is_short,
+    plan_text_reads_back, same_search_same_texts, summary_decides,
 };
 pub use placing::{are_in_place, has_no_edge};
 pub use plan_item::{Fed, PlanItem, Step};
-pub use printing::{print_plan, print_plan_2};
-pub use reading::read_plan;
+pub use plan_line::Family;
+pub use printing::{print_gap, print_plan, print_plan_2};
+pub use reading::{read_gap, read_plan};
 pub use stop::PlanStop;
 pub use writing::{push_names, push_number};

@@ -3,10 +3,11 @@
 ghost use Rattle.std.specs.Prelude.{◌≡◌, ◌↔◌, ◌<◌, ◌≤◌, ◌∷◌, [], ◌++◌, length, reverse, vec_capacity, IsTrue, IsFalse, IfOk, All};
 ghost use Rattle.search_model.specs.Legal.{IsLegal};
 ghost use Rattle.bound_tree.specs.Places.{opened_by, first_of, expected_behind};
+ghost use Rattle.bound_tree.specs.Gaps.{shape_of_kind};
 ghost use Rattle.bound_tree.specs.Room.{HasRoom};
 ghost use Rattle.tree_format.specs.Placing.{IsTaken, IsOutOfPlace};
 
-use bound_tree::{Kind, TreeNode, pop_prefix, push_expected, push_prefix};
+use bound_tree::{GapKind, Kind, TreeNode, pop_prefix, push_expected, push_prefix};
 use exact_parts::NoMemory;
 use search_model::{Path, Scenario};
 use std::alloc::Global;
@@ -85,11 +86,21 @@ impl Places {
         self.stack.last().copied()
     }
 
-    /// Goes on behind a record of this kind at the prefix that was expected next, which is legal.
-    pub fn go_on(&mut self, sc: &Scenario, kind: &Kind)
+    // Goes on behind a record of this kind at the prefix that was expected next, which is legal.
+    fn go_on_behind(&mut self, sc: &Scenario, kind: &Kind)
         ensures { All (IsLegal sc.now) self.old → self.new ≡ expected_behind sc.now self.old kind.now }
     {
         pass(&mut self.stack, sc, kind);
+    }
+
+    /// Goes on behind a node of this kind at the prefix that was expected next, which is legal.
+    pub fn go_on(&mut self, sc: &Scenario, kind: &GapKind)
+        ensures { All (IsLegal sc.now) self.old → self.new ≡ expected_behind sc.now self.old (shape_of_kind kind.now) }
+    {
+        match kind {
+            GapKind::Closed(kind) => self.go_on_behind(sc, kind),
+            GapKind::Waiting(_) => self.go_on_behind(sc, &Kind::Mean(0)),
+        }
     }
 
     /// Goes on behind a record, where it has the prefix that is expected next; whether it has.
@@ -99,7 +110,7 @@ impl Places {
     {
         match self.first() {
             Some(prefix) if prefix.cells() == node.prefix.cells() => {
-                self.go_on(sc, &node.kind);
+                self.go_on_behind(sc, &node.kind);
                 true
             }
             _ => false,

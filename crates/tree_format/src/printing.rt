@@ -1,34 +1,41 @@
 //! The whole text.
 
-ghost use Rattle.std.specs.Prelude.{◌≡◌, ◌∷◌, [], ◌++◌, OnOk, OnErr};
+ghost use Rattle.std.specs.Prelude.{◌≡◌, ◌∷◌, [], ◌++◌, map, OnOk, OnErr};
 ghost use Rattle.exact_parts.specs.Appending.{AppendsFront};
 ghost use Rattle.bound_tree.specs.Places.{AreInPlace};
-ghost use Rattle.tree_format.specs.PlanText.{IsPrintable, IsNarrow, HasNoEdge, IsPlanText, IsPlanText2, text_in, plan_text, plan_text_2};
+ghost use Rattle.tree_format.specs.PlanText.{IsPrintable, IsNarrow, HasNoEdge, IsPlanText, IsPlanText2, IsPrintableGap, IsNarrowGap, IsGapText, text_in, plan_text, plan_text_2, gap_text};
+ghost use Rattle.bound_tree.specs.Gaps.{shape_of, gap_of};
 
-use crate::head::{push_chance, push_count, push_path};
-use crate::plan_line::TextVersion;
-use crate::records::push_records;
-use bound_tree::Plan;
+use crate::head::push_head;
+use crate::plan_line::Dialect;
+use crate::records::{push_nodes, push_records};
+use bound_tree::{GapPlan, Plan};
 use exact_parts::NoMemory;
 use search_model::Scenario;
 
-// Appends the text of a plan of this version.
+// Appends the text of a plan of this dialect.
 fn push_plan(
     out: &mut Vec<u8>,
-    version: TextVersion,
+    dialect: Dialect,
     sc: &Scenario,
     plan: &Plan,
 ) -> Result<(), NoMemory>
     requires { IsPrintable sc.now plan.now }
-    ensures ok { OnOk result (out.new.items ≡ out.old.items ++ text_in version sc.now plan.now) }
-    ensures err { OnErr result (AppendsFront out.old.items out.new.items (text_in version sc.now plan.now)) }
+    ensures ok { OnOk result (out.new.items ≡ out.old.items ++ text_in dialect sc.now (gap_of plan.now)) }
+    ensures err { OnErr result (AppendsFront out.old.items out.new.items (text_in dialect sc.now (gap_of plan.now))) }
     ensures narrow { OnOk result (IsNarrow plan.now) }
 {
     let records = plan.tree.nodes();
-    push_path(out, version, sc, &plan.standing.path)?;
-    push_chance(out, plan.standing.value, plan.weight)?;
-    push_count(out, records.len())?;
-    push_records(out, version, records)?;
+    push_head(
+        out,
+        dialect,
+        sc,
+        &plan.standing,
+        plan.weight,
+        plan.standing.value,
+        records.len(),
+    )?;
+    push_records(out, dialect, records)?;
     out.extend_from_slice(b"end\n")?;
     Ok(())
 }
@@ -46,7 +53,7 @@ pub fn print_plan(out: &mut Vec<u8>, sc: &Scenario, plan: &Plan) -> Result<(), N
     ensures err { OnErr result (AppendsFront out.old.items out.new.items (plan_text sc.now plan.now)) }
     ensures spelled { OnOk result (IsPlanText sc.now plan.now (plan_text sc.now plan.now)) }
 {
-    push_plan(out, TextVersion::One, sc, plan)
+    push_plan(out, Dialect::One, sc, plan)
 }
 
 /// Appends the text of version 2 of a plan whose records have the prefixes that are expected, the one spelling that it has
@@ -62,5 +69,43 @@ pub fn print_plan_2(out: &mut Vec<u8>, sc: &Scenario, plan: &Plan) -> Result<(),
     ensures err { OnErr result (AppendsFront out.old.items out.new.items (plan_text_2 sc.now plan.now)) }
     ensures spelled { OnOk result (IsPlanText2 sc.now plan.now (plan_text_2 sc.now plan.now)) }
 {
-    push_plan(out, TextVersion::Two, sc, plan)
+    push_plan(out, Dialect::Two, sc, plan)
+}
+
+// Appends the text of a gap plan.
+fn push_gap(out: &mut Vec<u8>, sc: &Scenario, plan: &GapPlan) -> Result<(), NoMemory>
+    requires { IsPrintableGap sc.now plan.now }
+    ensures ok { OnOk result (out.new.items ≡ out.old.items ++ gap_text sc.now plan.now) }
+    ensures err { OnErr result (AppendsFront out.old.items out.new.items (gap_text sc.now plan.now)) }
+    ensures narrow { OnOk result (IsNarrowGap plan.now) }
+{
+    let nodes = plan.nodes.nodes();
+    push_head(
+        out,
+        Dialect::Gap,
+        sc,
+        &plan.standing,
+        plan.weight,
+        plan.ceiling,
+        nodes.len(),
+    )?;
+    push_nodes(out, Dialect::Gap, nodes)?;
+    out.extend_from_slice(b"end\n")?;
+    Ok(())
+}
+
+/// Appends the text of a gap plan whose nodes have the prefixes that are expected, a waiting node taken as a leaf: the one
+/// spelling that it has. It reads back as that gap plan.
+///
+/// # Errors
+///
+/// `NoMemory`: `out` then ends with a front of the text.
+pub fn print_gap(out: &mut Vec<u8>, sc: &Scenario, plan: &GapPlan) -> Result<(), NoMemory>
+    requires printable { IsPrintableGap sc.now plan.now }
+    requires in_place { AreInPlace sc.now ([] ∷ []) (map shape_of plan.now.nodes) }
+    ensures ok { OnOk result (out.new.items ≡ out.old.items ++ gap_text sc.now plan.now) }
+    ensures err { OnErr result (AppendsFront out.old.items out.new.items (gap_text sc.now plan.now)) }
+    ensures spelled { OnOk result (IsGapText sc.now plan.now (gap_text sc.now plan.now)) }
+{
+    push_gap(out, sc, plan)
 }

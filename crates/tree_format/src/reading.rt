@@ -1,14 +1,16 @@
-//! Plans from their text.
+//! Plans and gap plans from their text.
 
-ghost use Rattle.std.specs.Prelude.{◌≡◌, IfOk, All};
+ghost use Rattle.std.specs.Prelude.{◌≡◌, map, IfOk, All};
 ghost use Rattle.search_model.specs.Legal.{IsLegal};
 ghost use Rattle.bound_tree.specs.declared.plan.Plan.{Plan as PlanLem};
+ghost use Rattle.bound_tree.specs.declared.gap.GapPlan.{GapPlan as GapLem};
+ghost use Rattle.bound_tree.specs.Gaps.{shape_of, plan_of};
 ghost use Rattle.tree_format.specs.declared.kind.PlanFault.{PlanFault as FaultLem};
 ghost use Rattle.text_rows.specs.Fields.{exact_fields};
 ghost use Rattle.tree_format.specs.Faults.{IsFirstFault};
-ghost use Rattle.tree_format.specs.Gives.{TakesLine, Gives, ReadsPlan, Says, Tells, IfFault, plan_of};
-ghost use Rattle.tree_format.specs.Reading.{at_start, blank_plan, line_at, plan_at};
-ghost use Rattle.tree_format.specs.PlanText.{IsPrintable, IsTextOfPlan};
+ghost use Rattle.tree_format.specs.Gives.{TakesLine, Gives, ReadsPlan, ReadsGap, Says, Tells, IfFault, gap_in};
+ghost use Rattle.tree_format.specs.Reading.{at_start, blank_plan, line_at, text_at};
+ghost use Rattle.tree_format.specs.PlanText.{IsPrintable, IsTextOfPlan, IsPrintableGap, IsGapText};
 
 use crate::adding::add_line;
 use crate::draft::Draft;
@@ -16,22 +18,24 @@ use crate::due::{first_due, is_ended};
 use crate::kind::{PlanFault, PlanKind};
 use crate::lines::read_line;
 use crate::pieces::first_fields;
+use crate::plan_line::Family;
 use crate::stop::PlanStop;
-use bound_tree::{BoundTree, Plan};
+use bound_tree::{BoundTree, GapKind, GapNode, GapPlan, GapTree, Kind, Plan, TreeNode};
 use exact_parts::NoMemory;
 use search_model::{Path, Scenario, Standing};
 use std::alloc::Global;
 use text_rows::cut;
 
-fn blank_draft(alloc: Global) -> Result<Draft, NoMemory>
-    ensures due { IfOk result (λ draft. draft.due ≡ at_start) }
-    ensures plan { IfOk result (λ draft. plan_of draft ≡ blank_plan) }
+fn blank_draft(alloc: Global, family: Family) -> Result<Draft, NoMemory>
+    ensures due { IfOk result (λ draft. draft.due ≡ at_start family) }
+    ensures plan { IfOk result (λ draft. gap_in draft ≡ blank_plan) }
 {
     Ok(Draft {
-        due: first_due(alloc)?,
+        due: first_due(alloc, family)?,
         path: Path::empty(),
         value: 0,
         weight: 0,
+        ceiling: 0,
         nodes: Vec::new(alloc),
     })
 }
@@ -51,11 +55,11 @@ fn take_line(draft: &mut Draft, sc: &Scenario, number: u64, line: &[u8]) -> Resu
 
 // What the lines of a text say, up to `end`, behind which nothing stands.
 #[tactic(auto, using(crate::proofs::Loop::loop_steps))]
-fn read_lines(alloc: Global, sc: &Scenario, text: &[u8]) -> Result<Draft, PlanStop>
-    ensures { Gives result (plan_at sc.now text.now) }
+fn read_lines(alloc: Global, sc: &Scenario, family: Family, text: &[u8]) -> Result<Draft, PlanStop>
+    ensures { Gives result (text_at family sc.now text.now) }
 {
     let _cells = sc.cells();
-    let mut draft = blank_draft(alloc)?;
+    let mut draft = blank_draft(alloc, family)?;
     let mut rest = text;
     let mut number = 1u64;
     'lines: while !is_ended(draft.due.stage) {
@@ -79,16 +83,57 @@ fn read_lines(alloc: Global, sc: &Scenario, text: &[u8]) -> Result<Draft, PlanSt
     }
 }
 
-fn plan_from(draft: Draft) -> Plan
-    ensures { result ≡ plan_of draft }
+// A node as a record; of a plan's text all are closed.
+fn record_of(node: &GapNode) -> TreeNode
+    ensures { result ≡ shape_of node.now }
 {
-    Plan {
+    match node.kind {
+        GapKind::Closed(kind) => TreeNode {
+            prefix: node.prefix,
+            kind,
+        },
+        GapKind::Waiting(_) => TreeNode {
+            prefix: node.prefix,
+            kind: Kind::Mean(0),
+        },
+    }
+}
+
+// Nodes as records.
+fn records_of(alloc: Global, nodes: &[GapNode]) -> Result<BoundTree, NoMemory>
+    ensures { IfOk result (λ tree. tree ≡ map shape_of nodes.now) }
+{
+    let mut records = Vec::with_capacity(alloc, nodes.len())?;
+    for node in nodes {
+        records.push(record_of(node))?;
+    }
+    Ok(BoundTree::of(records))
+}
+
+fn plan_from(alloc: Global, draft: &Draft) -> Result<Plan, NoMemory>
+    ensures { IfOk result (λ plan. plan ≡ plan_of (gap_in draft.now)) }
+{
+    Ok(Plan {
         standing: Standing {
             path: draft.path,
             value: draft.value,
         },
         weight: draft.weight,
-        tree: BoundTree::of(draft.nodes),
+        tree: records_of(alloc, &draft.nodes)?,
+    })
+}
+
+fn gap_from(draft: Draft) -> GapPlan
+    ensures { result ≡ gap_in draft }
+{
+    GapPlan {
+        standing: Standing {
+            path: draft.path,
+            value: draft.value,
+        },
+        weight: draft.weight,
+        ceiling: draft.ceiling,
+        nodes: GapTree::of(draft.nodes),
     }
 }
 
@@ -103,10 +148,28 @@ pub fn read_plan(alloc: Global, sc: &Scenario, text: &[u8]) -> Result<Plan, Plan
     ensures spelled { IfOk result (λ plan. IsTextOfPlan sc.now plan text.now) }
     ensures printable { IfOk result (λ plan. IsPrintable sc.now plan) }
     ensures exact { (plan : PlanLem) → IsTextOfPlan sc.now plan text.now → Says result plan }
-    ensures first { IfFault result (IsFirstFault sc.now text.now) }
-    ensures faulty { (fault : FaultLem) → IsFirstFault sc.now text.now fault → Tells result fault }
+    ensures first { IfFault result (IsFirstFault Family.Plans sc.now text.now) }
+    ensures faulty { (fault : FaultLem) → IsFirstFault Family.Plans sc.now text.now fault → Tells result fault }
 {
     let _cells = sc.cells();
-    let draft = read_lines(alloc, sc, text)?;
-    Ok(plan_from(draft))
+    let draft = read_lines(alloc, sc, Family::Plans, text)?;
+    Ok(plan_from(alloc, &draft)?)
+}
+
+/// The gap plan whose text this is, to its last byte.
+///
+/// # Errors
+///
+/// The first fault by line and kind, the lines before which are right; or `NoMemory`.
+pub fn read_gap(alloc: Global, sc: &Scenario, text: &[u8]) -> Result<GapPlan, PlanStop>
+    ensures reads { ReadsGap sc.now text.now result }
+    ensures spelled { IfOk result (λ plan. IsGapText sc.now plan text.now) }
+    ensures printable { IfOk result (λ plan. IsPrintableGap sc.now plan) }
+    ensures exact { (plan : GapLem) → IsGapText sc.now plan text.now → Says result plan }
+    ensures first { IfFault result (IsFirstFault Family.Gaps sc.now text.now) }
+    ensures faulty { (fault : FaultLem) → IsFirstFault Family.Gaps sc.now text.now fault → Tells result fault }
+{
+    let _cells = sc.cells();
+    let draft = read_lines(alloc, sc, Family::Gaps, text)?;
+    Ok(gap_from(draft))
 }

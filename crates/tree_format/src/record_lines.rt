@@ -1,12 +1,13 @@
 //! The fields of a record's line.
 
 ghost use Rattle.std.specs.Prelude.{◌≡◌, ◌≤◌, map};
-ghost use Rattle.tree_format.specs.Reading.{most_positions as most_positions_lem, has_edges as has_edges_lem, branch_line, bounded_line, tangent_of as tangent_of_lem, tangent_at as tangent_at_lem, tangent_line, node_line};
+ghost use Rattle.tree_format.specs.Reading.{most_positions as most_positions_lem, branch_line, bounded_line, tangent_of as tangent_of_lem, tangent_at as tangent_at_lem, tangent_line, node_line};
 
+use crate::dialects::{has_edges, has_open, prefixes_in};
 use crate::fields::{amount_in, places_in};
 use crate::kind::PlanKind;
-use crate::plan_line::TextVersion;
-use bound_tree::{Kind, TreeNode};
+use crate::plan_line::{Dialect, Prefixes};
+use bound_tree::{GapKind, GapNode, Kind};
 use search_model::{Path, Scenario};
 
 /// A number, and the prefix behind it.
@@ -17,27 +18,17 @@ pub struct Bounded {
 }
 
 // The most positions that the prefix on a record's line may have.
-fn most_positions(sc: &Scenario, version: TextVersion) -> usize
-    ensures value { result ≡ most_positions_lem sc.now version }
+fn most_positions(sc: &Scenario, prefixes: Prefixes) -> usize
+    ensures value { result ≡ most_positions_lem sc.now prefixes }
     ensures few { result ≤ 32 }
 {
-    match version {
-        TextVersion::One => sc.horizon() as usize,
-        TextVersion::Two => 0,
+    match prefixes {
+        Prefixes::Written => sc.horizon() as usize,
+        Prefixes::LeftOut => 0,
     }
 }
 
-// Whether a version has records of edge bounds.
-fn has_edges(version: TextVersion) -> bool
-    ensures { result ≡ has_edges_lem version }
-{
-    match version {
-        TextVersion::One => false,
-        TextVersion::Two => true,
-    }
-}
-
-fn read_branch(sc: &Scenario, most: usize, positions: &[&[u8]]) -> Result<TreeNode, PlanKind>
+fn read_branch(sc: &Scenario, most: usize, positions: &[&[u8]]) -> Result<GapNode, PlanKind>
     requires { most ≤ 32 }
     ensures { result ≡ branch_line sc.now most (map (λ f. f.now) positions.now) }
 {
@@ -46,9 +37,9 @@ fn read_branch(sc: &Scenario, most: usize, positions: &[&[u8]]) -> Result<TreeNo
     }
     match places_in(sc, positions) {
         None => Err(PlanKind::BadNumber),
-        Some(prefix) => Ok(TreeNode {
+        Some(prefix) => Ok(GapNode {
             prefix,
-            kind: Kind::Branch,
+            kind: GapKind::Closed(Kind::Branch),
         }),
     }
 }
@@ -75,13 +66,13 @@ fn tangent_of(
     bound: Option<u128>,
     prefix: Option<Path>,
     reference: Option<Path>,
-) -> Result<TreeNode, PlanKind>
+) -> Result<GapNode, PlanKind>
     ensures { result ≡ tangent_of_lem bound prefix reference }
 {
     match (bound, prefix, reference) {
-        (Some(bound), Some(prefix), Some(reference)) => Ok(TreeNode {
+        (Some(bound), Some(prefix), Some(reference)) => Ok(GapNode {
             prefix,
-            kind: Kind::Tangent(bound, reference),
+            kind: GapKind::Closed(Kind::Tangent(bound, reference)),
         }),
         _ => Err(PlanKind::BadNumber),
     }
@@ -92,7 +83,7 @@ fn tangent_at(
     most: usize,
     bound: &[u8],
     positions: &[&[u8]],
-) -> Result<TreeNode, PlanKind>
+) -> Result<GapNode, PlanKind>
     requires { most ≤ 32 }
     ensures { result ≡ tangent_at_lem sc.now most bound.now (map (λ f. f.now) positions.now) }
 {
@@ -108,7 +99,7 @@ fn tangent_at(
     )
 }
 
-fn read_tangent(sc: &Scenario, most: usize, fields: &[&[u8]]) -> Result<TreeNode, PlanKind>
+fn read_tangent(sc: &Scenario, most: usize, fields: &[&[u8]]) -> Result<GapNode, PlanKind>
     requires { most ≤ 32 }
     ensures { result ≡ tangent_line sc.now most (map (λ f. f.now) fields.now) }
 {
@@ -119,36 +110,39 @@ fn read_tangent(sc: &Scenario, most: usize, fields: &[&[u8]]) -> Result<TreeNode
 }
 
 /// A record, from the fields of its line.
-pub fn read_node(
-    sc: &Scenario,
-    version: TextVersion,
-    fields: &[&[u8]],
-) -> Result<TreeNode, PlanKind>
-    ensures { result ≡ node_line sc.now version (map (λ f. f.now) fields.now) }
+pub fn read_node(sc: &Scenario, dialect: Dialect, fields: &[&[u8]]) -> Result<GapNode, PlanKind>
+    ensures { result ≡ node_line sc.now dialect (map (λ f. f.now) fields.now) }
 {
-    let most = most_positions(sc, version);
+    let most = most_positions(sc, prefixes_in(dialect));
     match fields {
         [letter, positions @ ..] if *letter == b"B".as_slice() => read_branch(sc, most, positions),
         [letter, fields @ ..] if *letter == b"W".as_slice() => {
             let Bounded { bound, prefix } = read_bounded(sc, most, fields)?;
-            Ok(TreeNode {
+            Ok(GapNode {
                 prefix,
-                kind: Kind::Whole(bound),
+                kind: GapKind::Closed(Kind::Whole(bound)),
             })
         }
         [letter, fields @ ..] if *letter == b"M".as_slice() => {
             let Bounded { bound, prefix } = read_bounded(sc, most, fields)?;
-            Ok(TreeNode {
+            Ok(GapNode {
                 prefix,
-                kind: Kind::Mean(bound),
+                kind: GapKind::Closed(Kind::Mean(bound)),
             })
         }
         [letter, fields @ ..] if *letter == b"T".as_slice() => read_tangent(sc, most, fields),
-        [letter, fields @ ..] if *letter == b"E".as_slice() && has_edges(version) => {
+        [letter, fields @ ..] if *letter == b"E".as_slice() && has_edges(dialect) => {
             let Bounded { bound, prefix } = read_bounded(sc, most, fields)?;
-            Ok(TreeNode {
+            Ok(GapNode {
                 prefix,
-                kind: Kind::Edge(bound),
+                kind: GapKind::Closed(Kind::Edge(bound)),
+            })
+        }
+        [letter, fields @ ..] if *letter == b"O".as_slice() && has_open(dialect) => {
+            let Bounded { bound, prefix } = read_bounded(sc, most, fields)?;
+            Ok(GapNode {
+                prefix,
+                kind: GapKind::Waiting(bound),
             })
         }
         _ => Err(PlanKind::BadLine),

@@ -1,6 +1,6 @@
 use Rattle.std.proofs.Common.{◌≡◌, Err, arith}
 use Rattle.std.proofs.lemmas.Grind.{common_steps}
-use Rattle.tree_format.specs.Gives.{plan_of}
+use Rattle.tree_format.specs.Gives.{gap_in}
 use Rattle.tree_format.proofs.Drafts.{draft_added}
 use Rattle.tree_format.proofs.Spelled.{expected_legal}
 use Rattle.tree_format.proofs.Loop.{at_stop, at_added, goes_on}
@@ -12,7 +12,7 @@ returns-in_err-take_line c =
     let is : c.from_residual-in_err-take_line.result ≡ Err stop = grind (arith, common_steps, c.from_residual-in_err-take_line.ensures.0, c.from_residual-in_err-take_line.ensures.1) in
     let old = c.lines.draft in
     let goes = goes_on c.is_ended.result old.due.stage c.is_ended.ensures.1 c.lines-test.true in
-    rw is (at_stop c.args.sc.now c.lines.number old.due (plan_of old) old c.take_line.new.draft stop c.lines.rest.now c.in-Some.line.now c.in-Some.after.now _ goes c.in-Some.ensures.pieces c.in_err-take_line.ensures c.lines.invariant.so_far)
+    rw is (at_stop c.args.sc.now c.lines.number old.due (gap_in old) old c.take_line.new.draft stop c.lines.rest.now c.in-Some.line.now c.in-Some.after.now _ goes c.in-Some.ensures.pieces c.in_err-take_line.ensures c.lines.invariant.so_far)
 
 pub lines-preserved : goal.lines-preserved
 lines-preserved c =
@@ -25,4 +25,4 @@ lines-preserved c =
     }
 
 pub take_line-requires : goal.take_line-requires
-take_line-requires c = expected_legal c.args.sc.now c.lines.draft.due (plan_of c.lines.draft) c.lines.invariant.read
+take_line-requires c = expected_legal c.args.sc.now c.lines.draft.due (gap_in c.lines.draft) c.lines.invariant.read

@@ -5,20 +5,21 @@ use Rattle.text_rows.specs.Rows.{text_of}
 use Rattle.text_rows.proofs.RowLemmas.{stands_at_row, text_of-more}
 use Rattle.exact_parts.proofs.AppendLemmas.{stands_stopped, then_more, at_refusal}
 use Rattle.bound_tree.specs.declared.node.TreeNode.{TreeNode}
-use Rattle.tree_format.specs.PlanText.{record_row, IsNarrowKind}
+use Rattle.bound_tree.specs.Gaps.{closed_node}
+use Rattle.tree_format.specs.PlanText.{node_row, IsNarrowKind}
 use Rattle.tree_format.proofs.records.push_records.Goals as goal
 
-pub returns-in_err-push_record-clause-err : goal.returns-in_err-push_record-clause-err
-returns-in_err-push_record-clause-err c =
-    let before = stands_at_row (record_row c.args.version) c.args.records.now c.loop-r.r-index c.r-item.result c.loop-r-test.true c.loop-r.invariant.text in
+pub returns-in_err-push_closed-clause-err : goal.returns-in_err-push_closed-clause-err
+returns-in_err-push_closed-clause-err c =
+    let before = stands_at_row (λ (r : TreeNode). node_row c.args.dialect (closed_node r)) c.args.records.now c.loop-r.r-index c.r-item.result c.loop-r-test.true c.loop-r.invariant.text in
     at_refusal _ _ (stands_stopped _ _ before
-    (subst (λ (r : TreeNode). AppendsFront c.loop-r.out.items c.push_record.new.out.items (text_of (record_row c.args.version r ∷ []))) c.r-item.is c.in_err-push_record.ensures.err))
+    (subst (λ (r : TreeNode). AppendsFront c.loop-r.out.items c.push_closed.new.out.items (text_of (node_row c.args.dialect (closed_node r) ∷ []))) c.r-item.is c.in_err-push_closed.ensures.err))
 
 pub loop-r-preserved : goal.loop-r-preserved
 loop-r-preserved c =
-    let line = subst (λ (r : TreeNode). c.push_record.new.out.items ≡ c.loop-r.out.items ++ text_of (record_row c.args.version r ∷ [])) c.r-item.is c.in_ok-push_record.ensures.ok in
+    let line = subst (λ (r : TreeNode). c.push_closed.new.out.items ≡ c.loop-r.out.items ++ text_of (node_row c.args.dialect (closed_node r) ∷ [])) c.r-item.is c.in_ok-push_closed.ensures.ok in
     let N : TreeNode → Type 0 = λ r. IsNarrowKind r.kind in
     record {
-      text = then_more _ _ _ _ _ c.loop-r.invariant.text line ∙ ap (λ (t : List ℕ). c.args.out.now.items ++ t) (sym (text_of-more (record_row c.args.version) c.args.records.now c.loop-r.r-index c.r-item.result c.loop-r-test.true));
-      narrow = All-more N c.args.records.now c.loop-r.r-index c.r-item.result c.loop-r-test.true c.loop-r.invariant.narrow (subst N c.r-item.is c.in_ok-push_record.ensures.narrow);
+      text = then_more _ _ _ _ _ c.loop-r.invariant.text line ∙ ap (λ (t : List ℕ). c.args.out.now.items ++ t) (sym (text_of-more (λ (r : TreeNode). node_row c.args.dialect (closed_node r)) c.args.records.now c.loop-r.r-index c.r-item.result c.loop-r-test.true));
+      narrow = All-more N c.args.records.now c.loop-r.r-index c.r-item.result c.loop-r-test.true c.loop-r.invariant.narrow (subst N c.r-item.is c.in_ok-push_closed.ensures.narrow);
     }

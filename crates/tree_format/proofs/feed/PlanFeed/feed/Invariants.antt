@@ -4,4 +4,4 @@ use Rattle.tree_format.proofs.feed.PlanFeed.feed.Given as goal
 
 -- as many bytes were fed, and none completed an item or decided a fault
 abbrev pub invariant-loop-i : goal.invariant-loop-i
-invariant-loop-i l = IfRead l.sc l.fn.self (λ fed items. IsFedTo l.sc fed items l.piece l.i l.self)
+invariant-loop-i l = IfRead l.sc l.fn.self (λ family fed items. IsFedTo family l.sc fed items l.piece l.i l.self)

@@ -8,11 +8,11 @@ use Rattle.tree_format.proofs.FedPieces.{read_whole, read_early}
 use Rattle.tree_format.proofs.feed.PlanFeed.finish.Goals as goal
 
 pub returns-then-is_ended-clause-whole : goal.returns-then-is_ended-clause-whole
-returns-then-is_ended-clause-whole c = λ p fed items read.
-    read_whole p fed items c.args.self.now read (sym (ap (λ (s : Stand). s.due.stage) c.self.view_is) ∙ c.is_ended.ensures.0 c.if-is_ended.true)
+returns-then-is_ended-clause-whole c = λ family p fed items read.
+    read_whole family p fed items c.args.self.now read (sym (ap (λ (s : Stand). s.due.stage) c.self.view_is) ∙ c.is_ended.ensures.0 c.if-is_ended.true)
 
 pub returns-else-is_ended-clause-early : goal.returns-else-is_ended-clause-early
-returns-else-is_ended-clause-early c = λ p fed items read.
+returns-else-is_ended-clause-early c = λ family p fed items read.
     let stages = ap (λ (s : Stand). s.due.stage) c.self.view_is in
     let goes = goes_on c.is_ended.result c.self.inside.due.stage c.is_ended.ensures.1 c.if-is_ended.false in
-    subst (λ (s : Stand). IsCutOff p fed (at_line_number s.number EarlyEnd)) (sym c.self.view_is) (read_early p fed items c.args.self.now read (λ ended. goes (stages ∙ ended)))
+    subst (λ (s : Stand). IsCutOff family p fed (at_line_number s.number EarlyEnd)) (sym c.self.view_is) (read_early family p fed items c.args.self.now read (λ ended. goes (stages ∙ ended)))

@@ -1,0 +1,71 @@
+//! What the dialects differ in.
+
+ghost use Rattle.std.specs.Prelude.{◌≡◌, ◌≤◌};
+ghost use Rattle.tree_format.specs.Dialects.{family_of as family_of_lem, most_records as most_records_lem, has_ceiling as has_ceiling_lem, has_edges as has_edges_lem, has_open as has_open_lem, prefixes_in as prefixes_in_lem};
+
+use crate::plan_line::{Dialect, Family, Prefixes};
+use bound_tree::MOST_NODES;
+
+/// The most nodes that a gap plan may have: as many as 65,536 records of 64 children each leave.
+pub const MOST_GAP_NODES: u64 = 4_194_305;
+
+/// The family of a dialect.
+pub fn family_of(dialect: Dialect) -> Family
+    ensures { result ≡ family_of_lem dialect }
+{
+    match dialect {
+        Dialect::One | Dialect::Two => Family::Plans,
+        Dialect::Gap => Family::Gaps,
+    }
+}
+
+/// The most records that a text of a family may have.
+pub fn most_records(family: Family) -> u64
+    ensures value { result ≡ most_records_lem family }
+    ensures few { result ≤ 4194305 }
+{
+    match family {
+        Family::Plans => MOST_NODES,
+        Family::Gaps => MOST_GAP_NODES,
+    }
+}
+
+/// Whether a text has the line `ceiling N`.
+pub fn has_ceiling(dialect: Dialect) -> bool
+    ensures { result ≡ has_ceiling_lem dialect }
+{
+    match dialect {
+        Dialect::One | Dialect::Two => false,
+        Dialect::Gap => true,
+    }
+}
+
+/// Whether it may have records of edge bounds.
+pub fn has_edges(dialect: Dialect) -> bool
+    ensures { result ≡ has_edges_lem dialect }
+{
+    match dialect {
+        Dialect::One => false,
+        Dialect::Two | Dialect::Gap => true,
+    }
+}
+
+/// Whether it may have nodes that wait.
+pub fn has_open(dialect: Dialect) -> bool
+    ensures { result ≡ has_open_lem dialect }
+{
+    match dialect {
+        Dialect::One | Dialect::Two => false,
+        Dialect::Gap => true,
+    }
+}
+
+/// Where it has the prefixes of its records.
+pub fn prefixes_in(dialect: Dialect) -> Prefixes
+    ensures { result ≡ prefixes_in_lem dialect }
+{
+    match dialect {
+        Dialect::One => Prefixes::Written,
+        Dialect::Two | Dialect::Gap => Prefixes::LeftOut,
+    }
+}
