@@ -3,10 +3,14 @@ use Rattle.std.proofs.Common.{ℕ, ◌≡◌, ◌+◌, ◌≤◌, inl, inr, List
 use Rattle.search_model.specs.declared.standing.Standing.{Standing}
 use Rattle.search_model.specs.Problem.{Problem, IsProblem}
 use Rattle.bound_tree.specs.declared.node.TreeNode.{TreeNode}
-use Rattle.bound_tree.specs.declared.plan.Plan.{Plan}
+use Rattle.bound_tree.specs.declared.gap.GapNode.{GapNode}
+use Rattle.bound_tree.specs.declared.gap.GapPlan.{GapPlan}
+use Rattle.bound_tree.specs.Gaps.{shape_of, plan_of}
 use Rattle.tree_format.specs.declared.plan_item.PlanItem.{PlanItem}
 use Rattle.tree_format.specs.declared.plan_item.PlanItem.TheVariants.{Head, Node, End}
 use Rattle.tree_format.specs.Feeding.{items_of, Tells}
+use Rattle.tree_format.specs.declared.plan_line.Family.TheVariants.{Plans}
+use Rattle.std.proofs.lemmas.List.{length-map}
 use Rattle.tree_format.proofs.FedLaws.{items_in_order}
 use Rattle.tree_checker.specs.Reasons.{first_reason}
 use Rattle.tree_checker.specs.Progress.{Progress, reason_if, reason_at_end, IsUnderWay, IsMadeFor}
@@ -17,43 +21,43 @@ use Rattle.bound_tree.specs.declared.tree.TheConstants.{MOST_NODES}
 
 nodes_in-append : (xs ys : List PlanItem) → nodes_in (xs ++ ys) ≡ nodes_in xs ++ nodes_in ys
 nodes_in-append [] ys = refl
-nodes_in-append (Head s w n ∷ xs) ys = nodes_in-append xs ys
-nodes_in-append (Node r ∷ xs) ys = ap (λ (rs : List TreeNode). r ∷ rs) (nodes_in-append xs ys)
+nodes_in-append (Head s w c n ∷ xs) ys = nodes_in-append xs ys
+nodes_in-append (Node r ∷ xs) ys = ap (λ (rs : List TreeNode). shape_of r ∷ rs) (nodes_in-append xs ys)
 nodes_in-append (End ∷ xs) ys = nodes_in-append xs ys
 
-nodes_in-nodes : (rs : List TreeNode) → nodes_in (map (λ r. Node r) rs) ≡ rs
+nodes_in-nodes : (rs : List GapNode) → nodes_in (map (λ r. Node r) rs) ≡ map shape_of rs
 nodes_in-nodes [] = refl
-nodes_in-nodes (r ∷ rs) = ap (λ (more : List TreeNode). r ∷ more) (nodes_in-nodes rs)
+nodes_in-nodes (r ∷ rs) = ap (λ (more : List TreeNode). shape_of r ∷ more) (nodes_in-nodes rs)
 
-nodes_in-plan : (rs : List TreeNode) → nodes_in (map (λ r. Node r) rs ++ End ∷ []) ≡ rs
+nodes_in-plan : (rs : List GapNode) → nodes_in (map (λ r. Node r) rs ++ End ∷ []) ≡ map shape_of rs
 nodes_in-plan rs = nodes_in-append (map (λ r. Node r) rs) (End ∷ []) ∙ append-nil _ ∙ nodes_in-nodes rs
 
 -- One item more.
 
-leads_on : (p : Problem) (told : List PlanItem) (r : TreeNode) (path : List ℕ) (old new : Progress) → ((rs : List TreeNode) → reason_if p new rs ≡ reason_if p old (r ∷ rs)) → LeadsToReason p told path old → LeadsToReason p (told ++ Node r ∷ []) path new
+leads_on : (p : Problem) (told : List PlanItem) (r : GapNode) (path : List ℕ) (old new : Progress) → ((rs : List TreeNode) → reason_if p new rs ≡ reason_if p old (shape_of r ∷ rs)) → LeadsToReason p told path old → LeadsToReason p (told ++ Node r ∷ []) path new
 leads_on p [] r path old new next leads = tt
-leads_on p (Head s w n ∷ more) r path old new next leads = (
+leads_on p (Head s w c n ∷ more) r path old new next leads = (
   leads.0,
   λ later.
-      let nodes : nodes_in more ++ r ∷ later ≡ nodes_in (more ++ Node r ∷ []) ++ later =
-      sym (append_assoc (nodes_in more) (r ∷ []) later) ∙ ap (λ (rs : List TreeNode). rs ++ later) (sym (nodes_in-append more (Node r ∷ []))) in
-      next later ∙ leads.1 (r ∷ later) ∙ ap (λ (rs : List TreeNode). first_reason p (record { standing = s; weight = w; tree = rs })) nodes,
+      let nodes : nodes_in more ++ shape_of r ∷ later ≡ nodes_in (more ++ Node r ∷ []) ++ later =
+      sym (append_assoc (nodes_in more) (shape_of r ∷ []) later) ∙ ap (λ (rs : List TreeNode). rs ++ later) (sym (nodes_in-append more (Node r ∷ []))) in
+      next later ∙ leads.1 (shape_of r ∷ later) ∙ ap (λ (rs : List TreeNode). first_reason p (record { standing = s; weight = w; tree = rs })) nodes,
 )
 leads_on p (Node q ∷ more) r path old new next leads = tt
 leads_on p (End ∷ more) r path old new next leads = tt
 
-pub node_heard : (p : Problem) (told : List PlanItem) (r : TreeNode) (path : List ℕ) (old new : Progress) → HasHeard p told path old →
-    ((rs : List TreeNode) → reason_if p new rs ≡ reason_if p old (r ∷ rs)) → IsUnderWay p new → new.line ≤ old.line + 1 → IsMadeFor p new → HasHeard p (told ++ Node r ∷ []) path new
+pub node_heard : (p : Problem) (told : List PlanItem) (r : GapNode) (path : List ℕ) (old new : Progress) → HasHeard p told path old →
+    ((rs : List TreeNode) → reason_if p new rs ≡ reason_if p old (shape_of r ∷ rs)) → IsUnderWay p new → new.line ≤ old.line + 1 → IsMadeFor p new → HasHeard p (told ++ Node r ∷ []) path new
 node_heard p told r path old new heard next under_way line made = record {
   under_way = under_way;
   made_for = made;
-  line = let count : length (nodes_in (told ++ Node r ∷ [])) ≡ length (nodes_in told) + 1 = ap (λ (rs : List TreeNode). length rs) (nodes_in-append told (Node r ∷ [])) ∙ length-append (nodes_in told) (r ∷ []) in omega (arith, count, line, heard.line);
+  line = let count : length (nodes_in (told ++ Node r ∷ [])) ≡ length (nodes_in told) + 1 = ap (λ (rs : List TreeNode). length rs) (nodes_in-append told (Node r ∷ [])) ∙ length-append (nodes_in told) (shape_of r ∷ []) in omega (arith, count, line, heard.line);
   reason = leads_on p told r path old new next heard.reason;
 }
 
 leads_still : (p : Problem) (told : List PlanItem) (path : List ℕ) (checker : Progress) → LeadsToReason p told path checker → LeadsToReason p (told ++ End ∷ []) path checker
 leads_still p [] path checker leads = tt
-leads_still p (Head s w n ∷ more) path checker leads = (
+leads_still p (Head s w c n ∷ more) path checker leads = (
   leads.0,
   λ later.
       let nodes : nodes_in more ++ later ≡ nodes_in (more ++ End ∷ []) ++ later = ap (λ (rs : List TreeNode). rs ++ later) (sym (nodes_in-append more (End ∷ []) ∙ append-nil (nodes_in more))) in
@@ -74,55 +78,55 @@ end_heard p told path checker heard = record {
 
 abbrev heads_in : List PlanItem → ℕ
 heads_in [] = 0
-heads_in (Head s w n ∷ more) = heads_in more + 1
+heads_in (Head s w c n ∷ more) = heads_in more + 1
 heads_in (Node r ∷ more) = heads_in more
 heads_in (End ∷ more) = heads_in more
 
 heads_in-append : (xs ys : List PlanItem) → heads_in (xs ++ ys) ≡ heads_in xs + heads_in ys
 heads_in-append [] ys = omega arith
-heads_in-append (Head s w n ∷ xs) ys = let more = heads_in-append xs ys in omega (arith, more)
+heads_in-append (Head s w c n ∷ xs) ys = let more = heads_in-append xs ys in omega (arith, more)
 heads_in-append (Node r ∷ xs) ys = heads_in-append xs ys
 heads_in-append (End ∷ xs) ys = heads_in-append xs ys
 
-heads_in-nodes : (rs : List TreeNode) → heads_in (map (λ r. Node r) rs) ≡ 0
+heads_in-nodes : (rs : List GapNode) → heads_in (map (λ r. Node r) rs) ≡ 0
 heads_in-nodes [] = refl
 heads_in-nodes (r ∷ rs) = heads_in-nodes rs
 
-one_head : (told more : List PlanItem) (u : PlanItem) (s : Standing) (w n : ℕ) → heads_in more ≡ 0 → told ++ Head s w n ∷ [] ≡ u ∷ more → told ≡ []
-one_head [] more u s w n none e = refl
-one_head (t ∷ told) more u s w n none e =
-    let rest : told ++ Head s w n ∷ [] ≡ more = cc in
-    absurd (omega (arith, none, ap heads_in rest, heads_in-append told (Head s w n ∷ [])))
+one_head : (told more : List PlanItem) (u : PlanItem) (s : Standing) (w c n : ℕ) → heads_in more ≡ 0 → told ++ Head s w c n ∷ [] ≡ u ∷ more → told ≡ []
+one_head [] more u s w c n none e = refl
+one_head (t ∷ told) more u s w c n none e =
+    let rest : told ++ Head s w c n ∷ [] ≡ more = cc in
+    absurd (omega (arith, none, ap heads_in rest, heads_in-append told (Head s w c n ∷ [])))
 
-pub head_first : (p : Problem) (text : List ℕ) (told : List PlanItem) (s : Standing) (w n : ℕ) → IsProblem p → Tells p text (told ++ Head s w n ∷ []) → told ≡ []
-head_first p text told s w n sound tells = elim (items_in_order p text (told ++ Head s w n ∷ []) sound tells) [
-  | inl none ↦ let rest : length (told ++ Head s w n ∷ []) ≡ 0 = ap (λ (xs : List PlanItem). length xs) none in absurd (omega (arith, rest, length-append told (Head s w n ∷ [])))
+pub head_first : (p : Problem) (text : List ℕ) (told : List PlanItem) (s : Standing) (w c n : ℕ) → IsProblem p → Tells Plans p text (told ++ Head s w c n ∷ []) → told ≡ []
+head_first p text told s w c n sound tells = elim (items_in_order Plans p text (told ++ Head s w c n ∷ []) sound tells) [
+  | inl none ↦ let rest : length (told ++ Head s w c n ∷ []) ≡ 0 = ap (λ (xs : List PlanItem). length xs) none in absurd (omega (arith, rest, length-append told (Head s w c n ∷ [])))
   | inr order ↦ elim order.order [
-    | inl going ↦ one_head told _ _ s w n (heads_in-nodes order.records) going
-    | inr (_, whole) ↦ one_head told _ _ s w n (let sum = heads_in-append (map (λ r. Node r) order.records) (End ∷ []) in omega (arith, sum, heads_in-nodes order.records)) whole
+    | inl going ↦ one_head told _ _ s w c n (heads_in-nodes order.records) going
+    | inr (_, whole) ↦ one_head told _ _ s w c n (let sum = heads_in-append (map (λ r. Node r) order.records) (End ∷ []) in omega (arith, sum, heads_in-nodes order.records)) whole
   ]
 ]
 
-pub few_nodes : (p : Problem) (text : List ℕ) (told : List PlanItem) → IsProblem p → Tells p text told → length (nodes_in told) ≤ MOST_NODES
-few_nodes p text told sound tells = elim (items_in_order p text told sound tells) [
+pub few_nodes : (p : Problem) (text : List ℕ) (told : List PlanItem) → IsProblem p → Tells Plans p text told → length (nodes_in told) ≤ MOST_NODES
+few_nodes p text told sound tells = elim (items_in_order Plans p text told sound tells) [
   | inl none ↦ let count : length (nodes_in told) ≡ 0 = ap (λ (xs : List PlanItem). length (nodes_in xs)) none in omega (arith, count)
   | inr order ↦ elim order.order [
-    | inl going ↦ let count : length (nodes_in told) ≡ length order.records = ap (λ (xs : List PlanItem). length (nodes_in xs)) going ∙ ap (λ (rs : List TreeNode). length rs) (nodes_in-nodes order.records) in omega (arith, count, order.few, order.within)
-    | inr (_, whole) ↦ let count : length (nodes_in told) ≡ length order.records = ap (λ (xs : List PlanItem). length (nodes_in xs)) whole ∙ ap (λ (rs : List TreeNode). length rs) (nodes_in-plan order.records) in omega (arith, count, order.few, order.within)
+    | inl going ↦ let count : length (nodes_in told) ≡ length order.records = ap (λ (xs : List PlanItem). length (nodes_in xs)) going ∙ ap (λ (rs : List TreeNode). length rs) (nodes_in-nodes order.records) ∙ length-map order.records shape_of in omega (arith, count, order.few, order.within)
+    | inr (_, whole) ↦ let count : length (nodes_in told) ≡ length order.records = ap (λ (xs : List PlanItem). length (nodes_in xs)) whole ∙ ap (λ (rs : List TreeNode). length rs) (nodes_in-plan order.records) ∙ length-map order.records shape_of in omega (arith, count, order.few, order.within)
   ]
 ]
 
 -- so the next item is one that may come
-pub is_next : (p : Problem) (text : List ℕ) (told : List PlanItem) (item : PlanItem) → IsProblem p → Tells p text (told ++ item ∷ []) → IsNextItem told item
-is_next p text told (Head s w n) sound tells = head_first p text told s w n sound tells
+pub is_next : (p : Problem) (text : List ℕ) (told : List PlanItem) (item : PlanItem) → IsProblem p → Tells Plans p text (told ++ item ∷ []) → IsNextItem told item
+is_next p text told (Head s w c n) sound tells = head_first p text told s w c n sound tells
 is_next p text told (Node r) sound tells = tt
 is_next p text told End sound tells = tt
 
 -- The reason against a whole plan.
 
-pub plan_reason : (p : Problem) (plan : Plan) (told : List PlanItem) (path : List ℕ) (checker : Progress) → told ≡ items_of plan → HasHeard p told path checker → (path ≡ plan.standing.path) × (reason_at_end checker ≡ first_reason p plan)
+pub plan_reason : (p : Problem) (plan : GapPlan) (told : List PlanItem) (path : List ℕ) (checker : Progress) → told ≡ items_of plan → HasHeard p told path checker → (path ≡ plan.standing.path) × (reason_at_end checker ≡ first_reason p (plan_of plan))
 plan_reason p plan told path checker whole heard =
     let leads = subst (λ (items : List PlanItem). LeadsToReason p items path checker) whole heard.reason in (
       leads.0,
-      leads.1 [] ∙ ap (λ (rs : List TreeNode). first_reason p (record { standing = plan.standing; weight = plan.weight; tree = rs })) (append-nil _ ∙ nodes_in-plan plan.tree),
+      leads.1 [] ∙ ap (λ (rs : List TreeNode). first_reason p (record { standing = plan.standing; weight = plan.weight; tree = rs })) (append-nil _ ∙ nodes_in-plan plan.nodes),
     )

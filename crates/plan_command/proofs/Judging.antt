@@ -12,7 +12,9 @@ use Rattle.scenario_text.proofs.EndLines.{front_ignores_rest}
 use Rattle.bound_tree.specs.declared.plan.Plan.{Plan}
 use Rattle.tree_format.specs.declared.kind.PlanFault.{PlanFault}
 use Rattle.tree_format.specs.declared.plan_item.PlanItem.{PlanItem}
-use Rattle.tree_format.specs.Reading.{plan_at}
+use Rattle.tree_format.specs.Reading.{text_at, as_plan, plan_at}
+use Rattle.tree_format.specs.declared.plan_line.Family.TheVariants.{Plans}
+use Rattle.bound_tree.specs.Gaps.{plan_of}
 use Rattle.tree_format.specs.declared.plan_item.Step.{Step}
 use Rattle.tree_format.specs.declared.plan_item.Step.TheVariants.{More, Item, Fault}
 use Rattle.tree_format.specs.Feeding.{HasRead, IfRead, IfMore, IfItem, IfFaulty, IsDecided, IsWhole, IsCutOff}
@@ -44,50 +46,50 @@ line_left text judge sound taken =
 -- What a feed did with first bytes of a text, and the judge that goes on with it.
 module _ (before text : List ℕ) (old new : Judge) (feed : Stand) (used : ℕ) (step : Step) (h : HasTakenText before old) where
   -- neither an item nor a fault
-  pub text_more : step ≡ More → IfMore step (used ≡ length text) → IfRead old.sc old.feed (λ fed items. IfMore step (HasRead old.sc (fed ++ text) items feed)) →
+  pub text_more : step ≡ More → IfMore step (used ≡ length text) → IfRead old.sc old.feed (λ family fed items. IfMore step (HasRead family old.sc (fed ++ text) items feed)) →
       new.sc ≡ old.sc → new.feed ≡ feed → new.path ≡ old.path → new.checker ≡ old.checker → HasTakenText (before ++ take used text) new
   text_more is all reads sc feeds path checker =
       let count : used ≡ length text = subst (λ (s : Step). IfMore s (used ≡ length text)) is all in
-      let read : HasRead old.sc (before ++ text) h.told feed = subst (λ (s : Step). IfMore s (HasRead old.sc (before ++ text) h.told feed)) is (reads before h.told h.read) in
+      let read : HasRead Plans old.sc (before ++ text) h.told feed = subst (λ (s : Step). IfMore s (HasRead Plans old.sc (before ++ text) h.told feed)) is (reads Plans before h.told h.read) in
       let whole : before ++ text ≡ before ++ take used text = ap (λ (t : List ℕ). before ++ t) (sym (take_all used text (omega (arith, count)))) in
       record {
         told = h.told;
-        read = subst (λ (q : Problem). HasRead q (before ++ take used text) h.told new.feed) (sym sc)
-            (subst (λ (f : Stand). HasRead old.sc (before ++ take used text) h.told f) (sym feeds) (subst (λ (t : List ℕ). HasRead old.sc t h.told feed) whole read));
+        read = subst (λ (q : Problem). HasRead Plans q (before ++ take used text) h.told new.feed) (sym sc)
+            (subst (λ (f : Stand). HasRead Plans old.sc (before ++ take used text) h.told f) (sym feeds) (subst (λ (t : List ℕ). HasRead Plans old.sc t h.told feed) whole read));
         heard = subst (λ (q : Problem). HasHeard q h.told new.path new.checker) (sym sc)
             (subst (λ (q : List ℕ). HasHeard old.sc h.told q new.checker) (sym path) (subst (λ (g : Progress). HasHeard old.sc h.told old.path g) (sym checker) h.heard));
       }
 
   -- an item
-  pub text_item : (item : PlanItem) → IsProblem old.sc → step ≡ Item item → IfRead old.sc old.feed (λ fed items. IfItem step (λ told. HasRead old.sc (fed ++ take used text) (items ++ told ∷ []) feed)) →
+  pub text_item : (item : PlanItem) → IsProblem old.sc → step ≡ Item item → IfRead old.sc old.feed (λ family fed items. IfItem step (λ told. HasRead family old.sc (fed ++ take used text) (items ++ told ∷ []) feed)) →
       ((told : List PlanItem) → IsNextItem told item → HasHeard old.sc told old.path old.checker → HasHeard old.sc (told ++ item ∷ []) new.path new.checker) →
       new.sc ≡ old.sc → new.feed ≡ feed → HasTakenText (before ++ take used text) new
   text_item item sound is reads hears sc feeds =
-      let read : HasRead old.sc (before ++ take used text) (h.told ++ item ∷ []) feed =
-      subst (λ (s : Step). IfItem s (λ told. HasRead old.sc (before ++ take used text) (h.told ++ told ∷ []) feed)) is (reads before h.told h.read) in
+      let read : HasRead Plans old.sc (before ++ take used text) (h.told ++ item ∷ []) feed =
+      subst (λ (s : Step). IfItem s (λ told. HasRead Plans old.sc (before ++ take used text) (h.told ++ told ∷ []) feed)) is (reads Plans before h.told h.read) in
       record {
         told = h.told ++ item ∷ [];
-        read = subst (λ (q : Problem). HasRead q (before ++ take used text) (h.told ++ item ∷ []) new.feed) (sym sc) (subst (λ (f : Stand). HasRead old.sc (before ++ take used text) (h.told ++ item ∷ []) f) (sym feeds) read);
+        read = subst (λ (q : Problem). HasRead Plans q (before ++ take used text) (h.told ++ item ∷ []) new.feed) (sym sc) (subst (λ (f : Stand). HasRead Plans old.sc (before ++ take used text) (h.told ++ item ∷ []) f) (sym feeds) read);
         heard = subst (λ (q : Problem). HasHeard q (h.told ++ item ∷ []) new.path new.checker) (sym sc) (hears h.told (is_next old.sc _ h.told item sound (feed, read)) h.heard);
       }
 
 -- a fault that first bytes decide is that of more bytes
-pub decided_on : (p : Problem) (before text : List ℕ) (n : ℕ) (fault : PlanFault) → IsDecided p (before ++ take n text) fault → IsDecided p (before ++ text) fault
+pub decided_on : (p : Problem) (before text : List ℕ) (n : ℕ) (fault : PlanFault) → IsDecided Plans p (before ++ take n text) fault → IsDecided Plans p (before ++ text) fault
 decided_on p before text n fault decided = λ more.
     let whole : before ++ take n text ++ (drop n text ++ more) ≡ before ++ text ++ more =
     append_assoc before (take n text) (drop n text ++ more)
     ∙ ap (λ (t : List ℕ). before ++ t) (sym (append_assoc (take n text) (drop n text) more) ∙ ap (λ (t : List ℕ). t ++ more) (take-append-drop n text))
     ∙ sym (append_assoc before text more) in
-    subst (λ (t : List ℕ). plan_at p t ≡ Err fault) whole (decided (drop n text ++ more))
+    subst (λ (t : List ℕ). text_at Plans p t ≡ Err fault) whole (decided (drop n text ++ more))
 
-pub text_fault : (before text : List ℕ) (judge : Judge) (used : ℕ) (step : Step) (fault : PlanFault) → HasTakenText before judge → step ≡ Fault fault → IfRead judge.sc judge.feed (λ fed items. IfFaulty step (λ f. IsDecided judge.sc (fed ++ take used text) f)) → IsDecided judge.sc (before ++ text) fault
+pub text_fault : (before text : List ℕ) (judge : Judge) (used : ℕ) (step : Step) (fault : PlanFault) → HasTakenText before judge → step ≡ Fault fault → IfRead judge.sc judge.feed (λ family fed items. IfFaulty step (λ f. IsDecided family judge.sc (fed ++ take used text) f)) → IsDecided Plans judge.sc (before ++ text) fault
 text_fault before text judge used step fault h is decides =
-    decided_on judge.sc before text used fault (subst (λ (s : Step). IfFaulty s (λ f. IsDecided judge.sc (before ++ take used text) f)) is (decides before h.told h.read))
+    decided_on judge.sc before text used fault (subst (λ (s : Step). IfFaulty s (λ f. IsDecided Plans judge.sc (before ++ take used text) f)) is (decides Plans before h.told h.read))
 
 -- and so is one of what is left of a text
-pub decided_left : (p : Problem) (before text : List ℕ) (n : ℕ) (fault : PlanFault) → IsDecided p (before ++ take n text ++ drop n text) fault → IsDecided p (before ++ text) fault
+pub decided_left : (p : Problem) (before text : List ℕ) (n : ℕ) (fault : PlanFault) → IsDecided Plans p (before ++ take n text ++ drop n text) fault → IsDecided Plans p (before ++ text) fault
 decided_left p before text n fault decided =
-    subst (λ (t : List ℕ). IsDecided p t fault) (append_assoc before (take n text) (drop n text) ∙ ap (λ (t : List ℕ). before ++ t) (take-append-drop n text)) decided
+    subst (λ (t : List ℕ). IsDecided Plans p t fault) (append_assoc before (take n text) (drop n text) ∙ ap (λ (t : List ℕ). before ++ t) (take-append-drop n text)) decided
 
 -- first bytes of what is left are bytes more
 pub taken_on : (P : List ℕ → Type 0) (before text : List ℕ) (n m : ℕ) → P (before ++ take n text ++ take m (drop n text)) → P (before ++ take (n + m) text)
@@ -163,21 +165,21 @@ module _ (rest piece : List ℕ) (old new : Judge) (h : HasTakenRest rest old) w
   }
 
   -- a fault that the first bytes of the text decide
-  pub first_fault : (text : List ℕ) (fault : PlanFault) → old.begun ≡ false → SkipsSpaces piece text → 0 < length text → IsDecided old.sc (h.text ++ text) fault → (more : List ℕ) → HasFault old.sc (rest ++ piece ++ more) fault
+  pub first_fault : (text : List ℕ) (fault : PlanFault) → old.begun ≡ false → SkipsSpaces piece text → 0 < length text → IsDecided Plans old.sc (h.text ++ text) fault → (more : List ℕ) → HasFault old.sc (rest ++ piece ++ more) fault
   first_fault text fault flag skips some decided more =
       let empty = h.none flag in
       record {
         text = text ++ more;
         skips = skips_on (rest ++ piece) text more (skips_behind rest piece text (subst (SkipsSpaces rest) empty h.skips) skips) some;
-        read = subst (λ (t : List ℕ). IsDecided old.sc (t ++ text) fault) empty decided more;
+        read = ap as_plan (subst (λ (t : List ℕ). IsDecided Plans old.sc (t ++ text) fault) empty decided more);
       }
 
   -- or more of it
-  pub more_fault : (fault : PlanFault) → old.begun ≡ true → IsDecided old.sc (h.text ++ piece) fault → (more : List ℕ) → HasFault old.sc (rest ++ piece ++ more) fault
+  pub more_fault : (fault : PlanFault) → old.begun ≡ true → IsDecided Plans old.sc (h.text ++ piece) fault → (more : List ℕ) → HasFault old.sc (rest ++ piece ++ more) fault
   more_fault fault flag decided more = record {
     text = h.text ++ piece ++ more;
     skips = skips_on (rest ++ piece) (h.text ++ piece) more (skips_on rest h.text piece h.skips (h.some flag)) (some_and_more h.text piece (h.some flag));
-    read = decided more;
+    read = ap as_plan (decided more);
   }
 
 -- What was made of a piece, by what was made of the text in it.
@@ -201,13 +203,13 @@ module _ (piece : List ℕ) (old new : Judge) (r : Result (Unit {0}) PlanFault) 
   pub piece_more : old.begun ≡ true → new.begun ≡ old.begun → OnOk r (TakesText old new piece) → OnOk r ((before : List ℕ) → HasTakenRest before old → HasTakenRest (before ++ piece) new)
   piece_more flag kept takes = on_ok r (λ takes before h. more_text before piece old new h flag (kept ∙ flag) (takes h.text h.taken)) takes
 
-  pub piece_fault : old.begun ≡ true → IfErr r (λ fault. (before : List ℕ) → HasTakenText before old → IsDecided old.sc (before ++ piece) fault) → IfErr r (λ fault. (before more : List ℕ) → HasTakenRest before old → HasFault old.sc (before ++ piece ++ more) fault)
+  pub piece_fault : old.begun ≡ true → IfErr r (λ fault. (before : List ℕ) → HasTakenText before old → IsDecided Plans old.sc (before ++ piece) fault) → IfErr r (λ fault. (before more : List ℕ) → HasTakenRest before old → HasFault old.sc (before ++ piece ++ more) fault)
   piece_fault flag decides = if_err r (λ fault decides before more h. more_fault before piece old new h fault flag (decides h.text h.taken) more) decides
 
   pub first_more : (text : List ℕ) → old.begun ≡ false → SkipsSpaces piece text → 0 < length text → new.begun ≡ true → OnOk r (TakesText (record old { begun = true }) new text) → OnOk r ((before : List ℕ) → HasTakenRest before old → HasTakenRest (before ++ piece) new)
   first_more text flag skips some begun takes = on_ok r (λ takes before h. first_text before piece old new h text flag skips some begun (takes h.text (text_begun h.text old h.taken))) takes
 
-  pub first_wrong : (text : List ℕ) → old.begun ≡ false → SkipsSpaces piece text → 0 < length text → IfErr r (λ fault. (before : List ℕ) → HasTakenText before (record old { begun = true }) → IsDecided old.sc (before ++ text) fault) → IfErr r (λ fault. (before more : List ℕ) → HasTakenRest before old → HasFault old.sc (before ++ piece ++ more) fault)
+  pub first_wrong : (text : List ℕ) → old.begun ≡ false → SkipsSpaces piece text → 0 < length text → IfErr r (λ fault. (before : List ℕ) → HasTakenText before (record old { begun = true }) → IsDecided Plans old.sc (before ++ text) fault) → IfErr r (λ fault. (before more : List ℕ) → HasTakenRest before old → HasFault old.sc (before ++ piece ++ more) fault)
   first_wrong text flag skips some decides = if_err r (λ fault decides before more h. first_fault before piece old new h text fault flag skips some (decides h.text (text_begun h.text old h.taken)) more) decides
 
 -- Where the text ends.
@@ -215,14 +217,14 @@ module _ (piece : List ℕ) (old new : Judge) (r : Result (Unit {0}) PlanFault) 
 verdict_on : (p : Problem) (plan : Plan) (verdict : Verdict) → verdict ≡ verdict_of (first_reason p plan) → IsVerdictOn p plan verdict
 verdict_on p plan verdict is = record { exact = is; accepted = accepted_verdict {E = Unit {0}} p plan (Ok verdict) is }
 
-pub told_verdict : (rest : List ℕ) (judge : Judge) (verdict : Verdict) → IsProblem judge.sc → (h : HasTakenRest rest judge) → IsWhole judge.sc h.text h.taken.told → verdict ≡ verdict_of (reason_at_end judge.checker) → TellsRest judge.sc judge.path rest (Ok verdict)
+pub told_verdict : (rest : List ℕ) (judge : Judge) (verdict : Verdict) → IsProblem judge.sc → (h : HasTakenRest rest judge) → IsWhole Plans judge.sc h.text h.taken.told → verdict ≡ verdict_of (reason_at_end judge.checker) → TellsRest judge.sc judge.path rest (Ok verdict)
 told_verdict rest judge verdict sound h whole is =
-    let plan = whole.plan in
-    let reason = plan_reason judge.sc plan h.taken.told judge.path judge.checker whole.tell h.taken.heard in
-    (plan, (plan_behind judge.sc rest h.text plan sound h.skips whole.spelled, verdict_on judge.sc plan verdict (is ∙ ap verdict_of reason.1)), reason.0)
+    let plan = plan_of whole.plan in
+    let reason = plan_reason judge.sc whole.plan h.taken.told judge.path judge.checker whole.tell h.taken.heard in
+    (plan, (plan_behind judge.sc rest h.text plan sound h.skips (ap as_plan whole.spelled), verdict_on judge.sc plan verdict (is ∙ ap verdict_of reason.1)), reason.0)
 
-pub told_early : (rest : List ℕ) (judge : Judge) (fault : PlanFault) → (h : HasTakenRest rest judge) → IsCutOff judge.sc h.text fault → TellsRest judge.sc judge.path rest (Err fault)
-told_early rest judge fault h cut = record { text = h.text; skips = h.skips; read = cut.first }
+pub told_early : (rest : List ℕ) (judge : Judge) (fault : PlanFault) → (h : HasTakenRest rest judge) → IsCutOff Plans judge.sc h.text fault → TellsRest judge.sc judge.path rest (Err fault)
+told_early rest judge fault h cut = record { text = h.text; skips = h.skips; read = ap as_plan cut.first }
 
 -- Behind the scenario of an input.
 
@@ -382,8 +384,8 @@ module _ (bytes more : List ℕ) (intake : Intake) (h : HasTaken bytes intake) w
 pub taken_none : (before text : List ℕ) (judge : Judge) → HasTakenText before judge → HasTakenText (before ++ take 0 text) judge
 taken_none before text judge h = subst (λ (t : List ℕ). HasTakenText t judge) (sym (append-nil before)) h
 
-pub decided_part : (q p : Problem) (before text : List ℕ) (n : ℕ) (fault : PlanFault) → q ≡ p → IsDecided q (before ++ take n text ++ drop n text) fault → IsDecided p (before ++ text) fault
-decided_part q p before text n fault same decided = subst (λ (r : Problem). IsDecided r (before ++ text) fault) same (decided_left q before text n fault decided)
+pub decided_part : (q p : Problem) (before text : List ℕ) (n : ℕ) (fault : PlanFault) → q ≡ p → IsDecided Plans q (before ++ take n text ++ drop n text) fault → IsDecided Plans p (before ++ text) fault
+decided_part q p before text n fault same decided = subst (λ (r : Problem). IsDecided Plans r (before ++ text) fault) same (decided_left q before text n fault decided)
 
 -- a text that is empty, or isn't
 pub no_text : (text : List ℕ) → length text ≡ 0 → text ≡ []

@@ -5,11 +5,13 @@ use Rattle.scenario_text.specs.Reading.{front_of}
 use Rattle.scenario_text.specs.Laws.{EndsWithEnd}
 use Rattle.bound_tree.specs.declared.node.TreeNode.{TreeNode}
 use Rattle.bound_tree.specs.declared.plan.Plan.{Plan}
+use Rattle.bound_tree.specs.Gaps.{shape_of}
 use Rattle.bound_tree.specs.Accepts.{Accepts}
 use Rattle.tree_format.specs.declared.kind.PlanFault.{PlanFault}
 use Rattle.tree_format.specs.declared.plan_item.PlanItem.{PlanItem}
 use Rattle.tree_format.specs.declared.plan_item.PlanItem.TheVariants as items
 use Rattle.tree_format.specs.Feeding.{HasRead}
+use Rattle.tree_format.specs.declared.plan_line.Family.TheVariants.{Plans}
 use Rattle.tree_checker.specs.declared.verdict.Verdict.{Verdict}
 use Rattle.tree_checker.specs.declared.verdict.Verdict.TheVariants as verdicts
 use Rattle.tree_checker.specs.Reasons.{first_reason, verdict_of}
@@ -40,14 +42,14 @@ HasGathered old piece (Some used) new = (used ≤ length piece) × (new ≡ old 
 -- the records among what was told
 abbrev pub nodes_in : List PlanItem → List TreeNode
 nodes_in [] = []
-nodes_in (items.Head s w n ∷ more) = nodes_in more
-nodes_in (items.Node r ∷ more) = r ∷ nodes_in more
+nodes_in (items.Head s w c n ∷ more) = nodes_in more
+nodes_in (items.Node r ∷ more) = shape_of r ∷ nodes_in more
 nodes_in (items.End ∷ more) = nodes_in more
 
 -- where a head was told first, the checker has this path, and leads to the first reason against the plan of that head and
 -- of the records so far, whatever records follow
 abbrev pub LeadsToReason : Problem → List PlanItem → List ℕ → Progress → Type 0
-LeadsToReason p (items.Head s w n ∷ more) path checker =
+LeadsToReason p (items.Head s w c n ∷ more) path checker =
     (path ≡ s.path) × ((later : List TreeNode) → reason_if p checker later ≡ first_reason p (record { standing = s; weight = w; tree = nodes_in more ++ later }))
 LeadsToReason p told path checker = Unit {0}
 
@@ -60,14 +62,14 @@ pub record HasHeard (p : Problem) (told : List PlanItem) (path : List ℕ) (chec
 
 -- a head is told first of all
 abbrev pub IsNextItem : List PlanItem → PlanItem → Type 0
-IsNextItem told (items.Head s w n) = told ≡ []
+IsNextItem told (items.Head s w c n) = told ≡ []
 IsNextItem told (items.Node r) = Unit {0}
 IsNextItem told items.End = Unit {0}
 
 -- a judge that took this text of a plan: its feed has read it, and its checker was told what it says
 pub record HasTakenText (text : List ℕ) (judge : Judge) : Type 0 where
   pub told : List PlanItem
-  pub read : HasRead judge.sc text told judge.feed
+  pub read : HasRead Plans judge.sc text told judge.feed
   pub heard : HasHeard judge.sc told judge.path judge.checker
 
 -- a judge that took these bytes behind a scenario: blanks, and then the text

@@ -12,7 +12,7 @@ use exact_parts::NoMemory;
 use search_model::{Path, Scenario};
 use std::alloc::Global;
 use tree_checker::{Checker, Verdict};
-use tree_format::{Fed, PlanFault, PlanFeed, PlanItem, Step};
+use tree_format::{Family, Fed, PlanFault, PlanFeed, PlanItem, Step, record_of};
 
 /// What was read of the plan behind a scenario, and the checker of what it told. Neither the text of the plan nor its tree
 /// is kept: only the call that makes the judge takes memory.
@@ -33,7 +33,7 @@ impl Judge {
         ensures scenario { IfOk result (λ judge. judge.sc ≡ sc) }
         ensures nothing { IfOk result (λ judge. HasTakenRest [] judge) }
     {
-        let feed = PlanFeed::start(alloc, &sc)?;
+        let feed = PlanFeed::start(alloc, &sc, Family::Plans)?;
         let checker = Checker::tables(alloc, &sc)?;
         Ok(Judge {
             sc,
@@ -57,11 +57,11 @@ impl Judge {
             → HasHeard self.old.sc (told ++ item ∷ []) self.new.path self.new.checker }
     {
         match item {
-            PlanItem::Head(standing, weight, _) => {
+            PlanItem::Head(standing, weight, _, _) => {
                 self.path = standing.path;
                 self.checker.head(&self.sc, &standing, weight);
             }
-            PlanItem::Node(node) => self.checker.node(&self.sc, &node),
+            PlanItem::Node(node) => self.checker.node(&self.sc, &record_of(&node)),
             PlanItem::End => {}
         }
     }
@@ -77,7 +77,7 @@ impl Judge {
             (before : List ℕ) → HasTakenText before self.old →
             HasTakenText (before ++ take used text.now) self.new) }
         ensures fault { IfErr result (λ fault.
-            (before : List ℕ) → HasTakenText before self.old → IsDecided self.old.sc (before ++ text.now) fault) }
+            (before : List ℕ) → HasTakenText before self.old → IsDecided Family.Plans self.old.sc (before ++ text.now) fault) }
     {
         self.sc.recall_sound();
         let Fed { used, step } = self.feed.feed(&self.sc, text);
@@ -99,7 +99,7 @@ impl Judge {
         ensures taken { OnOk result ((before : List ℕ) → HasTakenText before self.old →
             HasTakenText (before ++ text.now) self.new) }
         ensures fault { IfErr result (λ fault.
-            (before : List ℕ) → HasTakenText before self.old → IsDecided self.old.sc (before ++ text.now) fault) }
+            (before : List ℕ) → HasTakenText before self.old → IsDecided Family.Plans self.old.sc (before ++ text.now) fault) }
     {
         let mut done = 0;
         while done < text.len() {

@@ -3,6 +3,8 @@
 #![tactic(auto)]
 
 #[cfg(test)]
+mod gap_texts;
+#[cfg(test)]
 mod plan_feeds;
 #[cfg(test)]
 mod plan_scenarios;

@@ -1,16 +1,18 @@
 //! A text that is fed in pieces tells what reading it at once says.
 
-use bound_tree::{Kind, Plan, TreeNode};
+use bound_tree::{GapKind, GapNode, GapPlan, Kind, Plan, TreeNode};
 use search_model::{Scenario, Standing};
 use std::alloc::Global;
 use std::test::Fail;
-use tree_format::{Fed, PlanFault, PlanFeed, PlanItem, PlanStop, Step, read_plan};
+use tree_format::{
+    Family, Fed, PlanFault, PlanFeed, PlanItem, PlanStop, Step, read_gap, read_plan,
+};
 
 // What a feed told of a text.
 #[derive(Drop)]
 struct Telling {
-    head: Option<(Standing, u128, u64)>,
-    nodes: Vec<TreeNode>,
+    head: Option<(Standing, u128, u128, u64)>,
+    nodes: Vec<GapNode>,
     ended: bool,
     fault: Option<PlanFault>,
 }
@@ -18,11 +20,11 @@ struct Telling {
 fn hear(telling: &mut Telling, step: Step) -> Result<(), Fail> {
     match step {
         Step::More => {}
-        Step::Item(PlanItem::Head(standing, weight, nodes)) => {
-            telling.head = Some((standing, weight, nodes));
+        Step::Item(PlanItem::Head(standing, weight, ceiling, nodes)) => {
+            telling.head = Some((standing, weight, ceiling, nodes));
         }
-        Step::Item(PlanItem::Node(TreeNode { prefix, kind })) => {
-            telling.nodes.push(TreeNode { prefix, kind })?;
+        Step::Item(PlanItem::Node(GapNode { prefix, kind })) => {
+            telling.nodes.push(GapNode { prefix, kind })?;
         }
         Step::Item(PlanItem::End) => telling.ended = true,
         Step::Fault(fault) => telling.fault = Some(fault),
@@ -48,9 +50,15 @@ fn feed_piece(
     Ok(())
 }
 
-// The text in pieces of this size.
-fn told_by(alloc: Global, sc: &Scenario, text: &[u8], size: usize) -> Result<Telling, Fail> {
-    let mut feed = PlanFeed::start(alloc, sc)?;
+// The text of a family in pieces of this size.
+fn told_by(
+    alloc: Global,
+    sc: &Scenario,
+    family: Family,
+    text: &[u8],
+    size: usize,
+) -> Result<Telling, Fail> {
+    let mut feed = PlanFeed::start(alloc, sc, family)?;
     let mut telling = Telling {
         head: None,
         nodes: Vec::new(alloc),
@@ -80,23 +88,51 @@ fn same_kind(a: &Kind, b: &Kind) -> bool {
     }
 }
 
-fn same_nodes(told: &[TreeNode], read: &[TreeNode]) -> bool {
+fn is_closed(told: &GapNode, read: &TreeNode) -> bool {
+    match &told.kind {
+        GapKind::Closed(kind) => {
+            told.prefix.cells() == read.prefix.cells() && same_kind(kind, &read.kind)
+        }
+        GapKind::Waiting(_) => false,
+    }
+}
+
+fn is_open(told: &GapNode, read: &GapNode) -> bool {
+    told.prefix.cells() == read.prefix.cells()
+        && match (&told.kind, &read.kind) {
+            (GapKind::Closed(a), GapKind::Closed(b)) => same_kind(a, b),
+            (GapKind::Waiting(a), GapKind::Waiting(b)) => a == b,
+            _ => false,
+        }
+}
+
+fn are_closed(told: &[GapNode], read: &[TreeNode]) -> bool {
     for (a, b) in told.iter().zip(read.iter()) {
-        if a.prefix.cells() != b.prefix.cells() || !same_kind(&a.kind, &b.kind) {
+        if !is_closed(a, b) {
             return false;
         }
     }
     told.len() == read.len()
 }
 
-fn is_plan(telling: &Telling, plan: &Plan) -> bool {
+fn are_open(told: &[GapNode], read: &[GapNode]) -> bool {
+    for (a, b) in told.iter().zip(read.iter()) {
+        if !is_open(a, b) {
+            return false;
+        }
+    }
+    told.len() == read.len()
+}
+
+// Whether this was told of a standing, a weight, a ceiling and as many nodes, and then the end, without a fault.
+fn is_told(telling: &Telling, standing: &Standing, weight: u128, ceiling: u128) -> bool {
     match telling.head {
-        Some((standing, weight, nodes)) => {
-            standing.path.cells() == plan.standing.path.cells()
-                && standing.value == plan.standing.value
-                && weight == plan.weight
-                && nodes == plan.tree.nodes().len() as u64
-                && same_nodes(&telling.nodes, plan.tree.nodes())
+        Some((head, said_weight, said_ceiling, nodes)) => {
+            head.path.cells() == standing.path.cells()
+                && head.value == standing.value
+                && said_weight == weight
+                && said_ceiling == ceiling
+                && nodes == telling.nodes.len() as u64
                 && telling.ended
                 && telling.fault.is_none()
         }
@@ -104,12 +140,39 @@ fn is_plan(telling: &Telling, plan: &Plan) -> bool {
     }
 }
 
+// The ceiling of a plan is its value.
+fn is_plan(telling: &Telling, plan: &Plan) -> bool {
+    is_told(telling, &plan.standing, plan.weight, plan.standing.value)
+        && are_closed(&telling.nodes, plan.tree.nodes())
+}
+
+fn is_gap(telling: &Telling, plan: &GapPlan) -> bool {
+    is_told(telling, &plan.standing, plan.weight, plan.ceiling)
+        && are_open(&telling.nodes, plan.nodes.nodes())
+}
+
 /// Whether a text tells the same one byte at a time, by seven, and whole, and that is what reading it at once says.
 pub fn tells_as_read(alloc: Global, sc: &Scenario, text: &[u8]) -> Result<bool, Fail> {
     for size in [1, 7, 1_000_000] {
-        let telling = told_by(alloc, sc, text, size)?;
+        let telling = told_by(alloc, sc, Family::Plans, text, size)?;
         let same = match read_plan(alloc, sc, text) {
             Ok(plan) => is_plan(&telling, &plan),
+            Err(PlanStop::Fault(fault)) => telling.fault == Some(fault),
+            Err(PlanStop::NoMemory) => false,
+        };
+        if !same {
+            return Ok(false);
+        }
+    }
+    Ok(true)
+}
+
+/// The same of the text of a gap plan.
+pub fn tells_gap_as_read(alloc: Global, sc: &Scenario, text: &[u8]) -> Result<bool, Fail> {
+    for size in [1, 7, 1_000_000] {
+        let telling = told_by(alloc, sc, Family::Gaps, text, size)?;
+        let same = match read_gap(alloc, sc, text) {
+            Ok(plan) => is_gap(&telling, &plan),
             Err(PlanStop::Fault(fault)) => telling.fault == Some(fault),
             Err(PlanStop::NoMemory) => false,
         };

@@ -4,7 +4,7 @@ use crate::scenario_texts::read;
 use search_model::Scenario;
 use std::alloc::Global;
 use std::test::Fail;
-use worked_scenarios::BASE_AND_AIR;
+use worked_scenarios::{BASE_AND_AIR, FOUR_CELLS};
 
 // One position.
 const ONE: &str = "\
@@ -150,6 +150,9 @@ fn rest_of(positions: &str) -> &'static str {
 pub(crate) fn scenario_of(alloc: Global, words: &str) -> Result<Scenario, Fail> {
     if words == "the air" {
         return read(alloc, BASE_AND_AIR.as_bytes());
+    }
+    if words == "four cells" {
+        return read(alloc, FOUR_CELLS.as_bytes());
     }
     let (positions, periods) = words.split_once(' ').ok_or("no periods")?;
     let rest = rest_of(positions);

@@ -9,14 +9,15 @@ use search_model::Scenario;
 use std::alloc::{AllocError, Global};
 use std::test::Fail;
 use tree_format::{
-    Fed, PlanFault, PlanFeed, PlanKind, PlanStop, Step, are_in_place, has_no_edge, plan_kind_name,
+    Family, Fed, PlanFault, PlanFeed, PlanKind, PlanStop, Step, are_in_place, has_no_edge,
+    plan_kind_name,
     print_plan, print_plan_2, read_plan,
 };
 
 const TWO_CELLS: &str =
     "plan 1\npath a a\nchance 12 16\nnodes 5\nB\nB 0\nW 12 0 0\nW 12 0 1\nM 12 1\nend\n";
 
-const TWO_CELLS_2: &str = "plan 2\npath a a\nchance 12 16\nnodes 5\nB\nB\nW 12\nW 12\nM 12\nend\n";
+pub const TWO_CELLS_2: &str = "plan 2\npath a a\nchance 12 16\nnodes 5\nB\nB\nW 12\nW 12\nM 12\nend\n";
 
 const THREE_PERIODS: &str =
     "plan 1\npath c c c\nchance 7 8\nnodes 8\nB\nM 4 0\nT 12 1 1 2 2\nB 2\nM 6 2 1\nB 2 2\nW 6 2 2 1\nW 7 2 2 2\nend\n";
@@ -51,8 +52,8 @@ fn prints_back(alloc: Global, sc: &Scenario, text: &str) -> Result<bool, Fail> {
     Ok(prints(alloc, sc, text)? && tells_as_read(alloc, sc, text.as_bytes())?)
 }
 
-// Whether a text has this fault, told as line and kind, and by pieces the same.
-fn has_fault(alloc: Global, sc: &Scenario, text: &[u8], fault: &str) -> Result<bool, Fail> {
+/// Whether a text has this fault, told as line and kind, and by pieces the same.
+pub fn has_fault(alloc: Global, sc: &Scenario, text: &[u8], fault: &str) -> Result<bool, Fail> {
     match read_plan(alloc, sc, text) {
         Err(PlanStop::Fault(PlanFault { line, kind })) => {
             let told = format!(in alloc; "{line} {}", plan_kind_name(kind))?;
@@ -178,8 +179,8 @@ fn texts_say_their_plans(rt: HostRuntime) -> Result<(), Fail> {
     Ok(())
 }
 
-// The bytes of a row; `~` stands for a line feed.
-fn bytes_of(alloc: Global, row: &str) -> Result<Vec<u8>, AllocError> {
+/// The bytes of a row; `~` stands for a line feed.
+pub fn bytes_of(alloc: Global, row: &str) -> Result<Vec<u8>, AllocError> {
     let mut bytes = Vec::new(alloc);
     for c in row.as_bytes() {
         bytes.push(if *c == b'~' { b'\n' } else { *c })?;
@@ -187,8 +188,8 @@ fn bytes_of(alloc: Global, row: &str) -> Result<Vec<u8>, AllocError> {
     Ok(bytes)
 }
 
-// A text with other bytes in the place of a line.
-fn with_line(alloc: Global, whole: &str, number: u64, bytes: &[u8]) -> Result<Vec<u8>, AllocError> {
+/// A text with other bytes in the place of a line.
+pub fn with_line(alloc: Global, whole: &str, number: u64, bytes: &[u8]) -> Result<Vec<u8>, AllocError> {
     let mut text = Vec::new(alloc);
     let mut line = 1u64;
     for c in whole.as_bytes() {
@@ -300,8 +301,8 @@ fn long_lines(rt: HostRuntime) -> Result<(), Fail> {
     Ok(())
 }
 
-// The number of the line that follows these bytes, or goes on behind them.
-fn line_behind(text: &[u8]) -> u64 {
+/// The number of the line that follows these bytes, or goes on behind them.
+pub fn line_behind(text: &[u8]) -> u64 {
     let mut line = 1u64;
     for c in text {
         if *c == b'\n' {
@@ -373,7 +374,7 @@ fn push_lengths(
 // The lengths of the bytes up to each item of a text over a scenario, none where it doesn't end with one.
 fn lengths_over(alloc: Global, sc: &Scenario, text: &[u8]) -> Result<Vec<usize>, Fail> {
     let mut lengths = Vec::new(alloc);
-    let mut feed = PlanFeed::start(alloc, sc)?;
+    let mut feed = PlanFeed::start(alloc, sc, Family::Plans)?;
     push_lengths(&mut lengths, &mut feed, sc, text)?;
     if feed.finish().is_err() {
         lengths.clear();

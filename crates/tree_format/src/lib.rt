@@ -42,6 +42,6 @@ pub use placing::{are_in_place, has_no_edge};
 pub use plan_item::{Fed, PlanItem, Step};
 pub use plan_line::Family;
 pub use printing::{print_gap, print_plan, print_plan_2};
-pub use reading::{read_gap, read_plan};
+pub use reading::{read_gap, read_plan, record_of};
 pub use stop::PlanStop;
 pub use writing::{push_names, push_number};

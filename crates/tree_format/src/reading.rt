@@ -83,8 +83,8 @@ fn read_lines(alloc: Global, sc: &Scenario, family: Family, text: &[u8]) -> Resu
     }
 }
 
-// A node as a record; of a plan's text all are closed.
-fn record_of(node: &GapNode) -> TreeNode
+/// A node as a record, a waiting one as a leaf; of a plan's text all are closed.
+pub fn record_of(node: &GapNode) -> TreeNode
     ensures { result ≡ shape_of node.now }
 {
     match node.kind {

@@ -1,5 +1,6 @@
 use Rattle.std.proofs.Common.{◌≡◌, ◌-◌, ap, length, length-drop, ◌++◌, ◌∙◌, ℕ, List, take, refl, subst, arith}
 use Rattle.tree_format.specs.Feeding.{IsDecided}
+use Rattle.tree_format.specs.declared.plan_line.Family.TheVariants.{Plans}
 use Rattle.plan_command.specs.Intakes.{HasTakenText}
 use Rattle.plan_command.proofs.Judging.{taken_none, taken_on, taken_all, decided_part}
 use Rattle.plan_command.proofs.judge.Judge.take_text.Goals as goal
@@ -26,7 +27,7 @@ loop-done-preserved c =
 pub returns-in-Err-clause-fault : goal.returns-in-Err-clause-fault
 returns-in-Err-clause-fault c = λ before h.
     decided_part c.loop-done.self.sc c.args.self.now.sc before c.args.text.now c.loop-done.done c.in-Err.fault c.loop-done.invariant.scenario
-    (subst (λ (t : List ℕ). IsDecided c.loop-done.self.sc (before ++ take c.loop-done.done c.args.text.now ++ t) c.in-Err.fault) c.rest_from.ensures
+    (subst (λ (t : List ℕ). IsDecided Plans c.loop-done.self.sc (before ++ take c.loop-done.done c.args.text.now ++ t) c.in-Err.fault) c.rest_from.ensures
     (c.in-Err.ensures.fault (before ++ take c.loop-done.done c.args.text.now) (c.loop-done.invariant.taken before h)))
 
 pub returns-clause-taken : goal.returns-clause-taken

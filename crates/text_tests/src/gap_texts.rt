@@ -1,0 +1,249 @@
+//! Texts of gap plans that are read and print back, and such texts that have a fault, by line and kind.
+
+use crate::plan_feeds::tells_gap_as_read;
+use crate::plan_scenarios::scenario_of;
+use crate::plan_texts::{TWO_CELLS_2, bytes_of, has_fault, line_behind, with_line};
+use search_model::Scenario;
+use std::alloc::Global;
+use std::test::Fail;
+use tree_format::{PlanFault, PlanStop, plan_kind_name, print_gap, read_gap};
+
+// Two cells, where the search stopped behind the empty prefix.
+const TWO_WAIT: &str =
+    "gap 1\npath a a\nchance 12 16\nceiling 12\nnodes 3\nB\nO 12\nO 12\nend\n";
+
+// Texts, each below its scenario: the ones that a search writes, the same with other numbers, which are texts all the same,
+// and one with all letters and the widest numbers.
+const GAPS: &str = "\
+== ab 2
+gap 1
+path a a
+chance 12 16
+ceiling 12
+nodes 3
+B
+O 12
+O 12
+end
+== four cells
+gap 1
+path a a
+chance 3 9
+ceiling 6
+nodes 3
+B
+O 3
+O 6
+end
+== four cells
+gap 1
+path a a
+chance 3 9
+ceiling 5
+nodes 3
+B
+O 3
+O 6
+end
+== four cells
+gap 1
+path a a
+chance 3 9
+ceiling 6
+nodes 3
+B
+O 3
+O 5
+end
+== ab 2
+gap 1
+path b a
+chance 0 340282366920938463463374607431768211455
+ceiling 340282366920938463463374607431768211455
+nodes 7
+B
+B
+O 340282366920938463463374607431768211455
+W 12
+B
+E 6
+T 12 0 1
+end
+== ab 2
+gap 1
+path a
+chance 12 16
+ceiling 12
+nodes 1
+O 12
+end
+== ab 2
+gap 1
+path a a
+chance 12 16
+ceiling 12
+nodes 1
+M 12
+end
+";
+
+// Whether a text is a gap plan's, and the gap plan prints back to the same bytes, behind what stood there.
+fn prints(alloc: Global, sc: &Scenario, text: &str) -> Result<bool, Fail> {
+    let mut out = Vec::from_slice(alloc, b"!")?;
+    match read_gap(alloc, sc, text.as_bytes()) {
+        Ok(plan) => print_gap(&mut out, sc, &plan)?,
+        Err(_) => return Ok(false),
+    }
+    Ok(out.strip_prefix(b"!") == Some(text.as_bytes()))
+}
+
+// The same, and by pieces it tells what reading it at once says.
+fn prints_back(alloc: Global, row: &str) -> Result<bool, Fail> {
+    let Some((words, text)) = row.split_once('\n') else {
+        return Ok(false);
+    };
+    let sc = scenario_of(alloc, words)?;
+    Ok(prints(alloc, &sc, text)? && tells_gap_as_read(alloc, &sc, text.as_bytes())?)
+}
+
+fn rows_that_print_back(alloc: Global, table: &str) -> Result<u32, Fail> {
+    let mut count = 0u32;
+    for row in table.split("== ") {
+        if prints_back(alloc, row)? {
+            count = count.saturating_add(1);
+        }
+    }
+    Ok(count)
+}
+
+#[test]
+fn gap_texts_print_back(rt: HostRuntime) -> Result<(), Fail> {
+    assert_eq!(rt; rows_that_print_back(rt.alloc(), GAPS)?, 7);
+    Ok(())
+}
+
+// A line of the text above, what stands in its place, and the line and the kind of the first fault.
+const GAP_FAULTS: &str = "\
+1|plan 1~|1 BadLine
+1|plan 2~|1 BadLine
+1|gap 2~|1 BadLine
+1|gap~|1 BadLine
+1|gap 1 ~|1 BadLine
+2|path~|2 BadLine
+2|path a x~|2 UnknownName
+3|chance 12~|3 BadLine
+3|chance 12 x~|3 BadNumber
+4||4 BadLine
+4|ceiling~|4 BadLine
+4|ceiling ~|4 BadLine
+4|ceiling 12 16~|4 BadLine
+4|Ceiling 12~|4 BadLine
+4|ceiling x~|4 BadNumber
+4|ceiling 012~|4 BadNumber
+4|ceiling 340282366920938463463374607431768211456~|4 BadNumber
+4|ceiling 12~ceiling 12~|5 BadLine
+5|nodes x~|5 BadNumber
+5|nodes 4194306~|5 TooManyNodes
+5|nodes 4194305~|9 WrongCount
+5|nodes 1048577~|9 WrongCount
+5|nodes 2~|8 WrongCount
+5|nodes 0~end~|6 StillOpen
+6|B 0~|6 BadLine
+6|O 12~|7 NoPlace
+7|O~|7 BadLine
+7|o 12~|7 BadLine
+7|O 12 0~|7 BadLine
+7|W 12 0~|7 BadLine
+7|O x~|7 BadNumber
+7|O 012~|7 BadNumber
+7|O 340282366920938463463374607431768211456~|7 BadNumber
+7|T 12 0~|7 BadLine
+7|T 12 0 2~|7 BadNumber
+7|B~|9 StillOpen
+8|end~|8 WrongCount
+9|O 12~end~|9 WrongCount
+9|end 1~|9 BadLine
+9|end~~|10 Rest
+9|end~x|10 Rest
+";
+
+// Whether a text has this fault, told as line and kind, and by pieces the same.
+fn has_gap_fault(alloc: Global, sc: &Scenario, text: &[u8], fault: &str) -> Result<bool, Fail> {
+    match read_gap(alloc, sc, text) {
+        Err(PlanStop::Fault(PlanFault { line, kind })) => {
+            let told = format!(in alloc; "{line} {}", plan_kind_name(kind))?;
+            Ok(told.as_str() == fault && tells_gap_as_read(alloc, sc, text)?)
+        }
+        _ => Ok(false),
+    }
+}
+
+fn row_has_fault(alloc: Global, sc: &Scenario, row: &str) -> Result<bool, Fail> {
+    let Some((line, rest)) = row.split_once('|') else {
+        return Ok(false);
+    };
+    let (bytes, fault) = rest.split_once('|').ok_or("no fault")?;
+    let bytes = bytes_of(alloc, bytes)?;
+    let text = with_line(alloc, TWO_WAIT, line.parse::<u64>()?, &bytes)?;
+    has_gap_fault(alloc, sc, &text, fault)
+}
+
+fn rows_over(alloc: Global, sc: &Scenario, table: &str) -> Result<u32, Fail> {
+    let mut count = 0u32;
+    for row in table.split('\n') {
+        if row_has_fault(alloc, sc, row)? {
+            count = count.saturating_add(1);
+        }
+    }
+    Ok(count)
+}
+
+fn rows_of_faults(alloc: Global, table: &str) -> Result<u32, Fail> {
+    let sc = scenario_of(alloc, "ab 2")?;
+    rows_over(alloc, &sc, table)
+}
+
+#[test]
+fn gap_faults_of_a_line(rt: HostRuntime) -> Result<(), Fail> {
+    assert_eq!(rt; rows_of_faults(rt.alloc(), GAP_FAULTS)?, 41);
+    Ok(())
+}
+
+// How many fronts of a text end early, in the line that they end in.
+fn fronts_over(alloc: Global, sc: &Scenario, text: &[u8]) -> Result<usize, Fail> {
+    let mut count = 0usize;
+    for n in 0..text.len() {
+        let front = &text[..n];
+        let fault = format!(in alloc; "{} EarlyEnd", line_behind(front))?;
+        if has_gap_fault(alloc, sc, front, &fault)? {
+            count = count.saturating_add(1);
+        }
+    }
+    Ok(count)
+}
+
+fn fronts_that_end_early(alloc: Global) -> Result<usize, Fail> {
+    let sc = scenario_of(alloc, "ab 2")?;
+    fronts_over(alloc, &sc, TWO_WAIT.as_bytes())
+}
+
+#[test]
+fn gap_fronts_end_early(rt: HostRuntime) -> Result<(), Fail> {
+    assert_eq!(rt; fronts_that_end_early(rt.alloc())?, TWO_WAIT.len());
+    Ok(())
+}
+
+fn families_are_apart(alloc: Global) -> Result<bool, Fail> {
+    let sc = scenario_of(alloc, "ab 2")?;
+    Ok(
+        has_gap_fault(alloc, &sc, TWO_CELLS_2.as_bytes(), "1 BadLine")?
+            && has_fault(alloc, &sc, TWO_WAIT.as_bytes(), "1 BadLine")?,
+    )
+}
+
+// The text of a plan is none of a gap plan, and the other way round.
+#[test]
+fn no_text_is_of_both_families(rt: HostRuntime) -> Result<(), Fail> {
+    assert!(rt; families_are_apart(rt.alloc())?);
+    Ok(())
+}
