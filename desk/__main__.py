@@ -9,6 +9,8 @@ HELPERS = {
     "show": "desk.show",
     "brief": "desk.brief",
     "explain": "desk.explain",
+    "split": "desk.split",
+    "join": "desk.join",
 }
 
 

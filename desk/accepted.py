@@ -107,11 +107,11 @@ def asked(word, given):
 
 
 def head(rest, sc):
-    """The version, path and number of records of the plan that begins behind a scenario's `end`."""
+    """The version of the plan that begins behind a scenario's `end`, and what its first lines say: path, value, weight, nodes."""
     reader = forms.PlanReader(sc)
     for at, line in enumerate(rest.lstrip(b" \t\r\n").split(b"\n", 4)[:4], 1):
         reader.take(line, at)
-    return 2 if reader.second else 1, reader.plan.path, reader.plan.nodes
+    return 2 if reader.second else 1, reader.plan
 
 
 def agree(sc, report, told):
@@ -135,7 +135,8 @@ def load(scenario_name, plan_name):
     told, _ = asked("report", given)
     try:
         sc, behind = forms.read_scenario(scenario, alone=False)
-        version, path, records = head(behind + given[len(scenario) :], sc)
+        version, begun = head(behind + given[len(scenario) :], sc)
+        path, records = begun.path, begun.nodes
         report = reports.read(told)
     except forms.Fault as fault:
         raise Refused(BAD_SCENARIO, f"{shown(scenario_name)} isn't a whole scenario: line {fault.line} {fault.kind}") from None

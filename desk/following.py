@@ -6,7 +6,7 @@ mean, to standard error.
 import math
 import re
 
-from desk import accepted, forms, masses, onward, quoting, rounding, running, writing
+from desk import accepted, clock, forms, masses, onward, quoting, rounding, running, writing
 from desk.accepted import Refused
 
 USAGE = "usage: osp next SCENARIO PLAN [--flown K] [--horizon N]"
@@ -22,15 +22,10 @@ COARSE = (1, 1000)
 
 def options(words):
     """The two file names, and K and N or None each, of the words. Raises Refused."""
-    files, found, rest = [], {"--flown": None, "--horizon": None}, list(words)
-    while rest:
-        word = rest.pop(0)
-        if not word.startswith("--"):
-            files.append(word)
-        elif word in found and found[word] is None and rest and re.fullmatch("[1-9][0-9]?", rest[0], re.ASCII):
-            found[word] = int(rest.pop(0))
-        else:
-            raise Refused(WRONG_WORDS, USAGE)
+    try:
+        files, found = running.files_and_numbers(words, ("--flown", "--horizon"))
+    except clock.BadWords:
+        raise Refused(WRONG_WORDS, USAGE) from None
     if len(files) != 2 or (found["--horizon"] or 1) > rounding.MOST_PERIODS:
         raise Refused(WRONG_WORDS, USAGE)
     return *files, found["--flown"], found["--horizon"]

@@ -72,6 +72,14 @@ def counts(sc, most):
     return found
 
 
+def prefixes(sc, length):
+    """All legal prefixes of a length, in ascending order."""
+    found = [[]]
+    for _ in range(length):
+        found = [[*it, to] for it in found for to in sc.moves[it[-1] if it else sc.start]]
+    return found
+
+
 def best(sc):
     """The greatest value of a path, and the first path in ascending order that has it."""
     top = None

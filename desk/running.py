@@ -1,5 +1,6 @@
-"""How a helper that makes a text of SCENARIO PLAN [--from HH:MM --minutes N] runs: its words, its output, its exit status."""
+"""How a helper runs: its words, its output, its exit status; and one that makes a text of SCENARIO PLAN [--from HH:MM --minutes N]."""
 import os
+import re
 import sys
 
 from desk import accepted, clock
@@ -24,6 +25,20 @@ def write(text):
         # What is left in the buffer would fail again when the interpreter ends.
         os.dup2(os.open(os.devnull, os.O_WRONLY), 1)
         return UNWRITABLE
+
+
+def files_and_numbers(words, options):
+    """The words that are no options, and the number behind each of these options, or None. Raises clock.BadWords."""
+    files, found, rest = [], dict.fromkeys(options), list(words)
+    while rest:
+        word = rest.pop(0)
+        if not word.startswith("--"):
+            files.append(word)
+        elif word in found and found[word] is None and rest and re.fullmatch("[1-9][0-9]{0,6}", rest[0], re.ASCII):
+            found[word] = int(rest.pop(0))
+        else:
+            raise clock.BadWords(f"{word} isn't an option that stands once, with a number behind it")
+    return files, found
 
 
 def run(name, more, make, words):

@@ -67,6 +67,14 @@ helpers=(
   'writes the same as plain text, for a radio or a tasking form'
   './osp brief lake.scenario lake.plan --from 19:30 --minutes 15'
 
+  'split DEPTH SCENARIO FOLDER [--jobs N]'
+  'makes a folder of jobs for several machines: a part of the plan for each way to begin with DEPTH looks'
+  './osp split 2 lake.scenario lake.parts'
+
+  'join FOLDER'
+  'checks the parts that these jobs wrote, sees that none is missing, and says the best path and its chance'
+  './osp join lake.parts'
+
   'explain SCENARIO [PLAN]'
   'says what is wrong with a scenario or a plan, line by line, and what to write'
   './osp explain lake.scenario'

@@ -1,0 +1,104 @@
+"""./osp split DEPTH SCENARIO FOLDER [--jobs N]: a plan in parts, for more than one machine: a folder with a job for each legal prefix of
+DEPTH positions, which finds the best path that begins with it. `join` takes together what the jobs write."""
+import os
+import re
+import shlex
+import shutil
+import tempfile
+
+from desk import accepted, clock, parts, program, quoting, running
+from desk.accepted import Refused
+
+USAGE = "usage: osp split DEPTH SCENARIO FOLDER [--jobs N]"
+# How many jobs there may be where --jobs doesn't say.
+FEW = 1000
+# Exit statuses of docs/FORMATS.md.
+WRONG_WORDS, UNWRITABLE, NOT_FORCED = 2, 6, 10
+# The script of a job, with the place of the program that stands here. Its -o is what leaves a file whole or not at all.
+SCRIPT = """\
+#!/bin/sh
+# A job of osp split, which is run in this folder: sh job PART NAME .. plans what begins with these positions, and writes PART. Where
+# PART is there, nothing is done; a job that is cut off leaves none. The program is what OSP names, else that of the machine that
+# split, else osp of the PATH. --workers may be changed here: osp join takes what osp check accepts.
+part=$1
+shift
+[ ! -e "$part" ] || exit 0
+mkdir -p %(parts)s
+exec "${OSP:-$(command -v %(osp)s || echo osp)}" replan %(scenario)s --workers 1 -o "$part" flown "$@"
+"""
+
+
+def options(words):
+    """DEPTH, SCENARIO, FOLDER and N of the words. Raises Refused."""
+    try:
+        files, found = running.files_and_numbers(words, ("--jobs",))
+    except clock.BadWords:
+        files = []
+    if len(files) != 3 or not all(files) or not re.fullmatch("[0-9]{1,20}", files[0], re.ASCII):
+        raise Refused(WRONG_WORDS, USAGE)
+    return *files, found["--jobs"] or FEW
+
+
+def length(sc, word, most):
+    """The length of prefixes that DEPTH says, where there are at most so many of them. Raises Refused."""
+    said = parts.length(sc, word)
+    if said is None:
+        raise Refused(WRONG_WORDS, f"{word} cannot stand for DEPTH: a whole number from 1 to {sc.horizon}, the periods of the scenario, can")
+    count = parts.count(sc, said)
+    if count > parts.MOST:
+        raise Refused(WRONG_WORDS, f"that would be {count:,} jobs, and {parts.MOST:,} are the most: take a smaller DEPTH")
+    if count > most:
+        raise Refused(WRONG_WORDS, f"that would be {count:,} jobs, and {most:,} are allowed: take a smaller DEPTH, or write --jobs {count}")
+    return said
+
+
+def prefixes(sc, word, most):
+    """The prefixes by the names of their parts, at most so many. Raises Refused, also where no scenario forces them."""
+    found = parts.named(sc, length(sc, word, most))
+    if why := parts.not_forced(sc, found):
+        raise Refused(NOT_FORCED, why)
+    return found
+
+
+def files(text, sc, word, found):
+    """What is in the folder, by name."""
+    jobs = "".join(f"sh {parts.JOB} {name} {parts.words(sc, it)}\n" for name, it in found.items())
+    script = SCRIPT % {"parts": parts.PARTS, "osp": shlex.quote(program.OSP), "scenario": parts.SCENARIO}
+    return {parts.SCENARIO: text, parts.DEPTH: f"{word}\n".encode("ascii"), parts.JOB: os.fsencode(script), parts.JOBS: jobs.encode("ascii")}
+
+
+def put(folder, contents):
+    """Makes a folder of these files, and an empty one for the parts, whole or not at all. Raises Refused."""
+    end, beside, mask = os.path.realpath(folder), None, os.umask(0)
+    os.umask(mask)
+    try:
+        beside = tempfile.mkdtemp(prefix=".osp-", dir=os.path.dirname(end))
+        os.mkdir(os.path.join(beside, parts.PARTS))
+        for name, text in contents.items():
+            with open(os.path.join(beside, name), "wb") as file:
+                file.write(text)
+        os.chmod(beside, 0o777 & ~mask)
+        # (An empty folder is replaced, and no other one.)
+        os.rename(beside, end)
+    except OSError as why:
+        shutil.rmtree(beside or "", ignore_errors=True)
+        raise Refused(UNWRITABLE, f"the folder {accepted.shown(folder)} cannot be made: {why.strerror}") from None
+
+
+def told(folder, count):
+    """What is said of the jobs, and of what comes next."""
+    name, jobs = shlex.quote(accepted.shown(folder)), quoting.counted(count, "job")
+    return f"{jobs} in {name}: to run them, there:\n  xargs -d '\\n' -n 1 -P $(nproc) sh -c < {parts.JOBS}\nthen, here:\n  osp join {name}\n"
+
+
+def main(words):
+    """Runs the helper; answers its exit status."""
+    try:
+        word, scenario, folder, most = options(words)
+        text, sc = parts.scenario(scenario)
+        found = prefixes(sc, word, most)
+        put(folder, files(text, sc, word, found))
+    except Refused as why:
+        running.say(why.said if why.said == USAGE else f"osp split: {why.said}")
+        return why.status
+    return running.write(told(folder, len(found)))
