@@ -1,4 +1,4 @@
-"""How a helper runs: its words, its output, its exit status; and one that makes a text of SCENARIO PLAN [--from HH:MM --minutes N]."""
+"""How a helper that makes a text of SCENARIO PLAN [--from HH:MM --minutes N] runs: its words, its output, its exit status."""
 import os
 import re
 import sys
