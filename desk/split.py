@@ -18,8 +18,8 @@ WRONG_WORDS, UNWRITABLE, NOT_FORCED = 2, 6, 10
 SCRIPT = """\
 #!/bin/sh
 # A job of osp split, which is run in this folder: sh job PART NAME .. plans what begins with these positions, and writes PART. Where
-# PART is there, nothing is done; a job that is cut off leaves none. The program is what OSP names, else that of the machine that
-# split, else osp of the PATH. --workers may be changed here: osp join takes what osp check accepts.
+# PART is there, nothing is done; a job that is cut off leaves none. It runs the osp that OSP names, else the one that split, where that
+# stands on this machine, else that of the PATH. --workers may be changed here: osp join takes what osp check accepts.
 part=$1
 shift
 [ ! -e "$part" ] || exit 0

@@ -152,7 +152,7 @@ def _(house):
     want(os.listdir(f"{folder}/parts") == [], os.listdir(f"{folder}/parts"))
 
 
-@case("a job runs what OSP names, else the script that split, else osp of the PATH")
+@case("a job runs the osp that OSP names, else the one that split, else that of the PATH")
 def _(house):
     with_desk(house)
     for name in ("named/osp", "it's/the script", "on path/osp"):
