@@ -40,9 +40,9 @@ pub reads_at_most : {S : Type 0} (Gives : S → List ℕ → Result ℕ Failed �
 reads_at_most Gives old new bytes most limit (reads, few, gave) within room = record { reads = reads; bytes = bytes; gave = gave; few = omega arith; within = within }
 
 -- So many bytes were taken, by reads of a byte or more, and a receiver took them.
-pub record HasHandedOn {S T : Type 0} (Left : S → Option (List ℕ)) (Gives : S → List ℕ → Result ℕ Failed → S → Type 0) (Took : List ℕ → T → Type 0) (count : ℕ) (source source' : S) (old new : T) : Type 0 where
+pub record HasHandedOn {S T Purpose : Type 0} (Left : S → Option (List ℕ)) (Gives : S → List ℕ → Result ℕ Failed → S → Type 0) (Took : Purpose → List ℕ → T → Type 0) (count : ℕ) (source source' : S) (old new : T) : Type 0 where
   pub bytes : List ℕ
   pub taken : Consumes (Left source) (Left source') bytes
   pub gave : GaveBytes Gives source bytes source'
   pub exactly : length bytes ≡ count
-  pub received : (before : List ℕ) → Took before old → Took (before ++ bytes) new
+  pub received : (purpose : Purpose) (before : List ℕ) → Took purpose before old → Took purpose (before ++ bytes) new

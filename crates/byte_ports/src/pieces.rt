@@ -7,13 +7,17 @@ use crate::ports::{Failed, Source};
 
 /// What takes the bytes of an input, one piece after the other.
 pub trait Receiver {
-    /// The bytes that it took are these. How they were cut into pieces makes no difference.
-    ghost took: { List ℕ → Self → Type 0 };
+    /// What it takes the bytes for. Bytes change nothing of that.
+    ghost Purpose: { Type 0 };
+
+    /// For this purpose it took these bytes. How they were cut into pieces makes no difference.
+    ghost took: { Purpose → List ℕ → Self → Type 0 };
 
     /// Takes the next bytes.
     fn take(&mut self, piece: &[u8])
-        requires { (bytes : List ℕ) × took bytes self.old }
-        ensures more { (bytes : List ℕ) → took bytes self.old → took (bytes ++ piece.now) self.new };
+        requires { (purpose : Purpose) × (bytes : List ℕ) × took purpose bytes self.old }
+        ensures more { (purpose : Purpose) (bytes : List ℕ) → took purpose bytes self.old
+            → took purpose (bytes ++ piece.now) self.new };
 }
 
 /// Why an input wasn't read to its end.
@@ -35,7 +39,7 @@ pub fn read_pieces<S: Source, T: Receiver>(
 ) -> Result<(), InputStop>
     requires room { 0 < length buffer.old }
     requires limit { limit < 2 ^ 30 }
-    requires begun { (bytes : List ℕ) × T.took bytes receiver.old }
+    requires begun { (purpose : T.Purpose) × (bytes : List ℕ) × T.took purpose bytes receiver.old }
     ensures ok { OnOk result (HandsOn S.left S.read_gives T.took limit source.old source.new receiver.old receiver.new) }
     ensures too_long { IsErrOf result InputStop.TooLong →
         TakesCount (S.left source.old) (S.left source.new) (limit + 1) }

@@ -15,7 +15,7 @@ reads-init g c =
         taken = Consumes-nil _;
         gave = (0, search rules, Gave.none);
         exactly = search rules;
-        received = λ b took. search rules;
+        received = λ purpose b took. search rules;
       };
       faults_kept = search rules;
     }
@@ -52,9 +52,9 @@ reads-preserved g c =
         taken = Consumes-trans _ _ _ _ _ before.taken once.bytes.0;
         gave = gave_more _ _ _ _ _ _ _ before.gave once.once (omega arith) once.bound.0;
         exactly = grind (arith, length-append, length-take, before.exactly);
-        received = λ b took.
-            subst (λ (t : List ℕ). g.T.Receiver.took t c.take.new.self) (ap (λ (t : List ℕ). (b ++ before.bytes) ++ t) front ∙ append_assoc b before.bytes (take more to))
-            (c.take.ensures.more (b ++ before.bytes) (before.received b took));
+        received = λ purpose b took.
+            subst (λ (t : List ℕ). g.T.Receiver.took purpose t c.take.new.self) (ap (λ (t : List ℕ). (b ++ before.bytes) ++ t) front ∙ append_assoc b before.bytes (take more to))
+            (c.take.ensures.more purpose (b ++ before.bytes) (before.received purpose b took));
       };
       faults_kept = grind arith;
     }
@@ -63,4 +63,4 @@ pub take-requires : goal.take-requires
 take-requires g c =
     let before = c.requires.begun in
     let handed = c.reads.invariant.handed in
-    (before.0 ++ handed.bytes, handed.received before.0 before.1)
+    (before.0, before.1 ++ handed.bytes, handed.received before.0 before.1 before.2)
