@@ -9,8 +9,7 @@ use std::test::Fail;
 use tree_format::{PlanFault, PlanStop, plan_kind_name, print_gap, read_gap};
 
 // Two cells, where the search stopped behind the empty prefix.
-const TWO_WAIT: &str =
-    "gap 1\npath a a\nchance 12 16\nceiling 12\nnodes 3\nB\nO 12\nO 12\nend\n";
+const TWO_WAIT: &str = "gap 1\npath a a\nchance 12 16\nceiling 12\nnodes 3\nB\nO 12\nO 12\nend\n";
 
 // Texts, each below its scenario: the ones that a search writes, the same with other numbers, which are texts all the same,
 // and one with all letters and the widest numbers.

@@ -10,14 +10,14 @@ use std::alloc::{AllocError, Global};
 use std::test::Fail;
 use tree_format::{
     Family, Fed, PlanFault, PlanFeed, PlanKind, PlanStop, Step, are_in_place, has_no_edge,
-    plan_kind_name,
-    print_plan, print_plan_2, read_plan,
+    plan_kind_name, print_plan, print_plan_2, read_plan,
 };
 
 const TWO_CELLS: &str =
     "plan 1\npath a a\nchance 12 16\nnodes 5\nB\nB 0\nW 12 0 0\nW 12 0 1\nM 12 1\nend\n";
 
-pub const TWO_CELLS_2: &str = "plan 2\npath a a\nchance 12 16\nnodes 5\nB\nB\nW 12\nW 12\nM 12\nend\n";
+pub const TWO_CELLS_2: &str =
+    "plan 2\npath a a\nchance 12 16\nnodes 5\nB\nB\nW 12\nW 12\nM 12\nend\n";
 
 const THREE_PERIODS: &str =
     "plan 1\npath c c c\nchance 7 8\nnodes 8\nB\nM 4 0\nT 12 1 1 2 2\nB 2\nM 6 2 1\nB 2 2\nW 6 2 2 1\nW 7 2 2 2\nend\n";
@@ -189,7 +189,12 @@ pub fn bytes_of(alloc: Global, row: &str) -> Result<Vec<u8>, AllocError> {
 }
 
 /// A text with other bytes in the place of a line.
-pub fn with_line(alloc: Global, whole: &str, number: u64, bytes: &[u8]) -> Result<Vec<u8>, AllocError> {
+pub fn with_line(
+    alloc: Global,
+    whole: &str,
+    number: u64,
+    bytes: &[u8],
+) -> Result<Vec<u8>, AllocError> {
     let mut text = Vec::new(alloc);
     let mut line = 1u64;
     for c in whole.as_bytes() {
