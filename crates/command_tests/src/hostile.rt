@@ -191,7 +191,15 @@ fn each_read_fails(rt: HostRuntime) -> Result<(), Fail> {
     for read in 1..12 {
         assert!(rt; read_fails(&rt, "plan --workers 1", read)?);
     }
-    assert!(rt; read_fails(&rt, "plan", 2)?);
+    for words in [
+        "plan",
+        "gap",
+        "replan flown x",
+        "map flown x",
+        "duo start x",
+    ] {
+        assert!(rt; read_fails(&rt, words, 2)?, "{words}");
+    }
     // Reading goes before the fault of the scenario.
     let bad =
         "scenario 1 | horizon 2 | parts 2 2 2 | cell a | cell b | start c | first a 1 b 1 | moves a a b | moves b a b | drift a a 1 b 1 | drift b a 1 b 1 | overlook a 0 | overlook b 0 | end | @two_cells_plan";

@@ -1,10 +1,11 @@
-//! What the commands of `osp` write and end with, over texts in memory, by `run` alone, and what the calls answer on which
-//! commands will stand. There is no code here but tests: they stand apart so that a crate need not be proved once more for
-//! them.
+//! What the commands of `osp` write and end with, over texts in memory, by `run` alone. There is no code here but tests: they
+//! stand apart so that a crate need not be proved once more for them.
 #![tactic(auto)]
 
 #[cfg(test)]
 mod commands;
+#[cfg(test)]
+mod gap_checks;
 #[cfg(test)]
 mod hostile;
 #[cfg(test)]
@@ -13,3 +14,5 @@ mod listed;
 mod made;
 #[cfg(test)]
 mod trials;
+#[cfg(test)]
+mod words;

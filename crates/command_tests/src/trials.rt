@@ -3,7 +3,7 @@
 ghost use Rattle.std.specs.Prelude.{◌≤◌};
 
 use byte_ports::{MemSink, MemSource};
-use plan_command::{OpenGate, Status, run};
+use plan_command::{OpenGate, Status, run, status_code};
 use std::alloc::{AllocError, AllocGlobal, Global};
 use std::sync::Wait;
 use std::test::Fail;
@@ -21,6 +21,7 @@ use std::thread::Threads;
 // - `tower`: one position that looks at both cells, and in period 2 finds all that is in the second; in `_staying` the
 //   target stays in the first cell.
 // - `from_the_air`: one cell and two positions; a look from the base covers nothing, and one from the air finds half.
+// - `tide`: two cells and two positions; the drift turns behind period 2, in which a look from inside covers more.
 //
 // A name with `_plan` is a plan of version 1, and with `_plan_2` of version 2, which `plan` writes.
 const TEXTS: &str = "\
@@ -52,7 +53,7 @@ two_cells_report = report 1 | chance 12 16 75.000 | period 1 a 8 50.000 | period
 two_cells_json = {\"chance\":\"12\",\"left\":[{\"cell\":\"a\",\"mass\":\"0\"},{\"cell\":\"b\",\"mass\":\"4\"}],\"path\":[\"a\",\"a\"],\"periods\":[\"8\",\"12\"],\"weight\":\"16\"}
 far_cells_report = report 1 | chance 6 9 66.666 | period 1 c 2 22.222 | period 2 d 6 66.666 | left a 3 33.333 | left b 0 0.000 | left c 0 0.000 | left d 0 0.000 | end
 seven = scenario 1 | horizon 8 | parts 1 20 10 | grid 7 7 | start r0c0 | first r3c3 1 | spread 4 | rate 3 | end
-usage = usage: osp plan [--workers N] [--nodes N] / check / report [--json yes] / make NUMBER / drill NUMBER [--workers N] / convert
+usage = usage: osp plan [--workers N] [--nodes N] / check / report [--json yes] / make NUMBER / drill NUMBER [--workers N] / convert / gap [--workers N] [--nodes N] / replan [--workers N] [--nodes N] flown NAME .. / map flown NAME .. / duo [--workers N] [--nodes N] start NAME
 tower = scenario 2 | horizon 2 | parts 1 2 2 | cell a | cell b | position w | start w | first a 1 | moves w w | drift a a 1 b 1 | drift b b 2 | look w a 1 b 1 | lookin 2 w b 0 | end
 tower_plan = plan 1 | path w w | chance 6 8 | nodes 3 | B | B 0 | W 6 0 0 | end
 tower_plan_2 = plan 2 | path w w | chance 6 8 | nodes 3 | B | B | W 6 | end
@@ -62,6 +63,7 @@ from_the_air = scenario 2 | horizon 1 | parts 1 1 2 | cell a | position base | p
 from_the_air_plan = plan 1 | path air | chance 1 2 | nodes 3 | B | W 0 0 | W 1 1 | end
 from_the_air_plan_2 = plan 2 | path air | chance 1 2 | nodes 3 | B | W 0 | W 1 | end
 from_the_air_report = report 1 | chance 1 2 50.000 | period 1 air 1 50.000 | left a 1 50.000 | end
+tide = scenario 2 | horizon 3 | parts 4 3 5 | cell a | cell b | position out | position in | start out | first a 3 b 1 | moves out out in | moves in out in | drift a a 2 b 1 | drift b b 3 | driftin 2 b a 1 b 2 | look out a 4 b 1 | look in b 0 | lookin 2 in a 2 b 3 | end
 from_the_air_json = {\"chance\":\"1\",\"left\":[{\"cell\":\"a\",\"mass\":\"1\"}],\"path\":[\"air\"],\"periods\":[\"1\"],\"weight\":\"2\"}
 ";
 
@@ -142,6 +144,60 @@ pub fn ended<R: AllocGlobal + Threads + Wait + Sync>(
     })
 }
 
+// Whether what a run wrote is a text as its side says: the beginning, the end, or all of it.
+fn is_written(side: &str, wrote: &[u8], text: &[u8]) -> bool {
+    if side == "head" {
+        wrote.starts_with(text)
+    } else if side == "tail" {
+        wrote.ends_with(text)
+    } else {
+        wrote == text
+    }
+}
+
+// The input of a row, which may be empty.
+fn input_of(alloc: Global, row: &str) -> Result<Vec<u8>, Fail> {
+    if row.is_empty() {
+        Ok(Vec::new(alloc))
+    } else {
+        text_of(alloc, row)
+    }
+}
+
+/// How a run ends, 16 bytes a read and a write, where it ends as its row says. In a row are the words, the input, the number
+/// of the status, a side, and the text that the run writes there: on `err` or on `out`, all of it, or its `head` or its
+/// `tail` there; nothing is on the other side. Texts are written as `text_of` reads them.
+pub fn ends<R: AllocGlobal + Threads + Wait + Sync>(
+    rt: &R,
+    row: &str,
+) -> Result<Option<Outcome>, Fail> {
+    let alloc = rt.alloc();
+    let mut fields = row.split("; ");
+    let words = fields.next().ok_or("no words")?;
+    let input = input_of(alloc, fields.next().ok_or("no input")?)?;
+    let status = fields.next().ok_or("no status")?;
+    let side = fields.next().ok_or("no side")?;
+    let text = text_of(alloc, fields.next().ok_or("no text")?)?;
+    let end = ended(rt, words, input, 16, &[], &[])?;
+    let (wrote, other) = if side == "err" {
+        (&end.err, &end.out)
+    } else {
+        (&end.out, &end.err)
+    };
+    let code = format!(in alloc; "{}", status_code(end.status))?;
+    let as_said = code.as_str() == status && is_written(side, wrote, &text) && other.is_empty();
+    Ok(if as_said { Some(end) } else { None })
+}
+
+/// Whether a check accepts a scenario and the plan behind it.
+pub fn is_accepted<R: AllocGlobal + Threads + Wait + Sync>(
+    rt: &R,
+    input: Vec<u8>,
+) -> Result<bool, Fail> {
+    let check = ended(rt, "check", input, 4096, &[], &[])?;
+    Ok(check.out.as_slice() == b"accepted\n".as_slice())
+}
+
 // The path and the chance of a plan, as its text has them.
 fn path_and_chance(alloc: Global, plan: &[u8]) -> Result<Vec<u8>, Fail> {
     let path = plan.split(|c| *c == b'\n').nth(1).ok_or("no path")?;
@@ -163,8 +219,7 @@ pub fn checked_plan<R: AllocGlobal + Threads + Wait + Sync>(
     let plan = ended(rt, words, scenario.to_vec(alloc)?, 4096, &[], &[])?;
     let mut input = scenario.to_vec(alloc)?;
     input.extend_from_slice(&plan.out)?;
-    let check = ended(rt, "check", input, 4096, &[], &[])?;
-    if check.out.as_slice() != b"accepted\n".as_slice() {
+    if !is_accepted(rt, input)? {
         return Err(Fail::from("not accepted"));
     }
     path_and_chance(alloc, &plan.out)

@@ -1,5 +1,5 @@
 -- A plan that the search gives from the opening is certified.
-use Rattle.std.proofs.Common.{ℕ, ◌≡◌, List, Result, Ok, Err, ap, subst}
+use Rattle.std.proofs.Common.{ℕ, ◌≡◌, Err, ap, subst}
 use Rattle.search_model.specs.declared.standing.Standing.{Standing}
 use Rattle.search_model.specs.Problem.{Problem}
 use Rattle.search_model.specs.Tracks.{value_of}
@@ -12,16 +12,10 @@ use Rattle.search_workers.specs.declared.answer.Partial.{Partial}
 use Rattle.search_workers.specs.declared.answer.SearchStop.{SearchStop}
 use Rattle.search_workers.specs.declared.answer.SearchStop.TheVariants.{Full}
 use Rattle.search_workers.specs.Search.{IfFull}
-use Rattle.scenario_text.specs.Scenarios.{IsTextOf}
-use Rattle.plan_command.specs.declared.answer.Answer.{Answer}
-use Rattle.plan_command.specs.declared.request.Request.TheVariants as asks
-use Rattle.plan_command.specs.declared.status.Stop.{Stop}
-use Rattle.plan_command.specs.declared.status.Stop.TheVariants as stops
 use Rattle.plan_command.specs.Plans.{IsCertified}
-use Rattle.plan_command.specs.Makes.{PlansText, MakesOf}
 
 -- an opening's standing is the path with its value
-opening_standing : (p : Problem) (s : Standing) → s.value ≡ value_of p s.path → s ≡ standing_of p s.path
+pub opening_standing : (p : Problem) (s : Standing) → s.value ≡ value_of p s.path → s ≡ standing_of p s.path
 opening_standing p s value = ap (λ (n : ℕ). let t : Standing = record { path = s.path; value = n } in t) value
 
 pub opening_exact : (p : Problem) (s : Standing) → IsOpening p s.path → s.value ≡ value_of p s.path → IsExact p s
@@ -40,18 +34,5 @@ pub more_live : (p : Problem) (s : Standing) (limit : ℕ) → s.value ≡ value
 more_live p s limit value more = subst (λ t. HasMoreLive p t limit) (opening_standing p s value) more
 
 -- what is told of a search that was full
-pub told_full : (stop : SearchStop) (part : Partial) → stop ≡ Full part → (fact : Type 0) → IfFull (Err stop) (λ part. fact) → fact
-told_full stop part is fact told = subst (λ s. IfFull (Err s) (λ part. fact)) is told
-
--- what is planned of a scenario is made of its text
-pub planned_made : (p : Problem) (input : List ℕ) (workers nodes : ℕ) (made : Result Answer Stop) → IsTextOf p input → PlansText p nodes made → MakesOf (asks.Plan workers nodes) input made
-planned_made p input workers nodes (Ok answer) text (done, planned) = (done, (p, text, planned))
-planned_made p input workers nodes (Err (stops.TooManyNodes limit)) text (same, many) = (same, (p, text, many))
-planned_made p input workers nodes (Err stops.NoMemory) text none = tt
-planned_made p input workers nodes (Err stops.Usage) text none = absurd none
-planned_made p input workers nodes (Err (stops.Rejected at)) text none = absurd none
-planned_made p input workers nodes (Err (stops.BadScenario fault)) text none = absurd none
-planned_made p input workers nodes (Err (stops.BadPlan fault)) text none = absurd none
-planned_made p input workers nodes (Err stops.ReadFault) text none = absurd none
-planned_made p input workers nodes (Err stops.WriteFault) text none = absurd none
-planned_made p input workers nodes (Err stops.TooLong) text none = absurd none
+pub told_full : (stop : SearchStop) (part : Partial) → stop ≡ Full part → (fact : Partial → Type 0) → IfFull (Err stop) fact → fact part
+told_full stop part is fact told = subst (λ s. IfFull (Err s) fact) is told

@@ -1,19 +1,20 @@
 -- What an ending says of a source that tells its input.
-use Rattle.std.proofs.Common.{ℕ, ◌≡◌, ◌+◌, ◌≤◌, List, [], ◌++◌, length, Option, Some, None, Result, Ok, Err, refl, sym, ap, ◌∙◌, inl, inr, subst, arith, length-append}
+use Rattle.std.proofs.Common.{ℕ, ◌≡◌, ◌+◌, ◌≤◌, List, [], ◌++◌, length, Option, Some, None, refl, sym, ap, ◌∙◌, inl, inr, subst, arith, length-append}
 use Rattle.std.proofs.lemmas.List.{append-nil}
 use Rattle.std.proofs.KnownBytes.{Appends-nil}
 use Rattle.std.specs.Io.KnownBytes.{Consumes, IsAtEnd}
 use Rattle.byte_ports.specs.Taken.{TakesCount}
 use Rattle.plan_command.specs.declared.request.Request.{Request}
 use Rattle.plan_command.specs.declared.status.Status.{Status}
-use Rattle.plan_command.specs.declared.status.Stop.{Stop}
+use Rattle.plan_command.specs.declared.status.Status.TheVariants as statuses
+use Rattle.plan_command.specs.declared.status.Refusal.{Refusal}
 use Rattle.plan_command.specs.declared.status.Stop.TheVariants as stops
 use Rattle.plan_command.specs.Words.{Spells, limit_of}
-use Rattle.plan_command.specs.Lines.{status_of}
+use Rattle.plan_command.specs.Lines.{refused_status}
 use Rattle.plan_command.specs.Commands.{Answers, Refuses}
 use Rattle.plan_command.specs.Inputs.{Source, ReadWhole, Reads, IsOverLong}
-use Rattle.plan_command.specs.Run.{Call, ErrView, Delivered, Refused, Stopped, Ends, ending_of, status_at, Says}
-use Rattle.plan_command.specs.Complete.{IsHeard, IsUndisturbed, IsWithin, IsLonger, IsStopDue, IsDue, IsByText}
+use Rattle.plan_command.specs.Run.{Call, ErrView, Delivered, Refused, Stopped, Ending, delivered, stopped, Ends, status_at, Says}
+use Rattle.plan_command.specs.Complete.{IsHeard, IsUndisturbed, IsWithin, IsLonger, IsUnlessNoMemory, IsDue, IsByText}
 use Rattle.plan_command.proofs.WordForms.{spelled_once}
 use Rattle.plan_command.proofs.Exclusive.{answers_or_refuses, refuses_once}
 
@@ -62,79 +63,63 @@ module _ (c : Call) (request : Request) (input : List ℕ) where
       let told = reads_told (limit_of request) limit c.before.source c.after.source input bytes is heard.told reads in
       omega (arith, long, told.1, ap length told.0)
 
-  told_answer : IsHeard c request input → IsWithin request input → (bytes : List ℕ) (status : Status) (text : List ℕ) → Reads (limit_of request) c.before.source c.after.source bytes → Answers request bytes status text → Answers request input status text
+  told_answer : IsHeard c request input → IsWithin request input → (bytes : List ℕ) (status : Status) (text : List ℕ) → Reads (limit_of request) c.before.source c.after.source bytes → Answers c.words request bytes status text → Answers c.words request input status text
   told_answer heard (limit, is, short) bytes status text reads answers =
-      let P : List ℕ → Type 0 = λ i. Answers request i status text in subst P (sym (read_as_told heard limit is bytes reads)) answers
+      let P : List ℕ → Type 0 = λ i. Answers c.words request i status text in subst P (sym (read_as_told heard limit is bytes reads)) answers
 
-  told_refusal : IsHeard c request input → IsWithin request input → (stop : Stop) → Refused request c.before c.after stop → Refuses request input stop
-  told_refusal heard (limit, is, short) stop refused =
-      let P : List ℕ → Type 0 = λ i. Refuses request i stop in subst P (sym (read_as_told heard limit is refused.input refused.read)) refused.refuses
-
-  refused_due : IsHeard c request input → IsWithin request input → (stop : Stop) → Refused request c.before c.after stop → IsDue request input (status_of stop)
-  refused_due heard short stop refused = inr (inl (stop, told_refusal heard short stop refused, refl))
+  told_refusal : IsHeard c request input → IsWithin request input → (refusal : Refusal) → Refused c.words request c.before c.after refusal → Refuses c.words request input refusal
+  told_refusal heard (limit, is, short) refusal refused =
+      let P : List ℕ → Type 0 = λ i. Refuses c.words request i refusal in subst P (sym (read_as_told heard limit is refused.input refused.read)) refused.refuses
 
   -- an undisturbed run ends as its input is due
-  pub ends_as_due : (result : Result Status Stop) → Ends c (ending_of result) →
-      IsUndisturbed c request input → IsDue request input (status_at (ending_of result))
-  ends_as_due (Ok status) (r, spelled, delivered) calm =
-      let mine = of_request (λ r. Delivered r c.before c.after status) calm.heard r spelled delivered in
+  pub ends_as_due : (end : Ending) → Ends c end → IsUndisturbed c request input → IsDue c.words request input (status_at end)
+  ends_as_due (delivered status) (r, spelled, whole) calm =
+      let mine = of_request (λ r. Delivered c.words r c.before c.after status) calm.heard r spelled whole in
       inl (mine.text, told_answer calm.heard calm.within mine.input status mine.text mine.read mine.answers)
-  ends_as_due (Err stops.Usage) ends calm = absurd (ends.0 request calm.heard.spelled)
-  ends_as_due (Err (stops.Rejected at)) (r, spelled, refused) calm = refused_due calm.heard calm.within (stops.Rejected at) (of_request (λ r. Refused r c.before c.after (stops.Rejected at)) calm.heard r spelled refused)
-  ends_as_due (Err (stops.BadScenario fault)) (r, spelled, refused) calm = refused_due calm.heard calm.within (stops.BadScenario fault) (of_request (λ r. Refused r c.before c.after (stops.BadScenario fault)) calm.heard r spelled refused)
-  ends_as_due (Err (stops.BadPlan fault)) (r, spelled, refused) calm = refused_due calm.heard calm.within (stops.BadPlan fault) (of_request (λ r. Refused r c.before c.after (stops.BadPlan fault)) calm.heard r spelled refused)
-  ends_as_due (Err (stops.TooManyNodes limit)) (r, spelled, refused) calm = refused_due calm.heard calm.within (stops.TooManyNodes limit) (of_request (λ r. Refused r c.before c.after (stops.TooManyNodes limit)) calm.heard r spelled refused)
-  ends_as_due (Err stops.ReadFault) (r, spelled, fault) calm = absurd (calm.heard.read fault.0.rose)
-  ends_as_due (Err stops.WriteFault) (r, spelled, fault) calm = absurd (calm.write fault.0)
-  ends_as_due (Err stops.NoMemory) ends calm = inr (inr refl)
-  ends_as_due (Err stops.TooLong) (r, spelled, taken) calm =
-      let mine = of_request (λ r. Stopped r c.before c.after stops.TooLong) calm.heard r spelled taken in
+  ends_as_due (stopped stops.Usage) ends calm = absurd (ends.0 request calm.heard.spelled)
+  ends_as_due (stopped (stops.Refused refusal)) (r, spelled, refused) calm =
+      let mine = of_request (λ r. Refused c.words r c.before c.after refusal) calm.heard r spelled refused in
+      inr (inl (refusal, told_refusal calm.heard calm.within refusal mine, refl))
+  ends_as_due (stopped stops.ReadFault) (r, spelled, fault) calm = absurd (calm.heard.read fault.0.rose)
+  ends_as_due (stopped stops.WriteFault) (r, spelled, fault) calm = absurd (calm.write fault.0)
+  ends_as_due (stopped stops.NoMemory) ends calm = inr (inr refl)
+  ends_as_due (stopped stops.TooLong) (r, spelled, taken) calm =
+      let mine = of_request (λ r. Stopped c.words r c.before c.after stops.TooLong) calm.heard r spelled taken in
       absurd (within_or_longer calm.within (too_long_of_told calm.heard mine.0))
 
   -- a refusal of the input is told, whatever the sink does
-  other_refusal : IsHeard c request input → IsWithin request input → (stop other : Stop) → IsByText stop → Refuses request input stop → Refused request c.before c.after other → IsStopDue stop (status_of other)
-  other_refusal heard short stop other by due refused = inl (ap status_of (refuses_once request input other stop by (told_refusal heard short other refused) due))
-
-  pub ends_refused : (result : Result Status Stop) (stop : Stop) → Ends c (ending_of result) →
-      IsHeard c request input → IsWithin request input → Refuses request input stop → IsByText stop → IsStopDue stop (status_at (ending_of result))
-  ends_refused (Ok status) stop (r, spelled, delivered) heard short due by =
-      let mine = of_request (λ r. Delivered r c.before c.after status) heard r spelled delivered in
-      absurd (answers_or_refuses request input status mine.text stop by (told_answer heard short mine.input status mine.text mine.read mine.answers) due)
-  ends_refused (Err stops.Usage) stop ends heard short due by = absurd (ends.0 request heard.spelled)
-  ends_refused (Err (stops.Rejected at)) stop (r, spelled, refused) heard short due by = other_refusal heard short stop (stops.Rejected at) by due (of_request (λ r. Refused r c.before c.after (stops.Rejected at)) heard r spelled refused)
-  ends_refused (Err (stops.BadScenario fault)) stop (r, spelled, refused) heard short due by = other_refusal heard short stop (stops.BadScenario fault) by due (of_request (λ r. Refused r c.before c.after (stops.BadScenario fault)) heard r spelled refused)
-  ends_refused (Err (stops.BadPlan fault)) stop (r, spelled, refused) heard short due by = other_refusal heard short stop (stops.BadPlan fault) by due (of_request (λ r. Refused r c.before c.after (stops.BadPlan fault)) heard r spelled refused)
-  ends_refused (Err (stops.TooManyNodes limit)) stop (r, spelled, refused) heard short due by = other_refusal heard short stop (stops.TooManyNodes limit) by due (of_request (λ r. Refused r c.before c.after (stops.TooManyNodes limit)) heard r spelled refused)
-  ends_refused (Err stops.ReadFault) stop (r, spelled, fault) heard short due by = absurd (heard.read fault.0.rose)
-  ends_refused (Err stops.WriteFault) stop (r, spelled, fault) heard short due by =
-      let mine = of_request (λ r. Stopped r c.before c.after stops.WriteFault) heard r spelled fault in
+  pub ends_refused : (end : Ending) (refusal : Refusal) → Ends c end → IsHeard c request input → IsWithin request input → Refuses c.words request input refusal → IsByText refusal →
+      IsUnlessNoMemory (refused_status refusal) (status_at end)
+  ends_refused (delivered status) refusal (r, spelled, whole) heard short due by =
+      let mine = of_request (λ r. Delivered c.words r c.before c.after status) heard r spelled whole in
+      absurd (answers_or_refuses c.words request input status mine.text refusal by (told_answer heard short mine.input status mine.text mine.read mine.answers) due)
+  ends_refused (stopped stops.Usage) refusal ends heard short due by = absurd (ends.0 request heard.spelled)
+  ends_refused (stopped (stops.Refused other)) refusal (r, spelled, refused) heard short due by =
+      let mine = of_request (λ r. Refused c.words r c.before c.after other) heard r spelled refused in
+      inl (ap refused_status (refuses_once c.words request input other refusal by (told_refusal heard short other mine) due))
+  ends_refused (stopped stops.ReadFault) refusal (r, spelled, fault) heard short due by = absurd (heard.read fault.0.rose)
+  ends_refused (stopped stops.WriteFault) refusal (r, spelled, fault) heard short due by =
+      let mine = of_request (λ r. Stopped c.words r c.before c.after stops.WriteFault) heard r spelled fault in
       let cut = mine.1 in
-      absurd (answers_or_refuses request input cut.status cut.text stop by (told_answer heard short cut.input cut.status cut.text cut.read cut.answers) due)
-  ends_refused (Err stops.NoMemory) stop ends heard short due by = inr refl
-  ends_refused (Err stops.TooLong) stop (r, spelled, taken) heard short due by =
-      let mine = of_request (λ r. Stopped r c.before c.after stops.TooLong) heard r spelled taken in
+      absurd (answers_or_refuses c.words request input cut.status cut.text refusal by (told_answer heard short cut.input cut.status cut.text cut.read cut.answers) due)
+  ends_refused (stopped stops.NoMemory) refusal ends heard short due by = inr refl
+  ends_refused (stopped stops.TooLong) refusal (r, spelled, taken) heard short due by =
+      let mine = of_request (λ r. Stopped c.words r c.before c.after stops.TooLong) heard r spelled taken in
       absurd (within_or_longer short (too_long_of_told heard mine.0))
 
   -- a longer input is told as that
-  pub ends_longer : (result : Result Status Stop) → Ends c (ending_of result) →
-      IsHeard c request input → IsLonger request input → IsStopDue stops.TooLong (status_at (ending_of result))
-  ends_longer (Ok status) (r, spelled, delivered) heard long =
-      let mine = of_request (λ r. Delivered r c.before c.after status) heard r spelled delivered in absurd (not_longer heard mine.input mine.read long)
-  ends_longer (Err stops.Usage) ends heard long = absurd (ends.0 request heard.spelled)
-  ends_longer (Err (stops.Rejected at)) (r, spelled, refused) heard long =
-      let mine = of_request (λ r. Refused r c.before c.after (stops.Rejected at)) heard r spelled refused in absurd (not_longer heard mine.input mine.read long)
-  ends_longer (Err (stops.BadScenario fault)) (r, spelled, refused) heard long =
-      let mine = of_request (λ r. Refused r c.before c.after (stops.BadScenario fault)) heard r spelled refused in absurd (not_longer heard mine.input mine.read long)
-  ends_longer (Err (stops.BadPlan fault)) (r, spelled, refused) heard long =
-      let mine = of_request (λ r. Refused r c.before c.after (stops.BadPlan fault)) heard r spelled refused in absurd (not_longer heard mine.input mine.read long)
-  ends_longer (Err (stops.TooManyNodes limit)) (r, spelled, refused) heard long =
-      let mine = of_request (λ r. Refused r c.before c.after (stops.TooManyNodes limit)) heard r spelled refused in absurd (not_longer heard mine.input mine.read long)
-  ends_longer (Err stops.ReadFault) (r, spelled, fault) heard long = absurd (heard.read fault.0.rose)
-  ends_longer (Err stops.WriteFault) (r, spelled, fault) heard long =
-      let mine = of_request (λ r. Stopped r c.before c.after stops.WriteFault) heard r spelled fault in
+  pub ends_longer : (end : Ending) → Ends c end → IsHeard c request input → IsLonger request input → IsUnlessNoMemory statuses.TooLong (status_at end)
+  ends_longer (delivered status) (r, spelled, whole) heard long =
+      let mine = of_request (λ r. Delivered c.words r c.before c.after status) heard r spelled whole in absurd (not_longer heard mine.input mine.read long)
+  ends_longer (stopped stops.Usage) ends heard long = absurd (ends.0 request heard.spelled)
+  ends_longer (stopped (stops.Refused refusal)) (r, spelled, refused) heard long =
+      let mine = of_request (λ r. Refused c.words r c.before c.after refusal) heard r spelled refused in absurd (not_longer heard mine.input mine.read long)
+  ends_longer (stopped stops.ReadFault) (r, spelled, fault) heard long = absurd (heard.read fault.0.rose)
+  ends_longer (stopped stops.WriteFault) (r, spelled, fault) heard long =
+      let mine = of_request (λ r. Stopped c.words r c.before c.after stops.WriteFault) heard r spelled fault in
       let cut = mine.1 in absurd (not_longer heard cut.input cut.read long)
-  ends_longer (Err stops.NoMemory) ends heard long = inr refl
-  ends_longer (Err stops.TooLong) ends heard long = inl refl
+  ends_longer (stopped stops.NoMemory) ends heard long = inr refl
+  ends_longer (stopped stops.TooLong) ends heard long = inl refl
 
 -- nothing was said
 pub says_nothing : (view : ErrView) → Says view view []

@@ -1,23 +1,26 @@
 -- An input is answered or refused, and refused in one way.
-use Rattle.std.proofs.Common.{ℕ, ◌≡◌, List, Result, Ok, Err, Some, sym, ap, subst}
+use Rattle.std.proofs.Common.{ℕ, ◌≡◌, ◌⊎◌, List, Result, Ok, Err, Some, inl, inr, refl, sym, ap, ◌∙◌, subst}
 use Rattle.search_model.specs.Problem.{Problem}
 use Rattle.scenario_text.specs.declared.kind.TextFault.{TextFault}
-use Rattle.scenario_text.specs.Reading.{Front, front_of}
-use Rattle.plan_command.proofs.Apart.{same_front, same_rest}
-use Rattle.plan_command.specs.declared.request.Request.{Request}
-use Rattle.plan_command.specs.declared.request.Request.TheVariants.{Plan, Check, Report, Make, Drill, Convert}
-use Rattle.plan_command.specs.declared.status.Status.{Status}
-use Rattle.plan_command.specs.declared.status.Stop.{Stop}
-use Rattle.plan_command.specs.declared.status.Stop.TheVariants as stops
+use Rattle.scenario_text.specs.Reading.{Front, front_of, alone_of}
+use Rattle.scenario_text.specs.Scenarios.{IsTextOf}
 use Rattle.bound_tree.specs.declared.plan.Plan.{Plan as APlan}
 use Rattle.bound_tree.specs.Accepts.{Accepts}
 use Rattle.tree_checker.specs.declared.verdict.RejectAt.{RejectAt}
 use Rattle.tree_checker.specs.Reasons.{first_reason}
+use Rattle.tree_format.specs.declared.kind.PlanFault.{PlanFault}
+use Rattle.plan_command.specs.declared.request.Request.{Request}
+use Rattle.plan_command.specs.declared.request.Request.TheVariants.{Plan, Check, Report, Make, Drill, Convert, Gap, Replan, Map, Duo}
+use Rattle.plan_command.specs.declared.status.Status.{Status}
+use Rattle.plan_command.specs.declared.status.Refusal.{Refusal}
+use Rattle.plan_command.specs.declared.status.Refusal.TheVariants.{Rejected, BadScenario, BadPlan, BadFlown, BadDuo, TooManyNodes}
+use Rattle.plan_command.specs.Words.{Family, of_scenario, of_plan, of_nothing, family_of}
 use Rattle.plan_command.specs.Plans.{IsPlanRest, HasFault}
 use Rattle.plan_command.specs.Complete.{IsByText}
+use Rattle.plan_command.specs.Commands.{IsInput, IsRejected, HasBadPlan, MakesText, IsUnmade, TellsPlan, NeedsAccepted, AnswersAs, RefusesAs, Answers, Refuses}
+use Rattle.plan_command.proofs.Apart.{same_front, same_rest, same_scenario}
 use Rattle.plan_command.proofs.Reading.{plan_or_fault, one_plan_fault, same_plan}
-use Rattle.tree_format.specs.declared.kind.PlanFault.{PlanFault}
-use Rattle.plan_command.specs.Commands.{IsInput, IsRejected, HasBadPlan, LacksAccepted, Answers, Refuses}
+use Rattle.plan_command.proofs.Unmade.{made_or_unmade, unmade_once}
 
 -- a text is read or has a fault
 pub read_or_not : (read : Result Front TextFault) (front : Front) (fault : TextFault) → read ≡ Ok front → read ≡ Err fault → ⊥
@@ -66,63 +69,6 @@ one_rejection input a b (p, plan, is, turned, reason) (q, other, read, again, se
     let here = read_alike input p q plan other (λ z x. first_reason z x ≡ Some a) is read reason in
     one_reason q other a b here second
 
--- what reads nothing refuses nothing
-pub made_refuses : (input : List ℕ) (number : ℕ) (stop : Stop) → Refuses (Make number) input stop → ⊥
-made_refuses input number stops.Usage h = h
-made_refuses input number (stops.Rejected at) h = h
-made_refuses input number (stops.BadScenario fault) h = h
-made_refuses input number (stops.BadPlan fault) h = h
-made_refuses input number stops.ReadFault h = h
-made_refuses input number stops.WriteFault h = h
-made_refuses input number stops.NoMemory h = h
-made_refuses input number (stops.TooManyNodes limit) h = h
-made_refuses input number stops.TooLong h = h
-
-pub drilled_refuses : (input : List ℕ) (number workers : ℕ) (stop : Stop) → Refuses (Drill number workers) input stop → ⊥
-drilled_refuses input number workers stops.Usage h = h
-drilled_refuses input number workers (stops.Rejected at) h = h
-drilled_refuses input number workers (stops.BadScenario fault) h = h
-drilled_refuses input number workers (stops.BadPlan fault) h = h
-drilled_refuses input number workers stops.ReadFault h = h
-drilled_refuses input number workers stops.WriteFault h = h
-drilled_refuses input number workers stops.NoMemory h = h
-drilled_refuses input number workers (stops.TooManyNodes limit) h = h
-drilled_refuses input number workers stops.TooLong h = h
-
--- an input that is a scenario and an accepted plan lacks none
-pub accepted_or_lacking : (input : List ℕ) (p : Problem) (plan : APlan) (stop : Stop) → IsInput input p plan → Accepts p plan → LacksAccepted input stop → ⊥
-accepted_or_lacking input p plan (stops.BadScenario fault) is accepts lacks = no_front_fault input p plan fault is lacks
-accepted_or_lacking input p plan (stops.BadPlan fault) is accepts lacks = no_fault_behind input p plan fault is lacks
-accepted_or_lacking input p plan (stops.Rejected at) is accepts lacks = not_rejected input p plan at is accepts lacks
-accepted_or_lacking input p plan stops.Usage is accepts lacks = lacks
-accepted_or_lacking input p plan (stops.TooManyNodes limit) is accepts lacks = lacks
-accepted_or_lacking input p plan stops.ReadFault is accepts lacks = lacks
-accepted_or_lacking input p plan stops.WriteFault is accepts lacks = lacks
-accepted_or_lacking input p plan stops.NoMemory is accepts lacks = lacks
-accepted_or_lacking input p plan stops.TooLong is accepts lacks = lacks
-
--- an input that is answered isn't refused for its text
-pub answers_or_refuses : (request : Request) (input : List ℕ) (status : Status) (text : List ℕ) (stop : Stop) → IsByText stop → Answers request input status text → Refuses request input stop → ⊥
-answers_or_refuses (Plan workers nodes) input status text (stops.BadScenario fault) by answers refuses = let found = answers.1 in read_or_not _ found.1.front fault found.1.read refuses
-answers_or_refuses (Plan workers nodes) input status text (stops.BadPlan fault) by answers refuses = refuses
-answers_or_refuses (Plan workers nodes) input status text (stops.Rejected at) by answers refuses = refuses
-answers_or_refuses Check input status text (stops.BadScenario fault) by answers refuses = no_front_fault input answers.0 answers.1 fault answers.2 refuses
-answers_or_refuses Check input status text (stops.BadPlan fault) by answers refuses = no_fault_behind input answers.0 answers.1 fault answers.2 refuses
-answers_or_refuses Check input status text (stops.Rejected at) by answers refuses = refuses
-answers_or_refuses (Report json) input status text stop by (done, (p, plan, is, accepts, told)) lacks = accepted_or_lacking input p plan stop is accepts lacks
-answers_or_refuses (Make number) input status text stop by answers refuses = made_refuses input number stop refuses
-answers_or_refuses (Drill number workers) input status text stop by answers refuses = drilled_refuses input number workers stop refuses
-answers_or_refuses Convert input status text stop by (done, (p, plan, is, accepts, told)) lacks = accepted_or_lacking input p plan stop is accepts lacks
-answers_or_refuses request input status text stops.Usage by answers refuses = by
-answers_or_refuses request input status text (stops.TooManyNodes limit) by answers refuses = by
-answers_or_refuses request input status text stops.ReadFault by answers refuses = by
-answers_or_refuses request input status text stops.WriteFault by answers refuses = by
-answers_or_refuses request input status text stops.NoMemory by answers refuses = by
-answers_or_refuses request input status text stops.TooLong by answers refuses = by
-
-no_scenario_first : (input : List ℕ) (workers nodes limit : ℕ) (fault : TextFault) → Refuses (Plan workers nodes) input (stops.BadScenario fault) → Refuses (Plan workers nodes) input (stops.TooManyNodes limit) → ⊥
-no_scenario_first input workers nodes limit fault h g = let large = g.1 in read_or_not _ large.1.front fault large.1.read h
-
 no_front_first : (input : List ℕ) (fault : TextFault) (other : PlanFault) → front_of input ≡ Err fault → HasBadPlan input other → ⊥
 no_front_first input fault other h g = let front = g.1.1.front in read_or_not _ front.front fault front.read h
 
@@ -136,80 +82,97 @@ one_behind input a b h g =
     let P : Problem → Type 0 = λ q. HasFault q mine.0 b in
     one_plan_fault h.0 mine.0 a b mine.2 (subst P (sym same_p) (subst (λ r. HasFault g.0 r b) (sym same_r) other.2))
 
-text_fault : (input : List ℕ) (a b : TextFault) → front_of input ≡ Err a → front_of input ≡ Err b → stops.BadScenario a ≡ stops.BadScenario b
-text_fault input a b h g = ap (λ (f : TextFault). stops.BadScenario f) (one_fault _ a b h g)
+-- what is wrong with the input of a request that reads a scenario alone: its text, or what is asked of it
+abbrev pub FaultsAlone : List (List ℕ) → Request → List ℕ → Refusal → Type 0
+FaultsAlone words request input refusal =
+    ((fault : TextFault) × (refusal ≡ BadScenario fault) × (alone_of input ≡ Err fault))
+    ⊎ ((p : Problem) × IsTextOf p input × IsUnmade words request p refusal)
 
-plan_fault : (input : List ℕ) (a b : PlanFault) → HasBadPlan input a → HasBadPlan input b → stops.BadPlan a ≡ stops.BadPlan b
-plan_fault input a b h g = ap (λ (f : PlanFault). stops.BadPlan f) (one_behind input a b h g)
+pub faults_alone : (words : List (List ℕ)) (request : Request) (input : List ℕ) (refusal : Refusal) → RefusesAs of_scenario words request input refusal → FaultsAlone words request input refusal
+faults_alone words request input (BadScenario fault) refuses = inl (fault, refl, refuses)
+faults_alone words request input (Rejected at) refuses = inr refuses
+faults_alone words request input (BadPlan fault) refuses = inr refuses
+faults_alone words request input (BadFlown why) refuses = inr refuses
+faults_alone words request input (BadDuo why) refuses = inr refuses
+faults_alone words request input (TooManyNodes limit) refuses = inr refuses
 
--- so it is for a plan, for a check, and for what needs an accepted plan
-plan_refused_once : (input : List ℕ) (workers nodes : ℕ) (a b : Stop) → Refuses (Plan workers nodes) input a → Refuses (Plan workers nodes) input b → IsByText b → a ≡ b
-plan_refused_once input workers nodes (stops.BadScenario a) (stops.BadScenario b) h g by = ap (λ (f : TextFault). stops.BadScenario f) (one_fault _ a b h g)
-plan_refused_once input workers nodes (stops.TooManyNodes limit) (stops.BadScenario fault) h g by = absurd (no_scenario_first input workers nodes limit fault g h)
-plan_refused_once input workers nodes stops.Usage (stops.BadScenario fault) h g by = absurd h
-plan_refused_once input workers nodes (stops.Rejected at) (stops.BadScenario fault) h g by = absurd h
-plan_refused_once input workers nodes (stops.BadPlan a) (stops.BadScenario fault) h g by = absurd h
-plan_refused_once input workers nodes stops.ReadFault (stops.BadScenario fault) h g by = absurd h
-plan_refused_once input workers nodes stops.WriteFault (stops.BadScenario fault) h g by = absurd h
-plan_refused_once input workers nodes stops.NoMemory (stops.BadScenario fault) h g by = absurd h
-plan_refused_once input workers nodes stops.TooLong (stops.BadScenario fault) h g by = absurd h
-plan_refused_once input workers nodes a (stops.BadPlan fault) h g by = absurd g
-plan_refused_once input workers nodes a (stops.Rejected at) h g by = absurd g
-plan_refused_once input workers nodes a stops.Usage h g by = absurd by
-plan_refused_once input workers nodes a (stops.TooManyNodes limit) h g by = absurd by
-plan_refused_once input workers nodes a stops.ReadFault h g by = absurd by
-plan_refused_once input workers nodes a stops.WriteFault h g by = absurd by
-plan_refused_once input workers nodes a stops.NoMemory h g by = absurd by
-plan_refused_once input workers nodes a stops.TooLong h g by = absurd by
+-- and with that of one that reads a plan, too: a text, or the plan
+abbrev pub FaultsBoth : Request → List ℕ → Refusal → Type 0
+FaultsBoth request input refusal =
+    ((fault : TextFault) × (refusal ≡ BadScenario fault) × (front_of input ≡ Err fault))
+    ⊎ (((fault : PlanFault) × (refusal ≡ BadPlan fault) × HasBadPlan input fault)
+    ⊎ ((at : RejectAt) × (refusal ≡ Rejected at) × NeedsAccepted request × IsRejected input at))
 
-check_refused_once : (input : List ℕ) (a b : Stop) → Refuses Check input a → Refuses Check input b → a ≡ b
-check_refused_once input (stops.BadScenario a) (stops.BadScenario b) h g = text_fault input a b h g
-check_refused_once input (stops.BadScenario fault) (stops.BadPlan other) h g = absurd (no_front_first input fault other h g)
-check_refused_once input (stops.BadPlan other) (stops.BadScenario fault) h g = absurd (no_front_first input fault other g h)
-check_refused_once input (stops.BadPlan a) (stops.BadPlan b) h g = plan_fault input a b h g
-check_refused_once input stops.Usage b h g = absurd h
-check_refused_once input (stops.TooManyNodes limit) b h g = absurd h
-check_refused_once input stops.ReadFault b h g = absurd h
-check_refused_once input stops.WriteFault b h g = absurd h
-check_refused_once input stops.NoMemory b h g = absurd h
-check_refused_once input stops.TooLong b h g = absurd h
-check_refused_once input (stops.Rejected at) b h g = absurd h
-check_refused_once input a stops.Usage h g = absurd g
-check_refused_once input a (stops.TooManyNodes limit) h g = absurd g
-check_refused_once input a stops.ReadFault h g = absurd g
-check_refused_once input a stops.WriteFault h g = absurd g
-check_refused_once input a stops.NoMemory h g = absurd g
-check_refused_once input a stops.TooLong h g = absurd g
-check_refused_once input a (stops.Rejected at) h g = absurd g
+pub faults_both : (words : List (List ℕ)) (request : Request) (input : List ℕ) (refusal : Refusal) → RefusesAs of_plan words request input refusal → FaultsBoth request input refusal
+faults_both words request input (BadScenario fault) refuses = inl (fault, refl, refuses)
+faults_both words request input (BadPlan fault) refuses = inr (inl (fault, refl, refuses))
+faults_both words request input (Rejected at) refuses = inr (inr (at, refl, refuses.0, refuses.1))
+faults_both words request input (BadFlown why) refuses = absurd refuses
+faults_both words request input (BadDuo why) refuses = absurd refuses
+faults_both words request input (TooManyNodes limit) refuses = absurd refuses
 
-lacks_once : (input : List ℕ) (a b : Stop) → LacksAccepted input a → LacksAccepted input b → a ≡ b
-lacks_once input (stops.BadScenario a) (stops.BadScenario b) h g = text_fault input a b h g
-lacks_once input (stops.BadScenario fault) (stops.BadPlan other) h g = absurd (no_front_first input fault other h g)
-lacks_once input (stops.BadPlan other) (stops.BadScenario fault) h g = absurd (no_front_first input fault other g h)
-lacks_once input (stops.BadPlan a) (stops.BadPlan b) h g = plan_fault input a b h g
-lacks_once input (stops.Rejected a) (stops.Rejected b) h g = ap (λ (r : RejectAt). stops.Rejected r) (one_rejection input a b h g)
-lacks_once input (stops.Rejected at) (stops.BadScenario fault) h g = absurd (no_front_fault input h.0 h.1 fault h.2 g)
-lacks_once input (stops.BadScenario fault) (stops.Rejected at) h g = absurd (no_front_fault input g.0 g.1 fault g.2 h)
-lacks_once input (stops.Rejected at) (stops.BadPlan fault) h g = absurd (no_fault_behind input h.0 h.1 fault h.2 g)
-lacks_once input (stops.BadPlan fault) (stops.Rejected at) h g = absurd (no_fault_behind input g.0 g.1 fault g.2 h)
-lacks_once input stops.Usage b h g = absurd h
-lacks_once input (stops.TooManyNodes limit) b h g = absurd h
-lacks_once input stops.ReadFault b h g = absurd h
-lacks_once input stops.WriteFault b h g = absurd h
-lacks_once input stops.NoMemory b h g = absurd h
-lacks_once input stops.TooLong b h g = absurd h
-lacks_once input a stops.Usage h g = absurd g
-lacks_once input a (stops.TooManyNodes limit) h g = absurd g
-lacks_once input a stops.ReadFault h g = absurd g
-lacks_once input a stops.WriteFault h g = absurd g
-lacks_once input a stops.NoMemory h g = absurd g
-lacks_once input a stops.TooLong h g = absurd g
+-- what needs an accepted plan tells of one
+needs_accepts : (request : Request) (p : Problem) (plan : APlan) (status : Status) (text : List ℕ) → NeedsAccepted request → TellsPlan request p plan status text → Accepts p plan
+needs_accepts (Report json) p plan status text needs tells = tells.1
+needs_accepts Convert p plan status text needs tells = tells.1
+needs_accepts Check p plan status text needs tells = absurd needs
+needs_accepts (Plan workers nodes) p plan status text needs tells = absurd needs
+needs_accepts (Make number) p plan status text needs tells = absurd needs
+needs_accepts (Drill number workers) p plan status text needs tells = absurd needs
+needs_accepts (Gap workers nodes) p plan status text needs tells = absurd needs
+needs_accepts (Replan workers nodes flown) p plan status text needs tells = absurd needs
+needs_accepts (Map flown) p plan status text needs tells = absurd needs
+needs_accepts (Duo workers nodes second) p plan status text needs tells = absurd needs
 
--- an input that is refused for its text is refused in no other way
-pub refuses_once : (request : Request) (input : List ℕ) (a b : Stop) → IsByText b → Refuses request input a → Refuses request input b → a ≡ b
-refuses_once (Plan workers nodes) input a b by h g = plan_refused_once input workers nodes a b h g by
-refuses_once Check input a b by h g = check_refused_once input a b h g
-refuses_once (Report json) input a b by h g = lacks_once input a b h g
-refuses_once (Make number) input a b by h g = absurd (made_refuses input number a h)
-refuses_once (Drill number workers) input a b by h g = absurd (drilled_refuses input number workers a h)
-refuses_once Convert input a b by h g = lacks_once input a b h g
+module _ (words : List (List ℕ)) (request : Request) (input : List ℕ) where
+  -- a scenario of which a text is made isn't refused
+  alone_or_not : (p : Problem) (text : List ℕ) (refusal : Refusal) → IsByText refusal → IsTextOf p input → MakesText words request p text → FaultsAlone words request input refusal → ⊥
+  alone_or_not p text refusal by is makes (inl (fault, same, bad)) = read_or_not _ is.front fault is.read bad
+  alone_or_not p text refusal by is makes (inr (q, other, unmade)) =
+      let unmade_here = subst (λ (z : Problem). IsUnmade words request z refusal) (same_scenario q p input other is) unmade in
+      made_or_unmade words request p text refusal is.says.sound by makes unmade_here
+
+  -- nor is a plan of which something is told
+  both_or_not : (p : Problem) (plan : APlan) (status : Status) (text : List ℕ) (refusal : Refusal) → IsInput input p plan → TellsPlan request p plan status text → FaultsBoth request input refusal → ⊥
+  both_or_not p plan status text refusal is tells (inl (fault, same, bad)) = no_front_fault input p plan fault is bad
+  both_or_not p plan status text refusal is tells (inr (inl (fault, same, bad))) = no_fault_behind input p plan fault is bad
+  both_or_not p plan status text refusal is tells (inr (inr (at, same, needs, rejected))) = not_rejected input p plan at is (needs_accepts request p plan status text needs tells) rejected
+
+  as_or_not : (family : Family) (status : Status) (text : List ℕ) (refusal : Refusal) → IsByText refusal → AnswersAs family words request input status text → RefusesAs family words request input refusal → ⊥
+  as_or_not of_scenario status text refusal by (done, (p, is, makes)) refuses = alone_or_not p text refusal by is makes (faults_alone words request input refusal refuses)
+  as_or_not of_plan status text refusal by (p, plan, is, tells) refuses = both_or_not p plan status text refusal is tells (faults_both words request input refusal refuses)
+  as_or_not of_nothing status text refusal by answers refuses = refuses
+
+  -- an input that is answered isn't refused for its text
+  pub answers_or_refuses : (status : Status) (text : List ℕ) (refusal : Refusal) → IsByText refusal → Answers words request input status text → Refuses words request input refusal → ⊥
+  answers_or_refuses status text refusal by answers refuses = as_or_not (family_of request) status text refusal by answers refuses
+
+  -- a scenario is refused in one way
+  alone_once : (a b : Refusal) → IsByText b → FaultsAlone words request input a → FaultsAlone words request input b → a ≡ b
+  alone_once a b by (inl (f, e, h)) (inl (g, d, k)) = e ∙ ap (λ (x : TextFault). BadScenario x) (one_fault _ f g h k) ∙ sym d
+  alone_once a b by (inl (f, e, h)) (inr (p, is, unmade)) = absurd (read_or_not _ is.front f is.read h)
+  alone_once a b by (inr (p, is, unmade)) (inl (g, d, k)) = absurd (read_or_not _ is.front g is.read k)
+  alone_once a b by (inr (p, is, unmade)) (inr (q, other, never)) =
+      let unmade_there = subst (λ (z : Problem). IsUnmade words request z a) (same_scenario p q input is other) unmade in
+      unmade_once words request q a b other.says.sound by unmade_there never
+
+  -- so is a plan
+  both_once : (a b : Refusal) → FaultsBoth request input a → FaultsBoth request input b → a ≡ b
+  both_once a b (inl (f, e, h)) (inl (g, d, k)) = e ∙ ap (λ (x : TextFault). BadScenario x) (one_fault _ f g h k) ∙ sym d
+  both_once a b (inl (f, e, h)) (inr (inl (g, d, k))) = absurd (no_front_first input f g h k)
+  both_once a b (inl (f, e, h)) (inr (inr (at, d, needs, k))) = absurd (no_front_fault input k.0 k.1 f k.2 h)
+  both_once a b (inr (inl (f, e, h))) (inl (g, d, k)) = absurd (no_front_first input g f k h)
+  both_once a b (inr (inl (f, e, h))) (inr (inl (g, d, k))) = e ∙ ap (λ (x : PlanFault). BadPlan x) (one_behind input f g h k) ∙ sym d
+  both_once a b (inr (inl (f, e, h))) (inr (inr (at, d, needs, k))) = absurd (no_fault_behind input k.0 k.1 f k.2 h)
+  both_once a b (inr (inr (at, e, needs, h))) (inl (g, d, k)) = absurd (no_front_fault input h.0 h.1 g h.2 k)
+  both_once a b (inr (inr (at, e, needs, h))) (inr (inl (g, d, k))) = absurd (no_fault_behind input h.0 h.1 g h.2 k)
+  both_once a b (inr (inr (at, e, needs, h))) (inr (inr (other, d, more, k))) = e ∙ ap (λ (x : RejectAt). Rejected x) (one_rejection input at other h k) ∙ sym d
+
+  as_once : (family : Family) (a b : Refusal) → IsByText b → RefusesAs family words request input a → RefusesAs family words request input b → a ≡ b
+  as_once of_scenario a b by h g = alone_once a b by (faults_alone words request input a h) (faults_alone words request input b g)
+  as_once of_plan a b by h g = both_once a b (faults_both words request input a h) (faults_both words request input b g)
+  as_once of_nothing a b by h g = absurd h
+
+  -- an input that is refused for its text is refused in no other way
+  pub refuses_once : (a b : Refusal) → IsByText b → Refuses words request input a → Refuses words request input b → a ≡ b
+  refuses_once a b by h g = as_once (family_of request) a b by h g

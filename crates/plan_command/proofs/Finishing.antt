@@ -1,152 +1,150 @@
 -- What is due to a scenario with few live prefixes, and to a plan that is accepted or isn't.
-use Rattle.std.proofs.Common.{ℕ, ◌≡◌, List, inl, inr, refl, sym, ap, subst, ◌∙◌}
-use Rattle.search_model.specs.Problem.{Problem}
+use Rattle.std.proofs.Common.{ℕ, ◌≡◌, ◌⊎◌, List, inl, inr, refl, sym, ap, subst, ◌∙◌}
+use Rattle.search_model.specs.Problem.{Problem, IsProblem}
 use Rattle.search_model.specs.Order.{standing_of}
-use Rattle.search_model.specs.Opening.{IsOpening}
 use Rattle.scenario_text.specs.Scenarios.{IsTextOf}
 use Rattle.bound_tree.specs.declared.plan.Plan.{Plan as APlan}
 use Rattle.bound_tree.specs.Accepts.{Accepts}
-use Rattle.opening_path.proofs.OneOpening.{one_opening}
 use Rattle.bound_tree.specs.Close.{HasMoreLive}
-use Rattle.tree_checker.specs.declared.verdict.RejectAt.{RejectAt}
+use Rattle.opening_path.proofs.OneOpening.{one_opening}
 use Rattle.plan_command.specs.declared.request.Request.{Request}
-use Rattle.plan_command.specs.declared.request.Request.TheVariants.{Plan, Check, Report, Make, Drill, Convert}
+use Rattle.plan_command.specs.declared.request.Request.TheVariants.{Plan, Check, Report, Make, Drill, Convert, Gap, Replan, Map, Duo}
 use Rattle.plan_command.specs.declared.status.Status.{Status}
 use Rattle.plan_command.specs.declared.status.Status.TheVariants as statuses
-use Rattle.plan_command.specs.declared.status.Stop.{Stop}
-use Rattle.plan_command.specs.declared.status.Stop.TheVariants as stops
-use Rattle.plan_command.specs.Lines.{status_of}
-use Rattle.plan_command.specs.Commands.{Answers, Refuses, IsTooLarge, IsInput, IsRejected, IsChecked, IsVerdict, NeedsAccepted, LacksAccepted}
-use Rattle.plan_command.specs.Complete.{IsDue, IsFeasible, IsAcceptable, IsRejectable, IsUnlessNoMemory}
+use Rattle.plan_command.specs.declared.status.Refusal.{Refusal}
+use Rattle.plan_command.specs.Words.{Family, of_scenario, of_plan, family_of, names_behind}
+use Rattle.plan_command.specs.Lines.{refused_status}
+use Rattle.plan_command.specs.Plans.{IsTooMany, HasFewLive}
+use Rattle.plan_command.specs.Commands.{IsUnmade, IsInput, TellsPlan, AnswersAs, RefusesAs}
+use Rattle.plan_command.specs.Complete.{IsMakable, IsFeasible, IsAcceptable, IsRejectable, IsUnlessNoMemory, IsDue}
 use Rattle.plan_command.proofs.Apart.{same_scenario}
-use Rattle.plan_command.proofs.Exclusive.{read_or_not, read_alike, answers_or_refuses, accepted_or_lacking, no_front_fault, no_fault_behind}
+use Rattle.plan_command.proofs.OneReason.{flown_isnt_refused}
+use Rattle.plan_command.proofs.Unmade.{why_unplanned, why_unreplanned, why_unmapped, why_unpaired, forces_or_not, pairs_or_not}
+use Rattle.plan_command.proofs.Exclusive.{read_or_not, read_alike, no_front_fault, no_fault_behind, not_rejected, FaultsAlone, faults_alone, FaultsBoth, faults_both}
 
--- a scenario isn't too large where its live prefixes are few
-not_too_large : (p : Problem) (input opening : List ℕ) (limit : ℕ) → IsTextOf p input → IsOpening p opening → (HasMoreLive p (standing_of p opening) limit → ⊥) → IsTooLarge input limit → ⊥
-not_too_large p input opening limit text opens few (q, other, (start, is, more)) =
-    let same_p : q ≡ p = same_scenario q p input other text in
-    let P : Problem → Type 0 = λ r. IsOpening r start × HasMoreLive r (standing_of r start) limit in
-    let here = subst P same_p (is, more) in
-    let only = (one_opening p text.says.sound).2 in
-    let same : start ≡ opening = only start here.0 ∙ sym (only opening opens) in
-    few (subst (λ z. HasMoreLive p (standing_of p z) limit) same here.1)
+-- what is due to a request, by its family
+abbrev DueAs : Family → List (List ℕ) → Request → List ℕ → Status → Type 0
+DueAs family words request input status =
+    ((text : List ℕ) × AnswersAs family words request input status text)
+    ⊎ (((refusal : Refusal) × RefusesAs family words request input refusal × (status ≡ refused_status refusal)) ⊎ (status ≡ statuses.NoMemory))
 
--- the refusals of a plan
-refused_plan : (p : Problem) (input opening : List ℕ) (workers nodes : ℕ) (stop : Stop) → IsTextOf p input → IsOpening p opening → (HasMoreLive p (standing_of p opening) nodes → ⊥) → Refuses (Plan workers nodes) input stop → ⊥
-refused_plan p input opening workers nodes (stops.BadScenario fault) text opens few refuses = read_or_not _ text.front fault text.read refuses
-refused_plan p input opening workers nodes (stops.TooManyNodes limit) text opens few refuses = not_too_large p input opening nodes text opens few refuses.1
-refused_plan p input opening workers nodes (stops.Rejected at) text opens few refuses = refuses
-refused_plan p input opening workers nodes stops.Usage text opens few refuses = refuses
-refused_plan p input opening workers nodes (stops.BadPlan fault) text opens few refuses = refuses
-refused_plan p input opening workers nodes stops.ReadFault text opens few refuses = refuses
-refused_plan p input opening workers nodes stops.WriteFault text opens few refuses = refuses
-refused_plan p input opening workers nodes stops.NoMemory text opens few refuses = refuses
-refused_plan p input opening workers nodes stops.TooLong text opens few refuses = refuses
+-- a problem hasn't few live prefixes and too many
+few_or_many : (p : Problem) (limit : ℕ) → IsProblem p → HasFewLive p limit → IsTooMany p limit → ⊥
+few_or_many p limit sound (opening, opens, few) (start, is, more) =
+    let only = (one_opening p sound).2 in
+    let same : start ≡ opening = only start is ∙ sym (only opening opens) in
+    few (subst (λ z. HasMoreLive p (standing_of p z) limit) same more)
 
--- a plan is written, unless memory runs out
-plan_due : (p : Problem) (input opening : List ℕ) (workers nodes : ℕ) (status : Status) → IsTextOf p input → IsOpening p opening → (HasMoreLive p (standing_of p opening) nodes → ⊥) → IsDue (Plan workers nodes) input status → IsUnlessNoMemory statuses.Done status
-plan_due p input opening workers nodes status text opens few (inl (out, answers)) = inl answers.0
-plan_due p input opening workers nodes status text opens few (inr (inl (stop, refuses, is))) = absurd (refused_plan p input opening workers nodes stop text opens few refuses)
-plan_due p input opening workers nodes status text opens few (inr (inr none)) = inr none
+-- what is makable isn't refused
+makable_or_not : (words : List (List ℕ)) (request : Request) (p : Problem) (refusal : Refusal) → IsProblem p → IsMakable words request p → IsUnmade words request p refusal → ⊥
+makable_or_not words (Plan workers nodes) p refusal sound few unmade = few_or_many p nodes sound few (why_unplanned nodes p refusal unmade).2.1
+makable_or_not words (Gap workers nodes) p refusal sound makable unmade = unmade
+makable_or_not words (Replan workers nodes flown) p refusal sound ((q, forces), few) unmade =
+    elim (why_unreplanned nodes p (names_behind flown words) refusal unmade) [
+      | inl (why, same, bad) ↦ forces_or_not p q (names_behind flown words) why sound forces bad
+      | inr (limit, same, (r, also, (at, many))) ↦ few_or_many r nodes also.0 (few r also) many
+    ]
+makable_or_not words (Map flown) p refusal sound (prefix, is) unmade =
+    let why = why_unmapped p (names_behind flown words) refusal unmade in flown_isnt_refused p (names_behind flown words) prefix why.0 sound is why.2
+makable_or_not words (Duo workers nodes second) p refusal sound ((q, pairs), few) unmade =
+    elim (why_unpaired nodes p second refusal unmade) [
+      | inl (why, same, bad) ↦ pairs_or_not p q second why sound pairs bad
+      | inr (limit, same, (r, also, (at, many))) ↦ few_or_many r nodes also.0 (few r also) many
+    ]
+makable_or_not words Check p refusal sound makable unmade = makable
+makable_or_not words (Report json) p refusal sound makable unmade = makable
+makable_or_not words (Make number) p refusal sound makable unmade = makable
+makable_or_not words (Drill number workers) p refusal sound makable unmade = makable
+makable_or_not words Convert p refusal sound makable unmade = makable
 
-pub feasible_due : (request : Request) (input : List ℕ) (status : Status) → IsFeasible request input → IsDue request input status → IsUnlessNoMemory statuses.Done status
-feasible_due (Plan workers nodes) input status (p, text, (opening, opens, few)) due = plan_due p input opening workers nodes status text opens few due
-feasible_due Check input status feasible due = absurd feasible
-feasible_due (Report json) input status feasible due = absurd feasible
-feasible_due (Make number) input status feasible due = absurd feasible
-feasible_due (Drill number workers) input status feasible due = absurd feasible
-feasible_due Convert input status feasible due = absurd feasible
+-- it is made of a scenario that is read alone
+makable_alone : (words : List (List ℕ)) (request : Request) (p : Problem) → IsMakable words request p → family_of request ≡ of_scenario
+makable_alone words (Plan workers nodes) p makable = refl
+makable_alone words (Gap workers nodes) p makable = refl
+makable_alone words (Replan workers nodes flown) p makable = refl
+makable_alone words (Map flown) p makable = refl
+makable_alone words (Duo workers nodes second) p makable = refl
+makable_alone words Check p makable = absurd makable
+makable_alone words (Report json) p makable = absurd makable
+makable_alone words (Make number) p makable = absurd makable
+makable_alone words (Drill number workers) p makable = absurd makable
+makable_alone words Convert p makable = absurd makable
 
--- the refusals of a check
-refused_check : (p : Problem) (input : List ℕ) (plan : APlan) (stop : Stop) → IsInput input p plan → Refuses Check input stop → ⊥
-refused_check p input plan (stops.BadScenario fault) is refuses = no_front_fault input p plan fault is refuses
-refused_check p input plan (stops.BadPlan fault) is refuses = no_fault_behind input p plan fault is refuses
-refused_check p input plan (stops.Rejected at) is refuses = refuses
-refused_check p input plan stops.Usage is refuses = refuses
-refused_check p input plan (stops.TooManyNodes limit) is refuses = refuses
-refused_check p input plan stops.ReadFault is refuses = refuses
-refused_check p input plan stops.WriteFault is refuses = refuses
-refused_check p input plan stops.NoMemory is refuses = refuses
-refused_check p input plan stops.TooLong is refuses = refuses
+module _ (words : List (List ℕ)) (request : Request) (input : List ℕ) where
+  feasible_or_not : (p : Problem) (refusal : Refusal) → IsTextOf p input → IsMakable words request p → FaultsAlone words request input refusal → ⊥
+  feasible_or_not p refusal is makable (inl (fault, same, bad)) = read_or_not _ is.front fault is.read bad
+  feasible_or_not p refusal is makable (inr (q, other, unmade)) =
+      makable_or_not words request p refusal is.says.sound makable (subst (λ (z : Problem). IsUnmade words request z refusal) (same_scenario q p input other is) unmade)
 
--- where a plan is read, only that it isn't accepted
-lacking_plan : (p : Problem) (input : List ℕ) (plan : APlan) (stop : Stop) → IsInput input p plan → LacksAccepted input stop → (at : RejectAt) × (stop ≡ stops.Rejected at) × IsRejected input at
-lacking_plan p input plan (stops.BadScenario fault) is lacks = absurd (no_front_fault input p plan fault is lacks)
-lacking_plan p input plan (stops.BadPlan fault) is lacks = absurd (no_fault_behind input p plan fault is lacks)
-lacking_plan p input plan (stops.Rejected at) is lacks = (at, refl, lacks)
-lacking_plan p input plan stops.Usage is lacks = absurd lacks
-lacking_plan p input plan (stops.TooManyNodes limit) is lacks = absurd lacks
-lacking_plan p input plan stops.ReadFault is lacks = absurd lacks
-lacking_plan p input plan stops.WriteFault is lacks = absurd lacks
-lacking_plan p input plan stops.NoMemory is lacks = absurd lacks
-lacking_plan p input plan stops.TooLong is lacks = absurd lacks
+  feasible_as : (p : Problem) (status : Status) → IsTextOf p input → IsMakable words request p → DueAs of_scenario words request input status → IsUnlessNoMemory statuses.Done status
+  feasible_as p status is makable (inl (text, (done, answers))) = inl done
+  feasible_as p status is makable (inr (inl (refusal, refuses, same))) = absurd (feasible_or_not p refusal is makable (faults_alone words request input refusal refuses))
+  feasible_as p status is makable (inr (inr none)) = inr none
 
--- what needs an accepted plan answers with the status Done,
-needs_done : (r : Request) (input : List ℕ) (status : Status) (text : List ℕ) → NeedsAccepted r → Answers r input status text → status ≡ statuses.Done
-needs_done (Report json) input status text needs answers = answers.0
-needs_done Convert input status text needs answers = answers.0
-needs_done (Plan workers nodes) input status text needs answers = absurd needs
-needs_done Check input status text needs answers = absurd needs
-needs_done (Make number) input status text needs answers = absurd needs
-needs_done (Drill number workers) input status text needs answers = absurd needs
+  -- what is makable is made, unless memory runs out
+  pub feasible_due : (status : Status) → IsFeasible words request input → IsDue words request input status → IsUnlessNoMemory statuses.Done status
+  feasible_due status (p, is, makable) due =
+      feasible_as p status is makable (subst (λ (f : Family). DueAs f words request input status) (makable_alone words request p makable) due)
 
--- and refuses what lacks one
-needs_lacks : (r : Request) (input : List ℕ) (stop : Stop) → NeedsAccepted r → Refuses r input stop → LacksAccepted input stop
-needs_lacks (Report json) input stop needs refuses = refuses
-needs_lacks Convert input stop needs refuses = refuses
-needs_lacks (Plan workers nodes) input stop needs refuses = absurd needs
-needs_lacks Check input stop needs refuses = absurd needs
-needs_lacks (Make number) input stop needs refuses = absurd needs
-needs_lacks (Drill number workers) input stop needs refuses = absurd needs
+-- of an accepted plan all is told with the status Done, and of another nothing but a verdict
+accepted_done : (request : Request) (p : Problem) (plan : APlan) (status : Status) (text : List ℕ) → Accepts p plan → TellsPlan request p plan status text → status ≡ statuses.Done
+accepted_done Check p plan status text accepts (inl taken) = taken.1
+accepted_done Check p plan status text accepts (inr turned) = absurd (turned.0 accepts)
+accepted_done (Report json) p plan status text accepts tells = tells.0
+accepted_done Convert p plan status text accepts tells = tells.0
+accepted_done (Plan workers nodes) p plan status text accepts tells = absurd tells
+accepted_done (Make number) p plan status text accepts tells = absurd tells
+accepted_done (Drill number workers) p plan status text accepts tells = absurd tells
+accepted_done (Gap workers nodes) p plan status text accepts tells = absurd tells
+accepted_done (Replan workers nodes flown) p plan status text accepts tells = absurd tells
+accepted_done (Map flown) p plan status text accepts tells = absurd tells
+accepted_done (Duo workers nodes second) p plan status text accepts tells = absurd tells
 
-needs_rejects : (r : Request) (input : List ℕ) (at : RejectAt) → NeedsAccepted r → IsRejected input at → Refuses r input (stops.Rejected at)
-needs_rejects (Report json) input at needs rejected = rejected
-needs_rejects Convert input at needs rejected = rejected
-needs_rejects (Plan workers nodes) input at needs rejected = absurd needs
-needs_rejects Check input at needs rejected = absurd needs
-needs_rejects (Make number) input at needs rejected = absurd needs
-needs_rejects (Drill number workers) input at needs rejected = absurd needs
+turned_rejected : (request : Request) (p : Problem) (plan : APlan) (status : Status) (text : List ℕ) → (Accepts p plan → ⊥) → TellsPlan request p plan status text → status ≡ statuses.Rejected
+turned_rejected Check p plan status text turned (inl taken) = absurd (turned taken.0)
+turned_rejected Check p plan status text turned (inr more) = more.1
+turned_rejected (Report json) p plan status text turned tells = absurd (turned tells.1)
+turned_rejected Convert p plan status text turned tells = absurd (turned tells.1)
+turned_rejected (Plan workers nodes) p plan status text turned tells = absurd tells
+turned_rejected (Make number) p plan status text turned tells = absurd tells
+turned_rejected (Drill number workers) p plan status text turned tells = absurd tells
+turned_rejected (Gap workers nodes) p plan status text turned tells = absurd tells
+turned_rejected (Replan workers nodes flown) p plan status text turned tells = absurd tells
+turned_rejected (Map flown) p plan status text turned tells = absurd tells
+turned_rejected (Duo workers nodes second) p plan status text turned tells = absurd tells
 
--- the verdict of an input as that on its plan
-verdict_here : (p : Problem) (input : List ℕ) (plan : APlan) (status : Status) (text : List ℕ) → IsInput input p plan → IsChecked input status text → IsVerdict p plan status text
-verdict_here p input plan status text is (q, other, read, verdict) = read_alike input q p other plan (λ z a. IsVerdict z a status text) read is verdict
+module _ (words : List (List ℕ)) (request : Request) (input : List ℕ) where
+  -- what is told of the plan of an input is told of this reading of it
+  tells_here : (p q : Problem) (plan other : APlan) (status : Status) (text : List ℕ) → IsInput input p plan → IsInput input q other → TellsPlan request q other status text → TellsPlan request p plan status text
+  tells_here p q plan other status text is also tells = read_alike input q p other plan (λ z a. TellsPlan request z a status text) also is tells
 
-accepted_verdict : (p : Problem) (plan : APlan) (status : Status) (text : List ℕ) → Accepts p plan → IsVerdict p plan status text → status ≡ statuses.Done
-accepted_verdict p plan status text accepts (inl taken) = taken.1
-accepted_verdict p plan status text accepts (inr turned) = absurd (turned.0 accepts)
+  accepted_or_not : (p : Problem) (plan : APlan) (refusal : Refusal) → IsInput input p plan → Accepts p plan → FaultsBoth request input refusal → ⊥
+  accepted_or_not p plan refusal is accepts (inl (fault, same, bad)) = no_front_fault input p plan fault is bad
+  accepted_or_not p plan refusal is accepts (inr (inl (fault, same, bad))) = no_fault_behind input p plan fault is bad
+  accepted_or_not p plan refusal is accepts (inr (inr (at, same, needs, rejected))) = not_rejected input p plan at is accepts rejected
 
-rejected_verdict : (p : Problem) (plan : APlan) (status : Status) (text : List ℕ) → (Accepts p plan → ⊥) → IsVerdict p plan status text → status ≡ statuses.Rejected
-rejected_verdict p plan status text turned (inl taken) = absurd (turned taken.0)
-rejected_verdict p plan status text turned (inr more) = more.1
+  accepts_as : (p : Problem) (plan : APlan) (status : Status) → IsInput input p plan → Accepts p plan → DueAs of_plan words request input status → IsUnlessNoMemory statuses.Done status
+  accepts_as p plan status is accepts (inl (text, (q, other, also, tells))) = inl (accepted_done request p plan status text accepts (tells_here p q plan other status text is also tells))
+  accepts_as p plan status is accepts (inr (inl (refusal, refuses, same))) = absurd (accepted_or_not p plan refusal is accepts (faults_both words request input refusal refuses))
+  accepts_as p plan status is accepts (inr (inr none)) = inr none
 
--- an accepted plan is accepted, unless memory runs out
-pub check_due : (p : Problem) (input : List ℕ) (plan : APlan) (status : Status) → IsInput input p plan → Accepts p plan → IsDue Check input status → IsUnlessNoMemory statuses.Done status
-check_due p input plan status is accepts (inl (out, checked)) = inl (accepted_verdict p plan status out accepts (verdict_here p input plan status out is checked))
-check_due p input plan status is accepts (inr (inl (stop, refuses, same))) = absurd (refused_check p input plan stop is refuses)
-check_due p input plan status is accepts (inr (inr none)) = inr none
+  -- an accepted plan is told to be, reported, or written anew, unless memory runs out
+  pub accepted_due : (p : Problem) (plan : APlan) (status : Status) → family_of request ≡ of_plan → IsInput input p plan → Accepts p plan → IsDue words request input status → IsUnlessNoMemory statuses.Done status
+  accepted_due p plan status judges is accepts due = accepts_as p plan status is accepts (subst (λ (f : Family). DueAs f words request input status) judges due)
 
--- and reported, or written anew
-needs_due : (r : Request) (p : Problem) (input : List ℕ) (plan : APlan) (status : Status) → NeedsAccepted r → IsInput input p plan → Accepts p plan → IsDue r input status → IsUnlessNoMemory statuses.Done status
-needs_due r p input plan status needs is accepts (inl (out, answers)) = inl (needs_done r input status out needs answers)
-needs_due r p input plan status needs is accepts (inr (inl (stop, refuses, same))) = absurd (accepted_or_lacking input p plan stop is accepts (needs_lacks r input stop needs refuses))
-needs_due r p input plan status needs is accepts (inr (inr none)) = inr none
+  pub judge_accepts : (status : Status) → IsAcceptable request input → IsDue words request input status → IsUnlessNoMemory statuses.Done status
+  judge_accepts status (judges, (p, plan, is, accepts)) due = accepted_due p plan status judges is accepts due
 
-pub judge_accepts : (request : Request) (input : List ℕ) (status : Status) → IsAcceptable request input → IsDue request input status → IsUnlessNoMemory statuses.Done status
-judge_accepts request input status (inl check, (p, plan, is, accepts)) due = check_due p input plan status is accepts (subst (λ r. IsDue r input status) check due)
-judge_accepts request input status (inr needs, (p, plan, is, accepts)) due = needs_due request p input plan status needs is accepts due
+  -- a plan that isn't accepted is refused for that alone
+  turned_or_not : (p : Problem) (plan : APlan) (status : Status) (refusal : Refusal) → IsInput input p plan → status ≡ refused_status refusal → FaultsBoth request input refusal → status ≡ statuses.Rejected
+  turned_or_not p plan status refusal is told (inl (fault, same, bad)) = absurd (no_front_fault input p plan fault is bad)
+  turned_or_not p plan status refusal is told (inr (inl (fault, same, bad))) = absurd (no_fault_behind input p plan fault is bad)
+  turned_or_not p plan status refusal is told (inr (inr (at, same, needs, rejected))) = told ∙ ap refused_status same
 
--- a plan that isn't accepted is rejected, unless memory runs out
-check_rejects : (input : List ℕ) (at : RejectAt) (status : Status) → IsRejected input at → IsDue Check input status → IsUnlessNoMemory statuses.Rejected status
-check_rejects input at status (p, plan, is, turned, reason) (inl (out, checked)) = inl (rejected_verdict p plan status out turned (verdict_here p input plan status out is checked))
-check_rejects input at status (p, plan, is, turned, reason) (inr (inl (stop, refuses, same))) = absurd (refused_check p input plan stop is refuses)
-check_rejects input at status rejected (inr (inr none)) = inr none
+  rejects_as : (p : Problem) (plan : APlan) (status : Status) → IsInput input p plan → (Accepts p plan → ⊥) → DueAs of_plan words request input status → IsUnlessNoMemory statuses.Rejected status
+  rejects_as p plan status is turned (inl (text, (q, other, also, tells))) = inl (turned_rejected request p plan status text turned (tells_here p q plan other status text is also tells))
+  rejects_as p plan status is turned (inr (inl (refusal, refuses, same))) = inl (turned_or_not p plan status refusal is same (faults_both words request input refusal refuses))
+  rejects_as p plan status is turned (inr (inr none)) = inr none
 
-needs_turned : (r : Request) (input : List ℕ) (at : RejectAt) (status : Status) → NeedsAccepted r → IsRejected input at → IsDue r input status → IsUnlessNoMemory statuses.Rejected status
-needs_turned r input at status needs rejected (inl (out, answers)) = absurd (answers_or_refuses r input status out (stops.Rejected at) tt answers (needs_rejects r input at needs rejected))
-needs_turned r input at status needs (p, plan, is, turns, reason) (inr (inl (stop, refuses, same))) =
-    let turned = lacking_plan p input plan stop is (needs_lacks r input stop needs refuses) in inl (same ∙ ap status_of turned.1)
-needs_turned r input at status needs rejected (inr (inr none)) = inr none
-
-pub judge_rejects : (request : Request) (input : List ℕ) (status : Status) → IsRejectable request input → IsDue request input status → IsUnlessNoMemory statuses.Rejected status
-judge_rejects request input status (inl check, (at, rejected)) due = check_rejects input at status rejected (subst (λ r. IsDue r input status) check due)
-judge_rejects request input status (inr needs, (at, rejected)) due = needs_turned request input at status needs rejected due
+  pub judge_rejects : (status : Status) → IsRejectable request input → IsDue words request input status → IsUnlessNoMemory statuses.Rejected status
+  judge_rejects status (judges, (at, (p, plan, is, turned, reason))) due = rejects_as p plan status is turned (subst (λ (f : Family). DueAs f words request input status) judges due)

@@ -1,9 +1,11 @@
 -- What is made of an input that is read.
-use Rattle.std.proofs.Common.{ℕ, ◌≡◌, ◌+◌, Bool, List, [], Result, Ok, Err, Some, inl, inr, refl, sym, subst, ◌⊎◌}
+use Rattle.std.proofs.Common.{ℕ, ◌≡◌, ◌+◌, List, [], Result, Ok, Err, Some, inl, inr, refl, sym, subst, ◌⊎◌}
 use Rattle.std.specs.Prelude.{IsErrOf, IfOk, IfErr, OnErr}
 use Rattle.std.specs.Io.KnownBytes.{Appends}
 use Rattle.std.specs.declared.option.Option.{Option}
 use Rattle.byte_ports.specs.declared.ports.Failed.{Failed}
+use Rattle.tree_format.specs.declared.plan_line.Family.{Family}
+use Rattle.tree_format.specs.declared.plan_line.Family.TheVariants.{Plans, Gaps}
 use Rattle.byte_ports.specs.declared.pieces.InputStop.{InputStop}
 use Rattle.byte_ports.specs.declared.pieces.InputStop.TheVariants.{Fault, TooLong}
 use Rattle.byte_ports.specs.Causes.{Rose, CountsRefusal}
@@ -12,68 +14,36 @@ use Rattle.plan_command.specs.declared.answer.Answer.{Answer}
 use Rattle.plan_command.specs.declared.intake.Intake.{Intake}
 use Rattle.plan_command.specs.declared.intake.Judgement.{Judgement}
 use Rattle.plan_command.specs.declared.request.Request.{Request}
-use Rattle.plan_command.specs.declared.request.Request.TheVariants.{Plan, Check, Report, Make, Drill, Convert}
+use Rattle.plan_command.specs.declared.request.Request.TheVariants.{Plan, Check, Report, Make, Drill, Convert, Gap, Replan, Map, Duo}
 use Rattle.plan_command.specs.declared.status.Status.{Status}
 use Rattle.plan_command.specs.declared.status.Stop.{Stop}
 use Rattle.plan_command.specs.declared.status.Stop.TheVariants as stops
-use Rattle.plan_command.specs.Words.{Spells, limit_of}
+use Rattle.plan_command.specs.declared.status.Refusal.{Refusal}
+use Rattle.plan_command.specs.declared.status.Refusal.TheVariants as refusals
+use Rattle.plan_command.specs.Words.{Spells, of_plan, family_of, limit_of}
 use Rattle.plan_command.specs.Inputs.{Source, source_view, Reads, ReadsAnd, HasFailed, IsOverLong}
 use Rattle.plan_command.specs.Commands.{Answers, Refuses}
 use Rattle.plan_command.specs.Makes.{MakesOf, IsAsked}
 use Rattle.plan_command.specs.Intakes.{Judges, HasTaken}
+use Rattle.plan_command.specs.Checks.{ChecksGap}
+use Rattle.plan_command.proofs.WordLimits.{plan_asked, drill_asked, gap_asked, replan_asked, replan_names, map_names, duo_asked}
 use Rattle.plan_command.specs.Run.{Shown, Call, CutOff, Ends, stopped, ending_of}
 
--- No request refuses its input for these.
-no_usage : (request : Request) (input : List ℕ) → Refuses request input stops.Usage → ⊥
-no_usage (Plan workers nodes) input refuses = refuses
-no_usage Check input refuses = refuses
-no_usage (Report json) input refuses = refuses
-no_usage (Make number) input refuses = refuses
-no_usage (Drill number workers) input refuses = refuses
-no_usage Convert input refuses = refuses
-
-no_read_fault : (request : Request) (input : List ℕ) → Refuses request input stops.ReadFault → ⊥
-no_read_fault (Plan workers nodes) input refuses = refuses
-no_read_fault Check input refuses = refuses
-no_read_fault (Report json) input refuses = refuses
-no_read_fault (Make number) input refuses = refuses
-no_read_fault (Drill number workers) input refuses = refuses
-no_read_fault Convert input refuses = refuses
-
-no_write_fault : (request : Request) (input : List ℕ) → Refuses request input stops.WriteFault → ⊥
-no_write_fault (Plan workers nodes) input refuses = refuses
-no_write_fault Check input refuses = refuses
-no_write_fault (Report json) input refuses = refuses
-no_write_fault (Make number) input refuses = refuses
-no_write_fault (Drill number workers) input refuses = refuses
-no_write_fault Convert input refuses = refuses
-
-never_too_long : (request : Request) (input : List ℕ) → Refuses request input stops.TooLong → ⊥
-never_too_long (Plan workers nodes) input refuses = refuses
-never_too_long Check input refuses = refuses
-never_too_long (Report json) input refuses = refuses
-never_too_long (Make number) input refuses = refuses
-never_too_long (Drill number workers) input refuses = refuses
-never_too_long Convert input refuses = refuses
-
 -- what a request makes of the input that was read
-pub made_read : (request : Request) (limits : Option ℕ) (before after : Source) (input : List ℕ) (made : Result Answer Stop) → Reads limits before after input → MakesOf request input made → ReadsAnd limits before after (MakesOf request) made
-made_read request limits before after input (Ok answer) read makes = (input, read, makes)
-made_read request limits before after input (Err (stops.Rejected at)) read makes = (input, read, makes)
-made_read request limits before after input (Err stops.Usage) read makes = (input, read, makes)
-made_read request limits before after input (Err (stops.BadScenario fault)) read makes = (input, read, makes)
-made_read request limits before after input (Err (stops.BadPlan fault)) read makes = (input, read, makes)
-made_read request limits before after input (Err stops.ReadFault) read makes = absurd (no_read_fault request input makes)
-made_read request limits before after input (Err stops.WriteFault) read makes = (input, read, makes)
-made_read request limits before after input (Err stops.NoMemory) read makes = tt
-made_read request limits before after input (Err (stops.TooManyNodes limit)) read makes = (input, read, makes)
-made_read request limits before after input (Err stops.TooLong) read makes = absurd (never_too_long request input makes)
+pub made_read : (words : List (List ℕ)) (request : Request) (limits : Option ℕ) (before after : Source) (input : List ℕ) (made : Result Answer Stop) → Reads limits before after input → MakesOf words request input made → ReadsAnd limits before after (MakesOf words request) made
+made_read words request limits before after input (Ok answer) read makes = (input, read, makes)
+made_read words request limits before after input (Err (stops.Refused refusal)) read makes = (input, read, makes)
+made_read words request limits before after input (Err stops.NoMemory) read makes = tt
+made_read words request limits before after input (Err stops.Usage) read makes = absurd makes
+made_read words request limits before after input (Err stops.ReadFault) read makes = absurd makes
+made_read words request limits before after input (Err stops.TooLong) read makes = absurd makes
+made_read words request limits before after input (Err stops.WriteFault) read makes = absurd makes
 
 -- what is judged of the bytes that an intake was handed
-pub judged_read : {S : Type 0} (Left : S → Option (List ℕ)) (Faults : S → ℕ) (Gives : S → List ℕ → Result ℕ Failed → S → Type 0) (limit : ℕ) (source source' : S) (old new : Intake) (judged : Result Judgement Stop) →
-    HandsOn Left Gives HasTaken limit source source' old new → HasTaken [] old → ((input : List ℕ) → HasTaken input new → Judges input judged) →
-    ReadsAnd (Some limit) (source_view Left Faults source) (source_view Left Faults source') Judges judged
-judged_read Left Faults Gives limit source source' old new judged hands none says = told judged (says hands.bytes (hands.received [] none))
+pub judged_read : (family : Family) {S : Type 0} (Left : S → Option (List ℕ)) (Faults : S → ℕ) (Gives : S → List ℕ → Result ℕ Failed → S → Type 0) (limit : ℕ) (source source' : S) (old new : Intake) (judged : Result Judgement Stop) →
+    HandsOn Left Gives HasTaken limit source source' old new → HasTaken family [] old → ((input : List ℕ) → HasTaken family input new → Judges family input judged) →
+    ReadsAnd (Some limit) (source_view Left Faults source) (source_view Left Faults source') (Judges family) judged
+judged_read family Left Faults Gives limit source source' old new judged hands none says = told judged (says hands.bytes (hands.received family [] none))
   where
     before : Source
     before = source_view Left Faults source
@@ -84,17 +54,14 @@ judged_read Left Faults Gives limit source source' old new judged hands none say
     read : Reads (Some limit) before after hands.bytes
     read = record { taken = hands.taken; ended = hands.ended; short = hands.short }
 
-    told : (judged : Result Judgement Stop) → Judges hands.bytes judged → ReadsAnd (Some limit) before after Judges judged
+    told : (judged : Result Judgement Stop) → Judges family hands.bytes judged → ReadsAnd (Some limit) before after (Judges family) judged
     told (Ok judgement) is = (hands.bytes, read, is)
-    told (Err (stops.Rejected at)) is = absurd is
-    told (Err stops.Usage) is = absurd is
-    told (Err (stops.BadScenario fault)) is = (hands.bytes, read, is)
-    told (Err (stops.BadPlan fault)) is = (hands.bytes, read, is)
-    told (Err stops.ReadFault) is = absurd is
-    told (Err stops.WriteFault) is = absurd is
+    told (Err (stops.Refused refusal)) is = (hands.bytes, read, is)
     told (Err stops.NoMemory) is = tt
-    told (Err (stops.TooManyNodes limit)) is = absurd is
+    told (Err stops.Usage) is = absurd is
+    told (Err stops.ReadFault) is = absurd is
     told (Err stops.TooLong) is = absurd is
+    told (Err stops.WriteFault) is = absurd is
 
 -- and why they weren't read to their end
 pub stop_read : {T V : Type 0} (limit : ℕ) (before after : Source) (Makes : List ℕ → Result V Stop → Type 0) (stop : InputStop) (said : Stop) →
@@ -111,65 +78,76 @@ stop_read limit before after Makes TooLong said fault long over most cause =
     subst (λ (s : Stop). ReadsAnd (Some limit) before after Makes (Err s)) (sym (long refl)) past
 
 -- and why there is no judgement
-pub check_stopped : (limits : Option ℕ) (before after : Source) (stop : Stop) → ReadsAnd limits before after Judges (Err stop) → ReadsAnd limits before after (MakesOf Check) (Err stop)
-check_stopped limits before after (stops.Rejected at) read = read
-check_stopped limits before after stops.Usage read = read
-check_stopped limits before after (stops.BadScenario fault) read = read
-check_stopped limits before after (stops.BadPlan fault) read = read
-check_stopped limits before after stops.ReadFault read = read
-check_stopped limits before after stops.WriteFault read = read
-check_stopped limits before after stops.NoMemory read = tt
-check_stopped limits before after (stops.TooManyNodes limit) read = read
-check_stopped limits before after stops.TooLong read = read
+lacks_refuses : (words : List (List ℕ)) (request : Request) (input : List ℕ) (refusal : Refusal) → family_of request ≡ of_plan → Judges Plans input (Err (stops.Refused refusal)) → Refuses words request input refusal
+lacks_refuses words request input (refusals.BadScenario fault) judges lacks = rw judges lacks
+lacks_refuses words request input (refusals.BadPlan fault) judges lacks = rw judges lacks
+lacks_refuses words request input (refusals.Rejected at) judges lacks = absurd lacks
+lacks_refuses words request input (refusals.BadFlown why) judges lacks = absurd lacks
+lacks_refuses words request input (refusals.BadDuo why) judges lacks = absurd lacks
+lacks_refuses words request input (refusals.TooManyNodes limit) judges lacks = absurd lacks
 
-pub report_stopped : (json : Bool) (limits : Option ℕ) (before after : Source) (stop : Stop) → ReadsAnd limits before after Judges (Err stop) → ReadsAnd limits before after (MakesOf (Report json)) (Err stop)
-report_stopped json limits before after (stops.Rejected at) (input, read, is) = absurd is
-report_stopped json limits before after stops.Usage read = read
-report_stopped json limits before after (stops.BadScenario fault) read = read
-report_stopped json limits before after (stops.BadPlan fault) read = read
-report_stopped json limits before after stops.ReadFault read = read
-report_stopped json limits before after stops.WriteFault read = read
-report_stopped json limits before after stops.NoMemory read = tt
-report_stopped json limits before after (stops.TooManyNodes limit) read = read
-report_stopped json limits before after stops.TooLong read = read
-
--- how a run ends that makes nothing
-pub ends_stopped : (words : List (List ℕ)) (request : Request) (before after : Shown) (stop : Stop) → Spells words request → ReadsAnd (limit_of request) before.source after.source (MakesOf request) (Err stop) → after.wrote ≡ before.wrote → Ends (record { words = words; before = before; after = after }) (stopped stop)
-ends_stopped words request before after (stops.Rejected at) spelled (input, read, refuses) same = (request, spelled, record { input = input; read = read; refuses = refuses; unwritten = same })
-ends_stopped words request before after stops.Usage spelled (input, read, refuses) same = absurd (no_usage request input refuses)
-ends_stopped words request before after (stops.BadScenario fault) spelled (input, read, refuses) same = (request, spelled, record { input = input; read = read; refuses = refuses; unwritten = same })
-ends_stopped words request before after (stops.BadPlan fault) spelled (input, read, refuses) same = (request, spelled, record { input = input; read = read; refuses = refuses; unwritten = same })
-ends_stopped words request before after stops.ReadFault spelled failed same = (request, spelled, (failed, same))
-ends_stopped words request before after stops.WriteFault spelled (input, read, refuses) same = absurd (no_write_fault request input refuses)
-ends_stopped words request before after stops.NoMemory spelled read same = (request, spelled, inl same)
-ends_stopped words request before after (stops.TooManyNodes limit) spelled (input, read, refuses) same = (request, spelled, record { input = input; read = read; refuses = refuses; unwritten = same })
-ends_stopped words request before after stops.TooLong spelled long same = (request, spelled, (long, same))
-
--- and it isn't for its words
-pub stopped_unused : (request : Request) (before after : Source) (stop : Stop) → stop ≡ stops.Usage → ReadsAnd (limit_of request) before after (MakesOf request) (Err stop) → ⊥
-stopped_unused request before after stop same read =
-    let here : ReadsAnd (limit_of request) before after (MakesOf request) (Err stops.Usage) = subst (λ (s : Stop). ReadsAnd (limit_of request) before after (MakesOf request) (Err s)) same read in
-    no_usage request here.0 here.2
+pub judge_stopped : (words : List (List ℕ)) (request : Request) (limits : Option ℕ) (before after : Source) (stop : Stop) → family_of request ≡ of_plan → ReadsAnd limits before after (Judges Plans) (Err stop) → ReadsAnd limits before after (MakesOf words request) (Err stop)
+judge_stopped words request limits before after (stops.Refused refusal) judges (input, read, lacks) = (input, read, lacks_refuses words request input refusal judges lacks)
+judge_stopped words request limits before after stops.NoMemory judges read = tt
+judge_stopped words request limits before after stops.ReadFault judges read = read
+judge_stopped words request limits before after stops.TooLong judges read = read
+judge_stopped words request limits before after stops.Usage judges read = absurd read
+judge_stopped words request limits before after stops.WriteFault judges read = absurd read
 
 -- what is answered to a judgement
-pub check_answered : (limits : Option ℕ) (before after : Source) (judged : Judgement) (made : Result Answer Stop) → ReadsAnd limits before after Judges (Ok judged) → ((input : List ℕ) → Judges input (Ok judged) → MakesOf Check input made) → ReadsAnd limits before after (MakesOf Check) made
-check_answered limits before after judged made (input, read, is) makes = made_read Check limits before after input made read (makes input is)
+pub judge_answered : (words : List (List ℕ)) (request : Request) (limits : Option ℕ) (before after : Source) (judged : Judgement) (made : Result Answer Stop) → ReadsAnd limits before after (Judges Plans) (Ok judged) → ((input : List ℕ) → Judges Plans input (Ok judged) → MakesOf words request input made) → ReadsAnd limits before after (MakesOf words request) made
+judge_answered words request limits before after judged made (input, read, is) makes = made_read words request limits before after input made read (makes input is)
 
-pub report_answered : (json : Bool) (limits : Option ℕ) (before after : Source) (judged : Judgement) (made : Result Answer Stop) → ReadsAnd limits before after Judges (Ok judged) → ((input : List ℕ) → Judges input (Ok judged) → MakesOf (Report json) input made) → ReadsAnd limits before after (MakesOf (Report json)) made
-report_answered json limits before after judged made (input, read, is) makes = made_read (Report json) limits before after input made read (makes input is)
+-- the same of a gap plan
+pub gap_stopped : (limits : Option ℕ) (before after : Source) (stop : Stop) → ReadsAnd limits before after (Judges Gaps) (Err stop) → ReadsAnd limits before after ChecksGap (Err stop)
+gap_stopped limits before after (stops.Refused refusal) read = read
+gap_stopped limits before after stops.NoMemory read = tt
+gap_stopped limits before after stops.ReadFault read = read
+gap_stopped limits before after stops.TooLong read = read
+gap_stopped limits before after stops.Usage read = absurd read
+gap_stopped limits before after stops.WriteFault read = absurd read
+
+gap_read : (limits : Option ℕ) (before after : Source) (input : List ℕ) (made : Result Answer Stop) → Reads limits before after input → ChecksGap input made → ReadsAnd limits before after ChecksGap made
+gap_read limits before after input (Ok answer) read makes = (input, read, makes)
+gap_read limits before after input (Err (stops.Refused refusal)) read makes = (input, read, makes)
+gap_read limits before after input (Err stops.NoMemory) read makes = tt
+gap_read limits before after input (Err stops.Usage) read makes = absurd makes
+gap_read limits before after input (Err stops.ReadFault) read makes = absurd makes
+gap_read limits before after input (Err stops.TooLong) read makes = absurd makes
+gap_read limits before after input (Err stops.WriteFault) read makes = absurd makes
+
+pub gap_answered : (limits : Option ℕ) (before after : Source) (judged : Judgement) (made : Result Answer Stop) → ReadsAnd limits before after (Judges Gaps) (Ok judged) → ((input : List ℕ) → Judges Gaps input (Ok judged) → ChecksGap input made) → ReadsAnd limits before after ChecksGap made
+gap_answered limits before after judged made (input, read, is) makes = gap_read limits before after input made read (makes input is)
+
+-- how a run ends that makes nothing
+pub ends_stopped : (words : List (List ℕ)) (request : Request) (before after : Shown) (stop : Stop) → Spells words request → ReadsAnd (limit_of request) before.source after.source (MakesOf words request) (Err stop) → after.wrote ≡ before.wrote → Ends (record { words = words; before = before; after = after }) (stopped stop)
+ends_stopped words request before after (stops.Refused refusal) spelled (input, read, refuses) same = (request, spelled, record { input = input; read = read; refuses = refuses; unwritten = same })
+ends_stopped words request before after stops.ReadFault spelled failed same = (request, spelled, (failed, same))
+ends_stopped words request before after stops.TooLong spelled long same = (request, spelled, (long, same))
+ends_stopped words request before after stops.NoMemory spelled read same = (request, spelled, inl same)
+ends_stopped words request before after stops.Usage spelled none same = absurd none
+ends_stopped words request before after stops.WriteFault spelled none same = absurd none
+
+-- and it isn't for its words
+pub stopped_unused : (words : List (List ℕ)) (request : Request) (before after : Source) (stop : Stop) → stop ≡ stops.Usage → ReadsAnd (limit_of request) before after (MakesOf words request) (Err stop) → ⊥
+stopped_unused words request before after stop same read = subst (λ (s : Stop). ReadsAnd (limit_of request) before after (MakesOf words request) (Err s)) same read
 
 -- the numbers of a request that words spell are within their limits
-pub spelled_asked : (words : List (List ℕ)) (request : Request) → Spells words request → IsAsked request
-spelled_asked words (Plan workers nodes) spelled = (spelled.0, spelled.1)
+pub spelled_asked : (words : List (List ℕ)) (request : Request) → Spells words request → IsAsked words request
+spelled_asked words (Plan workers nodes) spelled = plan_asked words workers nodes spelled
 spelled_asked words Check spelled = tt
 spelled_asked words (Report json) spelled = tt
 spelled_asked words (Make number) spelled = spelled.0
-spelled_asked words (Drill number workers) spelled = (spelled.0, spelled.1)
+spelled_asked words (Drill number workers) spelled = drill_asked words number workers spelled
 spelled_asked words Convert spelled = tt
+spelled_asked words (Gap workers nodes) spelled = gap_asked words workers nodes spelled
+spelled_asked words (Replan workers nodes flown) spelled = (replan_asked words workers nodes flown spelled, replan_names words workers nodes flown spelled)
+spelled_asked words (Map flown) spelled = map_names words flown spelled
+spelled_asked words (Duo workers nodes second) spelled = duo_asked words workers nodes second spelled
 
 -- how a run ends that made an answer and wrote it, or a front of it
 pub ends_served : (words : List (List ℕ)) (request : Request) (before after : Shown) (answer : Answer) (result : Result Status Stop) → Spells words request →
-    ReadsAnd (limit_of request) before.source after.source (MakesOf request) (Ok answer) →
+    ReadsAnd (limit_of request) before.source after.source (MakesOf words request) (Ok answer) →
     IfOk result (λ status. (status ≡ answer.status) × Appends before.wrote after.wrote answer.text.items) →
     OnErr result (AppendsPrefix before.wrote after.wrote answer.text.items) →
     IfErr result (λ stop. ((stop ≡ stops.WriteFault) × Rose before.write_faults after.write_faults) ⊎ (stop ≡ stops.NoMemory)) →
@@ -181,13 +159,13 @@ ends_served words request before after answer (Ok status) spelled (input, read, 
     input = input;
     text = answer.text.items;
     read = read;
-    answers = subst (λ (s : Status). Answers request input s answer.text.items) (sym same) answers;
+    answers = subst (λ (s : Status). Answers words request input s answer.text.items) (sym same) answers;
     written = written;
   },
 )
 ends_served words request before after answer (Err stop) spelled (input, read, answers) whole front cause = told cause
   where
-    cut : CutOff request before after
+    cut : CutOff words request before after
     cut = record { input = input; text = answer.text.items; status = answer.status; read = read; answers = answers; written = front }
 
     here : Call

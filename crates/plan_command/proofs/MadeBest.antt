@@ -1,5 +1,6 @@
--- What is planned of a scenario that is made is the best of the scenario that it is made of, and is accepted.
-use Rattle.std.proofs.Common.{◌≤◌, [], ◌++◌, length, inr, refl, sym, subst, ◌∙◌}
+-- What is planned of a scenario that is made is the best of the scenario that it is made of, is accepted, and isn't too long
+-- for a check.
+use Rattle.std.proofs.Common.{◌≤◌, ◌≡◌, [], ◌++◌, length, inr, refl, sym, ap, arith, subst, ◌∙◌, length-append}
 use Rattle.std.proofs.Math.Seq.{drop-append_seam}
 use Rattle.scenario_text.specs.Canonical.{canonical_text}
 use Rattle.scenario_text.proofs.Back.{canonical_front_reads_back}
@@ -9,9 +10,12 @@ use Rattle.residual_plan.proofs.Carried.{forced_best}
 use Rattle.duo_search.specs.Product.{pair_value}
 use Rattle.duo_search.proofs.PairPaths.{paths_are_pairs}
 use Rattle.duo_search.proofs.Values.{pair_is_value, no_pair_finds_more}
+use Rattle.plan_command.specs.declared.request.TheConstants.{MOST_JUDGED}
 use Rattle.plan_command.specs.Plans.{BeginsWith, IsPlanRest}
 use Rattle.plan_command.specs.Commands.{IsInput}
-use Rattle.plan_command.specs.MadeLaws.{ReplannedIsBest, PairedIsBest, MadeIsAccepted}
+use Rattle.plan_command.specs.MadeLaws.{ReplannedIsBest, PairedIsBest, MadeIsAccepted, MadeIsWithin}
+use Rattle.plan_command.proofs.PlanSizes.{plan_text_fits}
+use Rattle.plan_command.proofs.ScenarioSizes.{canonical_text_fits}
 
 pub replanned_is_best : ReplannedIsBest
 replanned_is_best p q flown plan sound made legal forced certified = forced_best p q flown plan.standing.path sound made legal forced certified.best
@@ -34,3 +38,10 @@ made_is_accepted q nodes text sound (rest, (plan, certified, few, spelled), whol
     let begins : BeginsWith r (canonical_text q ++ rest) rest = record { bytes = length (canonical_text q); front = front; follows = sym (drop-append_seam (canonical_text q) rest) } in
     let behind : IsPlanRest r rest plan = record { blanks = []; only = refl; text = rest; spelled = same_search_same_texts q r plan rest same (inr spelled); whole = refl } in
     (r, plan, same, subst (λ both. IsInput both r plan) (sym whole) (rest, begins, behind), accepts_same q r plan sound same certified.accepted)
+
+pub made_is_within : MadeIsWithin
+made_is_within q nodes text sound (rest, (plan, certified, few, spelled), whole) =
+    let scenario = canonical_text_fits q sound in
+    let records = plan_text_fits q sound plan rest spelled in
+    let judged : MOST_JUDGED ≡ 336592896 = refl in
+    (MOST_JUDGED, refl, omega (arith, ap length whole, length-append (canonical_text q) rest, scenario, records, spelled.printable.few, judged))

@@ -1,5 +1,5 @@
 -- A prefix that is forced, and a product that is made, isn't refused; and there is one reason where one is.
-use Rattle.std.proofs.Common.{ℕ, ◌≡◌, ◌+◌, ◌*◌, ◌<◌, ◌≤◌, List, [], ◌∷◌, ◌++◌, map, length, take, ◌⊎◌, Some, inl, inr, refl, sym, ap, ◌∙◌, subst, arith, All, Contains, length-append}
+use Rattle.std.proofs.Common.{ℕ, ◌≡◌, ◌+◌, ◌*◌, ◌<◌, ◌≤◌, List, [], ◌∷◌, ◌++◌, map, length, take, ◌⊎◌, Some, inl, inr, refl, sym, ap, ◌∙◌, subst, arith, Contains, length-append}
 use Rattle.std.proofs.Math.Nat.{mul-le-mul}
 use Rattle.std.proofs.Math.Seq.{take-append-add}
 use Rattle.std.proofs.lemmas.List.{length-map, get_or-append-add}

@@ -1,171 +1,237 @@
--- What endings say of each request's answers, and of a write that failed.
-use Rattle.std.proofs.Common.{ℕ, ◌≡◌, List, Option, Result, Ok, Err, Some, None, refl, sym, ap, ◌∙◌, inl, inr, subst}
+-- What a run has done that ended with a status.
+use Rattle.std.proofs.Common.{ℕ, ◌≡◌, List, refl, sym, ap, inl, inr, subst, ◌⊎◌}
 use Rattle.std.specs.Prelude.{codes}
 use Rattle.byte_ports.specs.Causes.{Rose}
 use Rattle.search_model.specs.Problem.{Problem}
+use Rattle.scenario_text.specs.declared.kind.TextFault.{TextFault}
 use Rattle.bound_tree.specs.declared.plan.Plan.{Plan as APlan}
 use Rattle.bound_tree.specs.Accepts.{Accepts}
 use Rattle.bound_tree.proofs.Accepted.{accepted_plan_is_best}
+use Rattle.tree_format.specs.declared.kind.PlanFault.{PlanFault}
 use Rattle.tree_checker.specs.declared.verdict.RejectAt.{RejectAt}
+use Rattle.plan_command.specs.declared.flown.FlownWhy.{FlownWhy}
+use Rattle.plan_command.specs.declared.pairing.DuoWhy.{DuoWhy}
 use Rattle.plan_command.specs.declared.request.Request.{Request}
-use Rattle.plan_command.specs.declared.request.Request.TheVariants.{Plan, Check, Report, Make, Drill, Convert}
+use Rattle.plan_command.specs.declared.request.Request.TheVariants.{Plan, Check, Report, Make, Drill, Convert, Gap, Replan, Map, Duo}
 use Rattle.plan_command.specs.declared.status.Status.{Status}
 use Rattle.plan_command.specs.declared.status.Status.TheVariants as statuses
-use Rattle.plan_command.specs.declared.status.Stop.{Stop}
+use Rattle.plan_command.specs.declared.status.Refusal.{Refusal}
+use Rattle.plan_command.specs.declared.status.Refusal.TheVariants as refusals
 use Rattle.plan_command.specs.declared.status.Stop.TheVariants as stops
-use Rattle.plan_command.specs.Words.{Spells, limit_of}
-use Rattle.plan_command.specs.Lines.{status_of, rejection_of}
-use Rattle.plan_command.specs.Inputs.{Source}
-use Rattle.plan_command.specs.Commands.{IsInput, IsRejected, IsVerdict, Refuses}
-use Rattle.plan_command.specs.Run.{Call, Delivered, Refused, CutOff, Ends, delivered, stopped, ending_of, status_at}
-use Rattle.plan_command.specs.Promises.{ReadsAll, Writes, Plans, ReadsBest, Affirms, Reports, Converts, Rejects, Makes, Drills}
-use Rattle.plan_command.specs.Complete.{IsUnlessNoMemory}
+use Rattle.plan_command.specs.Words.{Family, of_scenario, of_plan, of_nothing, family_of, limit_at, Spells, SpellNone}
+use Rattle.plan_command.specs.Inputs.{Source, Reads}
+use Rattle.plan_command.specs.Commands.{IsInput, IsVerdict, TellsPlan, AnswersAs, RefusesAs}
+use Rattle.plan_command.specs.Run.{Call, Delivered, Refused, Ending, delivered, stopped, Ends, status_at, IsRefusal, IsCutOff}
+use Rattle.plan_command.specs.Promises.{ReadsAll, Writes, WritesNothing, Plans, Gaps, Replans, Maps, FindsMost, Pairs, ReadsBest, Affirms, Reports, Converts, Rejects, Makes, Drills, TakesTooMuch, FailsToRead, Keeps}
+use Rattle.plan_command.proofs.MadeBest.{replanned_is_best, paired_is_best}
+use Rattle.plan_command.proofs.Unmade.{never_rejected}
 use Rattle.plan_command.proofs.WordForms.{spelled_once}
-use Rattle.plan_command.proofs.Exclusive.{made_refuses, drilled_refuses}
 
--- a verdict with the status Done accepts
-done_or_rejected : statuses.Done ≡ statuses.Rejected → ⊥
-done_or_rejected e = cc
+-- what a run has done that ended with this status
+abbrev ByStatus : Call → Status → Type 0
+ByStatus c statuses.Done = (r : Request) × Spells c.words r × Delivered c.words r c.before c.after statuses.Done
+ByStatus c statuses.Rejected =
+    ((r : Request) × Spells c.words r × Delivered c.words r c.before c.after statuses.Rejected)
+    ⊎ ((at : RejectAt) × IsRefusal c (refusals.Rejected at))
+ByStatus c statuses.Usage = SpellNone c.words
+ByStatus c statuses.BadScenario = (fault : TextFault) × IsRefusal c (refusals.BadScenario fault)
+ByStatus c statuses.BadPlan = (fault : PlanFault) × IsRefusal c (refusals.BadPlan fault)
+ByStatus c statuses.BadFlown = (why : FlownWhy) × IsRefusal c (refusals.BadFlown why)
+ByStatus c statuses.BadDuo = (why : DuoWhy) × IsRefusal c (refusals.BadDuo why)
+ByStatus c statuses.TooManyNodes = (nodes : ℕ) × IsRefusal c (refusals.TooManyNodes nodes)
+ByStatus c statuses.TooLong = TakesTooMuch c
+ByStatus c statuses.ReadFault = FailsToRead c
+ByStatus c statuses.WriteFault = Rose c.before.write_faults c.after.write_faults × IsCutOff c
+ByStatus c statuses.NoMemory = WritesNothing c ⊎ IsCutOff c
 
-accepting : (p : Problem) (plan : APlan) (text : List ℕ) → IsVerdict p plan statuses.Done text → Accepts p plan × (text ≡ codes "accepted\n")
-accepting p plan text (inl taken) = (taken.0, taken.2)
-accepting p plan text (inr turned) = absurd (done_or_rejected turned.1)
+-- what is told of a plan is told with the status Done, or with Rejected
+told_done_or_rejected : (request : Request) (p : Problem) (plan : APlan) (status : Status) (text : List ℕ) → TellsPlan request p plan status text → (status ≡ statuses.Done) ⊎ (status ≡ statuses.Rejected)
+told_done_or_rejected Check p plan status text (inl taken) = inl taken.1
+told_done_or_rejected Check p plan status text (inr turned) = inr turned.1
+told_done_or_rejected (Report json) p plan status text tells = inl tells.0
+told_done_or_rejected Convert p plan status text tells = inl tells.0
+told_done_or_rejected (Plan workers nodes) p plan status text tells = absurd tells
+told_done_or_rejected (Make number) p plan status text tells = absurd tells
+told_done_or_rejected (Drill number workers) p plan status text tells = absurd tells
+told_done_or_rejected (Gap workers nodes) p plan status text tells = absurd tells
+told_done_or_rejected (Replan workers nodes flown) p plan status text tells = absurd tells
+told_done_or_rejected (Map flown) p plan status text tells = absurd tells
+told_done_or_rejected (Duo workers nodes second) p plan status text tells = absurd tells
 
--- and one with the status Rejected rejects
-rejecting : (input : List ℕ) (p : Problem) (plan : APlan) (text : List ℕ) → IsInput input p plan → IsVerdict p plan statuses.Rejected text → (at : RejectAt) × IsRejected input at × (text ≡ rejection_of at)
-rejecting input p plan text is (inl taken) = absurd (done_or_rejected (sym taken.1))
-rejecting input p plan text is (inr (turned, status, (at, reason, same))) = (at, (p, plan, is, turned, reason), same)
+-- so is each answer
+done_or_rejected : (family : Family) (words : List (List ℕ)) (request : Request) (input : List ℕ) (status : Status) (text : List ℕ) → AnswersAs family words request input status text → (status ≡ statuses.Done) ⊎ (status ≡ statuses.Rejected)
+done_or_rejected of_scenario words request input status text answers = inl answers.0
+done_or_rejected of_plan words request input status text (p, plan, is, tells) = told_done_or_rejected request p plan status text tells
+done_or_rejected of_nothing words request input status text answers = inl answers.0
+
+done_isnt_rejected : statuses.Done ≡ statuses.Rejected → ⊥
+done_isnt_rejected e = cc
 
 module _ (c : Call) where
-  -- what was delivered to the request that the words spell
-  delivered_to : (request : Request) (status : Status) → Ends c (delivered status) → Spells c.words request → Delivered request c.before c.after status
-  delivered_to request status (r, spelled, whole) asked =
-      let P : Request → Type 0 = λ r. Delivered r c.before c.after status in subst P (spelled_once c.words r request spelled asked) whole
+  delivered_by : (r : Request) (status : Status) → Spells c.words r → Delivered c.words r c.before c.after status → ByStatus c status
+  delivered_by r status spelled whole =
+      elim (done_or_rejected (family_of r) c.words r whole.input status whole.text whole.answers) [
+        | inl done ↦ subst (ByStatus c) (sym done) (r, spelled, subst (λ (s : Status). Delivered c.words r c.before c.after s) done whole)
+        | inr rejected ↦ subst (ByStatus c) (sym rejected) (inl (r, spelled, subst (λ (s : Status). Delivered c.words r c.before c.after s) rejected whole))
+      ]
 
-  pub planned_input : (status : Status) → Ends c (delivered status) → status ≡ statuses.Done → Plans c
-  planned_input status ends done workers nodes asked =
-      let d = delivered_to (Plan workers nodes) status ends asked in
-      let found = d.answers.1 in
-      let certified = found.2 in
-      (found.0, d.input, found.1, (d.read.taken, d.read.ended), (certified.0, d.text, certified.1, certified.2, certified.3, d.written))
+  refused_by : (r : Request) (refusal : Refusal) → Spells c.words r → Refused c.words r c.before c.after refusal → ByStatus c (status_at (stopped (stops.Refused refusal)))
+  refused_by r (refusals.Rejected at) spelled refused = inr (at, (r, spelled, refused))
+  refused_by r (refusals.BadScenario fault) spelled refused = (fault, (r, spelled, refused))
+  refused_by r (refusals.BadPlan fault) spelled refused = (fault, (r, spelled, refused))
+  refused_by r (refusals.BadFlown why) spelled refused = (why, (r, spelled, refused))
+  refused_by r (refusals.BadDuo why) spelled refused = (why, (r, spelled, refused))
+  refused_by r (refusals.TooManyNodes limit) spelled refused = (limit, (r, spelled, refused))
+
+  -- an ending tells what its status tells
+  ends_by : (end : Ending) → Ends c end → ByStatus c (status_at end)
+  ends_by (delivered status) (r, spelled, whole) = delivered_by r status spelled whole
+  ends_by (stopped stops.Usage) ends = ends.0
+  ends_by (stopped (stops.Refused refusal)) (r, spelled, refused) = refused_by r refusal spelled refused
+  ends_by (stopped stops.ReadFault) (r, spelled, (failed, same)) = (r, failed.limit, spelled, failed.is_limit, failed.taken, failed.rose, same)
+  ends_by (stopped stops.TooLong) (r, spelled, (long, same)) = (r, long.limit, spelled, long.is_limit, long.taken, same)
+  ends_by (stopped stops.WriteFault) (r, spelled, fault) = (fault.0, (r, spelled, fault.1))
+  ends_by (stopped stops.NoMemory) (r, spelled, inl same) = inl same
+  ends_by (stopped stops.NoMemory) (r, spelled, inr cut) = inr (r, spelled, cut)
+
+  -- what was delivered to the request that the words spell
+  delivered_to : (request : Request) → ByStatus c statuses.Done → Spells c.words request → Delivered c.words request c.before c.after statuses.Done
+  delivered_to request (r, spelled, whole) asked = subst (λ (q : Request). Delivered c.words q c.before c.after statuses.Done) (spelled_once c.words r request spelled asked) whole
+
+  planned_input : ByStatus c statuses.Done → Plans c
+  planned_input done workers nodes asked =
+      let d = delivered_to (Plan workers nodes) done asked in
+      let (p, is, (plan, certified, few, spelled)) = d.answers.1 in
+      (p, d.input, is, (d.read.taken, d.read.ended), (plan, d.text, certified, few, spelled, d.written))
+
+  gapped_input : ByStatus c statuses.Done → Gaps c
+  gapped_input done workers nodes asked =
+      let d = delivered_to (Gap workers nodes) done asked in
+      let (p, is, (plan, gapped, spelled)) = d.answers.1 in
+      (p, d.input, is, (d.read.taken, d.read.ended), (plan, d.text, gapped, spelled, d.written))
+
+  replanned_input : ByStatus c statuses.Done → Replans c
+  replanned_input done workers nodes flown asked =
+      let d = delivered_to (Replan workers nodes flown) done asked in
+      let (p, is, (q, (made, (prefix, named, forced)), (text, (plan, certified, few, spelled), whole))) = d.answers.1 in
+      let best = replanned_is_best p q prefix plan is.says.sound made named.1 forced certified in
+      (p, q, d.input, prefix, is, (d.read.taken, d.read.ended), named, forced, (plan, text, certified, few, spelled, best, subst (λ t. Writes c t) whole d.written))
+
+  mapped_input : ByStatus c statuses.Done → Maps c
+  mapped_input done flown asked =
+      let d = delivered_to (Map flown) done asked in
+      let (p, is, (prefix, named, told)) = d.answers.1 in
+      (p, d.input, prefix, is, (d.read.taken, d.read.ended), named, subst (λ t. Writes c t) told d.written)
+
+  paired_input : ByStatus c statuses.Done → Pairs c
+  paired_input done workers nodes name asked =
+      let d = delivered_to (Duo workers nodes name) done asked in
+      let (p, is, (q, (made, (second, named, product)), (text, (plan, certified, few, spelled), whole))) = d.answers.1 in
+      let (first_path, second_path, value, most) = paired_is_best p q second plan is.says.sound made named.0 product certified in
+      let finds : FindsMost p second plan = record { first_path = first_path; second_path = second_path; value = value; most = most } in
+      (p, q, d.input, second, is, (d.read.taken, d.read.ended), named, product, (plan, text, certified, few, spelled, finds, subst (λ t. Writes c t) whole d.written))
 
   -- the plan of an input is the best
   best_of : (p : Problem) (plan : APlan) (input : List ℕ) → ReadsAll c input → IsInput input p plan → Accepts p plan → ReadsBest c p plan
   best_of p plan input read is accepts = (input, read, is, accepts, accepted_plan_is_best p plan is.1.front.says.sound accepts)
 
-  pub accepted_input : (status : Status) → Ends c (delivered status) → status ≡ statuses.Done → Affirms c
-  accepted_input status ends done check =
-      let d = delivered_to Check status ends check in
-      let p = d.answers.0 in
-      let plan = d.answers.1 in
-      let is = d.answers.2 in
-      let V : Status → Type 0 = λ s. IsVerdict p plan s d.text in
-      let taken = accepting p plan d.text (subst V done d.answers.3) in
+  -- a verdict with the status Done accepts, and one with the status Rejected rejects
+  accepting : (p : Problem) (plan : APlan) (text : List ℕ) → IsVerdict p plan statuses.Done text → Accepts p plan × (text ≡ codes "accepted\n")
+  accepting p plan text (inl taken) = (taken.0, taken.2)
+  accepting p plan text (inr turned) = absurd (done_isnt_rejected turned.1)
+
+  accepted_input : ByStatus c statuses.Done → Affirms c
+  accepted_input done asked =
+      let d = delivered_to Check done asked in
+      let (p, plan, is, verdict) = d.answers in
+      let taken = accepting p plan d.text verdict in
       ((p, plan, best_of p plan d.input (d.read.taken, d.read.ended) is taken.0), subst (λ t. Writes c t) taken.1 d.written)
 
-  pub reported_input : (status : Status) → Ends c (delivered status) → status ≡ statuses.Done → Reports c
-  reported_input status ends done json asked =
-      let d = delivered_to (Report json) status ends asked in
-      let told = d.answers.1 in
-      let p = told.0 in
-      let plan = told.1 in
-      (p, plan, best_of p plan d.input (d.read.taken, d.read.ended) told.2 told.3, subst (λ t. Writes c t) told.4 d.written)
+  reported_input : ByStatus c statuses.Done → Reports c
+  reported_input done json asked =
+      let d = delivered_to (Report json) done asked in
+      let (p, plan, is, (status, accepts, told)) = d.answers in
+      (p, plan, best_of p plan d.input (d.read.taken, d.read.ended) is accepts, subst (λ t. Writes c t) told d.written)
 
-  pub converted_input : (status : Status) → Ends c (delivered status) → status ≡ statuses.Done → Converts c
-  converted_input status ends done asked =
-      let d = delivered_to Convert status ends asked in
-      let told = d.answers.1 in
-      let p = told.0 in
-      let plan = told.1 in
-      (p, plan, best_of p plan d.input (d.read.taken, d.read.ended) told.2 told.3, (d.text, told.4, d.written))
+  converted_input : ByStatus c statuses.Done → Converts c
+  converted_input done asked =
+      let d = delivered_to Convert done asked in
+      let (p, plan, is, (status, accepts, told)) = d.answers in
+      (p, plan, best_of p plan d.input (d.read.taken, d.read.ended) is accepts, (d.text, told, d.written))
 
-  -- of what is delivered only a check's answer is a rejection
-  rejected_by : (r : Request) (status : Status) → Spells c.words r → Delivered r c.before c.after status → status ≡ statuses.Rejected → Rejects c
-  rejected_by (Plan workers nodes) status spelled d rejected = absurd (done_or_rejected (sym d.answers.0 ∙ rejected))
-  rejected_by Check status spelled d rejected =
-      let V : Status → Type 0 = λ s. IsVerdict d.answers.0 d.answers.1 s d.text in
-      let turned = rejecting d.input d.answers.0 d.answers.1 d.text d.answers.2 (subst V rejected d.answers.3) in
-      (d.input, turned.0, (d.read.taken, d.read.ended), turned.1, inl (spelled, subst (λ t. Writes c t) turned.2 d.written))
-  rejected_by (Report json) status spelled d rejected = absurd (done_or_rejected (sym d.answers.0 ∙ rejected))
-  rejected_by (Make number) status spelled d rejected = absurd (done_or_rejected (sym d.answers.0 ∙ rejected))
-  rejected_by (Drill number workers) status spelled d rejected = absurd (done_or_rejected (sym d.answers.0 ∙ rejected))
-  rejected_by Convert status spelled d rejected = absurd (done_or_rejected (sym d.answers.0 ∙ rejected))
-
-  pub rejected_input : (status : Status) → Ends c (delivered status) → status ≡ statuses.Rejected → Rejects c
-  rejected_input status (r, spelled, whole) rejected = rejected_by r status spelled whole rejected
-
-  -- and of what stops a run, only the rejection of a plan that has to be accepted
-  stopped_by : (r : Request) (at : RejectAt) → Spells c.words r → Refused r c.before c.after (stops.Rejected at) → Rejects c
-  stopped_by (Plan workers nodes) at spelled refused = absurd refused.refuses
-  stopped_by Check at spelled refused = absurd refused.refuses
-  stopped_by (Report json) at spelled refused = (refused.input, at, (refused.read.taken, refused.read.ended), refused.refuses, inr (Report json, tt, spelled, refused.unwritten))
-  stopped_by (Make number) at spelled refused = absurd refused.refuses
-  stopped_by (Drill number workers) at spelled refused = absurd refused.refuses
-  stopped_by Convert at spelled refused = (refused.input, at, (refused.read.taken, refused.read.ended), refused.refuses, inr (Convert, tt, spelled, refused.unwritten))
-
-  pub stopped_input : (stop : Stop) → Ends c (stopped stop) → status_of stop ≡ statuses.Rejected → Rejects c
-  stopped_input (stops.Rejected at) (r, spelled, refused) e = stopped_by r at spelled refused
-  stopped_input stops.Usage ends e = let bad : ⊥ = cc in absurd bad
-  stopped_input (stops.BadScenario fault) ends e = let bad : ⊥ = cc in absurd bad
-  stopped_input (stops.BadPlan fault) ends e = let bad : ⊥ = cc in absurd bad
-  stopped_input stops.ReadFault ends e = let bad : ⊥ = cc in absurd bad
-  stopped_input stops.WriteFault ends e = let bad : ⊥ = cc in absurd bad
-  stopped_input stops.NoMemory ends e = let bad : ⊥ = cc in absurd bad
-  stopped_input (stops.TooManyNodes limit) ends e = let bad : ⊥ = cc in absurd bad
-  stopped_input stops.TooLong ends e = let bad : ⊥ = cc in absurd bad
-
-  pub made_text : (status : Status) → Ends c (delivered status) → status ≡ statuses.Done → Makes c
-  made_text status ends done number asked =
-      let d = delivered_to (Make number) status ends asked in
+  made_text : ByStatus c statuses.Done → Makes c
+  made_text done number asked =
+      let d = delivered_to (Make number) done asked in
       (ap (λ (s : Source). s.left) d.read.same, subst (λ t. Writes c t) d.answers.1 d.written)
 
-  pub drilled_text : (status : Status) → Ends c (delivered status) → status ≡ statuses.Done → Drills c
-  drilled_text status ends done number workers asked =
-      let d = delivered_to (Drill number workers) status ends asked in
+  drilled_text : ByStatus c statuses.Done → Drills c
+  drilled_text done number workers asked =
+      let d = delivered_to (Drill number workers) done asked in
       (ap (λ (s : Source). s.left) d.read.same, (d.text, d.answers.1, d.written))
 
-  pub write_failed : (stop : Stop) → Ends c (stopped stop) → status_of stop ≡ statuses.WriteFault →
-      Rose c.before.write_faults c.after.write_faults × ((request : Request) × Spells c.words request × CutOff request c.before c.after)
-  write_failed stops.WriteFault (r, spelled, fault) e = (fault.0, (r, spelled, fault.1))
-  write_failed stops.Usage ends e = let bad : ⊥ = cc in absurd bad
-  write_failed (stops.Rejected at) ends e = let bad : ⊥ = cc in absurd bad
-  write_failed (stops.BadScenario fault) ends e = let bad : ⊥ = cc in absurd bad
-  write_failed (stops.BadPlan fault) ends e = let bad : ⊥ = cc in absurd bad
-  write_failed stops.ReadFault ends e = let bad : ⊥ = cc in absurd bad
-  write_failed stops.NoMemory ends e = let bad : ⊥ = cc in absurd bad
-  write_failed (stops.TooManyNodes limit) ends e = let bad : ⊥ = cc in absurd bad
-  write_failed stops.TooLong ends e = let bad : ⊥ = cc in absurd bad
+  -- of what is told of a plan only a check's verdict is a rejection
+  told_rejected : (r : Request) (p : Problem) (plan : APlan) (input text : List ℕ) → Spells c.words r → ReadsAll c input → IsInput input p plan → Writes c text → TellsPlan r p plan statuses.Rejected text → Rejects c
+  told_rejected Check p plan input text spelled read is written (inl taken) = absurd (done_isnt_rejected (sym taken.1))
+  told_rejected Check p plan input text spelled read is written (inr (turned, status, (at, reason, same))) =
+      (input, at, read, (p, plan, is, turned, reason), inl (spelled, subst (λ t. Writes c t) same written))
+  told_rejected (Report json) p plan input text spelled read is written tells = absurd (done_isnt_rejected (sym tells.0))
+  told_rejected Convert p plan input text spelled read is written tells = absurd (done_isnt_rejected (sym tells.0))
+  told_rejected (Plan workers nodes) p plan input text spelled read is written tells = absurd tells
+  told_rejected (Make number) p plan input text spelled read is written tells = absurd tells
+  told_rejected (Drill number workers) p plan input text spelled read is written tells = absurd tells
+  told_rejected (Gap workers nodes) p plan input text spelled read is written tells = absurd tells
+  told_rejected (Replan workers nodes flown) p plan input text spelled read is written tells = absurd tells
+  told_rejected (Map flown) p plan input text spelled read is written tells = absurd tells
+  told_rejected (Duo workers nodes second) p plan input text spelled read is written tells = absurd tells
 
-  -- what is delivered to a request that reads nothing is its answer
-  delivered_unread : (r : Request) (status : Status) → limit_of r ≡ None → Delivered r c.before c.after status → status ≡ statuses.Done
-  delivered_unread (Plan workers nodes) status e d = let bad : ⊥ = cc in absurd bad
-  delivered_unread Check status e d = let bad : ⊥ = cc in absurd bad
-  delivered_unread (Report json) status e d = let bad : ⊥ = cc in absurd bad
-  delivered_unread (Make number) status e d = d.answers.0
-  delivered_unread (Drill number workers) status e d = d.answers.0
-  delivered_unread Convert status e d = let bad : ⊥ = cc in absurd bad
+  rejected_as : (family : Family) (r : Request) (input text : List ℕ) → Spells c.words r → Reads (limit_at family) c.before.source c.after.source input → AnswersAs family c.words r input statuses.Rejected text → Writes c text → Rejects c
+  rejected_as of_scenario r input text spelled read answers written = absurd (done_isnt_rejected (sym answers.0))
+  rejected_as of_plan r input text spelled read (p, plan, is, tells) written = told_rejected r p plan input text spelled (read.taken, read.ended) is written tells
+  rejected_as of_nothing r input text spelled read answers written = absurd (done_isnt_rejected (sym answers.0))
 
-  unread_refuses : (r : Request) (input : List ℕ) (stop : Stop) → limit_of r ≡ None → Refuses r input stop → ⊥
-  unread_refuses (Plan workers nodes) input stop e h = let bad : ⊥ = cc in absurd bad
-  unread_refuses Check input stop e h = let bad : ⊥ = cc in absurd bad
-  unread_refuses (Report json) input stop e h = let bad : ⊥ = cc in absurd bad
-  unread_refuses (Make number) input stop e h = made_refuses input number stop h
-  unread_refuses (Drill number workers) input stop e h = drilled_refuses input number workers stop h
-  unread_refuses Convert input stop e h = let bad : ⊥ = cc in absurd bad
+  -- and of what is refused, only a plan that has to be accepted
+  stopped_as : (family : Family) (r : Request) (input : List ℕ) (at : RejectAt) → Spells c.words r → Reads (limit_at family) c.before.source c.after.source input → RefusesAs family c.words r input (refusals.Rejected at) → WritesNothing c → Rejects c
+  stopped_as of_scenario r input at spelled read (p, is, unmade) unwritten = absurd (never_rejected c.words r p at unmade)
+  stopped_as of_plan r input at spelled read (needs, rejected) unwritten = (input, at, (read.taken, read.ended), rejected, inr (r, needs, spelled, unwritten))
+  stopped_as of_nothing r input at spelled read refuses unwritten = absurd refuses
 
-  unread_limit : (o : Option ℕ) (limit : ℕ) → o ≡ None → o ≡ Some limit → ⊥
-  unread_limit o limit e h = let bad : ⊥ = cc in bad
+  rejected_input : ByStatus c statuses.Rejected → Rejects c
+  rejected_input (inl (r, spelled, d)) = rejected_as (family_of r) r d.input d.text spelled d.read d.answers d.written
+  rejected_input (inr (at, (r, spelled, d))) = stopped_as (family_of r) r d.input at spelled d.read d.refuses d.unwritten
 
-  -- so is how a run of it ends, unless memory runs out or the sink fails
-  pub ends_unread : (result : Result Status Stop) (request : Request) → Ends c (ending_of result) → Spells c.words request → limit_of request ≡ None →
-      (Rose c.before.write_faults c.after.write_faults → ⊥) → IsUnlessNoMemory statuses.Done (status_at (ending_of result))
-  ends_unread (Ok status) request ends asked none calm = inl (delivered_unread request status none (delivered_to request status ends asked))
-  ends_unread (Err stops.Usage) request ends asked none calm = absurd (ends.0 request asked)
-  ends_unread (Err (stops.Rejected at)) request (r, spelled, d) asked none calm = absurd (unread_refuses r d.input (stops.Rejected at) (ap limit_of (spelled_once c.words r request spelled asked) ∙ none) d.refuses)
-  ends_unread (Err (stops.BadScenario fault)) request (r, spelled, d) asked none calm = absurd (unread_refuses r d.input (stops.BadScenario fault) (ap limit_of (spelled_once c.words r request spelled asked) ∙ none) d.refuses)
-  ends_unread (Err (stops.BadPlan fault)) request (r, spelled, d) asked none calm = absurd (unread_refuses r d.input (stops.BadPlan fault) (ap limit_of (spelled_once c.words r request spelled asked) ∙ none) d.refuses)
-  ends_unread (Err (stops.TooManyNodes limit)) request (r, spelled, d) asked none calm = absurd (unread_refuses r d.input (stops.TooManyNodes limit) (ap limit_of (spelled_once c.words r request spelled asked) ∙ none) d.refuses)
-  ends_unread (Err stops.ReadFault) request (r, spelled, d) asked none calm = absurd (unread_limit (limit_of r) d.0.limit (ap limit_of (spelled_once c.words r request spelled asked) ∙ none) d.0.is_limit)
-  ends_unread (Err stops.TooLong) request (r, spelled, d) asked none calm = absurd (unread_limit (limit_of r) d.0.limit (ap limit_of (spelled_once c.words r request spelled asked) ∙ none) d.0.is_limit)
-  ends_unread (Err stops.WriteFault) request (r, spelled, fault) asked none calm = absurd (calm fault.0)
-  ends_unread (Err stops.NoMemory) request ends asked none calm = inr refl
+  -- words that spell nothing end a run so
+  only_usage : (end : Ending) → Ends c end → SpellNone c.words → status_at end ≡ statuses.Usage
+  only_usage (delivered status) (r, spelled, whole) none = absurd (none r spelled)
+  only_usage (stopped stops.Usage) ends none = refl
+  only_usage (stopped (stops.Refused refusal)) (r, spelled, refused) none = absurd (none r spelled)
+  only_usage (stopped stops.ReadFault) (r, spelled, fault) none = absurd (none r spelled)
+  only_usage (stopped stops.TooLong) (r, spelled, long) none = absurd (none r spelled)
+  only_usage (stopped stops.WriteFault) (r, spelled, fault) none = absurd (none r spelled)
+  only_usage (stopped stops.NoMemory) (r, spelled, cut) none = absurd (none r spelled)
+
+  pub run_keeps : (end : Ending) → Ends c end → Keeps c (status_at end)
+  run_keeps end ends =
+      let told : (status : Status) → status_at end ≡ status → ByStatus c status = λ status same. subst (ByStatus c) same (ends_by end ends) in
+      record {
+        planned = λ done. planned_input (told statuses.Done done);
+        gapped = λ done. gapped_input (told statuses.Done done);
+        replanned = λ done. replanned_input (told statuses.Done done);
+        mapped = λ done. mapped_input (told statuses.Done done);
+        paired = λ done. paired_input (told statuses.Done done);
+        accepted = λ done. accepted_input (told statuses.Done done);
+        reported = λ done. reported_input (told statuses.Done done);
+        converted = λ done. converted_input (told statuses.Done done);
+        made = λ done. made_text (told statuses.Done done);
+        drilled = λ done. drilled_text (told statuses.Done done);
+        rejected = λ rejected. rejected_input (told statuses.Rejected rejected);
+        usage = (told statuses.Usage, only_usage end ends);
+        bad_scenario = told statuses.BadScenario;
+        bad_plan = told statuses.BadPlan;
+        bad_flown = told statuses.BadFlown;
+        bad_duo = told statuses.BadDuo;
+        too_many_nodes = told statuses.TooManyNodes;
+        too_long = told statuses.TooLong;
+        read_fault = told statuses.ReadFault;
+        write_fault = told statuses.WriteFault;
+        no_memory = told statuses.NoMemory;
+      }

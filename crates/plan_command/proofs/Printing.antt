@@ -17,10 +17,10 @@ use Rattle.tree_format.specs.PlanText.{ArePositions, IsPrintableKind, IsPrintabl
 use Rattle.bound_tree.specs.declared.tree.TheConstants.{MOST_NODES}
 
 module _ (p : Problem) (sound : IsProblem p) (s : Standing) where
-  follows_positions : (q : List ℕ) → Follows p.moves p.start q → ArePositions p q
+  pub follows_positions : (q : List ℕ) → Follows p.moves p.start q → ArePositions p q
   follows_positions q follows = positions_follow p sound p.start (omega (arith, sound.start, sound.grid_positions)) q follows
 
-  kind_printable : (q : List ℕ) (kind : Kind) → IsGoodKind p s q kind → IsPrintableKind p kind
+  pub kind_printable : (q : List ℕ) (kind : Kind) → IsGoodKind p s q kind → IsPrintableKind p kind
   kind_printable q Branch good = tt
   kind_printable q (Whole n) good = tt
   kind_printable q (Mean b) good = tt

@@ -1,13 +1,18 @@
 -- A scenario and a plan on one input.
-use Rattle.std.proofs.Common.{ℕ, ◌≡◌, false, List, Result, Ok, Err, refl, sym, subst, ◌∙◌, inl, inr}
+use Rattle.std.proofs.Common.{ℕ, ◌≡◌, false, List, Result, Ok, Err, refl, sym, ap, subst, ◌∙◌, inl, inr}
 use Rattle.search_model.specs.Problem.{Problem, IsProblem}
 use Rattle.bound_tree.specs.declared.plan.Plan.{Plan}
+use Rattle.bound_tree.specs.declared.gap.GapPlan.{GapPlan}
+use Rattle.bound_tree.specs.Gaps.{plan_of}
 use Rattle.tree_format.specs.declared.kind.PlanFault.{PlanFault}
+use Rattle.tree_format.specs.declared.plan_line.Family.{Family}
+use Rattle.tree_format.specs.declared.plan_line.Family.TheVariants.{Plans, Gaps}
 use Rattle.tree_format.specs.PlanText.{plan_text, plan_text_2, IsTextOfPlan}
-use Rattle.tree_format.specs.Reading.{plan_at}
+use Rattle.tree_format.specs.Reading.{text_at, as_plan, plan_at}
 use Rattle.tree_format.proofs.ReadsBack.{text_read, one_plan_a_text}
-use Rattle.tree_format.proofs.Spelled.{one_text_a_plan}
-use Rattle.plan_command.specs.Plans.{IsPlanRest, HasFault}
+use Rattle.tree_format.proofs.Spelled.{one_text_a_plan, one_text_a_gap}
+use Rattle.plan_command.specs.Plans.{IsPlanRest, IsReadFault, HasFault}
+use Rattle.plan_command.specs.Families.{IsRestOf}
 use Rattle.plan_command.specs.Spaces.{starts_with_space, SkipsSpaces}
 use Rattle.plan_command.proofs.SpaceLemmas.{skipped_alike}
 
@@ -29,6 +34,22 @@ plan_behind p rest text plan sound skips reads = record {
   spelled = one_text_a_plan p plan text sound reads;
   whole = skips.whole;
 }
+
+-- and so it is of a gap plan
+pub rest_behind : (family : Family) (p : Problem) (rest text : List ℕ) (plan : GapPlan) → IsProblem p → SkipsSpaces rest text → text_at family p text ≡ Ok plan → IsRestOf family p rest plan
+rest_behind Plans p rest text plan sound skips reads = plan_behind p rest text (plan_of plan) sound skips (ap as_plan reads)
+rest_behind Gaps p rest text plan sound skips reads = record {
+  blanks = skips.blanks;
+  only = skips.only;
+  text = text;
+  spelled = one_text_a_gap p plan text sound reads;
+  whole = skips.whole;
+}
+
+-- a fault of a text of the family
+pub read_fault : (family : Family) (p : Problem) (text : List ℕ) (fault : PlanFault) → text_at family p text ≡ Err fault → IsReadFault family p text fault
+read_fault Plans p text fault reads = ap as_plan reads
+read_fault Gaps p text fault reads = reads
 
 -- a rest reads in one way
 read_or_not : (read : Result Plan PlanFault) (plan : Plan) (fault : PlanFault) → read ≡ Ok plan → read ≡ Err fault → ⊥

@@ -17,7 +17,7 @@ use Rattle.scenario_maker.specs.Made.{made_problem}
 use Rattle.scenario_maker.proofs.Prefixes.{few_made_prefixes}
 use Rattle.plan_command.specs.Drills.{drill_text}
 use Rattle.plan_command.specs.Commands.{IsDrilled}
-use Rattle.plan_command.specs.Makes.{IsTooMany}
+use Rattle.plan_command.specs.Plans.{IsTooMany}
 use Rattle.bound_tree.specs.declared.tree.TheConstants.{MOST_NODES}
 
 -- the summary, piece by piece as it is written

@@ -1,7 +1,14 @@
 -- Lists of so many words.
-use Rattle.std.proofs.Common.{ℕ, ◌≡◌, ◌≤◌, ◌<◌, List, [], ◌∷◌, length, get_or, map, None, sym, ap, ◌∙◌, arith, refl}
+use Rattle.std.proofs.Common.{ℕ, ◌≡◌, ◌≤◌, ◌<◌, Bool, true, false, List, [], ◌∷◌, length, get_or, map, Option, Some, None, sym, ap, ◌∙◌, subst, arith, refl}
+use Rattle.std.specs.Prelude.{◌==◌, suc, IfSome, IfNone, if◌then◌else◌}
+use Rattle.std.specs.List.{list_all}
+use Rattle.std.proofs.lemmas.List.{length-map}
+use Rattle.std.proofs.lemmas.Bool.{and_parts, leb-true, le-leb}
+use Rattle.std.proofs.lemmas.List.Folds.{list_all-map}
+use Rattle.search_model.specs.Names.{IsName}
+use Rattle.scenario_text.proofs.Positions.{position_map, position_within}
 use Rattle.plan_command.specs.declared.request.Request.{Request}
-use Rattle.plan_command.specs.WordReading.{plan_at, alone_at, report_at, make_at, drill_at}
+use Rattle.plan_command.specs.WordReading.{option_at, alone_at, report_at, make_at, duo_with, is_name, are_flown, name_in}
 
 module _ {X Y : Type 0} (f : X → Y) where
   pub none_of : (xs : List X) → length xs < 1 → map f xs ≡ []
@@ -17,23 +24,13 @@ module _ {X Y : Type 0} (f : X → Y) where
   two_of [] a b low high is at = absurd (omega arith)
   two_of (x ∷ xs) a b low high is at = ap (λ (v : Y). v ∷ map f xs) (sym (ap f is)) ∙ ap (λ (ys : List Y). f a ∷ ys) (one_of xs b (omega arith) (omega arith) at)
 
-  pub three_of : (xs : List X) (a b c : X) → 3 ≤ length xs → length xs < 4 → a ≡ get_or xs 0 a → b ≡ get_or xs 1 b → c ≡ get_or xs 2 c → map f xs ≡ f a ∷ f b ∷ f c ∷ []
-  three_of [] a b c low high is at more = absurd (omega arith)
-  three_of (x ∷ xs) a b c low high is at more = ap (λ (v : Y). v ∷ map f xs) (sym (ap f is)) ∙ ap (λ (ys : List Y). f a ∷ ys) (two_of xs b c (omega arith) (omega arith) at more)
-
-  pub four_of : (xs : List X) (a b c d : X) → 4 ≤ length xs → length xs < 5 → a ≡ get_or xs 0 a → b ≡ get_or xs 1 b → c ≡ get_or xs 2 c → d ≡ get_or xs 3 d → map f xs ≡ f a ∷ f b ∷ f c ∷ f d ∷ []
-  four_of [] a b c d low high is at more last = absurd (omega arith)
-  four_of (x ∷ xs) a b c d low high is at more last = ap (λ (v : Y). v ∷ map f xs) (sym (ap f is)) ∙ ap (λ (ys : List Y). f a ∷ ys) (three_of xs b c d (omega arith) (omega arith) at more last)
-
--- words of no length that a command has
+-- words of no length that a command or an option has
 module _ {X : Type 0} (f : X → List ℕ) where
-  pub plan_other : (xs : List X) → (length xs ≡ 0 → ⊥) → (length xs ≡ 2 → ⊥) → (length xs ≡ 4 → ⊥) → None ≡ plan_at (map f xs)
-  plan_other [] none two four = absurd (none refl)
-  plan_other (a ∷ []) none two four = refl
-  plan_other (a ∷ b ∷ []) none two four = absurd (two refl)
-  plan_other (a ∷ b ∷ c ∷ []) none two four = refl
-  plan_other (a ∷ b ∷ c ∷ d ∷ []) none two four = absurd (four refl)
-  plan_other (a ∷ b ∷ c ∷ d ∷ e ∷ xs) none two four = refl
+  pub option_other : (name : List ℕ) (most default : ℕ) (xs : List X) → (length xs ≡ 0 → ⊥) → (length xs ≡ 2 → ⊥) → None ≡ option_at name most default (map f xs)
+  option_other name most default [] none two = absurd (none refl)
+  option_other name most default (a ∷ []) none two = refl
+  option_other name most default (a ∷ b ∷ []) none two = absurd (two refl)
+  option_other name most default (a ∷ b ∷ c ∷ xs) none two = refl
 
   pub alone_other : (request : Request) (xs : List X) → (length xs ≡ 0 → ⊥) → None ≡ alone_at request (map f xs)
   alone_other request [] none = absurd (none refl)
@@ -50,11 +47,39 @@ module _ {X : Type 0} (f : X → List ℕ) where
   make_other (a ∷ []) one = absurd (one refl)
   make_other (a ∷ b ∷ xs) one = refl
 
-  pub drill_other : (xs : List X) → (length xs ≡ 1 → ⊥) → (length xs ≡ 3 → ⊥) → None ≡ drill_at (map f xs)
-  drill_other [] one three = refl
-  drill_other (a ∷ []) one three = absurd (one refl)
-  drill_other (a ∷ b ∷ []) one three = refl
-  drill_other (a ∷ b ∷ c ∷ []) one three = absurd (three refl)
-  drill_other (a ∷ b ∷ c ∷ d ∷ xs) one three = refl
+  pub duo_other : (options : Option (ℕ × ℕ)) (xs : List X) → (length xs ≡ 1 → ⊥) → None ≡ duo_with options (map f xs)
+  duo_other options [] one = refl
+  duo_other options (a ∷ []) one = absurd (one refl)
+  duo_other options (a ∷ b ∷ xs) one = refl
 
-pub ruleset word_steps = (none_of, one_of, two_of, three_of, four_of, plan_other, alone_other, report_other, make_other, drill_other)
+-- a word is a name where it passes the test
+pub is_name_tells : (word : List ℕ) → is_name word ≡ true → IsName word
+unfolding is_name
+is_name_tells word e =
+    let parts = and_parts _ _ e in
+    let more = and_parts _ _ parts.1 in
+    record { some = leb-true _ _ parts.0; short = leb-true _ _ more.0; bytes = more.1 }
+
+pub is_name_of : (word : List ℕ) → IsName word → is_name word ≡ true
+unfolding is_name
+is_name_of word name = rw (le-leb _ _ name.some, le-leb _ _ name.short) name.bytes
+
+pub name_new : (word bytes : List ℕ) (r : Option (List ℕ)) → bytes ≡ word → IfSome r (λ n. (n ≡ bytes) × IsName bytes) → IfNone r (IsName bytes → ⊥) → r ≡ name_in word
+name_new word bytes (Some n) is (same, name) none = rw (is_name_of word (subst IsName is name), same, is) refl
+name_new word bytes None is some none = none_named (is_name word) refl
+  where
+    none_named : (t : Bool) → is_name word ≡ t → None ≡ (if t then Some word else None)
+    none_named true e = absurd (none (subst IsName (sym is) (is_name_tells word e)))
+    none_named false e = refl
+
+-- words are 1 to 32 names where they pass the test
+pub flown_test : {X : Type 0} (f : X → List ℕ) (xs : List X) → (length xs == 0) ≡ false → length xs ≤ 32 → list_all (λ x. is_name (f x)) xs ≡ are_flown (map f xs)
+unfolding are_flown
+flown_test f [] some few = absurd (let bad : ⊥ = cc in bad)
+flown_test f (x ∷ xs) some few = rw (length-map xs f, le-leb 1 (suc (length xs)) (omega arith), le-leb (suc (length xs)) 32 few, list_all-map is_name f xs) refl
+
+pub ruleset word_steps = (none_of, one_of, two_of, option_other, alone_other, report_other, make_other, duo_other)
+
+pub ruleset place_steps = (position_map)
+
+pub ruleset name_steps = (name_new, flown_test)

@@ -2,22 +2,23 @@
 use Rattle.std.specs.Prelude.{◌≡◌, ℕ, ◌<◌, ◌≤◌, ◌⊎◌, List, Some, length}
 use Rattle.byte_ports.specs.Causes.{Rose}
 use Rattle.search_model.specs.Problem.{Problem}
-use Rattle.search_model.specs.Order.{standing_of}
-use Rattle.search_model.specs.Opening.{IsOpening}
 use Rattle.scenario_text.specs.Scenarios.{IsTextOf}
 use Rattle.bound_tree.specs.declared.plan.Plan.{Plan as APlan}
 use Rattle.bound_tree.specs.Accepts.{Accepts}
-use Rattle.bound_tree.specs.Close.{HasMoreLive}
 use Rattle.tree_checker.specs.declared.verdict.RejectAt.{RejectAt}
 use Rattle.plan_command.specs.declared.request.Request.{Request}
-use Rattle.plan_command.specs.declared.request.Request.TheVariants.{Plan, Check}
+use Rattle.plan_command.specs.declared.request.Request.TheVariants.{Plan, Gap, Replan, Map, Duo}
 use Rattle.plan_command.specs.declared.status.Status.{Status}
 use Rattle.plan_command.specs.declared.status.Status.TheVariants.{NoMemory}
-use Rattle.plan_command.specs.declared.status.Stop.{Stop}
-use Rattle.plan_command.specs.declared.status.Stop.TheVariants as stops
-use Rattle.plan_command.specs.Words.{Spells, limit_of}
-use Rattle.plan_command.specs.Lines.{status_of}
-use Rattle.plan_command.specs.Commands.{Answers, Refuses, IsInput, IsRejected, NeedsAccepted}
+use Rattle.plan_command.specs.declared.status.Refusal.{Refusal}
+use Rattle.plan_command.specs.declared.status.Refusal.TheVariants.{TooManyNodes}
+use Rattle.plan_command.specs.Words.{Spells, of_plan, family_of, limit_of, names_behind}
+use Rattle.plan_command.specs.Lines.{refused_status}
+use Rattle.plan_command.specs.Plans.{HasFewLive}
+use Rattle.plan_command.specs.Flown.{IsFlown}
+use Rattle.plan_command.specs.Replans.{ForcesNames}
+use Rattle.plan_command.specs.Duos.{PairsNamed}
+use Rattle.plan_command.specs.Commands.{Answers, Refuses, IsInput, IsRejected}
 use Rattle.plan_command.specs.Run.{Call}
 
 -- the request reads an input, and this one is within its limit
@@ -40,41 +41,41 @@ pub record IsUndisturbed (c : Call) (request : Request) (input : List ℕ) : Typ
   pub within : IsWithin request input
   pub write : Rose c.before.write_faults c.after.write_faults → ⊥
 
--- `plan` of the text of a scenario with no more live prefixes under its opening than the limit
-abbrev pub IsFeasible : Request → List ℕ → Type 0
-IsFeasible (Plan workers nodes) input =
-    (p : Problem) × IsTextOf p input × ((opening : List ℕ) × IsOpening p opening × (HasMoreLive p (standing_of p opening) nodes → ⊥))
-IsFeasible _ input = ⊥
+-- what the request plans has no more live prefixes under its opening than its limit: the scenario; each that forces the
+-- prefix of its names, where one does; or each product for its second start, where there is one (all of them are the same
+-- search). A map has to be of a prefix that is flown, and of a gap plan nothing is asked
+abbrev pub IsMakable : List (List ℕ) → Request → Problem → Type 0
+IsMakable words (Plan workers nodes) p = HasFewLive p nodes
+IsMakable words (Gap workers nodes) p = Unit {0}
+IsMakable words (Replan workers nodes flown) p =
+    ((q : Problem) × ForcesNames p (names_behind flown words) q) × ((q : Problem) → ForcesNames p (names_behind flown words) q → HasFewLive q nodes)
+IsMakable words (Map flown) p = (prefix : List ℕ) × IsFlown p (names_behind flown words) prefix
+IsMakable words (Duo workers nodes second) p = ((q : Problem) × PairsNamed p second q) × ((q : Problem) → PairsNamed p second q → HasFewLive q nodes)
+IsMakable words _ p = ⊥
 
--- `check`, `report` or `convert`
-abbrev pub IsJudge : Request → Type 0
-IsJudge request = (request ≡ Check) ⊎ NeedsAccepted request
+-- the input is the text of such a scenario
+abbrev pub IsFeasible : List (List ℕ) → Request → List ℕ → Type 0
+IsFeasible words request input = (p : Problem) × IsTextOf p input × IsMakable words request p
 
--- one of these of a scenario and a plan that is accepted
+-- `check`, `report` or `convert` of a scenario and a plan that is accepted
 abbrev pub IsAcceptable : Request → List ℕ → Type 0
-IsAcceptable request input = IsJudge request × ((p : Problem) × (plan : APlan) × IsInput input p plan × Accepts p plan)
+IsAcceptable request input = (family_of request ≡ of_plan) × ((p : Problem) × (plan : APlan) × IsInput input p plan × Accepts p plan)
 
 -- or that isn't accepted
 abbrev pub IsRejectable : Request → List ℕ → Type 0
-IsRejectable request input = IsJudge request × ((at : RejectAt) × IsRejected input at)
+IsRejectable request input = (family_of request ≡ of_plan) × ((at : RejectAt) × IsRejected input at)
 
 -- this status, unless memory ran out
 abbrev pub IsUnlessNoMemory : Status → Status → Type 0
 IsUnlessNoMemory due status = (status ≡ due) ⊎ (status ≡ NoMemory)
 
--- the status of this stop, unless memory ran out
-abbrev pub IsStopDue : Stop → Status → Type 0
-IsStopDue stop status = IsUnlessNoMemory (status_of stop) status
-
 -- the status is that of the request's answer to the input or of its refusal, or memory ran out
-abbrev pub IsDue : Request → List ℕ → Status → Type 0
-IsDue request input status =
-    ((text : List ℕ) × Answers request input status text)
-    ⊎ (((stop : Stop) × Refuses request input stop × (status ≡ status_of stop)) ⊎ (status ≡ NoMemory))
+abbrev pub IsDue : List (List ℕ) → Request → List ℕ → Status → Type 0
+IsDue words request input status =
+    ((text : List ℕ) × Answers words request input status text)
+    ⊎ (((refusal : Refusal) × Refuses words request input refusal × (status ≡ refused_status refusal)) ⊎ (status ≡ NoMemory))
 
 -- a refusal by the input's text alone, which comes wherever it is due
-abbrev pub IsByText : Stop → Type 0
-IsByText (stops.BadScenario fault) = Unit {0}
-IsByText (stops.BadPlan fault) = Unit {0}
-IsByText (stops.Rejected at) = Unit {0}
-IsByText _ = ⊥
+abbrev pub IsByText : Refusal → Type 0
+IsByText (TooManyNodes limit) = ⊥
+IsByText _ = Unit {0}

@@ -55,7 +55,9 @@ InputOf items limits before after (Err _) = ⊥
 
 -- what was made of the input that was read, or why it wasn't read; memory may run out
 abbrev pub ReadsAnd : {V : Type 0} → Option ℕ → Source → Source → (List ℕ → Result V Stop → Type 0) → Result V Stop → Type 0
+ReadsAnd limits before after Makes (Ok made) = (input : List ℕ) × Reads limits before after input × Makes input (Ok made)
+ReadsAnd limits before after Makes (Err (stops.Refused refusal)) = (input : List ℕ) × Reads limits before after input × Makes input (Err (stops.Refused refusal))
 ReadsAnd limits before after Makes (Err stops.ReadFault) = HasFailed limits before after
 ReadsAnd limits before after Makes (Err stops.TooLong) = IsOverLong limits before after
 ReadsAnd limits before after Makes (Err stops.NoMemory) = Unit {0}
-ReadsAnd limits before after Makes result = (input : List ℕ) × Reads limits before after input × Makes input result
+ReadsAnd limits before after Makes (Err _) = ⊥

@@ -1,30 +1,38 @@
--- What is kept of an input that holds a scenario and a plan, while it is read in pieces.
-use Rattle.std.specs.Prelude.{◌≡◌, ◌↔◌, ◌+◌, ◌<◌, ◌≤◌, ◌++◌, ◌∷◌, [], ℕ, List, Option, Some, None, true, false, length, take, Result, Ok, Err}
+-- What is kept of an input that holds a scenario and a plan or gap plan, while it is read in pieces. The family says which of
+-- the two is read.
+use Rattle.std.specs.Prelude.{◌≡◌, ◌↔◌, ◌+◌, ◌<◌, ◌≤◌, ◌++◌, ◌∷◌, [], ℕ, List, Option, Some, None, true, false, map, length, take, Result, Ok, Err}
 use Rattle.search_model.specs.Problem.{Problem}
+use Rattle.scenario_text.specs.declared.kind.TextFault.{TextFault}
 use Rattle.scenario_text.specs.Reading.{front_of}
 use Rattle.scenario_text.specs.Laws.{EndsWithEnd}
-use Rattle.bound_tree.specs.declared.node.TreeNode.{TreeNode}
-use Rattle.bound_tree.specs.declared.plan.Plan.{Plan}
+use Rattle.bound_tree.specs.declared.gap.GapNode.{GapNode}
+use Rattle.bound_tree.specs.declared.gap.GapPlan.{GapPlan}
 use Rattle.bound_tree.specs.Gaps.{shape_of}
-use Rattle.bound_tree.specs.Accepts.{Accepts}
 use Rattle.tree_format.specs.declared.kind.PlanFault.{PlanFault}
 use Rattle.tree_format.specs.declared.plan_item.PlanItem.{PlanItem}
 use Rattle.tree_format.specs.declared.plan_item.PlanItem.TheVariants as items
 use Rattle.tree_format.specs.Feeding.{HasRead}
-use Rattle.tree_format.specs.declared.plan_line.Family.TheVariants.{Plans}
+use Rattle.tree_format.specs.declared.plan_line.Family.{Family}
+use Rattle.tree_format.specs.declared.plan_line.Family.TheVariants.{Plans, Gaps}
 use Rattle.tree_checker.specs.declared.verdict.Verdict.{Verdict}
-use Rattle.tree_checker.specs.declared.verdict.Verdict.TheVariants as verdicts
-use Rattle.tree_checker.specs.Reasons.{first_reason, verdict_of}
-use Rattle.tree_checker.specs.Progress.{Progress, reason_if, IsUnderWay, IsMadeFor}
+use Rattle.tree_checker.specs.declared.verdict.Verdict.TheVariants as plain
+use Rattle.tree_checker.specs.declared.gap_verdict.GapRejectAt.{GapRejectAt}
+use Rattle.tree_checker.specs.declared.gap_verdict.GapWhy.TheVariants as whys
+use Rattle.tree_checker.specs.declared.gap_verdict.GapVerdict.{GapVerdict}
+use Rattle.tree_checker.specs.declared.gap_verdict.GapVerdict.TheVariants as verdicts
+use Rattle.tree_checker.specs.GapReasons.{plain_at, gap_verdict_of}
+use Rattle.tree_checker.specs.Progress.{Progress, reason_if, reason_at_end, gap_reason_if, gap_reason_at_end, IsUnderWay, IsMadeFor}
 use Rattle.plan_command.specs.declared.judge.Judge.{Judge}
 use Rattle.plan_command.specs.declared.intake.Intake.{Intake}
 use Rattle.plan_command.specs.declared.intake.Intake.TheVariants as intakes
 use Rattle.plan_command.specs.declared.intake.Judgement.{Judgement}
 use Rattle.plan_command.specs.declared.status.Stop.{Stop}
 use Rattle.plan_command.specs.declared.status.Stop.TheVariants as stops
+use Rattle.plan_command.specs.declared.status.Refusal.TheVariants as refusals
 use Rattle.plan_command.specs.Spaces.{SkipsSpaces}
-use Rattle.plan_command.specs.Plans.{BeginsWith, IsPlanRest, HasFault}
-use Rattle.plan_command.specs.Commands.{IsInput, HasBadPlan}
+use Rattle.plan_command.specs.Plans.{BeginsWith, HasFaultIn}
+use Rattle.plan_command.specs.Families.{IsRestOf, IsInputOf, IsAccepted, reason_against}
+use Rattle.plan_command.specs.Commands.{HasBadText}
 
 -- no front of the bytes ends with a line `end`
 abbrev pub HasNoEnd : List ℕ → Type 0
@@ -39,26 +47,37 @@ abbrev pub HasGathered : List ℕ → List ℕ → Option ℕ → List ℕ → T
 HasGathered old piece None new = (new ≡ old ++ piece) × HasNoEndBefore old piece (length piece + 1)
 HasGathered old piece (Some used) new = (used ≤ length piece) × (new ≡ old ++ take used piece) × EndsWithEnd new × HasNoEndBefore old piece used
 
--- the records among what was told
-abbrev pub nodes_in : List PlanItem → List TreeNode
+-- the nodes among what was told
+abbrev pub nodes_in : List PlanItem → List GapNode
 nodes_in [] = []
 nodes_in (items.Head s w c n ∷ more) = nodes_in more
-nodes_in (items.Node r ∷ more) = shape_of r ∷ nodes_in more
+nodes_in (items.Node r ∷ more) = r ∷ nodes_in more
 nodes_in (items.End ∷ more) = nodes_in more
 
--- where a head was told first, the checker has this path, and leads to the first reason against the plan of that head and
--- of the records so far, whatever records follow
-abbrev pub LeadsToReason : Problem → List PlanItem → List ℕ → Progress → Type 0
-LeadsToReason p (items.Head s w c n ∷ more) path checker =
-    (path ≡ s.path) × ((later : List TreeNode) → reason_if p checker later ≡ first_reason p (record { standing = s; weight = w; tree = nodes_in more ++ later }))
-LeadsToReason p told path checker = Unit {0}
+-- the first reason, should these nodes follow and then the end, with this ceiling in the head
+abbrev pub leads_to : Family → Problem → Progress → ℕ → List GapNode → Option GapRejectAt
+leads_to Plans p g ceiling nodes = plain_at (reason_if p g (map shape_of nodes))
+leads_to Gaps p g ceiling nodes = gap_reason_if p g ceiling nodes
 
--- a checker that was told these items, and the path among them
-pub record HasHeard (p : Problem) (told : List PlanItem) (path : List ℕ) (checker : Progress) : Type 0 where
+-- and should the end follow
+abbrev pub leads_at_end : Family → Progress → ℕ → Option GapRejectAt
+leads_at_end Plans g ceiling = plain_at (reason_at_end g)
+leads_at_end Gaps g ceiling = gap_reason_at_end g ceiling
+
+-- where a head was told first, it has this path and this ceiling, and the checker leads to the first reason against the plan
+-- or gap plan of that head and of the nodes so far, whatever nodes follow
+abbrev pub LeadsToReason : Family → Problem → List PlanItem → List ℕ → ℕ → Progress → Type 0
+LeadsToReason family p (items.Head s w c n ∷ more) path ceiling checker =
+    (path ≡ s.path) × (ceiling ≡ c)
+    × ((later : List GapNode) → leads_to family p checker c later ≡ reason_against family p (record { standing = s; weight = w; ceiling = c; nodes = nodes_in more ++ later }))
+LeadsToReason family p told path ceiling checker = Unit {0}
+
+-- a checker that was told these items, and the path and the ceiling among them
+pub record HasHeard (family : Family) (p : Problem) (told : List PlanItem) (path : List ℕ) (ceiling : ℕ) (checker : Progress) : Type 0 where
   pub under_way : IsUnderWay p checker
   pub made_for : IsMadeFor p checker
-  pub line : checker.line ≤ 5 + length (nodes_in told)
-  pub reason : LeadsToReason p told path checker
+  pub line : checker.line ≤ 6 + length (nodes_in told)
+  pub reason : LeadsToReason family p told path ceiling checker
 
 -- a head is told first of all
 abbrev pub IsNextItem : List PlanItem → PlanItem → Type 0
@@ -66,102 +85,109 @@ IsNextItem told (items.Head s w c n) = told ≡ []
 IsNextItem told (items.Node r) = Unit {0}
 IsNextItem told items.End = Unit {0}
 
--- a judge that took this text of a plan: its feed has read it, and its checker was told what it says
-pub record HasTakenText (text : List ℕ) (judge : Judge) : Type 0 where
+-- a judge of texts of the family that took this text: its feed has read it, and its checker was told what it says
+pub record HasTakenText (family : Family) (text : List ℕ) (judge : Judge) : Type 0 where
+  pub same : judge.family ≡ family
   pub told : List PlanItem
-  pub read : HasRead Plans judge.sc text told judge.feed
-  pub heard : HasHeard judge.sc told judge.path judge.checker
+  pub read : HasRead family judge.sc text told judge.feed
+  pub heard : HasHeard family judge.sc told judge.path judge.ceiling judge.checker
 
 -- a judge that took these bytes behind a scenario: blanks, and then the text
-pub record HasTakenRest (rest : List ℕ) (judge : Judge) : Type 0 where
+pub record HasTakenRest (family : Family) (rest : List ℕ) (judge : Judge) : Type 0 where
   pub text : List ℕ
   pub skips : SkipsSpaces rest text
   pub none : judge.begun ≡ false → text ≡ []
   pub some : judge.begun ≡ true → 0 < length text
-  pub taken : HasTakenText text judge
+  pub taken : HasTakenText family text judge
 
--- the first reason against a plan, or that it is accepted
-pub record IsVerdictOn (p : Problem) (plan : Plan) (verdict : Verdict) : Type 0 where
-  pub exact : verdict ≡ verdict_of (first_reason p plan)
-  pub accepted : (verdict ≡ verdicts.Accepted) ↔ Accepts p plan
+-- the verdict on a plan, as one on a gap plan
+abbrev pub plain_verdict : Verdict → GapVerdict
+plain_verdict plain.Accepted = verdicts.Accepted
+plain_verdict (plain.Rejected at) = verdicts.Rejected (record { line = at.line; why = whys.Plain at.why })
 
--- behind the scenario this plan follows, and this is its verdict
-abbrev pub IsJudged : Problem → List ℕ → Plan → Verdict → Type 0
-IsJudged p rest plan verdict = IsPlanRest p rest plan × IsVerdictOn p plan verdict
+-- the first reason against a plan or gap plan, or that it is accepted
+pub record IsVerdictOn (family : Family) (p : Problem) (plan : GapPlan) (verdict : GapVerdict) : Type 0 where
+  pub exact : verdict ≡ gap_verdict_of (reason_against family p plan)
+  pub accepted : (verdict ≡ verdicts.Accepted) ↔ IsAccepted family p plan
 
--- the verdict on the plan that these bytes are, which has this path, or what is wrong with them
-abbrev pub TellsRest : Problem → List ℕ → List ℕ → Result Verdict PlanFault → Type 0
-TellsRest p path rest (Ok verdict) = (plan : Plan) × IsJudged p rest plan verdict × (path ≡ plan.standing.path)
-TellsRest p path rest (Err fault) = HasFault p rest fault
+-- behind the scenario it follows, and this is its verdict
+abbrev pub IsJudged : Family → Problem → List ℕ → GapPlan → GapVerdict → Type 0
+IsJudged family p rest plan verdict = IsRestOf family p rest plan × IsVerdictOn family p plan verdict
 
--- the input is a scenario and a plan, and this is the plan's path and the verdict on it, or what the input lacks
-abbrev pub Judges : List ℕ → Result Judgement Stop → Type 0
-Judges input (Ok judged) = (plan : Plan) × IsInput input judged.sc plan × IsVerdictOn judged.sc plan judged.verdict × (judged.path ≡ plan.standing.path)
-Judges input (Err (stops.BadScenario fault)) = front_of input ≡ Err fault
-Judges input (Err (stops.BadPlan fault)) = HasBadPlan input fault
-Judges input (Err stops.NoMemory) = Unit {0}
-Judges input (Err _) = ⊥
+-- the verdict on the plan or gap plan that these bytes are, which has this path, or what is wrong with them
+abbrev pub TellsRest : Family → Problem → List ℕ → List ℕ → Result GapVerdict PlanFault → Type 0
+TellsRest family p path rest (Ok verdict) = (plan : GapPlan) × IsJudged family p rest plan verdict × (path ≡ plan.standing.path)
+TellsRest family p path rest (Err fault) = HasFaultIn family p rest fault
+
+-- what an input lacks: a fault of the scenario's text, or one of the plan's, unless memory ran out
+abbrev pub LacksBy : (TextFault → Type 0) → (PlanFault → Type 0) → Stop → Type 0
+LacksBy Front Behind (stops.Refused (refusals.BadScenario fault)) = Front fault
+LacksBy Front Behind (stops.Refused (refusals.BadPlan fault)) = Behind fault
+LacksBy Front Behind stops.NoMemory = Unit {0}
+LacksBy Front Behind _ = ⊥
+
+-- the input is a scenario and a plan or gap plan, and this is its path and the verdict on it, or what the input lacks
+abbrev pub Judges : Family → List ℕ → Result Judgement Stop → Type 0
+Judges family input (Ok judged) =
+    (plan : GapPlan) × IsInputOf family input judged.sc plan × IsVerdictOn family judged.sc plan judged.verdict × (judged.path ≡ plan.standing.path)
+Judges family input (Err stop) = LacksBy (λ fault. front_of input ≡ Err fault) (HasBadText family input) stop
 
 -- the input begins with the scenario of a judge, which took the rest of it
-pub record IsBehind (input : List ℕ) (judge : Judge) : Type 0 where
+pub record IsBehind (family : Family) (input : List ℕ) (judge : Judge) : Type 0 where
   pub rest : List ℕ
   pub begins : BeginsWith judge.sc input rest
-  pub taken : HasTakenRest rest judge
+  pub taken : HasTakenRest family rest judge
 
 -- the input begins with a scenario, and what follows has this fault, and so it has whatever follows it
-pub record LacksPlan (input : List ℕ) (fault : PlanFault) : Type 0 where
+pub record LacksText (family : Family) (input : List ℕ) (fault : PlanFault) : Type 0 where
   pub problem : Problem
   pub rest : List ℕ
   pub begins : BeginsWith problem input rest
-  pub faulty : (more : List ℕ) → HasFault problem (rest ++ more) fault
+  pub faulty : (more : List ℕ) → HasFaultIn family problem (rest ++ more) fault
 
 -- the judge behind a scenario took these bytes, or they have this fault, and so they have whatever follows
-abbrev pub JudgesRest : Problem → List ℕ → Result Judge Stop → Type 0
-JudgesRest p rest (Ok judge) = (judge.sc ≡ p) × HasTakenRest rest judge
-JudgesRest p rest (Err (stops.BadPlan fault)) = (more : List ℕ) → HasFault p (rest ++ more) fault
-JudgesRest p rest (Err stops.NoMemory) = Unit {0}
-JudgesRest p rest (Err _) = ⊥
+abbrev pub JudgesRest : Family → Problem → List ℕ → Result Judge Stop → Type 0
+JudgesRest family p rest (Ok judge) = (judge.sc ≡ p) × HasTakenRest family rest judge
+JudgesRest family p rest (Err stop) = LacksBy (λ fault. ⊥) (λ fault. (more : List ℕ) → HasFaultIn family p (rest ++ more) fault) stop
 
 -- the judge behind the scenario of the input, or what the input lacks
-abbrev pub JudgesFront : List ℕ → Result Judge Stop → Type 0
-JudgesFront input (Ok judge) = IsBehind input judge
-JudgesFront input (Err (stops.BadScenario fault)) = front_of input ≡ Err fault
-JudgesFront input (Err (stops.BadPlan fault)) = LacksPlan input fault
-JudgesFront input (Err stops.NoMemory) = Unit {0}
-JudgesFront input (Err _) = ⊥
+abbrev pub JudgesFront : Family → List ℕ → Result Judge Stop → Type 0
+JudgesFront family input (Ok judge) = IsBehind family input judge
+JudgesFront family input (Err stop) = LacksBy (λ fault. front_of input ≡ Err fault) (LacksText family input) stop
 
 -- whatever follows these bytes, the input lacks this
-abbrev pub Lacks : List ℕ → Stop → Type 0
-Lacks bytes (stops.BadScenario fault) = (more : List ℕ) → front_of (bytes ++ more) ≡ Err fault
-Lacks bytes (stops.BadPlan fault) = (more : List ℕ) → HasBadPlan (bytes ++ more) fault
-Lacks bytes stops.NoMemory = Unit {0}
-Lacks bytes _ = ⊥
+abbrev pub Lacks : Family → List ℕ → Stop → Type 0
+Lacks family bytes stop =
+    LacksBy (λ fault. (more : List ℕ) → front_of (bytes ++ more) ≡ Err fault) (λ fault. (more : List ℕ) → HasBadText family (bytes ++ more) fault) stop
 
 -- whatever follows these bytes, they begin with the scenario of a judge, which took the rest of them
-pub record IsBehindAll (bytes : List ℕ) (judge : Judge) : Type 0 where
+pub record IsBehindAll (family : Family) (bytes : List ℕ) (judge : Judge) : Type 0 where
   pub rest : List ℕ
   pub begins : (more : List ℕ) → BeginsWith judge.sc (bytes ++ more) (rest ++ more)
-  pub taken : HasTakenRest rest judge
+  pub taken : HasTakenRest family rest judge
 
--- these bytes were taken; they are kept only while none of their fronts ends with a line `end`, so never past the first
-abbrev pub HasTaken : List ℕ → Intake → Type 0
-HasTaken bytes (intakes.Scenario alloc text) = (text.items ≡ bytes) × HasNoEnd bytes
-HasTaken bytes (intakes.Plan judge) = IsBehindAll bytes judge
-HasTaken bytes (intakes.Refused stop) = Lacks bytes stop
+-- these bytes were taken of a scenario and a text of the family; they are kept only while none of their fronts ends with a
+-- line `end`, so never past the first
+abbrev pub HasTaken : Family → List ℕ → Intake → Type 0
+HasTaken family bytes (intakes.Scenario alloc due text) = (due ≡ family) × (text.items ≡ bytes) × HasNoEnd bytes
+HasTaken family bytes (intakes.Plan judge) = IsBehindAll family bytes judge
+HasTaken family bytes (intakes.Stopped stop) = Lacks family bytes stop
 
 -- a judge took a piece more, or the piece has a fault, and so it has whatever follows
-abbrev pub GoesOn : Judge → List ℕ → Intake → Type 0
-GoesOn judge piece (intakes.Scenario alloc text) = ⊥
-GoesOn judge piece (intakes.Plan new) = (new.sc ≡ judge.sc) × ((rest : List ℕ) → HasTakenRest rest judge → HasTakenRest (rest ++ piece) new)
-GoesOn judge piece (intakes.Refused (stops.BadPlan fault)) = (rest more : List ℕ) → HasTakenRest rest judge → HasFault judge.sc (rest ++ piece ++ more) fault
-GoesOn judge piece (intakes.Refused _) = ⊥
+abbrev pub GoesOn : Family → Judge → List ℕ → Intake → Type 0
+GoesOn family judge piece (intakes.Scenario alloc due text) = ⊥
+GoesOn family judge piece (intakes.Plan new) =
+    (new.sc ≡ judge.sc) × ((rest : List ℕ) → HasTakenRest family rest judge → HasTakenRest family (rest ++ piece) new)
+GoesOn family judge piece (intakes.Stopped (stops.Refused (refusals.BadPlan fault))) =
+    (rest more : List ℕ) → HasTakenRest family rest judge → HasFaultIn family judge.sc (rest ++ piece ++ more) fault
+GoesOn family judge piece (intakes.Stopped _) = ⊥
 
 -- a piece was added to the lines of a scenario, which didn't end, or it was taken where these ended
-abbrev pub GathersOn : List ℕ → List ℕ → List ℕ → Option Intake → Type 0
-GathersOn old piece new None = (new ≡ old ++ piece) × HasNoEndBefore old piece (length piece + 1)
-GathersOn old piece new (Some intake) = HasTaken (old ++ piece) intake
+abbrev pub GathersOn : Family → List ℕ → List ℕ → List ℕ → Option Intake → Type 0
+GathersOn family old piece new None = (new ≡ old ++ piece) × HasNoEndBefore old piece (length piece + 1)
+GathersOn family old piece new (Some intake) = HasTaken family (old ++ piece) intake
 
 -- an intake took these bytes, or the one that it becomes
-abbrev pub Becomes : List ℕ → Intake → Option Intake → Type 0
-Becomes bytes intake None = HasTaken bytes intake
-Becomes bytes intake (Some next) = HasTaken bytes next
+abbrev pub Becomes : Family → List ℕ → Intake → Option Intake → Type 0
+Becomes family bytes intake None = HasTaken family bytes intake
+Becomes family bytes intake (Some next) = HasTaken family bytes next

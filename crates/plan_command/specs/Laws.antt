@@ -8,22 +8,21 @@ use Rattle.plan_command.specs.declared.request.Request.TheVariants.{Check}
 use Rattle.plan_command.specs.declared.status.Status.{Status}
 use Rattle.plan_command.specs.declared.status.Status.TheVariants.{Done}
 use Rattle.plan_command.specs.declared.request.TheConstants.{MOST_SCENARIO}
-use Rattle.plan_command.specs.Plans.{BeginsWith}
-use Rattle.plan_command.specs.Commands.{IsPlanned}
+use Rattle.plan_command.specs.Plans.{IsPlanOf, BeginsWith}
 use Rattle.plan_command.specs.Complete.{IsWithin, IsDue, IsUnlessNoMemory}
 
 -- what is planned is accepted: where `text` is planned for an input, and stands behind any text of a scenario that is the
 -- same search, then a check of both is due to say that it is accepted
 abbrev pub PlannedIsAccepted : Type 0
-PlannedIsAccepted = (p q : Problem) (nodes : ℕ) (input text both : List ℕ) (status : Status) →
-    IsTextOf p input → AreSame p q → IsPlanned nodes input text → BeginsWith q both text → IsDue Check both status → IsUnlessNoMemory Done status
+PlannedIsAccepted = (words : List (List ℕ)) (p q : Problem) (nodes : ℕ) (input text both : List ℕ) (status : Status) →
+    IsTextOf p input → AreSame p q → IsPlanOf nodes p text → BeginsWith q both text → IsDue words Check both status → IsUnlessNoMemory Done status
 
 -- it does so behind the canonical text of the scenario
 abbrev pub PlannedBehindCanonical : Type 0
-PlannedBehindCanonical = (p : Problem) (nodes : ℕ) (input text : List ℕ) (status : Status) →
-    IsTextOf p input → IsPlanned nodes input text → IsDue Check (canonical_text p ++ text) status → IsUnlessNoMemory Done status
+PlannedBehindCanonical = (words : List (List ℕ)) (p : Problem) (nodes : ℕ) (input text : List ℕ) (status : Status) →
+    IsTextOf p input → IsPlanOf nodes p text → IsDue words Check (canonical_text p ++ text) status → IsUnlessNoMemory Done status
 
 -- and what is planned isn't too long for a check behind any text of a scenario that isn't too long to be planned
 abbrev pub PlannedIsWithin : Type 0
-PlannedIsWithin = (q : Problem) (nodes : ℕ) (input text both : List ℕ) (begins : BeginsWith q both text) →
-    IsPlanned nodes input text → begins.bytes ≤ MOST_SCENARIO → IsWithin Check both
+PlannedIsWithin = (p q : Problem) (nodes : ℕ) (input text both : List ℕ) (begins : BeginsWith q both text) →
+    IsTextOf p input → IsPlanOf nodes p text → begins.bytes ≤ MOST_SCENARIO → IsWithin Check both

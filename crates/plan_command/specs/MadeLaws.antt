@@ -10,6 +10,7 @@ use Rattle.duo_search.specs.Product.{pair_value, IsProduct}
 use Rattle.duo_search.specs.Pairs.{IsPathFrom, firsts_of, seconds_of}
 use Rattle.bound_tree.specs.declared.plan.Plan.{Plan}
 use Rattle.bound_tree.specs.Accepts.{Accepts}
+use Rattle.plan_command.specs.declared.request.Request.TheVariants.{Check}
 use Rattle.plan_command.specs.Plans.{IsCertified}
 use Rattle.plan_command.specs.Commands.{IsInput}
 use Rattle.plan_command.specs.declared.flown.FlownWhy.{FlownWhy}
@@ -17,6 +18,7 @@ use Rattle.plan_command.specs.declared.pairing.DuoWhy.{DuoWhy}
 use Rattle.plan_command.specs.Flown.{AreNamed, IsFlown, IsUnflown, IsBadFlown}
 use Rattle.plan_command.specs.Duos.{Names, IsBadDuo}
 use Rattle.plan_command.specs.MadePlans.{IsMadeAndPlanned}
+use Rattle.plan_command.specs.Complete.{IsWithin}
 
 -- the planned path, taken back, is the best of those that begin with the flown prefix
 abbrev pub ReplannedIsBest : Type 0
@@ -35,6 +37,10 @@ PairedIsBest = (p q : Problem) (second : ℕ) (plan : Plan) → IsProblem p → 
 abbrev pub MadeIsAccepted : Type 0
 MadeIsAccepted = (q : Problem) (nodes : ℕ) (text : List ℕ) → IsProblem q → IsMadeAndPlanned nodes q text →
     (r : Problem) × (plan : Plan) × AreSame q r × IsInput text r plan × Accepts r plan
+
+-- and it isn't too long for a check
+abbrev pub MadeIsWithin : Type 0
+MadeIsWithin = (q : Problem) (nodes : ℕ) (text : List ℕ) → IsProblem q → IsMadeAndPlanned nodes q text → IsWithin Check text
 
 -- names are those of one prefix
 abbrev pub OnePrefixIsNamed : Type 0

@@ -1,24 +1,42 @@
 -- What a call has done that ends so.
-use Rattle.std.specs.Prelude.{◌≡◌, ◌≤◌, ◌+◌, ◌⊎◌, ℕ, Bool, List, Some, codes, length}
+use Rattle.std.specs.Prelude.{◌≡◌, ◌≤◌, ◌+◌, ◌⊎◌, ◌↔◌, ◌++◌, ℕ, Bool, List, Some, None, codes, length, map}
 use Rattle.std.specs.Io.KnownBytes.{Consumes, Appends, IsAtEnd}
 use Rattle.byte_ports.specs.Causes.{Rose}
 use Rattle.byte_ports.specs.Taken.{TakesCount, TakesAtMost}
 use Rattle.search_model.specs.Problem.{Problem}
-use Rattle.search_model.specs.Order.{IsBest}
+use Rattle.search_model.specs.Order.{IsBest, Starts}
+use Rattle.searcher_maps.specs.Carried.{IsBestAmong}
+use Rattle.residual_plan.specs.Forced.{source_of, IsForced}
+use Rattle.duo_search.specs.Product.{pair_value, IsProduct}
+use Rattle.duo_search.specs.Pairs.{IsPathFrom, firsts_of, seconds_of}
+use Rattle.scenario_text.specs.declared.kind.TextFault.{TextFault}
 use Rattle.scenario_text.specs.Scenarios.{IsTextOf}
 use Rattle.scenario_text.specs.Canonical.{canonical_text}
 use Rattle.bound_tree.specs.declared.plan.Plan.{Plan as APlan}
+use Rattle.bound_tree.specs.declared.gap.GapPlan.{GapPlan}
 use Rattle.bound_tree.specs.Accepts.{Accepts}
-use Rattle.tree_format.specs.PlanText.{IsPlanText2}
+use Rattle.mission_report.specs.Map.{map_text}
+use Rattle.tree_format.specs.declared.kind.PlanFault.{PlanFault}
+use Rattle.tree_format.specs.PlanText.{IsPlanText2, IsGapText}
 use Rattle.tree_checker.specs.declared.verdict.RejectAt.{RejectAt}
 use Rattle.scenario_maker.specs.Made.{made_problem}
 use Rattle.plan_command.specs.declared.request.Request.{Request}
-use Rattle.plan_command.specs.declared.request.Request.TheVariants.{Plan, Check, Report, Make, Drill, Convert}
-use Rattle.plan_command.specs.Words.{Spells, limit_of}
-use Rattle.plan_command.specs.Lines.{rejection_of}
+use Rattle.plan_command.specs.declared.request.Request.TheVariants.{Plan, Check, Report, Make, Drill, Convert, Gap, Replan, Map, Duo}
+use Rattle.plan_command.specs.declared.status.Status.{Status}
+use Rattle.plan_command.specs.declared.status.Status.TheVariants as statuses
+use Rattle.plan_command.specs.declared.status.Refusal.{Refusal}
+use Rattle.plan_command.specs.declared.status.Refusal.TheVariants.{BadScenario, BadPlan, BadFlown, BadDuo, TooManyNodes}
+use Rattle.plan_command.specs.declared.flown.FlownWhy.{FlownWhy}
+use Rattle.plan_command.specs.declared.pairing.DuoWhy.{DuoWhy}
+use Rattle.plan_command.specs.Words.{Spells, SpellNone, limit_of, names_behind}
+use Rattle.plan_command.specs.Lines.{rejection_of, refused_status}
 use Rattle.plan_command.specs.Plans.{IsCertified}
-use Rattle.plan_command.specs.Commands.{IsInput, IsRejected, report_of, IsDrilled, NeedsAccepted}
-use Rattle.plan_command.specs.Run.{Call}
+use Rattle.plan_command.specs.GapPlans.{IsGapped}
+use Rattle.plan_command.specs.Flown.{IsFlown}
+use Rattle.plan_command.specs.Duos.{Names}
+use Rattle.plan_command.specs.Commands.{IsInput, IsRejected, report_of, IsDrilled, NeedsAccepted, Refuses}
+use Rattle.plan_command.specs.Run.{Call, IsRefusal, IsCutOff}
+use Rattle.plan_command.specs.Complete.{IsHeard, IsUndisturbed, IsWithin, IsLonger, IsFeasible, IsAcceptable, IsRejectable, IsUnlessNoMemory, IsDue, IsByText}
 
 -- the source was read to its end, and these are its bytes
 abbrev pub ReadsAll : Call → List ℕ → Type 0
@@ -43,6 +61,48 @@ abbrev pub Plans : Call → Type 0
 Plans c = (workers nodes : ℕ) → Spells c.words (Plan workers nodes) →
     (p : Problem) × (input : List ℕ) × IsTextOf p input × ReadsAll c input
     × ((plan : APlan) × (text : List ℕ) × IsCertified p plan × (length plan.tree ≤ nodes) × IsPlanText2 p plan text × Writes c text)
+
+-- where a gap plan was asked for, the input is the text of a scenario alone, and `out` grew by the text of a gap plan: a path
+-- that isn't worse than the opening, its exact value, a ceiling that no path exceeds, and nodes that are accepted for it. At
+-- most as many records as were allowed are closed; where nothing waits, the path is the best, and else there are more live
+-- prefixes than that, and exactly so many records
+abbrev pub Gaps : Call → Type 0
+Gaps c = (workers nodes : ℕ) → Spells c.words (Gap workers nodes) →
+    (p : Problem) × (input : List ℕ) × IsTextOf p input × ReadsAll c input
+    × ((plan : GapPlan) × (text : List ℕ) × IsGapped nodes p plan × IsGapText p plan text × Writes c text)
+
+-- where a plan behind a flown prefix was asked for, the input is the text of a scenario alone, and `out` grew by the canonical
+-- text of a scenario that forces the prefix of the names, and at once behind it by the text of its plan, as for a plan; its
+-- path, taken back, is the best of those that begin with the prefix
+abbrev pub Replans : Call → Type 0
+Replans c = (workers nodes flown : ℕ) → Spells c.words (Replan workers nodes flown) →
+    (p q : Problem) × (input prefix : List ℕ) × IsTextOf p input × ReadsAll c input
+    × IsFlown p (names_behind flown c.words) prefix × IsForced p prefix q
+    × ((plan : APlan) × (text : List ℕ) × IsCertified q plan × (length plan.tree ≤ nodes) × IsPlanText2 q plan text
+    × IsBestAmong p (Starts prefix) (map (source_of p prefix) plan.standing.path) × Writes c (canonical_text q ++ text))
+
+-- where a map was asked for, the input is the text of a scenario alone, and `out` grew by the map of the prefix of the names
+abbrev pub Maps : Call → Type 0
+Maps c = (flown : ℕ) → Spells c.words (Map flown) →
+    (p : Problem) × (input prefix : List ℕ) × IsTextOf p input × ReadsAll c input
+    × IsFlown p (names_behind flown c.words) prefix × Writes c (map_text p prefix)
+
+-- the path of a product scenario stands for two paths, from both starts; together they find what its plan says, and no two
+-- such paths find more
+pub record FindsMost (p : Problem) (second : ℕ) (plan : APlan) : Type 0 where
+  pub first_path : IsPathFrom p p.start (firsts_of p.positions plan.standing.path)
+  pub second_path : IsPathFrom p second (seconds_of p.positions plan.standing.path)
+  pub value : plan.standing.value ≡ pair_value p (firsts_of p.positions plan.standing.path) (seconds_of p.positions plan.standing.path)
+  pub most : (a b : List ℕ) → IsPathFrom p p.start a → IsPathFrom p second b → pair_value p a b ≤ plan.standing.value
+
+-- where a plan for two was asked for, the input is the text of a scenario alone, and `out` grew by the canonical text of the
+-- product scenario for the second start, and at once behind it by the text of its plan, as for a plan
+abbrev pub Pairs : Call → Type 0
+Pairs c = (workers nodes : ℕ) (name : List ℕ) → Spells c.words (Duo workers nodes name) →
+    (p q : Problem) × (input : List ℕ) × (second : ℕ) × IsTextOf p input × ReadsAll c input
+    × Names p name second × IsProduct p second q
+    × ((plan : APlan) × (text : List ℕ) × IsCertified q plan × (length plan.tree ≤ nodes) × IsPlanText2 q plan text
+    × FindsMost p second plan × Writes c (canonical_text q ++ text))
 
 -- the input is a scenario and a plan that is accepted, so that its path is the best
 abbrev pub ReadsBest : Call → Problem → APlan → Type 0
@@ -86,3 +146,60 @@ TakesTooMuch c = (request : Request) × (limit : ℕ) × Spells c.words request 
 abbrev pub FailsToRead : Call → Type 0
 FailsToRead c = (request : Request) × (limit : ℕ) × Spells c.words request × (limit_of request ≡ Some limit)
     × TakesAtMost c.before.source.left c.after.source.left limit × Rose c.before.source.faults c.after.source.faults × WritesNothing c
+
+-- What a run has done that ends with this status.
+pub record Keeps (c : Call) (status : Status) : Type 0 where
+  -- `plan` at Done, for every number of workers and every interleaving: the best path with its exact value
+  pub planned : status ≡ statuses.Done → Plans c
+  -- `gap` at Done, for every number of workers and every interleaving: a path, and a proved ceiling of all paths
+  pub gapped : status ≡ statuses.Done → Gaps c
+  -- `replan`: the best path among those that begin with the flown prefix
+  pub replanned : status ≡ statuses.Done → Replans c
+  -- `map`: where the target may be in each flown period
+  pub mapped : status ≡ statuses.Done → Maps c
+  -- `duo`: the two paths that together find most
+  pub paired : status ≡ statuses.Done → Pairs c
+  -- `check`: it read a plan that is accepted, so that its path is the best
+  pub accepted : status ≡ statuses.Done → Affirms c
+  -- `report`, as lines or as JSON, and `convert`: they read the same
+  pub reported : status ≡ statuses.Done → Reports c
+  pub converted : status ≡ statuses.Done → Converts c
+  -- `make` and `drill`: what the number makes
+  pub made : status ≡ statuses.Done → Makes c
+  pub drilled : status ≡ statuses.Done → Drills c
+  -- Rejected comes only where the input is a scenario and a plan that isn't accepted, for this first reason
+  pub rejected : status ≡ statuses.Rejected → Rejects c
+  -- Usage comes exactly where the words spell no request
+  pub usage : (status ≡ statuses.Usage) ↔ SpellNone c.words
+  -- these come only where the whole input was read and is refused so
+  pub bad_scenario : status ≡ statuses.BadScenario → (fault : TextFault) × IsRefusal c (BadScenario fault)
+  pub bad_plan : status ≡ statuses.BadPlan → (fault : PlanFault) × IsRefusal c (BadPlan fault)
+  pub bad_flown : status ≡ statuses.BadFlown → (why : FlownWhy) × IsRefusal c (BadFlown why)
+  pub bad_duo : status ≡ statuses.BadDuo → (why : DuoWhy) × IsRefusal c (BadDuo why)
+  pub too_many_nodes : status ≡ statuses.TooManyNodes → (nodes : ℕ) × IsRefusal c (TooManyNodes nodes)
+  -- TooLong comes only where one byte more than the request's limit was taken
+  pub too_long : status ≡ statuses.TooLong → TakesTooMuch c
+  -- ReadFault only where the source's count rose in this call, and at most the limit was taken then
+  pub read_fault : status ≡ statuses.ReadFault → FailsToRead c
+  -- WriteFault only where the count of `out` rose; `out` grew by a front of the answer
+  pub write_fault : status ≡ statuses.WriteFault → Rose c.before.write_faults c.after.write_faults × IsCutOff c
+  -- at NoMemory `out` is unchanged, or grew by a front of the answer
+  pub no_memory : status ≡ statuses.NoMemory → WritesNothing c ⊎ IsCutOff c
+
+-- When a run ends so.
+pub record Completes (c : Call) (status : Status) : Type 0 where
+  -- an input that the source tells is answered, or refused, as it is due, where it is within the limit and no port fails
+  pub complete : (request : Request) (input : List ℕ) → IsUndisturbed c request input → IsDue c.words request input status
+  -- so what is asked of a scenario is written, where what is planned has no more live prefixes than the limit,
+  pub finishes : (request : Request) (input : List ℕ) → IsUndisturbed c request input → IsFeasible c.words request input → IsUnlessNoMemory statuses.Done status
+  -- a plan that is accepted is told to be, reported, or written anew,
+  pub accepts : (request : Request) (input : List ℕ) → IsUndisturbed c request input → IsAcceptable request input → IsUnlessNoMemory statuses.Done status
+  -- one that isn't is rejected,
+  pub rejects : (request : Request) (input : List ℕ) → IsUndisturbed c request input → IsRejectable request input → IsUnlessNoMemory statuses.Rejected status
+  -- and a request that reads nothing is answered
+  pub makes : (request : Request) → Spells c.words request → limit_of request ≡ None → (Rose c.before.write_faults c.after.write_faults → ⊥) → IsUnlessNoMemory statuses.Done status
+  -- a refusal by the input's text comes wherever it is due, whatever the sink does
+  pub refused : (request : Request) (input : List ℕ) (refusal : Refusal) → IsHeard c request input → IsWithin request input →
+      Refuses c.words request input refusal → IsByText refusal → IsUnlessNoMemory (refused_status refusal) status
+  -- and so does TooLong, of an input that is longer than the limit
+  pub longer : (request : Request) (input : List ℕ) → IsHeard c request input → IsLonger request input → IsUnlessNoMemory statuses.TooLong status

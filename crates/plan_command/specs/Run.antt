@@ -6,6 +6,7 @@ use Rattle.byte_ports.specs.Causes.{Rose}
 use Rattle.byte_ports.specs.Taken.{AppendsPrefix}
 use Rattle.plan_command.specs.declared.request.Request.{Request}
 use Rattle.plan_command.specs.declared.status.Status.{Status}
+use Rattle.plan_command.specs.declared.status.Refusal.{Refusal}
 use Rattle.plan_command.specs.declared.status.Stop.{Stop}
 use Rattle.plan_command.specs.declared.status.Stop.TheVariants as stops
 use Rattle.plan_command.specs.Words.{Spells, SpellNone, limit_of}
@@ -35,44 +36,45 @@ call words left read_faults wrote write_faults source source' out out' =
     record { words = words; before = shown left read_faults wrote write_faults source out; after = shown left read_faults wrote write_faults source' out' }
 
 -- The whole answer stands in `out`.
-pub record Delivered (request : Request) (before after : Shown) (status : Status) : Type 0 where
+pub record Delivered (words : List (List ℕ)) (request : Request) (before after : Shown) (status : Status) : Type 0 where
   pub input : List ℕ
   pub text : List ℕ
   pub read : Reads (limit_of request) before.source after.source input
-  pub answers : Answers request input status text
+  pub answers : Answers words request input status text
   pub written : Appends before.wrote after.wrote text
 
 -- A front of an answer stands in `out`, perhaps nothing of it.
-pub record CutOff (request : Request) (before after : Shown) : Type 0 where
+pub record CutOff (words : List (List ℕ)) (request : Request) (before after : Shown) : Type 0 where
   pub input : List ℕ
   pub text : List ℕ
   pub status : Status
   pub read : Reads (limit_of request) before.source after.source input
-  pub answers : Answers request input status text
+  pub answers : Answers words request input status text
   pub written : AppendsPrefix before.wrote after.wrote text
 
 -- The input was read whole and is refused.
-pub record Refused (request : Request) (before after : Shown) (stop : Stop) : Type 0 where
+pub record Refused (words : List (List ℕ)) (request : Request) (before after : Shown) (refusal : Refusal) : Type 0 where
   pub input : List ℕ
   pub read : Reads (limit_of request) before.source after.source input
-  pub refuses : Refuses request input stop
+  pub refuses : Refuses words request input refusal
   pub unwritten : after.wrote ≡ before.wrote
 
 -- Words of a request that refuses its input so.
-abbrev pub IsRefusal : Call → Stop → Type 0
-IsRefusal c stop = (request : Request) × Spells c.words request × Refused request c.before c.after stop
+abbrev pub IsRefusal : Call → Refusal → Type 0
+IsRefusal c refusal = (request : Request) × Spells c.words request × Refused c.words request c.before c.after refusal
 
 -- Words of a request whose answer was cut off.
 abbrev pub IsCutOff : Call → Type 0
-IsCutOff c = (request : Request) × Spells c.words request × CutOff request c.before c.after
+IsCutOff c = (request : Request) × Spells c.words request × CutOff c.words request c.before c.after
 
 -- What a stop says of a request that was read from the words.
-abbrev pub Stopped : Request → Shown → Shown → Stop → Type 0
-Stopped request before after stops.ReadFault = HasFailed (limit_of request) before.source after.source × (after.wrote ≡ before.wrote)
-Stopped request before after stops.TooLong = IsOverLong (limit_of request) before.source after.source × (after.wrote ≡ before.wrote)
-Stopped request before after stops.WriteFault = Rose before.write_faults after.write_faults × CutOff request before after
-Stopped request before after stops.NoMemory = (after.wrote ≡ before.wrote) ⊎ CutOff request before after
-Stopped request before after stop = Refused request before after stop
+abbrev pub Stopped : List (List ℕ) → Request → Shown → Shown → Stop → Type 0
+Stopped words request before after stops.Usage = ⊥
+Stopped words request before after stops.ReadFault = HasFailed (limit_of request) before.source after.source × (after.wrote ≡ before.wrote)
+Stopped words request before after stops.TooLong = IsOverLong (limit_of request) before.source after.source × (after.wrote ≡ before.wrote)
+Stopped words request before after (stops.Refused refusal) = Refused words request before after refusal
+Stopped words request before after stops.WriteFault = Rose before.write_faults after.write_faults × CutOff words request before after
+Stopped words request before after stops.NoMemory = (after.wrote ≡ before.wrote) ⊎ CutOff words request before after
 
 -- How a run ends: it delivers an answer, or it stops. Words that spell no request stop it before it reads.
 pub data Ending : Type 0 where
@@ -81,8 +83,8 @@ pub data Ending : Type 0 where
 
 abbrev pub Ends : Call → Ending → Type 0
 Ends c (stopped stops.Usage) = SpellNone c.words × (c.after ≡ c.before)
-Ends c (stopped stop) = (r : Request) × Spells c.words r × Stopped r c.before c.after stop
-Ends c (delivered status) = (r : Request) × Spells c.words r × Delivered r c.before c.after status
+Ends c (stopped stop) = (r : Request) × Spells c.words r × Stopped c.words r c.before c.after stop
+Ends c (delivered status) = (r : Request) × Spells c.words r × Delivered c.words r c.before c.after status
 
 abbrev pub status_at : Ending → Status
 status_at (delivered status) = status

@@ -1,12 +1,15 @@
 -- The words of the command line, read one after the other.
-use Rattle.std.specs.Prelude.{ℕ, true, false, ◌&&◌, nat_le, if◌then◌else◌, List, [], ◌∷◌, codes, Option, Some, None}
+use Rattle.std.specs.Prelude.{ℕ, Bool, true, false, ◌+◌, ◌&&◌, nat_le, if◌then◌else◌, List, [], ◌∷◌, length, take, drop, position, codes, Option, Some, None}
+use Rattle.std.specs.List.{list_all}
+use Rattle.std.specs.Option.{option_map}
 use Rattle.std.specs.Str.{bytes_eq}
 use Rattle.exact_parts.specs.declared.number.Number.{Number}
 use Rattle.exact_parts.specs.declared.number.Number.TheVariants.{NotPlain, Above, Of}
 use Rattle.exact_parts.specs.Decimal.{number_at}
+use Rattle.search_model.specs.Names.{is_name_byte}
 use Rattle.plan_command.specs.declared.request.Request.{Request}
-use Rattle.plan_command.specs.declared.request.Request.TheVariants.{Plan, Check, Report, Make, Drill, Convert}
-use Rattle.plan_command.specs.declared.request.TheConstants.{WORKERS, MOST_WORKERS}
+use Rattle.plan_command.specs.declared.request.Request.TheVariants.{Plan, Check, Report, Make, Drill, Convert, Gap, Replan, Map, Duo}
+use Rattle.plan_command.specs.declared.request.TheConstants.{WORKERS, MOST_WORKERS, MOST_CLOSED, MOST_FLOWN}
 use Rattle.bound_tree.specs.declared.tree.TheConstants.{MOST_NODES}
 
 -- the number that a word spells, where it is within these limits
@@ -18,39 +21,43 @@ at_least least Above = None
 abbrev pub number_within : ℕ → ℕ → List ℕ → Option ℕ
 number_within least most word = at_least least (number_at most word)
 
-abbrev pub workers_in : List ℕ → Option ℕ
-workers_in word = number_within 1 MOST_WORKERS word
-
-abbrev pub nodes_in : List ℕ → Option ℕ
-nodes_in word = number_within 1 MOST_NODES word
-
 abbrev pub number_in : List ℕ → Option ℕ
 number_in word = number_within 0 18446744073709551615 word
 
--- a request from one number, or from two
-abbrev pub asks : (ℕ → Request) → Option ℕ → Option Request
-asks request (Some n) = Some (request n)
-asks request None = None
+-- what two values make, where there are both
+abbrev pub of_both : {X Y Z : Type 0} → (X → Y → Z) → Option X → Option Y → Option Z
+of_both make (Some x) y = option_map (make x) y
+of_both make None y = None
 
-abbrev pub asks_both : (ℕ → ℕ → Request) → Option ℕ → Option ℕ → Option Request
-asks_both request (Some m) n = asks (request m) n
-asks_both request None n = None
+-- the number of an option, or its default
+abbrev pub option_at : List ℕ → ℕ → ℕ → List (List ℕ) → Option ℕ
+option_at name most default [] = Some default
+option_at name most default (word ∷ value ∷ []) = if bytes_eq word name then number_within 1 most value else None
+option_at name most default _ = None
 
-abbrev pub plan_with_one : List ℕ → List ℕ → Option Request
-plan_with_one name value =
-    if bytes_eq name (codes "--workers") then asks (λ w. Plan w MOST_NODES) (workers_in value) else
-    (if bytes_eq name (codes "--nodes") then asks (λ n. Plan WORKERS n) (nodes_in value) else None)
+abbrev pub workers_at : List (List ℕ) → Option ℕ
+workers_at words = option_at (codes "--workers") MOST_WORKERS WORKERS words
 
-abbrev pub plan_with_two : List ℕ → List ℕ → List ℕ → List ℕ → Option Request
-plan_with_two name value other number =
-    if bytes_eq name (codes "--workers") && bytes_eq other (codes "--nodes") then asks_both (λ w n. Plan w n) (workers_in value) (nodes_in number) else
-    (if bytes_eq name (codes "--nodes") && bytes_eq other (codes "--workers") then asks_both (λ n w. Plan w n) (nodes_in value) (workers_in number) else None)
+abbrev pub nodes_at : ℕ → List (List ℕ) → Option ℕ
+nodes_at most words = option_at (codes "--nodes") most most words
+
+-- whether the first word is this one
+abbrev pub begins_with : List ℕ → List (List ℕ) → Bool
+begins_with name [] = false
+begins_with name (word ∷ words) = bytes_eq word name
+
+-- the numbers of the options, workers first
+unfoldable pub options_at : ℕ → List (List ℕ) → Option (ℕ × ℕ)
+options_at most words =
+    if begins_with (codes "--nodes") words
+    then of_both (λ n w. (w, n)) (nodes_at most (take 2 words)) (workers_at (drop 2 words))
+    else of_both (λ w n. (w, n)) (workers_at (take 2 words)) (nodes_at most (drop 2 words))
 
 abbrev pub plan_at : List (List ℕ) → Option Request
-plan_at [] = Some (Plan WORKERS MOST_NODES)
-plan_at (name ∷ value ∷ []) = plan_with_one name value
-plan_at (name ∷ value ∷ other ∷ number ∷ []) = plan_with_two name value other number
-plan_at _ = None
+plan_at words = option_map (λ o. Plan o.0 o.1) (options_at MOST_NODES words)
+
+abbrev pub gap_at : List (List ℕ) → Option Request
+gap_at words = option_map (λ o. Gap o.0 o.1) (options_at MOST_CLOSED words)
 
 -- a request that has no words behind its command
 abbrev pub alone_at : Request → List (List ℕ) → Option Request
@@ -63,14 +70,52 @@ report_at (name ∷ value ∷ []) = if bytes_eq name (codes "--json") && bytes_e
 report_at _ = None
 
 abbrev pub make_at : List (List ℕ) → Option Request
-make_at (number ∷ []) = asks (λ n. Make n) (number_in number)
+make_at (number ∷ []) = option_map (λ n. Make n) (number_in number)
 make_at _ = None
 
 abbrev pub drill_at : List (List ℕ) → Option Request
-drill_at (number ∷ []) = asks (λ n. Drill n WORKERS) (number_in number)
-drill_at (number ∷ name ∷ value ∷ []) =
-    if bytes_eq name (codes "--workers") then asks_both (λ n w. Drill n w) (number_in number) (workers_in value) else None
-drill_at _ = None
+drill_at [] = None
+drill_at (number ∷ options) = of_both (λ n o. Drill n o.0) (number_in number) (options_at 0 options)
+
+-- whether a word is a name
+unfoldable pub is_name : List ℕ → Bool
+is_name word = nat_le 1 (length word) && (nat_le (length word) 24 && list_all is_name_byte word)
+
+abbrev pub name_in : List ℕ → Option (List ℕ)
+name_in word = if is_name word then Some word else None
+
+-- whether words are 1 to 32 names
+unfoldable pub are_flown : List (List ℕ) → Bool
+are_flown names = nat_le 1 (length names) && (nat_le (length names) MOST_FLOWN && list_all is_name names)
+
+-- the first place of a word
+abbrev pub place_of : List ℕ → List (List ℕ) → Option ℕ
+place_of name words = position (λ word. bytes_eq word name) words
+
+-- options in front of `flown` at this place, and names behind it
+abbrev pub replan_from : List (List ℕ) → Option ℕ → Option Request
+replan_from words (Some k) =
+    if are_flown (drop (k + 1) words) then option_map (λ o. Replan o.0 o.1 (k + 2)) (options_at MOST_NODES (take k words)) else None
+replan_from words None = None
+
+abbrev pub replan_at : List (List ℕ) → Option Request
+replan_at words = replan_from words (place_of (codes "flown") words)
+
+abbrev pub map_at : List (List ℕ) → Option Request
+map_at [] = None
+map_at (word ∷ names) = if bytes_eq word (codes "flown") && are_flown names then Some (Map 2) else None
+
+-- options, and the one word behind `start`
+abbrev pub duo_with : Option (ℕ × ℕ) → List (List ℕ) → Option Request
+duo_with options (name ∷ []) = of_both (λ second o. Duo o.0 o.1 second) (name_in name) options
+duo_with options _ = None
+
+abbrev pub duo_from : List (List ℕ) → Option ℕ → Option Request
+duo_from words (Some k) = duo_with (options_at MOST_NODES (take k words)) (drop (k + 1) words)
+duo_from words None = None
+
+abbrev pub duo_at : List (List ℕ) → Option Request
+duo_at words = duo_from words (place_of (codes "start") words)
 
 -- the request that the words spell
 unfoldable pub request_at : List (List ℕ) → Option Request
@@ -81,4 +126,8 @@ request_at (command ∷ words) =
     (if bytes_eq command (codes "report") then report_at words else
     (if bytes_eq command (codes "make") then make_at words else
     (if bytes_eq command (codes "drill") then drill_at words else
-    (if bytes_eq command (codes "convert") then alone_at Convert words else None)))))
+    (if bytes_eq command (codes "convert") then alone_at Convert words else
+    (if bytes_eq command (codes "gap") then gap_at words else
+    (if bytes_eq command (codes "replan") then replan_at words else
+    (if bytes_eq command (codes "map") then map_at words else
+    (if bytes_eq command (codes "duo") then duo_at words else None)))))))))

@@ -1,47 +1,48 @@
-//! The commands `check` and `report`.
+//! The commands `check` and `report`, and the check of a gap plan.
 
-ghost use Rattle.std.specs.Prelude.{◌≡◌, ◌++◌, ℕ, List, IfOk, OnOk, Ok};
-ghost use Rattle.search_model.specs.Problem.{Problem};
+ghost use Rattle.std.specs.Prelude.{◌≡◌, ◌++◌, ℕ, List, Some, IfOk, OnOk, Ok};
 ghost use Rattle.search_model.specs.Legal.{IsPath};
-ghost use Rattle.bound_tree.specs.declared.plan.Plan.{Plan};
-ghost use Rattle.plan_command.specs.Checks.{TellsVerdict};
-ghost use Rattle.plan_command.specs.Intakes.{IsVerdictOn, Judges};
+ghost use Rattle.tree_format.specs.declared.plan_line.Family.TheVariants as texts;
+ghost use Rattle.tree_checker.specs.declared.verdict.RejectAt.{RejectAt as PlainLem};
+ghost use Rattle.tree_checker.specs.GapReasons.{plain_at};
+ghost use Rattle.plan_command.specs.Checks.{TellsVerdict, ChecksGap};
+ghost use Rattle.plan_command.specs.Intakes.{Judges};
 ghost use Rattle.plan_command.specs.Commands.{report_of};
-ghost use Rattle.plan_command.specs.Lines.{rejection_of};
+ghost use Rattle.plan_command.specs.Lines.{gap_rejection_of};
 ghost use Rattle.plan_command.specs.Makes.{MakesOf};
 
 use crate::answer::Answer;
 use crate::intake::Judgement;
 use crate::request::Request;
-use crate::status::{Status, Stop};
+use crate::status::{Refusal, Status, Stop};
 use exact_parts::{NoMemory, push_u128};
 use mission_report::{push_report, push_report_json};
 use search_model::{Path, Scenario};
 use std::alloc::Global;
-use tree_checker::{RejectAt, Verdict, why_name};
+use tree_checker::{GapRejectAt, GapVerdict, GapWhy, RejectAt, gap_why_name};
 
 // The line of a rejection.
-fn rejection(alloc: Global, at: RejectAt) -> Result<Vec<u8>, NoMemory>
-    ensures { IfOk result (λ v. v.items ≡ rejection_of at) }
+fn rejection(alloc: Global, at: GapRejectAt) -> Result<Vec<u8>, NoMemory>
+    ensures { IfOk result (λ v. v.items ≡ gap_rejection_of at) }
 {
     let mut text = Vec::from_slice(alloc, b"rejected ")?;
     push_u128(&mut text, u128::from(at.line))?;
     text.push(b' ')?;
-    text.extend_from_slice(why_name(at.why).as_bytes())?;
+    text.extend_from_slice(gap_why_name(at.why).as_bytes())?;
     text.push(b'\n')?;
     Ok(text)
 }
 
-// Whether the plan is accepted, or the first reason against it.
-fn tell_verdict(alloc: Global, verdict: Verdict) -> Result<Answer, Stop>
-    ensures { (p : Problem) (plan : Plan) → IsVerdictOn p plan verdict → TellsVerdict p plan result }
+// Whether what was judged is accepted, or the first reason against it.
+fn tell_verdict(alloc: Global, verdict: GapVerdict) -> Result<Answer, Stop>
+    ensures { TellsVerdict verdict result }
 {
     match verdict {
-        Verdict::Accepted => Ok(Answer {
+        GapVerdict::Accepted => Ok(Answer {
             status: Status::Done,
             text: Vec::from_slice(alloc, b"accepted\n")?,
         }),
-        Verdict::Rejected(at) => Ok(Answer {
+        GapVerdict::Rejected(at) => Ok(Answer {
             status: Status::Rejected,
             text: rejection(alloc, at)?,
         }),
@@ -50,7 +51,15 @@ fn tell_verdict(alloc: Global, verdict: Verdict) -> Result<Answer, Stop>
 
 /// The verdict on the plan that follows the scenario in the input.
 pub fn answer_check(alloc: Global, judgement: Judgement) -> Result<Answer, Stop>
-    ensures { (input : List ℕ) → Judges input (Ok judgement) → MakesOf Request.Check input result }
+    ensures { (words : List (List ℕ)) (input : List ℕ) → Judges texts.Plans input (Ok judgement)
+        → MakesOf words Request.Check input result }
+{
+    tell_verdict(alloc, judgement.verdict)
+}
+
+/// The verdict on the gap plan that follows the scenario in the input.
+pub fn answer_checkgap(alloc: Global, judgement: Judgement) -> Result<Answer, Stop>
+    ensures { (input : List ℕ) → Judges texts.Gaps input (Ok judgement) → ChecksGap input result }
 {
     tell_verdict(alloc, judgement.verdict)
 }
@@ -77,16 +86,28 @@ fn report(alloc: Global, json: bool, sc: &Scenario, path: &Path) -> Result<Vec<u
     Ok(text)
 }
 
+// A reason against a plan, which is told as one against a gap plan.
+fn plain_reason(at: GapRejectAt) -> RejectAt
+    requires { (plain : PlainLem) × (plain_at (Some plain) ≡ Some at) }
+    ensures { plain_at (Some result) ≡ Some at }
+{
+    match at.why {
+        GapWhy::Plain(why) => RejectAt { line: at.line, why },
+        GapWhy::WaitingWrong | GapWhy::CeilingWrong => unreachable!(),
+    }
+}
+
 /// The report of an accepted plan, or the first reason against the plan.
 pub fn answer_report(alloc: Global, json: bool, judgement: &Judgement) -> Result<Answer, Stop>
-    requires { (input : List ℕ) × Judges input (Ok judgement.now) }
-    ensures { (input : List ℕ) → Judges input (Ok judgement.now) → MakesOf (Request.Report json) input result }
+    requires { (input : List ℕ) × Judges texts.Plans input (Ok judgement.now) }
+    ensures { (words : List (List ℕ)) (input : List ℕ) → Judges texts.Plans input (Ok judgement.now)
+        → MakesOf words (Request.Report json) input result }
 {
     match judgement.verdict {
-        Verdict::Accepted => Ok(Answer {
+        GapVerdict::Accepted => Ok(Answer {
             status: Status::Done,
             text: report(alloc, json, &judgement.sc, &judgement.path)?,
         }),
-        Verdict::Rejected(at) => Err(Stop::Rejected(at)),
+        GapVerdict::Rejected(at) => Err(Stop::Refused(Refusal::Rejected(plain_reason(at)))),
     }
 }

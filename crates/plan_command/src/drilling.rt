@@ -1,6 +1,6 @@
 //! The commands `make` and `drill`, which read nothing.
 
-ghost use Rattle.std.specs.Prelude.{◌≡◌, ◌∷◌, [], IfOk};
+ghost use Rattle.std.specs.Prelude.{◌≡◌, ◌∷◌, [], ℕ, List, IfOk};
 ghost use Rattle.search_model.specs.Tracks.{value_of};
 ghost use Rattle.bound_tree.specs.Accepts.{Accepts};
 ghost use Rattle.bound_tree.specs.Places.{AreInPlace};
@@ -9,12 +9,13 @@ ghost use Rattle.plan_command.specs.declared.request.Request.{Request};
 ghost use Rattle.scenario_maker.specs.Made.{made_problem};
 ghost use Rattle.plan_command.specs.Drills.{drill_text};
 ghost use Rattle.plan_command.specs.Commands.{IsDrilled};
-ghost use Rattle.plan_command.specs.Plans.{IsCertified};
+ghost use Rattle.plan_command.specs.Plans.{IsCertified, IsTooMany};
 ghost use Rattle.plan_command.specs.Words.{IsCrew};
-ghost use Rattle.plan_command.specs.Makes.{MakesOf, IsTooMany};
+ghost use Rattle.plan_command.specs.Makes.{MakesOf};
 ghost use Rattle.bound_tree.specs.declared.tree.TheConstants.{MOST_NODES};
 
-use crate::answer::{Answer, plan_from_opening};
+use crate::answer::Answer;
+use crate::planning::plan_from_opening;
 use crate::status::{Status, Stop};
 use bound_tree::{MOST_NODES, Plan};
 use exact_parts::NoMemory;
@@ -31,7 +32,7 @@ use tree_format::{PlanStop, print_plan_2, push_names, push_number, read_plan};
 
 /// The text of the scenario that is made from a number.
 pub fn answer_make(alloc: Global, number: u64) -> Result<Answer, Stop>
-    ensures { MakesOf (Request.Make number) [] result }
+    ensures { (words : List (List ℕ)) → MakesOf words (Request.Make number) [] result }
 {
     let sc = make(alloc, number)?;
     let mut text = Vec::new(alloc);
@@ -148,7 +149,7 @@ fn answer_made<R: AllocGlobal + Threads + Wait + Sync, G: Gate>(
 ) -> Result<Answer, Stop>
     requires crew { IsCrew workers }
     requires made { sc.now ≡ made_problem number }
-    ensures { MakesOf (Request.Drill number workers) [] result }
+    ensures { (words : List (List ℕ)) → MakesOf words (Request.Drill number workers) [] result }
 {
     Ok(Answer {
         status: Status::Done,
@@ -164,7 +165,7 @@ pub fn answer_drill<R: AllocGlobal + Threads + Wait + Sync, G: Gate>(
     gate: &G,
 ) -> Result<Answer, Stop>
     requires { IsCrew workers }
-    ensures { MakesOf (Request.Drill number workers) [] result }
+    ensures { (words : List (List ℕ)) → MakesOf words (Request.Drill number workers) [] result }
 {
     let sc = make(rt.alloc(), number)?;
     answer_made(rt, number, &sc, workers, gate)

@@ -2,8 +2,10 @@
 
 ghost use Rattle.std.specs.Prelude.{◌≡◌, ◌≤◌, ◌<◌, length, map, string_bytes, IfOk, IfErr, IfSome, IfNone, Contains};
 ghost use Rattle.search_model.specs.Problem.{position_name};
+ghost use Rattle.plan_command.specs.Whys.{flown_name_of};
 ghost use Rattle.plan_command.specs.Flown.{AreNamed, HasStranger, IsFlown, IsUnflown};
 
+use crate::status::{Refusal, Stop};
 use search_model::{Path, Scenario};
 
 /// Why no scenario forces a flown prefix; the first of these that holds is named.
@@ -17,6 +19,25 @@ pub enum FlownWhy {
     TooManyPositions,
     /// A position has a name that a new one would have.
     NameTaken,
+}
+
+/// The name of a reason.
+pub fn flown_why_name(why: FlownWhy) -> &'static str
+    ensures { result.now ≡ flown_name_of why }
+{
+    match why {
+        FlownWhy::UnknownName => "UnknownName",
+        FlownWhy::NotLegal => "NotLegal",
+        FlownWhy::TooManyPositions => "TooManyPositions",
+        FlownWhy::NameTaken => "NameTaken",
+    }
+}
+
+/// Nothing is made of a prefix, for this reason.
+pub fn unflown(why: FlownWhy) -> Stop
+    ensures { result ≡ Stop.Refused (Refusal.BadFlown why) }
+{
+    Stop::Refused(Refusal::BadFlown(why))
 }
 
 /// The number of the position that has this name.

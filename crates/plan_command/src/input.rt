@@ -1,14 +1,14 @@
 //! What each request makes of its input, which is read as it is needed.
 
-ghost use Rattle.std.specs.Prelude.{◌≡◌, ◌≤◌, ◌<◌, ◌^◌, Some, None, length};
+ghost use Rattle.std.specs.Prelude.{◌≡◌, ◌<◌, ◌^◌, ℕ, List, Some, None, length, map, string_bytes};
+ghost use Rattle.plan_command.specs.Checks.{ChecksGap};
 ghost use Rattle.plan_command.specs.Inputs.{source_view, InputOf, ReadsAnd};
 ghost use Rattle.plan_command.specs.Intakes.{Judges};
 ghost use Rattle.plan_command.specs.Makes.{MakesOf, IsAsked};
-ghost use Rattle.plan_command.specs.Words.{IsCrew, limit_of};
-ghost use Rattle.bound_tree.specs.declared.tree.TheConstants.{MOST_NODES};
+ghost use Rattle.plan_command.specs.Words.{family_of, of_scenario, limit_of};
 
-use crate::answer::{Answer, answer_plan};
-use crate::checking::{answer_check, answer_report};
+use crate::answer::{Answer, answer_scenario};
+use crate::checking::{answer_check, answer_checkgap, answer_report};
 use crate::converting::answer_convert;
 use crate::drilling::{answer_drill, answer_make};
 use crate::intake::{Intake, Judgement};
@@ -19,6 +19,7 @@ use search_workers::Gate;
 use std::alloc::Global;
 use std::sync::Wait;
 use std::thread::Threads;
+use tree_format::Family;
 
 // How many bytes of an input are read at once, at most.
 const PIECE_LEN: usize = 65_536;
@@ -48,49 +49,66 @@ fn unread(stop: InputStop) -> Stop
     }
 }
 
-// The verdict on the plan behind the scenario in the input, of which so many bytes are read at once as there is room for.
+// The verdict on what stands behind the scenario in the input, by a text of the family. So many bytes are read at once as
+// there is room for.
 fn judge_pieces<S: Source>(
     alloc: Global,
+    family: Family,
     source: &mut S,
     piece: &mut [u8],
 ) -> Result<Judgement, Stop>
     requires { 0 < length piece.old }
     ensures { ReadsAnd (Some MOST_JUDGED) (source_view S.left S.faults source.old)
-        (source_view S.left S.faults source.new) Judges result }
+        (source_view S.left S.faults source.new) (Judges family) result }
 {
-    let mut intake = Intake::new(alloc);
+    let mut intake = Intake::new(alloc, family);
     match read_pieces(source, piece, MOST_JUDGED, &mut intake) {
         Ok(()) => intake.finish(),
         Err(stop) => Err(unread(stop)),
     }
 }
 
-// The verdict on the plan behind the scenario in the input. Of both only the scenario is kept.
-fn judge_input<S: Source>(alloc: Global, source: &mut S) -> Result<Judgement, Stop>
+// The verdict on what stands behind the scenario in the input, by a text of the family. Of both only the scenario is kept.
+fn judge_input<S: Source>(alloc: Global, family: Family, source: &mut S) -> Result<Judgement, Stop>
     ensures { ReadsAnd (Some MOST_JUDGED) (source_view S.left S.faults source.old)
-        (source_view S.left S.faults source.new) Judges result }
+        (source_view S.left S.faults source.new) (Judges family) result }
 {
     let mut piece = vec![in alloc; 0; PIECE_LEN]?;
-    judge_pieces(alloc, source, &mut piece)
+    judge_pieces(alloc, family, source, &mut piece)
 }
 
 // What `check` makes of its input.
 fn check_input<S: Source>(alloc: Global, source: &mut S) -> Result<Answer, Stop>
-    ensures { ReadsAnd (Some MOST_JUDGED) (source_view S.left S.faults source.old)
-        (source_view S.left S.faults source.new) (MakesOf Request.Check) result }
+    ensures { (words : List (List ℕ)) → ReadsAnd (Some MOST_JUDGED) (source_view S.left S.faults source.old)
+        (source_view S.left S.faults source.new) (MakesOf words Request.Check) result }
 {
-    match judge_input(alloc, source) {
+    match judge_input(alloc, Family::Plans, source) {
         Ok(judgement) => answer_check(alloc, judgement),
+        Err(stop) => Err(stop),
+    }
+}
+
+/// The verdict on the gap plan behind the scenario in the input, of which no more is kept than the scenario.
+///
+/// # Errors
+///
+/// `ReadFault` or `TooLong` where the input wasn't read to its end; else its first fault, or `NoMemory`.
+pub fn check_gap_input<S: Source>(alloc: Global, source: &mut S) -> Result<Answer, Stop>
+    ensures { ReadsAnd (Some MOST_JUDGED) (source_view S.left S.faults source.old)
+        (source_view S.left S.faults source.new) ChecksGap result }
+{
+    match judge_input(alloc, Family::Gaps, source) {
+        Ok(judgement) => answer_checkgap(alloc, judgement),
         Err(stop) => Err(stop),
     }
 }
 
 // What `report` makes of its input.
 fn report_input<S: Source>(alloc: Global, json: bool, source: &mut S) -> Result<Answer, Stop>
-    ensures { ReadsAnd (Some MOST_JUDGED) (source_view S.left S.faults source.old)
-        (source_view S.left S.faults source.new) (MakesOf (Request.Report json)) result }
+    ensures { (words : List (List ℕ)) → ReadsAnd (Some MOST_JUDGED) (source_view S.left S.faults source.old)
+        (source_view S.left S.faults source.new) (MakesOf words (Request.Report json)) result }
 {
-    match judge_input(alloc, source) {
+    match judge_input(alloc, Family::Plans, source) {
         Ok(judgement) => answer_report(alloc, json, &judgement),
         Err(stop) => Err(stop),
     }
@@ -98,8 +116,8 @@ fn report_input<S: Source>(alloc: Global, json: bool, source: &mut S) -> Result<
 
 // What `convert` makes of its input, which is kept whole.
 fn convert_input<S: Source>(alloc: Global, source: &mut S) -> Result<Answer, Stop>
-    ensures { ReadsAnd (Some MOST_JUDGED) (source_view S.left S.faults source.old)
-        (source_view S.left S.faults source.new) (MakesOf Request.Convert) result }
+    ensures { (words : List (List ℕ)) → ReadsAnd (Some MOST_JUDGED) (source_view S.left S.faults source.old)
+        (source_view S.left S.faults source.new) (MakesOf words Request.Convert) result }
 {
     match read_input(alloc, source, MOST_JUDGED) {
         Ok(input) => answer_convert(alloc, &input),
@@ -107,43 +125,48 @@ fn convert_input<S: Source>(alloc: Global, source: &mut S) -> Result<Answer, Sto
     }
 }
 
-// What `plan` makes of its input.
-fn plan_input<R: AllocGlobal + Threads + Wait + Sync, S: Source, G: Gate>(
+// What a request makes of its input that reads the text of a scenario alone.
+fn scenario_input<R: AllocGlobal + Threads + Wait + Sync, S: Source, G: Gate>(
     rt: &R,
-    workers: u32,
-    nodes: u64,
-    source: &mut S,
-    gate: &G,
-) -> Result<Answer, Stop>
-    requires crew { IsCrew workers }
-    requires nodes { (1 ≤ nodes) × (nodes ≤ MOST_NODES) }
-    ensures { ReadsAnd (Some MOST_SCENARIO) (source_view S.left S.faults source.old)
-        (source_view S.left S.faults source.new) (MakesOf (Request.Plan workers nodes)) result }
-{
-    match read_input(rt.alloc(), source, MOST_SCENARIO) {
-        Ok(input) => answer_plan(rt, workers, nodes, &input, gate),
-        Err(stop) => Err(stop),
-    }
-}
-
-/// What the request makes of its input.
-pub fn answer_for<R: AllocGlobal + Threads + Wait + Sync, S: Source, G: Gate>(
-    rt: &R,
+    words: &[String],
     request: Request,
     source: &mut S,
     gate: &G,
 ) -> Result<Answer, Stop>
-    requires { IsAsked request }
+    requires asked { IsAsked (map string_bytes words.now) request }
+    requires family { family_of request ≡ of_scenario }
+    ensures { ReadsAnd (Some MOST_SCENARIO) (source_view S.left S.faults source.old)
+        (source_view S.left S.faults source.new) (MakesOf (map string_bytes words.now) request) result }
+{
+    match read_input(rt.alloc(), source, MOST_SCENARIO) {
+        Ok(input) => answer_scenario(rt, words, request, &input, gate),
+        Err(stop) => Err(stop),
+    }
+}
+
+/// What the request that the words spell makes of its input.
+pub fn answer_for<R: AllocGlobal + Threads + Wait + Sync, S: Source, G: Gate>(
+    rt: &R,
+    words: &[String],
+    request: Request,
+    source: &mut S,
+    gate: &G,
+) -> Result<Answer, Stop>
+    requires asked { IsAsked (map string_bytes words.now) request }
     ensures made { ReadsAnd (limit_of request) (source_view S.left S.faults source.old)
-        (source_view S.left S.faults source.new) (MakesOf request) result }
+        (source_view S.left S.faults source.new) (MakesOf (map string_bytes words.now) request) result }
     ensures unread { limit_of request ≡ None → source.new ≡ source.old }
 {
     match request {
-        Request::Plan { workers, nodes } => plan_input(rt, workers, nodes, source, gate),
         Request::Check => check_input(rt.alloc(), source),
         Request::Report { json } => report_input(rt.alloc(), json, source),
+        Request::Convert => convert_input(rt.alloc(), source),
         Request::Make { number } => answer_make(rt.alloc(), number),
         Request::Drill { number, workers } => answer_drill(rt, number, workers, gate),
-        Request::Convert => convert_input(rt.alloc(), source),
+        Request::Plan { .. }
+        | Request::Gap { .. }
+        | Request::Replan { .. }
+        | Request::Map { .. }
+        | Request::Duo { .. } => scenario_input(rt, words, request, source, gate),
     }
 }

@@ -1,26 +1,31 @@
-//! The judge of a plan whose text comes in pieces.
+//! The judge of a plan or of a gap plan whose text comes in pieces.
 
 ghost use Rattle.std.specs.Prelude.{◌≡◌, ◌<◌, ◌≤◌, ◌^◌, ◌++◌, ◌∷◌, [], ℕ, List, length, take, IfOk, IfErr, OnOk};
 ghost use Rattle.tree_format.specs.Feeding.{IsDecided};
 ghost use Rattle.tree_format.specs.declared.plan_item.PlanItem.{PlanItem as ItemLem};
+ghost use Rattle.tree_format.specs.declared.plan_line.Family.{Family as FamilyLem};
 ghost use Rattle.tree_checker.specs.Progress.{IsUnderWay, IsMadeFor};
-ghost use Rattle.plan_command.specs.Plans.{HasFault};
+ghost use Rattle.plan_command.specs.Plans.{HasFaultIn};
 ghost use Rattle.plan_command.specs.Intakes.{IsNextItem, HasHeard, HasTakenText, HasTakenRest, TellsRest};
 
+use crate::hearing::{hear_head, hear_node, verdict_at_end};
 use crate::spaces::{rest_from, skip_spaces};
 use exact_parts::NoMemory;
 use search_model::{Path, Scenario};
 use std::alloc::Global;
-use tree_checker::{Checker, Verdict};
-use tree_format::{Family, Fed, PlanFault, PlanFeed, PlanItem, Step, record_of};
+use tree_checker::{Checker, GapVerdict};
+use tree_format::{Family, Fed, PlanFault, PlanFeed, PlanItem, Step};
 
-/// What was read of the plan behind a scenario, and the checker of what it told. Neither the text of the plan nor its tree
-/// is kept: only the call that makes the judge takes memory.
+/// What was read of the text behind a scenario, of a plan or of a gap plan, and the checker of what it told. Neither the
+/// text nor its tree is kept: only the call that makes the judge takes memory.
 #[derive(Drop)]
 pub struct Judge {
     pub sc: Scenario,
-    /// The path of the plan's head, once this was read.
+    /// Which of the two is read.
+    pub family: Family,
+    /// The path of the head, once this was read, and its ceiling.
     pub path: Path,
+    pub ceiling: u128,
     /// Whether a byte came that is neither a blank nor a line feed.
     begun: bool,
     feed: PlanFeed,
@@ -28,56 +33,61 @@ pub struct Judge {
 }
 
 impl Judge {
-    /// The judge of a plan for this scenario. Nothing was read.
-    pub fn start(alloc: Global, sc: Scenario) -> Result<Judge, NoMemory>
+    /// The judge of a text of the family for this scenario. Nothing was read.
+    pub fn start(alloc: Global, sc: Scenario, family: Family) -> Result<Judge, NoMemory>
         ensures scenario { IfOk result (λ judge. judge.sc ≡ sc) }
-        ensures nothing { IfOk result (λ judge. HasTakenRest [] judge) }
+        ensures nothing { IfOk result (λ judge. HasTakenRest family [] judge) }
     {
-        let feed = PlanFeed::start(alloc, &sc, Family::Plans)?;
+        let feed = PlanFeed::start(alloc, &sc, family)?;
         let checker = Checker::tables(alloc, &sc)?;
         Ok(Judge {
             sc,
+            family,
             path: Path::empty(),
+            ceiling: 0,
             begun: false,
             feed,
             checker,
         })
     }
 
-    // Hears what a line of the plan told.
+    // Hears what a line of the text told.
     fn hear(&mut self, item: PlanItem)
         requires under_way { IsUnderWay self.old.sc self.old.checker }
         requires line { self.old.checker.line < 2 ^ 63 }
         requires made { IsMadeFor self.old.sc self.old.checker }
         ensures scenario { self.new.sc ≡ self.old.sc }
+        ensures family { self.new.family ≡ self.old.family }
         ensures feed { self.new.feed ≡ self.old.feed }
         ensures begun { self.new.begun ≡ self.old.begun }
         ensures heard { (told : List ItemLem) → IsNextItem told item →
-            HasHeard self.old.sc told self.old.path self.old.checker
-            → HasHeard self.old.sc (told ++ item ∷ []) self.new.path self.new.checker }
+            HasHeard self.old.family self.old.sc told self.old.path self.old.ceiling self.old.checker
+            → HasHeard self.old.family self.old.sc (told ++ item ∷ []) self.new.path self.new.ceiling self.new.checker }
     {
         match item {
-            PlanItem::Head(standing, weight, _, _) => {
+            PlanItem::Head(standing, weight, ceiling, _) => {
                 self.path = standing.path;
-                self.checker.head(&self.sc, &standing, weight);
+                self.ceiling = ceiling;
+                hear_head(&mut self.checker, &self.sc, self.family, &standing, weight);
             }
-            PlanItem::Node(node) => self.checker.node(&self.sc, &record_of(&node)),
+            PlanItem::Node(node) => hear_node(&mut self.checker, &self.sc, self.family, &node),
             PlanItem::End => {}
         }
     }
 
-    // Takes the next bytes of the plan's text up to the first that completes an item: how many.
+    // Takes the next bytes of the text up to the first that completes an item: how many.
     fn take_some(&mut self, text: &[u8]) -> Result<usize, PlanFault>
         requires some { 1 ≤ length text.now }
-        requires begun { (before : List ℕ) × HasTakenText before self.old }
+        requires begun { (family : FamilyLem) × (before : List ℕ) × HasTakenText family before self.old }
         ensures scenario { self.new.sc ≡ self.old.sc }
         ensures begun { self.new.begun ≡ self.old.begun }
         ensures used { IfOk result (λ used. (1 ≤ used) × (used ≤ length text.now)) }
         ensures taken { IfOk result (λ used.
-            (before : List ℕ) → HasTakenText before self.old →
-            HasTakenText (before ++ take used text.now) self.new) }
+            (family : FamilyLem) (before : List ℕ) → HasTakenText family before self.old →
+            HasTakenText family (before ++ take used text.now) self.new) }
         ensures fault { IfErr result (λ fault.
-            (before : List ℕ) → HasTakenText before self.old → IsDecided Family.Plans self.old.sc (before ++ text.now) fault) }
+            (family : FamilyLem) (before : List ℕ) → HasTakenText family before self.old →
+            IsDecided family self.old.sc (before ++ text.now) fault) }
     {
         self.sc.recall_sound();
         let Fed { used, step } = self.feed.feed(&self.sc, text);
@@ -91,15 +101,16 @@ impl Judge {
         }
     }
 
-    // Takes the next bytes of the plan's text.
+    // Takes the next bytes of the text.
     fn take_text(&mut self, text: &[u8]) -> Result<(), PlanFault>
-        requires { (before : List ℕ) × HasTakenText before self.old }
+        requires { (family : FamilyLem) × (before : List ℕ) × HasTakenText family before self.old }
         ensures scenario { self.new.sc ≡ self.old.sc }
         ensures begun { self.new.begun ≡ self.old.begun }
-        ensures taken { OnOk result ((before : List ℕ) → HasTakenText before self.old →
-            HasTakenText (before ++ text.now) self.new) }
+        ensures taken { OnOk result ((family : FamilyLem) (before : List ℕ) → HasTakenText family before self.old →
+            HasTakenText family (before ++ text.now) self.new) }
         ensures fault { IfErr result (λ fault.
-            (before : List ℕ) → HasTakenText before self.old → IsDecided Family.Plans self.old.sc (before ++ text.now) fault) }
+            (family : FamilyLem) (before : List ℕ) → HasTakenText family before self.old →
+            IsDecided family self.old.sc (before ++ text.now) fault) }
     {
         let mut done = 0;
         while done < text.len() {
@@ -115,14 +126,14 @@ impl Judge {
     ///
     /// # Errors
     ///
-    /// The first fault of the plan's text, which no more bytes mend.
+    /// The first fault of the text, which no more bytes mend.
     pub fn take(&mut self, piece: &[u8]) -> Result<(), PlanFault>
-        requires { (before : List ℕ) × HasTakenRest before self.old }
+        requires { (family : FamilyLem) × (before : List ℕ) × HasTakenRest family before self.old }
         ensures scenario { self.new.sc ≡ self.old.sc }
-        ensures taken { OnOk result ((before : List ℕ) → HasTakenRest before self.old →
-            HasTakenRest (before ++ piece.now) self.new) }
-        ensures fault { IfErr result (λ fault. (before more : List ℕ) → HasTakenRest before self.old
-            → HasFault self.old.sc (before ++ piece.now ++ more) fault) }
+        ensures taken { OnOk result ((family : FamilyLem) (before : List ℕ) → HasTakenRest family before self.old →
+            HasTakenRest family (before ++ piece.now) self.new) }
+        ensures fault { IfErr result (λ fault. (family : FamilyLem) (before more : List ℕ)
+            → HasTakenRest family before self.old → HasFaultIn family self.old.sc (before ++ piece.now ++ more) fault) }
     {
         if self.begun {
             return self.take_text(piece);
@@ -135,17 +146,18 @@ impl Judge {
         self.take_text(text)
     }
 
-    /// The verdict on the plan, where the text ends here.
+    /// The verdict, where the text ends here.
     ///
     /// # Errors
     ///
-    /// The bytes end before the plan.
-    pub fn finish(&self) -> Result<Verdict, PlanFault>
-        ensures { (rest : List ℕ) → HasTakenRest rest self.now → TellsRest self.now.sc self.now.path rest result }
+    /// The bytes end before the plan or gap plan.
+    pub fn finish(&self) -> Result<GapVerdict, PlanFault>
+        ensures { (family : FamilyLem) (rest : List ℕ) → HasTakenRest family rest self.now
+            → TellsRest family self.now.sc self.now.path rest result }
     {
         self.sc.recall_sound();
         match self.feed.finish() {
-            Ok(()) => Ok(self.checker.finish()),
+            Ok(()) => Ok(verdict_at_end(&self.checker, self.family, self.ceiling)),
             Err(fault) => Err(fault),
         }
     }

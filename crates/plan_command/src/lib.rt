@@ -6,6 +6,8 @@ mod checking;
 mod converting;
 mod drilling;
 mod flown;
+mod gapping;
+mod hearing;
 mod input;
 mod intake;
 mod judge;
@@ -14,7 +16,9 @@ mod line;
 mod made_laws;
 mod made_plans;
 mod mapping;
+mod options;
 mod pairing;
+mod planning;
 mod replanning;
 mod request;
 mod scenario_end;
@@ -24,19 +28,20 @@ mod status;
 mod top;
 mod words;
 
+pub use answer::Answer;
 pub use bound_tree::MOST_NODES;
 pub use flown::FlownWhy;
+pub use input::check_gap_input;
 pub use laws::what_is_planned_is_accepted;
 pub use made_laws::{
     made_is_accepted, pair_refused_for_one_reason, paired_is_best, refused_for_one_reason,
     replanned_is_best,
 };
-pub use made_plans::MadeStop;
 pub use mapping::map_flown;
 pub use pairing::{DuoWhy, pair};
 pub use replanning::replan;
-pub use request::{MOST_WORKERS, Request, WORKERS};
+pub use request::{MOST_CLOSED, MOST_WORKERS, Request, WORKERS};
 pub use search_workers::{Gate, OpenGate};
-pub use status::{Status, Stop, status_code};
+pub use status::{Refusal, Status, Stop, status_code};
 pub use top::run;
 pub use words::read_words;

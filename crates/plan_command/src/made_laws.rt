@@ -1,6 +1,6 @@
 //! What the plan of a scenario that is made says of the scenario that it is made of.
 
-ghost use Rattle.plan_command.specs.MadeLaws.{ReplannedIsBest, PairedIsBest, MadeIsAccepted, OnePrefixIsNamed, FlownIsntRefused, ForcedIsntRefused, OneWhyIsntForced, ProductIsntRefused, OneWhyIsntPaired};
+ghost use Rattle.plan_command.specs.MadeLaws.{ReplannedIsBest, PairedIsBest, MadeIsAccepted, MadeIsWithin, OnePrefixIsNamed, FlownIsntRefused, ForcedIsntRefused, OneWhyIsntForced, ProductIsntRefused, OneWhyIsntPaired};
 
 /// The planned path of a scenario that forces a prefix, taken back, is the best of those that begin with the prefix.
 pub fn replanned_is_best()
@@ -14,9 +14,10 @@ pub fn paired_is_best()
 {}
 
 /// What is written for a scenario that is made is an input whose plan is accepted, for a scenario that is the same
-/// search.
+/// search, and no longer than what `check` reads.
 pub fn made_is_accepted()
-    ensures { MadeIsAccepted }
+    ensures accepted { MadeIsAccepted }
+    ensures within { MadeIsWithin }
 {}
 
 /// Names are those of one prefix. They are refused for one reason, and aren't where the prefix is flown, or forced.

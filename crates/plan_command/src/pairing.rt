@@ -1,12 +1,15 @@
 //! Planning for two searchers.
 
-ghost use Rattle.std.specs.Prelude.{◌≡◌, ◌≤◌, ◌<◌};
+ghost use Rattle.std.specs.Prelude.{◌≡◌, ◌≤◌, ◌<◌, ℕ, List};
 ghost use Rattle.plan_command.specs.Words.{IsCrew};
-ghost use Rattle.plan_command.specs.Duos.{Pairs, PairsFrom};
+ghost use Rattle.plan_command.specs.Gives.{Gives};
+ghost use Rattle.plan_command.specs.Whys.{duo_name_of};
+ghost use Rattle.plan_command.specs.Duos.{Names, IsPaired, IsUnpairedFrom};
 ghost use Rattle.bound_tree.specs.declared.tree.TheConstants.{MOST_NODES};
 
 use crate::flown::position_named;
-use crate::made_plans::{MadeStop, made_and_planned};
+use crate::made_plans::made_and_planned;
+use crate::status::{Refusal, Stop};
 use duo_search::{DuoFault, product};
 use search_model::{Name, Scenario};
 use search_workers::Gate;
@@ -28,6 +31,26 @@ pub enum DuoWhy {
     TooWide,
 }
 
+/// The name of a reason.
+pub fn duo_why_name(why: DuoWhy) -> &'static str
+    ensures { result.now ≡ duo_name_of why }
+{
+    match why {
+        DuoWhy::UnknownName => "UnknownName",
+        DuoWhy::TooManyPositions => "TooManyPositions",
+        DuoWhy::TooManyMoves => "TooManyMoves",
+        DuoWhy::TooFine => "TooFine",
+        DuoWhy::TooWide => "TooWide",
+    }
+}
+
+// There is no plan for two, for this reason.
+fn unpaired(why: DuoWhy) -> Stop
+    ensures { result ≡ Stop.Refused (Refusal.BadDuo why) }
+{
+    Stop::Refused(Refusal::BadDuo(why))
+}
+
 // The product scenario in which the second searcher starts at this position, and its plan.
 fn pair_from<R: AllocGlobal + Threads + Wait + Sync, G: Gate>(
     rt: &R,
@@ -36,19 +59,20 @@ fn pair_from<R: AllocGlobal + Threads + Wait + Sync, G: Gate>(
     workers: u32,
     nodes: u64,
     gate: &G,
-) -> Result<Vec<u8>, MadeStop>
+) -> Result<Vec<u8>, Stop>
     requires second { second < sc.now.positions }
     requires crew { IsCrew workers }
     requires nodes { (1 ≤ nodes) × (nodes ≤ MOST_NODES) }
-    ensures { PairsFrom nodes sc.now second result }
+    ensures { (name : List ℕ) → Names sc.now name second
+        → Gives (IsPaired nodes sc.now name) (IsUnpairedFrom nodes sc.now name) result }
 {
     match product(rt.alloc(), sc, second) {
         Ok(made) => made_and_planned(rt, &made, workers, nodes, gate),
-        Err(DuoFault::TooManyPositions) => Err(MadeStop::BadDuo(DuoWhy::TooManyPositions)),
-        Err(DuoFault::TooManyMoves) => Err(MadeStop::BadDuo(DuoWhy::TooManyMoves)),
-        Err(DuoFault::TooFine) => Err(MadeStop::BadDuo(DuoWhy::TooFine)),
-        Err(DuoFault::TooWide) => Err(MadeStop::BadDuo(DuoWhy::TooWide)),
-        Err(DuoFault::NoMemory) => Err(MadeStop::NoMemory),
+        Err(DuoFault::TooManyPositions) => Err(unpaired(DuoWhy::TooManyPositions)),
+        Err(DuoFault::TooManyMoves) => Err(unpaired(DuoWhy::TooManyMoves)),
+        Err(DuoFault::TooFine) => Err(unpaired(DuoWhy::TooFine)),
+        Err(DuoFault::TooWide) => Err(unpaired(DuoWhy::TooWide)),
+        Err(DuoFault::NoMemory) => Err(Stop::NoMemory),
     }
 }
 
@@ -61,13 +85,13 @@ pub fn pair<R: AllocGlobal + Threads + Wait + Sync, G: Gate>(
     workers: u32,
     nodes: u64,
     gate: &G,
-) -> Result<Vec<u8>, MadeStop>
+) -> Result<Vec<u8>, Stop>
     requires crew { IsCrew workers }
     requires nodes { (1 ≤ nodes) × (nodes ≤ MOST_NODES) }
-    ensures { Pairs nodes sc.now name.now result }
+    ensures { Gives (IsPaired nodes sc.now name.now) (IsUnpairedFrom nodes sc.now name.now) result }
 {
     match position_named(sc, name.bytes()) {
         Some(second) => pair_from(rt, sc, second, workers, nodes, gate),
-        None => Err(MadeStop::BadDuo(DuoWhy::UnknownName)),
+        None => Err(unpaired(DuoWhy::UnknownName)),
     }
 }

@@ -1,11 +1,10 @@
 //! A request, from the bytes that it reads to those that it writes.
 
-ghost use Rattle.std.specs.Prelude.{◌≡◌, ◌⊎◌, ℕ, List, None, IfOk, IfErr, OnErr, IsErrOf};
+ghost use Rattle.std.specs.Prelude.{◌≡◌, ◌⊎◌, None, map, string_bytes, IfOk, IfErr, OnErr, IsErrOf};
 ghost use Rattle.std.specs.Io.KnownBytes.{Appends};
 ghost use Rattle.byte_ports.specs.Causes.{Rose};
 ghost use Rattle.byte_ports.specs.Taken.{AppendsPrefix};
 ghost use Rattle.plan_command.specs.Words.{Spells, limit_of};
-ghost use Rattle.plan_command.specs.Makes.{IsAsked};
 ghost use Rattle.plan_command.specs.Run.{call, Ends, ending_of};
 
 use crate::answer::Answer;
@@ -35,18 +34,19 @@ fn deliver<K: Sink>(out: &mut K, answer: &Answer) -> Result<Status, Stop>
 /// Answers a request, and writes the answer.
 pub fn serve<R: AllocGlobal + Threads + Wait + Sync, S: Source, K: Sink, G: Gate>(
     rt: &R,
+    words: &[String],
     request: Request,
     source: &mut S,
     out: &mut K,
     gate: &G,
 ) -> Result<Status, Stop>
-    requires asked { IsAsked request }
-    ensures ends { (words : List (List ℕ)) → Spells words request → Ends
-        (call words S.left S.faults K.wrote K.faults source.old source.new out.old out.new) (ending_of result) }
+    requires spelled { Spells (map string_bytes words.now) request }
+    ensures ends { Ends (call (map string_bytes words.now) S.left S.faults K.wrote K.faults source.old source.new
+        out.old out.new) (ending_of result) }
     ensures used { IsErrOf result Stop.Usage → ⊥ }
     ensures unread { limit_of request ≡ None → source.new ≡ source.old }
 {
-    match answer_for(rt, request, source, gate) {
+    match answer_for(rt, words, request, source, gate) {
         Ok(answer) => deliver(out, &answer),
         Err(stop) => Err(stop),
     }

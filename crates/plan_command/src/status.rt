@@ -1,6 +1,8 @@
 ghost use Rattle.std.specs.Prelude.{◌≡◌};
 ghost use Rattle.plan_command.specs.Lines.{code_of};
 
+use crate::flown::FlownWhy;
+use crate::pairing::DuoWhy;
 use scenario_text::TextFault;
 use tree_checker::RejectAt;
 use tree_format::PlanFault;
@@ -28,6 +30,10 @@ pub enum Status {
     TooManyNodes,
     /// The input is longer than the limit.
     TooLong,
+    /// No scenario forces the flown prefix, or there is no map of it.
+    BadFlown,
+    /// There is no product scenario for two searchers.
+    BadDuo,
 }
 
 /// The number of a status, which the program ends with.
@@ -45,25 +51,62 @@ pub fn status_code(s: Status) -> u8
         Status::NoMemory => 7,
         Status::TooManyNodes => 8,
         Status::TooLong => 9,
+        Status::BadFlown => 10,
+        Status::BadDuo => 11,
     }
 }
 
-/// What stops a run before its answer is written, with all that is said of it.
+/// Why an input that was read is refused, with all that is said of it.
 #[derive(Clone, Copy, Debug, PartialEq, Eq)]
-pub enum Stop {
-    /// The first reason against the plan of a report.
+pub enum Refusal {
+    /// The first reason against a plan that has to be accepted.
     Rejected(RejectAt),
-    Usage,
     /// The first fault of the scenario's text.
     BadScenario(TextFault),
     /// The first fault of the plan's text.
     BadPlan(PlanFault),
-    ReadFault,
-    WriteFault,
-    NoMemory,
-    /// The limit on nodes.
+    /// Why the prefix isn't flown, or no scenario forces it.
+    BadFlown(FlownWhy),
+    /// Why there is no product scenario.
+    BadDuo(DuoWhy),
+    /// The limit on records, which the plan would pass.
     TooManyNodes(u64),
+}
+
+impl Refusal {
+    ghost use Rattle.std.specs.Prelude.{◌≡◌};
+    ghost use Rattle.plan_command.specs.Lines.{refused_status};
+
+    /// The status that a refusal ends with.
+    pub fn status(self) -> Status
+        ensures { result ≡ refused_status self }
+    {
+        match self {
+            Refusal::Rejected(_) => Status::Rejected,
+            Refusal::BadScenario(_) => Status::BadScenario,
+            Refusal::BadPlan(_) => Status::BadPlan,
+            Refusal::BadFlown(_) => Status::BadFlown,
+            Refusal::BadDuo(_) => Status::BadDuo,
+            Refusal::TooManyNodes(_) => Status::TooManyNodes,
+        }
+    }
+}
+
+/// What stops a run before its answer is written.
+#[derive(Clone, Copy, Debug, PartialEq, Eq)]
+pub enum Stop {
+    /// The words spell no request.
+    Usage,
+    /// The source failed.
+    ReadFault,
+    /// The input is longer than the limit.
     TooLong,
+    /// The input was read, and is refused.
+    Refused(Refusal),
+    /// The sink failed.
+    WriteFault,
+    /// No memory was found.
+    NoMemory,
 }
 
 impl Stop {
@@ -75,15 +118,12 @@ impl Stop {
         ensures { result ≡ status_of self }
     {
         match self {
-            Stop::Rejected(_) => Status::Rejected,
             Stop::Usage => Status::Usage,
-            Stop::BadScenario(_) => Status::BadScenario,
-            Stop::BadPlan(_) => Status::BadPlan,
             Stop::ReadFault => Status::ReadFault,
+            Stop::TooLong => Status::TooLong,
+            Stop::Refused(refusal) => refusal.status(),
             Stop::WriteFault => Status::WriteFault,
             Stop::NoMemory => Status::NoMemory,
-            Stop::TooManyNodes(_) => Status::TooManyNodes,
-            Stop::TooLong => Status::TooLong,
         }
     }
 }

@@ -1,106 +1,30 @@
 //! The words of the command line.
 
-ghost use Rattle.std.specs.Prelude.{◌≡◌, ◌≤◌, [], ◌∷◌, map, IfSome, IfNone, string_bytes};
+ghost use Rattle.std.specs.Prelude.{◌≡◌, ◌≤◌, ◌<◌, ◌+◌, [], ◌∷◌, map, length, position, string_bytes, IfSome, IfNone};
+ghost use Rattle.std.specs.List.{list_all};
 ghost use Rattle.std.specs.Str.{bytes_eq};
 ghost use Rattle.plan_command.specs.Words.{Spells, SpellNone};
-ghost use Rattle.plan_command.specs.WordReading.{number_within, workers_in, nodes_in, plan_with_one, plan_with_two, plan_at, alone_at, report_at, make_at, drill_at, request_at};
+ghost use Rattle.plan_command.specs.WordReading.{plan_at, gap_at, alone_at, report_at, make_at, drill_at, is_name as is_name_lem, are_flown as are_flown_lem, place_of as place_of_lem, replan_at, map_at, name_in, duo_with as duo_with_lem, duo_at, options_at, request_at};
 
-use crate::request::{MOST_WORKERS, Request, WORKERS};
+use crate::options::{cut, is_word, number_between, options_from};
+use crate::request::{MOST_CLOSED, MOST_FLOWN, Request};
 use bound_tree::MOST_NODES;
-use exact_parts::{Number, number_of};
-
-// Whether a word is this one.
-fn is_word(word: &str, name: &str) -> bool
-    ensures { result ≡ bytes_eq word.now name.now }
-{
-    word == name
-}
-
-// The number that a word spells, where it is within these limits.
-fn number_between(word: &str, least: u64, most: u64) -> Option<u64>
-    ensures value { result ≡ number_within least most word.now }
-    ensures within { IfSome result (λ n. n ≤ most) }
-{
-    match number_of(word.as_bytes(), u128::from(most)) {
-        Number::Of(n) if n >= u128::from(least) => Some(n as u64),
-        _ => None,
-    }
-}
-
-// A number of workers.
-fn workers_from(word: &str) -> Option<u32>
-    ensures { result ≡ workers_in word.now }
-{
-    match number_between(word, 1, u64::from(MOST_WORKERS)) {
-        Some(workers) => Some(workers as u32),
-        None => None,
-    }
-}
-
-// A number of records.
-fn nodes_from(word: &str) -> Option<u64>
-    ensures { result ≡ nodes_in word.now }
-{
-    number_between(word, 1, MOST_NODES)
-}
-
-// `plan` with one option.
-fn plan_one(name: &str, value: &str) -> Option<Request>
-    ensures { result ≡ plan_with_one name.now value.now }
-{
-    if is_word(name, "--workers") {
-        let workers = workers_from(value)?;
-        Some(Request::Plan {
-            workers,
-            nodes: MOST_NODES,
-        })
-    } else if is_word(name, "--nodes") {
-        let nodes = nodes_from(value)?;
-        Some(Request::Plan {
-            workers: WORKERS,
-            nodes,
-        })
-    } else {
-        None
-    }
-}
-
-// `plan` with both options.
-fn plan_two(name: &str, value: &str, other: &str, number: &str) -> Option<Request>
-    ensures { result ≡ plan_with_two name.now value.now other.now number.now }
-{
-    if is_word(name, "--workers") && is_word(other, "--nodes") {
-        let workers = workers_from(value)?;
-        let nodes = nodes_from(number)?;
-        Some(Request::Plan { workers, nodes })
-    } else if is_word(name, "--nodes") && is_word(other, "--workers") {
-        let nodes = nodes_from(value)?;
-        let workers = workers_from(number)?;
-        Some(Request::Plan { workers, nodes })
-    } else {
-        None
-    }
-}
+use search_model::Name;
 
 // The words behind `plan`.
-#[tactic(auto, using(crate::proofs::WordLists::word_steps))]
 fn plan_request(words: &[String]) -> Option<Request>
     ensures { result ≡ plan_at (map string_bytes words.now) }
 {
-    match words {
-        [] => Some(Request::Plan {
-            workers: WORKERS,
-            nodes: MOST_NODES,
-        }),
-        [name, value] => plan_one(name.as_str(), value.as_str()),
-        [name, value, other, number] => plan_two(
-            name.as_str(),
-            value.as_str(),
-            other.as_str(),
-            number.as_str(),
-        ),
-        _ => None,
-    }
+    let (workers, nodes) = options_from(words, MOST_NODES)?;
+    Some(Request::Plan { workers, nodes })
+}
+
+// The words behind `gap`.
+fn gap_request(words: &[String]) -> Option<Request>
+    ensures { result ≡ gap_at (map string_bytes words.now) }
+{
+    let (workers, nodes) = options_from(words, MOST_CLOSED)?;
+    Some(Request::Gap { workers, nodes })
 }
 
 // A request that has no words behind its command.
@@ -147,28 +71,13 @@ fn make_request(words: &[String]) -> Option<Request>
     }
 }
 
-// `drill` with a number and an option.
-fn drill_with(number: &str, name: &str, value: &str) -> Option<Request>
-    ensures { result ≡ drill_at (number.now ∷ name.now ∷ value.now ∷ []) }
-{
-    if is_word(name, "--workers") {
-        let number = number_between(number, 0, u64::MAX)?;
-        let workers = workers_from(value)?;
-        Some(Request::Drill { number, workers })
-    } else {
-        None
-    }
-}
-
-// `drill` with a number alone.
-fn drill_alone(number: &str) -> Option<Request>
-    ensures { result ≡ drill_at (number.now ∷ []) }
+// `drill` with a number, and options behind it.
+fn drill_with(number: &str, options: &[String]) -> Option<Request>
+    ensures { result ≡ drill_at (number.now ∷ map string_bytes options.now) }
 {
     let number = number_between(number, 0, u64::MAX)?;
-    Some(Request::Drill {
-        number,
-        workers: WORKERS,
-    })
+    let (workers, _) = options_from(options, 0)?;
+    Some(Request::Drill { number, workers })
 }
 
 // The words behind `drill`.
@@ -177,10 +86,117 @@ fn drill_request(words: &[String]) -> Option<Request>
     ensures { result ≡ drill_at (map string_bytes words.now) }
 {
     match words {
-        [number] => drill_alone(number.as_str()),
-        [number, name, value] => drill_with(number.as_str(), name.as_str(), value.as_str()),
+        [number, options @ ..] => drill_with(number.as_str(), options),
+        [] => None,
+    }
+}
+
+// The first place of a word.
+fn first_place(words: &[String], name: &str) -> Option<usize>
+    ensures place { result ≡ position (λ word. bytes_eq (string_bytes word) name.now) words.now }
+    ensures inside { IfSome result (λ k. k < length words.now) }
+{
+    words.iter().position(|word| is_word(word.as_str(), name))
+}
+
+// The same, by the texts of the words.
+#[tactic(auto, using(crate::proofs::WordLists::place_steps))]
+fn place_of(words: &[String], name: &str) -> Option<usize>
+    ensures place { result ≡ place_of_lem name.now (map string_bytes words.now) }
+    ensures inside { IfSome result (λ k. k < length words.now) }
+{
+    first_place(words, name)
+}
+
+// The name that a word is.
+#[tactic(auto, using(crate::proofs::WordLists::name_steps))]
+fn name_from(word: &str) -> Option<Name>
+    ensures { result ≡ name_in word.now }
+{
+    Name::new(word.as_bytes())
+}
+
+// Whether a word is a name.
+fn is_name(word: &str) -> bool
+    ensures { result ≡ is_name_lem word.now }
+{
+    name_from(word).is_some()
+}
+
+// Whether all words are names.
+fn are_names(names: &[String]) -> bool
+    ensures { result ≡ list_all (λ name. is_name_lem (string_bytes name)) names.now }
+{
+    names.iter().all(|name| is_name(name.as_str()))
+}
+
+// Whether words are 1 to 32 names.
+#[tactic(auto, using(crate::proofs::WordLists::name_steps), unfolding(crate::specs::WordReading::are_flown))]
+fn are_flown(names: &[String]) -> bool
+    ensures { result ≡ are_flown_lem (map string_bytes names.now) }
+{
+    !names.is_empty() && names.len() <= MOST_FLOWN && are_names(names)
+}
+
+// The words behind `replan`.
+fn replan_request(words: &[String]) -> Option<Request>
+    ensures { result ≡ replan_at (map string_bytes words.now) }
+{
+    let place = place_of(words, "flown")?;
+    let (options, _) = cut(words, place);
+    let (_, names) = cut(words, place + 1);
+    if !are_flown(names) {
+        return None;
+    }
+    let (workers, nodes) = options_from(options, MOST_NODES)?;
+    Some(Request::Replan {
+        workers,
+        nodes,
+        flown: place + 2,
+    })
+}
+
+// The words behind `map`.
+#[tactic(auto, using(crate::proofs::WordLists::word_steps))]
+fn map_request(words: &[String]) -> Option<Request>
+    ensures { result ≡ map_at (map string_bytes words.now) }
+{
+    match words {
+        [word, names @ ..] if is_word(word.as_str(), "flown") && are_flown(names) => {
+            Some(Request::Map { flown: 2 })
+        }
         _ => None,
     }
+}
+
+// The options of `duo`, and the words behind `start`.
+#[tactic(auto, using(crate::proofs::WordLists::word_steps))]
+fn duo_with(options: &[String], names: &[String]) -> Option<Request>
+    ensures { result ≡ duo_with_lem (options_at MOST_NODES (map string_bytes options.now))
+        (map string_bytes names.now) }
+{
+    match names {
+        [name] => {
+            let second = name_from(name.as_str())?;
+            let (workers, nodes) = options_from(options, MOST_NODES)?;
+            Some(Request::Duo {
+                workers,
+                nodes,
+                second,
+            })
+        }
+        _ => None,
+    }
+}
+
+// The words behind `duo`.
+fn duo_request(words: &[String]) -> Option<Request>
+    ensures { result ≡ duo_at (map string_bytes words.now) }
+{
+    let place = place_of(words, "start")?;
+    let (options, _) = cut(words, place);
+    let (_, names) = cut(words, place + 1);
+    duo_with(options, names)
 }
 
 // The request of a command and the words behind it.
@@ -200,6 +216,14 @@ fn command_request(command: &str, words: &[String]) -> Option<Request>
         drill_request(words)
     } else if is_word(command, "convert") {
         request_alone(Request::Convert, words)
+    } else if is_word(command, "gap") {
+        gap_request(words)
+    } else if is_word(command, "replan") {
+        replan_request(words)
+    } else if is_word(command, "map") {
+        map_request(words)
+    } else if is_word(command, "duo") {
+        duo_request(words)
     } else {
         None
     }

@@ -1,4 +1,4 @@
-use Rattle.std.proofs.Common.{map, sym, subst, string_bytes, Global, Contains}
+use Rattle.std.proofs.Common.{sym, subst, string_bytes, Global, Contains}
 use Rattle.std.proofs.lemmas.List.Elements.{Contains-get_or}
 use Rattle.list_laws.proofs.Members.{Contains-map}
 use Rattle.plan_command.proofs.flown.positions_named.Goals as goal

@@ -1,20 +1,26 @@
-use Rattle.std.proofs.Common.{◌≡◌, List, [], ◌∷◌, ◌++◌, sym, subst}
-use Rattle.bound_tree.specs.declared.node.TreeNode.{TreeNode}
-use Rattle.tree_checker.specs.Progress.{reason_if}
+use Rattle.std.proofs.Common.{◌≡◌, List, [], ◌∷◌, ◌++◌, sym, ap, subst, ◌∙◌}
 use Rattle.tree_format.specs.declared.plan_item.PlanItem.{PlanItem}
-use Rattle.plan_command.specs.Intakes.{HasHeard}
-use Rattle.plan_command.proofs.Heard.{node_heard, end_heard}
+use Rattle.plan_command.specs.Intakes.{IsNextItem, HasHeard}
+use Rattle.plan_command.proofs.Heard.{end_heard}
 use Rattle.plan_command.proofs.judge.Judge.hear.Goals as goal
+
+pub returns-in-Head-clause-heard : goal.returns-in-Head-clause-heard
+returns-in-Head-clause-heard c = λ told next heard.
+    let self = c.args.self.now in
+    let first : told ≡ [] = subst (λ (item : PlanItem). IsNextItem told item) c.in-Head.is next in
+    subst (λ (items : List PlanItem). HasHeard self.family self.sc items c.in-Head.standing.path c.in-Head.ceiling c.hear_head.new.checker)
+    (ap (λ (items : List PlanItem). items ++ c.args.item ∷ []) (sym first))
+    (subst (λ (item : PlanItem). HasHeard self.family self.sc (item ∷ []) c.in-Head.standing.path c.in-Head.ceiling c.hear_head.new.checker) (sym c.in-Head.is)
+    (c.hear_head.ensures c.in-Head.ceiling _))
 
 pub returns-in-Node-clause-heard : goal.returns-in-Node-clause-heard
 returns-in-Node-clause-heard c = λ told next heard.
-    let sc = c.args.self.now.sc in
-    let path = c.args.self.now.path in
-    subst (λ (item : PlanItem). HasHeard sc (told ++ item ∷ []) path c.node.new.self) (sym c.in-Node.is)
-    (node_heard sc told _ path c.args.self.now.checker c.node.new.self heard (subst (λ (r : TreeNode). (rs : List TreeNode) → reason_if sc c.node.new.self rs ≡ reason_if sc c.args.self.now.checker (r ∷ rs)) c.record_of.ensures c.node.ensures.reason) c.node.ensures.under_way c.node.ensures.line c.node.ensures.made)
+    let self = c.args.self.now in
+    subst (λ (item : PlanItem). HasHeard self.family self.sc (told ++ item ∷ []) self.path self.ceiling c.hear_node.new.checker) (sym c.in-Node.is)
+    (c.hear_node.ensures told self.path self.ceiling heard)
 
 pub returns-in-End-clause-heard : goal.returns-in-End-clause-heard
 returns-in-End-clause-heard c = λ told next heard.
-    let sc = c.args.self.now.sc in
-    let path = c.args.self.now.path in
-    subst (λ (item : PlanItem). HasHeard sc (told ++ item ∷ []) path c.args.self.now.checker) (sym c.in-End.is) (end_heard sc told path c.args.self.now.checker heard)
+    let self = c.args.self.now in
+    subst (λ (item : PlanItem). HasHeard self.family self.sc (told ++ item ∷ []) self.path self.ceiling self.checker) (sym c.in-End.is)
+    (end_heard self.family self.sc told self.path self.ceiling self.checker heard)

@@ -5,7 +5,7 @@ use Rattle.plan_command.proofs.Judging.{more_blanks, text_begun, piece_more, pie
 use Rattle.plan_command.proofs.judge.Judge.take.Goals as goal
 
 pub take_text-requires : goal.take_text-requires
-take_text-requires c = (c.requires.1.text, c.requires.1.taken)
+take_text-requires c = (c.requires.0, c.requires.2.text, c.requires.2.taken)
 
 pub returns-then-self-clause-taken : goal.returns-then-self-clause-taken
 returns-then-self-clause-taken c = piece_more c.args.piece.now c.args.self.now c.take_text.new.self c.take_text.result c.if-self.true c.take_text.ensures.begun c.take_text.ensures.taken
@@ -14,12 +14,12 @@ pub returns-then-self-clause-fault : goal.returns-then-self-clause-fault
 returns-then-self-clause-fault c = piece_fault c.args.piece.now c.args.self.now c.take_text.new.self c.take_text.result c.if-self.true c.take_text.ensures.fault
 
 pub returns-then-is_empty-clause-taken : goal.returns-then-is_empty-clause-taken
-returns-then-is_empty-clause-taken c = λ before h.
-    more_blanks before c.args.piece.now c.args.self.now c.args.self.now h c.if-self.false
+returns-then-is_empty-clause-taken c = λ family before h.
+    more_blanks family before c.args.piece.now c.args.self.now c.args.self.now h c.if-self.false
     (subst (SkipsSpaces c.args.piece.now) (no_text _ (eqb-true _ _ (sym c.is_empty.ensures ∙ c.if-is_empty.true))) c.skip_spaces-text.ensures)
 
 pub take_text-requires-2 : goal.take_text-requires-2
-take_text-requires-2 c = (c.requires.1.text, text_begun _ _ c.requires.1.taken)
+take_text-requires-2 c = (c.requires.0, c.requires.2.text, text_begun c.requires.0 _ _ c.requires.2.taken)
 
 pub returns-clause-taken : goal.returns-clause-taken
 returns-clause-taken c = first_more c.args.piece.now c.args.self.now c.take_text-2.new.self c.take_text-2.result c.skip_spaces-text.result.now c.if-self.false c.skip_spaces-text.ensures (some_text _ (sym c.is_empty.ensures ∙ c.if-is_empty.false)) c.take_text-2.ensures.begun c.take_text-2.ensures.taken

@@ -3,21 +3,21 @@ use Rattle.plan_command.proofs.Judging.{line_left, text_more, text_item, text_fa
 use Rattle.plan_command.proofs.judge.Judge.take_some.Goals as goal
 
 pub hear-requires-clause-under_way : goal.hear-requires-clause-under_way
-hear-requires-clause-under_way c = c.requires.begun.1.heard.under_way
+hear-requires-clause-under_way c = c.requires.begun.2.heard.under_way
 
 pub hear-requires-clause-line : goal.hear-requires-clause-line
-hear-requires-clause-line c = line_left c.requires.begun.0 c.args.self.now c.recall_sound.ensures c.requires.begun.1
+hear-requires-clause-line c = line_left c.requires.begun.0 c.requires.begun.1 c.args.self.now c.recall_sound.ensures c.requires.begun.2
 
 pub hear-requires-clause-made : goal.hear-requires-clause-made
-hear-requires-clause-made c = c.requires.begun.1.heard.made_for
+hear-requires-clause-made c = c.requires.begun.2.heard.made_for
 
 pub returns-in-More-clause-taken : goal.returns-in-More-clause-taken
-returns-in-More-clause-taken c = λ before h.
-    text_more before c.args.text.now c.args.self.now _ c.feed-used.new.self c.feed-used.result.used c.feed-used.result.step h c.in-More.is c.feed-used.ensures.all c.feed-used.ensures.more refl refl refl refl
+returns-in-More-clause-taken c = λ family before h.
+    text_more family before c.args.text.now c.args.self.now _ c.feed-used.new.self c.feed-used.result.used c.feed-used.result.step h c.in-More.is c.feed-used.ensures.all c.feed-used.ensures.more refl refl refl refl refl refl
 
 pub returns-in-Item-clause-taken : goal.returns-in-Item-clause-taken
-returns-in-Item-clause-taken c = λ before h.
-    text_item before c.args.text.now c.args.self.now c.hear.new.self c.feed-used.new.self c.feed-used.result.used c.feed-used.result.step h c.in-Item.item c.recall_sound.ensures c.in-Item.is c.feed-used.ensures.item c.hear.ensures.heard c.hear.ensures.scenario c.hear.ensures.feed
+returns-in-Item-clause-taken c = λ family before h.
+    text_item family before c.args.text.now c.args.self.now c.hear.new.self c.feed-used.new.self c.feed-used.result.used c.feed-used.result.step h c.in-Item.item c.recall_sound.ensures c.in-Item.is c.feed-used.ensures.item c.hear.ensures.heard c.hear.ensures.family c.hear.ensures.scenario c.hear.ensures.feed
 
 pub returns-in-Fault-clause-fault : goal.returns-in-Fault-clause-fault
-returns-in-Fault-clause-fault c = λ before h. text_fault before c.args.text.now c.args.self.now c.feed-used.result.used c.feed-used.result.step c.in-Fault.fault h c.in-Fault.is c.feed-used.ensures.fault
+returns-in-Fault-clause-fault c = λ family before h. text_fault family before c.args.text.now c.args.self.now c.feed-used.result.used c.feed-used.result.step c.in-Fault.fault h c.in-Fault.is c.feed-used.ensures.fault

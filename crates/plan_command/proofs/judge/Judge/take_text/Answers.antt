@@ -1,15 +1,14 @@
 use Rattle.std.proofs.Common.{◌≡◌, ◌-◌, ap, length, length-drop, ◌++◌, ◌∙◌, ℕ, List, take, refl, subst, arith}
 use Rattle.tree_format.specs.Feeding.{IsDecided}
-use Rattle.tree_format.specs.declared.plan_line.Family.TheVariants.{Plans}
 use Rattle.plan_command.specs.Intakes.{HasTakenText}
 use Rattle.plan_command.proofs.Judging.{taken_none, taken_on, taken_all, decided_part}
 use Rattle.plan_command.proofs.judge.Judge.take_text.Goals as goal
 
 pub loop-done-init : goal.loop-done-init
-loop-done-init c = record { within = omega arith; scenario = refl; begun = refl; taken = λ before h. taken_none before c.args.text.now c.args.self.now h }
+loop-done-init c = record { within = omega arith; scenario = refl; begun = refl; taken = λ family before h. taken_none family before c.args.text.now c.args.self.now h }
 
 pub take_some-requires-clause-begun : goal.take_some-requires-clause-begun
-take_some-requires-clause-begun c = (c.requires.0 ++ take c.loop-done.done c.args.text.now, c.loop-done.invariant.taken c.requires.0 c.requires.1)
+take_some-requires-clause-begun c = (c.requires.0, c.requires.1 ++ take c.loop-done.done c.args.text.now, c.loop-done.invariant.taken c.requires.0 c.requires.1 c.requires.2)
 
 pub loop-done-preserved : goal.loop-done-preserved
 loop-done-preserved c =
@@ -19,16 +18,16 @@ loop-done-preserved c =
       within = omega (arith, left, inv.within, c.in-Ok.ensures.used);
       scenario = c.take_some.ensures.scenario ∙ inv.scenario;
       begun = c.take_some.ensures.begun ∙ inv.begun;
-      taken = λ before h. taken_on (λ (t : List ℕ). HasTakenText t c.take_some.new.self) before c.args.text.now c.loop-done.done c.in-Ok.used
-          (subst (λ (t : List ℕ). HasTakenText (before ++ take c.loop-done.done c.args.text.now ++ take c.in-Ok.used t) c.take_some.new.self) c.rest_from.ensures
-          (c.in-Ok.ensures.taken (before ++ take c.loop-done.done c.args.text.now) (inv.taken before h)));
+      taken = λ family before h. taken_on (λ (t : List ℕ). HasTakenText family t c.take_some.new.self) before c.args.text.now c.loop-done.done c.in-Ok.used
+          (subst (λ (t : List ℕ). HasTakenText family (before ++ take c.loop-done.done c.args.text.now ++ take c.in-Ok.used t) c.take_some.new.self) c.rest_from.ensures
+          (c.in-Ok.ensures.taken family (before ++ take c.loop-done.done c.args.text.now) (inv.taken family before h)));
     }
 
 pub returns-in-Err-clause-fault : goal.returns-in-Err-clause-fault
-returns-in-Err-clause-fault c = λ before h.
-    decided_part c.loop-done.self.sc c.args.self.now.sc before c.args.text.now c.loop-done.done c.in-Err.fault c.loop-done.invariant.scenario
-    (subst (λ (t : List ℕ). IsDecided Plans c.loop-done.self.sc (before ++ take c.loop-done.done c.args.text.now ++ t) c.in-Err.fault) c.rest_from.ensures
-    (c.in-Err.ensures.fault (before ++ take c.loop-done.done c.args.text.now) (c.loop-done.invariant.taken before h)))
+returns-in-Err-clause-fault c = λ family before h.
+    decided_part family c.loop-done.self.sc c.args.self.now.sc before c.args.text.now c.loop-done.done c.in-Err.fault c.loop-done.invariant.scenario
+    (subst (λ (t : List ℕ). IsDecided family c.loop-done.self.sc (before ++ take c.loop-done.done c.args.text.now ++ t) c.in-Err.fault) c.rest_from.ensures
+    (c.in-Err.ensures.fault family (before ++ take c.loop-done.done c.args.text.now) (c.loop-done.invariant.taken family before h)))
 
 pub returns-clause-taken : goal.returns-clause-taken
-returns-clause-taken c = λ before h. taken_all (λ (t : List ℕ). HasTakenText t c.loop-done.self) before c.args.text.now c.loop-done.done (omega (arith, c.loop-done-test.false)) (c.loop-done.invariant.taken before h)
+returns-clause-taken c = λ family before h. taken_all (λ (t : List ℕ). HasTakenText family t c.loop-done.self) before c.args.text.now c.loop-done.done (omega (arith, c.loop-done-test.false)) (c.loop-done.invariant.taken family before h)

@@ -1,7 +1,7 @@
 use Rattle.std.proofs.Common.{refl}
 use Rattle.search_workers.specs.Search.{plan_of}
 use Rattle.plan_command.proofs.Certified.{opening_exact, searched_certified, more_live, told_full}
-use Rattle.plan_command.proofs.answer.plan_from_opening.Goals as goal
+use Rattle.plan_command.proofs.planning.plan_from_opening.Goals as goal
 
 pub search-requires-clause-exact : goal.search-requires-clause-exact
 search-requires-clause-exact g c = λ κs ls. opening_exact c.args.sc.now c.in_ok-first.first c.in_ok-first.ensures.path c.in_ok-first.ensures.value
