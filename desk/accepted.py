@@ -3,14 +3,14 @@ import dataclasses
 import hashlib
 import os
 
-from desk import forms, masses, paths, program, reports
+from desk import forms, masses, paths, program, reports, seats
 
 # The longest input of `check`, in bytes (docs/FORMATS.md, status 9).
 MOST_INPUT = 336_592_896
 # How ./osp says that a run is unproved.
 UNPROVED = "osp: unproved run"
 # Exit statuses of docs/FORMATS.md.
-NOT_ACCEPTED, BAD_SCENARIO, UNREADABLE, TOO_LONG, FAILED = 1, 3, 5, 9, 70
+NOT_ACCEPTED, WRONG_WORDS, BAD_SCENARIO, UNREADABLE, TOO_LONG, FAILED = 1, 2, 3, 5, 9, 70
 
 
 class Refused(Exception):
@@ -26,8 +26,9 @@ class Search:
     """A scenario and its accepted plan.
 
     `name` is the file's, `text` the scenario's bytes; `sc` and `path` as in desk.forms; `version` and `records` of the plan's
-    text; `report` the program's own; `frames` those of desk.masses, which agree with it; the checksums those of the two files.
-    `note` is what the program said on standard error.
+    text; `report` the program's own; `frames` those of desk.masses, which agree with it, or with the program's map, too, where it
+    `is_mapped`; the checksums those of the two texts. `note` is what the program said on standard error. `seats` says who is where,
+    and `told_by` is the text whose comments say where that is: the scenario's own, or that of the one that it was made of.
     """
 
     name: str
@@ -41,6 +42,9 @@ class Search:
     scenario_sum: str
     plan_sum: str
     note: str
+    seats: seats.Seats
+    told_by: bytes
+    is_mapped: bool = False
 
     @property
     def checked_by(self):
@@ -54,10 +58,9 @@ class Search:
         """The names of the cells, by number."""
         return [it.decode("ascii") for it in self.sc.names]
 
-    @property
-    def positions(self):
-        """The names of the positions, by number."""
-        return [it.decode("ascii") for it in self.sc.positions]
+    def where(self, frame):
+        """Where the searchers are in a frame, in words."""
+        return self.seats.where(frame.position, frame.period)
 
 
 def shown(name):
@@ -90,10 +93,10 @@ def notes_and_rest(said):
     return ["\n".join(it for it in lines if it.startswith(UNPROVED) == wanted) for wanted in (True, False)]
 
 
-def asked(word, given):
+def asked(word, given, *behind):
     """What the program answers to one of its commands, and its note on an unproved run. Raises Refused where it doesn't end well."""
     try:
-        answer = program.ask([word], given)
+        answer = program.ask([word, *behind], given)
     except OSError as why:
         raise Refused(FAILED, f"cannot run {shown(program.OSP)}: {why.strerror or why}") from None
     note, said = notes_and_rest(answer.err)
@@ -125,9 +128,34 @@ def agree(sc, report, told):
     )
 
 
-def load(scenario_name, plan_name):
-    """Reads both files, asks `check` and then `report`, and computes the masses. Raises Refused where that leads to no answer."""
-    scenario, plan = read_file(scenario_name), read_file(plan_name)
+def texts(names):
+    """The texts of a scenario and of its plan, from a file each or from one that has both, as `replan` and `duo` write them."""
+    if len(names) == 2:
+        return tuple(map(read_file, names))
+    text = read_file(names[0])
+    try:
+        plan = forms.read_scenario(text, alone=False)[1]
+    except forms.Fault:
+        return text, b""
+    return text[: len(text) - len(plan)], plan.lstrip(b" \t\r\n")
+
+
+def seated(sc, of, text):
+    """Who is where in a scenario. `of` is the file of the scenario that it was made of, and `text` its bytes; both may be None."""
+    if of is None:
+        return seats.seats(sc)
+    try:
+        return seats.seats(sc, forms.read_scenario(text, alone=False)[0])
+    except forms.Fault as fault:
+        raise Refused(BAD_SCENARIO, f"{shown(of)} isn't a scenario: line {fault.line} {fault.kind}") from None
+    except seats.NotOf as why:
+        raise Refused(WRONG_WORDS, f"--of {shown(of)}: {why}") from None
+
+
+def load(names, of=None):
+    """Reads the files, asks `check` and then `report`, and computes the masses. Raises Refused where that leads to no answer."""
+    scenario, plan = texts(names)
+    old = None if of is None else read_file(of)
     given = joined(scenario, plan)
     verdict, note = asked("check", given)
     if verdict != b"accepted\n":
@@ -139,12 +167,35 @@ def load(scenario_name, plan_name):
         path, records = begun.path, begun.nodes
         report = reports.read(told)
     except forms.Fault as fault:
-        raise Refused(BAD_SCENARIO, f"{shown(scenario_name)} isn't a whole scenario: line {fault.line} {fault.kind}") from None
+        raise Refused(BAD_SCENARIO, f"{shown(names[0])} isn't a whole scenario: line {fault.line} {fault.kind}") from None
     except (forms.Wrong, AttributeError, reports.NoReport) as why:
         raise Refused(FAILED, f"what osp answered isn't understood: {why}") from None
     frames = masses.frames(sc, path)
     if not agree(sc, report, frames):
         raise Refused(FAILED, "this helper's numbers aren't those of osp report; please tell the project, with both files")
+    who = seated(sc, of, old)
     sums = [hashlib.sha256(it).hexdigest() for it in (scenario, plan)]
-    name = "of standard input" if scenario_name == "-" else shown(os.path.basename(scenario_name))
-    return Search(name, scenario, sc, path, version, records, report, frames, *sums, note)
+    name = "of standard input" if names[0] == "-" else shown(os.path.basename(names[0]))
+    return Search(name, scenario, sc, path, version, records, report, frames, *sums, note, who, scenario if old is None else old)
+
+
+def mapped(search):
+    """The search with the masses of the program's own `map`, which have to be those of this helper, too. A program that knows no `map`,
+    or for which the scenario's text is too long, leaves the search as it is. Raises Refused where they are others."""
+    text, names = search.text, [search.sc.positions[it].decode("ascii") for it in search.path]
+    text = text[: len(text) - len(forms.read_scenario(text, alone=False)[1])]
+    try:
+        told, _ = asked("map", text, "flown", *names)
+        looks = reports.read_map(told, search.report.weight)
+    except Refused as refused:
+        if refused.status in (WRONG_WORDS, TOO_LONG):
+            return search
+        raise
+    except reports.NoReport as why:
+        raise Refused(FAILED, f"what osp map answered isn't understood: {why}") from None
+    said = [(it.name, [(row.name, row.value) for row in it.left]) for it in looks]
+    if said != [(name, list(zip(search.cells, it.left))) for name, it in zip(names, search.frames[1:])]:
+        raise Refused(FAILED, "this helper's masses aren't those of osp map; please tell the project, with both files")
+    own, *frames = search.frames
+    frames = [dataclasses.replace(it, left=[row.value for row in look.left]) for it, look in zip(frames, looks)]
+    return dataclasses.replace(search, frames=[own, *frames], is_mapped=True)

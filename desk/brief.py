@@ -1,5 +1,5 @@
-"""brief SCENARIO PLAN [--from HH:MM --minutes N]: writes an accepted plan as plain text for a radio or a tasking form."""
-from desk import accepted, masses, running
+"""brief SCENARIO [PLAN] [--of SCENARIO] [--from HH:MM --minutes N]: writes an accepted plan as plain text for a radio or a tasking form."""
+from desk import accepted, masses, running, tables
 
 # How wide the text is where names allow it, in columns.
 WIDTH = 60
@@ -23,16 +23,22 @@ def percent(part, whole):
     return f"{masses.percent(part, whole)} %"
 
 
+def looked_from(search, frame):
+    """Where each searcher looks from in a period; behind the last of them it says whether that is flown."""
+    *most, last = search.seats.names[frame.position]
+    return [*most, last + (" (flown)" if frame.period <= search.seats.flown else "")]
+
+
 def periods(search, times):
-    """A line for each period: when it begins, where the searcher looks from, what this look finds, what is found so far."""
+    """A line for each period: when it begins, where the searchers look from, what these looks find, what is found so far."""
     whole = search.report.weight
     begins = ["begins"] if times else []
-    lines = [["period", *begins, "look from", "finds", "so far"]]
+    heads = ["look from", "finds"] if search.seats.count == 1 else ["first from", "second from", "find"]
+    lines = [["period", *begins, *heads, "so far"]]
     for it in search.frames[1:]:
         time = [times.at(it.period)] if times else []
-        position = search.positions[it.position]
-        lines.append([str(it.period), *time, position, percent(it.found, whole), percent(it.so_far, whole)])
-    return rows_of(lines, [False, *(True for _ in begins), True, False, False])
+        lines.append([str(it.period), *time, *looked_from(search, it), percent(it.found, whole), percent(it.so_far, whole)])
+    return rows_of(lines, [False, *(True for _ in begins), *(True for _ in range(search.seats.count)), False, False])
 
 
 def left(search):
@@ -51,13 +57,16 @@ def left(search):
 
 def text_of(search, times):
     """The whole text."""
-    t = search.sc.horizon
-    start = search.positions[search.sc.start]
+    looks, start = tables.plural(search.sc.horizon, "look"), search.seats.where(search.sc.start)
+    begin = [f"{looks}, from {start}"] if search.seats.count == 1 else [f"{looks} each", f"from {start}"]
     lines = [
         f"SEARCH PLAN {search.name}",
-        "Accepted: no path is better.",
+        f"Accepted: no {tables.best(search)} is better.",
         search.checked_by,
-        f"Chance to find them: {search.report.percent} %, {t} look{'s' if t > 1 else ''}, from {start}",
+        f"Chance to find them: {search.report.percent} %, {begin[0]}",
+        *begin[1:],
+        *tables.about_flown(search),
+        *tables.about_names(search),
         "",
         *periods(search, times),
         "",
@@ -70,10 +79,10 @@ def text_of(search, times):
     return "\n".join(lines) + "\n"
 
 
-def brief_of(files, times):
-    """The text of a scenario's file and its plan's, and what the program said on standard error. Raises accepted.Refused."""
-    search = accepted.load(*files)
-    return text_of(search, times), search.note
+def brief_of(given):
+    """The text of what the words say, and what the program said on standard error. Raises accepted.Refused."""
+    search = accepted.load(given.files, given.of)
+    return text_of(search, given.times), search.note
 
 
 def main(words):

@@ -37,8 +37,21 @@ def clock(options):
     return Clock(int(begins[1]) * 60 + int(begins[2]), int(minutes[0]))
 
 
-def files_and_clock(words):
-    """The two file names among the words SCENARIO PLAN [--from HH:MM --minutes N], and the clock if any. Raises BadWords.
+@dataclasses.dataclass
+class Words:
+    """What words say: the files of a scenario and its plan, or the one that has both; the file of the scenario that it was made of, or
+    None; the clock, or None."""
+
+    files: list
+    of: str | None
+    times: Clock | None
+
+
+OPTIONS = ("--of", "--from", "--minutes")
+
+
+def taken(words):
+    """What the words SCENARIO [PLAN] [--of SCENARIO] [--from HH:MM --minutes N] say. Raises BadWords.
 
     Behind `--` all words are names. The name `-` stands for standard input, which can be read once.
     """
@@ -47,7 +60,7 @@ def files_and_clock(words):
         word = rest.pop(0)
         if word == "--":
             files, rest = files + rest, []
-        elif word in ("--from", "--minutes"):
+        elif word in OPTIONS:
             if word in options or not rest:
                 raise BadWords(f"{word} stands once, and has one word behind it")
             options[word] = rest.pop(0)
@@ -55,8 +68,9 @@ def files_and_clock(words):
             raise BadWords("there is no such option")
         else:
             files.append(word)
-    if len(files) != 2:
-        raise BadWords("a scenario's file and a plan's are needed")
-    if files == ["-", "-"]:
-        raise BadWords("standard input is a scenario or a plan, and not both")
-    return files, clock(options)
+    if len(files) not in (1, 2):
+        raise BadWords("a scenario's file and a plan's are needed, or one file with both")
+    of = options.pop("--of", None)
+    if [*files, of].count("-") > 1:
+        raise BadWords("standard input can be read once, and stands for one file")
+    return Words(files, of, clock(options))

@@ -1,19 +1,23 @@
-"""./osp explain SCENARIO [PLAN]: what is wrong with a scenario or a plan, all of it, and what to write; and what may not be meant.
+"""./osp explain SCENARIO [PLAN | flown NAME .. | start NAME]: what is wrong with a scenario, with a plan, or with names for `replan`
+and `duo`, all of it, and what to write; and what may not be meant.
 
 The first line is the program's own verdict, and the exit status is that of its answer. All below it is this helper's.
 """
+import os
 import re
 
-from desk import accepted, advice, faults, forms, program, quoting, rejection, running
+from desk import accepted, advice, faults, forms, program, quoting, rejection, running, unmade
 
-USAGE = "usage: osp explain SCENARIO [PLAN]"
+USAGE = "usage: osp explain SCENARIO [PLAN | flown NAME .. | start NAME]"
 # The longest input of `plan`, in bytes (docs/FORMATS.md, status 9).
 MOST_SCENARIO = 1_048_576
 # Exit statuses of docs/FORMATS.md.
-RIGHT, REJECTED, BAD_WORDS, BAD_SCENARIO, BAD_PLAN, TOO_MANY, TOO_LONG, FAILED = 0, 1, 2, 3, 4, 8, 9, 70
+RIGHT, REJECTED, BAD_WORDS, BAD_SCENARIO, BAD_PLAN, TOO_MANY, TOO_LONG, BAD_FLOWN, BAD_DUO, FAILED = 0, 1, 2, 3, 4, 8, 9, 10, 11, 70
 # How many lines with faults are shown, and how many faults of one line.
 MOST_SHOWN = 200
 MOST_IN_LINE = 6
+# What is said where this helper has another opinion than the program.
+OWN = "(this helper's own verdict is: {}. The program's holds; please tell the project, with the file)"
 
 
 def asked(words, given, told):
@@ -49,6 +53,14 @@ def program_verdict(scenario, plan):
     return (RIGHT, "the scenario is right") if status in (RIGHT, TOO_MANY) else (status, line)
 
 
+def names_verdict(scenario, names):
+    """The program's status and its verdict on the words `flown NAME ..` or `start NAME` for a scenario. With one record at most
+    `replan` and `duo` are quick, too."""
+    words = [unmade.COMMANDS[names[0]], "--workers", "1", "--nodes", "1", *names]
+    status, line = asked(words, scenario[: MOST_SCENARIO + 1], [])
+    return (RIGHT, "the scenario is right, and so are the names") if status in (RIGHT, TOO_MANY) else (status, line)
+
+
 # ---- what is printed
 
 
@@ -82,7 +94,7 @@ def of_scenario(text, line):
     told = of_faults(found, faults.lines_of(text)) if found else []
     own = f"bad scenario: line {found[0].line} {found[0].kind}" if found else "right"
     if own != line:
-        told.append(f"(this helper's own verdict is: {own}. The program's holds; please tell the project, with the file)")
+        told.append(OWN.format(own))
     return told
 
 
@@ -91,7 +103,7 @@ def of_right(text, plan=None):
     try:
         sc, _ = forms.read_scenario(text, plan is None)
     except forms.Fault as fault:
-        return [f"(this helper's own verdict is: bad scenario: {fault}. The program's holds; please tell the project, with the file)"]
+        return [OWN.format(f"bad scenario: {fault}")]
     told = advice.warnings(sc) + (advice.about_plan(sc, forms.read_plan(plan, sc)) if plan and len(plan) < rejection.MOST_BYTES else [])
     return [f"perhaps not meant: {it}" for it in told]
 
@@ -111,6 +123,27 @@ def of_plan(scenario, plan, status, line):
     return ["of the plan's file:", *of_line(plan.split(b"\n"), at, says)]
 
 
+def of_names(scenario, names, line):
+    """What is said of names that the program refuses with this line."""
+    word, *names = names[0], *map(os.fsencode, names[1:])
+    try:
+        sc, _ = forms.read_scenario(scenario, True)
+    except forms.Fault as fault:
+        return [OWN.format(f"bad scenario: {fault}")]
+    found = unmade.faults(sc, word, names)
+    told = [f"    {kind}: {says}" for kind, says in found]
+    own = f"bad {'flown' if word == 'flown' else 'duo'}: {found[0][0]}" if found else "right"
+    if own != line:
+        told.append(OWN.format(own))
+    return [*told, quoting.counted(len(found), "fault")]
+
+
+def of_words(names):
+    """What is said of names that are no words of the program."""
+    found = unmade.of_words(names[0], list(map(os.fsencode, names[1:])))
+    return [f"    {it}" for it in found] or [f"    this program has no command {unmade.COMMANDS[names[0]]}"]
+
+
 def explained(scenario, plan, status, line):
     """All that is said behind the verdict."""
     if status == RIGHT:
@@ -124,16 +157,34 @@ def explained(scenario, plan, status, line):
     return []
 
 
+def taken(words):
+    """The files and the names of the words, or None where they are others. A plan of the name `flown` or `start` is given as ./flown."""
+    if len(words) > 2 and words[1] in unmade.COMMANDS:
+        return words[:1], words[1:]
+    is_right = len(words) in (1, 2) and not any(it.startswith("--") for it in words) and words[1:] != ["flown"] and words[1:] != ["start"]
+    return (words, []) if is_right else None
+
+
+def told_of(files, names):
+    """The exit status and all lines for these files and names."""
+    scenario, plan = [*map(accepted.read_file, files), None][:2]
+    status, line = names_verdict(scenario, names) if names else program_verdict(scenario, plan)
+    if status in (BAD_FLOWN, BAD_DUO):
+        return status, [line, *of_names(scenario, names, line)]
+    if status == BAD_WORDS and names:
+        return status, [line or "these are no words of the program", *of_words(names)]
+    return status, [line, *explained(scenario, plan, status, line)]
+
+
 def main(words):
     """Runs the helper; answers its exit status."""
-    if len(words) not in (1, 2) or any(it.startswith("--") for it in words):
+    given = taken(words)
+    if given is None:
         running.say(USAGE)
         return BAD_WORDS
     try:
-        scenario, plan = [*map(accepted.read_file, words), None][:2]
-        status, line = program_verdict(scenario, plan)
+        status, lines = told_of(*given)
     except accepted.Refused as why:
         running.say(f"osp explain: {why.said}")
         return why.status
-    lines = [line, *explained(scenario, plan, status, line)]
     return running.write("".join(f"{it}\n" for it in lines)) or status

@@ -502,7 +502,7 @@ class Survey(forms.ScenarioReader):
         """Tells what stands behind `end`."""
         at, line = behind[0]
         if (split(line) or [b""])[0] == b"plan":
-            says = "a plan begins behind the scenario: give it as a file of its own"
+            says = "a plan begins behind the scenario: give it as a file of its own (`check < FILE`, `show FILE` and `brief FILE` read both)"
         elif all(split(it) is None for _, it in behind):
             says = "a comment stands behind `end`: put it before"
         else:

@@ -5,8 +5,9 @@ mean, to standard error.
 """
 import math
 import re
+import shlex
 
-from desk import accepted, clock, forms, masses, onward, quoting, rounding, running, writing
+from desk import accepted, clock, derived, forms, masses, onward, quoting, rounding, running, writing
 from desk.accepted import Refused
 
 USAGE = "usage: osp next SCENARIO PLAN [--flown K] [--horizon N]"
@@ -80,6 +81,17 @@ def told(sc, flown, why, it):
         yield "that is coarse: a smaller --horizon rounds less"
 
 
+def exactly(sc, path, flown, name):
+    """What is said of the rest of the same horizon: the words that plan it exactly, or why none do. `name` is the scenario's file."""
+    head = f"for what is left of the same {quoting.counted(sc.horizon, 'period')} replan is exact, and shows that no path that begins so is better"
+    names = " ".join(shlex.quote(quoting.name(sc.positions[it])) for it in path[:flown])
+    try:
+        derived.forced(sc, path[:flown])
+    except derived.Refused as why:
+        return f"{head}; but not here: bad flown: {why}"
+    return f"{head}: ./osp replan flown {names} < {'SCENARIO' if name == '-' else shlex.quote(accepted.shown(name))}"
+
+
 def text_of(sc, old, flown, it):
     """The text of the scenario from there on, read again and found to be that scenario."""
     head = f"From behind period {flown} of a plan of {quoting.counted(sc.horizon, 'period')}, whose looks found nothing until then (osp next)."
@@ -92,8 +104,8 @@ def text_of(sc, old, flown, it):
     return text
 
 
-def followed(scenario, plan, flown, horizon):
-    """The text of the scenario from there on, and what is said of it."""
+def followed(scenario, plan, flown, horizon, name):
+    """The text of the scenario from there on, and what is said of it. `name` is the scenario's file."""
     given = accepted.joined(scenario, plan)
     verdict, note = accepted.asked("check", given)
     if verdict != b"accepted\n":
@@ -108,14 +120,15 @@ def followed(scenario, plan, flown, horizon):
         it = onward.onward(sc, path, flown, horizon)
     except onward.NoWay as no:
         raise Refused(no.status, str(no)) from None
-    return text_of(sc, scenario, flown, it), [*filter(None, [note]), *(f"osp next: {line}" for line in told(sc, flown, why, it))]
+    exact = [exactly(sc, path, flown, name)] if flown + horizon == sc.horizon else []
+    return text_of(sc, scenario, flown, it), [*filter(None, [note]), *(f"osp next: {line}" for line in (*told(sc, flown, why, it), *exact))]
 
 
 def main(words):
     """Runs the helper; answers its exit status."""
     try:
         *files, flown, horizon = options(words)
-        text, said = followed(*map(accepted.read_file, files), flown, horizon)
+        text, said = followed(*map(accepted.read_file, files), flown, horizon, files[0])
     except Refused as why:
         running.say(why.said if why.said == USAGE else f"osp next: {why.said}")
         return why.status

@@ -46,15 +46,18 @@ def comment(text):
 
 def header(search):
     """The name of the scenario, the verdict, the chance, and what the scenario says of itself."""
-    said, looks = comment(search.text), tables.plural(search.sc.horizon, "look")
+    said, looks = comment(search.told_by), tables.plural(search.sc.horizon, "look")
+    each = "" if search.seats.count == 1 else " each"
+    told = " ".join([*tables.about_flown(search), *tables.about_names(search)])
+    more = f'<p class="note">{escape(told)}</p>' if told else ""
     own = f"<details><summary>What the scenario says of itself</summary><pre>{escape(said)}</pre></details>" if said else ""
     return (
         f'<header><h1>Search plan <bdi>{escape(search.name)}</bdi></h1><div class="verdict">'
-        f'<p class="chance"><strong>{search.report.percent}&nbsp;%</strong> chance to find them in {looks}</p>'
-        f'<p class="accepted">Accepted: no path is better.<small>{escape(search.checked_by)}</small></p></div>'
+        f'<p class="chance"><strong>{search.report.percent}&nbsp;%</strong> chance to find them in {looks}{each}</p>'
+        f'<p class="accepted">Accepted: no {tables.best(search)} is better.<small>{escape(search.checked_by)}</small></p></div>'
         '<p class="note">Percentages are cut off after three digits. '
         "The chance is exact for the numbers of the scenario, and as good as they are.</p>"
-        f"{own}</header>"
+        f"{more}{own}</header>"
     )
 
 
@@ -75,7 +78,7 @@ def caption(search, frame, clock):
     whole = search.report.weight
     time = f" ({clock.at(frame.period)} to {clock.at(frame.period + 1)})" if clock and frame.period else ""
     head = escape(picture.when(search, frame))
-    found = f"This look finds {masses.percent(frame.found, whole)}&nbsp;%; found so far {masses.percent(frame.so_far, whole)}&nbsp;%. "
+    found = f"{tables.finds(search)} {masses.percent(frame.found, whole)}&nbsp;%; found so far {masses.percent(frame.so_far, whole)}&nbsp;%. "
     said = f"{found if frame.period else ''}{likeliest(search, frame)}"
     return f"<figcaption><strong>{head[0].upper()}{head[1:]}{time}</strong>{said}</figcaption>"
 
@@ -101,12 +104,14 @@ def sign(drawing, text):
     return f'<li><svg class="map" viewBox="-28 -20 56 40" aria-hidden="true">{drawing}</svg>{text}</li>'
 
 
-def signs():
-    """What the signs of the map say."""
+def signs(count):
+    """What the signs of the map of so many searchers say."""
     way = picture.drawn(picture.leg((-26, 0), (26, 0), 0))
+    who = ["searcher, in this period"] if count == 1 else ["first searcher, in this period", "second searcher"]
+    shapes = ['<circle r="15"/>', '<rect x="-14" y="-14"/>']
     return (
         '<ul class="signs" aria-label="Signs of the map">'
-        + sign('<g class="searcher"><circle r="15"/><text y="5.5">4</text></g>', "searcher, in this period")
+        + "".join(sign(f'<g class="searcher">{shape}<text y="5.5">4</text></g>', it) for shape, it in zip(shapes, who))
         + sign(f'<g class="now">{way}</g>', "this move")
         + sign(f'<g class="gone">{way}</g>', "moves before")
         + sign(f'<g class="coming">{way}</g>', "moves to come")
@@ -134,7 +139,7 @@ def controls(count):
 def map_section(search, drawn, clock):
     """The maps with all that belongs to them."""
     metres = f" North is up; a square is {drawn.layout.side:g} m wide." if drawn.layout.metres else ""
-    off = {search.positions[search.frames[at].position] for at, place in enumerate(drawn.way) if place is None}
+    off = drawn.not_drawn()
     lacking = f" Not on the map: {escape(', '.join(sorted(off)))}." if off else ""
     note = (
         "Shares of all and what was found so far sum to 100&nbsp;%. If nothing was found, the shares of what is left do. "
@@ -142,7 +147,7 @@ def map_section(search, drawn, clock):
     )
     return (
         f'<section id="map" class="of-all"><h2>Where they may be</h2>{controls(search.sc.horizon)}'
-        f'<div class="with-scale">{figures(search, drawn, clock)}{scale()}</div>{signs()}<p class="note">{note}</p></section>'
+        f'<div class="with-scale">{figures(search, drawn, clock)}{scale()}</div>{signs(search.seats.count)}<p class="note">{note}</p></section>'
     )
 
 
@@ -159,7 +164,8 @@ def style(drawn):
     if drawn is None:
         return asset("page.css")
     width = f"@media screen {{ .figures .map {{ min-width: {math.ceil(drawn.columns() * LEAST_CELL)}px; }} }}"
-    return f"{asset('page.css')}{width}\n.map .texts .name {{ font-size: {drawn.name_size():.1f}px; }}\n"
+    pair = asset("pair.css") if drawn.search.seats.count > 1 else ""
+    return f"{asset('page.css')}{pair}{width}\n.map .texts .name {{ font-size: {drawn.name_size():.1f}px; }}\n"
 
 
 def main_part(search, drawn, why, clock):

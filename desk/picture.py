@@ -14,6 +14,8 @@ MOST_LETTERS = 13
 MOST_RANGES = 3
 # How long a name may be so that the periods of looks stand beside it, and not below.
 LETTERS_BESIDE = 6
+# How much further down the periods of the second searcher's looks stand, and how far two searchers at one place stand from its middle.
+BELOW, ASIDE = 17, 17
 # The greatest and the widest writing of names, in units, and the width of a letter in parts of its height.
 NAME_SIZE, NAME_WIDTH, LETTER = 16, 86, 0.62
 # A class of colour begins at each of these shares, in thousandths of a percent; class 0 is exactly nothing.
@@ -59,9 +61,8 @@ class Picture:
         self.scale = SIDE / layout.side
         self.left, self.top = (min(it) for it in zip(*layout.cells))
         self.cells = [self.point(it) for it in layout.cells]
-        way = [search.sc.start, *search.path]
-        self.way = [layout.positions[it] and self.point(layout.positions[it]) for it in way]
-        drawn = [*self.cells, *(it for it in self.way if it)]
+        self.ways = [self.way(it) for it in range(search.seats.count)]
+        drawn = [*self.cells, *(it for way in self.ways for it in way if it)]
         self.low = [min(it) - SIDE / 2 - MARGIN for it in zip(*drawn)]
         self.size = [max(it) + SIDE / 2 + MARGIN - low for it, low in zip(zip(*drawn), self.low)]
         self.legs = self.all_legs()
@@ -69,6 +70,17 @@ class Picture:
     def point(self, place):
         """A place in units of the picture."""
         return (place[0] - self.left) * self.scale, (place[1] - self.top) * self.scale
+
+    def way(self, searcher):
+        """The points that a searcher goes through from the start on; None where one isn't drawn."""
+        sources = [self.search.seats.sources[it.position][searcher] for it in self.search.frames]
+        places = [None if it is None else self.layout.positions[it] for it in sources]
+        return [it and self.point(it) for it in places]
+
+    def not_drawn(self):
+        """The names of positions of the path that aren't on the map."""
+        seats, frames = self.search.seats, self.search.frames
+        return {seats.names[frame.position][who] for who, way in enumerate(self.ways) for frame, place in zip(frames, way) if place is None}
 
     def columns(self):
         """How many cells the picture is wide."""
@@ -79,21 +91,21 @@ class Picture:
         return min(NAME_SIZE, NAME_WIDTH / (LETTER * max(len(short(it)) for it in self.search.cells)))
 
     def all_legs(self):
-        """The curve and the arrow of the way to each period's position, as two path data, or None where nothing is drawn."""
-        gone, legs = {}, []
-        for one, other in zip(self.way, self.way[1:]):
+        """By searcher the curve and the arrow of the way to each period's position, as two path data, or None where nothing is drawn."""
+        gone, legs = {}, [[] for _ in self.ways]
+        for who, one, other in ((who, *ends) for who, way in enumerate(self.ways) for ends in zip(way, way[1:])):
             if one is None or other is None or one == other:
-                legs.append(None)
+                legs[who].append(None)
                 continue
             ends = frozenset((one, other))
             gone[ends] = gone.get(ends, -1) + 1
-            legs.append(leg(one, other, BOW * min(gone[ends], MOST_BOWS)))
+            legs[who].append(leg(one, other, BOW * min(gone[ends], MOST_BOWS)))
         return legs
 
-    def visits(self, period):
-        """The periods of the way up to the end by place: the label that stands beside it."""
+    def visits(self, way, period):
+        """The periods of a way up to the end by place: the label that stands beside it."""
         stops = {}
-        for t, place in enumerate(self.way[1:], 1):
+        for t, place in enumerate(way[1:], 1):
             if place:
                 stops.setdefault(place, []).append(t)
         return {place: ranges(times) for place, times in stops.items() if times != [period]}
@@ -102,7 +114,10 @@ class Picture:
         """The map of a frame."""
         box = " ".join(number(it) for it in [*self.low, *self.size])
         label = f"Map {when(self.search, frame)}; the table of all cells has its numbers"
-        parts = [self.squares(frame), self.outlines(frame), self.path(frame), self.texts(frame), self.labels(frame), self.searcher(frame)]
+        who = range(len(self.ways))
+        ways = "".join(self.of(it, self.path(it, frame)) for it in who)
+        signs = "".join(self.of(it, self.labels(it, frame) + self.searcher(it, frame)) for it in who)
+        parts = [self.squares(frame), self.outlines(frame), ways, self.texts(frame), signs]
         return f'<svg class="map" role="img" aria-label="{escape(label)}" viewBox="{box}">{"".join(parts)}</svg>'
 
     def classes(self, frame, mass):
@@ -125,15 +140,21 @@ class Picture:
         drawn = (f'<rect x="{number(x - 45)}" y="{number(y - 45)}"/>' for x, y in at)
         return f'<g class="covers">{"".join(drawn)}</g>'
 
-    def path(self, frame):
-        """The way that is to come, the way before this period, and this period's move on top, with an arrow on each leg."""
-        t = frame.period
-        parts = (("coming", self.legs[t:]), ("gone", self.legs[: max(t - 1, 0)]), ("now", self.legs[max(t - 1, 0) : t]))
-        return "".join(f'<g class="{name}">{"".join(drawn(it) for it in legs if it)}</g>' for name, legs in parts) + self.start()
+    @staticmethod
+    def of(searcher, drawing):
+        """What is drawn of a searcher; that of the second one has a class of its own."""
+        return f'<g class="second">{drawing}</g>' if searcher else drawing
 
-    def start(self):
-        """A ring where the searcher is before period 1."""
-        return f'<circle class="start" cx="{number(self.way[0][0])}" cy="{number(self.way[0][1])}" r="9"/>' if self.way[0] else ""
+    def path(self, searcher, frame):
+        """The way that is to come, the way before this period, and this period's move on top, with an arrow on each leg."""
+        t, legs = frame.period, self.legs[searcher]
+        parts = (("coming", legs[t:]), ("gone", legs[: max(t - 1, 0)]), ("now", legs[max(t - 1, 0) : t]))
+        return "".join(f'<g class="{name}">{"".join(drawn(it) for it in legs if it)}</g>' for name, legs in parts) + self.start(self.ways[searcher][0])
+
+    @staticmethod
+    def start(place):
+        """A ring where a searcher is before period 1."""
+        return f'<circle class="start" cx="{number(place[0])}" cy="{number(place[1])}" r="9"/>' if place else ""
 
     def texts(self, frame):
         """The name of each cell, and its share in percent of all and of what is left."""
@@ -148,21 +169,30 @@ class Picture:
             )
         return f'<g class="texts" aria-hidden="true">{"".join(drawn)}</g>'
 
-    def labels(self, frame):
-        """Beside each place of the way, the periods in which the searcher looks from there."""
-        places = self.visits(frame.period).items()
-        up = 29 if max(len(it) for it in self.search.cells) <= LETTERS_BESIDE else 13
+    def labels(self, searcher, frame):
+        """Beside each place of a way, the periods in which the searcher looks from there; those of the second searcher stand below."""
+        places = self.visits(self.ways[searcher], frame.period).items()
+        up = (29 if max(len(it) for it in self.search.cells) <= LETTERS_BESIDE else 13) - BELOW * searcher
         drawn = (f'<text x="{number(x + 43)}" y="{number(y - up)}">{label}</text>' for (x, y), label in places)
         return f'<g class="visits" aria-hidden="true">{"".join(drawn)}</g>'
 
-    def searcher(self, frame):
-        """The searcher's place, with the number of the period."""
-        place = self.way[frame.period]
-        if not place:
+    def searcher(self, searcher, frame):
+        """A searcher's place, with the number of the period. Two at one place stand beside each other."""
+        places = [way[frame.period] for way in self.ways]
+        if not places[searcher]:
             return ""
-        x, y = place
-        digits = f'<text x="{number(x)}" y="{number(y + 5.5)}">{frame.period or "S"}</text>'
-        return f'<g class="searcher" aria-hidden="true"><circle cx="{number(x)}" cy="{number(y)}" r="15"/>{digits}</g>'
+        x, y = places[searcher]
+        aside = (searcher * 2 - 1) * ASIDE if places.count(places[searcher]) > 1 else 0
+        return marker(searcher, (x + aside, y), frame.period or "S")
+
+
+def marker(searcher, place, text):
+    """The sign of a searcher: a disc for the first one, a square for the second."""
+    x, y = place
+    digits = f'<text x="{number(x)}" y="{number(y + 5.5)}">{text}</text>'
+    square = f'<rect x="{number(x - 14)}" y="{number(y - 14)}"/>'
+    disc = f'<circle cx="{number(x)}" cy="{number(y)}" r="15"/>'
+    return f'<g class="searcher" aria-hidden="true">{square if searcher else disc}{digits}</g>'
 
 
 def drawn(curve_and_arrow):
@@ -199,5 +229,5 @@ def ranges(times):
 
 def when(search, frame):
     """Which look a frame is behind, in words."""
-    where = search.positions[frame.position]
-    return f"after look {frame.period}, from {where}" if frame.period else f"before the first look; the searcher is at {where}"
+    who = "searcher is" if search.seats.count == 1 else "searchers are"
+    return f"after look {frame.period}, from {search.where(frame)}" if frame.period else f"before the first look; the {who} at {search.where(frame)}"

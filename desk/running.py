@@ -1,4 +1,4 @@
-"""How a helper that makes a text of SCENARIO PLAN [--from HH:MM --minutes N] runs: its words, its output, its exit status."""
+"""How a helper that makes a text of a scenario and its plan runs: its words, its output, its exit status."""
 import os
 import re
 import sys
@@ -42,14 +42,14 @@ def files_and_numbers(words, options):
 
 
 def run(name, more, make, words):
-    """Writes what `make` makes of the two files and the clock, and answers the exit status. `more` ends the usage line."""
+    """Writes what `make` makes of what the words say, and answers the exit status. `more` ends the usage line."""
     try:
-        files, times = clock.files_and_clock(words)
+        given = clock.taken(words)
     except clock.BadWords as wrong:
-        say(f"osp {name}: {wrong}\nusage: osp {name} SCENARIO PLAN [--from HH:MM --minutes N]{more}")
+        say(f"osp {name}: {wrong}\nusage: osp {name} SCENARIO [PLAN] [--of SCENARIO] [--from HH:MM --minutes N]{more}")
         return WRONG_WORDS
     try:
-        text, note = make(files, times)
+        text, note = make(given)
     except accepted.Refused as refused:
         say(f"{refused.note}\nosp {name}: {refused.said}".lstrip())
         return refused.status

@@ -1,15 +1,15 @@
-"""show SCENARIO PLAN [--from HH:MM --minutes N]: writes a page that shows an accepted plan."""
+"""show SCENARIO [PLAN] [--of SCENARIO] [--from HH:MM --minutes N]: writes a page that shows an accepted plan."""
 from desk import accepted, layout, page, picture, running
 
 
-def page_of(files, times):
-    """The page of a scenario's file and its plan's, and what the program said on standard error. Raises accepted.Refused."""
-    search = accepted.load(*files)
+def page_of(given):
+    """The page of what the words say, and what the program said on standard error. Raises accepted.Refused."""
+    search = accepted.mapped(accepted.load(given.files, given.of))
     try:
-        drawn, why = picture.Picture(search, layout.layout(search.sc, search.text)), None
+        drawn, why = picture.Picture(search, layout.layout(search.seats.of, search.told_by)), None
     except layout.NoPlaces as lacking:
         drawn, why = None, str(lacking)
-    return page.document(search, drawn, why, times), search.note
+    return page.document(search, drawn, why, given.times), search.note
 
 
 def main(words):

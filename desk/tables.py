@@ -37,15 +37,51 @@ def bar(part, whole):
     )
 
 
+def heads(search):
+    """The heads of the columns that say where a searcher looks from."""
+    return ["Look from"] if search.seats.count == 1 else ["First looks from", "Second looks from"]
+
+
+def finds(search):
+    """What the looks of a period are said to do."""
+    return "This look finds" if search.seats.count == 1 else "These looks find"
+
+
+def best(search):
+    """What no other is better than the plan's."""
+    what = "path" if search.seats.count == 1 else "pair of paths"
+    return f"{what} that begins as flown" if search.seats.flown else what
+
+
+def about_flown(search):
+    """What is said of a flown prefix, in short sentences: how many looks are flown, and what those to come find if these found nothing."""
+    k = search.seats.flown
+    if not k:
+        return []
+    found, missed = search.frames[k].so_far, search.frames[k].missed
+    if k == search.sc.horizon:
+        return ["All looks are flown."]
+    head, these = ("The first look is flown.", "it") if k == 1 else (f"The first {k} looks are flown.", "these")
+    if not missed:
+        return [head, f"They are found for certain by {these}."]
+    return [head, f"If {these} found nothing, those to come find them: {masses.percent(search.report.value - found, missed)} %."]
+
+
+def about_names(search):
+    """What is said of names that are numbers, as a list of one sentence or none."""
+    return ["Positions have numbers here: --of SCENARIO has their names."] if search.seats.is_numbered else []
+
+
 def period_row(search, frame, clock, with_map):
     """A period's row: its number (a button where there is a map), when it begins if known, and what its look finds."""
     t, whole = frame.period, search.report.weight
-    position = escape(search.positions[frame.position])
+    flown = " <small>flown</small>" if t <= search.seats.flown else ""
+    places = "".join(f"<td><bdi>{escape(it)}</bdi>{flown}</td>" for it in search.seats.names[frame.position])
     head = f'<button type="button" class="step" aria-pressed="false" aria-label="Show period {t}">{t}</button>' if with_map else t
     time = f"<td>{clock.at(t)}</td>" if clock else ""
     data = f' data-period="{t}"' if with_map else ""
     return (
-        f'<tr{data}><th scope="row">{head}</th>{time}<td><bdi>{position}</bdi></td>'
+        f'<tr{data}><th scope="row">{head}</th>{time}{places}'
         f'<td class="number found">{exact(f"found-{t}", frame.found, whole)}</td>'
         f'<td class="number so-far">{exact(f"so-far-{t}", frame.so_far, whole)}{bar(frame.so_far, whole)}</td></tr>'
     )
@@ -54,11 +90,11 @@ def period_row(search, frame, clock, with_map):
 def periods(search, clock, with_map):
     """The table of periods."""
     time = [("Begins", False)] if clock else []
-    heads = [("Period", False), *time, ("Look from", False), ("This look finds", True), ("Found so far", True)]
+    columns = [("Period", False), *time, *((it, False) for it in heads(search)), (finds(search), True), ("Found so far", True)]
     rows = (period_row(search, it, clock, with_map) for it in search.frames[1:])
     how = '<span class="on-screen">Point at a number, or go to it by Tab, for its exact fraction.</span>'
-    caption = f"In each period the searcher moves, then looks. {how}"
-    return f'<section class="periods"><h2>Period by period</h2>{table(caption, heads, rows)}</section>'
+    caption = f"In each period the {'searcher moves, then looks' if search.seats.count == 1 else 'searchers move, then look'}. {how}"
+    return f'<section class="periods"><h2>Period by period</h2>{table(caption, columns, rows)}</section>'
 
 
 def left_row(search, cell):
@@ -122,13 +158,15 @@ def numbers(search):
     """The numbers behind the page, and the checksums by which its files are known again."""
     a, d, g = search.sc.parts
     t = search.sc.horizon
-    counts = plural(t, "period"), plural(len(search.cells), "cell"), plural(len(search.positions), "position")
+    counts = plural(t, "period"), plural(len(search.cells), "cell"), plural(len(search.sc.positions), "position")
     rows = [
         ("Chance", f"{search.report.value} of {search.report.weight}"),
         ("Denominators", f"first distribution {a}, drift {d}, looks {g}; the whole is {a} · {d}<sup>{t - 1}</sup> · {g}<sup>{t}</sup>"),
-        ("Size", f"{', '.join(counts)} of the searcher"),
+        ("Size", f"{', '.join(counts)} of the {'searcher' if search.seats.count == 1 else 'pair'}"),
         ("Plan", f"text of version {search.version}, {plural(search.records, 'record')}: they show that no path is better"),
     ]
+    if not search.is_mapped:
+        rows.append(("Masses", "this helper's own sums, of which the last are those of the report: this program has no map"))
     told = "".join(f"<dt>{name}</dt><dd>{text}</dd>" for name, text in rows)
     sums = (("SHA-256 of the scenario", search.scenario_sum), ("SHA-256 of the plan", search.plan_sum))
     told += "".join(f'<dt>{name}</dt><dd class="sum">{text}</dd>' for name, text in sums)

@@ -15,6 +15,7 @@ import unittest.mock
 sys.dont_write_bytecode = True
 sys.path.insert(0, os.path.dirname(os.path.realpath(__file__)))
 
+from made import GRID, paired  # noqa: E402
 from pages import EXAMPLES, PLACES, PROGRAM, TOP, Room, example, read, tree  # noqa: E402
 
 from desk import accepted, brief, program, show  # noqa: E402
@@ -115,6 +116,15 @@ class Hostile(Room):
         self.assertNotIn(MARKUP, text)
 
 
+def pair_file(room):
+    """The page of two searchers on a small grid, as `duo` writes both texts, with names of the scenario of one."""
+    made, grid = room.write("pair.made", paired(GRID, "r2c3")), room.write("pair.scenario", GRID)
+    status, out, err = room.run_helper(show.main, [made, "--of", grid])
+    if status or err:
+        raise AssertionError(err)
+    return room.write("pair.html", out.encode())
+
+
 def pages_for(room):
     """The pages that are opened in the browser, by what they are for."""
     plain, _ = page_file(room, "kayaker")
@@ -123,7 +133,8 @@ def pages_for(room):
     hostile, _ = page_file(room, "kayaker", "<svg onload=owned=4>.scenario", lambda it: COMMENTS + it)
     # A page as one would be that escapes nothing: it shows that the browser's logs would tell.
     broken = re.sub(r"<meta http-equiv[^>]*>", "", read(plain).decode()).replace("<h1>", f"<h1>{MARKUP.removeprefix('</title></script>')}")
-    return {"grid": plain, "table": table, "swath": swath, "hostile": hostile, "broken": room.write("broken.html", broken.encode())}
+    pages = {"grid": plain, "table": table, "swath": swath, "pair": pair_file(room), "hostile": hostile}
+    return {**pages, "broken": room.write("broken.html", broken.encode())}
 
 
 class Browser(unittest.TestCase):
@@ -217,9 +228,13 @@ class Browser(unittest.TestCase):
         self.assertNotIn("Play", told)
 
     def test_a_phone_needs_no_sideways_move(self):
-        for name in ("grid", "table", "swath"):
+        for name in ("grid", "table", "swath", "pair"):
             self.assertEqual(self.seen[name]["phone"][0], 390, name)
             self.assertEqual(self.seen[name]["desktop"][0], 1280, name)
+
+    def test_two_searchers_by_keys(self):
+        seen = self.seen["pair"]["keys"]["right"]
+        self.assertEqual((seen["maps"], seen["told"]), (["after-2"], "After look 2, from r0c2 and r1c2"))
 
     def test_a_page_without_places_is_a_table_alone(self):
         seen = self.seen["table"]
@@ -227,7 +242,7 @@ class Browser(unittest.TestCase):
         self.assertIn("There is no map, since nothing says where the cell north-west lies.", seen["text"])
 
     def test_no_request_and_nothing_on_the_console(self):
-        for name in ("grid", "table", "swath", "hostile"):
+        for name in ("grid", "table", "swath", "pair", "hostile"):
             seen = self.seen[name]
             self.assertEqual({it.split("/")[0] for it in seen["asked"]}, {"file:"}, name)
             self.assertEqual(len(set(seen["asked"])), 1, name)

@@ -10,7 +10,13 @@ from fractions import Fraction
 sys.dont_write_bytecode = True
 sys.path.insert(0, os.path.dirname(os.path.realpath(__file__)))
 
-from pages import example, walks  # noqa: E402
+from pages import TOP, example, walks  # noqa: E402
+
+sys.path.insert(0, os.path.join(TOP, "bench"))
+
+from answers import MADE  # noqa: E402
+from house import EXAMPLES, read as bytes_of  # noqa: E402
+from one_worker import made_text  # noqa: E402
 
 from desk import derived, forms, paths, writing  # noqa: E402
 
@@ -172,6 +178,15 @@ class Worked(unittest.TestCase):
                 ask()
             self.assertEqual(str(refused.exception), why)
         self.assertEqual(len(derived.product(one, 0).positions), 1)
+
+
+class Examples(unittest.TestCase):
+    def test_what_is_made_of_the_scenarios_of_examples(self):
+        for name, (command, of, names) in MADE.items():
+            sc = read(bytes_of(f"{EXAMPLES}/{of}.scenario"))
+            (command, *_), names = command.split(), [it.encode() for it in names.split()[1:]]
+            wanted = derived.map_text(sc, derived.numbers_of(sc, names)) if command == "map" else b"".join(made_text(sc, command, names))
+            self.assertEqual(bytes_of(f"{EXAMPLES}/{name}"), wanted, name)
 
 
 class EveryPath(unittest.TestCase):

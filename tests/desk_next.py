@@ -219,6 +219,22 @@ class Commands(Asked):
             self.assertEqual((status, scenario(text).horizon), (0, horizon))
             self.assertIn(why, said)
 
+    def test_the_rest_of_the_same_horizon_is_planned_exactly_by_replan(self):
+        """The words that are told force the prefix that was flown; where there is no such scenario, the cause is told."""
+        for name, k in (("tide", 2), ("swath", 3), ("two-cells", 1)):
+            status, _, said = self.of(name, "--flown", str(k))
+            self.assertEqual(status, 0)
+            found = re.search(r"replan is exact, and shows .*: \./osp (replan flown .*) < (\S+)\n", said)
+            sc, path = searched(name)
+            self.assertEqual(found[1].split()[2:], [sc.positions[it].decode() for it in path[:k]])
+            self.assertEqual(read(found[2]), example(name)[0])
+            self.assertEqual(program.ask(found[1].split(), example(name)[0]).status in (0, 8), True)
+        for words in (("--flown", "2", "--horizon", "3"), ("--flown", "6")):
+            self.assertNotIn("replan", self.of("tide", *words)[2])
+        text, plan = (it.replace(b"bridge", b"flown-1") for it in example("tide"))
+        _, _, said = self.ran(self.write("s", text), self.write("p", plan), "--flown", "1")
+        self.assertIn("but not here: bad flown: NameTaken\n", said)
+
     def test_places_are_kept_and_other_comments_are_not(self):
         other = "# at nowhere 1 2\n# at north 1\n#at base 3 4\n# a note\n"
         status, text, _ = self.of("swath", "--flown", "1", places=PLACES + other)

@@ -138,16 +138,23 @@ class Places(unittest.TestCase):
 
 class Clocks(unittest.TestCase):
     def test_times(self):
-        files, times = clock.files_and_clock(["a", "--minutes", "45", "b", "--from", "9:30"])
-        self.assertEqual((files, [times.at(it) for it in (1, 2, 20, 52)]), (["a", "b"], ["09:30", "10:15", "23:45", "23:45+1"]))
-        self.assertEqual(clock.files_and_clock(["a", "b"]), (["a", "b"], None))
-        self.assertEqual(clock.files_and_clock(["--", "--from", "-"]), (["--from", "-"], None))
+        given = clock.taken(["a", "--minutes", "45", "b", "--from", "9:30"])
+        self.assertEqual((given.files, [given.times.at(it) for it in (1, 2, 20, 52)]), (["a", "b"], ["09:30", "10:15", "23:45", "23:45+1"]))
+        self.assertEqual(clock.taken(["a", "b"]), clock.Words(["a", "b"], None, None))
+        self.assertEqual(clock.taken(["--", "--from", "-"]), clock.Words(["--from", "-"], None, None))
+
+    def test_one_file_and_the_scenario_that_it_is_made_of(self):
+        self.assertEqual(clock.taken(["a"]), clock.Words(["a"], None, None))
+        self.assertEqual(clock.taken(["--of", "b", "a"]), clock.Words(["a"], "b", None))
+        self.assertEqual(clock.taken(["-", "--of", "--of"]), clock.Words(["-"], "--of", None))
+        self.assertEqual(clock.taken(["a", "-", "--of", "b", "--from", "1:00", "--minutes", "5"]), clock.Words(["a", "-"], "b", clock.Clock(60, 5)))
 
     def test_bad_words(self):
         times = "24:00 --minutes 1", "1:60 --minutes 1", "1:00 --minutes 0", "1:00 --minutes 1441", "1:00 --minutes 1.5", "1:00 --from 1:00", "١:00 --minutes 5"
-        for words in ("", "a", "a b c", "- -", "a -- b c", "a b --all", "a b --from", "a b --from 1:00", *(f"a b --from {it}" for it in times)):
+        made = "--of a", "a --of", "a --of b --of c", "a --of=b", "- --of -", "a - --of -"
+        for words in ("", "a b c", "- -", "a -- b c", "a b --all", "a b --from", "a b --from 1:00", *made, *(f"a b --from {it}" for it in times)):
             with self.assertRaises(clock.BadWords, msg=words):
-                clock.files_and_clock(words.split())
+                clock.taken(words.split())
 
 
 class Pages(Room):
@@ -446,7 +453,8 @@ class Refusals(Room):
         self.both([plan, plan], 3, "bad scenario: line 1 BadLine\n")
         self.both([self.room + "/none", plan], 5, "cannot read ")
         self.both([self.room, plan], 5, "Is a directory")
-        self.both([scenario], 2, "usage: osp ")
+        self.both([scenario], 4, "bad plan: line 1 EarlyEnd\n")
+        self.both([], 2, "usage: osp ")
         self.both([scenario, plan, "--from", "1:00"], 2, "stand together")
         with self.subTest("too long"), unittest.mock.patch.object(accepted, "MOST_INPUT", 100):
             self.both([scenario, plan], 9, "input too long")
@@ -491,7 +499,7 @@ class Refusals(Room):
     def test_an_unproved_run_is_told(self):
         """The note of ./osp goes on to standard error, the page and the text say so, and it isn't taken for a reason."""
         note = "echo 'osp: unproved run, since x' >&2"
-        self.with_program(f"cat > /dev/null; {note}; [ $1 = check ] && echo accepted || cat {EXAMPLES}/two-cells.report")
+        self.with_program(f"cat > /dev/null; {note}; case $1 in check) echo accepted ;; report) cat {EXAMPLES}/two-cells.report ;; *) exit 2 ;; esac")
         os.rename(program.OSP, self.room + "/osp")
         program.OSP = self.room + "/osp"
         with unittest.mock.patch.object(program, "TOP", self.room):

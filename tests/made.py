@@ -1,0 +1,58 @@
+"""What the tests of pages share of scenarios that `replan` and `duo` make: their texts, with plans by bench/tree."""
+import functools
+import os
+import subprocess
+import sys
+import tempfile
+
+from pages import TOP
+
+from desk import derived, forms, writing
+
+# Three by four cells, where two searchers come from two corners.
+GRID = b"""scenario 1
+horizon 3
+parts 1 10 10
+grid 3 4
+start r0c0
+first r1c2 1
+spread 2
+rate 3
+end
+"""
+
+
+def read(text):
+    """The scenario of a text."""
+    return forms.read_scenario(text, True)[0]
+
+
+def again(sc):
+    """A scenario as its text says it."""
+    return read(writing.scenario_text(sc))
+
+
+@functools.cache
+def with_plan(scenario):
+    """A scenario's text with the plan of bench/tree behind it, as `replan` and `duo` write both."""
+    with tempfile.TemporaryDirectory() as folder:
+        name = os.path.join(folder, "s")
+        with open(name, "wb") as file:
+            file.write(scenario)
+        return scenario + subprocess.run([sys.executable, os.path.join(TOP, "bench", "tree"), name], capture_output=True, check=True).stdout
+
+
+def numbers(sc, names):
+    return derived.numbers_of(sc, [it.encode() for it in names.split()])
+
+
+def forced(text, names):
+    """What `replan flown NAMES` writes."""
+    sc = read(text)
+    return with_plan(writing.scenario_text(derived.forced(sc, numbers(sc, names))))
+
+
+def paired(text, name):
+    """What `duo start NAME` writes."""
+    sc = read(text)
+    return with_plan(writing.scenario_text(derived.product(sc, *numbers(sc, name))))
