@@ -1,0 +1,97 @@
+"""The plan that one worker makes, by exact whole numbers. Written from the rules, over desk/ and nothing of the program.
+
+One worker's plan follows from the rules: it closes the last prefix of its private stack, or else the first task of its own
+deque, under the best standing that it knows by then. The children of a prefix that branches and is shorter than half the horizon
+go into the deque, all but the least; all others go on the stack, the least of them on top. Where the horizon is 4 or more a
+scout flies first.
+"""
+import collections
+
+from desk import derived, paths, verdict
+from desk.forms import read_scenario
+from desk.writing import scenario_text
+from scouting import moves, opening, reached, scout
+
+# From so many periods on a scout flies.
+SCOUTED_FROM = 4
+# So many tasks a deque takes in its life.
+MOST_PUTS = 4096
+
+
+def better(standing, other):
+    """Whether a standing, a value and a path, is better than another."""
+    return standing[0] > other[0] or standing[0] == other[0] and standing[1] < other[1]
+
+
+def closed(sc, prefix, standing):
+    """How a prefix is closed under a standing: the letter of the record, and what stands behind it."""
+    value, path = standing
+    if len(prefix) == sc.horizon:
+        return "W", [paths.value(sc, prefix)]
+    mean = verdict.mean(sc, prefix)
+    if verdict.is_cut(mean, value, prefix, path):
+        return "M", [mean]
+    if verdict.has_one_rate(sc):
+        reference = reached(sc, prefix)
+        tangent = verdict.tangent(sc, prefix, reference)
+        if verdict.is_cut(tangent, value * sc.parts[2], prefix, path):
+            return "T", [tangent, *reference]
+    edge = verdict.edge(sc, prefix)
+    return ("E", [edge]) if verdict.is_cut(edge, value, prefix, path) else ("B", [])
+
+
+class Worker:
+    """One worker: its stack, its deque, how often it has put, the standing that it uses, and its records by prefix."""
+
+    def __init__(self, sc):
+        first = opening(sc)
+        self.sc, self.stack, self.deque, self.puts, self.records = sc, [[]], collections.deque(), 0, {}
+        self.standing = scout(sc) if sc.horizon >= SCOUTED_FROM else (paths.value(sc, first), first)
+
+    def dispose(self, prefix):
+        """Shares the children of a prefix that branches, or keeps them."""
+        least, *others = ([*prefix, it] for it in moves(self.sc, prefix))
+        if 2 * len(prefix) < self.sc.horizon:
+            taken = min(len(others), MOST_PUTS - self.puts)
+            self.deque += others[:taken]
+            self.puts += taken
+            self.stack += [*others[taken:], least]
+        else:
+            self.stack += [*reversed(others), least]
+
+    def go(self):
+        """Closes prefixes until there are none."""
+        while self.stack or self.deque:
+            prefix = self.stack.pop() if self.stack else self.deque.popleft()
+            letter, rest = closed(self.sc, prefix, self.standing)
+            self.records[tuple(prefix)] = letter, rest
+            if letter == "W" and better((rest[0], prefix), self.standing):
+                self.standing = rest[0], prefix
+            if letter == "B":
+                self.dispose(prefix)
+        return self
+
+
+def text_of(sc, worker):
+    """The plan as text of version 2."""
+    value, path = worker.standing
+    yield "plan 2"
+    yield " ".join(["path", *(sc.positions[it].decode() for it in path)])
+    yield f"chance {value} {paths.weight(sc)}"
+    yield f"nodes {len(worker.records)}"
+    for _, (letter, rest) in sorted(worker.records.items()):
+        yield " ".join([letter, *map(str, rest)])
+    yield "end"
+
+
+def plan_text(sc):
+    """The plan's text as bytes, which `plan --workers 1` writes."""
+    return "".join(f"{it}\n" for it in text_of(sc, Worker(sc).go())).encode()
+
+
+def made_text(sc, command, names):
+    """What `replan` and `duo` write by one worker, of a scenario and names of positions: the scenario that they make, as bytes, and its
+    plan. Raises derived.Refused."""
+    at = derived.numbers_of(sc, names)
+    text = scenario_text(derived.forced(sc, at) if command == "replan" else derived.product(sc, *at))
+    return text, plan_text(read_scenario(text, True)[0])
