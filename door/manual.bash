@@ -49,7 +49,7 @@ manual_text() {
   for ((at = 0; at < ${#values[@]}; at += 4)); do item "${values[at]}" "$(value_text "$at")"; done
   item '-o FILE' 'What is written goes to this file, whole or not at all: a file beside it takes its place at the end. Where the command refuses, the file stays as it was. Of a symbolic link, the file that it names is replaced.'
   section 'FILES AND STANDARD INPUT'
-  roff 'Files may stand anywhere behind the command. Where none is named, standard input is read: a scenario, and for the commands that judge, a plan behind it. The name - stands for standard input, and -- ends the options, so that what follows are files.'
+  roff 'Files may stand anywhere behind the command. Where none is named, standard input is read: a scenario, and for the commands that judge, a plan behind it. The name - stands for standard input, and -- ends the options, so that what follows are files. Behind flown and start stand names of positions alone: files and options come before.'
   section 'EXIT STATUS'
   for ((at = 0; at < ${#statuses[@]}; at += 2)); do item "${statuses[at]}" "${statuses[at + 1]}"; done
   printf '.PP\n'

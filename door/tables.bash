@@ -5,11 +5,15 @@
 # The commands of the proved program, a row each: its words, the files that stand for what it reads, what it does, an
 # example. A command is added by a row here and nothing else.
 # In the words, [--NAME VALUE] may be left out, capitals stand for a value (`values` says which), and from a word in
-# small letters on all words are the program's.
+# small letters on all words are the program's: the names of positions, one, or several where the row ends with two dots.
 commands=(
   'plan [--workers N] [--nodes N]' 'SCENARIO'
   'writes the best path, its exact chance, and records that show why no path is better'
   './osp plan examples/two-cells.scenario'
+
+  'gap [--workers N] [--nodes N]' 'SCENARIO'
+  'writes a path and its chance, and a ceiling that no path exceeds, with the records that show why'
+  './osp gap --nodes 40 examples/drifting-grid.scenario'
 
   'check' 'SCENARIO PLAN'
   'says whether the plan is accepted, and else the first reason against it'
@@ -22,6 +26,18 @@ commands=(
   'convert' 'SCENARIO PLAN'
   'writes the accepted plan anew, as text of version 2'
   './osp convert examples/two-cells.scenario examples/two-cells-1.plan'
+
+  'replan [--workers N] [--nodes N] flown NAME ..' 'SCENARIO'
+  'writes the scenario that goes through the positions flown so far, and then on, with its best plan behind it'
+  './osp replan examples/drifting-grid.scenario flown r0c1 r0c2 r0c3'
+
+  'map flown NAME ..' 'SCENARIO'
+  'shows where the target may be behind each of the looks so far, if they found nothing'
+  './osp map examples/night.scenario flown cliff cliff'
+
+  'duo [--workers N] [--nodes N] start NAME' 'SCENARIO'
+  'writes the scenario of two searchers, the other of whom starts at this position, with its best plan behind it'
+  './osp duo examples/night.scenario start landing'
 
   'make NUMBER' ''
   'writes a made scenario of 5 by 5 cells and 8 periods, for drills'
@@ -41,11 +57,20 @@ values=(
   '--nodes N' '1 1048576' '1048576'
   'how many records a plan may have'
 
+  'gap --nodes N' '1 65536' '65536'
+  'how many records there may be before prefixes wait'
+
   '--json yes' '' ''
   'the report as one line of JSON'
 
   'NUMBER' '0 18446744073709551615' ''
   'the number from which the scenario is made'
+
+  'flown NAME ..' '1 32' ''
+  'the names of the positions looked from so far, in their order'
+
+  'start NAME' '' ''
+  'the name of the position where the other searcher starts'
 )
 
 # The helpers, a row each: their words, what they do, an example. They are programs of the folder desk/, which take
@@ -59,11 +84,11 @@ helpers=(
   'writes the scenario that goes on where the first K periods of the plan found nothing'
   './osp next lake.scenario lake.plan --flown 4 -o later.scenario'
 
-  'show SCENARIO PLAN [--from HH:MM --minutes N]'
+  'show SCENARIO [PLAN] [--of SCENARIO] [--from HH:MM --minutes N]'
   'writes a page for a browser: the map, the path, and the chances period by period'
   './osp show lake.scenario lake.plan -o lake.html'
 
-  'brief SCENARIO PLAN [--from HH:MM --minutes N]'
+  'brief SCENARIO [PLAN] [--of SCENARIO] [--from HH:MM --minutes N]'
   'writes the same as plain text, for a radio or a tasking form'
   './osp brief lake.scenario lake.plan --from 19:30 --minutes 15'
 
@@ -75,8 +100,8 @@ helpers=(
   'checks the parts that these jobs wrote, sees that none is missing, and says the best path and its chance'
   './osp join lake.parts'
 
-  'explain SCENARIO [PLAN]'
-  'says what is wrong with a scenario or a plan, line by line, and what to write'
+  'explain SCENARIO [PLAN | flown NAME .. | start NAME]'
+  'says what is wrong with a scenario, a plan, or names of positions, and what to write'
   './osp explain lake.scenario'
 )
 
@@ -115,13 +140,15 @@ statuses=(
   7 'memory ran out'
   8 'the search came to more records than --nodes allows'
   9 'the input is too long'
+  10 'the scenario has no such positions behind flown, or none that can be forced; one word says the cause'
+  11 'the scenario has no such position behind start, or is too large for two searchers; one word says the cause'
   70 'not the program, but the script failed, and one line says why'
 )
 
 # Besides 0, the statuses at which what was written is an answer, and is kept behind -o.
 answers=(
   check '1'
-  explain '1 3 4 8 9'
+  explain '1 3 4 8 9 10 11'
 )
 
 # Who makes the packages, and hears of faults.

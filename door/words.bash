@@ -52,7 +52,8 @@ help_text() {
     help_row "${own[at]}" "${own[at + 1]}" "${own[at + 2]}"
   done
   printf '\nWithout files a command reads standard input, and the name - stands for it. With -o FILE what a command or a\n'
-  printf 'helper writes goes to that file, whole or not at all, and else to standard output.\n'
+  printf 'helper writes goes to that file, whole or not at all, and else to standard output. Behind flown and start stand\n'
+  printf 'names of positions alone: files and options come before.\n'
   printf '%s/FORMATS.md has the texts, and what each exit status says.\n' "$(documents)"
 }
 
@@ -74,12 +75,12 @@ find_row() {
 }
 
 # What a row of commands takes: by each option its value, the values that have to be given, the word from which on all
-# words are the program's, and the files that stand for its input.
+# words are the program's, with what follows it, and the files that stand for its input.
 read_row() {
   local spec at LC_ALL=C
   read -ra spec <<< "${commands[$1]}"
   declare -gA options=()
-  needed=() tail='' inputs=()
+  needed=() tail='' behind='' inputs=()
   read -ra inputs <<< "${commands[$1 + 1]}"
   for ((at = 1; at < ${#spec[@]}; at++)); do
     case ${spec[at]} in
@@ -89,7 +90,7 @@ read_row() {
         ;;
       [A-Z]*) needed+=("${spec[at]}") ;;
       *)
-        tail=${spec[at]}
+        tail=${spec[at]} behind="${spec[*]:at}"
         break
         ;;
     esac
@@ -123,6 +124,19 @@ take_value() {
   fi
 }
 
+# Takes the names of positions behind the row's word in small letters: one, or as many as its value says.
+take_names() {
+  local row most=1 each LC_ALL=C
+  if [[ $behind = *..* ]] && find_value "$command" "$behind"; then read -r _ most <<< "${values[row + 1]}"; fi
+  [ "$#" -gt 0 ] || wrong "$command needs $tail and what follows it: it is spelled $(called) $usage"
+  [ "$#" -le "$most" ] || [ "$most" -ne 1 ] || wrong "$(shown "$2") is one word too many: one name stands behind $tail, and nothing else"
+  [ "$#" -le "$most" ] || wrong "at most $most names stand behind $tail, and here are $#"
+  for each in "$@"; do
+    [[ $each =~ ^[a-zA-Z0-9_-]{1,24}$ ]] ||
+      wrong "$(shown "$each") cannot stand behind ${tail}: names of positions have 1 to 24 letters, digits, _ and -"
+  done
+}
+
 # What is said of a word that a command doesn't take.
 no_word() {
   local command=$1 word=$2 name=${2%%=*}
@@ -133,7 +147,7 @@ no_word() {
   elif [ -e "$word" ]; then
     wrong "$(shown "$word") is no word of $command: a file of that name is given as ./$(shown "$word")"
   fi
-  wrong "$(shown "$word") is no word of $command, which is spelled $(called) $usage [-o FILE]"
+  wrong "$(shown "$word") is no word of $command, which is spelled $(called) $usage"
 }
 
 # Takes a word that is no option, nor a value behind one: a value that has to be given, or a file.
@@ -144,7 +158,7 @@ take_plain() {
   elif [ "${#files[@]}" -lt "${#inputs[@]}" ]; then
     files+=("$1")
   else
-    wrong "$(shown "$1") is one word too many: it is spelled $(called) $usage [-o FILE]"
+    wrong "$(shown "$1") is one word too many: it is spelled $(called) $usage"
   fi
 }
 
@@ -160,6 +174,7 @@ sort_words() {
   local command=$2 usage taken=() given=() rest=() seen=' ' option
   usage=$(usage_of "$1")
   read_row "$1"
+  usage="${usage%" $behind"} [-o FILE]${behind:+ $behind}"
   shift 2
   while [ "$#" -gt 0 ]; do
     option=$1
@@ -191,7 +206,7 @@ sort_words() {
   [ "${#taken[@]}" -eq "${#needed[@]}" ] || wrong "$command needs ${needed[${#taken[@]}]}: it is spelled $(called) $usage"
   [ "${#files[@]}" -eq 0 ] || [ "${#files[@]}" -eq "${#inputs[@]}" ] ||
     wrong "$command reads ${inputs[*]}, and $(shown "${files[0]}") is one file alone: name all, or - for standard input"
-  [ -z "$tail" ] || [ "${#rest[@]}" -gt 1 ] || wrong "$command needs $tail and what follows it: it is spelled $(called) $usage"
+  [ -z "$tail" ] || take_names "${rest[@]:1}"
   words=("$command" "${taken[@]}" "${given[@]}" "${rest[@]}")
 }
 

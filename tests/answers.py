@@ -13,6 +13,14 @@ PLAN = ["plan", "--workers", "1"]
 REPORTS = {".report": ["report"], ".report.json": ["report", "--json", "yes"]}
 
 
+# What is made of a scenario of examples/, by its file: the command, with one worker where it searches, the scenario, and the names.
+MADE = {
+    "drifting-grid-flown.made": ("replan --workers 1", "drifting-grid", "flown r0c1 r0c2 r0c3"),
+    "night-two.made": ("duo --workers 1", "night", "start landing"),
+    "night-flown.map": ("map", "night", "flown cliff cliff"),
+}
+
+
 class Text:
     """An input for the program, and what it has to answer. What the script is asked for it, where that names files, is `asked`."""
 
@@ -62,7 +70,7 @@ spread 1
 rate 3
 end
 """
-USAGE = "usage: osp plan [--workers N] [--nodes N] / check / report [--json yes] / make NUMBER / drill NUMBER [--workers N] / convert"
+USAGE = "usage: osp plan [--workers N] [--nodes N] / check / report [--json yes] / make NUMBER / drill NUMBER [--workers N] / convert / gap [--workers N] [--nodes N] / replan [--workers N] [--nodes N] flown NAME .. / map flown NAME .. / duo [--workers N] [--nodes N] start NAME"
 
 
 def rows():
@@ -142,6 +150,26 @@ def texts_of_examples():
                     texts.append(Text(f"examples/{stem}{ending}", words, given + plan, 0, report))
                 elif name not in situations:
                     wrong.append(f"examples/{name} has no {ending[1:]} beside it")
+    return texts, wrong
+
+
+def texts_of_made():
+    """Each made scenario of examples/ with its plan, and each map, is what its command writes, and such a plan is accepted; and
+    what is lacking there, or in examples/README.md, which has the command."""
+    there = [it for it in names_of_examples()[0] if it.endswith((".made", ".map"))]
+    wrong = [f"no command is known of examples/{it}" for it in there if it not in MADE]
+    texts, told = [], read(f"{EXAMPLES}/README.md").decode()
+    for name, (command, of, names) in MADE.items():
+        if name not in there:
+            wrong.append(f"there is no examples/{name}")
+            continue
+        shown = f"./osp {command.split()[0]} examples/{of}.scenario {names}\n"
+        if shown not in told or f"`{name}`" not in told:
+            wrong.append(f"examples/README.md doesn't have `{name}`, or its command: {shown}")
+        made = read(f"{EXAMPLES}/{name}")
+        texts.append(Text(f"examples/{name}", [*command.split(), *names.split()], read(f"{EXAMPLES}/{of}.scenario"), 0, made.decode()))
+        if name.endswith(".made"):
+            texts.append(Text(f"the check of examples/{name}", ["check"], made, 0, "accepted\n"))
     return texts, wrong
 
 

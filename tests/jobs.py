@@ -43,8 +43,6 @@ def with_desk(house):
     shutil.copytree(f"{TOP}/desk", f"{house.at}/desk", ignore=shutil.ignore_patterns("__pycache__"))
     for name in ("one-cell.scenario", "one-cell.plan"):
         shutil.copy(f"{EXAMPLES}/{name}", f"{house.at}/examples")
-    if b"\n  'replan " not in read(f"{house.at}/door/tables.bash"):
-        house.add_row("'replan [--workers N] [--nodes N] flown NAME ..' 'SCENARIO' 'plans on' './osp replan lake.scenario flown a'")
     house.write("program", PROGRAM.format(BUILT if is_built() else STANDS_IN), 0o755)
     house.write("row.scenario", ROW.decode())
     house.built()

@@ -7,12 +7,13 @@ import subprocess
 import tarfile
 import tempfile
 
+from answers import MADE
 from house import EXAMPLES, TOP, Skipped, case, read, run, want
 from words import ROWS, as_nobody, written
 
 # The folders of the system alone: neither the kit nor an osp is there.
 SYSTEM = {"PATH": "/usr/bin:/bin", "LANG": "C.UTF-8"}
-COMMANDS = ["plan", "check", "report", "convert", "make", "drill"]
+COMMANDS = ["plan", "check", "report", "convert", "replan", "map", "duo", "make", "drill"]
 HELPERS = ["draft", "next", "show", "brief", "split", "join", "explain"]
 
 
@@ -286,7 +287,13 @@ def _(house):
     want(set(firsts) >= {*COMMANDS, *HELPERS, "build", "install", "release", "--version", "--help"}, firsts)
     for words, wanted in (
         (["pl"], ["plan"]),
-        (["re"], ["report", "release"]),
+        (["re"], ["report", "replan", "release"]),
+        (["d"], ["duo", "drill", "draft"]),
+        (["replan", "lake", "--"], ["--workers", "--nodes"]),
+        (["duo", "-"], ["--workers", "--nodes", "-o"]),
+        (["map", "-"], ["-o"]),
+        (["replan", "--nodes", ""], []),
+        (["map", "lake", "flown", ""], []),
         (["--v"], ["--version"]),
         (["plan", "--"], ["--workers", "--nodes"]),
         (["plan", "-"], ["--workers", "--nodes", "-o"]),
@@ -381,6 +388,9 @@ def real_package():
                 run([script, "check", scenario, plan], **how).gives(0, "accepted\n", "")
                 run([script, "report", scenario, plan], **how).gives(0, read(f"{examples}/{name}.report").decode(), "")
                 run([script, "convert", scenario, plan], **how).gives(0, read(plan).decode(), "")
+            for name, (command, of, names) in MADE.items():
+                run([script, *command.split(), f"{examples}/{of}.scenario", "-o", f"{room}/made", *names.split()], **how).gives(0, "", "")
+                want(read(f"{room}/made") == read(f"{examples}/{name}"), f"{name} is another")
             run([script, "make", "7"], **how).gives(0, None, "")
             want(run([script, "drill", "7"], **how).gives(0, None, "").out.endswith("accepted\n"), "the drill isn't accepted")
             run([script, "--version"], **how).gives(0, None, "")

@@ -24,6 +24,8 @@ ROWS = [
     Row("plan"),
     Row("plan --workers 1"),
     Row("plan --workers 16"),
+    Row("gap"),
+    Row("gap --nodes 65536 --workers 2"),
     Row("plan --nodes 1"),
     Row("plan --nodes 1048576"),
     Row("plan --workers 2 --nodes 3"),
@@ -36,6 +38,17 @@ ROWS = [
     Row("make 18446744073709551615"),
     Row("drill 7"),
     Row("drill 7 --workers 2"),
+    Row("replan flown a"),
+    Row("replan --workers 16 --nodes 3 flown a b a"),
+    Row("replan --nodes 1048576 flown flown start"),
+    Row("replan flown -o --workers -- --help"),
+    Row(f"replan flown {'Az09_-' * 4}"),
+    Row(f"replan flown {'a ' * 32}"),
+    Row("map flown a"),
+    Row("map flown b a - plan"),
+    Row("duo start a"),
+    Row("duo --workers 1 --nodes 1 start start"),
+    Row("duo start --nodes"),
     Row("fly", "fly is no command"),
     Row("Plan", "Plan is no command"),
     Row("--workers 2", "--workers is no command"),
@@ -54,6 +67,7 @@ ROWS = [
     Row("plan --workers 2 --workers 2", "--workers stands twice"),
     Row("plan --nodes 0", "0 cannot stand for --nodes N"),
     Row("plan --nodes 1048577", "1048577 cannot stand"),
+    Row("gap --nodes 65537", "65537 cannot stand for --nodes N: a whole number from 1 to 65536 can"),
     Row("plan --json yes", "--json is no word of plan"),
     Row("check --workers 2", "--workers is no word of check"),
     Row("report --json", "--json needs a value behind it: write --json yes"),
@@ -71,6 +85,28 @@ ROWS = [
     Row("drill", "drill needs NUMBER"),
     Row("drill 7 --nodes 3", "--nodes is no word of drill"),
     Row("drill 7 --workers 0", "0 cannot stand"),
+    Row("replan", "replan needs flown"),
+    Row("replan flown", "replan needs flown"),
+    Row("replan --workers 2", "replan needs flown"),
+    Row("replan --workers 17 flown a", "17 cannot stand"),
+    Row("replan --workers flown a", "flown cannot stand for --workers N"),
+    Row("replan --nodes 3 --nodes 3 flown a", "--nodes stands twice"),
+    Row("replan --json yes flown a", "--json is no word of replan"),
+    Row("replan flown a b.c", "b.c cannot stand behind flown: names of positions"),
+    Row("replan flown a,b", "a\\,b cannot stand behind flown"),
+    Row(f"replan flown {'a' * 25}", "cannot stand behind flown"),
+    Row(f"replan flown {'a ' * 33}", "at most 32 names stand behind flown, and here are 33"),
+    Row("map", "map needs flown"),
+    Row("map flown", "map needs flown"),
+    Row("map --workers 2 flown a", "--workers is no word of map"),
+    Row("map flown a/b", "a/b cannot stand behind flown"),
+    Row(f"map flown {'a ' * 33}", "at most 32 names"),
+    Row("duo", "duo needs start"),
+    Row("duo start", "duo needs start"),
+    Row("duo start a b", "b is one word too many: one name stands behind start"),
+    Row("duo flown a", "a is one word too many"),
+    Row("duo start a:b", "cannot stand behind start"),
+    Row("duo --nodes 0 start a", "0 cannot stand for --nodes N"),
 ]
 
 
@@ -94,6 +130,12 @@ def _(house):
         (["check", "a"], "reads SCENARIO PLAN, and a is one file alone"),
         (["check", "a", "b", "c"], "c is one word too many"),
         (["check", "-", "-"], "only once"),
+        (["replan", "a", "b", "flown", "c"], "b is one word too many"),
+        (["replan", "--", "a", "flown", "b"], "flown is one word too many"),
+        (["map", "flown", "a", ""], "'' cannot stand behind flown"),
+        (["duo", "start", "a\n"], "$'a\\n' cannot stand behind start"),
+        (["duo", "start", "ä"], "cannot stand behind start"),
+        (["replan", "a", "b", "flown", "c"], "spelled ./osp replan [SCENARIO] [--workers N] [--nodes N] [-o FILE] flown NAME .."),
         (["plan", "--no\nsuch\x1b[2J"], r"$'--no\nsuch\E[2J' is no word of plan"),
         ([""], "'' is no command"),
         (["*"], r"\* is no command"),
@@ -129,6 +171,55 @@ def _(house):
     refused(house.run("plan-on", f"{house.at}/lake", "flown"), "plan-on needs flown")
     ran = house.run("plan-on", f"{house.at}/lake", "--workers", "2", "flown", "-o", "--workers")
     ran.gives(0, f"plan-on --workers 2 flown -o --workers\n{SCENARIO}")
+
+
+# Commands with the word behind which all words are names of positions, and such names: of files, options and words, too.
+NAMING = [
+    ("replan", ["--nodes", "3"], ["flown", "lake", "-o", "new", "--workers", "--", "flown"]),
+    ("map", [], ["flown", "lake", "-", "--help"]),
+    ("duo", ["--workers", "2"], ["start", "lake"]),
+    ("duo", [], ["start", "--nodes"]),
+]
+
+
+@case("replan, map and duo read a scenario by name, by - or from standard input, and write behind -o; behind flown and start all words are names")
+def _(house):
+    house.write("program", '#!/bin/sh\nprintf "<%s>" "$@" && cat\n', 0o755)
+    house.write("examples/one-cell.plan", "<plan>one cell\n")
+    for name in ("lake", "flown", "start", "-lake"):
+        house.write(f"files/{name}", f"{name}, {SCENARIO}")
+    for make in (lambda: None, house.built):
+        make()
+        how = {**house.how(), "cwd": f"{house.at}/files"}
+        for command, options, behind in NAMING:
+            told = "".join(f"<{it}>" for it in (command, *options, *behind))
+            for read_by, given, wanted in ((["lake"], b"", f"lake, {SCENARIO}"), (["-"], b"typed\n", "typed\n"), ([], b"typed\n", "typed\n"), ([f"./{behind[0]}"], b"", f"{behind[0]}, {SCENARIO}"), (["./-lake"], b"", f"-lake, {SCENARIO}")):
+                run([house.script, command, *read_by, *options, *behind], given, **how).gives(0, told + wanted)
+                run([house.script, command, *options, *read_by, "-o", "a new", *behind], given, **how).gives(0, "")
+                written(f"{house.at}/files/a new", told + wanted)
+                os.remove(f"{house.at}/files/a new")
+    run([house.script, "replan", "lake", "-o", "lake", "flown", "a"], **how).fails("is read")
+    run([house.script, "map", "none", "flown", "a"], **how).fails("there is no file")
+    want(sorted(os.listdir(f"{house.at}/files")) == ["-lake", "flown", "lake", "start"], os.listdir(f"{house.at}/files"))
+    house.leaves_nothing()
+
+
+@case("names that the scenario refuses: the program's line and status are handed on, and a file behind -o stays as it was")
+def _(house):
+    says = {"replan": (10, "bad flown: NotLegal\n"), "map": (10, "bad flown: UnknownName\n"), "duo": (11, "bad duo: TooFine\n")}
+    house.write("program", '#!/bin/sh\ncase "$1" in plan) printf "words <plan>\\n"; cat ;;' + "".join(f" {it}) echo '{err.strip()}' >&2; exit {status} ;;" for it, (status, err) in says.items()) + " esac\n", 0o755)
+    house.write("lake", SCENARIO)
+    folder = out_folder(house)
+    house.write("out put/made", "older\n")
+    for make in (lambda: None, house.built):
+        make()
+        for command, _, behind in NAMING:
+            status, err = says[command]
+            ran = house.run(command, f"{house.at}/lake", "-o", f"{folder}/made", *behind).gives(status, "", err)
+            want([it for it in ran.err.splitlines(True) if not it.startswith(UNPROVED)] == [err], ran.err)
+            house.run(command, f"{house.at}/lake", "-o", f"{folder}/new", *behind).gives(status, "", err)
+    written(f"{folder}/made", "older\n")
+    want(os.listdir(folder) == ["made"], os.listdir(folder))
 
 
 def program_rows():
@@ -475,6 +566,7 @@ def _(house):
 def _(house):
     house.write("program", SLOW, 0o755)
     house.write("seconds", "0")
+    house.add_row("'go-on [--workers N] flown NAME ..' 'SCENARIO' 'goes on' './osp go-on'")
     house.built()
     lake, plan = f"{house.at}/lake", f"{house.at}/plan"
     house.write("lake", SCENARIO)
@@ -486,6 +578,9 @@ def _(house):
         (3, ["check"], " SCENARIO"),
         (4, ["check"], " SCENARIO PLAN"),
         (4, ["check", lake, "-"], " SCENARIO PLAN"),
+        (10, ["go-on", lake, "--workers", "2", "flown", "a", "flown"], f" {shown_lake} flown a flown"),
+        (11, ["go-on", "flown", "--x"], " SCENARIO flown --x"),
+        (3, ["go-on", lake, "flown", "a"], f" {shown_lake}"),
         (1, ["check", lake, plan], None),
         (8, ["check", lake, plan], None),
     ):
