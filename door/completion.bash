@@ -55,11 +55,12 @@ completion_text() {
   echo 'complete -o default -F _osp osp ./osp'
 }
 
-# What may stand behind an option: its one word, or a number that nobody can guess.
+# What may stand behind an option, perhaps of one command: its one word, or a number that nobody can guess.
 completion_value() {
   local option=${1##* }
+  local behind=${1%" $option"}
   case $option in
-    [a-z]*) printf "    */%s) offered='%s' ;;\n" "${1%" $option"}" "$option" ;;
-    *) printf "    */%s) compopt +o default 2> /dev/null ;;\n" "${1%" $option"}" ;;
+    [a-z]*) printf "    */%s) offered='%s' ;;\n" "${behind/ //}" "$option" ;;
+    *) printf "    */%s) compopt +o default 2> /dev/null ;;\n" "${behind/ //}" ;;
   esac
 }
