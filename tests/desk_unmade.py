@@ -79,10 +79,10 @@ START = [
 
 
 class Told(Asked):
-    def said(self, text, words, given=None):
+    def said(self, text, words):
         """The status of `explain`, and the lines that it writes."""
         name = self.write("s", text)
-        status, out, err = self.called(explain.main, name, *(given or words.split()))
+        status, out, err = self.called(explain.main, name, *words.split())
         self.assertEqual(err, "")
         return status, out.decode().splitlines()
 
@@ -135,8 +135,11 @@ class Told(Asked):
             (["flown", *["a"] * 33], ["at most 32 names stand behind `flown`, and here are 33"]),
             (["start", "a", "b"], ["one name stands behind `start`, and here are 2"]),
         ):
-            status, lines = self.said(ROW, "", words)
+            status, out, err = self.called(explain.main, self.write("s", ROW), *words)
+            lines = out.decode().splitlines()
             self.assertEqual((status, len(lines)), (2, 1 + len(parts)))
+            # The script refuses such words in one line of its own, before the program is asked.
+            self.assertRegex(err, r"\A(osp: [^\n]* behind [^\n]*\n)?\Z")
             for line, part in zip(lines[1:], parts):
                 self.assertIn(part, line)
 
