@@ -16,36 +16,12 @@ sys.path.insert(0, os.path.join(TOP, "bench"))
 
 from answers import MADE  # noqa: E402
 from house import EXAMPLES, read as bytes_of  # noqa: E402
+from made import ROW, read  # noqa: E402
 from one_worker import made_text  # noqa: E402
 
 from desk import derived, forms, paths, writing  # noqa: E402
 
-
-def read(text):
-    return forms.read_scenario(text, True)[0]
-
-
-# Four cells in a row with the boat at the second one; the target stays where it is, and a look finds it for sure. Worked by hand.
-ROW = b"""scenario 1
-horizon 2
-parts 9 1 1
-cell a
-cell b
-cell c
-cell d
-start b
-first a 3 c 2 d 4
-moves a a b
-moves b a c
-moves c c d
-moves d c d
-drift a a 1
-drift b b 1
-drift c c 1
-drift d d 1
-rate 0
-end
-"""
+# What is made of the four cells in a row, worked by hand.
 FORCED = b"""scenario 2
 horizon 2
 parts 9 1 1

@@ -8,7 +8,7 @@ sys.dont_write_bytecode = True
 sys.path.insert(0, os.path.dirname(os.path.realpath(__file__)))
 
 from made import GRID, again, forced, paired, read, with_plan  # noqa: E402
-from pages import EXAMPLES, PLACES, Room, example, tree  # noqa: E402
+from pages import EXAMPLES, PLACES, Refusing, Room, example, tree  # noqa: E402
 
 from desk import accepted, brief, derived, forms, masses, reports, seats, show, writing  # noqa: E402
 
@@ -269,23 +269,19 @@ class Maps(Room):
         self.assertEqual([self.places(told, t)[:1] for t in (0, 1)], [[("circle", 0, 100)], []])
 
 
-class Refusals(Room):
-    def both(self, words, status, part):
-        for helper in (show, brief):
-            ended, out, err = self.run_helper(helper.main, words)
-            self.assertEqual((ended, out), (status, ""), err)
-            self.assertIn(part, err)
+class Refusals(Refusing):
+    helpers = (show, brief)
 
     def test_files(self):
         made, grid = self.write("made", forced(GRID, "r0c1")), self.write("grid", GRID)
         other = self.write("other", GRID.replace(b"rate 3", b"rate 4"))
-        self.both([made, "--of", other], 2, "other: replan and duo make no such scenario of it")
-        self.both([made, "--of", self.room + "/none"], 5, "cannot read ")
-        self.both([made, "--of", made], 2, "make no such scenario of it")
-        self.both([made, "--of", self.write("bad", b"scenario 1\n")], 3, "bad isn't a scenario: line 2 EarlyEnd")
-        self.both([*self.files("two-cells"), "--of", grid], 2, "make no such scenario of it")
-        self.both([grid], 4, "bad plan: line 1 EarlyEnd")
-        self.both([made, made], 4, "bad plan: line ")
+        self.all_refuse([made, "--of", other], 2, "other: replan and duo make no such scenario of it")
+        self.all_refuse([made, "--of", self.room + "/none"], 5, "cannot read ")
+        self.all_refuse([made, "--of", made], 2, "make no such scenario of it")
+        self.all_refuse([made, "--of", self.write("bad", b"scenario 1\n")], 3, "bad isn't a scenario: line 2 EarlyEnd")
+        self.all_refuse([*self.files("two-cells"), "--of", grid], 2, "make no such scenario of it")
+        self.all_refuse([grid], 4, "bad plan: line 1 EarlyEnd")
+        self.all_refuse([made, made], 4, "bad plan: line ")
 
     def test_one_file_and_two_say_the_same(self):
         made = forced(GRID, "r0c1")

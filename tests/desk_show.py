@@ -12,7 +12,7 @@ from fractions import Fraction
 sys.dont_write_bytecode = True
 sys.path.insert(0, os.path.dirname(os.path.realpath(__file__)))
 
-from pages import EXAMPLES, PLACES, Room, example, read, tree, walks  # noqa: E402
+from pages import EXAMPLES, PLACES, Refusing, Room, example, read, tree, walks  # noqa: E402
 
 from desk import accepted, brief, clock, forms, layout, masses, page, picture, program, reports, show, tables  # noqa: E402
 
@@ -430,15 +430,10 @@ class Briefs(Room):
         ])
 
 
-class Refusals(Room):
+class Refusals(Refusing):
     """No page and no text of a plan that isn't accepted, nor of one that nobody judged: a status, and a line that says why."""
 
-    def both(self, words, status, part):
-        """What show and brief do with these words: this exit status, nothing written, and this part of what is said."""
-        for helper in (show, brief):
-            ended, out, err = self.run_helper(helper.main, words)
-            self.assertEqual((ended, out), (status, ""), err)
-            self.assertIn(part, err)
+    helpers = (show, brief)
 
     def with_program(self, script):
         """Lets a script stand in for the program."""
@@ -448,22 +443,22 @@ class Refusals(Room):
     def test_the_reason_is_said(self):
         scenario, plan = self.files("two-cells")
         other = self.files("one-cell")[0]
-        self.both([scenario, f"{EXAMPLES}/two-cells-lacking.plan"], 1, "the plan isn't accepted: rejected 8 MissingChild\n")
-        self.both([other, plan], 4, "bad plan: line 7 NoPlace\n")
-        self.both([plan, plan], 3, "bad scenario: line 1 BadLine\n")
-        self.both([self.room + "/none", plan], 5, "cannot read ")
-        self.both([self.room, plan], 5, "Is a directory")
-        self.both([scenario], 4, "bad plan: line 1 EarlyEnd\n")
-        self.both([], 2, "usage: osp ")
-        self.both([scenario, plan, "--from", "1:00"], 2, "stand together")
+        self.all_refuse([scenario, f"{EXAMPLES}/two-cells-lacking.plan"], 1, "the plan isn't accepted: rejected 8 MissingChild\n")
+        self.all_refuse([other, plan], 4, "bad plan: line 7 NoPlace\n")
+        self.all_refuse([plan, plan], 3, "bad scenario: line 1 BadLine\n")
+        self.all_refuse([self.room + "/none", plan], 5, "cannot read ")
+        self.all_refuse([self.room, plan], 5, "Is a directory")
+        self.all_refuse([scenario], 4, "bad plan: line 1 EarlyEnd\n")
+        self.all_refuse([], 2, "usage: osp ")
+        self.all_refuse([scenario, plan, "--from", "1:00"], 2, "stand together")
         with self.subTest("too long"), unittest.mock.patch.object(accepted, "MOST_INPUT", 100):
-            self.both([scenario, plan], 9, "input too long")
+            self.all_refuse([scenario, plan], 9, "input too long")
 
     def test_a_plan_with_a_value_that_is_off_by_one(self):
         scenario, plan = example("kayaker")
         off = plan.replace(b"246250902200800000", b"246250902200800001")
         self.assertNotEqual(off, plan)
-        self.both([self.write("s", scenario), self.write("p", off)], 1, "rejected 3 ValueWrong")
+        self.all_refuse([self.write("s", scenario), self.write("p", off)], 1, "rejected 3 ValueWrong")
 
     def test_a_program_that_does_not_answer(self):
         files = self.files("two-cells")
@@ -475,9 +470,9 @@ class Refusals(Room):
             ("cat > /dev/null; echo no memory >&2; exit 7", 7, "no memory"),
         ):
             self.with_program(script)
-            self.both(files, status, part)
+            self.all_refuse(files, status, part)
         program.OSP = self.room + "/none"
-        self.both(files, 70, "cannot run ")
+        self.all_refuse(files, 70, "cannot run ")
 
     def test_a_report_that_is_another_ones(self):
         """Each number of the report is held against the masses that the helper computes."""
@@ -492,7 +487,7 @@ class Refusals(Room):
         ):
             self.assertIn(old, right)
             self.with_program(f"cat > /dev/null; [ $1 = check ] && echo accepted || cat << 'END'\n{right.replace(old, new)}END")
-            self.both(self.files("two-cells"), 70, "aren't those of osp report" if "24 32" not in new else "isn't understood")
+            self.all_refuse(self.files("two-cells"), 70, "aren't those of osp report" if "24 32" not in new else "isn't understood")
         self.with_program(f"cat > /dev/null; [ $1 = check ] && echo accepted || cat << 'END'\n{right}END")
         self.assertEqual(self.run_helper(brief.main, self.files("two-cells"))[0], 0)
 

@@ -12,32 +12,12 @@ sys.dont_write_bytecode = True
 sys.path.insert(0, os.path.dirname(os.path.realpath(__file__)))
 
 from asking import Asked  # noqa: E402
+from made import ROW  # noqa: E402
 from pages import EXAMPLES, TOP, example, read  # noqa: E402
 
 from desk import derived, explain, forms, program, unmade, writing  # noqa: E402
 
 NAMES = sorted(it[:-7] for it in os.listdir(EXAMPLES) if it.endswith(".report"))
-# Four cells in a row, and the boat at the second one.
-ROW = b"""scenario 1
-horizon 2
-parts 9 1 1
-cell a
-cell b
-cell c
-cell d
-start b
-first a 3 c 2 d 4
-moves a a b
-moves b a c
-moves c c d
-moves d c d
-drift a a 1
-drift b b 1
-drift c c 1
-drift d d 1
-rate 0
-end
-"""
 TAKEN = ROW.replace(b" d", b" flown-1")
 FINE = ROW.replace(b"parts 9 1 1", b"parts 9 1 1001")
 # One position, and 15 whose moves are all of nine.

@@ -22,6 +22,29 @@ end
 """
 
 
+# Four cells in a row with the boat at the second one; the target stays where it is, and a look finds it for sure.
+ROW = b"""scenario 1
+horizon 2
+parts 9 1 1
+cell a
+cell b
+cell c
+cell d
+start b
+first a 3 c 2 d 4
+moves a a b
+moves b a c
+moves c c d
+moves d c d
+drift a a 1
+drift b b 1
+drift c c 1
+drift d d 1
+rate 0
+end
+"""
+
+
 def read(text):
     """The scenario of a text."""
     return forms.read_scenario(text, True)[0]

@@ -84,6 +84,19 @@ class Room(unittest.TestCase):
         return status, out.read(), err.getvalue()
 
 
+class Refusing(Room):
+    """A test of what several helpers refuse alike."""
+
+    helpers = ()
+
+    def all_refuse(self, words, status, part):
+        """With these words each helper ends with this exit status, writes nothing, and says this."""
+        for helper in self.helpers:
+            ended, out, err = self.run_helper(helper.main, words)
+            self.assertEqual((ended, out), (status, ""), err)
+            self.assertIn(part, err)
+
+
 class Element:
     """An element of a page: its tag, attributes, text of its own and below, and the elements below it."""
 
