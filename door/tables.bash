@@ -19,6 +19,10 @@ commands=(
   'says whether the plan is accepted, and else the first reason against it'
   './osp check examples/two-cells.scenario examples/two-cells.plan'
 
+  'checkgap' 'SCENARIO PLAN'
+  'says whether what gap wrote is accepted, and else the first reason against it'
+  './osp checkgap examples/two-cells.scenario examples/two-cells.gap'
+
   'report [--json yes]' 'SCENARIO PLAN'
   'shows the chance period by period, and where the target may be if nothing is found'
   './osp report examples/two-cells.scenario examples/two-cells.plan'
@@ -131,10 +135,10 @@ own=(
 # How a run of the program ends, a row each: the exit status, and what it says.
 statuses=(
   0 'the answer was written'
-  1 'the plan is not accepted; check writes why, report and convert say it on standard error'
+  1 'the plan is not accepted; check and checkgap write why, report and convert say it on standard error'
   2 'the words spell no command, and nothing was read'
   3 'what was read is not the text of a scenario'
-  4 'what follows the scenario is not the text of a plan'
+  4 'what follows the scenario is not the text of a plan, or for checkgap of a gap plan'
   5 'the input could not be read'
   6 'the output could not be written'
   7 'memory ran out'
@@ -148,6 +152,7 @@ statuses=(
 # Besides 0, the statuses at which what was written is an answer, and is kept behind -o.
 answers=(
   check '1'
+  checkgap '1'
   explain '1 3 4 8 9 10 11'
 )
 

@@ -34,7 +34,7 @@ module _ (p o : Problem) (same : AreSame p o) where
 
 module _ (p o : Problem) (same : AreSame p o) (sound : IsProblem p) (s : Standing) where
   -- a record that is good is good there, too
-  good_same : (q : List ℕ) (kind : Kind) → IsLegal p q → IsGoodKind p s q kind → IsGoodKind o s q kind
+  pub good_same : (q : List ℕ) (kind : Kind) → IsLegal p q → IsGoodKind p s q kind → IsGoodKind o s q kind
   good_same q Branch legal good = rw (← same.horizon) good
   good_same q (Whole n) legal good = (good.0 ∙ same.horizon, good.1 ∙ value_same_legal p o same sound q legal, good.2)
   good_same q (Mean b) legal good = (rw (← same.horizon) good.0, good.1 ∙ mean_same p o same sound q legal, good.2)

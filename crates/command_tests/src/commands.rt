@@ -95,6 +95,7 @@ gap --nodes 65537; @two_cells; 2; err; @usage
 gap --nodes 0; @two_cells; 2; err; @usage
 gap; ; 3; err; bad scenario: line 1 EarlyEnd
 gap; @two_cells | end; 3; err; bad scenario: line 15 Rest
+checkgap 1; @two_cells; 2; err; @usage
 plan; @tower; 0; out; @tower_plan_2
 plan; @tower_staying; 0; out; @tower_staying_plan_2
 plan; @from_the_air; 0; out; @from_the_air_plan_2

@@ -53,7 +53,7 @@ two_cells_report = report 1 | chance 12 16 75.000 | period 1 a 8 50.000 | period
 two_cells_json = {\"chance\":\"12\",\"left\":[{\"cell\":\"a\",\"mass\":\"0\"},{\"cell\":\"b\",\"mass\":\"4\"}],\"path\":[\"a\",\"a\"],\"periods\":[\"8\",\"12\"],\"weight\":\"16\"}
 far_cells_report = report 1 | chance 6 9 66.666 | period 1 c 2 22.222 | period 2 d 6 66.666 | left a 3 33.333 | left b 0 0.000 | left c 0 0.000 | left d 0 0.000 | end
 seven = scenario 1 | horizon 8 | parts 1 20 10 | grid 7 7 | start r0c0 | first r3c3 1 | spread 4 | rate 3 | end
-usage = usage: osp plan [--workers N] [--nodes N] / check / report [--json yes] / make NUMBER / drill NUMBER [--workers N] / convert / gap [--workers N] [--nodes N] / replan [--workers N] [--nodes N] flown NAME .. / map flown NAME .. / duo [--workers N] [--nodes N] start NAME
+usage = usage: osp plan [--workers N] [--nodes N] / check / report [--json yes] / make NUMBER / drill NUMBER [--workers N] / convert / gap [--workers N] [--nodes N] / checkgap / replan [--workers N] [--nodes N] flown NAME .. / map flown NAME .. / duo [--workers N] [--nodes N] start NAME
 tower = scenario 2 | horizon 2 | parts 1 2 2 | cell a | cell b | position w | start w | first a 1 | moves w w | drift a a 1 b 1 | drift b b 2 | look w a 1 b 1 | lookin 2 w b 0 | end
 tower_plan = plan 1 | path w w | chance 6 8 | nodes 3 | B | B 0 | W 6 0 0 | end
 tower_plan_2 = plan 2 | path w w | chance 6 8 | nodes 3 | B | B | W 6 | end
@@ -164,13 +164,24 @@ fn input_of(alloc: Global, row: &str) -> Result<Vec<u8>, Fail> {
     }
 }
 
-/// How a run ends, 16 bytes a read and a write, where it ends as its row says. In a row are the words, the input, the number
-/// of the status, a side, and the text that the run writes there: on `err` or on `out`, all of it, or its `head` or its
-/// `tail` there; nothing is on the other side. Texts are written as `text_of` reads them.
+/// How a run ends, 16 bytes a read and a write, where it ends as its row says.
 pub fn ends<R: AllocGlobal + Threads + Wait + Sync>(
     rt: &R,
     row: &str,
 ) -> Result<Option<Outcome>, Fail> {
+    ends_by(rt, row, 16)
+}
+
+/// How a run ends, `most` bytes a read and a write, where it ends as its row says. In a row are the words, the input, the
+/// number of the status, a side, and the text that the run writes there: on `err` or on `out`, all of it, or its `head` or
+/// its `tail` there; nothing is on the other side. Texts are written as `text_of` reads them.
+pub fn ends_by<R: AllocGlobal + Threads + Wait + Sync>(
+    rt: &R,
+    row: &str,
+    most: usize,
+) -> Result<Option<Outcome>, Fail>
+    requires { 1 ≤ most }
+{
     let alloc = rt.alloc();
     let mut fields = row.split("; ");
     let words = fields.next().ok_or("no words")?;
@@ -178,7 +189,7 @@ pub fn ends<R: AllocGlobal + Threads + Wait + Sync>(
     let status = fields.next().ok_or("no status")?;
     let side = fields.next().ok_or("no side")?;
     let text = text_of(alloc, fields.next().ok_or("no text")?)?;
-    let end = ended(rt, words, input, 16, &[], &[])?;
+    let end = ended(rt, words, input, most, &[], &[])?;
     let (wrote, other) = if side == "err" {
         (&end.err, &end.out)
     } else {

@@ -72,6 +72,8 @@ gap/--nodes: none
 gap/--nodes/5/--nodes/5: none
 gap/5: none
 gap/flown/a: none
+checkgap: checkgap
+checkgap/--workers/2: none
 replan/flown/a: replan 4 1048576 2
 replan/flown/a/b: replan 4 1048576 2
 replan/--nodes/5/flown/a/b: replan 4 5 4
@@ -162,6 +164,7 @@ fn shown(alloc: Global, request: &Request) -> Result<String, Fail> {
         Request::Drill { number, workers } => format!(in alloc; "drill {number} {workers}")?,
         Request::Convert => format!(in alloc; "convert")?,
         Request::Gap { workers, nodes } => format!(in alloc; "gap {workers} {nodes}")?,
+        Request::CheckGap => format!(in alloc; "checkgap")?,
         Request::Replan {
             workers,
             nodes,

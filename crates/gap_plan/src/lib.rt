@@ -2,9 +2,11 @@
 //! exceeds.
 #![tactic(auto)]
 
+mod laws;
 mod listing;
 mod making;
 mod numbers;
 
 pub use bound_tree::{GapKind, GapNode, GapPlan, GapTree};
+pub use laws::same_search_same_gap_plans;
 pub use making::make_gap;

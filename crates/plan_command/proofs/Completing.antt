@@ -6,7 +6,7 @@ use Rattle.plan_command.specs.declared.status.Status.{Status}
 use Rattle.plan_command.specs.declared.status.Status.TheVariants as statuses
 use Rattle.plan_command.specs.declared.status.Refusal.{Refusal}
 use Rattle.plan_command.specs.declared.status.Stop.TheVariants as stops
-use Rattle.plan_command.specs.Words.{Family, of_scenario, of_plan, of_nothing, family_of, limit_at, limit_of, Spells}
+use Rattle.plan_command.specs.Words.{Family, of_scenario, of_plan, of_gap, of_nothing, family_of, limit_at, limit_of, Spells}
 use Rattle.plan_command.specs.Commands.{AnswersAs, RefusesAs}
 use Rattle.plan_command.specs.Run.{Call, Ending, delivered, stopped, Ends, status_at}
 use Rattle.plan_command.specs.Complete.{IsUnlessNoMemory}
@@ -19,11 +19,13 @@ use Rattle.plan_command.proofs.WordForms.{spelled_once}
 unread_done : (family : Family) (words : List (List ℕ)) (request : Request) (input : List ℕ) (status : Status) (text : List ℕ) → limit_at family ≡ None → AnswersAs family words request input status text → status ≡ statuses.Done
 unread_done of_scenario words request input status text none answers = answers.0
 unread_done of_plan words request input status text none answers = let bad : ⊥ = cc in absurd bad
+unread_done of_gap words request input status text none answers = let bad : ⊥ = cc in absurd bad
 unread_done of_nothing words request input status text none answers = answers.0
 
 unread_refuses : (family : Family) (words : List (List ℕ)) (request : Request) (input : List ℕ) (refusal : Refusal) → limit_at family ≡ None → RefusesAs family words request input refusal → ⊥
 unread_refuses of_scenario words request input refusal none refuses = let bad : ⊥ = cc in bad
 unread_refuses of_plan words request input refusal none refuses = let bad : ⊥ = cc in bad
+unread_refuses of_gap words request input refusal none refuses = let bad : ⊥ = cc in bad
 unread_refuses of_nothing words request input refusal none refuses = refuses
 
 unread_limit : (o : Option ℕ) (limit : ℕ) → o ≡ None → o ≡ Some limit → ⊥

@@ -1,26 +1,30 @@
 -- What is due to a scenario with few live prefixes, and to a plan that is accepted or isn't.
-use Rattle.std.proofs.Common.{ℕ, ◌≡◌, ◌⊎◌, List, inl, inr, refl, sym, ap, subst, ◌∙◌}
+use Rattle.std.proofs.Common.{ℕ, ◌≡◌, ◌⊎◌, List, Option, inl, inr, refl, sym, ap, subst, ◌∙◌}
 use Rattle.search_model.specs.Problem.{Problem, IsProblem}
 use Rattle.search_model.specs.Order.{standing_of}
 use Rattle.scenario_text.specs.Scenarios.{IsTextOf}
 use Rattle.bound_tree.specs.declared.plan.Plan.{Plan as APlan}
+use Rattle.bound_tree.specs.declared.gap.GapPlan.{GapPlan}
 use Rattle.bound_tree.specs.Accepts.{Accepts}
+use Rattle.bound_tree.specs.Gaps.{GapAccepts}
 use Rattle.bound_tree.specs.Close.{HasMoreLive}
 use Rattle.opening_path.proofs.OneOpening.{one_opening}
 use Rattle.plan_command.specs.declared.request.Request.{Request}
-use Rattle.plan_command.specs.declared.request.Request.TheVariants.{Plan, Check, Report, Make, Drill, Convert, Gap, Replan, Map, Duo}
+use Rattle.plan_command.specs.declared.request.Request.TheVariants.{Plan, Check, Report, Make, Drill, Convert, Gap, CheckGap, Replan, Map, Duo}
 use Rattle.plan_command.specs.declared.status.Status.{Status}
 use Rattle.plan_command.specs.declared.status.Status.TheVariants as statuses
 use Rattle.plan_command.specs.declared.status.Refusal.{Refusal}
-use Rattle.plan_command.specs.Words.{Family, of_scenario, of_plan, family_of, names_behind}
-use Rattle.plan_command.specs.Lines.{refused_status}
-use Rattle.plan_command.specs.Plans.{IsTooMany, HasFewLive}
-use Rattle.plan_command.specs.Commands.{IsUnmade, IsInput, TellsPlan, AnswersAs, RefusesAs}
-use Rattle.plan_command.specs.Complete.{IsMakable, IsFeasible, IsAcceptable, IsRejectable, IsUnlessNoMemory, IsDue}
+use Rattle.plan_command.specs.Words.{Family, of_scenario, of_plan, of_gap, of_nothing, family_of, names_behind}
+use Rattle.plan_command.specs.Lines.{rejection_of, gap_rejection_of, refused_status}
+use Rattle.plan_command.specs.Plans.{IsPlanRest, IsTooMany, HasFewLive}
+use Rattle.plan_command.specs.Commands.{IsUnmade, IsInput, IsGapInput, TellsWhether, TellsPlan, AnswersAs, RefusesAs}
+use Rattle.plan_command.specs.Complete.{IsMakable, IsFeasible, HasAccepted, HasRejected, IsAcceptable, IsRejectable, IsUnlessNoMemory, IsDue}
+use Rattle.tree_checker.specs.Reasons.{first_reason}
+use Rattle.tree_checker.specs.GapReasons.{gap_reason}
 use Rattle.plan_command.proofs.Apart.{same_scenario}
 use Rattle.plan_command.proofs.OneReason.{flown_isnt_refused}
 use Rattle.plan_command.proofs.Unmade.{why_unplanned, why_unreplanned, why_unmapped, why_unpaired, forces_or_not, pairs_or_not}
-use Rattle.plan_command.proofs.Exclusive.{read_or_not, read_alike, no_front_fault, no_fault_behind, not_rejected, FaultsAlone, faults_alone, FaultsBoth, faults_both}
+use Rattle.plan_command.proofs.Exclusive.{read_or_not, read_alike, gap_alike, no_front_fault, no_plan_fault, not_rejected, FaultsAlone, faults_alone, FaultsBoth, faults_both, faults_gap, gap_or_not}
 
 -- what is due to a request, by its family
 abbrev DueAs : Family → List (List ℕ) → Request → List ℕ → Status → Type 0
@@ -52,6 +56,7 @@ makable_or_not words (Duo workers nodes second) p refusal sound ((q, pairs), few
       | inr (limit, same, (r, also, (at, many))) ↦ few_or_many r nodes also.0 (few r also) many
     ]
 makable_or_not words Check p refusal sound makable unmade = makable
+makable_or_not words CheckGap p refusal sound makable unmade = makable
 makable_or_not words (Report json) p refusal sound makable unmade = makable
 makable_or_not words (Make number) p refusal sound makable unmade = makable
 makable_or_not words (Drill number workers) p refusal sound makable unmade = makable
@@ -65,6 +70,7 @@ makable_alone words (Replan workers nodes flown) p makable = refl
 makable_alone words (Map flown) p makable = refl
 makable_alone words (Duo workers nodes second) p makable = refl
 makable_alone words Check p makable = absurd makable
+makable_alone words CheckGap p makable = absurd makable
 makable_alone words (Report json) p makable = absurd makable
 makable_alone words (Make number) p makable = absurd makable
 makable_alone words (Drill number workers) p makable = absurd makable
@@ -86,29 +92,39 @@ module _ (words : List (List ℕ)) (request : Request) (input : List ℕ) where
   feasible_due status (p, is, makable) due =
       feasible_as p status is makable (subst (λ (f : Family). DueAs f words request input status) (makable_alone words request p makable) due)
 
+-- a verdict on what is accepted has the status Done, and one on what isn't has the status Rejected
+module _ {W : Type 0} (Accepted : Type 0) (reason : Option W) (line : W → List ℕ) (status : Status) (text : List ℕ) where
+  told_accepted : Accepted → TellsWhether Accepted reason line status text → status ≡ statuses.Done
+  told_accepted accepts (inl taken) = taken.1
+  told_accepted accepts (inr turned) = absurd (turned.0 accepts)
+
+  told_rejected : (Accepted → ⊥) → TellsWhether Accepted reason line status text → status ≡ statuses.Rejected
+  told_rejected turned (inl taken) = absurd (turned taken.0)
+  told_rejected turned (inr more) = more.1
+
 -- of an accepted plan all is told with the status Done, and of another nothing but a verdict
 accepted_done : (request : Request) (p : Problem) (plan : APlan) (status : Status) (text : List ℕ) → Accepts p plan → TellsPlan request p plan status text → status ≡ statuses.Done
-accepted_done Check p plan status text accepts (inl taken) = taken.1
-accepted_done Check p plan status text accepts (inr turned) = absurd (turned.0 accepts)
+accepted_done Check p plan status text accepts tells = told_accepted (Accepts p plan) (first_reason p plan) rejection_of status text accepts tells
 accepted_done (Report json) p plan status text accepts tells = tells.0
 accepted_done Convert p plan status text accepts tells = tells.0
 accepted_done (Plan workers nodes) p plan status text accepts tells = absurd tells
 accepted_done (Make number) p plan status text accepts tells = absurd tells
 accepted_done (Drill number workers) p plan status text accepts tells = absurd tells
 accepted_done (Gap workers nodes) p plan status text accepts tells = absurd tells
+accepted_done CheckGap p plan status text accepts tells = absurd tells
 accepted_done (Replan workers nodes flown) p plan status text accepts tells = absurd tells
 accepted_done (Map flown) p plan status text accepts tells = absurd tells
 accepted_done (Duo workers nodes second) p plan status text accepts tells = absurd tells
 
 turned_rejected : (request : Request) (p : Problem) (plan : APlan) (status : Status) (text : List ℕ) → (Accepts p plan → ⊥) → TellsPlan request p plan status text → status ≡ statuses.Rejected
-turned_rejected Check p plan status text turned (inl taken) = absurd (turned taken.0)
-turned_rejected Check p plan status text turned (inr more) = more.1
+turned_rejected Check p plan status text turned tells = told_rejected (Accepts p plan) (first_reason p plan) rejection_of status text turned tells
 turned_rejected (Report json) p plan status text turned tells = absurd (turned tells.1)
 turned_rejected Convert p plan status text turned tells = absurd (turned tells.1)
 turned_rejected (Plan workers nodes) p plan status text turned tells = absurd tells
 turned_rejected (Make number) p plan status text turned tells = absurd tells
 turned_rejected (Drill number workers) p plan status text turned tells = absurd tells
 turned_rejected (Gap workers nodes) p plan status text turned tells = absurd tells
+turned_rejected CheckGap p plan status text turned tells = absurd tells
 turned_rejected (Replan workers nodes flown) p plan status text turned tells = absurd tells
 turned_rejected (Map flown) p plan status text turned tells = absurd tells
 turned_rejected (Duo workers nodes second) p plan status text turned tells = absurd tells
@@ -119,9 +135,9 @@ module _ (words : List (List ℕ)) (request : Request) (input : List ℕ) where
   tells_here p q plan other status text is also tells = read_alike input q p other plan (λ z a. TellsPlan request z a status text) also is tells
 
   accepted_or_not : (p : Problem) (plan : APlan) (refusal : Refusal) → IsInput input p plan → Accepts p plan → FaultsBoth request input refusal → ⊥
-  accepted_or_not p plan refusal is accepts (inl (fault, same, bad)) = no_front_fault input p plan fault is bad
-  accepted_or_not p plan refusal is accepts (inr (inl (fault, same, bad))) = no_fault_behind input p plan fault is bad
-  accepted_or_not p plan refusal is accepts (inr (inr (at, same, needs, rejected))) = not_rejected input p plan at is accepts rejected
+  accepted_or_not p plan refusal is accepts (inl (fault, same, bad)) = no_front_fault IsPlanRest input p plan is fault bad
+  accepted_or_not p plan refusal is accepts (inr (inl (fault, same, bad))) = no_plan_fault input p plan fault is bad
+  accepted_or_not p plan refusal is accepts (inr (inr (at, same, (needs, rejected)))) = not_rejected input p plan at is accepts rejected
 
   accepts_as : (p : Problem) (plan : APlan) (status : Status) → IsInput input p plan → Accepts p plan → DueAs of_plan words request input status → IsUnlessNoMemory statuses.Done status
   accepts_as p plan status is accepts (inl (text, (q, other, also, tells))) = inl (accepted_done request p plan status text accepts (tells_here p q plan other status text is also tells))
@@ -132,19 +148,48 @@ module _ (words : List (List ℕ)) (request : Request) (input : List ℕ) where
   pub accepted_due : (p : Problem) (plan : APlan) (status : Status) → family_of request ≡ of_plan → IsInput input p plan → Accepts p plan → IsDue words request input status → IsUnlessNoMemory statuses.Done status
   accepted_due p plan status judges is accepts due = accepts_as p plan status is accepts (subst (λ (f : Family). DueAs f words request input status) judges due)
 
+  -- and an accepted gap plan is told to be
+  gap_accepts_as : (p : Problem) (plan : GapPlan) (status : Status) → IsGapInput input p plan → GapAccepts p plan → DueAs of_gap words request input status → IsUnlessNoMemory statuses.Done status
+  gap_accepts_as p plan status is accepts (inl (text, (q, other, also, tells))) =
+      inl (told_accepted (GapAccepts q other) (gap_reason q other) gap_rejection_of status text (gap_alike input p q plan other (λ z a. GapAccepts z a) is also accepts) tells)
+  gap_accepts_as p plan status is accepts (inr (inl (refusal, refuses, same))) = absurd (gap_or_not words request input p plan refusal is (faults_gap words request input refusal refuses))
+  gap_accepts_as p plan status is accepts (inr (inr none)) = inr none
+
+  pub gap_accepted_due : (p : Problem) (plan : GapPlan) (status : Status) → family_of request ≡ of_gap → IsGapInput input p plan → GapAccepts p plan → IsDue words request input status → IsUnlessNoMemory statuses.Done status
+  gap_accepted_due p plan status judges is accepts due = gap_accepts_as p plan status is accepts (subst (λ (f : Family). DueAs f words request input status) judges due)
+
+  accepts_by : (family : Family) (status : Status) → HasAccepted family input → DueAs family words request input status → IsUnlessNoMemory statuses.Done status
+  accepts_by of_plan status (p, plan, is, accepts) due = accepts_as p plan status is accepts due
+  accepts_by of_gap status (p, plan, is, accepts) due = gap_accepts_as p plan status is accepts due
+  accepts_by of_scenario status none due = absurd none
+  accepts_by of_nothing status none due = absurd none
+
   pub judge_accepts : (status : Status) → IsAcceptable request input → IsDue words request input status → IsUnlessNoMemory statuses.Done status
-  judge_accepts status (judges, (p, plan, is, accepts)) due = accepted_due p plan status judges is accepts due
+  judge_accepts status good due = accepts_by (family_of request) status good due
 
   -- a plan that isn't accepted is refused for that alone
   turned_or_not : (p : Problem) (plan : APlan) (status : Status) (refusal : Refusal) → IsInput input p plan → status ≡ refused_status refusal → FaultsBoth request input refusal → status ≡ statuses.Rejected
-  turned_or_not p plan status refusal is told (inl (fault, same, bad)) = absurd (no_front_fault input p plan fault is bad)
-  turned_or_not p plan status refusal is told (inr (inl (fault, same, bad))) = absurd (no_fault_behind input p plan fault is bad)
-  turned_or_not p plan status refusal is told (inr (inr (at, same, needs, rejected))) = told ∙ ap refused_status same
+  turned_or_not p plan status refusal is told (inl (fault, same, bad)) = absurd (no_front_fault IsPlanRest input p plan is fault bad)
+  turned_or_not p plan status refusal is told (inr (inl (fault, same, bad))) = absurd (no_plan_fault input p plan fault is bad)
+  turned_or_not p plan status refusal is told (inr (inr (at, same, turned))) = told ∙ ap refused_status same
 
   rejects_as : (p : Problem) (plan : APlan) (status : Status) → IsInput input p plan → (Accepts p plan → ⊥) → DueAs of_plan words request input status → IsUnlessNoMemory statuses.Rejected status
   rejects_as p plan status is turned (inl (text, (q, other, also, tells))) = inl (turned_rejected request p plan status text turned (tells_here p q plan other status text is also tells))
   rejects_as p plan status is turned (inr (inl (refusal, refuses, same))) = inl (turned_or_not p plan status refusal is same (faults_both words request input refusal refuses))
   rejects_as p plan status is turned (inr (inr none)) = inr none
 
+  -- nor is a gap plan that isn't, of which the verdict is told
+  gap_rejects_as : (p : Problem) (plan : GapPlan) (status : Status) → IsGapInput input p plan → (GapAccepts p plan → ⊥) → DueAs of_gap words request input status → IsUnlessNoMemory statuses.Rejected status
+  gap_rejects_as p plan status is turned (inl (text, (q, other, also, tells))) =
+      inl (told_rejected (GapAccepts q other) (gap_reason q other) gap_rejection_of status text (gap_alike input p q plan other (λ z a. GapAccepts z a → ⊥) is also turned) tells)
+  gap_rejects_as p plan status is turned (inr (inl (refusal, refuses, same))) = absurd (gap_or_not words request input p plan refusal is (faults_gap words request input refusal refuses))
+  gap_rejects_as p plan status is turned (inr (inr none)) = inr none
+
+  rejects_by : (family : Family) (status : Status) → HasRejected family input → DueAs family words request input status → IsUnlessNoMemory statuses.Rejected status
+  rejects_by of_plan status (at, (p, plan, is, turned, reason)) due = rejects_as p plan status is turned due
+  rejects_by of_gap status (at, (p, plan, is, turned, reason)) due = gap_rejects_as p plan status is turned due
+  rejects_by of_scenario status none due = absurd none
+  rejects_by of_nothing status none due = absurd none
+
   pub judge_rejects : (status : Status) → IsRejectable request input → IsDue words request input status → IsUnlessNoMemory statuses.Rejected status
-  judge_rejects status (judges, (at, (p, plan, is, turned, reason))) due = rejects_as p plan status is turned (subst (λ (f : Family). DueAs f words request input status) judges due)
+  judge_rejects status bad due = rejects_by (family_of request) status bad due

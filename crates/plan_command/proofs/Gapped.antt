@@ -38,7 +38,7 @@ best_at_least p s q value best path =
     ])
 
 -- records are found again among their closed nodes, of which none waits
-closed_again : (rs : List TreeNode) → closed_in (map closed_node rs) ≡ rs
+pub closed_again : (rs : List TreeNode) → closed_in (map closed_node rs) ≡ rs
 closed_again [] = refl
 closed_again (r ∷ rs) = ap (λ (xs : List TreeNode). r ∷ xs) (closed_again rs)
 

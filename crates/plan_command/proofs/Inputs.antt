@@ -4,7 +4,7 @@ use Rattle.std.specs.Prelude.{IsErrOf, IfOk, IfErr, OnErr}
 use Rattle.std.specs.Io.KnownBytes.{Appends}
 use Rattle.std.specs.declared.option.Option.{Option}
 use Rattle.byte_ports.specs.declared.ports.Failed.{Failed}
-use Rattle.tree_format.specs.declared.plan_line.Family.{Family}
+use Rattle.tree_format.specs.declared.plan_line.Family.{Family as TextFamily}
 use Rattle.tree_format.specs.declared.plan_line.Family.TheVariants.{Plans, Gaps}
 use Rattle.byte_ports.specs.declared.pieces.InputStop.{InputStop}
 use Rattle.byte_ports.specs.declared.pieces.InputStop.TheVariants.{Fault, TooLong}
@@ -14,18 +14,17 @@ use Rattle.plan_command.specs.declared.answer.Answer.{Answer}
 use Rattle.plan_command.specs.declared.intake.Intake.{Intake}
 use Rattle.plan_command.specs.declared.intake.Judgement.{Judgement}
 use Rattle.plan_command.specs.declared.request.Request.{Request}
-use Rattle.plan_command.specs.declared.request.Request.TheVariants.{Plan, Check, Report, Make, Drill, Convert, Gap, Replan, Map, Duo}
+use Rattle.plan_command.specs.declared.request.Request.TheVariants.{Plan, Check, Report, Make, Drill, Convert, Gap, CheckGap, Replan, Map, Duo}
 use Rattle.plan_command.specs.declared.status.Status.{Status}
 use Rattle.plan_command.specs.declared.status.Stop.{Stop}
 use Rattle.plan_command.specs.declared.status.Stop.TheVariants as stops
 use Rattle.plan_command.specs.declared.status.Refusal.{Refusal}
 use Rattle.plan_command.specs.declared.status.Refusal.TheVariants as refusals
-use Rattle.plan_command.specs.Words.{Spells, of_plan, family_of, limit_of}
+use Rattle.plan_command.specs.Words.{Spells, of_plan, of_gap, family_of, limit_of}
 use Rattle.plan_command.specs.Inputs.{Source, source_view, Reads, ReadsAnd, HasFailed, IsOverLong}
 use Rattle.plan_command.specs.Commands.{Answers, Refuses}
 use Rattle.plan_command.specs.Makes.{MakesOf, IsAsked}
 use Rattle.plan_command.specs.Intakes.{Judges, HasTaken}
-use Rattle.plan_command.specs.Checks.{ChecksGap}
 use Rattle.plan_command.proofs.WordLimits.{plan_asked, drill_asked, gap_asked, replan_asked, replan_names, map_names, duo_asked}
 use Rattle.plan_command.specs.Run.{Shown, Call, CutOff, Ends, stopped, ending_of}
 
@@ -40,7 +39,7 @@ made_read words request limits before after input (Err stops.TooLong) read makes
 made_read words request limits before after input (Err stops.WriteFault) read makes = absurd makes
 
 -- what is judged of the bytes that an intake was handed
-pub judged_read : (family : Family) {S : Type 0} (Left : S → Option (List ℕ)) (Faults : S → ℕ) (Gives : S → List ℕ → Result ℕ Failed → S → Type 0) (limit : ℕ) (source source' : S) (old new : Intake) (judged : Result Judgement Stop) →
+pub judged_read : (family : TextFamily) {S : Type 0} (Left : S → Option (List ℕ)) (Faults : S → ℕ) (Gives : S → List ℕ → Result ℕ Failed → S → Type 0) (limit : ℕ) (source source' : S) (old new : Intake) (judged : Result Judgement Stop) →
     HandsOn Left Gives HasTaken limit source source' old new → HasTaken family [] old → ((input : List ℕ) → HasTaken family input new → Judges family input judged) →
     ReadsAnd (Some limit) (source_view Left Faults source) (source_view Left Faults source') (Judges family) judged
 judged_read family Left Faults Gives limit source source' old new judged hands none says = told judged (says hands.bytes (hands.received family [] none))
@@ -77,47 +76,33 @@ stop_read limit before after Makes TooLong said fault long over most cause =
     let past : IsOverLong (Some limit) before after = record { limit = limit; is_limit = refl; taken = over refl } in
     subst (λ (s : Stop). ReadsAnd (Some limit) before after Makes (Err s)) (sym (long refl)) past
 
--- and why there is no judgement
-lacks_refuses : (words : List (List ℕ)) (request : Request) (input : List ℕ) (refusal : Refusal) → family_of request ≡ of_plan → Judges Plans input (Err (stops.Refused refusal)) → Refuses words request input refusal
-lacks_refuses words request input (refusals.BadScenario fault) judges lacks = rw judges lacks
-lacks_refuses words request input (refusals.BadPlan fault) judges lacks = rw judges lacks
-lacks_refuses words request input (refusals.Rejected at) judges lacks = absurd lacks
-lacks_refuses words request input (refusals.BadFlown why) judges lacks = absurd lacks
-lacks_refuses words request input (refusals.BadDuo why) judges lacks = absurd lacks
-lacks_refuses words request input (refusals.TooManyNodes limit) judges lacks = absurd lacks
+-- a request that reads a text of the family behind a scenario
+abbrev IsOfText : TextFamily → Request → Type 0
+IsOfText Plans request = family_of request ≡ of_plan
+IsOfText Gaps request = family_of request ≡ of_gap
 
-pub judge_stopped : (words : List (List ℕ)) (request : Request) (limits : Option ℕ) (before after : Source) (stop : Stop) → family_of request ≡ of_plan → ReadsAnd limits before after (Judges Plans) (Err stop) → ReadsAnd limits before after (MakesOf words request) (Err stop)
-judge_stopped words request limits before after (stops.Refused refusal) judges (input, read, lacks) = (input, read, lacks_refuses words request input refusal judges lacks)
-judge_stopped words request limits before after stops.NoMemory judges read = tt
-judge_stopped words request limits before after stops.ReadFault judges read = read
-judge_stopped words request limits before after stops.TooLong judges read = read
-judge_stopped words request limits before after stops.Usage judges read = absurd read
-judge_stopped words request limits before after stops.WriteFault judges read = absurd read
+-- and why there is no judgement
+lacks_refuses : (family : TextFamily) (words : List (List ℕ)) (request : Request) (input : List ℕ) (refusal : Refusal) → IsOfText family request → Judges family input (Err (stops.Refused refusal)) → Refuses words request input refusal
+lacks_refuses Plans words request input (refusals.BadScenario fault) judges lacks = rw judges lacks
+lacks_refuses Gaps words request input (refusals.BadScenario fault) judges lacks = rw judges lacks
+lacks_refuses Plans words request input (refusals.BadPlan fault) judges lacks = rw judges lacks
+lacks_refuses Gaps words request input (refusals.BadPlan fault) judges lacks = rw judges lacks
+lacks_refuses family words request input (refusals.Rejected at) judges lacks = absurd lacks
+lacks_refuses family words request input (refusals.BadFlown why) judges lacks = absurd lacks
+lacks_refuses family words request input (refusals.BadDuo why) judges lacks = absurd lacks
+lacks_refuses family words request input (refusals.TooManyNodes limit) judges lacks = absurd lacks
+
+pub judge_stopped : (family : TextFamily) (words : List (List ℕ)) (request : Request) (limits : Option ℕ) (before after : Source) (stop : Stop) → IsOfText family request → ReadsAnd limits before after (Judges family) (Err stop) → ReadsAnd limits before after (MakesOf words request) (Err stop)
+judge_stopped family words request limits before after (stops.Refused refusal) judges (input, read, lacks) = (input, read, lacks_refuses family words request input refusal judges lacks)
+judge_stopped family words request limits before after stops.NoMemory judges read = tt
+judge_stopped family words request limits before after stops.ReadFault judges read = read
+judge_stopped family words request limits before after stops.TooLong judges read = read
+judge_stopped family words request limits before after stops.Usage judges read = absurd read
+judge_stopped family words request limits before after stops.WriteFault judges read = absurd read
 
 -- what is answered to a judgement
-pub judge_answered : (words : List (List ℕ)) (request : Request) (limits : Option ℕ) (before after : Source) (judged : Judgement) (made : Result Answer Stop) → ReadsAnd limits before after (Judges Plans) (Ok judged) → ((input : List ℕ) → Judges Plans input (Ok judged) → MakesOf words request input made) → ReadsAnd limits before after (MakesOf words request) made
-judge_answered words request limits before after judged made (input, read, is) makes = made_read words request limits before after input made read (makes input is)
-
--- the same of a gap plan
-pub gap_stopped : (limits : Option ℕ) (before after : Source) (stop : Stop) → ReadsAnd limits before after (Judges Gaps) (Err stop) → ReadsAnd limits before after ChecksGap (Err stop)
-gap_stopped limits before after (stops.Refused refusal) read = read
-gap_stopped limits before after stops.NoMemory read = tt
-gap_stopped limits before after stops.ReadFault read = read
-gap_stopped limits before after stops.TooLong read = read
-gap_stopped limits before after stops.Usage read = absurd read
-gap_stopped limits before after stops.WriteFault read = absurd read
-
-gap_read : (limits : Option ℕ) (before after : Source) (input : List ℕ) (made : Result Answer Stop) → Reads limits before after input → ChecksGap input made → ReadsAnd limits before after ChecksGap made
-gap_read limits before after input (Ok answer) read makes = (input, read, makes)
-gap_read limits before after input (Err (stops.Refused refusal)) read makes = (input, read, makes)
-gap_read limits before after input (Err stops.NoMemory) read makes = tt
-gap_read limits before after input (Err stops.Usage) read makes = absurd makes
-gap_read limits before after input (Err stops.ReadFault) read makes = absurd makes
-gap_read limits before after input (Err stops.TooLong) read makes = absurd makes
-gap_read limits before after input (Err stops.WriteFault) read makes = absurd makes
-
-pub gap_answered : (limits : Option ℕ) (before after : Source) (judged : Judgement) (made : Result Answer Stop) → ReadsAnd limits before after (Judges Gaps) (Ok judged) → ((input : List ℕ) → Judges Gaps input (Ok judged) → ChecksGap input made) → ReadsAnd limits before after ChecksGap made
-gap_answered limits before after judged made (input, read, is) makes = gap_read limits before after input made read (makes input is)
+pub judge_answered : (family : TextFamily) (words : List (List ℕ)) (request : Request) (limits : Option ℕ) (before after : Source) (judged : Judgement) (made : Result Answer Stop) → ReadsAnd limits before after (Judges family) (Ok judged) → ((input : List ℕ) → Judges family input (Ok judged) → MakesOf words request input made) → ReadsAnd limits before after (MakesOf words request) made
+judge_answered family words request limits before after judged made (input, read, is) makes = made_read words request limits before after input made read (makes input is)
 
 -- how a run ends that makes nothing
 pub ends_stopped : (words : List (List ℕ)) (request : Request) (before after : Shown) (stop : Stop) → Spells words request → ReadsAnd (limit_of request) before.source after.source (MakesOf words request) (Err stop) → after.wrote ≡ before.wrote → Ends (record { words = words; before = before; after = after }) (stopped stop)
@@ -141,6 +126,7 @@ spelled_asked words (Make number) spelled = spelled.0
 spelled_asked words (Drill number workers) spelled = drill_asked words number workers spelled
 spelled_asked words Convert spelled = tt
 spelled_asked words (Gap workers nodes) spelled = gap_asked words workers nodes spelled
+spelled_asked words CheckGap spelled = tt
 spelled_asked words (Replan workers nodes flown) spelled = (replan_asked words workers nodes flown spelled, replan_names words workers nodes flown spelled)
 spelled_asked words (Map flown) spelled = map_names words flown spelled
 spelled_asked words (Duo workers nodes second) spelled = duo_asked words workers nodes second spelled

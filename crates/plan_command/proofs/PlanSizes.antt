@@ -1,32 +1,39 @@
--- How long the text of version 2 of a plan can be: its records have no prefixes.
-use Rattle.std.proofs.Common.{ℕ, ◌+◌, ◌*◌, ◌<◌, ◌≤◌, ◌^◌, List, [], ◌∷◌, ◌++◌, map, length, codes, ap, arith, All, length-append}
+-- How long the text of version 2 of a plan can be, and that of a gap plan: their records have no prefixes.
+use Rattle.std.proofs.Common.{ℕ, ◌+◌, ◌*◌, ◌<◌, ◌≤◌, ◌≡◌, ◌^◌, List, [], ◌∷◌, ◌++◌, map, length, codes, refl, ap, arith, All, length-append}
 use Rattle.std.specs.Fmt.{decimal}
 use Rattle.std.proofs.lemmas.Fmt.{length-decimal-le_wide}
 use Rattle.std.proofs.lemmas.List.{length-map}
 use Rattle.std.proofs.lemmas.List.Elements.{All-nil, All-cons, All-head, All-tail, All-map, All-weaker, All-get_or}
 use Rattle.exact_parts.proofs.Written.{digits_fit}
 use Rattle.text_rows.specs.Rows.{text_of, spaced}
+use Rattle.text_rows.proofs.RowLemmas.{text_of-append}
 use Rattle.search_model.specs.Names.{IsName}
 use Rattle.search_model.specs.Problem.{Problem, IsProblem, position_name}
 use Rattle.search_model.specs.declared.standing.Standing.{Standing}
 use Rattle.bound_tree.specs.declared.node.Kind.{Kind}
 use Rattle.bound_tree.specs.declared.node.Kind.TheVariants.{Branch, Whole, Mean, Tangent, Edge}
-use Rattle.bound_tree.specs.declared.gap.GapKind.TheVariants.{Closed}
+use Rattle.bound_tree.specs.declared.gap.GapKind.{GapKind}
+use Rattle.bound_tree.specs.declared.gap.GapKind.TheVariants.{Closed, Waiting}
+use Rattle.bound_tree.specs.declared.gap.GapNode.{GapNode}
+use Rattle.bound_tree.specs.declared.gap.GapPlan.{GapPlan}
 use Rattle.bound_tree.specs.declared.node.TreeNode.{TreeNode}
 use Rattle.bound_tree.specs.declared.plan.Plan.{Plan}
-use Rattle.bound_tree.specs.Gaps.{closed_node}
-use Rattle.tree_format.specs.declared.plan_line.Dialect.TheVariants.{Two}
+use Rattle.bound_tree.specs.Gaps.{shape_of, shape_of_kind, closed_node, gap_of}
+use Rattle.gap_plan.specs.Nodes.{record_at, closed_in}
+use Rattle.tree_format.specs.declared.plan_line.Dialect.TheVariants.{Two, Gap}
 use Rattle.tree_format.specs.Dialects.{version_row}
-use Rattle.tree_format.specs.PlanText.{numbers, node_fields, node_row, chance_row, count_row, head_rows, ArePositions, IsPrintableKind, IsPrintableRecord, IsNarrowKind, IsPlanText2}
-use Rattle.tree_format.proofs.LineTexts.{plan_parts}
-use Rattle.plan_command.proofs.TextSizes.{IsShortRow, IsShortLine, fields_fit, line_size, lines_fit, rows_fit}
+use Rattle.tree_format.specs.PlanText.{numbers, node_fields, chance_row, ceiling_row, count_row, head_rows, ArePositions, IsPrintableKind, IsPrintableRecord, IsNarrowKind, IsNarrowNode, IsPlanText2, IsGapText}
+use Rattle.tree_format.specs.declared.dialects.TheConstants.{MOST_GAP_NODES}
+use Rattle.tree_format.proofs.LineTexts.{gap_parts}
+use Rattle.plan_command.proofs.TextSizes.{IsShortRow, IsShortLine, fields_fit, line_size, rows_fit}
+use Rattle.plan_command.proofs.Gapped.{closed_again}
 
 -- a row before the records: at most 33 words, names, or numbers of at most 39 digits
 abbrev IsHeadRow : List (List ℕ) → Type 0
 IsHeadRow row = IsShortRow 33 39 row
 
 -- the line of a letter and a number
-numbered_line : (f : List ℕ) (n : ℕ) → length f ≤ 1 → n < 2 ^ 128 → IsShortLine 170 (f ∷ decimal n ∷ [])
+numbered_line : (f : List ℕ) (n : ℕ) → length f ≤ 1 → n < 2 ^ 128 → IsShortLine 42 (f ∷ decimal n ∷ [])
 numbered_line f n letter narrow =
     let number = fields_fit 39 (decimal n ∷ []) (All-cons (λ g. length g ≤ 39) (decimal n) [] (digits_fit n narrow) (All-nil (λ g. length g ≤ 39))) in
     omega (arith, line_size f (decimal n ∷ []), letter, number)
@@ -51,24 +58,37 @@ two_numbers word n m short narrow narrow' =
     let numbers = All-cons (λ f. length f ≤ 39) (decimal n) (decimal m ∷ []) (digits_fit n narrow) (number_fields m narrow') in
     (omega arith, All-cons (λ f. length f ≤ 39) word (decimal n ∷ decimal m ∷ []) short numbers)
 
+-- a word and a number, as the second of two words of a head
+word_row : (word other : List ℕ) → length word ≤ 39 → length other ≤ 39 → IsHeadRow (word ∷ other ∷ [])
+word_row word other short also = (omega arith, All-cons (λ f. length f ≤ 39) word (other ∷ []) short (All-cons (λ f. length f ≤ 39) other [] also (All-nil (λ f. length f ≤ 39))))
+
+-- the fields of a node whose prefix is left out
+abbrev lean_row : GapNode → List (List ℕ)
+lean_row node = node_fields [] node.kind
+
 module _ (p : Problem) (sound : IsProblem p) where
   -- a record's line
   kind_line : (kind : Kind) → IsPrintableKind p kind → IsNarrowKind kind → IsShortLine 170 (node_fields [] (Closed kind))
   kind_line Branch printable narrow = omega arith
-  kind_line (Whole n) printable narrow = numbered_line (codes "W") n (omega arith) narrow
-  kind_line (Mean b) printable narrow = numbered_line (codes "M") b (omega arith) narrow
+  kind_line (Whole n) printable narrow = omega (arith, numbered_line (codes "W") n (omega arith) narrow)
+  kind_line (Mean b) printable narrow = omega (arith, numbered_line (codes "M") b (omega arith) narrow)
   kind_line (Tangent b reference) printable narrow =
       let low = All-weaker (λ a. a < p.positions) (λ a. a < 200) (λ a lt. omega (arith, lt, sound.positions)) reference printable.0 in
       tangent_line b reference narrow low (omega (arith, printable.1, sound.horizon))
-  kind_line (Edge b) printable narrow = numbered_line (codes "E") b (omega arith) narrow
+  kind_line (Edge b) printable narrow = omega (arith, numbered_line (codes "E") b (omega arith) narrow)
 
-  record_lines : (rs : List TreeNode) → All (IsPrintableRecord p) rs → All (λ r. IsNarrowKind r.kind) rs → All (IsShortLine 170) (map (λ r. node_row Two (closed_node r)) rs)
-  record_lines [] printable narrow = All-nil (IsShortLine 170)
-  record_lines (r ∷ rs) printable narrow =
-      let row : TreeNode → List (List ℕ) = λ x. node_row Two (closed_node x) in
-      let here = kind_line r.kind (All-head (IsPrintableRecord p) r rs printable).kind (All-head (λ r. IsNarrowKind r.kind) r rs narrow) in
-      let rest = record_lines rs (All-tail (IsPrintableRecord p) r rs printable) (All-tail (λ r. IsNarrowKind r.kind) r rs narrow) in
-      All-cons (IsShortLine 170) (row r) (map row rs) here rest
+  -- a node's line: at most 170 bytes where it is closed, and 42 where it waits
+  node_line : (q : List ℕ) (kind : GapKind) → IsPrintableKind p (shape_of_kind kind) → IsNarrowNode kind → length (text_of (node_fields [] kind ∷ [])) ≤ 42 + length (record_at q kind) * 128
+  node_line q (Closed kind) printable narrow = omega (arith, kind_line kind printable narrow)
+  node_line q (Waiting n) printable narrow = omega (arith, numbered_line (codes "O") n (omega arith) narrow)
+
+  node_lines : (nodes : List GapNode) → All (λ node. IsPrintableKind p (shape_of node).kind) nodes → All (λ node. IsNarrowNode node.kind) nodes → length (text_of (map lean_row nodes)) ≤ length nodes * 42 + length (closed_in nodes) * 128
+  node_lines [] printable narrow = omega arith
+  node_lines (node ∷ nodes) printable narrow =
+      let here = node_line node.prefix node.kind (All-head (λ node. IsPrintableKind p (shape_of node).kind) node nodes printable) (All-head (λ node. IsNarrowNode node.kind) node nodes narrow) in
+      let rest = node_lines nodes (All-tail (λ node. IsPrintableKind p (shape_of node).kind) node nodes printable) (All-tail (λ node. IsNarrowNode node.kind) node nodes narrow) in
+      let closed = length-append (record_at node.prefix node.kind) (closed_in nodes) in
+      rw (text_of-append (lean_row node ∷ []) (map lean_row nodes), length-append (text_of (lean_row node ∷ [])) (text_of (map lean_row nodes))) (omega (arith, here, rest, closed))
 
   -- the word `path` and at most 32 names of at most 24 bytes
   path_row_fits : (q : List ℕ) → ArePositions p q → length q ≤ 32 → IsHeadRow (codes "path" ∷ map (position_name p) q)
@@ -78,27 +98,56 @@ module _ (p : Problem) (sound : IsProblem p) where
       let names = All-map (λ f. length f ≤ 39) (position_name p) q (All-weaker (λ a. a < p.positions) (λ a. length (position_name p a) ≤ 39) named q places) in
       (omega (arith, length-map {A = ℕ} {B = List ℕ}, short), All-cons (λ f. length f ≤ 39) (codes "path") (map (position_name p) q) (omega arith) names)
 
-  -- the four lines before the records
+  -- the lines before the records: four of a plan, and five of a gap plan
+  numbered_rows : (value weight n : ℕ) → value < 2 ^ 128 → weight < 2 ^ 128 → n < 2 ^ 128 → IsHeadRow (chance_row value weight) × IsHeadRow (count_row n)
+  numbered_rows value weight n v w few = (two_numbers (codes "chance") value weight (omega arith) v w, one_number (codes "nodes") n (omega arith) few)
+
   head_fits : (s : Standing) (weight n : ℕ) → ArePositions p s.path → length s.path ≤ 32 → s.value < 2 ^ 128 → weight < 2 ^ 128 → n < 2 ^ 128 →
       length (text_of (head_rows Two p s weight s.value n)) ≤ 5284
   head_fits s weight n places short value narrow few =
       let path : List (List ℕ) = codes "path" ∷ map (position_name p) s.path in
       let chance = chance_row s.value weight in
       let count = count_row n in
-      let version : IsHeadRow (version_row Two) = (omega arith, All-cons (λ f. length f ≤ 39) (codes "plan") (codes "2" ∷ []) (omega arith) (All-cons (λ f. length f ≤ 39) (codes "2") [] (omega arith) (All-nil (λ f. length f ≤ 39)))) in
-      let last = All-cons IsHeadRow count [] (one_number (codes "nodes") n (omega arith) few) (All-nil IsHeadRow) in
-      let numbered = All-cons IsHeadRow chance (count ∷ []) (two_numbers (codes "chance") s.value weight (omega arith) value narrow) last in
-      let each = All-cons IsHeadRow (version_row Two) (path ∷ chance ∷ count ∷ []) version (All-cons IsHeadRow path (chance ∷ count ∷ []) (path_row_fits s.path places short) numbered) in
+      let (numbered, last) = numbered_rows s.value weight n value narrow few in
+      let behind = All-cons IsHeadRow path (chance ∷ count ∷ []) (path_row_fits s.path places short) (All-cons IsHeadRow chance (count ∷ []) numbered (All-cons IsHeadRow count [] last (All-nil IsHeadRow))) in
+      let each = All-cons IsHeadRow (version_row Two) (path ∷ chance ∷ count ∷ []) (word_row (codes "plan") (codes "2") (omega arith) (omega arith)) behind in
       omega (arith, rows_fit 33 39 (version_row Two ∷ path ∷ chance ∷ count ∷ []) each)
 
-  -- the whole text: at most 170 bytes for each record, and 5,288 for the rest
+  gap_head_fits : (s : Standing) (weight ceiling n : ℕ) → ArePositions p s.path → length s.path ≤ 32 → s.value < 2 ^ 128 → weight < 2 ^ 128 → ceiling < 2 ^ 128 → n < 2 ^ 128 →
+      length (text_of (head_rows Gap p s weight ceiling n)) ≤ 6605
+  gap_head_fits s weight ceiling n places short value narrow most few =
+      let path : List (List ℕ) = codes "path" ∷ map (position_name p) s.path in
+      let chance = chance_row s.value weight in
+      let above = ceiling_row ceiling in
+      let count = count_row n in
+      let (numbered, last) = numbered_rows s.value weight n value narrow few in
+      let from_above = All-cons IsHeadRow above (count ∷ []) (one_number (codes "ceiling") ceiling (omega arith) most) (All-cons IsHeadRow count [] last (All-nil IsHeadRow)) in
+      let behind = All-cons IsHeadRow path (chance ∷ above ∷ count ∷ []) (path_row_fits s.path places short) (All-cons IsHeadRow chance (above ∷ count ∷ []) numbered from_above) in
+      let each = All-cons IsHeadRow (version_row Gap) (path ∷ chance ∷ above ∷ count ∷ []) (word_row (codes "gap") (codes "1") (omega arith) (omega arith)) behind in
+      omega (arith, rows_fit 33 39 (version_row Gap ∷ path ∷ chance ∷ above ∷ count ∷ []) each)
+
+  -- the whole text of a plan: at most 170 bytes for each record, and 5,288 for the rest
   pub plan_text_fits : (plan : Plan) (text : List ℕ) → IsPlanText2 p plan text → length text ≤ 5288 + length plan.tree * 170
   plan_text_fits plan text is =
       let s = plan.standing in
       let n = length plan.tree in
-      let row : TreeNode → List (List ℕ) = λ r. node_row Two (closed_node r) in
-      let head = text_of (head_rows Two p s plan.weight s.value n) in
-      let records = text_of (map row plan.tree) in
-      let above = head_fits s plan.weight n is.printable.positions is.printable.short is.narrow.value is.narrow.weight (omega (arith, is.printable.few)) in
-      let lines = lines_fit 170 (map row plan.tree) (record_lines plan.tree is.printable.records is.narrow.records) in
-      omega (arith, ap length is.spelled, ap length (plan_parts Two p plan), length-append head (records ++ (codes "end" ++ 10 ∷ [])), length-append records (codes "end" ++ 10 ∷ []), above, lines, length-map plan.tree row)
+      let nodes = map closed_node plan.tree in
+      let head = text_of (head_rows Two p s plan.weight s.value (length nodes)) in
+      let records = text_of (map lean_row nodes) in
+      let same : length nodes ≡ n = length-map plan.tree closed_node in
+      let above = head_fits s plan.weight (length nodes) is.printable.positions is.printable.short is.narrow.value is.narrow.weight (omega (arith, is.printable.few, same)) in
+      let printable = All-map (λ node. IsPrintableKind p (shape_of node).kind) closed_node plan.tree (All-weaker (IsPrintableRecord p) (λ r. IsPrintableKind p r.kind) (λ r printable. printable.kind) plan.tree is.printable.records) in
+      let lines = node_lines nodes printable (All-map (λ node. IsNarrowNode node.kind) closed_node plan.tree is.narrow.records) in
+      omega (arith, ap length is.spelled, ap length (gap_parts Two p (gap_of plan)), length-append head (records ++ (codes "end" ++ 10 ∷ [])), length-append records (codes "end" ++ 10 ∷ []), above, lines, same, ap length (closed_again plan.tree))
+
+  -- and of a gap plan: at most 42 bytes for each node, 128 more for each closed one, and 6,609 for the rest
+  pub gap_text_fits : (plan : GapPlan) (text : List ℕ) → IsGapText p plan text → length text ≤ 6609 + (length plan.nodes * 42 + length (closed_in plan.nodes) * 128)
+  gap_text_fits plan text is =
+      let s = plan.standing in
+      let n = length plan.nodes in
+      let head = text_of (head_rows Gap p s plan.weight plan.ceiling n) in
+      let records = text_of (map lean_row plan.nodes) in
+      let all : MOST_GAP_NODES ≡ 4194305 = refl in
+      let above = gap_head_fits s plan.weight plan.ceiling n is.printable.positions is.printable.short is.narrow.value is.narrow.weight is.narrow.ceiling (omega (arith, is.printable.few, all)) in
+      let lines = node_lines plan.nodes is.printable.kinds is.narrow.nodes in
+      omega (arith, ap length is.spelled, ap length (gap_parts Gap p plan), length-append head (records ++ (codes "end" ++ 10 ∷ [])), length-append records (codes "end" ++ 10 ∷ []), above, lines)

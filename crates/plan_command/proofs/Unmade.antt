@@ -7,7 +7,7 @@ use Rattle.plan_command.specs.declared.flown.FlownWhy.{FlownWhy}
 use Rattle.plan_command.specs.declared.flown.FlownWhy.TheVariants as flown
 use Rattle.plan_command.specs.declared.pairing.DuoWhy.{DuoWhy}
 use Rattle.plan_command.specs.declared.request.Request.{Request}
-use Rattle.plan_command.specs.declared.request.Request.TheVariants.{Plan, Check, Report, Make, Drill, Convert, Gap, Replan, Map, Duo}
+use Rattle.plan_command.specs.declared.request.Request.TheVariants.{Plan, Check, Report, Make, Drill, Convert, Gap, CheckGap, Replan, Map, Duo}
 use Rattle.plan_command.specs.declared.status.Refusal.{Refusal}
 use Rattle.plan_command.specs.declared.status.Refusal.TheVariants.{Rejected, BadScenario, BadPlan, BadFlown, BadDuo, TooManyNodes}
 use Rattle.plan_command.specs.Words.{names_behind}
@@ -96,6 +96,7 @@ made_or_unmade words (Duo workers nodes second) p text refusal sound by (q, pair
       | inr (limit, same, many) ↦ counts_beyond limit refusal same by
     ]
 made_or_unmade words Check p text refusal sound by makes unmade = makes
+made_or_unmade words CheckGap p text refusal sound by makes unmade = makes
 made_or_unmade words (Report json) p text refusal sound by makes unmade = makes
 made_or_unmade words (Make number) p text refusal sound by makes unmade = makes
 made_or_unmade words (Drill number workers) p text refusal sound by makes unmade = makes
@@ -129,6 +130,7 @@ unmade_once words (Duo workers nodes second) p a b sound by h g =
       ]
     ]
 unmade_once words Check p a b sound by h g = absurd h
+unmade_once words CheckGap p a b sound by h g = absurd h
 unmade_once words (Report json) p a b sound by h g = absurd h
 unmade_once words (Make number) p a b sound by h g = absurd h
 unmade_once words (Drill number workers) p a b sound by h g = absurd h
@@ -142,6 +144,7 @@ never_bad_text words (Replan workers nodes at) p fault unmade = unmade
 never_bad_text words (Map at) p fault unmade = unmade
 never_bad_text words (Duo workers nodes second) p fault unmade = unmade
 never_bad_text words Check p fault unmade = unmade
+never_bad_text words CheckGap p fault unmade = unmade
 never_bad_text words (Report json) p fault unmade = unmade
 never_bad_text words (Make number) p fault unmade = unmade
 never_bad_text words (Drill number workers) p fault unmade = unmade
@@ -154,6 +157,7 @@ never_rejected words (Replan workers nodes at) p reason unmade = unmade
 never_rejected words (Map at) p reason unmade = unmade
 never_rejected words (Duo workers nodes second) p reason unmade = unmade
 never_rejected words Check p reason unmade = unmade
+never_rejected words CheckGap p reason unmade = unmade
 never_rejected words (Report json) p reason unmade = unmade
 never_rejected words (Make number) p reason unmade = unmade
 never_rejected words (Drill number workers) p reason unmade = unmade

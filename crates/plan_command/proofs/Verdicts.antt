@@ -15,7 +15,7 @@ use Rattle.tree_checker.specs.Reasons.{at_line, first_reason}
 use Rattle.tree_checker.specs.GapReasons.{plain_why, plain_at, gap_verdict_of}
 use Rattle.plan_command.specs.declared.answer.Answer.{Answer}
 use Rattle.plan_command.specs.declared.intake.Judgement.{Judgement}
-use Rattle.plan_command.specs.declared.request.Request.TheVariants.{Check, Report}
+use Rattle.plan_command.specs.declared.request.Request.TheVariants.{Check, CheckGap, Report}
 use Rattle.plan_command.specs.declared.status.Stop.{Stop}
 use Rattle.plan_command.specs.declared.status.Status.{Status}
 use Rattle.plan_command.specs.declared.status.Status.TheVariants.{Done}
@@ -23,7 +23,7 @@ use Rattle.plan_command.specs.declared.status.Refusal.TheVariants as refusals
 use Rattle.plan_command.specs.Lines.{rejection_of, gap_rejection_of}
 use Rattle.plan_command.specs.Families.{IsAccepted, reason_against}
 use Rattle.plan_command.specs.Commands.{report_of, IsVerdict, IsGapVerdict, Answers, Refuses}
-use Rattle.plan_command.specs.Checks.{IsTold, TellsVerdict, ChecksGap}
+use Rattle.plan_command.specs.Checks.{IsTold, TellsVerdict}
 use Rattle.plan_command.specs.Makes.{MakesOf}
 use Rattle.plan_command.specs.Intakes.{IsVerdictOn, Judges}
 
@@ -72,14 +72,14 @@ gap_told p plan (Rejected at) status text on (done, said) =
     let (refused, against) = rejected_for Gaps p plan (Rejected at) at refl on in
     inr (refused, done, (at, against, said))
 
-pub gap_checked : (input : List ℕ) (judged : Judgement) (made : Result Answer Stop) → TellsVerdict judged.verdict made → Judges Gaps input (Ok judged) → ChecksGap input made
-gap_checked input judged (Ok answer) told (plan, is, on, path) = (judged.sc, plan, is, gap_told judged.sc plan judged.verdict answer.status answer.text.items on told)
-gap_checked input judged (Err stop) told (plan, is, on, path) = subst (λ (s : Stop). ChecksGap input (Err s)) (sym told) tt
-
 module _ (words : List (List ℕ)) (input : List ℕ) (judged : Judgement) where
   pub check_made : (made : Result Answer Stop) → TellsVerdict judged.verdict made → Judges Plans input (Ok judged) → MakesOf words Check input made
   check_made (Ok answer) told (plan, is, on, path) = (judged.sc, plan_of plan, is, plan_told judged.sc plan judged.verdict answer.status answer.text.items on told)
   check_made (Err stop) told (plan, is, on, path) = subst (λ (s : Stop). MakesOf words Check input (Err s)) (sym told) tt
+
+  pub gap_check_made : (made : Result Answer Stop) → TellsVerdict judged.verdict made → Judges Gaps input (Ok judged) → MakesOf words CheckGap input made
+  gap_check_made (Ok answer) told (plan, is, on, path) = (judged.sc, plan, is, gap_told judged.sc plan judged.verdict answer.status answer.text.items on told)
+  gap_check_made (Err stop) told (plan, is, on, path) = subst (λ (s : Stop). MakesOf words CheckGap input (Err s)) (sym told) tt
 
   pub report_told : (json : Bool) (status : Status) (text : List ℕ) → judged.verdict ≡ Accepted → status ≡ Done → text ≡ report_of json judged.sc judged.path → Judges Plans input (Ok judged) → Answers words (Report json) input status text
   report_told json status text accepted done is_report (plan, is, on, path) = (judged.sc, plan_of plan, is, (done, on.accepted.0 accepted, is_report ∙ ap (report_of json judged.sc) path))

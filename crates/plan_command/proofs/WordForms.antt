@@ -13,7 +13,7 @@ use Rattle.std.proofs.lemmas.List.Quantifiers.{position-Some}
 use Rattle.exact_parts.specs.Decimal.{is_plain}
 use Rattle.search_model.specs.Names.{IsName}
 use Rattle.plan_command.specs.declared.request.Request.{Request}
-use Rattle.plan_command.specs.declared.request.Request.TheVariants.{Plan, Check, Report, Make, Drill, Convert, Gap, Replan, Map, Duo}
+use Rattle.plan_command.specs.declared.request.Request.TheVariants.{Plan, Check, Report, Make, Drill, Convert, Gap, CheckGap, Replan, Map, Duo}
 use Rattle.plan_command.specs.Options.{AreOptions, IsRow}
 use Rattle.plan_command.specs.Words.{Spells, SpellNone, AreFlown}
 use Rattle.plan_command.specs.WordReading.{number_in, options_at, plan_at, gap_at, alone_at, report_at, make_at, drill_at, is_name, name_in, are_flown, place_of, replan_from, replan_at, map_at, duo_with, duo_from, duo_at, request_at}
@@ -186,10 +186,11 @@ read_is_spelled (command ∷ words) r e =
     (λ m. cond_both (bytes_eq command (codes "drill")) _ _ T (behind command _ words _ (drill_told words))
     (λ d. cond_both (bytes_eq command (codes "convert")) _ _ T (behind command _ words _ (alone_told (codes "convert") Convert words refl))
     (λ v. cond_both (bytes_eq command (codes "gap")) _ _ T (behind command _ words _ (gap_told words))
-    (λ g. cond_both (bytes_eq command (codes "replan")) _ _ T (behind command _ words _ (replan_from_told words _ refl))
+    (λ g. cond_both (bytes_eq command (codes "checkgap")) _ _ T (behind command _ words _ (alone_told (codes "checkgap") CheckGap words refl))
+    (λ k. cond_both (bytes_eq command (codes "replan")) _ _ T (behind command _ words _ (replan_from_told words _ refl))
     (λ q. cond_both (bytes_eq command (codes "map")) _ _ T (behind command _ words _ (map_told words))
     (λ a. cond_both (bytes_eq command (codes "duo")) _ _ T (behind command _ words _ (duo_from_told words _ refl))
-    (λ o r e. absurd (none_of_some r e))))))))))) r e
+    (λ o r e. absurd (none_of_some r e)))))))))))) r e
 
 flown_not_plain : is_plain (codes "flown") ≡ false
 unfolding is_plain
@@ -240,6 +241,7 @@ spelled_is_read words (Make n) (small, is) = rw is (ap (option_map (λ n. Make n
 spelled_is_read words (Drill n w) (small, (options, are, is)) = ap request_at is ∙ drill_read n w options small are
 spelled_is_read words Convert is = rw is refl
 spelled_is_read words (Gap w n) (options, are, is) = ap request_at is ∙ gap_read options w n are
+spelled_is_read words CheckGap is = rw is refl
 spelled_is_read words (Replan w n flown) (named, (options, are, is)) =
     let place = place_told (codes "replan" ∷ options) words (codes "flown") flown is named.0 in
     ap request_at is ∙ replan_read options (drop flown words) w n flown are named (omega (arith, place))

@@ -1,8 +1,5 @@
 -- What the functions of a check return.
 use Rattle.std.specs.Prelude.{ℕ, ◌≡◌, List, Result, Ok, Err, codes}
-use Rattle.search_model.specs.Problem.{Problem}
-use Rattle.scenario_text.specs.Reading.{front_of}
-use Rattle.bound_tree.specs.declared.gap.GapPlan.{GapPlan}
 use Rattle.tree_checker.specs.declared.gap_verdict.GapVerdict.{GapVerdict}
 use Rattle.tree_checker.specs.declared.gap_verdict.GapVerdict.TheVariants as verdicts
 use Rattle.plan_command.specs.declared.answer.Answer.{Answer}
@@ -11,8 +8,6 @@ use Rattle.plan_command.specs.declared.status.Status.TheVariants as statuses
 use Rattle.plan_command.specs.declared.status.Stop.{Stop}
 use Rattle.plan_command.specs.declared.status.Stop.TheVariants as stops
 use Rattle.plan_command.specs.Lines.{gap_rejection_of}
-use Rattle.plan_command.specs.Commands.{IsGapInput, HasBadGap, IsGapVerdict}
-use Rattle.plan_command.specs.Intakes.{LacksBy}
 
 -- a verdict as a status and a text
 abbrev pub IsTold : GapVerdict → Status → List ℕ → Type 0
@@ -23,8 +18,3 @@ IsTold (verdicts.Rejected at) status text = (status ≡ statuses.Rejected) × (t
 abbrev pub TellsVerdict : GapVerdict → Result Answer Stop → Type 0
 TellsVerdict verdict (Ok answer) = IsTold verdict answer.status answer.text.items
 TellsVerdict verdict (Err stop) = stop ≡ stops.NoMemory
-
--- what a check of a gap plan makes of its input: the verdict on the gap plan behind the scenario, or what the input lacks
-abbrev pub ChecksGap : List ℕ → Result Answer Stop → Type 0
-ChecksGap input (Ok answer) = (p : Problem) × (plan : GapPlan) × IsGapInput input p plan × IsGapVerdict p plan answer.status answer.text.items
-ChecksGap input (Err stop) = LacksBy (λ fault. front_of input ≡ Err fault) (HasBadGap input) stop

@@ -1,6 +1,6 @@
--- What each request makes of its input. A request reads the text of a scenario alone, a scenario and a plan behind it, or
--- nothing; what it then makes is a row below.
-use Rattle.std.specs.Prelude.{◌≡◌, ◌⊎◌, ℕ, Bool, true, false, List, codes, Some, Err}
+-- What each request makes of its input. A request reads the text of a scenario alone, a scenario and a plan or a gap plan
+-- behind it, or nothing; what it then makes is a row below. Behind a scenario a gap plan is read by `checkgap` alone.
+use Rattle.std.specs.Prelude.{◌≡◌, ◌⊎◌, ℕ, Bool, true, false, List, codes, Option, Some, Err}
 use Rattle.search_model.specs.Problem.{Problem}
 use Rattle.search_model.specs.Order.{IsBest}
 use Rattle.scenario_text.specs.Reading.{front_of, alone_of}
@@ -22,14 +22,14 @@ use Rattle.mission_report.specs.Report.{report_text}
 use Rattle.mission_report.specs.Json.{report_json}
 use Rattle.scenario_maker.specs.Made.{made_problem}
 use Rattle.plan_command.specs.declared.request.Request.{Request}
-use Rattle.plan_command.specs.declared.request.Request.TheVariants.{Plan, Check, Report, Make, Drill, Convert, Gap, Replan, Map, Duo}
+use Rattle.plan_command.specs.declared.request.Request.TheVariants.{Plan, Check, Report, Make, Drill, Convert, Gap, CheckGap, Replan, Map, Duo}
 use Rattle.plan_command.specs.declared.status.Status.{Status}
 use Rattle.plan_command.specs.declared.status.Status.TheVariants as statuses
 use Rattle.plan_command.specs.declared.status.Refusal.{Refusal}
 use Rattle.plan_command.specs.declared.status.Refusal.TheVariants.{Rejected, BadScenario, BadPlan}
-use Rattle.plan_command.specs.Words.{Family, of_scenario, of_plan, of_nothing, family_of, names_behind}
+use Rattle.plan_command.specs.Words.{Family, of_scenario, of_plan, of_gap, of_nothing, family_of, names_behind}
 use Rattle.plan_command.specs.Lines.{rejection_of, gap_rejection_of}
-use Rattle.plan_command.specs.Plans.{IsPlanOf, IsUnplanned, BeginsWith, IsPlanRest, IsGapRest, HasFaultIn}
+use Rattle.plan_command.specs.Plans.{IsPlanOf, IsUnplanned, HasBehind, IsPlanRest, IsGapRest, HasFaultIn}
 use Rattle.plan_command.specs.GapPlans.{IsGapOf, IsUngapped}
 use Rattle.plan_command.specs.Replans.{IsReplanned, IsUnreplanned, IsMapped, IsUnmapped}
 use Rattle.plan_command.specs.Duos.{IsPaired, IsUnpairedFrom}
@@ -55,15 +55,15 @@ IsUnmade words _ p refusal = ⊥
 
 -- the input is a scenario and this plan
 abbrev pub IsInput : List ℕ → Problem → APlan → Type 0
-IsInput input p plan = (rest : List ℕ) × BeginsWith p input rest × IsPlanRest p rest plan
+IsInput input p plan = HasBehind IsPlanRest input p plan
 
 -- the input is a scenario and this gap plan
 abbrev pub IsGapInput : List ℕ → Problem → GapPlan → Type 0
-IsGapInput input p plan = (rest : List ℕ) × BeginsWith p input rest × IsGapRest p rest plan
+IsGapInput input p plan = HasBehind IsGapRest input p plan
 
 -- the input begins with a scenario, and what follows has this first fault, as a text of the family
 abbrev pub HasBadText : TextFamily → List ℕ → PlanFault → Type 0
-HasBadText family input fault = (p : Problem) × ((rest : List ℕ) × BeginsWith p input rest × HasFaultIn family p rest fault)
+HasBadText family input fault = (p : Problem) × HasBehind (HasFaultIn family) input p fault
 
 -- as the text of a plan, or of a gap plan
 abbrev pub HasBadPlan : List ℕ → PlanFault → Type 0
@@ -80,17 +80,18 @@ IsRejected input at = (p : Problem) × (plan : APlan) × IsInput input p plan ×
 abbrev pub IsGapRejected : List ℕ → GapRejectAt → Type 0
 IsGapRejected input at = (p : Problem) × (plan : GapPlan) × IsGapInput input p plan × (GapAccepts p plan → ⊥) × (gap_reason p plan ≡ Some at)
 
--- a plan that is accepted, or the first reason against it with its line
-abbrev pub IsVerdict : Problem → APlan → Status → List ℕ → Type 0
-IsVerdict p plan status text =
-    (Accepts p plan × (status ≡ statuses.Done) × (text ≡ codes "accepted\n"))
-    ⊎ ((Accepts p plan → ⊥) × (status ≡ statuses.Rejected) × ((at : RejectAt) × (first_reason p plan ≡ Some at) × (text ≡ rejection_of at)))
+-- what is accepted is told to be, or the first reason against it with its line
+abbrev pub TellsWhether : {W : Type 0} → Type 0 → Option W → (W → List ℕ) → Status → List ℕ → Type 0
+TellsWhether {W} Accepted reason line status text =
+    (Accepted × (status ≡ statuses.Done) × (text ≡ codes "accepted\n"))
+    ⊎ ((Accepted → ⊥) × (status ≡ statuses.Rejected) × ((at : W) × (reason ≡ Some at) × (text ≡ line at)))
 
--- the same of a gap plan
+-- so it is of a plan, and of a gap plan
+abbrev pub IsVerdict : Problem → APlan → Status → List ℕ → Type 0
+IsVerdict p plan status text = TellsWhether (Accepts p plan) (first_reason p plan) rejection_of status text
+
 abbrev pub IsGapVerdict : Problem → GapPlan → Status → List ℕ → Type 0
-IsGapVerdict p plan status text =
-    (GapAccepts p plan × (status ≡ statuses.Done) × (text ≡ codes "accepted\n"))
-    ⊎ ((GapAccepts p plan → ⊥) × (status ≡ statuses.Rejected) × ((at : GapRejectAt) × (gap_reason p plan ≡ Some at) × (text ≡ gap_rejection_of at)))
+IsGapVerdict p plan status text = TellsWhether (GapAccepts p plan) (gap_reason p plan) gap_rejection_of status text
 
 -- the report of a path, as JSON or as lines
 abbrev pub report_of : Bool → Problem → List ℕ → List ℕ
@@ -124,6 +125,7 @@ TellsNumber _ text = ⊥
 abbrev pub AnswersAs : Family → List (List ℕ) → Request → List ℕ → Status → List ℕ → Type 0
 AnswersAs of_scenario words request input status text = (status ≡ statuses.Done) × ((p : Problem) × IsTextOf p input × MakesText words request p text)
 AnswersAs of_plan words request input status text = (p : Problem) × (plan : APlan) × IsInput input p plan × TellsPlan request p plan status text
+AnswersAs of_gap words request input status text = (p : Problem) × (plan : GapPlan) × IsGapInput input p plan × IsGapVerdict p plan status text
 AnswersAs of_nothing words request input status text = (status ≡ statuses.Done) × TellsNumber request text
 
 -- and refuses it so; too many nodes are told only where there are too many live prefixes
@@ -134,6 +136,9 @@ RefusesAs of_plan words request input (BadScenario fault) = front_of input ≡ E
 RefusesAs of_plan words request input (BadPlan fault) = HasBadPlan input fault
 RefusesAs of_plan words request input (Rejected at) = NeedsAccepted request × IsRejected input at
 RefusesAs of_plan words request input _ = ⊥
+RefusesAs of_gap words request input (BadScenario fault) = front_of input ≡ Err fault
+RefusesAs of_gap words request input (BadPlan fault) = HasBadGap input fault
+RefusesAs of_gap words request input _ = ⊥
 RefusesAs of_nothing words request input _ = ⊥
 
 -- the request that the words spell answers the input so, or refuses it so

@@ -4,21 +4,24 @@ use Rattle.byte_ports.specs.Causes.{Rose}
 use Rattle.search_model.specs.Problem.{Problem}
 use Rattle.scenario_text.specs.Scenarios.{IsTextOf}
 use Rattle.bound_tree.specs.declared.plan.Plan.{Plan as APlan}
+use Rattle.bound_tree.specs.declared.gap.GapPlan.{GapPlan}
 use Rattle.bound_tree.specs.Accepts.{Accepts}
+use Rattle.bound_tree.specs.Gaps.{GapAccepts}
 use Rattle.tree_checker.specs.declared.verdict.RejectAt.{RejectAt}
+use Rattle.tree_checker.specs.declared.gap_verdict.GapRejectAt.{GapRejectAt}
 use Rattle.plan_command.specs.declared.request.Request.{Request}
 use Rattle.plan_command.specs.declared.request.Request.TheVariants.{Plan, Gap, Replan, Map, Duo}
 use Rattle.plan_command.specs.declared.status.Status.{Status}
 use Rattle.plan_command.specs.declared.status.Status.TheVariants.{NoMemory}
 use Rattle.plan_command.specs.declared.status.Refusal.{Refusal}
 use Rattle.plan_command.specs.declared.status.Refusal.TheVariants.{TooManyNodes}
-use Rattle.plan_command.specs.Words.{Spells, of_plan, family_of, limit_of, names_behind}
+use Rattle.plan_command.specs.Words.{Spells, Family, of_plan, of_gap, family_of, limit_of, names_behind}
 use Rattle.plan_command.specs.Lines.{refused_status}
 use Rattle.plan_command.specs.Plans.{HasFewLive}
 use Rattle.plan_command.specs.Flown.{IsFlown}
 use Rattle.plan_command.specs.Replans.{ForcesNames}
 use Rattle.plan_command.specs.Duos.{PairsNamed}
-use Rattle.plan_command.specs.Commands.{Answers, Refuses, IsInput, IsRejected}
+use Rattle.plan_command.specs.Commands.{Answers, Refuses, IsInput, IsGapInput, IsRejected, IsGapRejected}
 use Rattle.plan_command.specs.Run.{Call}
 
 -- the request reads an input, and this one is within its limit
@@ -57,13 +60,25 @@ IsMakable words _ p = ⊥
 abbrev pub IsFeasible : List (List ℕ) → Request → List ℕ → Type 0
 IsFeasible words request input = (p : Problem) × IsTextOf p input × IsMakable words request p
 
--- `check`, `report` or `convert` of a scenario and a plan that is accepted
-abbrev pub IsAcceptable : Request → List ℕ → Type 0
-IsAcceptable request input = (family_of request ≡ of_plan) × ((p : Problem) × (plan : APlan) × IsInput input p plan × Accepts p plan)
+-- a request of this family reads a scenario and a plan, or a gap plan, that is accepted
+abbrev pub HasAccepted : Family → List ℕ → Type 0
+HasAccepted of_plan input = (p : Problem) × (plan : APlan) × IsInput input p plan × Accepts p plan
+HasAccepted of_gap input = (p : Problem) × (plan : GapPlan) × IsGapInput input p plan × GapAccepts p plan
+HasAccepted _ input = ⊥
 
--- or that isn't accepted
+-- or one that isn't accepted
+abbrev pub HasRejected : Family → List ℕ → Type 0
+HasRejected of_plan input = (at : RejectAt) × IsRejected input at
+HasRejected of_gap input = (at : GapRejectAt) × IsGapRejected input at
+HasRejected _ input = ⊥
+
+-- `check`, `report` or `convert` of a plan that is accepted, or `checkgap` of a gap plan that is
+abbrev pub IsAcceptable : Request → List ℕ → Type 0
+IsAcceptable request input = HasAccepted (family_of request) input
+
+-- or of one that isn't
 abbrev pub IsRejectable : Request → List ℕ → Type 0
-IsRejectable request input = (family_of request ≡ of_plan) × ((at : RejectAt) × IsRejected input at)
+IsRejectable request input = HasRejected (family_of request) input
 
 -- this status, unless memory ran out
 abbrev pub IsUnlessNoMemory : Status → Status → Type 0

@@ -10,7 +10,7 @@ use Rattle.tree_format.specs.declared.plan_line.Family.TheVariants.{Plans, Gaps}
 use Rattle.tree_checker.specs.declared.gap_verdict.GapRejectAt.{GapRejectAt}
 use Rattle.tree_checker.specs.Reasons.{first_reason}
 use Rattle.tree_checker.specs.GapReasons.{plain_at, gap_reason}
-use Rattle.plan_command.specs.Plans.{BeginsWith, IsPlanRest, IsGapRest}
+use Rattle.plan_command.specs.Plans.{HasBehind, IsPlanRest, IsGapRest}
 
 -- behind blanks and line feeds the rest is its text
 abbrev pub IsRestOf : Family → Problem → List ℕ → GapPlan → Type 0
@@ -19,7 +19,7 @@ IsRestOf Gaps p rest plan = IsGapRest p rest plan
 
 -- the input is a scenario, and it behind that
 abbrev pub IsInputOf : Family → List ℕ → Problem → GapPlan → Type 0
-IsInputOf family input p plan = (rest : List ℕ) × BeginsWith p input rest × IsRestOf family p rest plan
+IsInputOf family input p plan = HasBehind (IsRestOf family) input p plan
 
 -- it is accepted
 abbrev pub IsAccepted : Family → Problem → GapPlan → Type 0

@@ -64,7 +64,7 @@ refusal_line (BadDuo why) = codes "bad duo: " ++ (duo_name_of why ++ 10 ∷ [])
 refusal_line (TooManyNodes limit) = codes "too many nodes: " ++ decimal limit ++ 10 ∷ []
 
 unfoldable pub line_of : Stop → List ℕ
-line_of Usage = codes "usage: osp plan [--workers N] [--nodes N] / check / report [--json yes] / make NUMBER / drill NUMBER [--workers N] / convert / gap [--workers N] [--nodes N] / replan [--workers N] [--nodes N] flown NAME .. / map flown NAME .. / duo [--workers N] [--nodes N] start NAME\n"
+line_of Usage = codes "usage: osp plan [--workers N] [--nodes N] / check / report [--json yes] / make NUMBER / drill NUMBER [--workers N] / convert / gap [--workers N] [--nodes N] / checkgap / replan [--workers N] [--nodes N] flown NAME .. / map flown NAME .. / duo [--workers N] [--nodes N] start NAME\n"
 line_of ReadFault = codes "read fault\n"
 line_of TooLong = codes "input too long\n"
 line_of (Refused refusal) = refusal_line refusal

@@ -3,7 +3,7 @@ use Rattle.std.specs.Prelude.{ℕ, ◌≡◌, ◌≤◌, ◌<◌, ◌^◌, List,
 use Rattle.std.specs.Global.{Vec}
 use Rattle.plan_command.specs.declared.answer.Answer.{Answer}
 use Rattle.plan_command.specs.declared.request.Request.{Request}
-use Rattle.plan_command.specs.declared.request.Request.TheVariants.{Plan, Check, Report, Make, Drill, Convert, Gap, Replan, Map, Duo}
+use Rattle.plan_command.specs.declared.request.Request.TheVariants.{Plan, Check, Report, Make, Drill, Convert, Gap, CheckGap, Replan, Map, Duo}
 use Rattle.plan_command.specs.declared.request.TheConstants.{MOST_CLOSED}
 use Rattle.plan_command.specs.declared.status.Status.TheVariants.{Done}
 use Rattle.plan_command.specs.declared.status.Stop.{Stop}
@@ -25,6 +25,7 @@ IsAsked words (Make number) = number < 2 ^ 64
 IsAsked words (Drill number workers) = (number < 2 ^ 64) × IsCrew workers
 IsAsked words Convert = Unit {0}
 IsAsked words (Gap workers nodes) = IsSearch MOST_CLOSED workers nodes
+IsAsked words CheckGap = Unit {0}
 IsAsked words (Replan workers nodes flown) = IsSearch MOST_NODES workers nodes × AreFlown (names_behind flown words)
 IsAsked words (Map flown) = AreFlown (names_behind flown words)
 IsAsked words (Duo workers nodes second) = IsSearch MOST_NODES workers nodes

@@ -59,6 +59,10 @@ pub record BeginsWith (p : Problem) (input rest : List ℕ) : Type 0 where
   pub front : IsFront input p bytes
   pub follows : rest ≡ drop bytes input
 
+-- the input begins with the text of this scenario, and behind it stands this
+abbrev pub HasBehind : {A : Type 0} → (Problem → List ℕ → A → Type 0) → List ℕ → Problem → A → Type 0
+HasBehind Stands input p a = (rest : List ℕ) × BeginsWith p input rest × Stands p rest a
+
 -- the rest is blanks and line feeds, and then such a text
 pub record IsRest (IsText : List ℕ → Type 0) (rest : List ℕ) : Type 0 where
   pub blanks : List ℕ

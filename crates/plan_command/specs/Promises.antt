@@ -15,13 +15,15 @@ use Rattle.scenario_text.specs.Canonical.{canonical_text}
 use Rattle.bound_tree.specs.declared.plan.Plan.{Plan as APlan}
 use Rattle.bound_tree.specs.declared.gap.GapPlan.{GapPlan}
 use Rattle.bound_tree.specs.Accepts.{Accepts}
+use Rattle.bound_tree.specs.Gaps.{GapAccepts}
 use Rattle.mission_report.specs.Map.{map_text}
 use Rattle.tree_format.specs.declared.kind.PlanFault.{PlanFault}
 use Rattle.tree_format.specs.PlanText.{IsPlanText2, IsGapText}
 use Rattle.tree_checker.specs.declared.verdict.RejectAt.{RejectAt}
+use Rattle.tree_checker.specs.declared.gap_verdict.GapRejectAt.{GapRejectAt}
 use Rattle.scenario_maker.specs.Made.{made_problem}
 use Rattle.plan_command.specs.declared.request.Request.{Request}
-use Rattle.plan_command.specs.declared.request.Request.TheVariants.{Plan, Check, Report, Make, Drill, Convert, Gap, Replan, Map, Duo}
+use Rattle.plan_command.specs.declared.request.Request.TheVariants.{Plan, Check, Report, Make, Drill, Convert, Gap, CheckGap, Replan, Map, Duo}
 use Rattle.plan_command.specs.declared.status.Status.{Status}
 use Rattle.plan_command.specs.declared.status.Status.TheVariants as statuses
 use Rattle.plan_command.specs.declared.status.Refusal.{Refusal}
@@ -29,12 +31,12 @@ use Rattle.plan_command.specs.declared.status.Refusal.TheVariants.{BadScenario, 
 use Rattle.plan_command.specs.declared.flown.FlownWhy.{FlownWhy}
 use Rattle.plan_command.specs.declared.pairing.DuoWhy.{DuoWhy}
 use Rattle.plan_command.specs.Words.{Spells, SpellNone, limit_of, names_behind}
-use Rattle.plan_command.specs.Lines.{rejection_of, refused_status}
+use Rattle.plan_command.specs.Lines.{rejection_of, gap_rejection_of, refused_status}
 use Rattle.plan_command.specs.Plans.{IsCertified}
-use Rattle.plan_command.specs.GapPlans.{IsGapped}
+use Rattle.plan_command.specs.GapPlans.{IsAbove, IsGapped}
 use Rattle.plan_command.specs.Flown.{IsFlown}
 use Rattle.plan_command.specs.Duos.{Names}
-use Rattle.plan_command.specs.Commands.{IsInput, IsRejected, report_of, IsDrilled, NeedsAccepted, Refuses}
+use Rattle.plan_command.specs.Commands.{IsInput, IsGapInput, IsRejected, IsGapRejected, report_of, IsDrilled, NeedsAccepted, Refuses}
 use Rattle.plan_command.specs.Run.{Call, IsRefusal, IsCutOff}
 use Rattle.plan_command.specs.Complete.{IsHeard, IsUndisturbed, IsWithin, IsLonger, IsFeasible, IsAcceptable, IsRejectable, IsUnlessNoMemory, IsDue, IsByText}
 
@@ -112,6 +114,13 @@ ReadsBest c p plan = (input : List ℕ) × ReadsAll c input × IsInput input p p
 abbrev pub Affirms : Call → Type 0
 Affirms c = Spells c.words Check → ((p : Problem) × (plan : APlan) × ReadsBest c p plan) × Writes c (codes "accepted\n")
 
+-- where a check of a gap plan was asked for, the input is a scenario and a gap plan that is accepted, so that no path finds
+-- more than its ceiling, and it said `accepted`
+abbrev pub AffirmsGap : Call → Type 0
+AffirmsGap c = Spells c.words CheckGap →
+    ((p : Problem) × (plan : GapPlan) × (input : List ℕ) × ReadsAll c input × IsGapInput input p plan × GapAccepts p plan × IsAbove p plan.ceiling)
+    × Writes c (codes "accepted\n")
+
 -- where a report was asked for, it read such an input and reported the plan's path, as lines or as JSON
 abbrev pub Reports : Call → Type 0
 Reports c = (json : Bool) → Spells c.words (Report json) →
@@ -126,8 +135,16 @@ abbrev pub WritesReason : Call → RejectAt → Type 0
 WritesReason c at = (Spells c.words Check × Writes c (rejection_of at)) ⊎ ((request : Request) × NeedsAccepted request × Spells c.words request × WritesNothing c)
 
 -- the input is a scenario and a plan that isn't accepted, for this first reason
+abbrev pub RejectsPlan : Call → Type 0
+RejectsPlan c = (input : List ℕ) × (at : RejectAt) × ReadsAll c input × IsRejected input at × WritesReason c at
+
+-- a check of a gap plan was asked for, and the input is a scenario and one that isn't accepted, for this first reason, which
+-- was written
+abbrev pub RejectsGap : Call → Type 0
+RejectsGap c = Spells c.words CheckGap × ((input : List ℕ) × (at : GapRejectAt) × ReadsAll c input × IsGapRejected input at × Writes c (gap_rejection_of at))
+
 abbrev pub Rejects : Call → Type 0
-Rejects c = (input : List ℕ) × (at : RejectAt) × ReadsAll c input × IsRejected input at × WritesReason c at
+Rejects c = RejectsPlan c ⊎ RejectsGap c
 
 -- where a scenario was asked for, `out` grew by the canonical text of the one that the number makes
 abbrev pub Makes : Call → Type 0
@@ -161,13 +178,15 @@ pub record Keeps (c : Call) (status : Status) : Type 0 where
   pub paired : status ≡ statuses.Done → Pairs c
   -- `check`: it read a plan that is accepted, so that its path is the best
   pub accepted : status ≡ statuses.Done → Affirms c
-  -- `report`, as lines or as JSON, and `convert`: they read the same
+  -- `checkgap`: it read a gap plan that is accepted, so that no path exceeds its ceiling
+  pub accepted_gap : status ≡ statuses.Done → AffirmsGap c
+  -- `report`, as lines or as JSON, and `convert`: they read what `check` reads
   pub reported : status ≡ statuses.Done → Reports c
   pub converted : status ≡ statuses.Done → Converts c
   -- `make` and `drill`: what the number makes
   pub made : status ≡ statuses.Done → Makes c
   pub drilled : status ≡ statuses.Done → Drills c
-  -- Rejected comes only where the input is a scenario and a plan that isn't accepted, for this first reason
+  -- Rejected comes only where the input is a scenario and a plan or gap plan that isn't accepted, for this first reason
   pub rejected : status ≡ statuses.Rejected → Rejects c
   -- Usage comes exactly where the words spell no request
   pub usage : (status ≡ statuses.Usage) ↔ SpellNone c.words
@@ -192,7 +211,7 @@ pub record Completes (c : Call) (status : Status) : Type 0 where
   pub complete : (request : Request) (input : List ℕ) → IsUndisturbed c request input → IsDue c.words request input status
   -- so what is asked of a scenario is written, where what is planned has no more live prefixes than the limit,
   pub finishes : (request : Request) (input : List ℕ) → IsUndisturbed c request input → IsFeasible c.words request input → IsUnlessNoMemory statuses.Done status
-  -- a plan that is accepted is told to be, reported, or written anew,
+  -- a plan that is accepted is told to be, reported, or written anew, and a gap plan that is accepted is told to be,
   pub accepts : (request : Request) (input : List ℕ) → IsUndisturbed c request input → IsAcceptable request input → IsUnlessNoMemory statuses.Done status
   -- one that isn't is rejected,
   pub rejects : (request : Request) (input : List ℕ) → IsUndisturbed c request input → IsRejectable request input → IsUnlessNoMemory statuses.Rejected status

@@ -8,7 +8,7 @@ use Rattle.exact_parts.specs.declared.number.Number.TheVariants.{NotPlain, Above
 use Rattle.exact_parts.specs.Decimal.{number_at}
 use Rattle.search_model.specs.Names.{is_name_byte}
 use Rattle.plan_command.specs.declared.request.Request.{Request}
-use Rattle.plan_command.specs.declared.request.Request.TheVariants.{Plan, Check, Report, Make, Drill, Convert, Gap, Replan, Map, Duo}
+use Rattle.plan_command.specs.declared.request.Request.TheVariants.{Plan, Check, Report, Make, Drill, Convert, Gap, CheckGap, Replan, Map, Duo}
 use Rattle.plan_command.specs.declared.request.TheConstants.{WORKERS, MOST_WORKERS, MOST_CLOSED, MOST_FLOWN}
 use Rattle.bound_tree.specs.declared.tree.TheConstants.{MOST_NODES}
 
@@ -128,6 +128,7 @@ request_at (command ∷ words) =
     (if bytes_eq command (codes "drill") then drill_at words else
     (if bytes_eq command (codes "convert") then alone_at Convert words else
     (if bytes_eq command (codes "gap") then gap_at words else
+    (if bytes_eq command (codes "checkgap") then alone_at CheckGap words else
     (if bytes_eq command (codes "replan") then replan_at words else
     (if bytes_eq command (codes "map") then map_at words else
-    (if bytes_eq command (codes "duo") then duo_at words else None)))))))))
+    (if bytes_eq command (codes "duo") then duo_at words else None))))))))))

@@ -5,7 +5,7 @@ use Rattle.std.specs.declared.option.Option.TheVariants.{Some, None}
 use Rattle.std.specs.Fmt.{decimal}
 use Rattle.search_model.specs.Names.{IsName}
 use Rattle.plan_command.specs.declared.request.Request.{Request}
-use Rattle.plan_command.specs.declared.request.Request.TheVariants.{Plan, Check, Report, Make, Drill, Convert, Gap, Replan, Map, Duo}
+use Rattle.plan_command.specs.declared.request.Request.TheVariants.{Plan, Check, Report, Make, Drill, Convert, Gap, CheckGap, Replan, Map, Duo}
 use Rattle.plan_command.specs.declared.request.TheConstants.{MOST_WORKERS, MOST_CLOSED, MOST_FLOWN, MOST_SCENARIO, MOST_JUDGED}
 use Rattle.plan_command.specs.Options.{IsRow}
 use Rattle.bound_tree.specs.declared.tree.TheConstants.{MOST_NODES}
@@ -32,6 +32,7 @@ Spells words (Make number) = (number < 2 ^ 64) × (words ≡ codes "make" ∷ de
 Spells words (Drill number workers) = (number < 2 ^ 64) × IsRow (codes "drill" ∷ decimal number ∷ []) 0 workers 0 [] words
 Spells words Convert = words ≡ codes "convert" ∷ []
 Spells words (Gap workers nodes) = IsRow (codes "gap" ∷ []) MOST_CLOSED workers nodes [] words
+Spells words CheckGap = words ≡ codes "checkgap" ∷ []
 Spells words (Replan workers nodes flown) =
     AreFlown (names_behind flown words)
     × IsRow (codes "replan" ∷ []) MOST_NODES workers nodes (codes "flown" ∷ names_behind flown words) words
@@ -43,10 +44,11 @@ Spells words (Duo workers nodes second) =
 abbrev pub SpellNone : List (List ℕ) → Type 0
 SpellNone words = (request : Request) → Spells words request → ⊥
 
--- What a request reads: the text of a scenario alone, a scenario and a plan behind it, or nothing.
+-- What a request reads: the text of a scenario alone, a scenario and a plan or a gap plan behind it, or nothing.
 pub data Family : Type 0 where
   of_scenario : Family
   of_plan : Family
+  of_gap : Family
   of_nothing : Family
 
 abbrev pub family_of : Request → Family
@@ -57,6 +59,7 @@ family_of (Make number) = of_nothing
 family_of (Drill number workers) = of_nothing
 family_of Convert = of_plan
 family_of (Gap workers nodes) = of_scenario
+family_of CheckGap = of_gap
 family_of (Replan workers nodes flown) = of_scenario
 family_of (Map flown) = of_scenario
 family_of (Duo workers nodes second) = of_scenario
@@ -65,6 +68,7 @@ family_of (Duo workers nodes second) = of_scenario
 abbrev pub limit_at : Family → Option ℕ
 limit_at of_scenario = Some MOST_SCENARIO
 limit_at of_plan = Some MOST_JUDGED
+limit_at of_gap = Some MOST_JUDGED
 limit_at of_nothing = None
 
 abbrev pub limit_of : Request → Option ℕ

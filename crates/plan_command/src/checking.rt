@@ -1,11 +1,11 @@
-//! The commands `check` and `report`, and the check of a gap plan.
+//! The commands `check`, `checkgap` and `report`.
 
 ghost use Rattle.std.specs.Prelude.{◌≡◌, ◌++◌, ℕ, List, Some, IfOk, OnOk, Ok};
 ghost use Rattle.search_model.specs.Legal.{IsPath};
 ghost use Rattle.tree_format.specs.declared.plan_line.Family.TheVariants as texts;
 ghost use Rattle.tree_checker.specs.declared.verdict.RejectAt.{RejectAt as PlainLem};
 ghost use Rattle.tree_checker.specs.GapReasons.{plain_at};
-ghost use Rattle.plan_command.specs.Checks.{TellsVerdict, ChecksGap};
+ghost use Rattle.plan_command.specs.Checks.{TellsVerdict};
 ghost use Rattle.plan_command.specs.Intakes.{Judges};
 ghost use Rattle.plan_command.specs.Commands.{report_of};
 ghost use Rattle.plan_command.specs.Lines.{gap_rejection_of};
@@ -58,8 +58,9 @@ pub fn answer_check(alloc: Global, judgement: Judgement) -> Result<Answer, Stop>
 }
 
 /// The verdict on the gap plan that follows the scenario in the input.
-pub fn answer_checkgap(alloc: Global, judgement: Judgement) -> Result<Answer, Stop>
-    ensures { (input : List ℕ) → Judges texts.Gaps input (Ok judgement) → ChecksGap input result }
+pub fn answer_check_gap(alloc: Global, judgement: Judgement) -> Result<Answer, Stop>
+    ensures { (words : List (List ℕ)) (input : List ℕ) → Judges texts.Gaps input (Ok judgement)
+        → MakesOf words Request.CheckGap input result }
 {
     tell_verdict(alloc, judgement.verdict)
 }

@@ -1,14 +1,13 @@
 //! What each request makes of its input, which is read as it is needed.
 
 ghost use Rattle.std.specs.Prelude.{◌≡◌, ◌<◌, ◌^◌, ℕ, List, Some, None, length, map, string_bytes};
-ghost use Rattle.plan_command.specs.Checks.{ChecksGap};
 ghost use Rattle.plan_command.specs.Inputs.{source_view, InputOf, ReadsAnd};
 ghost use Rattle.plan_command.specs.Intakes.{Judges};
 ghost use Rattle.plan_command.specs.Makes.{MakesOf, IsAsked};
 ghost use Rattle.plan_command.specs.Words.{family_of, of_scenario, limit_of};
 
 use crate::answer::{Answer, answer_scenario};
-use crate::checking::{answer_check, answer_checkgap, answer_report};
+use crate::checking::{answer_check, answer_check_gap, answer_report};
 use crate::converting::answer_convert;
 use crate::drilling::{answer_drill, answer_make};
 use crate::intake::{Intake, Judgement};
@@ -88,17 +87,13 @@ fn check_input<S: Source>(alloc: Global, source: &mut S) -> Result<Answer, Stop>
     }
 }
 
-/// The verdict on the gap plan behind the scenario in the input, of which no more is kept than the scenario.
-///
-/// # Errors
-///
-/// `ReadFault` or `TooLong` where the input wasn't read to its end; else its first fault, or `NoMemory`.
-pub fn check_gap_input<S: Source>(alloc: Global, source: &mut S) -> Result<Answer, Stop>
-    ensures { ReadsAnd (Some MOST_JUDGED) (source_view S.left S.faults source.old)
-        (source_view S.left S.faults source.new) ChecksGap result }
+// What `checkgap` makes of its input.
+fn check_gap_input<S: Source>(alloc: Global, source: &mut S) -> Result<Answer, Stop>
+    ensures { (words : List (List ℕ)) → ReadsAnd (Some MOST_JUDGED) (source_view S.left S.faults source.old)
+        (source_view S.left S.faults source.new) (MakesOf words Request.CheckGap) result }
 {
     match judge_input(alloc, Family::Gaps, source) {
-        Ok(judgement) => answer_checkgap(alloc, judgement),
+        Ok(judgement) => answer_check_gap(alloc, judgement),
         Err(stop) => Err(stop),
     }
 }
@@ -159,6 +154,7 @@ pub fn answer_for<R: AllocGlobal + Threads + Wait + Sync, S: Source, G: Gate>(
 {
     match request {
         Request::Check => check_input(rt.alloc(), source),
+        Request::CheckGap => check_gap_input(rt.alloc(), source),
         Request::Report { json } => report_input(rt.alloc(), json, source),
         Request::Convert => convert_input(rt.alloc(), source),
         Request::Make { number } => answer_make(rt.alloc(), number),

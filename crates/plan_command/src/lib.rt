@@ -31,8 +31,7 @@ mod words;
 pub use answer::Answer;
 pub use bound_tree::MOST_NODES;
 pub use flown::FlownWhy;
-pub use input::check_gap_input;
-pub use laws::what_is_planned_is_accepted;
+pub use laws::{what_is_gapped_is_accepted, what_is_planned_is_accepted};
 pub use made_laws::{
     made_is_accepted, pair_refused_for_one_reason, paired_is_best, refused_for_one_reason,
     replanned_is_best,

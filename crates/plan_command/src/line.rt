@@ -111,7 +111,7 @@ fn put_line(stop: Stop, to: &mut [u8; ROOM]) -> usize
         Stop::Usage => append(
             to,
             0,
-            b"usage: osp plan [--workers N] [--nodes N] / check / report [--json yes] / make NUMBER / drill NUMBER [--workers N] / convert / gap [--workers N] [--nodes N] / replan [--workers N] [--nodes N] flown NAME .. / map flown NAME .. / duo [--workers N] [--nodes N] start NAME\n",
+            b"usage: osp plan [--workers N] [--nodes N] / check / report [--json yes] / make NUMBER / drill NUMBER [--workers N] / convert / gap [--workers N] [--nodes N] / checkgap / replan [--workers N] [--nodes N] flown NAME .. / map flown NAME .. / duo [--workers N] [--nodes N] start NAME\n",
         ),
         Stop::ReadFault => append(to, 0, b"read fault\n"),
         Stop::TooLong => append(to, 0, b"input too long\n"),

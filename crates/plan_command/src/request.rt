@@ -32,6 +32,8 @@ pub enum Request {
         workers: u32,
         nodes: u64,
     },
+    /// `checkgap`: check the gap plan that follows the scenario in the input.
+    CheckGap,
     /// `replan [--workers N] [--nodes N] flown NAME ..`: plan the scenario of the input behind the prefix of the names, which
     /// stand from this word on; the command is word 0.
     Replan {
@@ -66,5 +68,5 @@ pub const MOST_FLOWN: usize = 32;
 /// How many bytes the scenario of `plan` may have.
 pub const MOST_SCENARIO: usize = 1_048_576;
 
-/// How many bytes a scenario and the plan behind it may have.
+/// How many bytes a scenario and the plan or gap plan behind it may have.
 pub const MOST_JUDGED: usize = 336_592_896;

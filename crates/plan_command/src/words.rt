@@ -218,6 +218,8 @@ fn command_request(command: &str, words: &[String]) -> Option<Request>
         request_alone(Request::Convert, words)
     } else if is_word(command, "gap") {
         gap_request(words)
+    } else if is_word(command, "checkgap") {
+        request_alone(Request::CheckGap, words)
     } else if is_word(command, "replan") {
         replan_request(words)
     } else if is_word(command, "map") {

@@ -1,4 +1,4 @@
--- The text of a plan is the same for problems that are the same search.
+-- The text of a plan or of a gap plan is the same for problems that are the same search.
 use Rattle.std.proofs.Common.{ℕ, ◌≡◌, List, [], ◌∷◌, map, inl, inr, refl, ap, ◌∙◌}
 use Rattle.std.proofs.lemmas.List.Elements.{All-weaker}
 use Rattle.search_model.specs.Problem.{Problem, position_name}
@@ -9,12 +9,12 @@ use Rattle.bound_tree.specs.declared.node.Kind.TheVariants.{Branch, Whole, Mean,
 use Rattle.bound_tree.specs.declared.node.TreeNode.{TreeNode}
 use Rattle.bound_tree.specs.declared.plan.Plan.{Plan}
 use Rattle.bound_tree.specs.declared.gap.GapPlan.{GapPlan}
-use Rattle.bound_tree.specs.Gaps.{gap_of}
+use Rattle.bound_tree.specs.Gaps.{shape_of, gap_of}
 use Rattle.bound_tree.proofs.SamePlans.{in_place_same}
 use Rattle.tree_format.specs.declared.plan_line.Dialect.{Dialect}
-use Rattle.tree_format.specs.declared.plan_line.Dialect.TheVariants.{One, Two}
-use Rattle.tree_format.specs.PlanText.{text_in, ArePositions, IsPrintableKind, IsPrintableRecord, IsPrintable, IsTextOfPlan}
-use Rattle.tree_format.specs.TextLaws.{SameSearchSameTexts}
+use Rattle.tree_format.specs.declared.plan_line.Dialect.TheVariants.{One, Two, Gap}
+use Rattle.tree_format.specs.PlanText.{text_in, ArePositions, IsPrintableKind, IsPrintableRecord, IsPrintable, IsTextOfPlan, IsPrintableGap, IsGapText}
+use Rattle.tree_format.specs.TextLaws.{SameSearchSameTexts, SameSearchSameGapText}
 
 module _ (p o : Problem) (same : AreSame p o) where
   places_same : (q : List ℕ) → ArePositions p q → ArePositions o q
@@ -54,5 +54,25 @@ module _ (p o : Problem) (same : AreSame p o) where
     spelled = two.spelled ∙ text_same Two (gap_of plan);
   })
 
+  gap_same : (plan : GapPlan) → IsPrintableGap p plan → IsPrintableGap o plan
+  gap_same plan printable = record {
+    some = printable.some;
+    short = printable.short;
+    positions = places_same plan.standing.path printable.positions;
+    few = printable.few;
+    kinds = All-weaker (λ node. IsPrintableKind p (shape_of node).kind) (λ node. IsPrintableKind o (shape_of node).kind) (λ node printable. kind_same (shape_of node).kind printable) plan.nodes printable.kinds;
+  }
+
+  gap_text_same : (plan : GapPlan) (text : List ℕ) → IsGapText p plan text → IsGapText o plan text
+  gap_text_same plan text is = record {
+    printable = gap_same plan is.printable;
+    narrow = is.narrow;
+    in_place = in_place_same p o same ([] ∷ []) (map shape_of plan.nodes) is.in_place;
+    spelled = is.spelled ∙ text_same Gap plan;
+  }
+
 pub same_search_same_texts : SameSearchSameTexts
 same_search_same_texts p o plan text same is = plan_text_same p o same plan text is
+
+pub same_search_same_gap_text : SameSearchSameGapText
+same_search_same_gap_text p o plan text same is = gap_text_same p o same plan text is

@@ -2,7 +2,7 @@
 
 ghost use Rattle.tree_format.specs.KindTable.{KindsByTable};
 ghost use Rattle.tree_format.specs.ReadingLaws.{PlanTextReadsBack, PlanText2ReadsBack, GapTextReadsBack, OneTextAPlan, OneTextAGap, OnePlanAText, OneGapAText, FirstFaultDecides, SummaryDecides};
-ghost use Rattle.tree_format.specs.TextLaws.{PlanTextIsShort, SameSearchSameTexts};
+ghost use Rattle.tree_format.specs.TextLaws.{PlanTextIsShort, SameSearchSameTexts, SameSearchSameGapText};
 
 /// The text of version 1 of a plan without edge bounds reads back as that plan.
 #[tactic(auto, using(crate::proofs::ReadsBack::plan_text_reads_back))]
@@ -69,7 +69,8 @@ pub fn plan_text_is_short()
     ensures { PlanTextIsShort }
 {}
 
-/// A text of a plan is one for each scenario that is the same search.
+/// A text of a plan is one for each scenario that is the same search, and so is the text of a gap plan.
 pub fn same_search_same_texts()
-    ensures { SameSearchSameTexts }
+    ensures plans { SameSearchSameTexts }
+    ensures gaps { SameSearchSameGapText }
 {}

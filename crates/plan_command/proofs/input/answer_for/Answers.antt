@@ -8,6 +8,9 @@ use Rattle.plan_command.proofs.input.answer_for.Goals as goal
 pub returns-in-Check-clause-made : goal.returns-in-Check-clause-made
 returns-in-Check-clause-made g c = rw c.in-Check.is (c.check_input.ensures (map string_bytes c.args.words.now))
 
+pub returns-in-CheckGap-clause-made : goal.returns-in-CheckGap-clause-made
+returns-in-CheckGap-clause-made g c = rw c.in-CheckGap.is (c.check_gap_input.ensures (map string_bytes c.args.words.now))
+
 pub returns-in-Report-clause-made : goal.returns-in-Report-clause-made
 returns-in-Report-clause-made g c = rw c.in-Report.is (c.report_input.ensures (map string_bytes c.args.words.now))
 

@@ -1,17 +1,19 @@
-use Rattle.std.proofs.Common.{Some}
+use Rattle.std.proofs.Common.{Some, refl}
+use Rattle.plan_command.specs.declared.request.Request.TheVariants.{CheckGap}
+use Rattle.tree_format.specs.declared.plan_line.Family.TheVariants.{Gaps}
 use Rattle.plan_command.specs.declared.request.TheConstants.{MOST_JUDGED}
 use Rattle.plan_command.specs.Inputs.{Source, source_view}
-use Rattle.plan_command.proofs.Inputs.{gap_answered, gap_stopped}
+use Rattle.plan_command.proofs.Inputs.{judge_answered, judge_stopped}
 use Rattle.plan_command.proofs.input.check_gap_input.Goals as goal
 
 pub returns-in-Ok : goal.returns-in-Ok
-returns-in-Ok g c =
+returns-in-Ok g c = λ words.
     let before : Source = source_view g.S.Source.left g.S.Source.faults c.args.source.now in
     let after : Source = source_view g.S.Source.left g.S.Source.faults c.judge_input.new.source in
-    gap_answered (Some MOST_JUDGED) before after c.in-Ok.judgement c.answer_checkgap.result c.in-Ok.ensures c.answer_checkgap.ensures
+    judge_answered Gaps words CheckGap (Some MOST_JUDGED) before after c.in-Ok.judgement c.answer_check_gap.result c.in-Ok.ensures (c.answer_check_gap.ensures words)
 
 pub returns-in-Err : goal.returns-in-Err
-returns-in-Err g c =
+returns-in-Err g c = λ words.
     let before : Source = source_view g.S.Source.left g.S.Source.faults c.args.source.now in
     let after : Source = source_view g.S.Source.left g.S.Source.faults c.judge_input.new.source in
-    gap_stopped (Some MOST_JUDGED) before after c.in-Err.stop c.in-Err.ensures
+    judge_stopped Gaps words CheckGap (Some MOST_JUDGED) before after c.in-Err.stop refl c.in-Err.ensures

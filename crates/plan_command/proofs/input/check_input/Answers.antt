@@ -1,5 +1,6 @@
 use Rattle.std.proofs.Common.{Some, refl}
 use Rattle.plan_command.specs.declared.request.Request.TheVariants.{Check}
+use Rattle.tree_format.specs.declared.plan_line.Family.TheVariants.{Plans}
 use Rattle.plan_command.specs.declared.request.TheConstants.{MOST_JUDGED}
 use Rattle.plan_command.specs.Inputs.{Source, source_view}
 use Rattle.plan_command.proofs.Inputs.{judge_answered, judge_stopped}
@@ -9,10 +10,10 @@ pub returns-in-Ok : goal.returns-in-Ok
 returns-in-Ok g c = λ words.
     let before : Source = source_view g.S.Source.left g.S.Source.faults c.args.source.now in
     let after : Source = source_view g.S.Source.left g.S.Source.faults c.judge_input.new.source in
-    judge_answered words Check (Some MOST_JUDGED) before after c.in-Ok.judgement c.answer_check.result c.in-Ok.ensures (c.answer_check.ensures words)
+    judge_answered Plans words Check (Some MOST_JUDGED) before after c.in-Ok.judgement c.answer_check.result c.in-Ok.ensures (c.answer_check.ensures words)
 
 pub returns-in-Err : goal.returns-in-Err
 returns-in-Err g c = λ words.
     let before : Source = source_view g.S.Source.left g.S.Source.faults c.args.source.now in
     let after : Source = source_view g.S.Source.left g.S.Source.faults c.judge_input.new.source in
-    judge_stopped words Check (Some MOST_JUDGED) before after c.in-Err.stop refl c.in-Err.ensures
+    judge_stopped Plans words Check (Some MOST_JUDGED) before after c.in-Err.stop refl c.in-Err.ensures

@@ -1,0 +1,5 @@
+use Rattle.plan_command.proofs.Planned.{gapped_is_accepted, gapped_behind_canonical, gapped_is_within}
+use Rattle.plan_command.proofs.laws.what_is_gapped_is_accepted.Goals as goal
+
+pub returns : goal.returns
+returns c = record { accepted = gapped_is_accepted; canonical = gapped_behind_canonical; within = gapped_is_within }
