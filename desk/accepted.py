@@ -114,7 +114,7 @@ def head(rest, sc):
     reader = forms.PlanReader(sc)
     for at, line in enumerate(rest.lstrip(b" \t\r\n").split(b"\n", 4)[:4], 1):
         reader.take(line, at)
-    return 2 if reader.second else 1, reader.plan
+    return 1 if reader.dialect.has_prefixes else 2, reader.plan
 
 
 def agree(sc, report, told):

@@ -1,5 +1,6 @@
-"""A reader of scenarios and plans of its own, written from docs/FORMATS.md and not from the program."""
+"""A reader of scenarios, plans and gap plans of its own, written from docs/FORMATS.md and not from the program."""
 import re
+from typing import NamedTuple
 
 # What any line may hold that says something.
 TEXT = frozenset(range(0x20, 0x7F)) | {9, 13}
@@ -9,6 +10,7 @@ MOST_PART = 1_000_000
 MOST_CELLS = 200
 MOST_MOVES = 64
 MOST_NODES = 1_048_576
+MOST_GAP_NODES = 4_194_305
 
 
 class Fault(Exception):
@@ -293,8 +295,31 @@ def read_scenario(text, alone):
     return reader.sc, text[used:]
 
 
+class Dialect(NamedTuple):
+    """What the dialects of plan text differ in: the keywords of the lines before the records, the most records, their letters, and
+    whether their prefixes stand on their lines."""
+
+    head: tuple
+    most: int
+    letters: tuple
+    has_prefixes: bool
+
+    def line_of(self, record):
+        """The line of the record of a number from 0 on, behind the first line and the head."""
+        return 2 + len(self.head) + record
+
+
+# Each family of texts: its dialects by their first lines.
+PLANS = {
+    b"plan 1": Dialect((b"path", b"chance", b"nodes"), MOST_NODES, (b"B", b"W", b"M", b"T"), True),
+    b"plan 2": Dialect((b"path", b"chance", b"nodes"), MOST_NODES, (b"B", b"W", b"M", b"T", b"E"), False),
+}
+GAPS = {b"gap 1": Dialect((b"path", b"chance", b"ceiling", b"nodes"), MOST_GAP_NODES, (b"B", b"W", b"M", b"T", b"E", b"O"), False)}
+
+
 class Plan:
-    """A plan: its path, value and weight, and of each record the letter, the number if any, the prefix and the reference."""
+    """A plan or a gap plan: its dialect, path, value and weight, its ceiling, which is the value of a plan, and of each record the
+    letter, the number if any, the prefix and the reference."""
 
 
 def wide(field):
@@ -305,66 +330,76 @@ def wide(field):
 
 
 class PlanReader:
-    """Takes the lines of a plan, one after another."""
+    """Takes the lines of a text of one of the families, one after another."""
 
     # For each letter, whether a number stands before its positions, and the least and most horizons of positions.
-    RECORDS = {b"B": (0, 0, 1), b"W": (1, 0, 1), b"M": (1, 0, 1), b"T": (1, 1, 2), b"E": (1, 0, 1)}
+    RECORDS = {b"B": (0, 0, 1), b"W": (1, 0, 1), b"M": (1, 0, 1), b"T": (1, 1, 2), b"E": (1, 0, 1), b"O": (1, 0, 1)}
 
-    def __init__(self, sc):
-        self.sc = sc
+    def __init__(self, sc, family=PLANS):
+        self.sc, self.family = sc, family
         self.positions = {b"%d" % it: it for it in range(len(sc.positions))}
         self.plan = Plan()
         self.plan.records = []
         self.ended = False
-        self.second = False
-        # In version 2, the prefixes that are expected, the next one last.
+        # Where prefixes are left out, those that are expected, the next one last.
         self.expected = [[]]
 
     def take(self, line, at):
         if at == 1:
-            need(line in (b"plan 1", b"plan 2"), "BadLine")
-            self.second = line == b"plan 2"
+            need(line in self.family, "BadLine")
+            self.dialect = self.plan.dialect = self.family[line]
             return
         word, *fields = line.split(b" ")
         need(all(fields), "BadLine")
-        if at == 2:
-            self.take_path(word, fields)
-        elif at == 3:
-            need(word == b"chance" and len(fields) == 2, "BadLine")
-            self.plan.value, self.plan.weight = [wide(it) for it in fields]
-        elif at == 4:
-            need(word == b"nodes" and len(fields) == 1, "BadLine")
-            self.plan.nodes = wide(fields[0])
-            need(self.plan.nodes <= MOST_NODES, "TooManyNodes")
+        if at < self.dialect.line_of(0):
+            need(word == self.dialect.head[at - 2], "BadLine")
+            getattr(self, "take_" + word.decode())(fields)
         elif word == b"end":
-            need(not fields, "BadLine")
-            need(len(self.plan.records) == self.plan.nodes, "WrongCount")
-            need(not (self.second and self.expected), "StillOpen")
-            self.ended = True
+            self.take_end(fields)
         else:
             self.take_record(word, fields)
 
-    def take_path(self, word, fields):
-        need(word == b"path" and 1 <= len(fields) <= 32, "BadLine")
+    def take_path(self, fields):
+        need(1 <= len(fields) <= 32, "BadLine")
         need(all(it in self.sc.positions for it in fields), "UnknownName")
         self.plan.path = [self.sc.positions.index(it) for it in fields]
 
+    def take_chance(self, fields):
+        need(len(fields) == 2, "BadLine")
+        self.plan.value, self.plan.weight = [wide(it) for it in fields]
+        self.plan.ceiling = self.plan.value
+
+    def take_ceiling(self, fields):
+        need(len(fields) == 1, "BadLine")
+        self.plan.ceiling = wide(fields[0])
+
+    def take_nodes(self, fields):
+        need(len(fields) == 1, "BadLine")
+        self.plan.nodes = wide(fields[0])
+        need(self.plan.nodes <= self.dialect.most, "TooManyNodes")
+
+    def take_end(self, fields):
+        need(not fields, "BadLine")
+        need(len(self.plan.records) == self.plan.nodes, "WrongCount")
+        need(self.dialect.has_prefixes or not self.expected, "StillOpen")
+        self.ended = True
+
     def take_record(self, word, fields):
-        need(word in self.RECORDS and (self.second or word != b"E"), "BadLine")
+        need(word in self.dialect.letters, "BadLine")
         count, least, most = self.RECORDS[word]
-        most = least if self.second else most
+        most = most if self.dialect.has_prefixes else least
         need(count + least * self.sc.horizon <= len(fields) <= count + most * self.sc.horizon, "BadLine")
         bound = wide(fields[0]) if count else None
         need(all(it in self.positions for it in fields[count:]), "BadNumber")
         need(len(self.plan.records) < self.plan.nodes, "WrongCount")
-        need(not self.second or self.expected, "NoPlace")
+        need(self.dialect.has_prefixes or self.expected, "NoPlace")
         named = [self.positions[it] for it in fields[count:]]
         ends = len(named) - least * self.sc.horizon
-        prefix = self.place(word) if self.second else named[:ends]
+        prefix = named[:ends] if self.dialect.has_prefixes else self.place(word)
         self.plan.records.append((word, bound, prefix, named[ends:]))
 
     def place(self, word):
-        """The prefix of a record of version 2: the one that is expected."""
+        """The prefix of a record that leaves it out: the one that is expected."""
         prefix = self.expected.pop()
         if word == b"B" and len(prefix) < self.sc.horizon:
             self.expected += [[*prefix, it] for it in reversed(self.sc.moves[prefix[-1] if prefix else self.sc.start])]
@@ -380,10 +415,10 @@ def in_version_1(text, sc):
     return b"\n".join([b"plan 1", *text.split(b"\n")[1:4], *(b" ".join(it) for it in rows), b"end", b""])
 
 
-def read_plan(text, sc):
-    """The plan that a text is, or its first fault."""
+def read_plan(text, sc, family=PLANS):
+    """The plan that a text of a family is, or its first fault."""
     *lines, rest = text.split(b"\n")
-    reader = PlanReader(sc)
+    reader = PlanReader(sc, family)
     for at, line in enumerate(lines, 1):
         if reader.ended:
             raise Fault(at, "Rest")

@@ -1,4 +1,4 @@
-"""A checker of plans of its own, written from docs/FORMATS.md and from what the bounds are, by exact whole numbers."""
+"""A checker of plans and gap plans of its own, written from docs/FORMATS.md and from what the bounds are, by exact whole numbers."""
 from desk import paths
 
 
@@ -117,8 +117,15 @@ def right(sc, letter, prefix, path):
     return {b"M": mean, b"E": edge}[letter](sc, prefix) if letter in (b"M", b"E") else tangent(sc, prefix, path)
 
 
+def ceiling(sc, prefix):
+    """What no path finds more than that begins with a prefix: the value of a whole path, and else the mean bound."""
+    return paths.value(sc, prefix) if len(prefix) == sc.horizon else mean(sc, prefix)
+
+
 def reason(sc, plan, letter, bound, prefix, path):
     """What is wrong with a record in itself, if anything."""
+    if letter == b"O":
+        return "WaitingWrong" if bound != ceiling(sc, prefix) else None
     if (letter == b"W") != (len(prefix) == sc.horizon) or letter == b"W" and bound != paths.value(sc, prefix):
         return "WholeWrong"
     if letter == b"W":
@@ -142,12 +149,18 @@ def head_reason(sc, plan):
     return (3, "WeightWrong") if plan.weight != paths.weight(sc) else None
 
 
+def last_reason(plan):
+    """The line of the ceiling and what is wrong with it, if anything: it is the greatest of the value and the numbers that wait."""
+    waiting = [bound for letter, bound, *_ in plan.records if letter == b"O"]
+    return (4, "CeilingWrong") if plan.ceiling != max([plan.value, *waiting]) else None
+
+
 def first_reason(sc, plan):
-    """The line and the first reason against a plan, if any."""
+    """The line and the first reason against a plan or a gap plan, if any."""
     if wrong := head_reason(sc, plan):
         return wrong
     due = [[]]
-    for line, (letter, bound, prefix, path) in enumerate(plan.records, 5):
+    for line, (letter, bound, prefix, path) in enumerate(plan.records, plan.dialect.line_of(0)):
         if not due or prefix < due[-1]:
             return line, "NotChild"
         if prefix > due[-1]:
@@ -157,4 +170,4 @@ def first_reason(sc, plan):
         due.pop()
         if letter == b"B":
             due += [[*prefix, it] for it in reversed(sc.moves[prefix[-1] if prefix else sc.start])]
-    return (5 + len(plan.records), "MissingChild") if due else None
+    return (plan.dialect.line_of(len(plan.records)), "MissingChild") if due else last_reason(plan)

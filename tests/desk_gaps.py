@@ -1,0 +1,187 @@
+"""Tests of gap plans as the desk reads and checks them: texts worked by hand, each kind of fault and each reason, and that plans and gap
+plans are two families of one grammar. `python3 -m unittest tests.desk_gaps`, or tests/desk."""
+import os
+import sys
+import unittest
+
+sys.dont_write_bytecode = True
+sys.path.insert(0, os.path.dirname(os.path.realpath(__file__)))
+
+from made import ROW  # noqa: E402
+from pages import example  # noqa: E402
+
+from desk import forms, paths, verdict  # noqa: E402
+
+CELLS, LONGER = example("two-cells")[0], example("waiting-longer")[0]
+
+
+def gap(head, nodes):
+    """A gap text by its path, chance and ceiling, and by its nodes."""
+    path, chance, ceiling = head.split(", ")
+    rows = nodes.split(", ")
+    return "\n".join(["gap 1", f"path {path}", f"chance {chance}", f"ceiling {ceiling}", f"nodes {len(rows)}", *rows, "end", ""]).encode()
+
+
+# The beginnings of docs/BOUNDS.md, and below c what it branches to: a whole path that isn't better, and one that waits.
+WAITS = gap("b c c, 6 8, 8", "B, M 4, O 8, O 8")
+BELOW = gap("b c c, 6 8, 8", "B, M 4, O 8, B, M 6, B, W 6, O 7")
+ACCEPTED = [
+    (ROW, gap("a a, 3 9, 6", "B, O 3, O 6")),
+    (LONGER, WAITS),
+    (LONGER, BELOW),
+    (LONGER, gap("c c c, 7 8, 8", "B, M 4, T 12 1 2 2, O 8")),
+    (LONGER, gap("c c c, 7 8, 8", "B, M 4, E 6, O 8")),
+    (LONGER, gap("c c c, 7 8, 12", "O 12")),
+    (CELLS, gap("a a, 12 16, 16", "O 16")),
+    # Nodes wait, and no path finds more than the plan's, which isn't the best; then fewer wait, and at last none.
+    (CELLS, gap("a b, 12 16, 12", "B, B, O 12, O 12, O 12")),
+    (CELLS, gap("a a, 12 16, 12", "B, B, W 12, W 12, O 12")),
+    (CELLS, gap("a a, 12 16, 12", "B, B, W 12, W 12, M 12")),
+]
+# What is put in the place of what, and the first reason then.
+REASONS = [
+    (WAITS, "b c c", "b c a", 2, "PathIllegal"),
+    (WAITS, "b c c", "b c", 2, "PathIllegal"),
+    (WAITS, "6 8", "7 8", 3, "ValueWrong"),
+    (WAITS, "6 8", "6 9", 3, "WeightWrong"),
+    (WAITS, "ceiling 8", "ceiling 7", 4, "CeilingWrong"),
+    (WAITS, "ceiling 8", "ceiling 6", 4, "CeilingWrong"),
+    (WAITS, "ceiling 8", f"ceiling {2**128 - 1}", 4, "CeilingWrong"),
+    (WAITS, "M 4", "M 5", 7, "BoundWrong"),
+    (WAITS, "M 4", "W 4", 7, "WholeWrong"),
+    (WAITS, "M 4\nO 8", "O 4\nM 8", 8, "NotCut"),
+    (WAITS, "M 4\nO 8", "M 4\nT 12 1 2 0", 8, "ReferenceWrong"),
+    (WAITS, "O 8\nO 8", "O 8\nO 9", 9, "WaitingWrong"),
+    (WAITS, "O 8\nO 8", "O 7\nO 9", 8, "WaitingWrong"),
+    (WAITS, "M 4\nO 8\nO 8", "O 4\nO 8\nO 6", 9, "WaitingWrong"),
+    # A wrong number that waits goes before a wrong ceiling, also where they agree.
+    (gap("b c c, 6 8, 9", "B, M 4, O 8, O 9"), "", "", 9, "WaitingWrong"),
+    (BELOW, "O 7", "O 8", 13, "WaitingWrong"),
+    (BELOW, "O 7", "W 7", 13, "NotCut"),
+    (BELOW, "O 7", "M 7", 13, "WholeWrong"),
+    (BELOW, "O 7", "B", 13, "WholeWrong"),
+    (BELOW, "W 6", "W 7", 12, "WholeWrong"),
+    (BELOW, "M 6", "E 7", 10, "BoundWrong"),
+    (gap("c c c, 7 8, 8", "B, M 4, E 6, M 8"), "", "", 9, "NotCut"),
+    (gap("a b, 12 16, 12", "B, B, W 12, W 12, M 12"), "", "", 8, "NotCut"),
+]
+# What is put in the place of what in WAITS, and the first fault then.
+FAULTS = [
+    ("gap 1", "gap 2", 1, "BadLine"),
+    ("gap 1", "gap", 1, "BadLine"),
+    ("gap 1", "gap  1", 1, "BadLine"),
+    ("gap 1", "gap 1 ", 1, "BadLine"),
+    ("gap 1", "plan 2", 1, "BadLine"),
+    ("path b c c", "path", 2, "BadLine"),
+    ("path b c c", "path b x c", 2, "UnknownName"),
+    ("chance 6 8", "chance 6", 3, "BadLine"),
+    ("chance 6 8", "chance 06 8", 3, "BadNumber"),
+    ("ceiling 8\n", "", 4, "BadLine"),
+    ("ceiling 8\nnodes 4", "nodes 4\nceiling 8", 4, "BadLine"),
+    ("ceiling 8", "ceiling", 4, "BadLine"),
+    ("ceiling 8", "ceiling 8 8", 4, "BadLine"),
+    ("ceiling 8", "ceiling  8", 4, "BadLine"),
+    ("ceiling 8", "ceiling x", 4, "BadNumber"),
+    ("ceiling 8", f"ceiling {2**128}", 4, "BadNumber"),
+    ("nodes 4", "nodes 4194306", 5, "TooManyNodes"),
+    ("nodes 4", "nodes 4194305", 10, "WrongCount"),
+    ("nodes 4", f"nodes {2**128}", 5, "BadNumber"),
+    ("nodes 4", "ceiling 8", 5, "BadLine"),
+    ("nodes 4", "nodes 3", 9, "WrongCount"),
+    ("nodes 4", "nodes 5", 10, "WrongCount"),
+    ("B\n", "B 0\n", 6, "BadLine"),
+    ("M 4", "M 4 0", 7, "BadLine"),
+    ("M 4", "M", 7, "BadLine"),
+    ("M 4", "O", 7, "BadLine"),
+    ("M 4", "O 4 0", 7, "BadLine"),
+    ("M 4", "O -4", 7, "BadNumber"),
+    ("M 4", "P 4", 7, "BadLine"),
+    ("M 4", "T 8 0 0 3", 7, "BadNumber"),
+    ("nodes 4\nB\nM 4", "nodes 3\nB", 9, "StillOpen"),
+    ("nodes 4\nB\nM 4", "nodes 5\nB\nO 4\nO 4", 10, "NoPlace"),
+    ("end\n", "end", 10, "EarlyEnd"),
+    ("end\n", "", 10, "EarlyEnd"),
+    ("end\n", "end\n\n", 11, "Rest"),
+    ("end\n", "end 1\n", 10, "BadLine"),
+    (WAITS.decode(), "", 1, "EarlyEnd"),
+]
+
+
+def read(text):
+    """The scenario of a text."""
+    return forms.read_scenario(text, True)[0]
+
+
+def as_gap(plan):
+    """The gap text of a plan whose text of version 2 this is."""
+    _, path, chance, *rest = plan.split(b"\n")
+    return b"\n".join([b"gap 1", path, chance, b"ceiling " + chance.split(b" ")[1], *rest])
+
+
+class Gaps(unittest.TestCase):
+    def fault(self, text, sc, family):
+        with self.assertRaises(forms.Fault) as found:
+            forms.read_plan(text, sc, family)
+        return found.exception.line, found.exception.kind
+
+    def test_gap_plans_that_are_accepted(self):
+        """Of each, no path finds more than the ceiling, and its own is the best where none waits."""
+        for text, given in ACCEPTED:
+            with self.subTest(given=given):
+                sc = read(text)
+                plan = forms.read_plan(given, sc, forms.GAPS)
+                self.assertIsNone(verdict.first_reason(sc, plan))
+                best = paths.best(sc)
+                self.assertLessEqual(best[0], plan.ceiling)
+                if b"O" not in [letter for letter, *_ in plan.records]:
+                    self.assertEqual((plan.ceiling, (plan.value, plan.path)), (plan.value, best))
+
+    def test_each_reason(self):
+        for given, old, new, line, why in REASONS:
+            with self.subTest(old=old, new=new):
+                sc = read(CELLS if b" 16\n" in given else LONGER)
+                text = given.decode().replace(old, new, 1).encode() if old else given
+                self.assertEqual(verdict.first_reason(sc, forms.read_plan(text, sc, forms.GAPS)), (line, why))
+
+    def test_a_tangent_where_looks_have_two_rates(self):
+        sc = read(LONGER.replace(b"overlook b 1", b"overlook b 0"))
+        plan = forms.read_plan(gap("c c c, 7 8, 8", "B, M 4, T 12 1 2 2, O 8"), sc, forms.GAPS)
+        self.assertEqual(verdict.first_reason(sc, plan), (8, "NoOneRate"))
+
+    def test_each_fault(self):
+        for old, new, line, kind in FAULTS:
+            with self.subTest(old=old, new=new):
+                text = WAITS.decode()
+                self.assertIn(old, text)
+                self.assertEqual(self.fault(text.replace(old, new, 1).encode(), read(LONGER), forms.GAPS), (line, kind))
+
+    def test_each_front_ends_early(self):
+        for end in range(len(BELOW)):
+            front = BELOW[:end]
+            self.assertEqual(self.fault(front, read(LONGER), forms.GAPS), (front.count(b"\n") + 1, "EarlyEnd"))
+
+    def test_two_families(self):
+        sc = read(LONGER)
+        self.assertEqual(self.fault(WAITS, sc, forms.PLANS), (1, "BadLine"))
+        for version in (b"plan 1", b"plan 2"):
+            self.assertEqual(self.fault(WAITS.replace(b"gap 1", version), sc, forms.PLANS), (4, "BadLine"))
+        plan = example("waiting-longer")[1]
+        for text in (plan, forms.in_version_1(plan, sc)):
+            self.assertEqual(self.fault(text, sc, forms.GAPS), (1, "BadLine"))
+        waits = plan.replace(b"M 4", b"O 4")
+        self.assertNotEqual(waits, plan)
+        self.assertEqual(self.fault(waits, sc, forms.PLANS), (6, "BadLine"))
+
+    def test_plans_in_which_none_waits(self):
+        """A plan's gap text is accepted as the plan is, and its reasons stand a line further down."""
+        for name in ("two-cells", "waiting-longer", "waiting-target", "uneven-overlook", "night", "tide", "swath", "lake-with-island"):
+            scenario, text = example(name)
+            sc = read(scenario)
+            self.assertIsNone(verdict.first_reason(sc, forms.read_plan(as_gap(text), sc, forms.GAPS)))
+            wrong = text.replace(b"\nM ", b"\nE ")
+            line, why = verdict.first_reason(sc, forms.read_plan(wrong, sc)) or (0, None)
+            self.assertEqual(verdict.first_reason(sc, forms.read_plan(as_gap(wrong), sc, forms.GAPS)) or (1, None), (line + 1, why))
+
+
+if __name__ == "__main__":
+    unittest.main()
