@@ -1,9 +1,9 @@
-"""The plan that one worker makes, by exact whole numbers. Written from the rules, over desk/ and nothing of the program.
+"""The plan, or the gap plan, that one worker makes, by exact whole numbers. Written from the rules, over desk/ and nothing of the program.
 
 One worker's plan follows from the rules: it closes the last prefix of its private stack, or else the first task of its own
 deque, under the best standing that it knows by then. The children of a prefix that branches and is shorter than half the horizon
 go into the deque, all but the least; all others go on the stack, the least of them on top. Where the horizon is 4 or more a
-scout flies first.
+scout flies first. Where only so many records may be made, the prefixes that are left then wait.
 """
 import collections
 
@@ -59,9 +59,9 @@ class Worker:
         else:
             self.stack += [*reversed(others), least]
 
-    def go(self):
-        """Closes prefixes until there are none."""
-        while self.stack or self.deque:
+    def go(self, most=None):
+        """Closes prefixes until there are none, or so many are closed."""
+        while (self.stack or self.deque) and len(self.records) != most:
             prefix = self.stack.pop() if self.stack else self.deque.popleft()
             letter, rest = closed(self.sc, prefix, self.standing)
             self.records[tuple(prefix)] = letter, rest
@@ -72,21 +72,43 @@ class Worker:
         return self
 
 
-def text_of(sc, worker):
-    """The plan as text of version 2."""
+def lines_of(sc, worker, first, more, records):
+    """A plan's text with this first line, and more lines behind the chance."""
     value, path = worker.standing
-    yield "plan 2"
+    yield first
     yield " ".join(["path", *(sc.positions[it].decode() for it in path)])
     yield f"chance {value} {paths.weight(sc)}"
-    yield f"nodes {len(worker.records)}"
-    for _, (letter, rest) in sorted(worker.records.items()):
+    yield from more
+    yield f"nodes {len(records)}"
+    for _, (letter, rest) in sorted(records.items()):
         yield " ".join([letter, *map(str, rest)])
     yield "end"
 
 
+def text_of(sc, worker):
+    """The plan as text of version 2."""
+    return lines_of(sc, worker, "plan 2", [], worker.records)
+
+
+def gap_of(sc, worker):
+    """The gap plan as text: what the worker has left waits, with what no path below it exceeds."""
+    waiting = {tuple(it): ("O", [verdict.ceiling(sc, it)]) for it in [*worker.stack, *worker.deque]}
+    ceiling = max([worker.standing[0], *(number for _, (number,) in waiting.values())])
+    return lines_of(sc, worker, "gap 1", [f"ceiling {ceiling}"], {**worker.records, **waiting})
+
+
+def as_bytes(lines):
+    return "".join(f"{it}\n" for it in lines).encode()
+
+
 def plan_text(sc):
     """The plan's text as bytes, which `plan --workers 1` writes."""
-    return "".join(f"{it}\n" for it in text_of(sc, Worker(sc).go())).encode()
+    return as_bytes(text_of(sc, Worker(sc).go()))
+
+
+def gap_text(sc, most):
+    """The gap plan's text as bytes, which `gap --workers 1` writes with so many records at most."""
+    return as_bytes(gap_of(sc, Worker(sc).go(most)))
 
 
 def made_text(sc, command, names):
