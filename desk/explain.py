@@ -41,12 +41,13 @@ def asked(words, given, told):
 def program_verdict(scenario, plan):
     """The program's status and its verdict on a scenario, or on a scenario and a plan.
 
-    `check` reads up to the line `end`; where it finds a fault in the scenario, `plan` is asked of the scenario alone, so that the
+    `check`, and `checkgap` where a gap plan was given, reads up to the line `end`; where it finds a fault in the scenario, `plan` is asked of the scenario alone, so that the
     line is one of this file. `plan` with one record at most is quick: it refuses a wrong text, and else ends with 0 or 8.
     """
     told = []
     if plan is not None:
-        status, line = asked(["check"], accepted.joined(scenario, plan), told)
+        word = "checkgap" if rejection.family_of(plan) is forms.GAPS else "check"
+        status, line = asked([word], accepted.joined(scenario, plan), told)
         if status != BAD_SCENARIO:
             return status, line
     status, line = asked(["plan", "--workers", "1", "--nodes", "1"], scenario[: MOST_SCENARIO + 1], told)
@@ -104,7 +105,11 @@ def of_right(text, plan=None):
         sc, _ = forms.read_scenario(text, plan is None)
     except forms.Fault as fault:
         return [OWN.format(f"bad scenario: {fault}")]
-    told = advice.warnings(sc) + (advice.about_plan(sc, forms.read_plan(plan, sc)) if plan and len(plan) < rejection.MOST_BYTES else [])
+    told = advice.warnings(sc)
+    if plan and len(plan) < rejection.MOST_BYTES:
+        read = forms.read_plan(plan, sc, rejection.family_of(plan))
+        # Of a gap plan whose path may not be the best nothing is said.
+        told += advice.about_plan(sc, read) if read.ceiling == read.value else []
     return [f"perhaps not meant: {it}" for it in told]
 
 

@@ -1,13 +1,13 @@
-"""Why a plan isn't accepted, in words: what stands at the line that the program names, and what would be right there."""
+"""Why a plan or a gap plan isn't accepted, in words: what stands at the line that the program names, and what would be right there."""
 from desk import forms, paths, quoting, verdict
 
 # The longest plan that is read here, in bytes, and the longest of which all records are checked, in records times cells times
 # periods: each takes some seconds.
 MOST_BYTES = 64 << 20
 MOST_CHECKED = 400_000
-RECORDS = {b"B": "a branch", b"W": "a whole path", b"M": "a mean bound", b"T": "a tangent bound", b"E": "an edge bound"}
+RECORDS = {b"B": "a branch", b"W": "a whole path", b"M": "a mean bound", b"T": "a tangent bound", b"E": "an edge bound", b"O": "a prefix that waits"}
 BOUNDS = {b"M": "mean", b"T": "tangent", b"E": "edge"}
-PLAN = "a plan isn't mended by hand: `./osp plan` makes it anew"
+PLAN = "a plan isn't mended by hand: `./osp plan` makes it anew, and `./osp gap` a gap plan"
 
 
 def path_of(sc, path):
@@ -18,6 +18,16 @@ def path_of(sc, path):
 def beginning(sc, prefix):
     """A prefix in words."""
     return f"the paths that begin with {path_of(sc, prefix)}" if prefix else "all paths"
+
+
+def family_of(text):
+    """Whether a text is to be one of a gap plan or of a plan, by its first word."""
+    return forms.GAPS if text.lstrip(b" \t\r\n").startswith(b"gap") else forms.PLANS
+
+
+def number_of(plan, line):
+    """The number of the record in a line, from 0 on."""
+    return line - plan.dialect.line_of(0)
 
 
 def due_before(sc, plan, count):
@@ -52,23 +62,23 @@ def about_weight(sc, plan, _line):
 
 def about_missing(sc, plan, line):
     """A prefix that has no record."""
-    due = due_before(sc, plan, line - 5)
+    due = due_before(sc, plan, number_of(plan, line))
     said = f"a record for {beginning(sc, due[-1])} is due here" if due else "a record is due here"
-    if line - 5 < len(plan.records):
-        return f"{said}, and one for {beginning(sc, plan.records[line - 5][2])} stands in its place: a path without record may be better"
+    if number_of(plan, line) < len(plan.records):
+        return f"{said}, and one for {beginning(sc, plan.records[number_of(plan, line)][2])} stands in its place: a path without record may be better"
     return f"{said}, and `end` stands in its place: a path without record may be better"
 
 
 def about_extra(sc, plan, line):
     """A record whose prefix isn't due."""
-    due = due_before(sc, plan, line - 5)
-    said = f"this record is for {beginning(sc, plan.records[line - 5][2])}, "
+    due = due_before(sc, plan, number_of(plan, line))
+    said = f"this record is for {beginning(sc, plan.records[number_of(plan, line)][2])}, "
     return said + (f"and one for {beginning(sc, due[-1])} is due here" if due else "and none is due any more")
 
 
 def about_whole(sc, plan, line):
     """A record of a whole path with a wrong length or value."""
-    letter, stated, prefix, _ = plan.records[line - 5]
+    letter, stated, prefix, _ = plan.records[number_of(plan, line)]
     if letter != b"W":
         return f"{RECORDS[letter]} stands at {path_of(sc, prefix)}, which is a whole path: it takes a record W with its value"
     if len(prefix) != sc.horizon:
@@ -82,13 +92,13 @@ def about_rate(sc, _plan, _line):
 
 
 def about_reference(sc, plan, line):
-    _, _, prefix, path = plan.records[line - 5]
+    _, _, prefix, path = plan.records[number_of(plan, line)]
     return f"the tangent's path {path_of(sc, path)} isn't a legal path that belongs to {beginning(sc, prefix)}"
 
 
 def about_bound(sc, plan, line):
     """A bound that isn't the prefix's."""
-    letter, stated, prefix, path = plan.records[line - 5]
+    letter, stated, prefix, path = plan.records[number_of(plan, line)]
     right = verdict.right(sc, letter, prefix, path)
     way = "less: a better path might hide behind it" if stated < right else "more"
     return f"{RECORDS[letter]} of {stated} is stated for {beginning(sc, prefix)}; the right one is {right}, and what is stated is {way}"
@@ -96,13 +106,26 @@ def about_bound(sc, plan, line):
 
 def about_cut(sc, plan, line):
     """A record that leaves room for a better path."""
-    letter, stated, prefix, _ = plan.records[line - 5]
+    letter, stated, prefix, _ = plan.records[number_of(plan, line)]
     if letter == b"W":
         better = "more" if stated > plan.value else "as much, and has smaller position numbers"
         return f"the path {path_of(sc, prefix)} finds {stated}, which is {better}: the plan's path finds {plan.value} and isn't the best"
     value = plan.value * (sc.parts[2] if letter == b"T" else 1)
     what = f"the plan's path finds {plan.value}" + (f", {value} in the tangent's parts" if letter == b"T" else "")
     return f"the {BOUNDS[letter]} bound of {beginning(sc, prefix)} is {stated}, and {what}: it leaves room for a better path, so that records below are needed"
+
+
+def about_waiting(sc, plan, line):
+    """A number of a prefix that waits which isn't its ceiling."""
+    _, stated, prefix, _ = plan.records[number_of(plan, line)]
+    right = verdict.ceiling(sc, prefix)
+    way = "less: a better path might hide behind it" if stated < right else "more"
+    return f"{beginning(sc, prefix)} wait with the number {stated}; what none of them exceeds is {right}, and what is stated is {way}"
+
+
+def about_ceiling(_sc, plan, _line):
+    waiting = [bound for letter, bound, *_ in plan.records if letter == b"O"]
+    return f"`ceiling` states {plan.ceiling}, and the greatest of the path's value and of the numbers that wait is {max([plan.value, *waiting])}"
 
 
 ABOUT = {
@@ -116,6 +139,8 @@ ABOUT = {
     "ReferenceWrong": about_reference,
     "BoundWrong": about_bound,
     "NotCut": about_cut,
+    "WaitingWrong": about_waiting,
+    "CeilingWrong": about_ceiling,
 }
 
 
@@ -132,7 +157,7 @@ def because(sc, text, line, why):
     if len(text) > MOST_BYTES:
         return [f"the plan has {len(text):,} bytes, too many for this helper to look into it"]
     try:
-        plan = forms.read_plan(text, sc)
+        plan = forms.read_plan(text, sc, family_of(text))
         told = [ABOUT[why](sc, plan, line), second_opinion(sc, plan, line, why)]
     except (forms.Fault, KeyError, IndexError) as fault:
         return [f"this helper can't follow the program's reason ({fault!r}): please tell the project, with both files"]
@@ -145,7 +170,7 @@ BAD = {
     "EarlyEnd": "the plan ends in the middle: it was cut off",
     "BadLine": "this isn't the line that is due here",
     "BadNumber": "a field isn't a whole number as the plan's text has it, or not the number of a position",
-    "TooManyNodes": f"more than {forms.MOST_NODES:,} records are announced",
+    "TooManyNodes": "more than {most:,} records are announced",
     "WrongCount": "the number of records isn't that of the line `nodes`",
     "Rest": "something stands behind `end`",
     "NoPlace": "this record is one too many: no path is left for it",
@@ -166,7 +191,8 @@ def no_plan(sc, text, line, kind):
         return f"this scenario has no position {quoting.listed(lacking)}: is it the plan of another one?"
     if kind == "BadLine" and line == 1:
         hint = ": that is a scenario; the scenario comes first, and then the plan" if here.startswith((b"scenario", b"#")) else ""
-        return f"a plan begins with `plan 1` or `plan 2`{hint}"
+        return f"a plan begins with `plan 1` or `plan 2`, and a gap plan with `gap 1`{hint}"
     if kind == "BadLine" and not here:
         return "the line is empty, and a plan has no empty lines"
-    return f"{BAD[kind]}; {PLAN}"
+    most = max(it.most for it in family_of(text).values())
+    return f"{BAD[kind].format(most=most)}; {PLAN}"

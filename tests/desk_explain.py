@@ -622,6 +622,17 @@ class Rejections(Asked):
             with self.subTest(verdict):
                 self.said(self.TWO, plan, verdict, part)
 
+    def test_gap_plans(self):
+        """A text that begins as one of a gap plan is asked of `checkgap`, and its records begin a line later."""
+        gap = read(f"{EXAMPLES}/two-cells.gap")
+        status, out = self.ran(self.write("s", self.TWO), self.write("p", gap))
+        self.assertEqual((status, out), (0, "accepted\n"))
+        self.said(self.TWO, gap.replace(b"ceiling 12", b"ceiling 13"), "rejected 4 CeilingWrong", "line 4: ceiling 13", "states 13, and the greatest", "is 12")
+        self.said(self.TWO, gap.replace(b"O 12\nend", b"O 11\nend"), "rejected 8 WaitingWrong", "line 8: O 11", "the paths that begin with b wait with the number 11", "exceeds is 12", "less: a better path")
+        self.said(self.TWO, gap.replace(b"O 12\nend", b"M 11\nend"), "rejected 8 BoundWrong", "the right one is 12")
+        self.said(self.TWO, gap.replace(b"nodes 3", b"nodes 5000000"), "bad plan: line 5 TooManyNodes", "more than 4,194,305 records")
+        self.said(self.TWO, gap.replace(b"gap 1", b"gap 2"), "bad plan: line 1 BadLine", "and a gap plan with `gap 1`")
+
     def test_a_long_plan(self):
         """Where a plan is too long to be checked here, that is said; the record that the program names is still explained."""
         with mock.patch.object(rejection, "MOST_CHECKED", 1):
