@@ -17,7 +17,7 @@ pub mod Feedings
 pub mod BytesFed
 pub mod FedPieces
 pub mod FedLaws
-pub mod Drafts
 pub mod Placements
 pub mod SameTexts
 pub mod TextLengths
+pub mod ItemsKept

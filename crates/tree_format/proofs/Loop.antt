@@ -10,16 +10,12 @@ use Rattle.tree_format.specs.declared.due.Due.{Due}
 use Rattle.tree_format.specs.declared.plan_line.Stage.{Stage}
 use Rattle.tree_format.specs.declared.plan_line.Stage.TheVariants as due
 use Rattle.tree_format.specs.declared.plan_line.PlanLine.{PlanLine}
-use Rattle.tree_format.specs.declared.draft.Draft.{Draft}
 use Rattle.tree_format.specs.declared.kind.PlanKind.{PlanKind}
 use Rattle.tree_format.specs.declared.kind.PlanKind.TheVariants.{EarlyEnd, Rest}
 use Rattle.tree_format.specs.declared.kind.PlanFault.{PlanFault}
-use Rattle.tree_format.specs.declared.stop.PlanStop.{PlanStop}
-use Rattle.tree_format.specs.declared.stop.PlanStop.TheVariants.{Fault, NoMemory}
 use Rattle.text_rows.specs.Lines.{pieces_of}
 use Rattle.text_rows.specs.Fields.{exact_fields}
 use Rattle.text_rows.proofs.Splits.{some_piece, split_nothing, some_left}
-use Rattle.tree_format.specs.Gives.{Adds, TakesLine, Gives, gap_in}
 use Rattle.tree_format.specs.Reading.{line_at, pieces_at, is_ended, next, taken, at_line_number}
 
 unended : (stage : Stage) → (stage ≡ due.Ended → ⊥) → is_ended stage ≡ false
@@ -71,20 +67,6 @@ module _ (p : Problem) (number : ℕ) (d : Due) (plan : GapPlan) where
         | inr e ↦ sym so_far ∙ ap (pieces_at p number d plan) e ∙ onto_left (pieces_of cs) c ended
       ]
 
-  -- reading stopped at a line
-  pub at_stop : (old new : Draft) (stop : PlanStop) (rest line after : List ℕ) (all : Result GapPlan PlanFault) → (d.stage ≡ due.Ended → ⊥) → pieces_of rest ≡ line ∷ pieces_of after → TakesLine p number old new (Err stop) (line_at p d (exact_fields line)) → pieces_at p number d plan (pieces_of rest) ≡ all → Gives (Err stop) all
-  at_stop old new (Fault fault) rest line after all goes e f so_far = at_fault f.0 rest line after all goes e f.1 so_far ∙ ap Err (sym f.2)
-  at_stop old new NoMemory rest line after all goes e f so_far = tt
-
--- a line was added to a draft
-pub at_added : (p : Problem) (number : ℕ) (old new : Draft) (rest line after : List ℕ) (all : Result GapPlan PlanFault) → (old.due.stage ≡ due.Ended → ⊥) → pieces_of rest ≡ line ∷ pieces_of after → (said : PlanLine) × (line_at p old.due (exact_fields line) ≡ Ok said) × Adds p old new said → pieces_at p number old.due (gap_in old) (pieces_of rest) ≡ all → pieces_at p (number + 1) new.due (gap_in new) (pieces_of after) ≡ all
-at_added p number old new rest line after all goes e f so_far =
-    ap (λ (d : Due). pieces_at p (number + 1) d (gap_in new) (pieces_of after)) f.2.due
-    ∙ ap (λ (plan : GapPlan). pieces_at p (number + 1) (next p old.due f.0) plan (pieces_of after)) f.2.plan
-    ∙ at_line p number old.due (gap_in old) f.0 rest line after all goes e f.1 so_far
-
 -- a test that the end was read failed
 pub goes_on : (ended : Bool) (stage : Stage) → (stage ≡ due.Ended → IsTrue ended) → ended ≡ false → stage ≡ due.Ended → ⊥
 goes_on ended stage test failed e = let yes_ended = test e in grind (arith, common_steps)
-
-pub ruleset loop_steps = (at_stop, at_added, at_early, at_end, at_rest)

@@ -3,32 +3,19 @@ use Rattle.std.specs.Prelude.{◌≡◌, ℕ, List, Result, Ok, Err}
 use Rattle.search_model.specs.Problem.{Problem}
 use Rattle.bound_tree.specs.declared.plan.Plan.{Plan}
 use Rattle.bound_tree.specs.declared.gap.GapPlan.{GapPlan}
-use Rattle.tree_format.specs.declared.draft.Draft.{Draft}
-use Rattle.tree_format.specs.declared.kind.PlanKind.{PlanKind}
+use Rattle.tree_format.specs.declared.collecting.Collected.{Collected}
 use Rattle.tree_format.specs.declared.kind.PlanFault.{PlanFault}
-use Rattle.tree_format.specs.declared.plan_line.PlanLine.{PlanLine}
 use Rattle.tree_format.specs.declared.stop.PlanStop.{PlanStop}
 use Rattle.tree_format.specs.declared.stop.PlanStop.TheVariants.{Fault, NoMemory}
-use Rattle.tree_format.specs.Reading.{plan_at, gap_at, next, taken, at_line_number}
+use Rattle.tree_format.specs.Reading.{plan_at, gap_at}
 
--- the gap plan of what a draft has read
-abbrev pub gap_in : Draft → GapPlan
-gap_in d = record { standing = record { path = d.path; value = d.value }; weight = d.weight; ceiling = d.ceiling; nodes = d.nodes.items }
+-- the gap plan of what was collected
+abbrev pub gap_in : Collected → GapPlan
+gap_in c = record { standing = c.standing; weight = c.weight; ceiling = c.ceiling; nodes = c.nodes.items }
 
--- a line was added, unless memory ran out
-pub record Adds (p : Problem) (old new : Draft) (line : PlanLine) : Type 0 where
-  pub due : new.due ≡ next p old.due line
-  pub plan : gap_in new ≡ taken (gap_in old) line
-
--- the line of this number was added, or has that fault, unless memory ran out
-abbrev pub TakesLine : Problem → ℕ → Draft → Draft → Result (Unit {0}) PlanStop → Result PlanLine PlanKind → Type 0
-TakesLine p number old new (Ok _) said = (line : PlanLine) × (said ≡ Ok line) × Adds p old new line
-TakesLine p number old new (Err (Fault fault)) said = (kind : PlanKind) × (said ≡ Err kind) × (fault ≡ at_line_number number kind)
-TakesLine p number old new (Err NoMemory) said = Unit {0}
-
--- the text was read as its lines are, or has that fault, unless memory ran out
-abbrev pub Gives : Result Draft PlanStop → Result GapPlan PlanFault → Type 0
-Gives (Ok draft) read = read ≡ Ok (gap_in draft)
+-- what the text says was collected, or it has that fault, unless memory ran out
+abbrev pub Gives : Result Collected PlanStop → Result GapPlan PlanFault → Type 0
+Gives (Ok collected) read = read ≡ Ok (gap_in collected)
 Gives (Err (Fault fault)) read = read ≡ Err fault
 Gives (Err NoMemory) read = Unit {0}
 

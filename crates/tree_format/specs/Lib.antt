@@ -13,3 +13,4 @@ pub mod KindTable
 pub mod ReadingLaws
 pub mod Placing
 pub mod TextLaws
+pub mod Collecting

@@ -1,17 +1,14 @@
 //! A line more.
 
-ghost use Rattle.std.specs.Prelude.{◌≡◌, OnOk, All};
+ghost use Rattle.std.specs.Prelude.{◌≡◌, All};
 ghost use Rattle.search_model.specs.Legal.{IsLegal};
-ghost use Rattle.tree_format.specs.Reading.{next, taken, places_behind, behind_chance as behind_chance_lem, one_less as one_less_lem};
+ghost use Rattle.tree_format.specs.Reading.{next, places_behind, behind_chance as behind_chance_lem, one_less as one_less_lem};
 ghost use Rattle.tree_format.specs.Dialects.{prefixes_in as prefixes_in_lem};
-ghost use Rattle.tree_format.specs.Gives.{Adds, gap_in};
 
 use crate::dialects::{has_ceiling, prefixes_in};
-use crate::draft::Draft;
 use crate::due::Due;
 use crate::plan_line::{Dialect, PlanLine, Prefixes, Stage};
-use bound_tree::{GapKind, GapNode};
-use exact_parts::NoMemory;
+use bound_tree::GapKind;
 use search_model::Scenario;
 
 // One record less is left.
@@ -71,36 +68,4 @@ pub fn pass_line(due: &mut Due, sc: &Scenario, said: &PlanLine)
         PlanLine::Node(node) => pass_record(due, sc, &node.kind),
         PlanLine::End => due.stage = Stage::Ended,
     }
-}
-
-// Keeps what a line says of the plan.
-fn keep(draft: &mut Draft, said: &PlanLine) -> Result<(), NoMemory>
-    ensures due { OnOk result (draft.new.due ≡ draft.old.due) }
-    ensures plan { OnOk result (gap_in draft.new ≡ taken (gap_in draft.old) said.now) }
-{
-    match said {
-        PlanLine::Path(path) => draft.path = *path,
-        PlanLine::Chance(value, weight) => {
-            draft.value = *value;
-            draft.weight = *weight;
-            draft.ceiling = *value;
-        }
-        PlanLine::Ceiling(ceiling) => draft.ceiling = *ceiling,
-        PlanLine::Node(GapNode { prefix, kind }) => draft.nodes.push(GapNode {
-            prefix: *prefix,
-            kind: *kind,
-        })?,
-        PlanLine::Version(_) | PlanLine::Count(_) | PlanLine::End => {}
-    }
-    Ok(())
-}
-
-/// Adds what a line says to what was read.
-pub fn add_line(draft: &mut Draft, sc: &Scenario, said: &PlanLine) -> Result<(), NoMemory>
-    requires { All (IsLegal sc.now) draft.old.due.expected }
-    ensures { OnOk result (Adds sc.now draft.old draft.new said.now) }
-{
-    keep(draft, said)?;
-    pass_line(&mut draft.due, sc, said);
-    Ok(())
 }

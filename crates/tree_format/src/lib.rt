@@ -2,8 +2,8 @@
 #![tactic(auto)]
 
 mod adding;
+mod collecting;
 mod dialects;
-mod draft;
 mod due;
 mod feed;
 mod feed_laws;

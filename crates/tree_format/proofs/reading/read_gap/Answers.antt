@@ -4,36 +4,36 @@ use Rattle.tree_format.proofs.Spelled.{one_text_a_gap}
 use Rattle.tree_format.proofs.Answered.{gap_said, gap_stop_read, gap_told_first, gap_first_told}
 use Rattle.tree_format.proofs.reading.read_gap.Goals as goal
 
-pub returns-in_err-draft-clause-exact : goal.returns-in_err-draft-clause-exact
-returns-in_err-draft-clause-exact c = λ plan k.
-    let stop = c.in_err-draft.field-0.0 in
+pub returns-in_err-kept-clause-exact : goal.returns-in_err-kept-clause-exact
+returns-in_err-kept-clause-exact c = λ plan k.
+    let stop = c.in_err-kept.field-0.0 in
     let is : c.from_residual.result ≡ Err stop = grind (arith, common_steps, c.from_residual.ensures.0, c.from_residual.ensures.1) in
-    rw is (gap_said c.args.sc.now c.cells-cells.ensures.sound plan c.args.text.now (Err stop) (gap_stop_read c.args.sc.now c.args.text.now stop c.in_err-draft.ensures) k)
+    rw is (gap_said c.args.sc.now c.cells-cells.ensures.sound plan c.args.text.now (Err stop) (gap_stop_read c.args.sc.now c.args.text.now stop c.in_err-kept.ensures) k)
 
 pub returns-clause-spelled : goal.returns-clause-spelled
 returns-clause-spelled c =
-    one_text_a_gap c.args.sc.now c.gap_from.result c.args.text.now c.cells-cells.ensures.sound (c.in_ok-draft.ensures ∙ ap Ok (sym c.gap_from.ensures))
+    one_text_a_gap c.args.sc.now c.gap_from.result c.args.text.now c.cells-cells.ensures.sound (c.in_ok-kept.ensures ∙ ap Ok (sym c.gap_from.ensures))
 
 pub returns-clause-printable : goal.returns-clause-printable
 returns-clause-printable c =
-    (one_text_a_gap c.args.sc.now c.gap_from.result c.args.text.now c.cells-cells.ensures.sound (c.in_ok-draft.ensures ∙ ap Ok (sym c.gap_from.ensures))).printable
+    (one_text_a_gap c.args.sc.now c.gap_from.result c.args.text.now c.cells-cells.ensures.sound (c.in_ok-kept.ensures ∙ ap Ok (sym c.gap_from.ensures))).printable
 
 pub returns-clause-exact : goal.returns-clause-exact
 returns-clause-exact c = λ plan k.
-    gap_said c.args.sc.now c.cells-cells.ensures.sound plan c.args.text.now (Ok c.gap_from.result) (c.in_ok-draft.ensures ∙ ap Ok (sym c.gap_from.ensures)) k
+    gap_said c.args.sc.now c.cells-cells.ensures.sound plan c.args.text.now (Ok c.gap_from.result) (c.in_ok-kept.ensures ∙ ap Ok (sym c.gap_from.ensures)) k
 
-pub returns-in_err-draft-clause-first : goal.returns-in_err-draft-clause-first
-returns-in_err-draft-clause-first c =
-    let stop = c.in_err-draft.field-0.0 in
+pub returns-in_err-kept-clause-first : goal.returns-in_err-kept-clause-first
+returns-in_err-kept-clause-first c =
+    let stop = c.in_err-kept.field-0.0 in
     let is : c.from_residual.result ≡ Err stop = grind (arith, common_steps, c.from_residual.ensures.0, c.from_residual.ensures.1) in
-    rw is (gap_told_first c.args.sc.now c.args.text.now (Err stop) (gap_stop_read c.args.sc.now c.args.text.now stop c.in_err-draft.ensures))
+    rw is (gap_told_first c.args.sc.now c.args.text.now (Err stop) (gap_stop_read c.args.sc.now c.args.text.now stop c.in_err-kept.ensures))
 
-pub returns-in_err-draft-clause-faulty : goal.returns-in_err-draft-clause-faulty
-returns-in_err-draft-clause-faulty c = λ fault h.
-    let stop = c.in_err-draft.field-0.0 in
+pub returns-in_err-kept-clause-faulty : goal.returns-in_err-kept-clause-faulty
+returns-in_err-kept-clause-faulty c = λ fault h.
+    let stop = c.in_err-kept.field-0.0 in
     let is : c.from_residual.result ≡ Err stop = grind (arith, common_steps, c.from_residual.ensures.0, c.from_residual.ensures.1) in
-    rw is (gap_first_told c.args.sc.now c.args.text.now (Err stop) fault (gap_stop_read c.args.sc.now c.args.text.now stop c.in_err-draft.ensures) h)
+    rw is (gap_first_told c.args.sc.now c.args.text.now (Err stop) fault (gap_stop_read c.args.sc.now c.args.text.now stop c.in_err-kept.ensures) h)
 
 pub returns-clause-faulty : goal.returns-clause-faulty
 returns-clause-faulty c = λ fault h.
-    gap_first_told c.args.sc.now c.args.text.now (Ok c.gap_from.result) fault (c.in_ok-draft.ensures ∙ ap Ok (sym c.gap_from.ensures)) h
+    gap_first_told c.args.sc.now c.args.text.now (Ok c.gap_from.result) fault (c.in_ok-kept.ensures ∙ ap Ok (sym c.gap_from.ensures)) h

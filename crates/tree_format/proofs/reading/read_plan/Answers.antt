@@ -5,37 +5,37 @@ use Rattle.tree_format.proofs.Spelled.{one_text_a_plan}
 use Rattle.tree_format.proofs.Answered.{printable_read, plan_said, stop_read, told_first, first_told}
 use Rattle.tree_format.proofs.reading.read_plan.Goals as goal
 
-pub returns-in_err-draft-clause-exact : goal.returns-in_err-draft-clause-exact
-returns-in_err-draft-clause-exact c = λ plan k.
-    let stop = c.in_err-draft.field-0.0 in
+pub returns-in_err-kept-clause-exact : goal.returns-in_err-kept-clause-exact
+returns-in_err-kept-clause-exact c = λ plan k.
+    let stop = c.in_err-kept.field-0.0 in
     let is : c.from_residual.result ≡ Err stop = grind (arith, common_steps, c.from_residual.ensures.0, c.from_residual.ensures.1) in
-    rw is (plan_said c.args.sc.now c.cells-cells.ensures.sound plan c.args.text.now (Err stop) (stop_read c.args.sc.now c.args.text.now stop c.in_err-draft.ensures) k)
+    rw is (plan_said c.args.sc.now c.cells-cells.ensures.sound plan c.args.text.now (Err stop) (stop_read c.args.sc.now c.args.text.now stop c.in_err-kept.ensures) k)
 
 pub returns-clause-spelled : goal.returns-clause-spelled
 returns-clause-spelled c =
-    one_text_a_plan c.args.sc.now c.in_ok-plan_from.field-0 c.args.text.now c.cells-cells.ensures.sound (ap as_plan c.in_ok-draft.ensures ∙ ap Ok (sym c.in_ok-plan_from.ensures))
+    one_text_a_plan c.args.sc.now c.in_ok-plan_from.field-0 c.args.text.now c.cells-cells.ensures.sound (ap as_plan c.in_ok-kept.ensures ∙ ap Ok (sym c.in_ok-plan_from.ensures))
 
 pub returns-clause-printable : goal.returns-clause-printable
 returns-clause-printable c =
     printable_read c.args.sc.now c.in_ok-plan_from.field-0 c.args.text.now
-    (one_text_a_plan c.args.sc.now c.in_ok-plan_from.field-0 c.args.text.now c.cells-cells.ensures.sound (ap as_plan c.in_ok-draft.ensures ∙ ap Ok (sym c.in_ok-plan_from.ensures)))
+    (one_text_a_plan c.args.sc.now c.in_ok-plan_from.field-0 c.args.text.now c.cells-cells.ensures.sound (ap as_plan c.in_ok-kept.ensures ∙ ap Ok (sym c.in_ok-plan_from.ensures)))
 
 pub returns-clause-exact : goal.returns-clause-exact
 returns-clause-exact c = λ plan k.
-    plan_said c.args.sc.now c.cells-cells.ensures.sound plan c.args.text.now (Ok c.in_ok-plan_from.field-0) (ap as_plan c.in_ok-draft.ensures ∙ ap Ok (sym c.in_ok-plan_from.ensures)) k
+    plan_said c.args.sc.now c.cells-cells.ensures.sound plan c.args.text.now (Ok c.in_ok-plan_from.field-0) (ap as_plan c.in_ok-kept.ensures ∙ ap Ok (sym c.in_ok-plan_from.ensures)) k
 
-pub returns-in_err-draft-clause-first : goal.returns-in_err-draft-clause-first
-returns-in_err-draft-clause-first c =
-    let stop = c.in_err-draft.field-0.0 in
+pub returns-in_err-kept-clause-first : goal.returns-in_err-kept-clause-first
+returns-in_err-kept-clause-first c =
+    let stop = c.in_err-kept.field-0.0 in
     let is : c.from_residual.result ≡ Err stop = grind (arith, common_steps, c.from_residual.ensures.0, c.from_residual.ensures.1) in
-    rw is (told_first c.args.sc.now c.args.text.now (Err stop) (stop_read c.args.sc.now c.args.text.now stop c.in_err-draft.ensures))
+    rw is (told_first c.args.sc.now c.args.text.now (Err stop) (stop_read c.args.sc.now c.args.text.now stop c.in_err-kept.ensures))
 
-pub returns-in_err-draft-clause-faulty : goal.returns-in_err-draft-clause-faulty
-returns-in_err-draft-clause-faulty c = λ fault h.
-    let stop = c.in_err-draft.field-0.0 in
+pub returns-in_err-kept-clause-faulty : goal.returns-in_err-kept-clause-faulty
+returns-in_err-kept-clause-faulty c = λ fault h.
+    let stop = c.in_err-kept.field-0.0 in
     let is : c.from_residual.result ≡ Err stop = grind (arith, common_steps, c.from_residual.ensures.0, c.from_residual.ensures.1) in
-    rw is (first_told c.args.sc.now c.args.text.now (Err stop) fault (stop_read c.args.sc.now c.args.text.now stop c.in_err-draft.ensures) h)
+    rw is (first_told c.args.sc.now c.args.text.now (Err stop) fault (stop_read c.args.sc.now c.args.text.now stop c.in_err-kept.ensures) h)
 
 pub returns-clause-faulty : goal.returns-clause-faulty
 returns-clause-faulty c = λ fault h.
-    first_told c.args.sc.now c.args.text.now (Ok c.in_ok-plan_from.field-0) fault (ap as_plan c.in_ok-draft.ensures ∙ ap Ok (sym c.in_ok-plan_from.ensures)) h
+    first_told c.args.sc.now c.args.text.now (Ok c.in_ok-plan_from.field-0) fault (ap as_plan c.in_ok-kept.ensures ∙ ap Ok (sym c.in_ok-plan_from.ensures)) h

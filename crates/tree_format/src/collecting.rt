@@ -1,0 +1,92 @@
+//! A whole text by its feed: what its items say is collected.
+
+ghost use Rattle.std.specs.Prelude.{◌≡◌, ◌≤◌, ◌++◌, ℕ, List, length, take, Err, IfOk, OnOk};
+ghost use Rattle.tree_format.specs.declared.plan_line.Family.{Family as FamilyLem};
+ghost use Rattle.tree_format.specs.Collecting.{with_item, HasCollected};
+ghost use Rattle.tree_format.specs.Gives.{Gives, IfFault, gap_in};
+ghost use Rattle.tree_format.specs.Reading.{text_at};
+
+use crate::feed::PlanFeed;
+use crate::plan_item::{Fed, PlanItem, Step};
+use crate::plan_line::Family;
+use crate::stop::PlanStop;
+use bound_tree::GapNode;
+use exact_parts::NoMemory;
+use search_model::{Path, Scenario, Standing};
+use std::alloc::Global;
+
+/// What the items say that were told so far.
+#[derive(Drop)]
+pub struct Collected {
+    pub standing: Standing,
+    pub weight: u128,
+    pub ceiling: u128,
+    pub nodes: Vec<GapNode>,
+}
+
+// Keeps what an item says.
+fn keep(kept: &mut Collected, item: PlanItem) -> Result<(), NoMemory>
+    ensures { OnOk result (gap_in kept.new ≡ with_item (gap_in kept.old) item) }
+{
+    match item {
+        PlanItem::Head(standing, weight, ceiling, _) => {
+            kept.standing = standing;
+            kept.weight = weight;
+            kept.ceiling = ceiling;
+        }
+        PlanItem::Node(GapNode { prefix, kind }) => kept.nodes.push(GapNode { prefix, kind })?,
+        PlanItem::End => {}
+    }
+    Ok(())
+}
+
+// Feeds the next bytes of a text up to the first that completes an item, which is kept: how many.
+fn take_some(
+    feed: &mut PlanFeed,
+    kept: &mut Collected,
+    sc: &Scenario,
+    text: &[u8],
+) -> Result<usize, PlanStop>
+    requires some { 1 ≤ length text.now }
+    ensures used { IfOk result (λ used. (1 ≤ used) × (used ≤ length text.now)) }
+    ensures taken { IfOk result (λ used. (family : FamilyLem) (before : List ℕ)
+        → HasCollected family sc.now before feed.old (gap_in kept.old)
+        → HasCollected family sc.now (before ++ take used text.now) feed.new (gap_in kept.new)) }
+    ensures fault { IfFault result (λ fault. (family : FamilyLem) (before : List ℕ)
+        → HasCollected family sc.now before feed.old (gap_in kept.old)
+        → text_at family sc.now (before ++ text.now) ≡ Err fault) }
+{
+    let Fed { used, step } = feed.feed(sc, text);
+    match step {
+        Step::More => Ok(used),
+        Step::Item(item) => {
+            keep(kept, item)?;
+            Ok(used)
+        }
+        Step::Fault(fault) => Err(PlanStop::Fault(fault)),
+    }
+}
+
+/// What a text of the family says, to its last byte.
+pub fn collect(alloc: Global, sc: &Scenario, family: Family, text: &[u8]) -> Result<Collected, PlanStop>
+    ensures { Gives result (text_at family sc.now text.now) }
+{
+    let mut feed = PlanFeed::start(alloc, sc, family)?;
+    let mut kept = Collected {
+        standing: Standing {
+            path: Path::empty(),
+            value: 0,
+        },
+        weight: 0,
+        ceiling: 0,
+        nodes: Vec::new(alloc),
+    };
+    let mut done = 0;
+    while done < text.len() {
+        done += take_some(&mut feed, &mut kept, sc, &text[done..])?;
+    }
+    match feed.finish() {
+        Ok(()) => Ok(kept),
+        Err(fault) => Err(PlanStop::Fault(fault)),
+    }
+}
