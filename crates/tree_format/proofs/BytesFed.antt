@@ -34,7 +34,7 @@ use Rattle.tree_format.specs.Reading.{line_at, stage_line, at_start, blank_plan,
 use Rattle.tree_format.specs.Gathering.{Gathered, nothing_gathered, gathered}
 use Rattle.tree_format.specs.FeedSteps.{Stand, Moved, stand_at, moved, step_of, line_ended, line_begun, byte_fed}
 use Rattle.tree_format.specs.Feeding.{told, plan_behind, HasRead, IsDecided, IsKindOf, IsItem, GoesOn}
-use Rattle.tree_format.proofs.Loop.{at_fault, at_rest}
+use Rattle.tree_format.proofs.AtLines.{at_fault, at_rest}
 use Rattle.tree_format.proofs.FirstFaults.{unended_stage}
 use Rattle.tree_format.proofs.SpelledLines.{IsLettered, version_told, path_told, chance_told, ceiling_told, count_told, record_told, IsRecordLine, record_printable, IsEndLine}
 use Rattle.tree_format.proofs.Spelled.{IsReadAt, IsRead, family_due, expected_legal, ended_stage}

@@ -28,7 +28,7 @@ use Rattle.text_rows.specs.Kinds.{first_kind, fault_of}
 use Rattle.tree_format.specs.FeedSteps.{Stand, stand_at, byte_fed}
 use Rattle.tree_format.specs.Feeding.{items_of, told, plan_behind, HasRead, Tells, IsDecided, IsWhole, IsCutOff, GoesOn}
 use Rattle.tree_format.specs.FeedLaws.{CutAnywhere, ItemsOfThePlan, EachFaultIsMet, FaultIsLast, AreInOrder, ItemsInOrder, GatheredIsSummary}
-use Rattle.tree_format.proofs.Loop.{at_line, at_fault, at_early, at_end}
+use Rattle.tree_format.proofs.AtLines.{at_line, at_fault, at_early, at_end}
 use Rattle.tree_format.proofs.FirstFaults.{unended_stage}
 use Rattle.tree_format.proofs.Spelled.{IsReadAt, family_at, ended_stage}
 use Rattle.tree_format.proofs.Tables.{kinds_by_table}

@@ -20,7 +20,7 @@ use Rattle.tree_format.specs.Reading.{at_start, blank_plan, at_line_number, piec
 use Rattle.tree_format.specs.Gathering.{Gathered, nothing_gathered}
 use Rattle.tree_format.specs.FeedSteps.{Stand}
 use Rattle.tree_format.specs.Feeding.{told, plan_behind, HasRead, IfRead, Tells, IsWhole, IsCutOff, GoesOn}
-use Rattle.tree_format.proofs.Loop.{at_early, at_end}
+use Rattle.tree_format.proofs.AtLines.{at_early, at_end}
 use Rattle.tree_format.proofs.Gatherings.{gathered_nothing}
 use Rattle.tree_format.proofs.Feedings.{reads_on}
 

@@ -15,7 +15,7 @@ use Rattle.tree_format.specs.Faults.{AreSaid, due_behind}
 use Rattle.tree_format.specs.Reading.{line_at, at_start, blank_plan, next, taken, pieces_at, text_at}
 use Rattle.tree_format.specs.FeedSteps.{Stand}
 use Rattle.tree_format.specs.Feeding.{plan_behind, HasRead}
-use Rattle.tree_format.proofs.Loop.{at_line}
+use Rattle.tree_format.proofs.AtLines.{at_line}
 use Rattle.tree_format.proofs.FirstFaults.{due_still}
 use Rattle.tree_format.proofs.Spelled.{IsRead, family_due, line_on}
 

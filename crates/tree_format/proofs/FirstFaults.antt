@@ -20,7 +20,7 @@ use Rattle.text_rows.proofs.Results.{err_ok}
 use Rattle.tree_format.specs.Reading.{line_at, at_start, with_stage, blank_plan, next, taken, is_ended, at_line_number, go_on, pieces_at, text_at}
 use Rattle.tree_format.specs.Faults.{AreSaid, due_behind, HasFault, IsFaultFrom, IsFirstFault}
 use Rattle.tree_format.specs.ReadingLaws.{FirstFaultDecides}
-use Rattle.tree_format.proofs.Loop.{at_line, at_fault, at_early, at_rest}
+use Rattle.tree_format.proofs.AtLines.{at_line, at_fault, at_early, at_rest}
 use Rattle.tree_format.proofs.Spelled.{ended_stage, feed_join}
 
 -- A first fault is given.

@@ -9,7 +9,7 @@ use Rattle.bound_tree.specs.declared.gap.GapPlan.{GapPlan}
 use Rattle.tree_format.specs.declared.kind.PlanFault.{PlanFault}
 use Rattle.tree_format.specs.declared.plan_line.Family.{Family}
 use Rattle.tree_format.specs.declared.plan_item.PlanItem.{PlanItem}
-use Rattle.tree_format.specs.declared.plan_item.PlanItem.TheVariants.{Head, Node, End}
+use Rattle.tree_format.specs.declared.plan_item.PlanItem.TheVariants.{Node, End}
 use Rattle.tree_format.specs.declared.plan_item.Step.{Step}
 use Rattle.tree_format.specs.declared.plan_item.Step.TheVariants as step
 use Rattle.tree_format.specs.declared.stop.PlanStop.{PlanStop}

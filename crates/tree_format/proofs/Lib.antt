@@ -1,7 +1,7 @@
 pub mod LineTexts
 pub mod FieldSteps
 pub mod FirstFields
-pub mod Loop
+pub mod AtLines
 pub mod Said
 pub mod ReadsBack
 pub mod Told

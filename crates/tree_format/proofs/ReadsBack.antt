@@ -42,7 +42,7 @@ use Rattle.tree_format.specs.declared.plan_line.PlanLine.TheVariants.{Version, P
 use Rattle.tree_format.specs.ReadingLaws.{PlanTextReadsBack, PlanText2ReadsBack, GapTextReadsBack, OnePlanAText, OneGapAText}
 use Rattle.tree_format.specs.Reading.{is_end, ending, all_of, place_in, position_named, most_positions, node_line, placed, stage_line, line_at, at_start, blank_plan, places_behind, next, taken, pieces_at, text_at, as_plan, plan_at, gap_at}
 use Rattle.tree_format.proofs.Said.{amount_in-decimal, place_in-decimal, position_named-name, all_of-map}
-use Rattle.tree_format.proofs.Loop.{at_line, at_end}
+use Rattle.tree_format.proofs.AtLines.{at_line, at_end}
 use Rattle.tree_format.proofs.SpelledLines.{IsLettered, HasPlace}
 use Rattle.tree_format.proofs.Spelled.{IsPathOf, IsCeiling, IsChanceOf, IsHeadOf, empty_legal}
 use Rattle.tree_format.proofs.LineNumbers.{few_records}

@@ -68,7 +68,12 @@ fn take_some(
 }
 
 /// What a text of the family says, to its last byte.
-pub fn collect(alloc: Global, sc: &Scenario, family: Family, text: &[u8]) -> Result<Collected, PlanStop>
+pub fn collect(
+    alloc: Global,
+    sc: &Scenario,
+    family: Family,
+    text: &[u8],
+) -> Result<Collected, PlanStop>
     ensures { Gives result (text_at family sc.now text.now) }
 {
     let mut feed = PlanFeed::start(alloc, sc, family)?;

@@ -1,4 +1,4 @@
-use Rattle.std.proofs.Common.{◌≡◌, Err, take, sym, ◌∙◌, arith, length, length-drop}
+use Rattle.std.proofs.Common.{◌≡◌, Err, take, arith, length-drop}
 use Rattle.std.proofs.lemmas.Grind.{common_steps}
 use Rattle.tree_format.specs.Gives.{gap_in}
 use Rattle.tree_format.proofs.ItemsKept.{collected_on, collected_all, whole_collected, stop_collected}

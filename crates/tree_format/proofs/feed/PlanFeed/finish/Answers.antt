@@ -3,7 +3,7 @@ use Rattle.tree_format.specs.FeedSteps.{Stand}
 use Rattle.tree_format.specs.declared.kind.PlanKind.TheVariants.{EarlyEnd}
 use Rattle.tree_format.specs.Reading.{at_line_number}
 use Rattle.tree_format.specs.Feeding.{IsCutOff}
-use Rattle.tree_format.proofs.Loop.{goes_on}
+use Rattle.tree_format.proofs.AtLines.{goes_on}
 use Rattle.tree_format.proofs.FedPieces.{read_whole, read_early}
 use Rattle.tree_format.proofs.feed.PlanFeed.finish.Goals as goal
 

@@ -1,4 +1,4 @@
--- One line after the other, as a loop takes them.
+-- What a line makes of reading, or the end of the bytes in its place.
 use Rattle.std.proofs.Common.{◌≡◌, ℕ, ◌+◌, Bool, false, List, [], ◌∷◌, length, Result, Ok, Err, refl, sym, ◌∙◌, arith, ap, inl, inr}
 use Rattle.std.specs.Prelude.{IsTrue}
 use Rattle.std.proofs.lemmas.Grind.{common_steps}
