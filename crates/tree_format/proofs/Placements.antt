@@ -1,5 +1,5 @@
 -- Records that have the prefixes that are expected, one after the other.
-use Rattle.std.proofs.Common.{◌≡◌, ℕ, ◌<◌, ◌+◌, List, [], ◌∷◌, length, drop, get_or, Some, None, refl, sym, subst, ◌∙◌}
+use Rattle.std.proofs.Common.{◌≡◌, ℕ, ◌<◌, ◌+◌, List, [], ◌∷◌, length, drop, get_or, Some, None, sym, subst, ◌∙◌}
 use Rattle.std.specs.Prelude.{All, ◌↔◌}
 use Rattle.std.proofs.lemmas.List.{drop_more}
 use Rattle.search_model.specs.Problem.{Problem}
@@ -42,8 +42,3 @@ pub refused : (p : Problem) (tree : List TreeNode) (i : ℕ) (d : TreeNode) (old
 refused p tree i d old lt before out all =
     let cut : drop i tree ≡ get_or tree i d ∷ drop (i + 1) tree = drop_more tree i d lt in
     out (drop (i + 1) tree) (subst (AreInPlace p old) cut (before.left.0 all))
-
--- behind all of them none may be expected
-all_taken : (p : Problem) (expected : List (List ℕ)) → AreInPlace p expected [] ↔ (first_of expected ≡ None)
-all_taken p [] = (λ _. refl, λ _. tt)
-all_taken p (q ∷ expected) = (λ h. absurd h, λ e. let bad : ⊥ = cc in bad)
