@@ -3,6 +3,7 @@ use Rattle.std.proofs.Common.{◌≡◌, ℕ, List, Result, Ok, Err, sym, ap, �
 use Rattle.search_model.specs.Problem.{Problem, IsProblem}
 use Rattle.bound_tree.specs.declared.plan.Plan.{Plan}
 use Rattle.bound_tree.specs.declared.gap.GapPlan.{GapPlan}
+use Rattle.tree_format.specs.declared.collecting.Collected.{Collected}
 use Rattle.tree_format.specs.declared.plan_line.Family.{Family}
 use Rattle.tree_format.specs.declared.plan_line.Family.TheVariants.{Plans, Gaps}
 use Rattle.tree_format.specs.declared.stop.PlanStop.{PlanStop}
@@ -12,6 +13,7 @@ use Rattle.tree_format.specs.declared.kind.PlanFault.{PlanFault}
 use Rattle.tree_format.specs.Faults.{IsFirstFault}
 use Rattle.tree_format.specs.Gives.{Gives, Reads, ReadsPlan, ReadsGap, Says, Tells, IfFault}
 use Rattle.tree_format.specs.Reading.{text_at, as_plan, plan_at, gap_at}
+use Rattle.tree_format.specs.Collecting.{plan_in, gap_in}
 use Rattle.tree_format.proofs.ReadsBack.{text_read, gap_read}
 use Rattle.tree_format.proofs.FirstFaults.{first_fault_decides}
 
@@ -35,12 +37,19 @@ plan_said p h plan text result reads k = answer_said (plan_at p text) plan resul
 pub gap_said : (p : Problem) → IsProblem p → (plan : GapPlan) (text : List ℕ) (result : Result GapPlan PlanStop) → ReadsGap p text result → IsGapText p plan text → Says result plan
 gap_said p h plan text result reads k = answer_said (gap_at p text) plan result reads (gap_read p h plan text k)
 
+-- what was collected is what reading gives
+pub plan_given : (p : Problem) (text : List ℕ) (kept : Collected) (plan : Plan) → Gives Plans (Ok kept) (text_at Plans p text) → plan ≡ plan_in kept → ReadsPlan p text (Ok plan)
+plan_given p text kept plan (read, spelled, keeps) is = ap as_plan spelled ∙ ap Ok (sym (is ∙ keeps))
+
+pub gap_given : (p : Problem) (text : List ℕ) (kept : Collected) (plan : GapPlan) → Gives Gaps (Ok kept) (text_at Gaps p text) → plan ≡ gap_in kept → ReadsGap p text (Ok plan)
+gap_given p text kept plan (read, spelled, keeps) is = spelled ∙ ap Ok (sym (is ∙ keeps))
+
 -- reading stopped
-pub stop_read : (p : Problem) (text : List ℕ) (stop : PlanStop) → Gives (Err stop) (text_at Plans p text) → ReadsPlan p text (Err stop)
+pub stop_read : (p : Problem) (text : List ℕ) (stop : PlanStop) → Gives Plans (Err stop) (text_at Plans p text) → ReadsPlan p text (Err stop)
 stop_read p text (Fault fault) gives = ap as_plan gives
 stop_read p text NoMemory gives = tt
 
-pub gap_stop_read : (p : Problem) (text : List ℕ) (stop : PlanStop) → Gives (Err stop) (text_at Gaps p text) → ReadsGap p text (Err stop)
+pub gap_stop_read : (p : Problem) (text : List ℕ) (stop : PlanStop) → Gives Gaps (Err stop) (text_at Gaps p text) → ReadsGap p text (Err stop)
 gap_stop_read p text (Fault fault) gives = gives
 gap_stop_read p text NoMemory gives = tt
 

@@ -6,6 +6,7 @@ use Rattle.search_model.specs.declared.standing.Standing.{Standing}
 use Rattle.search_model.specs.Problem.{Problem}
 use Rattle.bound_tree.specs.declared.gap.GapNode.{GapNode}
 use Rattle.bound_tree.specs.declared.gap.GapPlan.{GapPlan}
+use Rattle.tree_format.specs.declared.collecting.Collected.{Collected}
 use Rattle.tree_format.specs.declared.kind.PlanFault.{PlanFault}
 use Rattle.tree_format.specs.declared.plan_line.Family.{Family}
 use Rattle.tree_format.specs.declared.plan_item.PlanItem.{PlanItem}
@@ -18,7 +19,7 @@ use Rattle.tree_format.specs.Gives.{Gives, IfFault}
 use Rattle.tree_format.specs.Reading.{blank_plan, text_at}
 use Rattle.tree_format.specs.FeedSteps.{Stand}
 use Rattle.tree_format.specs.Feeding.{items_of, HasRead, IfRead, IfMore, IfItem, IfFaulty, IsDecided, IsWhole}
-use Rattle.tree_format.specs.Collecting.{with_item, with_items, HasCollected}
+use Rattle.tree_format.specs.Collecting.{with_item, with_items, Keeps, HasCollected}
 
 -- an item more
 item_more : (plan : GapPlan) (items : List PlanItem) (item : PlanItem) → with_items plan (items ++ item ∷ []) ≡ with_item (with_items plan items) item
@@ -35,24 +36,24 @@ plan_told : (plan : GapPlan) → with_items blank_plan (items_of plan) ≡ plan
 plan_told plan = nodes_told plan.standing plan.weight plan.ceiling [] plan.nodes
 
 -- What a feed did with first bytes of what is left of a text.
-module _ (family : Family) (p : Problem) (before text : List ℕ) (used : ℕ) (old new : Stand) (plan : GapPlan) (brought : Step) (h : HasCollected family p before old plan) where
+module _ (family : Family) (p : Problem) (before text : List ℕ) (used : ℕ) (old new : Stand) (kept : Collected) (brought : Step) (h : HasCollected family p before old kept) where
   -- neither an item nor a fault
-  pub collected_more : brought ≡ step.More → IfMore brought (used ≡ length text) → IfRead p old (λ kind fed items. IfMore brought (HasRead kind p (fed ++ text) items new)) → HasCollected family p (before ++ take used text) new plan
+  pub collected_more : brought ≡ step.More → IfMore brought (used ≡ length text) → IfRead p old (λ kind fed items. IfMore brought (HasRead kind p (fed ++ text) items new)) → HasCollected family p (before ++ take used text) new kept
   collected_more is all reads =
       let count : used ≡ length text = subst (λ (s : Step). IfMore s (used ≡ length text)) is all in
       let read : HasRead family p (before ++ text) h.items new = subst (λ (s : Step). IfMore s (HasRead family p (before ++ text) h.items new)) is (reads family before h.items h.read) in
       record {
         items = h.items;
         read = subst (λ (t : List ℕ). HasRead family p (before ++ t) h.items new) (sym (take_all used text (omega (arith, count)))) read;
-        kept = h.kept;
+        keeps = h.keeps;
       }
 
   -- an item
-  pub collected_item : (item : PlanItem) (kept : GapPlan) → brought ≡ step.Item item → kept ≡ with_item plan item → IfRead p old (λ kind fed items. IfItem brought (λ told. HasRead kind p (fed ++ take used text) (items ++ told ∷ []) new)) → HasCollected family p (before ++ take used text) new kept
-  collected_item item kept is keeps reads = record {
+  pub collected_item : (item : PlanItem) (with : Collected) → brought ≡ step.Item item → ((plan : GapPlan) → Keeps family kept plan → Keeps family with (with_item plan item)) → IfRead p old (λ kind fed items. IfItem brought (λ told. HasRead kind p (fed ++ take used text) (items ++ told ∷ []) new)) → HasCollected family p (before ++ take used text) new with
+  collected_item item with is keeps reads = record {
     items = h.items ++ item ∷ [];
     read = subst (λ (s : Step). IfItem s (λ told. HasRead family p (before ++ take used text) (h.items ++ told ∷ []) new)) is (reads family before h.items h.read);
-    kept = keeps ∙ ap (λ (g : GapPlan). with_item g item) h.kept ∙ sym (item_more blank_plan h.items item);
+    keeps = subst (Keeps family with) (sym (item_more blank_plan h.items item)) (keeps (with_items blank_plan h.items) h.keeps);
   }
 
   -- a fault, which is that of the text
@@ -71,23 +72,23 @@ left_is : (text : List ℕ) (n : ℕ) → left_of text n ≡ drop n text
 left_is text n = take_all (length text - n) (drop n text) (omega (arith, length-drop n text))
 
 -- first bytes of it are bytes more
-pub collected_on : (family : Family) (p : Problem) (text : List ℕ) (n m : ℕ) (feed : Stand) (plan : GapPlan) → HasCollected family p (take n text ++ take m (left_of text n)) feed plan → HasCollected family p (take (n + m) text) feed plan
-collected_on family p text n m feed plan h =
-    subst (λ (t : List ℕ). HasCollected family p t feed plan) (ap (λ (left : List ℕ). take n text ++ take m left) (left_is text n) ∙ sym (take-add n m text)) h
+pub collected_on : (family : Family) (p : Problem) (text : List ℕ) (n m : ℕ) (feed : Stand) (kept : Collected) → HasCollected family p (take n text ++ take m (left_of text n)) feed kept → HasCollected family p (take (n + m) text) feed kept
+collected_on family p text n m feed kept h =
+    subst (λ (t : List ℕ). HasCollected family p t feed kept) (ap (λ (left : List ℕ). take n text ++ take m left) (left_is text n) ∙ sym (take-add n m text)) h
 
 -- reading stopped at it
-pub stop_collected : (family : Family) (p : Problem) (text : List ℕ) (n : ℕ) (feed : Stand) (plan : GapPlan) (stop : PlanStop) → HasCollected family p (take n text) feed plan →
-    IfFault {A = ℕ} (Err stop) (λ fault. (kind : Family) (before : List ℕ) → HasCollected kind p before feed plan → text_at kind p (before ++ left_of text n) ≡ Err fault) → Gives (Err stop) (text_at family p text)
-stop_collected family p text n feed plan (Fault fault) h faulty =
+pub stop_collected : (family : Family) (p : Problem) (text : List ℕ) (n : ℕ) (feed : Stand) (kept : Collected) (stop : PlanStop) → HasCollected family p (take n text) feed kept →
+    IfFault {A = ℕ} (Err stop) (λ fault. (before : List ℕ) → HasCollected family p before feed kept → text_at family p (before ++ left_of text n) ≡ Err fault) → Gives family (Err stop) (text_at family p text)
+stop_collected family p text n feed kept (Fault fault) h faulty =
     let whole : take n text ++ left_of text n ≡ text = ap (λ (left : List ℕ). take n text ++ left) (left_is text n) ∙ take-append-drop n text in
-    sym (ap (text_at family p) whole) ∙ faulty family (take n text) h
-stop_collected family p text n feed plan NoMemory h faulty = tt
+    sym (ap (text_at family p) whole) ∙ faulty (take n text) h
+stop_collected family p text n feed kept NoMemory h faulty = tt
 
 -- Where none is left.
 
-pub collected_all : (family : Family) (p : Problem) (text : List ℕ) (n : ℕ) (feed : Stand) (plan : GapPlan) → length text ≤ n → HasCollected family p (take n text) feed plan → HasCollected family p text feed plan
-collected_all family p text n feed plan le h = subst (λ (t : List ℕ). HasCollected family p t feed plan) (take_all n text le) h
+pub collected_all : (family : Family) (p : Problem) (text : List ℕ) (n : ℕ) (feed : Stand) (kept : Collected) → length text ≤ n → HasCollected family p (take n text) feed kept → HasCollected family p text feed kept
+collected_all family p text n feed kept le h = subst (λ (t : List ℕ). HasCollected family p t feed kept) (take_all n text le) h
 
 -- what is kept of a whole text is the plan that it spells
-pub whole_collected : (family : Family) (p : Problem) (text : List ℕ) (feed : Stand) (plan : GapPlan) (h : HasCollected family p text feed plan) → IsWhole family p text h.items → text_at family p text ≡ Ok plan
-whole_collected family p text feed plan h whole = whole.spelled ∙ ap Ok (sym (h.kept ∙ ap (with_items blank_plan) whole.tell ∙ plan_told whole.plan))
+pub whole_collected : (family : Family) (p : Problem) (text : List ℕ) (feed : Stand) (kept : Collected) (h : HasCollected family p text feed kept) → IsWhole family p text h.items → Gives family (Ok kept) (text_at family p text)
+whole_collected family p text feed kept h whole = (whole.plan, whole.spelled, subst (Keeps family kept) (ap (with_items blank_plan) whole.tell ∙ plan_told whole.plan) h.keeps)

@@ -7,17 +7,15 @@ use Rattle.tree_format.specs.declared.collecting.Collected.{Collected}
 use Rattle.tree_format.specs.declared.kind.PlanFault.{PlanFault}
 use Rattle.tree_format.specs.declared.stop.PlanStop.{PlanStop}
 use Rattle.tree_format.specs.declared.stop.PlanStop.TheVariants.{Fault, NoMemory}
+use Rattle.tree_format.specs.declared.plan_line.Family.{Family}
 use Rattle.tree_format.specs.Reading.{plan_at, gap_at}
-
--- the gap plan of what was collected
-abbrev pub gap_in : Collected → GapPlan
-gap_in c = record { standing = c.standing; weight = c.weight; ceiling = c.ceiling; nodes = c.nodes.items }
+use Rattle.tree_format.specs.Collecting.{Keeps}
 
 -- what the text says was collected, or it has that fault, unless memory ran out
-abbrev pub Gives : Result Collected PlanStop → Result GapPlan PlanFault → Type 0
-Gives (Ok collected) read = read ≡ Ok (gap_in collected)
-Gives (Err (Fault fault)) read = read ≡ Err fault
-Gives (Err NoMemory) read = Unit {0}
+abbrev pub Gives : Family → Result Collected PlanStop → Result GapPlan PlanFault → Type 0
+Gives family (Ok kept) read = (plan : GapPlan) × (read ≡ Ok plan) × Keeps family kept plan
+Gives family (Err (Fault fault)) read = read ≡ Err fault
+Gives family (Err NoMemory) read = Unit {0}
 
 -- what reading gives was answered, or its fault, unless memory ran out
 abbrev pub Reads : {A : Type 0} → Result A PlanFault → Result A PlanStop → Type 0

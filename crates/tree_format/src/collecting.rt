@@ -1,32 +1,51 @@
 //! A whole text by its feed: what its items say is collected.
 
 ghost use Rattle.std.specs.Prelude.{◌≡◌, ◌≤◌, ◌++◌, ℕ, List, length, take, Err, IfOk, OnOk};
-ghost use Rattle.tree_format.specs.declared.plan_line.Family.{Family as FamilyLem};
-ghost use Rattle.tree_format.specs.Collecting.{with_item, HasCollected};
-ghost use Rattle.tree_format.specs.Gives.{Gives, IfFault, gap_in};
+ghost use Rattle.bound_tree.specs.declared.gap.GapPlan.{GapPlan as GapLem};
+ghost use Rattle.bound_tree.specs.Gaps.{shape_of};
+ghost use Rattle.tree_format.specs.Collecting.{with_item, Keeps, HasCollected};
+ghost use Rattle.tree_format.specs.Gives.{Gives, IfFault};
 ghost use Rattle.tree_format.specs.Reading.{text_at};
 
 use crate::feed::PlanFeed;
 use crate::plan_item::{Fed, PlanItem, Step};
 use crate::plan_line::Family;
 use crate::stop::PlanStop;
-use bound_tree::GapNode;
+use bound_tree::{GapKind, GapNode, Kind, TreeNode};
 use exact_parts::NoMemory;
 use search_model::{Path, Scenario, Standing};
 use std::alloc::Global;
 
-/// What the items say that were told so far.
+/// What the items say that were told so far: of a plan its records, of a gap plan its nodes.
 #[derive(Drop)]
 pub struct Collected {
     pub standing: Standing,
     pub weight: u128,
     pub ceiling: u128,
+    pub records: Vec<TreeNode>,
     pub nodes: Vec<GapNode>,
 }
 
-// Keeps what an item says.
-fn keep(kept: &mut Collected, item: PlanItem) -> Result<(), NoMemory>
-    ensures { OnOk result (gap_in kept.new ≡ with_item (gap_in kept.old) item) }
+/// A node as a record, a waiting one as a leaf; of a plan's text all are closed.
+pub fn record_of(node: &GapNode) -> TreeNode
+    ensures { result ≡ shape_of node.now }
+{
+    match node.kind {
+        GapKind::Closed(kind) => TreeNode {
+            prefix: node.prefix,
+            kind,
+        },
+        GapKind::Waiting(_) => TreeNode {
+            prefix: node.prefix,
+            kind: Kind::Mean(0),
+        },
+    }
+}
+
+// Keeps what an item says: a node of a plan as a record.
+fn keep(kept: &mut Collected, family: Family, item: PlanItem) -> Result<(), NoMemory>
+    ensures { OnOk result ((plan : GapLem) → Keeps family kept.old plan →
+        Keeps family kept.new (with_item plan item)) }
 {
     match item {
         PlanItem::Head(standing, weight, ceiling, _) => {
@@ -34,7 +53,10 @@ fn keep(kept: &mut Collected, item: PlanItem) -> Result<(), NoMemory>
             kept.weight = weight;
             kept.ceiling = ceiling;
         }
-        PlanItem::Node(GapNode { prefix, kind }) => kept.nodes.push(GapNode { prefix, kind })?,
+        PlanItem::Node(GapNode { prefix, kind }) => match family {
+            Family::Plans => kept.records.push(record_of(&GapNode { prefix, kind }))?,
+            Family::Gaps => kept.nodes.push(GapNode { prefix, kind })?,
+        },
         PlanItem::End => {}
     }
     Ok(())
@@ -45,22 +67,21 @@ fn take_some(
     feed: &mut PlanFeed,
     kept: &mut Collected,
     sc: &Scenario,
+    family: Family,
     text: &[u8],
 ) -> Result<usize, PlanStop>
     requires some { 1 ≤ length text.now }
     ensures used { IfOk result (λ used. (1 ≤ used) × (used ≤ length text.now)) }
-    ensures taken { IfOk result (λ used. (family : FamilyLem) (before : List ℕ)
-        → HasCollected family sc.now before feed.old (gap_in kept.old)
-        → HasCollected family sc.now (before ++ take used text.now) feed.new (gap_in kept.new)) }
-    ensures fault { IfFault result (λ fault. (family : FamilyLem) (before : List ℕ)
-        → HasCollected family sc.now before feed.old (gap_in kept.old)
-        → text_at family sc.now (before ++ text.now) ≡ Err fault) }
+    ensures taken { IfOk result (λ used. (before : List ℕ) → HasCollected family sc.now before feed.old kept.old →
+        HasCollected family sc.now (before ++ take used text.now) feed.new kept.new) }
+    ensures fault { IfFault result (λ fault. (before : List ℕ) → HasCollected family sc.now before feed.old kept.old →
+        text_at family sc.now (before ++ text.now) ≡ Err fault) }
 {
     let Fed { used, step } = feed.feed(sc, text);
     match step {
         Step::More => Ok(used),
         Step::Item(item) => {
-            keep(kept, item)?;
+            keep(kept, family, item)?;
             Ok(used)
         }
         Step::Fault(fault) => Err(PlanStop::Fault(fault)),
@@ -74,7 +95,7 @@ pub fn collect(
     family: Family,
     text: &[u8],
 ) -> Result<Collected, PlanStop>
-    ensures { Gives result (text_at family sc.now text.now) }
+    ensures { Gives family result (text_at family sc.now text.now) }
 {
     let mut feed = PlanFeed::start(alloc, sc, family)?;
     let mut kept = Collected {
@@ -84,11 +105,12 @@ pub fn collect(
         },
         weight: 0,
         ceiling: 0,
+        records: Vec::new(alloc),
         nodes: Vec::new(alloc),
     };
     let mut done = 0;
     while done < text.len() {
-        done += take_some(&mut feed, &mut kept, sc, &text[done..])?;
+        done += take_some(&mut feed, &mut kept, sc, family, &text[done..])?;
     }
     match feed.finish() {
         Ok(()) => Ok(kept),

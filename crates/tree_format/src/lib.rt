@@ -26,6 +26,7 @@ mod records;
 mod stop;
 mod writing;
 
+pub use collecting::record_of;
 pub use dialects::MOST_GAP_NODES;
 pub use feed::PlanFeed;
 pub use feed_laws::{
@@ -42,6 +43,6 @@ pub use placing::{are_in_place, has_no_edge};
 pub use plan_item::{Fed, PlanItem, Step};
 pub use plan_line::Family;
 pub use printing::{print_gap, print_plan, print_plan_2};
-pub use reading::{read_gap, read_plan, record_of};
+pub use reading::{read_gap, read_plan};
 pub use stop::PlanStop;
 pub use writing::{push_names, push_number};

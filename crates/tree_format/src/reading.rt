@@ -1,57 +1,29 @@
 //! Plans and gap plans from their text.
 
-ghost use Rattle.std.specs.Prelude.{◌≡◌, map, IfOk};
+ghost use Rattle.std.specs.Prelude.{◌≡◌, IfOk};
 ghost use Rattle.bound_tree.specs.declared.plan.Plan.{Plan as PlanLem};
 ghost use Rattle.bound_tree.specs.declared.gap.GapPlan.{GapPlan as GapLem};
-ghost use Rattle.bound_tree.specs.Gaps.{shape_of, plan_of};
 ghost use Rattle.tree_format.specs.declared.kind.PlanFault.{PlanFault as FaultLem};
 ghost use Rattle.tree_format.specs.Faults.{IsFirstFault};
-ghost use Rattle.tree_format.specs.Gives.{ReadsPlan, ReadsGap, Says, Tells, IfFault, gap_in};
+ghost use Rattle.tree_format.specs.Gives.{ReadsPlan, ReadsGap, Says, Tells, IfFault};
+ghost use Rattle.tree_format.specs.Collecting.{plan_in, gap_in};
 ghost use Rattle.tree_format.specs.PlanText.{IsPrintable, IsTextOfPlan, IsPrintableGap, IsGapText};
 
 use crate::collecting::{Collected, collect};
 use crate::plan_line::Family;
 use crate::stop::PlanStop;
-use bound_tree::{BoundTree, GapKind, GapNode, GapPlan, GapTree, Kind, Plan, TreeNode};
-use exact_parts::NoMemory;
+use bound_tree::{BoundTree, GapPlan, GapTree, Plan};
 use search_model::Scenario;
 use std::alloc::Global;
 
-/// A node as a record, a waiting one as a leaf; of a plan's text all are closed.
-pub fn record_of(node: &GapNode) -> TreeNode
-    ensures { result ≡ shape_of node.now }
+fn plan_from(kept: Collected) -> Plan
+    ensures { result ≡ plan_in kept }
 {
-    match node.kind {
-        GapKind::Closed(kind) => TreeNode {
-            prefix: node.prefix,
-            kind,
-        },
-        GapKind::Waiting(_) => TreeNode {
-            prefix: node.prefix,
-            kind: Kind::Mean(0),
-        },
-    }
-}
-
-// Nodes as records.
-fn records_of(alloc: Global, nodes: &[GapNode]) -> Result<BoundTree, NoMemory>
-    ensures { IfOk result (λ tree. tree ≡ map shape_of nodes.now) }
-{
-    let mut records = Vec::with_capacity(alloc, nodes.len())?;
-    for node in nodes {
-        records.push(record_of(node))?;
-    }
-    Ok(BoundTree::of(records))
-}
-
-fn plan_from(alloc: Global, kept: &Collected) -> Result<Plan, NoMemory>
-    ensures { IfOk result (λ plan. plan ≡ plan_of (gap_in kept.now)) }
-{
-    Ok(Plan {
+    Plan {
         standing: kept.standing,
         weight: kept.weight,
-        tree: records_of(alloc, &kept.nodes)?,
-    })
+        tree: BoundTree::of(kept.records),
+    }
 }
 
 fn gap_from(kept: Collected) -> GapPlan
@@ -81,7 +53,7 @@ pub fn read_plan(alloc: Global, sc: &Scenario, text: &[u8]) -> Result<Plan, Plan
 {
     let _cells = sc.cells();
     let kept = collect(alloc, sc, Family::Plans, text)?;
-    Ok(plan_from(alloc, &kept)?)
+    Ok(plan_from(kept))
 }
 
 /// The gap plan whose text this is, to its last byte.
