@@ -1,29 +1,38 @@
--- What is made of the plan behind a scenario is what `convert` makes of the input.
-use Rattle.std.proofs.Common.{ℕ, ◌≡◌, List, drop, Result, Ok, Err}
+-- What is written of a plan that is accepted and kept.
+use Rattle.std.proofs.Common.{ℕ, ◌≡◌, List, [], ◌∷◌, Ok, inl, inr, sym, subst}
 use Rattle.search_model.specs.Problem.{Problem}
-use Rattle.scenario_text.specs.Scenarios.{IsFront}
-use Rattle.plan_command.specs.declared.answer.Answer.{Answer}
+use Rattle.bound_tree.specs.declared.plan.Plan.{Plan}
+use Rattle.bound_tree.specs.Gaps.{plan_of}
+use Rattle.bound_tree.specs.Places.{AreInPlace}
+use Rattle.tree_format.specs.PlanText.{IsPrintable, IsPlanText2, IsTextOfPlan}
+use Rattle.tree_checker.specs.declared.gap_verdict.GapVerdict.TheVariants.{Accepted}
+use Rattle.plan_command.specs.declared.intake.Judgement.{Judgement}
 use Rattle.plan_command.specs.declared.request.Request.TheVariants.{Convert}
-use Rattle.plan_command.specs.declared.status.Stop.{Stop}
-use Rattle.plan_command.specs.declared.status.Stop.TheVariants as stops
-use Rattle.plan_command.specs.declared.status.Refusal.TheVariants as refusals
-use Rattle.plan_command.specs.Plans.{BeginsWith}
-use Rattle.plan_command.specs.Conversions.{ConvertsRest}
-use Rattle.plan_command.specs.Makes.{MakesOf}
+use Rattle.plan_command.specs.declared.status.Status.{Status}
+use Rattle.plan_command.specs.declared.status.Status.TheVariants.{Done}
+use Rattle.plan_command.specs.Commands.{Answers}
+use Rattle.plan_command.specs.Intakes.{JudgesAs, keeping_plans}
+use Rattle.plan_command.proofs.Printing.{accepted_in_place}
 
-begins_at : (p : Problem) (input rest : List ℕ) (n : ℕ) → IsFront input p n → rest ≡ drop n input → BeginsWith p input rest
-begins_at p input rest n front follows = record { bytes = n; front = front; follows = follows }
+-- what has a text can be written
+text_printable : (p : Problem) (plan : Plan) (text : List ℕ) → IsTextOfPlan p plan text → IsPrintable p plan
+text_printable p plan text spelled = elim spelled [
+  | inl one ↦ one.printable
+  | inr two ↦ two.printable
+]
 
-pub converted_rest : (words : List (List ℕ)) (p : Problem) (input rest : List ℕ) (n : ℕ) (made : Result Answer Stop) → IsFront input p n → rest ≡ drop n input → ConvertsRest p rest made → MakesOf words Convert input made
-converted_rest words p input rest n (Ok answer) front follows (plan, spelled, (accepts, done, text)) = (p, plan, (rest, begins_at p input rest n front follows, spelled), (done, accepts, text))
-converted_rest words p input rest n (Err (stops.Refused (refusals.BadPlan fault))) front follows faulty = (p, (rest, begins_at p input rest n front follows, faulty))
-converted_rest words p input rest n (Err (stops.Refused (refusals.Rejected at))) front follows (plan, spelled, (refused, first)) = (tt, (p, plan, (rest, begins_at p input rest n front follows, spelled), refused, first))
-converted_rest words p input rest n (Err stops.NoMemory) front follows made = tt
-converted_rest words p input rest n (Err stops.Usage) front follows (plan, spelled, none) = absurd none
-converted_rest words p input rest n (Err stops.ReadFault) front follows (plan, spelled, none) = absurd none
-converted_rest words p input rest n (Err stops.TooLong) front follows (plan, spelled, none) = absurd none
-converted_rest words p input rest n (Err stops.WriteFault) front follows (plan, spelled, none) = absurd none
-converted_rest words p input rest n (Err (stops.Refused (refusals.BadScenario fault))) front follows (plan, spelled, none) = absurd none
-converted_rest words p input rest n (Err (stops.Refused (refusals.BadFlown why))) front follows (plan, spelled, none) = absurd none
-converted_rest words p input rest n (Err (stops.Refused (refusals.BadDuo why))) front follows (plan, spelled, none) = absurd none
-converted_rest words p input rest n (Err (stops.Refused (refusals.TooManyNodes limit))) front follows (plan, spelled, none) = absurd none
+module _ (input : List ℕ) (judged : Judgement) (judges : JudgesAs keeping_plans input (Ok judged)) where
+  pub kept_printable : IsPrintable judged.sc judged.plan
+  kept_printable =
+      let (plan, (rest, begins, behind), on, kept) = judges in
+      subst (IsPrintable judged.sc) (sym kept) (text_printable judged.sc (plan_of plan) behind.text behind.spelled)
+
+  pub kept_in_place : judged.verdict ≡ Accepted → AreInPlace judged.sc ([] ∷ []) judged.plan.tree
+  kept_in_place accepted =
+      let (plan, is, on, kept) = judges in
+      subst (λ (k : Plan). AreInPlace judged.sc ([] ∷ []) k.tree) (sym kept) (accepted_in_place judged.sc (plan_of plan) (on.accepted.0 accepted))
+
+  pub kept_converted : (words : List (List ℕ)) (status : Status) (text : List ℕ) → judged.verdict ≡ Accepted → status ≡ Done → IsPlanText2 judged.sc judged.plan text → Answers words Convert input status text
+  kept_converted words status text accepted done spelled =
+      let (plan, is, on, kept) = judges in
+      (judged.sc, plan_of plan, is, (done, on.accepted.0 accepted, subst (λ (k : Plan). IsPlanText2 judged.sc k text) kept spelled))

@@ -4,7 +4,7 @@ use Rattle.std.proofs.Math.Seq.{take-append-add}
 use Rattle.std.proofs.lemmas.Bool.{cases_lt}
 use Rattle.std.proofs.lemmas.List.{take-append-le, same_from_push, length-append}
 use Rattle.scenario_text.specs.Laws.{EndsWithEnd}
-use Rattle.tree_format.specs.declared.plan_line.Family.{Family}
+use Rattle.plan_command.specs.declared.judge.Task.{Task}
 use Rattle.plan_command.specs.declared.intake.Intake.{Intake}
 use Rattle.plan_command.specs.Intakes.{HasNoEnd, HasNoEndBefore, HasTaken, GathersOn, Becomes}
 use Rattle.plan_command.proofs.Judging.{gathered_byte}
@@ -38,13 +38,13 @@ none_more bytes piece before on n le h = elim (cases_lt (length bytes) n) [
   | inr within ↦ before n within (subst EndsWithEnd (take-append-le n bytes piece within) h)
 ]
 
-pub lines_more : (family due : Family) (bytes old piece new : List ℕ) → (due ≡ family) × (old ≡ bytes) × HasNoEnd bytes → (new ≡ old ++ piece) × HasNoEndBefore old piece (length piece + 1) → (due ≡ family) × (new ≡ bytes ++ piece) × HasNoEnd (bytes ++ piece)
-lines_more family due bytes old piece new (is, same, before) (whole, on) =
+pub lines_more : (task due : Task) (bytes old piece new : List ℕ) → (due ≡ task) × (old ≡ bytes) × HasNoEnd bytes → (new ≡ old ++ piece) × HasNoEndBefore old piece (length piece + 1) → (due ≡ task) × (new ≡ bytes ++ piece) × HasNoEnd (bytes ++ piece)
+lines_more task due bytes old piece new (is, same, before) (whole, on) =
     (is, whole ∙ ap (λ (t : List ℕ). t ++ piece) same, none_more bytes piece before (subst (λ (t : List ℕ). HasNoEndBefore t piece (length piece + 1)) same on))
 
 -- so they were, or the intake became another where they ended
-pub gathered_more : (family due : Family) (bytes old piece new : List ℕ) (intake : Intake) (next : Option Intake) → (due ≡ family) × (old ≡ bytes) × HasNoEnd bytes → GathersOn due old piece new next →
-    ((due ≡ family) × (new ≡ bytes ++ piece) × HasNoEnd (bytes ++ piece) → HasTaken family (bytes ++ piece) intake) → Becomes family (bytes ++ piece) intake next
-gathered_more family due bytes old piece new intake None before added taken = taken (lines_more family due bytes old piece new before added)
-gathered_more family due bytes old piece new intake (Some next) (is, same, none) became taken =
-    subst (λ (f : Family). HasTaken f (bytes ++ piece) next) is (subst (λ (t : List ℕ). HasTaken due (t ++ piece) next) same became)
+pub gathered_more : (task due : Task) (bytes old piece new : List ℕ) (intake : Intake) (next : Option Intake) → (due ≡ task) × (old ≡ bytes) × HasNoEnd bytes → GathersOn due old piece new next →
+    ((due ≡ task) × (new ≡ bytes ++ piece) × HasNoEnd (bytes ++ piece) → HasTaken task (bytes ++ piece) intake) → Becomes task (bytes ++ piece) intake next
+gathered_more task due bytes old piece new intake None before added taken = taken (lines_more task due bytes old piece new before added)
+gathered_more task due bytes old piece new intake (Some next) (is, same, none) became taken =
+    subst (λ (t : Task). HasTaken t (bytes ++ piece) next) is (subst (λ (b : List ℕ). HasTaken due (b ++ piece) next) same became)

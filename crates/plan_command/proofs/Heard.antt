@@ -1,8 +1,10 @@
--- What a checker heard of a plan, item by item.
-use Rattle.std.proofs.Common.{ℕ, ◌≡◌, ◌+◌, ◌≤◌, inl, inr, List, [], ◌∷◌, ◌++◌, map, length, Option, Some, None, refl, sym, ap, ◌∙◌, subst, arith, append_assoc, append-nil, length-append}
+-- What a checker heard of a plan, item by item, and what is kept of it.
+use Rattle.std.proofs.Common.{ℕ, ◌≡◌, ◌+◌, ◌≤◌, inl, inr, Bool, true, false, List, [], ◌∷◌, ◌++◌, map, length, Option, Some, None, refl, sym, ap, ◌∙◌, subst, arith, append_assoc, append-nil, length-append}
+use Rattle.std.proofs.lemmas.List.{map-append}
 use Rattle.search_model.specs.declared.standing.Standing.{Standing}
 use Rattle.search_model.specs.Problem.{Problem, IsProblem}
 use Rattle.bound_tree.specs.declared.node.TreeNode.{TreeNode}
+use Rattle.bound_tree.specs.declared.plan.Plan.{Plan}
 use Rattle.bound_tree.specs.declared.gap.GapNode.{GapNode}
 use Rattle.bound_tree.specs.declared.gap.GapPlan.{GapPlan}
 use Rattle.bound_tree.specs.Gaps.{shape_of}
@@ -22,8 +24,9 @@ use Rattle.tree_checker.specs.Reasons.{verdict_of}
 use Rattle.tree_checker.specs.GapReasons.{plain_at, gap_verdict_of}
 use Rattle.tree_checker.specs.Progress.{Progress, after_head, after_gap_head, reason_if, gap_reason_if, IsUnderWay, IsMadeFor}
 use Rattle.tree_checker.proofs.GapReason.{nothing_follows}
+use Rattle.plan_command.specs.declared.hearing.Head.{Head as AHead}
 use Rattle.plan_command.specs.Families.{reason_against}
-use Rattle.plan_command.specs.Intakes.{nodes_in, leads_to, leads_at_end, plain_verdict, LeadsToReason, HasHeard, IsNextItem}
+use Rattle.plan_command.specs.Intakes.{nodes_in, records_kept, kept_of, leads_to, leads_at_end, plain_verdict, LeadsToReason, HasHeard, IsNextItem}
 
 -- The nodes among items.
 
@@ -40,71 +43,72 @@ nodes_in-nodes (r ∷ rs) = ap (λ (more : List GapNode). r ∷ more) (nodes_in-
 nodes_in-plan : (rs : List GapNode) → nodes_in (map (λ r. Node r) rs ++ End ∷ []) ≡ rs
 nodes_in-plan rs = nodes_in-append (map (λ r. Node r) rs) (End ∷ []) ∙ append-nil _ ∙ nodes_in-nodes rs
 
--- the plan of a head and these nodes
+-- the head of a standing, a weight and a ceiling, and the plan of it and of these nodes
+abbrev head_of : Standing → ℕ → ℕ → AHead
+head_of s w c = record { standing = s; weight = w; ceiling = c }
+
 abbrev plan_with : Standing → ℕ → ℕ → List GapNode → GapPlan
 plan_with s w c nodes = record { standing = s; weight = w; ceiling = c; nodes = nodes }
 
 -- The head.
 
-pub plan_begun : (p : Problem) (s : Standing) (w c n : ℕ) (tables : BoundTables) (checker : Progress) → checker ≡ after_head p tables s w → IsUnderWay p checker → IsMadeFor p checker → HasHeard Plans p (Head s w c n ∷ []) s.path c checker
+pub plan_begun : (p : Problem) (s : Standing) (w c n : ℕ) (tables : BoundTables) (checker : Progress) → checker ≡ after_head p tables s w → IsUnderWay p checker → IsMadeFor p checker → HasHeard Plans p (Head s w c n ∷ []) (head_of s w c) checker
 plan_begun p s w c n tables checker begun under_way made = record {
   under_way = under_way;
   made_for = made;
   line = let line : checker.line ≡ 5 = ap (λ (g : Progress). g.line) begun in omega (arith, line);
-  reason = (refl, refl, λ later. ap (λ (g : Progress). plain_at (reason_if p g (map shape_of later))) begun);
+  reason = (refl, λ later. ap (λ (g : Progress). plain_at (reason_if p g (map shape_of later))) begun);
 }
 
-pub gap_begun : (p : Problem) (s : Standing) (w c n : ℕ) (tables : BoundTables) (checker : Progress) → checker ≡ after_gap_head p tables s w → IsUnderWay p checker → IsMadeFor p checker → HasHeard Gaps p (Head s w c n ∷ []) s.path c checker
+pub gap_begun : (p : Problem) (s : Standing) (w c n : ℕ) (tables : BoundTables) (checker : Progress) → checker ≡ after_gap_head p tables s w → IsUnderWay p checker → IsMadeFor p checker → HasHeard Gaps p (Head s w c n ∷ []) (head_of s w c) checker
 gap_begun p s w c n tables checker begun under_way made = record {
   under_way = under_way;
   made_for = made;
   line = let line : checker.line ≡ 6 = ap (λ (g : Progress). g.line) begun in omega (arith, line);
-  reason = (refl, refl, λ later. ap (λ (g : Progress). gap_reason_if p g c later) begun);
+  reason = (refl, λ later. ap (λ (g : Progress). gap_reason_if p g c later) begun);
 }
 
 -- One item more.
 
 module _ (family : Family) (p : Problem) where
-  leads_on : (told : List PlanItem) (r : GapNode) (path : List ℕ) (ceiling : ℕ) (old new : Progress) → ((c : ℕ) (rs : List GapNode) → leads_to family p new c rs ≡ leads_to family p old c (r ∷ rs)) → LeadsToReason family p told path ceiling old → LeadsToReason family p (told ++ Node r ∷ []) path ceiling new
-  leads_on [] r path ceiling old new next leads = tt
-  leads_on (Head s w c n ∷ more) r path ceiling old new next leads = (
+  leads_on : (told : List PlanItem) (r : GapNode) (head : AHead) (old new : Progress) → ((c : ℕ) (rs : List GapNode) → leads_to family p new c rs ≡ leads_to family p old c (r ∷ rs)) → LeadsToReason family p told head old → LeadsToReason family p (told ++ Node r ∷ []) head new
+  leads_on [] r head old new next leads = tt
+  leads_on (Head s w c n ∷ more) r head old new next leads = (
     leads.0,
-    leads.1,
     λ later.
         let nodes : nodes_in more ++ r ∷ later ≡ nodes_in (more ++ Node r ∷ []) ++ later =
         sym (append_assoc (nodes_in more) (r ∷ []) later) ∙ ap (λ (rs : List GapNode). rs ++ later) (sym (nodes_in-append more (Node r ∷ []))) in
-        next c later ∙ leads.2 (r ∷ later) ∙ ap (λ (rs : List GapNode). reason_against family p (plan_with s w c rs)) nodes,
+        next c later ∙ leads.1 (r ∷ later) ∙ ap (λ (rs : List GapNode). reason_against family p (plan_with s w c rs)) nodes,
   )
-  leads_on (Node q ∷ more) r path ceiling old new next leads = tt
-  leads_on (End ∷ more) r path ceiling old new next leads = tt
+  leads_on (Node q ∷ more) r head old new next leads = tt
+  leads_on (End ∷ more) r head old new next leads = tt
 
-  pub node_heard : (told : List PlanItem) (r : GapNode) (path : List ℕ) (ceiling : ℕ) (old new : Progress) → HasHeard family p told path ceiling old →
-      ((c : ℕ) (rs : List GapNode) → leads_to family p new c rs ≡ leads_to family p old c (r ∷ rs)) → IsUnderWay p new → new.line ≤ old.line + 1 → IsMadeFor p new → HasHeard family p (told ++ Node r ∷ []) path ceiling new
-  node_heard told r path ceiling old new heard next under_way line made = record {
+  pub node_heard : (told : List PlanItem) (r : GapNode) (head : AHead) (old new : Progress) → HasHeard family p told head old →
+      ((c : ℕ) (rs : List GapNode) → leads_to family p new c rs ≡ leads_to family p old c (r ∷ rs)) → IsUnderWay p new → new.line ≤ old.line + 1 → IsMadeFor p new → HasHeard family p (told ++ Node r ∷ []) head new
+  node_heard told r head old new heard next under_way line made = record {
     under_way = under_way;
     made_for = made;
     line = let count : length (nodes_in (told ++ Node r ∷ [])) ≡ length (nodes_in told) + 1 = ap (λ (rs : List GapNode). length rs) (nodes_in-append told (Node r ∷ [])) ∙ length-append (nodes_in told) (r ∷ []) in omega (arith, count, line, heard.line);
-    reason = leads_on told r path ceiling old new next heard.reason;
+    reason = leads_on told r head old new next heard.reason;
   }
 
-  leads_still : (told : List PlanItem) (path : List ℕ) (ceiling : ℕ) (checker : Progress) → LeadsToReason family p told path ceiling checker → LeadsToReason family p (told ++ End ∷ []) path ceiling checker
-  leads_still [] path ceiling checker leads = tt
-  leads_still (Head s w c n ∷ more) path ceiling checker leads = (
+  leads_still : (told : List PlanItem) (head : AHead) (checker : Progress) → LeadsToReason family p told head checker → LeadsToReason family p (told ++ End ∷ []) head checker
+  leads_still [] head checker leads = tt
+  leads_still (Head s w c n ∷ more) head checker leads = (
     leads.0,
-    leads.1,
     λ later.
         let nodes : nodes_in more ++ later ≡ nodes_in (more ++ End ∷ []) ++ later = ap (λ (rs : List GapNode). rs ++ later) (sym (nodes_in-append more (End ∷ []) ∙ append-nil (nodes_in more))) in
-        leads.2 later ∙ ap (λ (rs : List GapNode). reason_against family p (plan_with s w c rs)) nodes,
+        leads.1 later ∙ ap (λ (rs : List GapNode). reason_against family p (plan_with s w c rs)) nodes,
   )
-  leads_still (Node q ∷ more) path ceiling checker leads = tt
-  leads_still (End ∷ more) path ceiling checker leads = tt
+  leads_still (Node q ∷ more) head checker leads = tt
+  leads_still (End ∷ more) head checker leads = tt
 
-  pub end_heard : (told : List PlanItem) (path : List ℕ) (ceiling : ℕ) (checker : Progress) → HasHeard family p told path ceiling checker → HasHeard family p (told ++ End ∷ []) path ceiling checker
-  end_heard told path ceiling checker heard = record {
+  pub end_heard : (told : List PlanItem) (head : AHead) (checker : Progress) → HasHeard family p told head checker → HasHeard family p (told ++ End ∷ []) head checker
+  end_heard told head checker heard = record {
     under_way = heard.under_way;
     made_for = heard.made_for;
     line = let count : length (nodes_in (told ++ End ∷ [])) ≡ length (nodes_in told) = ap (λ (rs : List GapNode). length rs) (nodes_in-append told (End ∷ []) ∙ append-nil (nodes_in told)) in omega (arith, count, heard.line);
-    reason = leads_still told path ceiling checker heard.reason;
+    reason = leads_still told head checker heard.reason;
   }
 
 -- Items are told in their order: one head first, and few records.
@@ -169,15 +173,43 @@ none_follows : (family : Family) (p : Problem) (g : Progress) (ceiling : ℕ) �
 none_follows Plans p g ceiling = refl
 none_follows Gaps p g ceiling = nothing_follows p g ceiling
 
-pub plan_reason : (family : Family) (p : Problem) (plan : GapPlan) (told : List PlanItem) (path : List ℕ) (ceiling : ℕ) (checker : Progress) → told ≡ items_of plan → HasHeard family p told path ceiling checker → (path ≡ plan.standing.path) × (leads_at_end family checker ceiling ≡ reason_against family p plan)
-plan_reason family p plan told path ceiling checker whole heard =
-    let leads = subst (λ (items : List PlanItem). LeadsToReason family p items path ceiling checker) whole heard.reason in (
+pub plan_reason : (family : Family) (p : Problem) (plan : GapPlan) (told : List PlanItem) (head : AHead) (checker : Progress) → told ≡ items_of plan → HasHeard family p told head checker → (head ≡ head_of plan.standing plan.weight plan.ceiling) × (leads_at_end family checker head.ceiling ≡ reason_against family p plan)
+plan_reason family p plan told head checker whole heard =
+    let leads = subst (λ (items : List PlanItem). LeadsToReason family p items head checker) whole heard.reason in (
       leads.0,
-      ap (leads_at_end family checker) leads.1
+      ap (λ (h : AHead). leads_at_end family checker h.ceiling) leads.0
           ∙ sym (none_follows family p checker plan.ceiling)
-          ∙ leads.2 []
+          ∙ leads.1 []
           ∙ ap (λ (rs : List GapNode). reason_against family p (plan_with plan.standing plan.weight plan.ceiling rs)) (append-nil _ ∙ nodes_in-plan plan.nodes),
     )
+
+-- What is kept.
+
+records_kept-append : (keeps : Bool) (xs ys : List GapNode) → records_kept keeps (xs ++ ys) ≡ records_kept keeps xs ++ records_kept keeps ys
+records_kept-append true xs ys = map-append shape_of xs ys
+records_kept-append false xs ys = refl
+
+-- one item more
+pub kept_on : (keeps : Bool) (told : List PlanItem) (item : PlanItem) (old new : List TreeNode) → new ≡ old ++ records_kept keeps (nodes_in (item ∷ [])) → old ≡ records_kept keeps (nodes_in told) → new ≡ records_kept keeps (nodes_in (told ++ item ∷ []))
+kept_on keeps told item old new adds kept =
+    adds
+    ∙ ap (λ (rs : List TreeNode). rs ++ records_kept keeps (nodes_in (item ∷ []))) kept
+    ∙ sym (records_kept-append keeps (nodes_in told) (nodes_in (item ∷ [])))
+    ∙ ap (records_kept keeps) (sym (nodes_in-append told (item ∷ [])))
+
+-- an item that is no node
+pub kept_still : (keeps : Bool) (records : List TreeNode) → records ≡ records ++ records_kept keeps []
+kept_still true records = sym (append-nil records)
+kept_still false records = sym (append-nil records)
+
+-- and of the whole
+abbrev plan_by : AHead → List TreeNode → Plan
+plan_by head records = record { standing = head.standing; weight = head.weight; tree = records }
+
+pub plan_kept : (keeps : Bool) (plan : GapPlan) (told : List PlanItem) (head : AHead) (records : List TreeNode) → told ≡ items_of plan → head ≡ head_of plan.standing plan.weight plan.ceiling → records ≡ records_kept keeps (nodes_in told) → plan_by head records ≡ kept_of keeps plan
+plan_kept keeps plan told head records whole is kept =
+    let all : records ≡ records_kept keeps plan.nodes = kept ∙ ap (λ (items : List PlanItem). records_kept keeps (nodes_in items)) whole ∙ ap (records_kept keeps) (nodes_in-plan plan.nodes) in
+    ap (λ (h : AHead). plan_by h records) is ∙ ap (plan_by (head_of plan.standing plan.weight plan.ceiling)) all
 
 -- The verdict on a plan, as one on a gap plan.
 

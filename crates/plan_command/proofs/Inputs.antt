@@ -11,6 +11,7 @@ use Rattle.byte_ports.specs.declared.pieces.InputStop.TheVariants.{Fault, TooLon
 use Rattle.byte_ports.specs.Causes.{Rose, CountsRefusal}
 use Rattle.byte_ports.specs.Taken.{HandsOn, TakesCount, TakesAtMost, AppendsPrefix}
 use Rattle.plan_command.specs.declared.answer.Answer.{Answer}
+use Rattle.plan_command.specs.declared.judge.Task.{Task}
 use Rattle.plan_command.specs.declared.intake.Intake.{Intake}
 use Rattle.plan_command.specs.declared.intake.Judgement.{Judgement}
 use Rattle.plan_command.specs.declared.request.Request.{Request}
@@ -24,7 +25,7 @@ use Rattle.plan_command.specs.Words.{Spells, of_plan, of_gap, family_of, limit_o
 use Rattle.plan_command.specs.Inputs.{Source, source_view, Reads, ReadsAnd, HasFailed, IsOverLong}
 use Rattle.plan_command.specs.Commands.{Answers, Refuses}
 use Rattle.plan_command.specs.Makes.{MakesOf, IsAsked}
-use Rattle.plan_command.specs.Intakes.{Judges, HasTaken}
+use Rattle.plan_command.specs.Intakes.{Judges, JudgesAs, HasTaken}
 use Rattle.plan_command.proofs.WordLimits.{plan_asked, drill_asked, gap_asked, replan_asked, replan_names, map_names, duo_asked}
 use Rattle.plan_command.specs.Run.{Shown, Call, CutOff, Ends, stopped, ending_of}
 
@@ -39,10 +40,10 @@ made_read words request limits before after input (Err stops.TooLong) read makes
 made_read words request limits before after input (Err stops.WriteFault) read makes = absurd makes
 
 -- what is judged of the bytes that an intake was handed
-pub judged_read : (family : TextFamily) {S : Type 0} (Left : S → Option (List ℕ)) (Faults : S → ℕ) (Gives : S → List ℕ → Result ℕ Failed → S → Type 0) (limit : ℕ) (source source' : S) (old new : Intake) (judged : Result Judgement Stop) →
-    HandsOn Left Gives HasTaken limit source source' old new → HasTaken family [] old → ((input : List ℕ) → HasTaken family input new → Judges family input judged) →
-    ReadsAnd (Some limit) (source_view Left Faults source) (source_view Left Faults source') (Judges family) judged
-judged_read family Left Faults Gives limit source source' old new judged hands none says = told judged (says hands.bytes (hands.received family [] none))
+pub judged_read : (task : Task) {S : Type 0} (Left : S → Option (List ℕ)) (Faults : S → ℕ) (Gives : S → List ℕ → Result ℕ Failed → S → Type 0) (limit : ℕ) (source source' : S) (old new : Intake) (judged : Result Judgement Stop) →
+    HandsOn Left Gives HasTaken limit source source' old new → HasTaken task [] old → ((input : List ℕ) → HasTaken task input new → JudgesAs task input judged) →
+    ReadsAnd (Some limit) (source_view Left Faults source) (source_view Left Faults source') (JudgesAs task) judged
+judged_read task Left Faults Gives limit source source' old new judged hands none says = told judged (says hands.bytes (hands.received task [] none))
   where
     before : Source
     before = source_view Left Faults source
@@ -53,7 +54,7 @@ judged_read family Left Faults Gives limit source source' old new judged hands n
     read : Reads (Some limit) before after hands.bytes
     read = record { taken = hands.taken; ended = hands.ended; short = hands.short }
 
-    told : (judged : Result Judgement Stop) → Judges family hands.bytes judged → ReadsAnd (Some limit) before after (Judges family) judged
+    told : (judged : Result Judgement Stop) → JudgesAs task hands.bytes judged → ReadsAnd (Some limit) before after (JudgesAs task) judged
     told (Ok judgement) is = (hands.bytes, read, is)
     told (Err (stops.Refused refusal)) is = (hands.bytes, read, is)
     told (Err stops.NoMemory) is = tt
@@ -82,7 +83,7 @@ IsOfText Plans request = family_of request ≡ of_plan
 IsOfText Gaps request = family_of request ≡ of_gap
 
 -- and why there is no judgement
-lacks_refuses : (family : TextFamily) (words : List (List ℕ)) (request : Request) (input : List ℕ) (refusal : Refusal) → IsOfText family request → Judges family input (Err (stops.Refused refusal)) → Refuses words request input refusal
+pub lacks_refuses : (family : TextFamily) (words : List (List ℕ)) (request : Request) (input : List ℕ) (refusal : Refusal) → IsOfText family request → Judges family input (Err (stops.Refused refusal)) → Refuses words request input refusal
 lacks_refuses Plans words request input (refusals.BadScenario fault) judges lacks = rw judges lacks
 lacks_refuses Gaps words request input (refusals.BadScenario fault) judges lacks = rw judges lacks
 lacks_refuses Plans words request input (refusals.BadPlan fault) judges lacks = rw judges lacks
@@ -92,13 +93,18 @@ lacks_refuses family words request input (refusals.BadFlown why) judges lacks = 
 lacks_refuses family words request input (refusals.BadDuo why) judges lacks = absurd lacks
 lacks_refuses family words request input (refusals.TooManyNodes limit) judges lacks = absurd lacks
 
+pub stopped_alike : {V W : Type 0} (limits : Option ℕ) (before after : Source) (Makes : List ℕ → Result V Stop → Type 0) (Makes' : List ℕ → Result W Stop → Type 0) →
+    ((input : List ℕ) (refusal : Refusal) → Makes input (Err (stops.Refused refusal)) → Makes' input (Err (stops.Refused refusal))) → (stop : Stop) → ReadsAnd limits before after Makes (Err stop) → ReadsAnd limits before after Makes' (Err stop)
+stopped_alike limits before after Makes Makes' refuses (stops.Refused refusal) (input, read, lacks) = (input, read, refuses input refusal lacks)
+stopped_alike limits before after Makes Makes' refuses stops.NoMemory read = tt
+stopped_alike limits before after Makes Makes' refuses stops.ReadFault read = read
+stopped_alike limits before after Makes Makes' refuses stops.TooLong read = read
+stopped_alike limits before after Makes Makes' refuses stops.Usage read = absurd read
+stopped_alike limits before after Makes Makes' refuses stops.WriteFault read = absurd read
+
 pub judge_stopped : (family : TextFamily) (words : List (List ℕ)) (request : Request) (limits : Option ℕ) (before after : Source) (stop : Stop) → IsOfText family request → ReadsAnd limits before after (Judges family) (Err stop) → ReadsAnd limits before after (MakesOf words request) (Err stop)
-judge_stopped family words request limits before after (stops.Refused refusal) judges (input, read, lacks) = (input, read, lacks_refuses family words request input refusal judges lacks)
-judge_stopped family words request limits before after stops.NoMemory judges read = tt
-judge_stopped family words request limits before after stops.ReadFault judges read = read
-judge_stopped family words request limits before after stops.TooLong judges read = read
-judge_stopped family words request limits before after stops.Usage judges read = absurd read
-judge_stopped family words request limits before after stops.WriteFault judges read = absurd read
+judge_stopped family words request limits before after stop judges read =
+    stopped_alike limits before after (Judges family) (MakesOf words request) (λ input refusal lacks. lacks_refuses family words request input refusal judges lacks) stop read
 
 -- what is answered to a judgement
 pub judge_answered : (family : TextFamily) (words : List (List ℕ)) (request : Request) (limits : Option ℕ) (before after : Source) (judged : Judgement) (made : Result Answer Stop) → ReadsAnd limits before after (Judges family) (Ok judged) → ((input : List ℕ) → Judges family input (Ok judged) → MakesOf words request input made) → ReadsAnd limits before after (MakesOf words request) made

@@ -2,6 +2,7 @@
 use Rattle.std.proofs.Common.{ℕ, ◌≡◌, Bool, List, Option, Result, Ok, Err, Some, None, inl, inr, refl, sym, ap, subst, ◌∙◌}
 use Rattle.search_model.specs.Problem.{Problem}
 use Rattle.search_model.specs.Legal.{IsPath}
+use Rattle.bound_tree.specs.declared.plan.Plan.{Plan as APlan}
 use Rattle.bound_tree.specs.declared.gap.GapPlan.{GapPlan}
 use Rattle.bound_tree.specs.Gaps.{plan_of}
 use Rattle.tree_format.specs.declared.plan_line.Family.{Family}
@@ -19,13 +20,12 @@ use Rattle.plan_command.specs.declared.request.Request.TheVariants.{Check, Check
 use Rattle.plan_command.specs.declared.status.Stop.{Stop}
 use Rattle.plan_command.specs.declared.status.Status.{Status}
 use Rattle.plan_command.specs.declared.status.Status.TheVariants.{Done}
-use Rattle.plan_command.specs.declared.status.Refusal.TheVariants as refusals
 use Rattle.plan_command.specs.Lines.{rejection_of, gap_rejection_of}
 use Rattle.plan_command.specs.Families.{IsAccepted, reason_against}
-use Rattle.plan_command.specs.Commands.{report_of, IsVerdict, IsGapVerdict, Answers, Refuses}
+use Rattle.plan_command.specs.Commands.{report_of, IsVerdict, IsGapVerdict, Answers, IsRejected}
 use Rattle.plan_command.specs.Checks.{IsTold, TellsVerdict}
 use Rattle.plan_command.specs.Makes.{MakesOf}
-use Rattle.plan_command.specs.Intakes.{IsVerdictOn, Judges}
+use Rattle.plan_command.specs.Intakes.{IsVerdictOn, Judges, JudgesAs}
 
 reason_is : (reason : Option GapRejectAt) (at : GapRejectAt) → Rejected at ≡ gap_verdict_of reason → reason ≡ Some at
 reason_is None at e = let bad : ⊥ = cc in absurd bad
@@ -74,29 +74,34 @@ gap_told p plan (Rejected at) status text on (done, said) =
 
 module _ (words : List (List ℕ)) (input : List ℕ) (judged : Judgement) where
   pub check_made : (made : Result Answer Stop) → TellsVerdict judged.verdict made → Judges Plans input (Ok judged) → MakesOf words Check input made
-  check_made (Ok answer) told (plan, is, on, path) = (judged.sc, plan_of plan, is, plan_told judged.sc plan judged.verdict answer.status answer.text.items on told)
-  check_made (Err stop) told (plan, is, on, path) = subst (λ (s : Stop). MakesOf words Check input (Err s)) (sym told) tt
+  check_made (Ok answer) told (plan, is, on, kept) = (judged.sc, plan_of plan, is, plan_told judged.sc plan judged.verdict answer.status answer.text.items on told)
+  check_made (Err stop) told (plan, is, on, kept) = subst (λ (s : Stop). MakesOf words Check input (Err s)) (sym told) tt
 
   pub gap_check_made : (made : Result Answer Stop) → TellsVerdict judged.verdict made → Judges Gaps input (Ok judged) → MakesOf words CheckGap input made
-  gap_check_made (Ok answer) told (plan, is, on, path) = (judged.sc, plan, is, gap_told judged.sc plan judged.verdict answer.status answer.text.items on told)
-  gap_check_made (Err stop) told (plan, is, on, path) = subst (λ (s : Stop). MakesOf words CheckGap input (Err s)) (sym told) tt
+  gap_check_made (Ok answer) told (plan, is, on, kept) = (judged.sc, plan, is, gap_told judged.sc plan judged.verdict answer.status answer.text.items on told)
+  gap_check_made (Err stop) told (plan, is, on, kept) = subst (λ (s : Stop). MakesOf words CheckGap input (Err s)) (sym told) tt
 
-  pub report_told : (json : Bool) (status : Status) (text : List ℕ) → judged.verdict ≡ Accepted → status ≡ Done → text ≡ report_of json judged.sc judged.path → Judges Plans input (Ok judged) → Answers words (Report json) input status text
-  report_told json status text accepted done is_report (plan, is, on, path) = (judged.sc, plan_of plan, is, (done, on.accepted.0 accepted, is_report ∙ ap (report_of json judged.sc) path))
-
-  pub report_refused : (json : Bool) (at : GapRejectAt) (plain : RejectAt) → judged.verdict ≡ Rejected at → plain_at (Some plain) ≡ Some at → Judges Plans input (Ok judged) → Refuses words (Report json) input (refusals.Rejected plain)
-  report_refused json at plain rejected told (plan, is, on, path) =
-      let (refused, against) = rejected_for Plans judged.sc plan judged.verdict at rejected on in
-      let (other, first, same) = plain_is (first_reason judged.sc (plan_of plan)) at against in
-      (tt, (judged.sc, plan_of plan, is, refused, first ∙ same_plain other plain (same ∙ sym told)))
+  pub report_told : (json : Bool) (status : Status) (text : List ℕ) → judged.verdict ≡ Accepted → status ≡ Done → text ≡ report_of json judged.sc judged.plan.standing.path → Judges Plans input (Ok judged) → Answers words (Report json) input status text
+  report_told json status text accepted done is_report (plan, is, on, kept) = (judged.sc, plan_of plan, is, (done, on.accepted.0 accepted, is_report ∙ ap (λ (k : APlan). report_of json judged.sc k.standing.path) kept))
 
 -- the path of an accepted plan is one
-pub reported_path : (input : List ℕ) (judged : Judgement) → judged.verdict ≡ Accepted → Judges Plans input (Ok judged) → IsPath judged.sc judged.path
-reported_path input judged accepted (plan, is, on, path) = subst (IsPath judged.sc) (sym path) ((on.accepted.0 accepted).path)
+pub reported_path : (input : List ℕ) (judged : Judgement) → judged.verdict ≡ Accepted → Judges Plans input (Ok judged) → IsPath judged.sc judged.plan.standing.path
+reported_path input judged accepted (plan, is, on, kept) = subst (λ (k : APlan). IsPath judged.sc k.standing.path) (sym kept) ((on.accepted.0 accepted).path)
 
--- and what is told against one is a reason against a plan
-pub plain_against : (input : List ℕ) (judged : Judgement) (at : GapRejectAt) → judged.verdict ≡ Rejected at → Judges Plans input (Ok judged) → (plain : RejectAt) × (plain_at (Some plain) ≡ Some at)
-plain_against input judged at rejected (plan, is, on, path) =
-    let (refused, against) = rejected_for Plans judged.sc plan judged.verdict at rejected on in
-    let (plain, first, told) = plain_is (first_reason judged.sc (plan_of plan)) at against in
-    (plain, told)
+-- What is said against a plan, whether its records are kept or not.
+module _ (keeps : Bool) (input : List ℕ) (judged : Judgement) (at : GapRejectAt) (rejected : judged.verdict ≡ Rejected at) (judges : JudgesAs (record { family = Plans; keeps = keeps }) input (Ok judged)) where
+  -- it is a reason against a plan
+  pub plain_against : (plain : RejectAt) × (plain_at (Some plain) ≡ Some at)
+  plain_against =
+      let (plan, is, on, kept) = judges in
+      let (refused, against) = rejected_for Plans judged.sc plan judged.verdict at rejected on in
+      let (plain, first, told) = plain_is (first_reason judged.sc (plan_of plan)) at against in
+      (plain, told)
+
+  -- and the first against it
+  pub plan_rejected : (plain : RejectAt) → plain_at (Some plain) ≡ Some at → IsRejected input plain
+  plan_rejected plain told =
+      let (plan, is, on, kept) = judges in
+      let (refused, against) = rejected_for Plans judged.sc plan judged.verdict at rejected on in
+      let (other, first, same) = plain_is (first_reason judged.sc (plan_of plan)) at against in
+      (judged.sc, plan_of plan, is, refused, first ∙ same_plain other plain (same ∙ sym told))

@@ -1,10 +1,12 @@
--- What is kept of an input that holds a scenario and a plan or gap plan, while it is read in pieces. The family says which of
--- the two is read.
-use Rattle.std.specs.Prelude.{◌≡◌, ◌↔◌, ◌+◌, ◌<◌, ◌≤◌, ◌++◌, ◌∷◌, [], ℕ, List, Option, Some, None, true, false, map, length, take, Result, Ok, Err}
+-- What is kept of an input that holds a scenario and a plan or gap plan, while it is read in pieces. The task says which of
+-- the two is read, by its family, and whether the records are kept.
+use Rattle.std.specs.Prelude.{◌≡◌, ◌↔◌, ◌+◌, ◌<◌, ◌≤◌, ◌++◌, ◌∷◌, [], ℕ, Bool, List, Option, Some, None, true, false, map, length, take, Result, Ok, Err}
 use Rattle.search_model.specs.Problem.{Problem}
 use Rattle.scenario_text.specs.declared.kind.TextFault.{TextFault}
 use Rattle.scenario_text.specs.Reading.{front_of}
 use Rattle.scenario_text.specs.Laws.{EndsWithEnd}
+use Rattle.bound_tree.specs.declared.node.TreeNode.{TreeNode}
+use Rattle.bound_tree.specs.declared.plan.Plan.{Plan}
 use Rattle.bound_tree.specs.declared.gap.GapNode.{GapNode}
 use Rattle.bound_tree.specs.declared.gap.GapPlan.{GapPlan}
 use Rattle.bound_tree.specs.Gaps.{shape_of}
@@ -22,6 +24,8 @@ use Rattle.tree_checker.specs.declared.gap_verdict.GapVerdict.{GapVerdict}
 use Rattle.tree_checker.specs.declared.gap_verdict.GapVerdict.TheVariants as verdicts
 use Rattle.tree_checker.specs.GapReasons.{plain_at, gap_verdict_of}
 use Rattle.tree_checker.specs.Progress.{Progress, reason_if, reason_at_end, gap_reason_if, gap_reason_at_end, IsUnderWay, IsMadeFor}
+use Rattle.plan_command.specs.declared.hearing.Head.{Head}
+use Rattle.plan_command.specs.declared.judge.Task.{Task}
 use Rattle.plan_command.specs.declared.judge.Judge.{Judge}
 use Rattle.plan_command.specs.declared.intake.Intake.{Intake}
 use Rattle.plan_command.specs.declared.intake.Intake.TheVariants as intakes
@@ -54,6 +58,26 @@ nodes_in (items.Head s w c n ∷ more) = nodes_in more
 nodes_in (items.Node r ∷ more) = r ∷ nodes_in more
 nodes_in (items.End ∷ more) = nodes_in more
 
+-- of nodes these are kept: all, as records, or none
+abbrev pub records_kept : Bool → List GapNode → List TreeNode
+records_kept true nodes = map shape_of nodes
+records_kept false nodes = []
+
+-- what is kept of a plan or gap plan: its head, and of its records those that are kept
+abbrev pub kept_of : Bool → GapPlan → Plan
+kept_of keeps plan = record { standing = plan.standing; weight = plan.weight; tree = records_kept keeps plan.nodes }
+
+-- and what a judge has kept
+abbrev pub kept_by : Judge → Plan
+kept_by judge = record { standing = judge.head.standing; weight = judge.head.weight; tree = judge.records.items }
+
+-- a task that keeps no records, and the one that keeps those of a plan
+abbrev pub keeping_none : Family → Task
+keeping_none family = record { family = family; keeps = false }
+
+abbrev pub keeping_plans : Task
+keeping_plans = record { family = Plans; keeps = true }
+
 -- the first reason, should these nodes follow and then the end, with this ceiling in the head
 abbrev pub leads_to : Family → Problem → Progress → ℕ → List GapNode → Option GapRejectAt
 leads_to Plans p g ceiling nodes = plain_at (reason_if p g (map shape_of nodes))
@@ -64,20 +88,20 @@ abbrev pub leads_at_end : Family → Progress → ℕ → Option GapRejectAt
 leads_at_end Plans g ceiling = plain_at (reason_at_end g)
 leads_at_end Gaps g ceiling = gap_reason_at_end g ceiling
 
--- where a head was told first, it has this path and this ceiling, and the checker leads to the first reason against the plan
--- or gap plan of that head and of the nodes so far, whatever nodes follow
-abbrev pub LeadsToReason : Family → Problem → List PlanItem → List ℕ → ℕ → Progress → Type 0
-LeadsToReason family p (items.Head s w c n ∷ more) path ceiling checker =
-    (path ≡ s.path) × (ceiling ≡ c)
+-- where a head was told first, it is this one, and the checker leads to the first reason against the plan or gap plan of that
+-- head and of the nodes so far, whatever nodes follow
+abbrev pub LeadsToReason : Family → Problem → List PlanItem → Head → Progress → Type 0
+LeadsToReason family p (items.Head s w c n ∷ more) head checker =
+    (head ≡ record { standing = s; weight = w; ceiling = c })
     × ((later : List GapNode) → leads_to family p checker c later ≡ reason_against family p (record { standing = s; weight = w; ceiling = c; nodes = nodes_in more ++ later }))
-LeadsToReason family p told path ceiling checker = Unit {0}
+LeadsToReason family p told head checker = Unit {0}
 
--- a checker that was told these items, and the path and the ceiling among them
-pub record HasHeard (family : Family) (p : Problem) (told : List PlanItem) (path : List ℕ) (ceiling : ℕ) (checker : Progress) : Type 0 where
+-- a checker that was told these items, and the head among them
+pub record HasHeard (family : Family) (p : Problem) (told : List PlanItem) (head : Head) (checker : Progress) : Type 0 where
   pub under_way : IsUnderWay p checker
   pub made_for : IsMadeFor p checker
   pub line : checker.line ≤ 6 + length (nodes_in told)
-  pub reason : LeadsToReason family p told path ceiling checker
+  pub reason : LeadsToReason family p told head checker
 
 -- a head is told first of all
 abbrev pub IsNextItem : List PlanItem → PlanItem → Type 0
@@ -85,20 +109,22 @@ IsNextItem told (items.Head s w c n) = told ≡ []
 IsNextItem told (items.Node r) = Unit {0}
 IsNextItem told items.End = Unit {0}
 
--- a judge of texts of the family that took this text: its feed has read it, and its checker was told what it says
-pub record HasTakenText (family : Family) (text : List ℕ) (judge : Judge) : Type 0 where
-  pub same : judge.family ≡ family
+-- a judge with this task that took this text: its feed has read it, its checker was told what it says, and of the nodes it
+-- has kept what the task says
+pub record HasTakenText (task : Task) (text : List ℕ) (judge : Judge) : Type 0 where
+  pub same : judge.task ≡ task
   pub told : List PlanItem
-  pub read : HasRead family judge.sc text told judge.feed
-  pub heard : HasHeard family judge.sc told judge.path judge.ceiling judge.checker
+  pub read : HasRead task.family judge.sc text told judge.feed
+  pub heard : HasHeard task.family judge.sc told judge.head judge.checker
+  pub kept : judge.records.items ≡ records_kept task.keeps (nodes_in told)
 
 -- a judge that took these bytes behind a scenario: blanks, and then the text
-pub record HasTakenRest (family : Family) (rest : List ℕ) (judge : Judge) : Type 0 where
+pub record HasTakenRest (task : Task) (rest : List ℕ) (judge : Judge) : Type 0 where
   pub text : List ℕ
   pub skips : SkipsSpaces rest text
   pub none : judge.begun ≡ false → text ≡ []
   pub some : judge.begun ≡ true → 0 < length text
-  pub taken : HasTakenText family text judge
+  pub taken : HasTakenText task text judge
 
 -- the verdict on a plan, as one on a gap plan
 abbrev pub plain_verdict : Verdict → GapVerdict
@@ -114,10 +140,10 @@ pub record IsVerdictOn (family : Family) (p : Problem) (plan : GapPlan) (verdict
 abbrev pub IsJudged : Family → Problem → List ℕ → GapPlan → GapVerdict → Type 0
 IsJudged family p rest plan verdict = IsRestOf family p rest plan × IsVerdictOn family p plan verdict
 
--- the verdict on the plan or gap plan that these bytes are, which has this path, or what is wrong with them
-abbrev pub TellsRest : Family → Problem → List ℕ → List ℕ → Result GapVerdict PlanFault → Type 0
-TellsRest family p path rest (Ok verdict) = (plan : GapPlan) × IsJudged family p rest plan verdict × (path ≡ plan.standing.path)
-TellsRest family p path rest (Err fault) = HasFaultIn family p rest fault
+-- the verdict on the plan or gap plan that these bytes are, of which this was kept, or what is wrong with them
+abbrev pub TellsRest : Task → Problem → Plan → List ℕ → Result GapVerdict PlanFault → Type 0
+TellsRest task p kept rest (Ok verdict) = (plan : GapPlan) × IsJudged task.family p rest plan verdict × (kept ≡ kept_of task.keeps plan)
+TellsRest task p kept rest (Err fault) = HasFaultIn task.family p rest fault
 
 -- what an input lacks: a fault of the scenario's text, or one of the plan's, unless memory ran out
 abbrev pub LacksBy : (TextFault → Type 0) → (PlanFault → Type 0) → Stop → Type 0
@@ -126,17 +152,21 @@ LacksBy Front Behind (stops.Refused (refusals.BadPlan fault)) = Behind fault
 LacksBy Front Behind stops.NoMemory = Unit {0}
 LacksBy Front Behind _ = ⊥
 
--- the input is a scenario and a plan or gap plan, and this is its path and the verdict on it, or what the input lacks
+-- the input is a scenario and a plan or gap plan, and this was kept of it and is the verdict on it, or what the input lacks
+abbrev pub JudgesAs : Task → List ℕ → Result Judgement Stop → Type 0
+JudgesAs task input (Ok judged) =
+    (plan : GapPlan) × IsInputOf task.family input judged.sc plan × IsVerdictOn task.family judged.sc plan judged.verdict × (judged.plan ≡ kept_of task.keeps plan)
+JudgesAs task input (Err stop) = LacksBy (λ fault. front_of input ≡ Err fault) (HasBadText task.family input) stop
+
+-- the same, where no records are kept
 abbrev pub Judges : Family → List ℕ → Result Judgement Stop → Type 0
-Judges family input (Ok judged) =
-    (plan : GapPlan) × IsInputOf family input judged.sc plan × IsVerdictOn family judged.sc plan judged.verdict × (judged.path ≡ plan.standing.path)
-Judges family input (Err stop) = LacksBy (λ fault. front_of input ≡ Err fault) (HasBadText family input) stop
+Judges family input judged = JudgesAs (keeping_none family) input judged
 
 -- the input begins with the scenario of a judge, which took the rest of it
-pub record IsBehind (family : Family) (input : List ℕ) (judge : Judge) : Type 0 where
+pub record IsBehind (task : Task) (input : List ℕ) (judge : Judge) : Type 0 where
   pub rest : List ℕ
   pub begins : BeginsWith judge.sc input rest
-  pub taken : HasTakenRest family rest judge
+  pub taken : HasTakenRest task rest judge
 
 -- the input begins with a scenario, and what follows has this fault, and so it has whatever follows it
 pub record LacksText (family : Family) (input : List ℕ) (fault : PlanFault) : Type 0 where
@@ -146,48 +176,47 @@ pub record LacksText (family : Family) (input : List ℕ) (fault : PlanFault) : 
   pub faulty : (more : List ℕ) → HasFaultIn family problem (rest ++ more) fault
 
 -- the judge behind a scenario took these bytes, or they have this fault, and so they have whatever follows
-abbrev pub JudgesRest : Family → Problem → List ℕ → Result Judge Stop → Type 0
-JudgesRest family p rest (Ok judge) = (judge.sc ≡ p) × HasTakenRest family rest judge
-JudgesRest family p rest (Err stop) = LacksBy (λ fault. ⊥) (λ fault. (more : List ℕ) → HasFaultIn family p (rest ++ more) fault) stop
+abbrev pub JudgesRest : Task → Problem → List ℕ → Result Judge Stop → Type 0
+JudgesRest task p rest (Ok judge) = (judge.sc ≡ p) × HasTakenRest task rest judge
+JudgesRest task p rest (Err stop) = LacksBy (λ fault. ⊥) (λ fault. (more : List ℕ) → HasFaultIn task.family p (rest ++ more) fault) stop
 
 -- the judge behind the scenario of the input, or what the input lacks
-abbrev pub JudgesFront : Family → List ℕ → Result Judge Stop → Type 0
-JudgesFront family input (Ok judge) = IsBehind family input judge
-JudgesFront family input (Err stop) = LacksBy (λ fault. front_of input ≡ Err fault) (LacksText family input) stop
+abbrev pub JudgesFront : Task → List ℕ → Result Judge Stop → Type 0
+JudgesFront task input (Ok judge) = IsBehind task input judge
+JudgesFront task input (Err stop) = LacksBy (λ fault. front_of input ≡ Err fault) (LacksText task.family input) stop
 
 -- whatever follows these bytes, the input lacks this
-abbrev pub Lacks : Family → List ℕ → Stop → Type 0
-Lacks family bytes stop =
-    LacksBy (λ fault. (more : List ℕ) → front_of (bytes ++ more) ≡ Err fault) (λ fault. (more : List ℕ) → HasBadText family (bytes ++ more) fault) stop
+abbrev pub Lacks : Task → List ℕ → Stop → Type 0
+Lacks task bytes stop =
+    LacksBy (λ fault. (more : List ℕ) → front_of (bytes ++ more) ≡ Err fault) (λ fault. (more : List ℕ) → HasBadText task.family (bytes ++ more) fault) stop
 
 -- whatever follows these bytes, they begin with the scenario of a judge, which took the rest of them
-pub record IsBehindAll (family : Family) (bytes : List ℕ) (judge : Judge) : Type 0 where
+pub record IsBehindAll (task : Task) (bytes : List ℕ) (judge : Judge) : Type 0 where
   pub rest : List ℕ
   pub begins : (more : List ℕ) → BeginsWith judge.sc (bytes ++ more) (rest ++ more)
-  pub taken : HasTakenRest family rest judge
+  pub taken : HasTakenRest task rest judge
 
--- these bytes were taken of a scenario and a text of the family; they are kept only while none of their fronts ends with a
+-- these bytes were taken of a scenario and the text of the task; they are kept only while none of their fronts ends with a
 -- line `end`, so never past the first
-abbrev pub HasTaken : Family → List ℕ → Intake → Type 0
-HasTaken family bytes (intakes.Scenario alloc due text) = (due ≡ family) × (text.items ≡ bytes) × HasNoEnd bytes
-HasTaken family bytes (intakes.Plan judge) = IsBehindAll family bytes judge
-HasTaken family bytes (intakes.Stopped stop) = Lacks family bytes stop
+abbrev pub HasTaken : Task → List ℕ → Intake → Type 0
+HasTaken task bytes (intakes.Scenario alloc due text) = (due ≡ task) × (text.items ≡ bytes) × HasNoEnd bytes
+HasTaken task bytes (intakes.Plan judge) = IsBehindAll task bytes judge
+HasTaken task bytes (intakes.Stopped stop) = Lacks task bytes stop
 
--- a judge took a piece more, or the piece has a fault, and so it has whatever follows
-abbrev pub GoesOn : Family → Judge → List ℕ → Intake → Type 0
-GoesOn family judge piece (intakes.Scenario alloc due text) = ⊥
-GoesOn family judge piece (intakes.Plan new) =
-    (new.sc ≡ judge.sc) × ((rest : List ℕ) → HasTakenRest family rest judge → HasTakenRest family (rest ++ piece) new)
-GoesOn family judge piece (intakes.Stopped (stops.Refused (refusals.BadPlan fault))) =
-    (rest more : List ℕ) → HasTakenRest family rest judge → HasFaultIn family judge.sc (rest ++ piece ++ more) fault
-GoesOn family judge piece (intakes.Stopped _) = ⊥
+-- a judge took a piece more, or the piece has a fault, and so it has whatever follows, unless memory ran out
+abbrev pub GoesOn : Task → Judge → List ℕ → Intake → Type 0
+GoesOn task judge piece (intakes.Scenario alloc due text) = ⊥
+GoesOn task judge piece (intakes.Plan new) =
+    (new.sc ≡ judge.sc) × ((rest : List ℕ) → HasTakenRest task rest judge → HasTakenRest task (rest ++ piece) new)
+GoesOn task judge piece (intakes.Stopped stop) =
+    LacksBy (λ fault. ⊥) (λ fault. (rest more : List ℕ) → HasTakenRest task rest judge → HasFaultIn task.family judge.sc (rest ++ piece ++ more) fault) stop
 
 -- a piece was added to the lines of a scenario, which didn't end, or it was taken where these ended
-abbrev pub GathersOn : Family → List ℕ → List ℕ → List ℕ → Option Intake → Type 0
-GathersOn family old piece new None = (new ≡ old ++ piece) × HasNoEndBefore old piece (length piece + 1)
-GathersOn family old piece new (Some intake) = HasTaken family (old ++ piece) intake
+abbrev pub GathersOn : Task → List ℕ → List ℕ → List ℕ → Option Intake → Type 0
+GathersOn task old piece new None = (new ≡ old ++ piece) × HasNoEndBefore old piece (length piece + 1)
+GathersOn task old piece new (Some intake) = HasTaken task (old ++ piece) intake
 
 -- an intake took these bytes, or the one that it becomes
-abbrev pub Becomes : Family → List ℕ → Intake → Option Intake → Type 0
-Becomes family bytes intake None = HasTaken family bytes intake
-Becomes family bytes intake (Some next) = HasTaken family bytes next
+abbrev pub Becomes : Task → List ℕ → Intake → Option Intake → Type 0
+Becomes task bytes intake None = HasTaken task bytes intake
+Becomes task bytes intake (Some next) = HasTaken task bytes next

@@ -87,8 +87,8 @@ fn report(alloc: Global, json: bool, sc: &Scenario, path: &Path) -> Result<Vec<u
     Ok(text)
 }
 
-// A reason against a plan, which is told as one against a gap plan.
-fn plain_reason(at: GapRejectAt) -> RejectAt
+/// A reason against a plan, which is told as one against a gap plan.
+pub fn plain_reason(at: GapRejectAt) -> RejectAt
     requires { (plain : PlainLem) × (plain_at (Some plain) ≡ Some at) }
     ensures { plain_at (Some result) ≡ Some at }
 {
@@ -107,7 +107,7 @@ pub fn answer_report(alloc: Global, json: bool, judgement: &Judgement) -> Result
     match judgement.verdict {
         GapVerdict::Accepted => Ok(Answer {
             status: Status::Done,
-            text: report(alloc, json, &judgement.sc, &judgement.path)?,
+            text: report(alloc, json, &judgement.sc, &judgement.plan.standing.path)?,
         }),
         GapVerdict::Rejected(at) => Err(Stop::Refused(Refusal::Rejected(plain_reason(at)))),
     }

@@ -5,6 +5,7 @@ ghost use Rattle.tree_format.specs.declared.plan_item.PlanItem.{PlanItem as Item
 ghost use Rattle.tree_format.specs.declared.plan_item.PlanItem.TheVariants as items;
 ghost use Rattle.tree_checker.specs.GapReasons.{gap_verdict_of};
 ghost use Rattle.tree_checker.specs.Progress.{IsUnderWay, IsMadeFor};
+ghost use Rattle.plan_command.specs.declared.hearing.Head.{Head as HeadLem};
 ghost use Rattle.plan_command.specs.Intakes.{HasHeard, leads_at_end, plain_verdict};
 
 use bound_tree::GapNode;
@@ -12,21 +13,23 @@ use search_model::{Scenario, Standing};
 use tree_checker::{Checker, GapRejectAt, GapVerdict, GapWhy, RejectAt, Verdict};
 use tree_format::{Family, record_of};
 
+/// The head of a text, of a plan or of a gap plan. The ceiling of a plan is its value.
+#[derive(Clone, Copy)]
+pub struct Head {
+    pub standing: Standing,
+    pub weight: u128,
+    pub ceiling: u128,
+}
+
 /// Tells the head of a text of the family.
-pub fn hear_head(
-    checker: &mut Checker,
-    sc: &Scenario,
-    family: Family,
-    standing: &Standing,
-    weight: u128,
-)
+pub fn hear_head(checker: &mut Checker, sc: &Scenario, family: Family, head: &Head)
     requires { IsMadeFor sc.now checker.old }
-    ensures { (ceiling count : ℕ) →
-        HasHeard family sc.now (items.Head standing.now weight ceiling count ∷ []) standing.now.path ceiling checker.new }
+    ensures { (count : ℕ) → HasHeard family sc.now
+        (items.Head head.now.standing head.now.weight head.now.ceiling count ∷ []) head.now checker.new }
 {
     match family {
-        Family::Plans => checker.head(sc, standing, weight),
-        Family::Gaps => checker.gap_head(sc, standing, weight),
+        Family::Plans => checker.head(sc, &head.standing, head.weight),
+        Family::Gaps => checker.gap_head(sc, &head.standing, head.weight),
     }
 }
 
@@ -35,8 +38,8 @@ pub fn hear_node(checker: &mut Checker, sc: &Scenario, family: Family, node: &Ga
     requires under_way { IsUnderWay sc.now checker.old }
     requires line { checker.old.line < 2 ^ 63 }
     requires made { IsMadeFor sc.now checker.old }
-    ensures { (told : List ItemLem) (path : List ℕ) (ceiling : ℕ) → HasHeard family sc.now told path ceiling checker.old
-        → HasHeard family sc.now (told ++ items.Node node.now ∷ []) path ceiling checker.new }
+    ensures { (told : List ItemLem) (head : HeadLem) → HasHeard family sc.now told head checker.old
+        → HasHeard family sc.now (told ++ items.Node node.now ∷ []) head checker.new }
 {
     match family {
         Family::Plans => checker.node(sc, &record_of(node)),

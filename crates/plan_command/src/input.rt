@@ -2,7 +2,7 @@
 
 ghost use Rattle.std.specs.Prelude.{◌≡◌, ◌<◌, ◌^◌, ℕ, List, Some, None, length, map, string_bytes};
 ghost use Rattle.plan_command.specs.Inputs.{source_view, InputOf, ReadsAnd};
-ghost use Rattle.plan_command.specs.Intakes.{Judges};
+ghost use Rattle.plan_command.specs.Intakes.{Judges, JudgesAs};
 ghost use Rattle.plan_command.specs.Makes.{MakesOf, IsAsked};
 ghost use Rattle.plan_command.specs.Words.{family_of, of_scenario, limit_of};
 
@@ -11,6 +11,7 @@ use crate::checking::{answer_check, answer_check_gap, answer_report};
 use crate::converting::answer_convert;
 use crate::drilling::{answer_drill, answer_make};
 use crate::intake::{Intake, Judgement};
+use crate::judge::Task;
 use crate::request::{MOST_JUDGED, MOST_SCENARIO, Request};
 use crate::status::Stop;
 use byte_ports::{InputStop, ReadStop, Source, read_all, read_pieces};
@@ -48,23 +49,32 @@ fn unread(stop: InputStop) -> Stop
     }
 }
 
-// The verdict on what stands behind the scenario in the input, by a text of the family. So many bytes are read at once as
-// there is room for.
-fn judge_pieces<S: Source>(
+// The verdict on what stands behind the scenario in the input, and what the task keeps of it. So many bytes are read at
+// once as there is room for.
+fn hear_pieces<S: Source>(
     alloc: Global,
-    family: Family,
+    task: Task,
     source: &mut S,
     piece: &mut [u8],
 ) -> Result<Judgement, Stop>
     requires { 0 < length piece.old }
     ensures { ReadsAnd (Some MOST_JUDGED) (source_view S.left S.faults source.old)
-        (source_view S.left S.faults source.new) (Judges family) result }
+        (source_view S.left S.faults source.new) (JudgesAs task) result }
 {
-    let mut intake = Intake::new(alloc, family);
+    let mut intake = Intake::new(alloc, task);
     match read_pieces(source, piece, MOST_JUDGED, &mut intake) {
         Ok(()) => intake.finish(),
         Err(stop) => Err(unread(stop)),
     }
+}
+
+// The verdict on what stands behind the scenario in the input, and what the task keeps of it.
+fn hear_input<S: Source>(alloc: Global, task: Task, source: &mut S) -> Result<Judgement, Stop>
+    ensures { ReadsAnd (Some MOST_JUDGED) (source_view S.left S.faults source.old)
+        (source_view S.left S.faults source.new) (JudgesAs task) result }
+{
+    let mut piece = vec![in alloc; 0; PIECE_LEN]?;
+    hear_pieces(alloc, task, source, &mut piece)
 }
 
 // The verdict on what stands behind the scenario in the input, by a text of the family. Of both only the scenario is kept.
@@ -72,8 +82,8 @@ fn judge_input<S: Source>(alloc: Global, family: Family, source: &mut S) -> Resu
     ensures { ReadsAnd (Some MOST_JUDGED) (source_view S.left S.faults source.old)
         (source_view S.left S.faults source.new) (Judges family) result }
 {
-    let mut piece = vec![in alloc; 0; PIECE_LEN]?;
-    judge_pieces(alloc, family, source, &mut piece)
+    let keeps = false;
+    hear_input(alloc, Task { family, keeps }, source)
 }
 
 // What `check` makes of its input.
@@ -109,13 +119,15 @@ fn report_input<S: Source>(alloc: Global, json: bool, source: &mut S) -> Result<
     }
 }
 
-// What `convert` makes of its input, which is kept whole.
+// What `convert` makes of its input, of which the scenario is kept, and the plan.
 fn convert_input<S: Source>(alloc: Global, source: &mut S) -> Result<Answer, Stop>
     ensures { (words : List (List ℕ)) → ReadsAnd (Some MOST_JUDGED) (source_view S.left S.faults source.old)
         (source_view S.left S.faults source.new) (MakesOf words Request.Convert) result }
 {
-    match read_input(alloc, source, MOST_JUDGED) {
-        Ok(input) => answer_convert(alloc, &input),
+    let family = Family::Plans;
+    let keeps = true;
+    match hear_input(alloc, Task { family, keeps }, source) {
+        Ok(judgement) => answer_convert(alloc, &judgement),
         Err(stop) => Err(stop),
     }
 }

@@ -1,39 +1,41 @@
 //! The input of a request that judges a plan or a gap plan, which comes in pieces.
 
-ghost use Rattle.std.specs.Prelude.{◌++◌, [], ℕ, List, IfOk};
+ghost use Rattle.std.specs.Prelude.{◌≡◌, ◌++◌, [], ℕ, List, IfOk};
 ghost use Rattle.scenario_text.specs.Laws.{EndsWithEnd};
-ghost use Rattle.tree_format.specs.declared.plan_line.Family.{Family as FamilyLem};
+ghost use Rattle.plan_command.specs.declared.judge.Task.{Task as TaskLem};
 ghost use Rattle.plan_command.specs.Plans.{BeginsWith};
-ghost use Rattle.plan_command.specs.Intakes.{HasGathered, GathersOn, HasTakenRest, GoesOn, TellsRest, IsBehind, JudgesRest, JudgesFront, Judges, HasTaken, Becomes};
+ghost use Rattle.plan_command.specs.Intakes.{HasGathered, GathersOn, HasTakenRest, GoesOn, TellsRest, IsBehind, JudgesRest, JudgesFront, JudgesAs, HasTaken, Becomes};
 
-use crate::judge::Judge;
+use crate::hearing::Head;
+use crate::judge::{Judge, Task};
 use crate::scenario_end::ends_with_end;
 use crate::spaces::rest_from;
 use crate::status::{Refusal, Stop};
+use bound_tree::{BoundTree, Plan, TreeNode};
 use byte_ports::Receiver;
 use exact_parts::NoMemory;
 use scenario_text::{TextStop, read_scenario};
-use search_model::{Path, Scenario};
+use search_model::Scenario;
 use std::alloc::Global;
 use tree_checker::GapVerdict;
-use tree_format::{Family, PlanFault};
+use tree_format::{PlanFault, PlanStop};
 
 /// What was made of the bytes so far.
 #[derive(Drop)]
 pub enum Intake {
-    /// They are the scenario's lines, or a front of them. Behind them a text of the family is due.
-    Scenario(Global, Family, Vec<u8>),
+    /// They are the scenario's lines, or a front of them. Behind them the text of this task is due.
+    Scenario(Global, Task, Vec<u8>),
     /// The scenario was read, and what follows goes to the judge.
     Plan(Judge),
     /// They are refused, whatever follows, or memory ran out.
     Stopped(Stop),
 }
 
-/// The scenario and the path of a plan or gap plan, and what is said of it.
+/// The scenario, what is kept of a plan or gap plan, and what is said of it. The tree is empty where no records are kept.
 #[derive(Drop)]
 pub struct Judgement {
     pub sc: Scenario,
-    pub path: Path,
+    pub plan: Plan,
     pub verdict: GapVerdict,
 }
 
@@ -52,22 +54,23 @@ fn gather(text: &mut Vec<u8>, piece: &[u8]) -> Result<Option<usize>, NoMemory>
 }
 
 // The judge behind a scenario, which took these bytes.
-fn judge_rest(alloc: Global, sc: Scenario, family: Family, rest: &[u8]) -> Result<Judge, Stop>
-    ensures { JudgesRest family sc rest.now result }
+fn judge_rest(alloc: Global, sc: Scenario, task: Task, rest: &[u8]) -> Result<Judge, Stop>
+    ensures { JudgesRest task sc rest.now result }
 {
-    let mut judge = Judge::start(alloc, sc, family)?;
+    let mut judge = Judge::start(alloc, sc, task)?;
     match judge.take(rest) {
         Ok(()) => Ok(judge),
-        Err(fault) => Err(Stop::Refused(Refusal::BadPlan(fault))),
+        Err(PlanStop::Fault(fault)) => Err(Stop::Refused(Refusal::BadPlan(fault))),
+        Err(PlanStop::NoMemory) => Err(Stop::NoMemory),
     }
 }
 
 // The judge behind the scenario at the front of the text, which took the rest of it.
-fn judge_behind(alloc: Global, family: Family, text: &[u8]) -> Result<Judge, Stop>
-    ensures { JudgesFront family text.now result }
+fn judge_behind(alloc: Global, task: Task, text: &[u8]) -> Result<Judge, Stop>
+    ensures { JudgesFront task text.now result }
 {
     match read_scenario(alloc, text) {
-        Ok((sc, len)) => judge_rest(alloc, sc, family, rest_from(text, len)),
+        Ok((sc, len)) => judge_rest(alloc, sc, task, rest_from(text, len)),
         Err(TextStop::Fault(fault)) => Err(Stop::Refused(Refusal::BadScenario(fault))),
         Err(TextStop::NoMemory) => Err(Stop::NoMemory),
     }
@@ -75,75 +78,88 @@ fn judge_behind(alloc: Global, family: Family, text: &[u8]) -> Result<Judge, Sto
 
 // What is made of a judge and of the bytes that follow.
 fn going_on(judge: Judge, more: &[u8]) -> Intake
-    requires { (family : FamilyLem) × (rest : List ℕ) × HasTakenRest family rest judge }
-    ensures { (family : FamilyLem) → GoesOn family judge more.now result }
+    requires { (task : TaskLem) × (rest : List ℕ) × HasTakenRest task rest judge }
+    ensures { (task : TaskLem) → GoesOn task judge more.now result }
 {
     let mut judge = judge;
     match judge.take(more) {
         Ok(()) => Intake::Plan(judge),
-        Err(fault) => Intake::Stopped(Stop::Refused(Refusal::BadPlan(fault))),
+        Err(PlanStop::Fault(fault)) => Intake::Stopped(Stop::Refused(Refusal::BadPlan(fault))),
+        Err(PlanStop::NoMemory) => Intake::Stopped(Stop::NoMemory),
     }
 }
 
 // What is made of a scenario's lines, up to the line `end`, and of the bytes that follow.
-fn judged_on(alloc: Global, family: Family, text: &[u8], more: &[u8]) -> Intake
+fn judged_on(alloc: Global, task: Task, text: &[u8], more: &[u8]) -> Intake
     requires { EndsWithEnd text.now }
-    ensures { HasTaken family (text.now ++ more.now) result }
+    ensures { HasTaken task (text.now ++ more.now) result }
 {
-    match judge_behind(alloc, family, text) {
+    match judge_behind(alloc, task, text) {
         Ok(judge) => going_on(judge, more),
         Err(stop) => Intake::Stopped(stop),
     }
 }
 
 // Adds a piece to the scenario's lines: what is made of them where their line `end` came, or where memory ran out.
-fn gathered_on(alloc: Global, family: Family, text: &mut Vec<u8>, piece: &[u8]) -> Option<Intake>
-    ensures { GathersOn family text.old.items piece.now text.new.items result }
+fn gathered_on(alloc: Global, task: Task, text: &mut Vec<u8>, piece: &[u8]) -> Option<Intake>
+    ensures { GathersOn task text.old.items piece.now text.new.items result }
 {
     match gather(text, piece) {
         Ok(None) => None,
-        Ok(Some(used)) => Some(judged_on(alloc, family, text, rest_from(piece, used))),
+        Ok(Some(used)) => Some(judged_on(alloc, task, text, rest_from(piece, used))),
         Err(NoMemory) => Some(Intake::Stopped(Stop::NoMemory)),
     }
 }
 
-// What is made of what was said of a plan or gap plan for this scenario.
+// The plan of a head and of the records that are kept.
+fn plan_kept(head: Head, records: Vec<TreeNode>) -> Plan
+    ensures { result ≡ record { standing = head.standing; weight = head.weight; tree = records.items } }
+{
+    Plan {
+        standing: head.standing,
+        weight: head.weight,
+        tree: BoundTree::of(records),
+    }
+}
+
+// What is made of what was said of a plan or gap plan for this scenario, of which this is kept.
 fn judgement_of(
     sc: Scenario,
-    path: Path,
+    plan: Plan,
     said: Result<GapVerdict, PlanFault>,
 ) -> Result<Judgement, Stop>
-    ensures { (family : FamilyLem) (input rest : List ℕ) → BeginsWith sc input rest
-        → TellsRest family sc path rest said → Judges family input result }
+    ensures { (task : TaskLem) (input rest : List ℕ) → BeginsWith sc input rest
+        → TellsRest task sc plan rest said → JudgesAs task input result }
 {
     match said {
-        Ok(verdict) => Ok(Judgement { sc, path, verdict }),
+        Ok(verdict) => Ok(Judgement { sc, plan, verdict }),
         Err(fault) => Err(Stop::Refused(Refusal::BadPlan(fault))),
     }
 }
 
 // What is made of a judge that ends.
 fn judged(judge: Judge) -> Result<Judgement, Stop>
-    ensures { (family : FamilyLem) (input : List ℕ) → IsBehind family input judge → Judges family input result }
+    ensures { (task : TaskLem) (input : List ℕ) → IsBehind task input judge → JudgesAs task input result }
 {
     let said = judge.finish();
-    judgement_of(judge.sc, judge.path, said)
+    let plan = plan_kept(judge.head, judge.records);
+    judgement_of(judge.sc, plan, said)
 }
 
 // What is made of an input that is a scenario's lines alone.
-fn judged_text(alloc: Global, family: Family, text: &[u8]) -> Result<Judgement, Stop>
-    ensures { Judges family text.now result }
+fn judged_text(alloc: Global, task: Task, text: &[u8]) -> Result<Judgement, Stop>
+    ensures { JudgesAs task text.now result }
 {
-    match judge_behind(alloc, family, text) {
+    match judge_behind(alloc, task, text) {
         Ok(judge) => judged(judge),
         Err(stop) => Err(stop),
     }
 }
 
 impl Receiver for Intake {
-    ghost use Rattle.tree_format.specs.declared.plan_line.Family.{Family as FamilyLem};
+    ghost use Rattle.plan_command.specs.declared.judge.Task.{Task as TaskLem};
 
-    ghost Purpose = { FamilyLem };
+    ghost Purpose = { TaskLem };
 
     ghost took = { HasTaken };
 
@@ -156,24 +172,27 @@ impl Receiver for Intake {
 }
 
 impl Intake {
-    /// No byte came of a scenario and a text of the family.
-    pub fn new(alloc: Global, family: Family) -> Intake
-        ensures { HasTaken family [] result }
+    /// No byte came of a scenario and the text of this task.
+    pub fn new(alloc: Global, task: Task) -> Intake
+        ensures { HasTaken task [] result }
     {
-        Intake::Scenario(alloc, family, Vec::new(alloc))
+        Intake::Scenario(alloc, task, Vec::new(alloc))
     }
 
     // Takes the next bytes: what the intake becomes, where it becomes another.
     fn take_piece(&mut self, piece: &[u8]) -> Option<Intake>
-        requires { (family : FamilyLem) × (bytes : List ℕ) × HasTaken family bytes self.old }
-        ensures { (family : FamilyLem) (bytes : List ℕ) → HasTaken family bytes self.old
-            → Becomes family (bytes ++ piece.now) self.new result }
+        requires { (task : TaskLem) × (bytes : List ℕ) × HasTaken task bytes self.old }
+        ensures { (task : TaskLem) (bytes : List ℕ) → HasTaken task bytes self.old
+            → Becomes task (bytes ++ piece.now) self.new result }
     {
         match self {
-            Intake::Scenario(alloc, family, text) => gathered_on(*alloc, *family, text, piece),
+            Intake::Scenario(alloc, task, text) => gathered_on(*alloc, *task, text, piece),
             Intake::Plan(judge) => match judge.take(piece) {
                 Ok(()) => None,
-                Err(fault) => Some(Intake::Stopped(Stop::Refused(Refusal::BadPlan(fault)))),
+                Err(PlanStop::Fault(fault)) => {
+                    Some(Intake::Stopped(Stop::Refused(Refusal::BadPlan(fault))))
+                }
+                Err(PlanStop::NoMemory) => Some(Intake::Stopped(Stop::NoMemory)),
             },
             Intake::Stopped(_) => None,
         }
@@ -185,10 +204,10 @@ impl Intake {
     ///
     /// The first fault of the scenario's text or of that behind it, or `NoMemory`.
     pub fn finish(self) -> Result<Judgement, Stop>
-        ensures { (family : FamilyLem) (input : List ℕ) → HasTaken family input self → Judges family input result }
+        ensures { (task : TaskLem) (input : List ℕ) → HasTaken task input self → JudgesAs task input result }
     {
         match self {
-            Intake::Scenario(alloc, family, text) => judged_text(alloc, family, &text),
+            Intake::Scenario(alloc, task, text) => judged_text(alloc, task, &text),
             Intake::Plan(judge) => judged(judge),
             Intake::Stopped(stop) => Err(stop),
         }

@@ -1,50 +1,80 @@
 //! The judge of a plan or of a gap plan whose text comes in pieces.
 
-ghost use Rattle.std.specs.Prelude.{◌≡◌, ◌<◌, ◌≤◌, ◌^◌, ◌++◌, ◌∷◌, [], ℕ, List, length, take, IfOk, IfErr, OnOk};
+ghost use Rattle.std.specs.Prelude.{◌≡◌, ◌<◌, ◌≤◌, ◌^◌, ◌++◌, ◌∷◌, [], ℕ, List, length, take, IfOk, OnOk};
 ghost use Rattle.tree_format.specs.Feeding.{IsDecided};
 ghost use Rattle.tree_format.specs.declared.plan_item.PlanItem.{PlanItem as ItemLem};
-ghost use Rattle.tree_format.specs.declared.plan_line.Family.{Family as FamilyLem};
+ghost use Rattle.tree_format.specs.Gives.{IfFault};
 ghost use Rattle.tree_checker.specs.Progress.{IsUnderWay, IsMadeFor};
 ghost use Rattle.plan_command.specs.Plans.{HasFaultIn};
-ghost use Rattle.plan_command.specs.Intakes.{IsNextItem, HasHeard, HasTakenText, HasTakenRest, TellsRest};
+ghost use Rattle.plan_command.specs.declared.judge.Task.{Task as TaskLem};
+ghost use Rattle.plan_command.specs.Intakes.{records_kept, kept_by, nodes_in, IsNextItem, HasHeard, HasTakenText, HasTakenRest, TellsRest};
 
-use crate::hearing::{hear_head, hear_node, verdict_at_end};
+use crate::hearing::{Head, hear_head, hear_node, verdict_at_end};
 use crate::spaces::{rest_from, skip_spaces};
+use bound_tree::{GapNode, TreeNode};
 use exact_parts::NoMemory;
-use search_model::{Path, Scenario};
+use search_model::{Path, Scenario, Standing};
 use std::alloc::Global;
 use tree_checker::{Checker, GapVerdict};
-use tree_format::{Family, Fed, PlanFault, PlanFeed, PlanItem, Step};
+use tree_format::{Family, Fed, PlanFault, PlanFeed, PlanItem, PlanStop, Step, record_of};
 
-/// What was read of the text behind a scenario, of a plan or of a gap plan, and the checker of what it told. Neither the
-/// text nor its tree is kept: only the call that makes the judge takes memory.
+/// What is asked of a judge: to read a text of this family, and to keep its records or not.
+#[derive(Clone, Copy)]
+pub struct Task {
+    pub family: Family,
+    pub keeps: bool,
+}
+
+/// What was read of the text behind a scenario, of a plan or of a gap plan, and the checker of what it told. The text is
+/// never kept, its records only where the task says so: else only the call that makes the judge takes memory.
 #[derive(Drop)]
 pub struct Judge {
     pub sc: Scenario,
-    /// Which of the two is read.
-    pub family: Family,
-    /// The path of the head, once this was read, and its ceiling.
-    pub path: Path,
-    pub ceiling: u128,
+    pub task: Task,
+    /// The head, once it was read.
+    pub head: Head,
+    /// The records so far, where they are kept.
+    pub records: Vec<TreeNode>,
     /// Whether a byte came that is neither a blank nor a line feed.
     begun: bool,
     feed: PlanFeed,
     checker: Checker,
 }
 
+// Adds a record to those that are kept, where they are.
+fn keep(records: &mut Vec<TreeNode>, keeps: bool, node: &GapNode) -> Result<(), NoMemory>
+    ensures { OnOk result (records.new.items ≡ records.old.items ++ records_kept keeps (node.now ∷ [])) }
+{
+    if keeps {
+        let record = record_of(node);
+        records.push(TreeNode {
+            prefix: record.prefix,
+            kind: record.kind,
+        })?;
+    }
+    Ok(())
+}
+
 impl Judge {
-    /// The judge of a text of the family for this scenario. Nothing was read.
-    pub fn start(alloc: Global, sc: Scenario, family: Family) -> Result<Judge, NoMemory>
+    /// The judge for this task and this scenario. Nothing was read.
+    pub fn start(alloc: Global, sc: Scenario, task: Task) -> Result<Judge, NoMemory>
         ensures scenario { IfOk result (λ judge. judge.sc ≡ sc) }
-        ensures nothing { IfOk result (λ judge. HasTakenRest family [] judge) }
+        ensures nothing { IfOk result (λ judge. HasTakenRest task [] judge) }
     {
-        let feed = PlanFeed::start(alloc, &sc, family)?;
+        let feed = PlanFeed::start(alloc, &sc, task.family)?;
         let checker = Checker::tables(alloc, &sc)?;
         Ok(Judge {
             sc,
-            family,
-            path: Path::empty(),
-            ceiling: 0,
+            task,
+            head: Head {
+                standing: Standing {
+                    path: Path::empty(),
+                    value: 0,
+                },
+                weight: 0,
+                ceiling: 0,
+            },
+            records: Vec::new(alloc),
             begun: false,
             feed,
             checker,
@@ -52,88 +82,99 @@ impl Judge {
     }
 
     // Hears what a line of the text told.
-    fn hear(&mut self, item: PlanItem)
+    fn hear(&mut self, item: PlanItem) -> Result<(), NoMemory>
         requires under_way { IsUnderWay self.old.sc self.old.checker }
         requires line { self.old.checker.line < 2 ^ 63 }
         requires made { IsMadeFor self.old.sc self.old.checker }
         ensures scenario { self.new.sc ≡ self.old.sc }
-        ensures family { self.new.family ≡ self.old.family }
+        ensures task { self.new.task ≡ self.old.task }
         ensures feed { self.new.feed ≡ self.old.feed }
         ensures begun { self.new.begun ≡ self.old.begun }
-        ensures heard { (told : List ItemLem) → IsNextItem told item →
-            HasHeard self.old.family self.old.sc told self.old.path self.old.ceiling self.old.checker
-            → HasHeard self.old.family self.old.sc (told ++ item ∷ []) self.new.path self.new.ceiling self.new.checker }
+        ensures heard { OnOk result ((told : List ItemLem) → IsNextItem told item →
+            HasHeard self.old.task.family self.old.sc told self.old.head self.old.checker
+            → HasHeard self.old.task.family self.old.sc (told ++ item ∷ []) self.new.head self.new.checker) }
+        ensures kept { OnOk result (self.new.records.items ≡
+            self.old.records.items ++ records_kept self.old.task.keeps (nodes_in (item ∷ []))) }
     {
         match item {
             PlanItem::Head(standing, weight, ceiling, _) => {
-                self.path = standing.path;
-                self.ceiling = ceiling;
-                hear_head(&mut self.checker, &self.sc, self.family, &standing, weight);
+                self.head = Head {
+                    standing,
+                    weight,
+                    ceiling,
+                };
+                hear_head(&mut self.checker, &self.sc, self.task.family, &self.head);
+                Ok(())
             }
-            PlanItem::Node(node) => hear_node(&mut self.checker, &self.sc, self.family, &node),
-            PlanItem::End => {}
+            PlanItem::Node(node) => {
+                keep(&mut self.records, self.task.keeps, &node)?;
+                hear_node(&mut self.checker, &self.sc, self.task.family, &node);
+                Ok(())
+            }
+            PlanItem::End => Ok(()),
         }
     }
 
     // Takes the next bytes of the text up to the first that completes an item: how many.
-    fn take_some(&mut self, text: &[u8]) -> Result<usize, PlanFault>
+    fn take_some(&mut self, text: &[u8]) -> Result<usize, PlanStop>
         requires some { 1 ≤ length text.now }
-        requires begun { (family : FamilyLem) × (before : List ℕ) × HasTakenText family before self.old }
+        requires begun { (task : TaskLem) × (before : List ℕ) × HasTakenText task before self.old }
         ensures scenario { self.new.sc ≡ self.old.sc }
         ensures begun { self.new.begun ≡ self.old.begun }
         ensures used { IfOk result (λ used. (1 ≤ used) × (used ≤ length text.now)) }
         ensures taken { IfOk result (λ used.
-            (family : FamilyLem) (before : List ℕ) → HasTakenText family before self.old →
-            HasTakenText family (before ++ take used text.now) self.new) }
-        ensures fault { IfErr result (λ fault.
-            (family : FamilyLem) (before : List ℕ) → HasTakenText family before self.old →
-            IsDecided family self.old.sc (before ++ text.now) fault) }
+            (task : TaskLem) (before : List ℕ) → HasTakenText task before self.old →
+            HasTakenText task (before ++ take used text.now) self.new) }
+        ensures fault { IfFault result (λ fault.
+            (task : TaskLem) (before : List ℕ) → HasTakenText task before self.old →
+            IsDecided task.family self.old.sc (before ++ text.now) fault) }
     {
         self.sc.recall_sound();
         let Fed { used, step } = self.feed.feed(&self.sc, text);
         match step {
             Step::More => Ok(used),
-            Step::Item(item) => {
-                self.hear(item);
-                Ok(used)
-            }
-            Step::Fault(fault) => Err(fault),
+            Step::Item(item) => match self.hear(item) {
+                Ok(()) => Ok(used),
+                Err(NoMemory) => Err(PlanStop::NoMemory),
+            },
+            Step::Fault(fault) => Err(PlanStop::Fault(fault)),
         }
     }
 
     // Takes the next bytes of the text.
-    fn take_text(&mut self, text: &[u8]) -> Result<(), PlanFault>
-        requires { (family : FamilyLem) × (before : List ℕ) × HasTakenText family before self.old }
+    fn take_text(&mut self, text: &[u8]) -> Result<(), PlanStop>
+        requires { (task : TaskLem) × (before : List ℕ) × HasTakenText task before self.old }
         ensures scenario { self.new.sc ≡ self.old.sc }
         ensures begun { self.new.begun ≡ self.old.begun }
-        ensures taken { OnOk result ((family : FamilyLem) (before : List ℕ) → HasTakenText family before self.old →
-            HasTakenText family (before ++ text.now) self.new) }
-        ensures fault { IfErr result (λ fault.
-            (family : FamilyLem) (before : List ℕ) → HasTakenText family before self.old →
-            IsDecided family self.old.sc (before ++ text.now) fault) }
+        ensures taken { OnOk result ((task : TaskLem) (before : List ℕ) → HasTakenText task before self.old →
+            HasTakenText task (before ++ text.now) self.new) }
+        ensures fault { IfFault result (λ fault.
+            (task : TaskLem) (before : List ℕ) → HasTakenText task before self.old →
+            IsDecided task.family self.old.sc (before ++ text.now) fault) }
     {
         let mut done = 0;
         while done < text.len() {
             match self.take_some(rest_from(text, done)) {
                 Ok(used) => done += used,
-                Err(fault) => return Err(fault),
+                Err(stop) => return Err(stop),
             }
         }
         Ok(())
     }
 
-    /// Takes the next bytes of what follows the scenario. It takes no memory.
+    /// Takes the next bytes of what follows the scenario. It takes memory for the records that are kept, and no other.
     ///
     /// # Errors
     ///
-    /// The first fault of the text, which no more bytes mend.
-    pub fn take(&mut self, piece: &[u8]) -> Result<(), PlanFault>
-        requires { (family : FamilyLem) × (before : List ℕ) × HasTakenRest family before self.old }
+    /// The first fault of the text, which no more bytes mend; or `NoMemory`.
+    pub fn take(&mut self, piece: &[u8]) -> Result<(), PlanStop>
+        requires { (task : TaskLem) × (before : List ℕ) × HasTakenRest task before self.old }
         ensures scenario { self.new.sc ≡ self.old.sc }
-        ensures taken { OnOk result ((family : FamilyLem) (before : List ℕ) → HasTakenRest family before self.old →
-            HasTakenRest family (before ++ piece.now) self.new) }
-        ensures fault { IfErr result (λ fault. (family : FamilyLem) (before more : List ℕ)
-            → HasTakenRest family before self.old → HasFaultIn family self.old.sc (before ++ piece.now ++ more) fault) }
+        ensures taken { OnOk result ((task : TaskLem) (before : List ℕ) → HasTakenRest task before self.old →
+            HasTakenRest task (before ++ piece.now) self.new) }
+        ensures fault { IfFault result (λ fault. (task : TaskLem) (before more : List ℕ)
+            → HasTakenRest task before self.old
+            → HasFaultIn task.family self.old.sc (before ++ piece.now ++ more) fault) }
     {
         if self.begun {
             return self.take_text(piece);
@@ -152,12 +193,12 @@ impl Judge {
     ///
     /// The bytes end before the plan or gap plan.
     pub fn finish(&self) -> Result<GapVerdict, PlanFault>
-        ensures { (family : FamilyLem) (rest : List ℕ) → HasTakenRest family rest self.now
-            → TellsRest family self.now.sc self.now.path rest result }
+        ensures { (task : TaskLem) (rest : List ℕ) → HasTakenRest task rest self.now
+            → TellsRest task self.now.sc (kept_by self.now) rest result }
     {
         self.sc.recall_sound();
         match self.feed.finish() {
-            Ok(()) => Ok(verdict_at_end(&self.checker, self.family, self.ceiling)),
+            Ok(()) => Ok(verdict_at_end(&self.checker, self.task.family, self.head.ceiling)),
             Err(fault) => Err(fault),
         }
     }

@@ -2,10 +2,10 @@ use Rattle.plan_command.proofs.Judging.{judged_far, lacks_on}
 use Rattle.plan_command.proofs.intake.judged_on.Goals as goal
 
 pub going_on-requires : goal.going_on-requires
-going_on-requires c = (c.args.family, c.in-Ok.ensures.rest, c.in-Ok.ensures.taken)
+going_on-requires c = (c.args.task, c.in-Ok.ensures.rest, c.in-Ok.ensures.taken)
 
 pub returns-in-Ok : goal.returns-in-Ok
-returns-in-Ok c = judged_far c.args.family c.args.text.now c.args.more.now c.in-Ok.judge c.going_on.result c.requires c.in-Ok.ensures (c.going_on.ensures c.args.family)
+returns-in-Ok c = judged_far c.args.task c.args.text.now c.args.more.now c.in-Ok.judge c.going_on.result c.requires c.in-Ok.ensures (c.going_on.ensures c.args.task)
 
 pub returns-in-Err : goal.returns-in-Err
-returns-in-Err c = lacks_on c.args.family c.args.text.now c.args.more.now c.in-Err.stop c.requires c.in-Err.ensures
+returns-in-Err c = lacks_on c.args.task c.args.text.now c.args.more.now c.in-Err.stop c.requires c.in-Err.ensures

@@ -9,15 +9,15 @@ pub take-requires : goal.take-requires
 take-requires c = plan_taken c.requires.0 c.requires.1 c.args.piece.now c.args.self.now c.requires.2 c.in-Plan.judge c.in-Plan.is
 
 pub returns-in-Scenario : goal.returns-in-Scenario
-returns-in-Scenario c = λ family bytes h.
-    gathered_more family c.in-Scenario.family bytes c.in-Scenario.text.items c.args.piece.now c.gathered_on.new.text.items (intakes.Scenario c.in-Scenario.alloc c.in-Scenario.family c.gathered_on.new.text) c.gathered_on.result
-    (subst (HasTaken family bytes) c.in-Scenario.is h) c.gathered_on.ensures (λ taken. taken)
+returns-in-Scenario c = λ task bytes h.
+    gathered_more task c.in-Scenario.task bytes c.in-Scenario.text.items c.args.piece.now c.gathered_on.new.text.items (intakes.Scenario c.in-Scenario.alloc c.in-Scenario.task c.gathered_on.new.text) c.gathered_on.result
+    (subst (HasTaken task bytes) c.in-Scenario.is h) c.gathered_on.ensures (λ taken. taken)
 
 pub returns-in-Ok : goal.returns-in-Ok
-returns-in-Ok c = λ family bytes h. plan_more family bytes c.args.piece.now c.args.self.now h c.in-Plan.judge c.take.new.self c.in-Plan.is c.take.ensures.scenario (c.in-Ok.ensures.taken family)
+returns-in-Ok c = λ task bytes h. plan_more task bytes c.args.piece.now c.args.self.now h c.in-Plan.judge c.take.new.self c.in-Plan.is c.take.ensures.scenario (c.in-Ok.ensures.taken task)
 
-pub returns-in-Err : goal.returns-in-Err
-returns-in-Err c = λ family bytes h. plan_faulty family bytes c.args.piece.now c.args.self.now h c.in-Plan.judge c.in-Err.fault c.in-Plan.is (c.in-Err.ensures.fault family)
+pub returns-in-Err-Fault : goal.returns-in-Err-Fault
+returns-in-Err-Fault c = λ task bytes h. plan_faulty task bytes c.args.piece.now c.args.self.now h c.in-Plan.judge c.in-Err-Fault.fault c.in-Plan.is (c.in-Err-Fault.ensures.fault task)
 
 pub returns-in-Stopped : goal.returns-in-Stopped
-returns-in-Stopped c = λ family bytes h. stopped_more family bytes c.args.piece.now c.args.self.now h _ c.in-Stopped.is
+returns-in-Stopped c = λ task bytes h. stopped_more task bytes c.args.piece.now c.args.self.now h _ c.in-Stopped.is

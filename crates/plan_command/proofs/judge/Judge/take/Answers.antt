@@ -14,8 +14,8 @@ pub returns-then-self-clause-fault : goal.returns-then-self-clause-fault
 returns-then-self-clause-fault c = piece_fault c.args.piece.now c.args.self.now c.take_text.new.self c.take_text.result c.if-self.true c.take_text.ensures.fault
 
 pub returns-then-is_empty-clause-taken : goal.returns-then-is_empty-clause-taken
-returns-then-is_empty-clause-taken c = λ family before h.
-    more_blanks family before c.args.piece.now c.args.self.now c.args.self.now h c.if-self.false
+returns-then-is_empty-clause-taken c = λ task before h.
+    more_blanks task before c.args.piece.now c.args.self.now c.args.self.now h c.if-self.false
     (subst (SkipsSpaces c.args.piece.now) (no_text _ (eqb-true _ _ (sym c.is_empty.ensures ∙ c.if-is_empty.true))) c.skip_spaces-text.ensures)
 
 pub take_text-requires-2 : goal.take_text-requires-2

@@ -12,12 +12,12 @@ pub hear-requires-clause-made : goal.hear-requires-clause-made
 hear-requires-clause-made c = c.requires.begun.2.heard.made_for
 
 pub returns-in-More-clause-taken : goal.returns-in-More-clause-taken
-returns-in-More-clause-taken c = λ family before h.
-    text_more family before c.args.text.now c.args.self.now _ c.feed-used.new.self c.feed-used.result.used c.feed-used.result.step h c.in-More.is c.feed-used.ensures.all c.feed-used.ensures.more refl refl refl refl refl refl
+returns-in-More-clause-taken c = λ task before h.
+    text_more task before c.args.text.now c.args.self.now _ c.feed-used.new.self c.feed-used.result.used c.feed-used.result.step h c.in-More.is c.feed-used.ensures.all c.feed-used.ensures.more refl
 
-pub returns-in-Item-clause-taken : goal.returns-in-Item-clause-taken
-returns-in-Item-clause-taken c = λ family before h.
-    text_item family before c.args.text.now c.args.self.now c.hear.new.self c.feed-used.new.self c.feed-used.result.used c.feed-used.result.step h c.in-Item.item c.recall_sound.ensures c.in-Item.is c.feed-used.ensures.item c.hear.ensures.heard c.hear.ensures.family c.hear.ensures.scenario c.hear.ensures.feed
+pub returns-in-Ok-clause-taken : goal.returns-in-Ok-clause-taken
+returns-in-Ok-clause-taken c = λ task before h.
+    text_item task before c.args.text.now c.args.self.now c.hear.new.self c.feed-used.new.self c.feed-used.result.used c.feed-used.result.step h c.in-Item.item c.recall_sound.ensures c.in-Item.is c.feed-used.ensures.item c.in-Ok.ensures.heard c.in-Ok.ensures.kept c.hear.ensures.task c.hear.ensures.scenario c.hear.ensures.feed
 
 pub returns-in-Fault-clause-fault : goal.returns-in-Fault-clause-fault
-returns-in-Fault-clause-fault c = λ family before h. text_fault family before c.args.text.now c.args.self.now c.feed-used.result.used c.feed-used.result.step c.in-Fault.fault h c.in-Fault.is c.feed-used.ensures.fault
+returns-in-Fault-clause-fault c = λ task before h. text_fault task before c.args.text.now c.args.self.now c.feed-used.result.used c.feed-used.result.step c.in-Fault.fault h c.in-Fault.is c.feed-used.ensures.fault

@@ -1,11 +1,11 @@
 use Rattle.std.proofs.Common.{◌≡◌, ◌-◌, ap, length, length-drop, ◌++◌, ◌∙◌, ℕ, List, take, refl, subst, arith}
 use Rattle.tree_format.specs.Feeding.{IsDecided}
 use Rattle.plan_command.specs.Intakes.{HasTakenText}
-use Rattle.plan_command.proofs.Judging.{taken_none, taken_on, taken_all, decided_part}
+use Rattle.plan_command.proofs.Judging.{taken_none, taken_on, taken_all, decided_part, if_fault}
 use Rattle.plan_command.proofs.judge.Judge.take_text.Goals as goal
 
 pub loop-done-init : goal.loop-done-init
-loop-done-init c = record { within = omega arith; scenario = refl; begun = refl; taken = λ family before h. taken_none family before c.args.text.now c.args.self.now h }
+loop-done-init c = record { within = omega arith; scenario = refl; begun = refl; taken = λ task before h. taken_none task before c.args.text.now c.args.self.now h }
 
 pub take_some-requires-clause-begun : goal.take_some-requires-clause-begun
 take_some-requires-clause-begun c = (c.requires.0, c.requires.1 ++ take c.loop-done.done c.args.text.now, c.loop-done.invariant.taken c.requires.0 c.requires.1 c.requires.2)
@@ -18,16 +18,18 @@ loop-done-preserved c =
       within = omega (arith, left, inv.within, c.in-Ok.ensures.used);
       scenario = c.take_some.ensures.scenario ∙ inv.scenario;
       begun = c.take_some.ensures.begun ∙ inv.begun;
-      taken = λ family before h. taken_on (λ (t : List ℕ). HasTakenText family t c.take_some.new.self) before c.args.text.now c.loop-done.done c.in-Ok.used
-          (subst (λ (t : List ℕ). HasTakenText family (before ++ take c.loop-done.done c.args.text.now ++ take c.in-Ok.used t) c.take_some.new.self) c.rest_from.ensures
-          (c.in-Ok.ensures.taken family (before ++ take c.loop-done.done c.args.text.now) (inv.taken family before h)));
+      taken = λ task before h. taken_on (λ (t : List ℕ). HasTakenText task t c.take_some.new.self) before c.args.text.now c.loop-done.done c.in-Ok.used
+          (subst (λ (t : List ℕ). HasTakenText task (before ++ take c.loop-done.done c.args.text.now ++ take c.in-Ok.used t) c.take_some.new.self) c.rest_from.ensures
+          (c.in-Ok.ensures.taken task (before ++ take c.loop-done.done c.args.text.now) (inv.taken task before h)));
     }
 
 pub returns-in-Err-clause-fault : goal.returns-in-Err-clause-fault
-returns-in-Err-clause-fault c = λ family before h.
-    decided_part family c.loop-done.self.sc c.args.self.now.sc before c.args.text.now c.loop-done.done c.in-Err.fault c.loop-done.invariant.scenario
-    (subst (λ (t : List ℕ). IsDecided family c.loop-done.self.sc (before ++ take c.loop-done.done c.args.text.now ++ t) c.in-Err.fault) c.rest_from.ensures
-    (c.in-Err.ensures.fault family (before ++ take c.loop-done.done c.args.text.now) (c.loop-done.invariant.taken family before h)))
+returns-in-Err-clause-fault c = if_fault ℕ (Unit {0}) c.in-Err.stop
+    (λ fault decides task before h.
+    decided_part task.family c.loop-done.self.sc c.args.self.now.sc before c.args.text.now c.loop-done.done fault c.loop-done.invariant.scenario
+    (subst (λ (t : List ℕ). IsDecided task.family c.loop-done.self.sc (before ++ take c.loop-done.done c.args.text.now ++ t) fault) c.rest_from.ensures
+    (decides task (before ++ take c.loop-done.done c.args.text.now) (c.loop-done.invariant.taken task before h))))
+    c.in-Err.ensures.fault
 
 pub returns-clause-taken : goal.returns-clause-taken
-returns-clause-taken c = λ family before h. taken_all (λ (t : List ℕ). HasTakenText family t c.loop-done.self) before c.args.text.now c.loop-done.done (omega (arith, c.loop-done-test.false)) (c.loop-done.invariant.taken family before h)
+returns-clause-taken c = λ task before h. taken_all (λ (t : List ℕ). HasTakenText task t c.loop-done.self) before c.args.text.now c.loop-done.done (omega (arith, c.loop-done-test.false)) (c.loop-done.invariant.taken task before h)

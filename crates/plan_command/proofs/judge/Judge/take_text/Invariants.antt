@@ -1,5 +1,5 @@
 use Rattle.std.proofs.Common.{◌≡◌, ◌≤◌, ◌-◌, ◌++◌, ℕ, List, length, take}
-use Rattle.tree_format.specs.declared.plan_line.Family.{Family}
+use Rattle.plan_command.specs.declared.judge.Task.{Task}
 use Rattle.plan_command.specs.Intakes.{HasTakenText}
 use Rattle.plan_command.proofs.judge.Judge.take_text.Given as goal
 
@@ -8,7 +8,7 @@ invariant-loop-done l = record {
   within : l.done ≤ length l.text;
   scenario : l.self.sc ≡ l.fn.self.sc;
   begun : l.self.begun ≡ l.fn.self.begun;
-  taken : (family : Family) (before : List ℕ) → HasTakenText family before l.fn.self → HasTakenText family (before ++ take l.done l.text) l.self;
+  taken : (task : Task) (before : List ℕ) → HasTakenText task before l.fn.self → HasTakenText task (before ++ take l.done l.text) l.self;
 }
 
 abbrev pub decreases-loop-done : goal.decreases-loop-done
