@@ -7,8 +7,8 @@ use Rattle.search_model.specs.declared.standing.Standing.{Standing}
 use Rattle.search_model.specs.Problem.{Problem, IsProblem}
 use Rattle.bound_tree.specs.declared.node.TreeNode.{TreeNode}
 use Rattle.bound_tree.specs.Accepts.{IsGood}
-use Rattle.bound_tree.specs.Close.{IsExact, IsLive, HasMoreLive}
-use Rattle.search_core.specs.Balance.{MeetsEquation, AreDistinct}
+use Rattle.bound_tree.specs.Close.{IsExact, HasMoreLive}
+use Rattle.search_core.specs.Balance.{MeetsEquation}
 use Rattle.tree_gather.specs.Hauls.{Haul, IsHaulSound, records_of, waiting_of, lasts_of, idle_haul, IsBestOf, AreJoined}
 use Rattle.tree_gather.proofs.Joined.{even_hauls_are_joined, joined_are_live, waiting_have_more}
 use Rattle.node_tickets.specs.Seats.{TicketsView, SeatView as TicketView, numbers_of}
@@ -21,7 +21,7 @@ use Rattle.search_workers.specs.declared.left.Left.{Left}
 use Rattle.search_workers.specs.declared.left.Left.TheVariants as left
 use Rattle.search_workers.specs.Desks.{DeskView, haul_at, IsInOrder}
 use Rattle.search_workers.specs.Settled.{closed_at, waiting_at, lasts_at, IsSettled, EndsSearch, WithMemory}
-use Rattle.search_workers.specs.Search.{reached_by, IfFull}
+use Rattle.search_workers.specs.Search.{IfFull, StopsAtLimit}
 use Rattle.search_workers.specs.Harvests.{EndsHarvest}
 use Rattle.list_laws.proofs.Mapped.{flat_map-map, map-map}
 
@@ -100,21 +100,21 @@ known_with left.Idle P other known = known
 known_with left.Full P other known = known
 known_with left.NoMemory P other known = absurd (other refl)
 
--- what a search shows whose nodes ran out
+-- what stands when the records ran out follows from three facts of it
 module _ (p : Problem) (first : Standing) (nodes : ℕ) (sound : IsProblem p) where
-  pub more_live : (r : Result Found SearchStop) → IfFull r (λ part. length part.closed.items ≡ nodes) → IfFull r (λ part. 0 < length part.waiting.items) →
-      IfFull r (λ part. AreJoined p first part.best part.waiting.items part.closed.items) → IfFull r (λ part. HasMoreLive p first nodes)
-  more_live (Ok found) many some joined = tt
-  more_live (Err NoMemory) many some joined = tt
-  more_live (Err (Full part)) many some joined =
-      subst (HasMoreLive p first) many (waiting_have_more p first part.best part.waiting.items part.closed.items sound joined some)
-
-  pub distinct_reached : (r : Result Found SearchStop) → IfFull r (λ part. AreJoined p first part.best part.waiting.items part.closed.items) → IfFull r (λ part. AreDistinct (reached_by part))
-  distinct_reached (Ok found) joined = tt
-  distinct_reached (Err NoMemory) joined = tt
-  distinct_reached (Err (Full part)) joined = (joined_are_live p first part.best part.waiting.items part.closed.items sound joined).0
-
-  pub live_reached : (r : Result Found SearchStop) → IfFull r (λ part. AreJoined p first part.best part.waiting.items part.closed.items) → IfFull r (λ part. All (IsLive p first) (reached_by part))
-  live_reached (Ok found) joined = tt
-  live_reached (Err NoMemory) joined = tt
-  live_reached (Err (Full part)) joined = (joined_are_live p first part.best part.waiting.items part.closed.items sound joined).1
+  pub stops_at_limit : (r : Result Found SearchStop) → IfFull r (λ part. length part.closed.items ≡ nodes) → IfFull r (λ part. 0 < length part.waiting.items) →
+      IfFull r (λ part. AreJoined p first part.best part.waiting.items part.closed.items) → IfFull r (StopsAtLimit p first nodes)
+  stops_at_limit (Ok found) many some joined = tt
+  stops_at_limit (Err NoMemory) many some joined = tt
+  stops_at_limit (Err (Full part)) many some joined =
+      let (once, live) = joined_are_live p first part.best part.waiting.items part.closed.items sound joined in
+      record {
+        more = subst (HasMoreLive p first) many (waiting_have_more p first part.best part.waiting.items part.closed.items sound joined some);
+        closed = many;
+        waits = some;
+        once = once;
+        live = live;
+        exact = joined.exact;
+        up = joined.up;
+        joined = joined;
+      }

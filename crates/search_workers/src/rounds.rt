@@ -8,7 +8,7 @@ ghost use Rattle.search_workers.specs.Rounds.{MissedAll, others};
 use crate::gate::Gate;
 use crate::pause::Lookout;
 use node_tickets::{TicketSeat, Tickets};
-use search_model::Path;
+use search_model::{Path, Scenario};
 use steal_pool::{Kit, Theft};
 
 /// After so many rounds in a row that got no task a worker leaves.
@@ -61,6 +61,7 @@ fn wait_for_others(lookout: &mut Lookout, workers: u32, ticket: &mut TicketSeat,
 pub fn take_task<G: Gate>(
     kit: &mut Kit<Path>,
     ticket: &mut TicketSeat,
+    sc: &Scenario,
     tickets: &Tickets,
     gate: &G,
 ) -> Option<Path>
@@ -72,7 +73,7 @@ pub fn take_task<G: Gate>(
 {
     let place = kit.place();
     let workers = kit.workers();
-    let mut lookout = Lookout::new();
+    let mut lookout = Lookout::new(sc);
     for round in 0..ROUNDS {
         if let Some(task) = take_in_round(kit) {
             return Some(task);

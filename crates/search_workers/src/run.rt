@@ -43,7 +43,7 @@ fn has_work<G: Gate>(
     if !stack.is_empty() {
         return true;
     }
-    let Some(task) = take_task(kit, ticket, tickets, gate) else {
+    let Some(task) = take_task(kit, ticket, sc, tickets, gate) else {
         return false;
     };
     stack.push(task);

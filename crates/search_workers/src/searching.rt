@@ -3,8 +3,7 @@
 ghost use Rattle.std.specs.Prelude.{◌≡◌, ◌≢◌, ◌<◌, ◌≤◌, [], length, map, vec_capacity, All, IfOk, IsFalse, sum_by};
 ghost use Rattle.search_model.specs.Order.{IsBest};
 ghost use Rattle.bound_tree.specs.Accepts.{Accepts};
-ghost use Rattle.bound_tree.specs.Close.{IsExact, IsAtLeast, IsLive, LetsBranch, HasMoreLive};
-ghost use Rattle.search_core.specs.Balance.{AreDistinct};
+ghost use Rattle.bound_tree.specs.Close.{IsExact, LetsBranch};
 ghost use Rattle.tree_gather.specs.Hauls.{AreJoined};
 ghost use Rattle.node_tickets.specs.Seats.{AreAllSeats as AreAllTickets, numbers_of};
 ghost use Rattle.incumbent_board.specs.Boards.{AreAllSeats};
@@ -12,7 +11,7 @@ ghost use Rattle.search_workers.specs.Seen.{desk_view};
 ghost use Rattle.search_workers.specs.Crew.{IsComplete, MayGo, HasGone, LeaveTogether};
 ghost use Rattle.search_workers.specs.Settled.{IsSettled, EndsSearch, WithMemory};
 ghost use Rattle.search_workers.specs.Harvests.{EndsHarvest};
-ghost use Rattle.search_workers.specs.Search.{plan_of, reached_by, IfFull};
+ghost use Rattle.search_workers.specs.Search.{plan_of, IfFull, StopsAtLimit};
 ghost use Rattle.bound_tree.specs.declared.tree.TheConstants.{MOST_NODES};
 
 use crate::answer::{Found, Partial, SearchStop};
@@ -194,14 +193,7 @@ pub fn search<R: Threads + Wait + Sync + AllocGlobal, G: Gate>(
     ensures accepted { IfOk result (λ found. Accepts sc.now (plan_of sc.now found)) }
     ensures branches { IfOk result (λ found. LetsBranch sc.now first.now found.tree) }
     ensures few { IfOk result (λ found. length found.tree ≤ nodes) }
-    ensures full { IfFull result (λ part. HasMoreLive sc.now first.now nodes) }
-    ensures full_closed { IfFull result (λ part. length part.closed.items ≡ nodes) }
-    ensures full_waiting { IfFull result (λ part. 0 < length part.waiting.items) }
-    ensures full_distinct { IfFull result (λ part. AreDistinct (reached_by part)) }
-    ensures full_live { IfFull result (λ part. All (IsLive sc.now first.now) (reached_by part)) }
-    ensures full_best { IfFull result (λ part. IsExact sc.now part.best × IsAtLeast part.best first.now) }
-    ensures full_joined { IfFull result (λ part.
-        AreJoined sc.now first.now part.best part.waiting.items part.closed.items) }
+    ensures full { IfFull result (StopsAtLimit sc.now first.now nodes) }
 {
     sc.recall_sound();
     let Crew {

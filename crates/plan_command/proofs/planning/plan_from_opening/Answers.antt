@@ -1,5 +1,5 @@
 use Rattle.std.proofs.Common.{refl}
-use Rattle.search_workers.specs.Search.{plan_of}
+use Rattle.search_workers.specs.Search.{plan_of, StopsAtLimit}
 use Rattle.plan_command.proofs.Certified.{opening_exact, searched_certified, more_live, told_full}
 use Rattle.plan_command.proofs.planning.plan_from_opening.Goals as goal
 
@@ -17,4 +17,5 @@ pub returns-in-Err-Full : goal.returns-in-Err-Full
 returns-in-Err-Full g c =
     let sc = c.args.sc.now in
     let first = c.in_ok-first.first in
-    (refl, (first.path, c.in_ok-first.ensures.path, more_live sc first c.args.nodes c.in_ok-first.ensures.value (told_full _ _ c.in-Err-Full.field-0-is _ c.in-Err-Full.ensures.full)))
+    let more = (told_full _ _ c.in-Err-Full.field-0-is (StopsAtLimit sc first c.args.nodes) c.in-Err-Full.ensures.full).more in
+    (refl, (first.path, c.in_ok-first.ensures.path, more_live sc first c.args.nodes c.in_ok-first.ensures.value more))

@@ -6,7 +6,7 @@ use Rattle.node_tickets.specs.Seats.{SeatView as TicketView, numbers_of}
 use Rattle.tree_gather.specs.Hauls.{AreJoined}
 use Rattle.search_workers.specs.Seen.{desk_view}
 use Rattle.search_workers.specs.Settled.{closed_at}
-use Rattle.search_workers.proofs.Concluded.{joined_at, counted_at, ends_at, known_with, more_live, distinct_reached, live_reached}
+use Rattle.search_workers.proofs.Concluded.{joined_at, counted_at, ends_at, known_with, stops_at_limit}
 use Rattle.search_workers.proofs.searching.search.Goals as goal
 
 pub conclude-requires-clause-joined : goal.conclude-requires-clause-joined
@@ -48,10 +48,4 @@ returns-clause-branches g c =
 
 pub returns-clause-full : goal.returns-clause-full
 returns-clause-full g c =
-    more_live c.args.sc.now c.args.first.now c.args.nodes c.recall_sound.ensures c.conclude.result (search rules) (search rules) (search rules)
-
-pub returns-clause-full_distinct : goal.returns-clause-full_distinct
-returns-clause-full_distinct g c = distinct_reached c.args.sc.now c.args.first.now c.args.nodes c.recall_sound.ensures c.conclude.result (search rules)
-
-pub returns-clause-full_live : goal.returns-clause-full_live
-returns-clause-full_live g c = live_reached c.args.sc.now c.args.first.now c.args.nodes c.recall_sound.ensures c.conclude.result (search rules)
+    stops_at_limit c.args.sc.now c.args.first.now c.args.nodes c.recall_sound.ensures c.conclude.result (search rules) (search rules) (search rules)
