@@ -31,7 +31,7 @@ use Rattle.tree_checker.specs.declared.gap_verdict.GapVerdict.{GapVerdict}
 use Rattle.tree_checker.specs.declared.gap_verdict.GapVerdict.TheVariants as verdicts
 use Rattle.tree_checker.specs.Reasons.{verdict_of, first_reason}
 use Rattle.tree_checker.specs.GapReasons.{plain_at, gap_verdict_of}
-use Rattle.tree_checker.specs.Progress.{Progress}
+use Rattle.tree_checker.specs.Progress.{Progress, IsUnderWay, IsMadeFor}
 use Rattle.tree_checker.proofs.Reason.{no_reason_is_accepted}
 use Rattle.tree_checker.proofs.GapReason.{no_reason_is_accepted_gap}
 use Rattle.plan_command.specs.declared.judge.Task.{Task}
@@ -46,7 +46,7 @@ use Rattle.plan_command.specs.Plans.{BeginsWith, HasFaultIn}
 use Rattle.plan_command.specs.Families.{IsAccepted, reason_against}
 use Rattle.plan_command.specs.Commands.{HasBadText}
 use Rattle.plan_command.specs.Intakes.{LacksBy, nodes_in, records_kept, kept_of, kept_by, leads_at_end, IsNextItem, HasHeard, HasTakenText, HasTakenRest, IsVerdictOn, TellsRest, JudgesAs, IsBehind, JudgesRest, JudgesFront, Lacks, IsBehindAll, HasTaken, GoesOn}
-use Rattle.plan_command.proofs.Heard.{few_nodes, is_next, plan_reason, plan_kept, kept_on}
+use Rattle.plan_command.proofs.Heard.{few_nodes, is_next, plan_reason, plan_kept, kept_on, kept_still}
 use Rattle.plan_command.proofs.Reading.{rest_behind, read_fault}
 
 -- The text of the plan.
@@ -147,6 +147,22 @@ skips_on rest text more skips some = record {
 some_and_more : (text more : List ℕ) → 0 < length text → 0 < length (text ++ more)
 some_and_more text more some = omega (arith, some, length-append text more)
 
+-- a judge that took nothing
+pub nothing_taken : (judge : Judge) → judge.begun ≡ false → judge.records.items ≡ [] → judge.checker.line ≡ 5 → IsUnderWay judge.sc judge.checker → IsMadeFor judge.sc judge.checker → HasRead judge.task.family judge.sc [] [] judge.feed → HasTakenRest judge.task [] judge
+nothing_taken judge begun none line under_way made read = record {
+  text = [];
+  skips = record { blanks = []; only = refl; whole = refl; stops = refl };
+  none = λ _. refl;
+  some = λ yet. let bad : true ≡ false = sym yet ∙ begun in let no : ⊥ = cc in absurd no;
+  taken = record {
+    same = refl;
+    told = [];
+    read = read;
+    heard = record { under_way = under_way; made_for = made; line = omega (arith, line); reason = tt };
+    kept = none ∙ kept_still judge.task.keeps [];
+  };
+}
+
 -- What was taken of the bytes behind the scenario, and of a piece more.
 module _ (task : Task) (rest piece : List ℕ) (old new : Judge) (h : HasTakenRest task rest old) where
   -- blanks alone
@@ -214,6 +230,10 @@ if_fault X Y halts.NoMemory f p = tt
 any_fault : {X : Type 0} {P Q : PlanFault → Type 0} (r : Result X PlanStop) → ((fault : PlanFault) → P fault → Q fault) → IfFault r P → IfFault r Q
 any_fault (Ok x) f p = tt
 any_fault {X = X} (Err stop) f p = if_fault X X stop f p
+
+-- the fault that was told
+pub told_fault : (X : Type 0) (P : PlanFault → Type 0) (stop : PlanStop) (fault : PlanFault) → stop ≡ halts.Fault fault → IfFault {A = X} (Err stop) P → P fault
+told_fault X P stop fault is p = subst (λ (s : PlanStop). IfFault {A = X} (Err s) P) is p
 
 -- the judge whose text has begun
 pub text_begun : (task : Task) (text : List ℕ) (judge : Judge) → HasTakenText task text judge → HasTakenText task text (record judge { begun = true })
