@@ -18,8 +18,6 @@ use Rattle.tree_format.specs.declared.dialects.TheConstants.{MOST_GAP_NODES}
 use Rattle.tree_format.proofs.FedLaws.{items_in_order}
 use Rattle.tree_checker.specs.declared.tables.BoundTables.{BoundTables}
 use Rattle.tree_checker.specs.declared.verdict.RejectAt.{RejectAt}
-use Rattle.tree_checker.specs.declared.verdict.Verdict.{Verdict}
-use Rattle.tree_checker.specs.declared.gap_verdict.GapRejectAt.{GapRejectAt}
 use Rattle.tree_checker.specs.Reasons.{verdict_of}
 use Rattle.tree_checker.specs.GapReasons.{plain_at, gap_verdict_of}
 use Rattle.tree_checker.specs.Progress.{Progress, after_head, after_gap_head, reason_if, gap_reason_if, IsUnderWay, IsMadeFor}

@@ -29,9 +29,8 @@ use Rattle.tree_checker.specs.declared.verdict.RejectAt.{RejectAt}
 use Rattle.tree_checker.specs.declared.gap_verdict.GapRejectAt.{GapRejectAt}
 use Rattle.tree_checker.specs.declared.gap_verdict.GapVerdict.{GapVerdict}
 use Rattle.tree_checker.specs.declared.gap_verdict.GapVerdict.TheVariants as verdicts
-use Rattle.tree_checker.specs.Reasons.{verdict_of, first_reason}
 use Rattle.tree_checker.specs.GapReasons.{plain_at, gap_verdict_of}
-use Rattle.tree_checker.specs.Progress.{Progress, IsUnderWay, IsMadeFor}
+use Rattle.tree_checker.specs.Progress.{IsUnderWay, IsMadeFor}
 use Rattle.tree_checker.proofs.Reason.{no_reason_is_accepted}
 use Rattle.tree_checker.proofs.GapReason.{no_reason_is_accepted_gap}
 use Rattle.plan_command.specs.declared.judge.Task.{Task}

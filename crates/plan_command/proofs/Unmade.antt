@@ -1,7 +1,6 @@
 -- A scenario of which a request makes a text isn't refused for its own text, and one that is refused is refused in one way.
 use Rattle.std.proofs.Common.{ℕ, ◌≡◌, ◌⊎◌, List, inl, inr, refl, sym, ap, ◌∙◌, subst}
 use Rattle.search_model.specs.Problem.{Problem, IsProblem}
-use Rattle.scenario_text.specs.declared.kind.TextFault.{TextFault}
 use Rattle.tree_checker.specs.declared.verdict.RejectAt.{RejectAt}
 use Rattle.plan_command.specs.declared.flown.FlownWhy.{FlownWhy}
 use Rattle.plan_command.specs.declared.flown.FlownWhy.TheVariants as flown
@@ -136,20 +135,7 @@ unmade_once words (Make number) p a b sound by h g = absurd h
 unmade_once words (Drill number workers) p a b sound by h g = absurd h
 unmade_once words Convert p a b sound by h g = absurd h
 
--- a scenario that was read is neither a bad text nor a plan that isn't accepted
-pub never_bad_text : (words : List (List ℕ)) (request : Request) (p : Problem) (fault : TextFault) → IsUnmade words request p (BadScenario fault) → ⊥
-never_bad_text words (Plan workers nodes) p fault unmade = unmade
-never_bad_text words (Gap workers nodes) p fault unmade = unmade
-never_bad_text words (Replan workers nodes at) p fault unmade = unmade
-never_bad_text words (Map at) p fault unmade = unmade
-never_bad_text words (Duo workers nodes second) p fault unmade = unmade
-never_bad_text words Check p fault unmade = unmade
-never_bad_text words CheckGap p fault unmade = unmade
-never_bad_text words (Report json) p fault unmade = unmade
-never_bad_text words (Make number) p fault unmade = unmade
-never_bad_text words (Drill number workers) p fault unmade = unmade
-never_bad_text words Convert p fault unmade = unmade
-
+-- a scenario that was read is no plan that isn't accepted
 pub never_rejected : (words : List (List ℕ)) (request : Request) (p : Problem) (at : RejectAt) → IsUnmade words request p (Rejected at) → ⊥
 never_rejected words (Plan workers nodes) p reason unmade = unmade
 never_rejected words (Gap workers nodes) p reason unmade = unmade

@@ -1,7 +1,5 @@
 -- The limits of what words spell, for those who serve the requests.
-use Rattle.std.proofs.Common.{ℕ, ◌≡◌, ◌≤◌, ◌<◌, ◌^◌, ◌-◌, List, length, drop, inl, inr, arith}
-use Rattle.std.proofs.lemmas.List.{length-drop}
-use Rattle.search_model.specs.Names.{IsName}
+use Rattle.std.proofs.Common.{ℕ, ◌≤◌, ◌<◌, ◌^◌, List, inl, inr, arith}
 use Rattle.plan_command.specs.declared.request.Request.TheVariants.{Plan, Drill, Gap, Replan, Map, Duo}
 use Rattle.plan_command.specs.declared.request.TheConstants.{WORKERS, MOST_WORKERS, MOST_CLOSED}
 use Rattle.plan_command.specs.Options.{IsOption, AreOptions}
@@ -35,17 +33,9 @@ replan_asked words w n flown (named, (options, are, is)) = (crew_asked MOST_NODE
 pub duo_asked : (words : List (List ℕ)) (workers nodes : ℕ) (second : List ℕ) → Spells words (Duo workers nodes second) → IsCrew workers × ((1 ≤ nodes) × (nodes ≤ MOST_NODES))
 duo_asked words w n second (named, (options, are, is)) = (crew_asked MOST_NODES w n options are, nodes_asked MOST_NODES w n options (omega arith) are)
 
--- the names behind `flown` and `start`
+-- the names behind `flown`
 pub replan_names : (words : List (List ℕ)) (workers nodes flown : ℕ) → Spells words (Replan workers nodes flown) → AreFlown (names_behind flown words)
 replan_names words w n flown spelled = spelled.0
 
 pub map_names : (words : List (List ℕ)) (flown : ℕ) → Spells words (Map flown) → AreFlown (names_behind flown words)
 map_names words flown spelled = spelled.0
-
-pub duo_name : (words : List (List ℕ)) (workers nodes : ℕ) (second : List ℕ) → Spells words (Duo workers nodes second) → IsName second
-duo_name words w n second spelled = spelled.0
-
-pub flown_inside : (words : List (List ℕ)) (flown : ℕ) → AreFlown (names_behind flown words) → flown < length words
-flown_inside words flown named =
-    let left : length (drop flown words) ≡ length words - flown = length-drop flown words in
-    omega (arith, left, named.0)

@@ -1,5 +1,5 @@
 -- What is owed by a search that stops when its records run out.
-use Rattle.std.specs.Prelude.{ℕ, ◌≡◌, ◌≤◌, List, length, Result, Ok, Err}
+use Rattle.std.specs.Prelude.{ℕ, ◌≡◌, ◌≤◌, List, length}
 use Rattle.search_model.specs.Problem.{Problem}
 use Rattle.search_model.specs.Legal.{IsPath}
 use Rattle.search_model.specs.Tracks.{value_of}
@@ -16,7 +16,7 @@ use Rattle.plan_command.specs.declared.status.Refusal.{Refusal}
 abbrev pub IsAbove : Problem → ℕ → Type 0
 IsAbove p ceiling = (y : List ℕ) → IsPath p y → value_of p y ≤ ceiling
 
--- some prefix waits only where there are more live prefixes under this opening than records, and all of these are closed then
+-- the records ran out: there are more live prefixes under this opening than that, and exactly so many records are closed
 pub record RanOut (p : Problem) (opening : List ℕ) (nodes closed : ℕ) : Type 0 where
   pub used : closed ≡ nodes
   pub more : HasMoreLive p (standing_of p opening) nodes

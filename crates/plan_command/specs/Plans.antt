@@ -89,7 +89,3 @@ pub record HasFaultIn (family : Family) (p : Problem) (rest : List ℕ) (fault :
   pub text : List ℕ
   pub skips : SkipsSpaces rest text
   pub read : IsReadFault family p text fault
-
--- as the text of a plan
-abbrev pub HasFault : Problem → List ℕ → PlanFault → Type 0
-HasFault p rest fault = HasFaultIn Plans p rest fault
