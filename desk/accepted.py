@@ -1,4 +1,4 @@
-"""An accepted plan with its scenario: what the program says of both, and the masses behind its report."""
+"""An accepted plan or gap plan with its scenario: what the program says of both, and the masses behind its report."""
 import dataclasses
 import hashlib
 import os
@@ -23,10 +23,11 @@ class Refused(Exception):
 
 @dataclasses.dataclass
 class Search:
-    """A scenario and its accepted plan.
+    """A scenario and its accepted plan, or gap plan.
 
     `name` is the file's, `text` the scenario's bytes; `sc` and `path` as in desk.forms; `version` and `records` of the plan's
-    text; `report` the program's own; `frames` those of desk.masses, which agree with it, or with the program's map, too, where it
+    text; `ceiling` what no path exceeds, of a gap plan alone; `report` the program's own, or for a gap plan, of which it makes none,
+    that of these masses; `frames` those of desk.masses, which agree with it, or with the program's map, too, where it
     `is_mapped`; the checksums those of the two texts. `note` is what the program said on standard error. `seats` says who is where,
     and `told_by` is the text whose comments say where that is: the scenario's own, or that of the one that it was made of.
     """
@@ -44,6 +45,7 @@ class Search:
     note: str
     seats: seats.Seats
     told_by: bytes
+    ceiling: int | None = None
     is_mapped: bool = False
 
     @property
@@ -110,11 +112,13 @@ def asked(word, given, *behind):
 
 
 def head(rest, sc):
-    """The version of the plan that begins behind a scenario's `end`, and what its first lines say: path, value, weight, nodes."""
-    reader = forms.PlanReader(sc)
-    for at, line in enumerate(rest.lstrip(b" \t\r\n").split(b"\n", 4)[:4], 1):
-        reader.take(line, at)
-    return 1 if reader.dialect.has_prefixes else 2, reader.plan
+    """What the lines before the records say of the plan that begins behind a scenario's `end`: dialect, path, value, weight, ceiling,
+    nodes."""
+    reader = forms.PlanReader(sc, forms.family_of(rest))
+    for at, line in enumerate(rest.lstrip(b" \t\r\n").split(b"\n", 5)[:5], 1):
+        if at == 1 or at < reader.dialect.line_of(0):
+            reader.take(line, at)
+    return reader.plan
 
 
 def agree(sc, report, told):
@@ -152,31 +156,48 @@ def seated(sc, of, text):
         raise Refused(WRONG_WORDS, f"--of {shown(of)}: {why}") from None
 
 
+def check_of(plan):
+    """The command that checks a plan, or a gap plan."""
+    return "checkgap" if forms.family_of(plan) is forms.GAPS else "check"
+
+
+def accept(given, plan):
+    """The program's note, where it accepts the plan behind a scenario. Raises Refused where it doesn't."""
+    verdict, note = asked(check_of(plan), given)
+    if verdict != b"accepted\n":
+        raise Refused(FAILED, f"osp {check_of(plan)} answered neither accepted nor a reason: {verdict[:80]!r}")
+    return note
+
+
 def load(names, of=None):
-    """Reads the files, asks `check` and then `report`, and computes the masses. Raises Refused where that leads to no answer."""
+    """Reads the files, asks `check` and then `report`, or `checkgap` alone, and computes the masses. Raises Refused where that leads
+    to no answer."""
     scenario, plan = texts(names)
     old = None if of is None else read_file(of)
     given = joined(scenario, plan)
-    verdict, note = asked("check", given)
-    if verdict != b"accepted\n":
-        raise Refused(FAILED, f"osp check answered neither accepted nor a reason: {verdict[:80]!r}")
-    told, _ = asked("report", given)
+    note = accept(given, plan)
+    is_gap = forms.family_of(plan) is forms.GAPS
+    told = None if is_gap else asked("report", given)[0]
     try:
         sc, behind = forms.read_scenario(scenario, alone=False)
-        version, begun = head(behind + given[len(scenario) :], sc)
-        path, records = begun.path, begun.nodes
-        report = reports.read(told)
+        begun = head(behind + given[len(scenario) :], sc)
+        report = None if is_gap else reports.read(told)
     except forms.Fault as fault:
         raise Refused(BAD_SCENARIO, f"{shown(names[0])} isn't a whole scenario: line {fault.line} {fault.kind}") from None
     except (forms.Wrong, AttributeError, reports.NoReport) as why:
         raise Refused(FAILED, f"what osp answered isn't understood: {why}") from None
-    frames = masses.frames(sc, path)
+    frames = masses.frames(sc, begun.path)
+    if is_gap:
+        places, cells = ([it.decode("ascii") for it in names] for names in ([sc.positions[it] for it in begun.path], sc.names))
+        report = reports.of_frames(begun.value, begun.weight, places, cells, frames)
     if not agree(sc, report, frames):
-        raise Refused(FAILED, "this helper's numbers aren't those of osp report; please tell the project, with both files")
+        raise Refused(FAILED, f"this helper's numbers aren't those of osp {'gap' if is_gap else 'report'}; please tell the project, with both files")
     who = seated(sc, of, old)
     sums = [hashlib.sha256(it).hexdigest() for it in (scenario, plan)]
     name = "of standard input" if names[0] == "-" else shown(os.path.basename(names[0]))
-    return Search(name, scenario, sc, path, version, records, report, frames, *sums, note, who, scenario if old is None else old)
+    version, told_by = 1 if begun.dialect.has_prefixes else 2, scenario if old is None else old
+    ceiling = begun.ceiling if is_gap else None
+    return Search(name, scenario, sc, begun.path, version, begun.nodes, report, frames, *sums, note, who, told_by, ceiling)
 
 
 def mapped(search):

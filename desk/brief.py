@@ -61,7 +61,7 @@ def text_of(search, times):
     begin = [f"{looks}, from {start}"] if search.seats.count == 1 else [f"{looks} each", f"from {start}"]
     lines = [
         f"SEARCH PLAN {search.name}",
-        f"Accepted: no {tables.best(search)} is better.",
+        tables.verdict(search),
         search.checked_by,
         f"Chance to find them: {search.report.percent} %, {begin[0]}",
         *begin[1:],
@@ -73,6 +73,7 @@ def text_of(search, times):
         *left(search),
         "",
         "Percent are cut off after three digits.",
+        *([] if search.ceiling is None else ["That of the ceiling is rounded up."]),
         f"Scenario SHA-256 {search.scenario_sum[:32]}",
         f"                 {search.scenario_sum[32:]}",
     ]
@@ -82,7 +83,8 @@ def text_of(search, times):
 def brief_of(given):
     """The text of what the words say, and what the program said on standard error. Raises accepted.Refused."""
     search = accepted.load(given.files, given.of)
-    return text_of(search, given.times), search.note
+    # Of a gap plan the program makes no report, and so its map is asked.
+    return text_of(search if search.ceiling is None else accepted.mapped(search), given.times), search.note
 
 
 def main(words):

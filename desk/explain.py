@@ -46,8 +46,7 @@ def program_verdict(scenario, plan):
     """
     told = []
     if plan is not None:
-        word = "checkgap" if rejection.family_of(plan) is forms.GAPS else "check"
-        status, line = asked([word], accepted.joined(scenario, plan), told)
+        status, line = asked([accepted.check_of(plan)], accepted.joined(scenario, plan), told)
         if status != BAD_SCENARIO:
             return status, line
     status, line = asked(["plan", "--workers", "1", "--nodes", "1"], scenario[: MOST_SCENARIO + 1], told)
@@ -107,7 +106,7 @@ def of_right(text, plan=None):
         return [OWN.format(f"bad scenario: {fault}")]
     told = advice.warnings(sc)
     if plan and len(plan) < rejection.MOST_BYTES:
-        read = forms.read_plan(plan, sc, rejection.family_of(plan))
+        read = forms.read_plan(plan, sc, forms.family_of(plan))
         # Of a gap plan whose path may not be the best nothing is said.
         told += advice.about_plan(sc, read) if read.ceiling == read.value else []
     return [f"perhaps not meant: {it}" for it in told]

@@ -107,14 +107,12 @@ def text_of(sc, old, flown, it):
 def followed(scenario, plan, flown, horizon, name):
     """The text of the scenario from there on, and what is said of it. `name` is the scenario's file."""
     given = accepted.joined(scenario, plan)
-    verdict, note = accepted.asked("check", given)
-    if verdict != b"accepted\n":
-        raise Refused(FAILED, f"osp check answered neither accepted nor a reason: {verdict[:80]!r}")
+    note = accepted.accept(given, plan)
     try:
         sc, behind = forms.read_scenario(given, False)
-        path = forms.read_plan(behind.lstrip(b" \t\r\n"), sc).path
+        path = forms.read_plan(behind.lstrip(b" \t\r\n"), sc, forms.family_of(plan)).path
     except forms.Fault as fault:
-        raise Refused(FAILED, f"what osp check accepted isn't understood: {fault}") from None
+        raise Refused(FAILED, f"what osp {accepted.check_of(plan)} accepted isn't understood: {fault}") from None
     flown, horizon, why = periods(sc, flown, horizon)
     try:
         it = onward.onward(sc, path, flown, horizon)

@@ -317,6 +317,11 @@ PLANS = {
 GAPS = {b"gap 1": Dialect((b"path", b"chance", b"ceiling", b"nodes"), MOST_GAP_NODES, (b"B", b"W", b"M", b"T", b"E", b"O"), False)}
 
 
+def family_of(text):
+    """The family that a text is to be of, by its first word."""
+    return GAPS if text.lstrip(b" \t\r\n").startswith(b"gap") else PLANS
+
+
 class Plan:
     """A plan or a gap plan: its dialect, path, value and weight, its ceiling, which is the value of a plan, and of each record the
     letter, the number if any, the prefix and the reference."""

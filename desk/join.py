@@ -63,7 +63,7 @@ def part(folder, name, sc, prefix, notes):
         raise Refused(why.status, f"{name}: {why.said}", why.note) from None
     try:
         made, rest = forms.read_scenario(text, False)
-        _, plan = accepted.head(rest, made)
+        plan = accepted.head(rest, made)
     except (forms.Fault, forms.Wrong, AttributeError) as why:
         raise Refused(FAILED, f"{name}: what osp check accepted isn't understood: {why}") from None
     if made.key() != derived.forced(sc, prefix).key():

@@ -54,7 +54,7 @@ def header(search):
     return (
         f'<header><h1>Search plan <bdi>{escape(search.name)}</bdi></h1><div class="verdict">'
         f'<p class="chance"><strong>{search.report.percent}&nbsp;%</strong> chance to find them in {looks}{each}</p>'
-        f'<p class="accepted">Accepted: no {tables.best(search)} is better.<small>{escape(search.checked_by)}</small></p></div>'
+        f'<p class="accepted">{escape(tables.verdict(search))}<small>{escape(search.checked_by)}</small></p></div>'
         '<p class="note">Percentages are cut off after three digits. '
         "The chance is exact for the numbers of the scenario, and as good as they are.</p>"
         f"{more}{own}</header>"

@@ -20,11 +20,6 @@ def beginning(sc, prefix):
     return f"the paths that begin with {path_of(sc, prefix)}" if prefix else "all paths"
 
 
-def family_of(text):
-    """Whether a text is to be one of a gap plan or of a plan, by its first word."""
-    return forms.GAPS if text.lstrip(b" \t\r\n").startswith(b"gap") else forms.PLANS
-
-
 def number_of(plan, line):
     """The number of the record in a line, from 0 on."""
     return line - plan.dialect.line_of(0)
@@ -157,7 +152,7 @@ def because(sc, text, line, why):
     if len(text) > MOST_BYTES:
         return [f"the plan has {len(text):,} bytes, too many for this helper to look into it"]
     try:
-        plan = forms.read_plan(text, sc, family_of(text))
+        plan = forms.read_plan(text, sc, forms.family_of(text))
         told = [ABOUT[why](sc, plan, line), second_opinion(sc, plan, line, why)]
     except (forms.Fault, KeyError, IndexError) as fault:
         return [f"this helper can't follow the program's reason ({fault!r}): please tell the project, with both files"]
@@ -194,5 +189,5 @@ def no_plan(sc, text, line, kind):
         return f"a plan begins with `plan 1` or `plan 2`, and a gap plan with `gap 1`{hint}"
     if kind == "BadLine" and not here:
         return "the line is empty, and a plan has no empty lines"
-    most = max(it.most for it in family_of(text).values())
+    most = max(it.most for it in forms.family_of(text).values())
     return f"{BAD[kind].format(most=most)}; {PLAN}"

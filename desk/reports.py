@@ -90,6 +90,14 @@ def read(text):
     return report
 
 
+def of_frames(value, weight, path, cells, frames):
+    """The report of a path that is known to find so much of the whole weight: `path` are its positions and `cells` all cells, by name,
+    and `frames` those of desk.masses."""
+    periods = [Row(name, it.so_far, masses.percent(it.so_far, weight)) for name, it in zip(path, frames[1:])]
+    left = [Row(name, mass, masses.percent(mass, weight)) for name, mass in zip(cells, frames[-1].left)]
+    return Report(value, weight, masses.percent(value, weight), periods, left)
+
+
 def read_map(text, whole):
     """The looks of the map that a text (bytes) is, of a scenario with this whole weight. Raises NoReport at another text, also where its
     shares aren't those of its numbers."""

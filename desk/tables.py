@@ -53,6 +53,15 @@ def best(search):
     return f"{what} that begins as flown" if search.seats.flown else what
 
 
+def verdict(search):
+    """What the program accepted, as a sentence: that nothing is better, or a ceiling of what the others find."""
+    if search.ceiling is None:
+        return f"Accepted: no {best(search)} is better."
+    more = search.ceiling > search.report.value
+    than = f" than {masses.percent_up(search.ceiling, search.report.weight)} %" if more else ""
+    return f"Accepted: no {best(search)} finds more{than}."
+
+
 def about_flown(search):
     """What is said of a flown prefix, in short sentences: how many looks are flown, and what those to come find if these found nothing."""
     k = search.seats.flown
@@ -154,6 +163,14 @@ def all_cells(search, is_open):
     return f'<details class="all"><summary>All cells after all looks, as a table</summary>{inner}</details>'
 
 
+def about_records(search):
+    """The row that says what the records show."""
+    records = plural(search.records, "record")
+    if search.ceiling is None:
+        return "Plan", f"text of version {search.version}, {records}: they show that no path is better"
+    return "Gap plan", f"{records}: they show that no path finds more than the ceiling"
+
+
 def numbers(search):
     """The numbers behind the page, and the checksums by which its files are known again."""
     a, d, g = search.sc.parts
@@ -163,8 +180,10 @@ def numbers(search):
         ("Chance", f"{search.report.value} of {search.report.weight}"),
         ("Denominators", f"first distribution {a}, drift {d}, looks {g}; the whole is {a} · {d}<sup>{t - 1}</sup> · {g}<sup>{t}</sup>"),
         ("Size", f"{', '.join(counts)} of the {'searcher' if search.seats.count == 1 else 'pair'}"),
-        ("Plan", f"text of version {search.version}, {plural(search.records, 'record')}: they show that no path is better"),
+        about_records(search),
     ]
+    if search.ceiling is not None:
+        rows.insert(1, ("Ceiling", f"{search.ceiling} of {search.report.weight}: rounded up in percent"))
     if not search.is_mapped:
         rows.append(("Masses", "this helper's own sums, of which the last are those of the report: this program has no map"))
     told = "".join(f"<dt>{name}</dt><dd>{text}</dd>" for name, text in rows)

@@ -8,9 +8,9 @@ sys.dont_write_bytecode = True
 sys.path.insert(0, os.path.dirname(os.path.realpath(__file__)))
 
 from made import ROW  # noqa: E402
-from pages import example  # noqa: E402
+from pages import Room, Tree, example  # noqa: E402
 
-from desk import forms, paths, verdict  # noqa: E402
+from desk import brief, following, forms, paths, show, verdict  # noqa: E402
 
 CELLS, LONGER = example("two-cells")[0], example("waiting-longer")[0]
 
@@ -181,6 +181,48 @@ class Gaps(unittest.TestCase):
             wrong = text.replace(b"\nM ", b"\nE ")
             line, why = verdict.first_reason(sc, forms.read_plan(wrong, sc)) or (0, None)
             self.assertEqual(verdict.first_reason(sc, forms.read_plan(as_gap(wrong), sc, forms.GAPS)) or (1, None), (line + 1, why))
+
+
+class Helpers(Room):
+    """`show`, `brief` and `next` take a gap plan as they take a plan: they ask `checkgap`, and say its ceiling."""
+
+    def given(self, text, plan):
+        return [self.write("s", text), self.write("p", plan)]
+
+    def test_a_brief_says_the_ceiling_rounded_up(self):
+        rows = (
+            (LONGER, WAITS, "Accepted: no path finds more than 100.000 %.", "Chance to find them: 75.000 %, 3 looks, from b"),
+            (ROW, ACCEPTED[0][1], "Accepted: no path finds more than 66.667 %.", "Chance to find them: 33.333 %, 2 looks, from b"),
+            (CELLS, ACCEPTED[8][1], "Accepted: no path finds more.", "Chance to find them: 75.000 %, 2 looks, from a"),
+        )
+        for text, plan, *wanted in rows:
+            with self.subTest(wanted[0]):
+                status, out, err = self.run_helper(brief.main, self.given(text, plan))
+                self.assertEqual((status, err), (0, err))
+                self.assertEqual([out.split("\n")[it] for it in (1, 3)], wanted)
+                self.assertIn("\nPercent are cut off after three digits.\nThat of the ceiling is rounded up.\n", out)
+
+    def test_a_page_has_the_ceiling_and_the_masses_of_the_map(self):
+        status, out, err = self.run_helper(show.main, self.given(LONGER, BELOW))
+        self.assertEqual(status, 0, err)
+        page = Tree(out).open[0]
+        self.assertTrue(page.one(class_="accepted").text().startswith("Accepted: no path finds more than 100.000 %."))
+        numbers = page.one("section", class_="numbers").text()
+        for part in ("Chance6 of 8", "Ceiling8 of 8: rounded up in percent", "Gap plan8 records: they show that no path finds more than the ceiling"):
+            self.assertIn(part, numbers)
+        self.assertNotIn("own sums", numbers)
+
+    def test_next_goes_on_behind_it(self):
+        status, out, err = self.run_helper(following.main, [*self.given(LONGER, WAITS), "--flown", "2"])
+        self.assertEqual(status, 0, err)
+        sc, _ = forms.read_scenario(out.encode(), alone=True)
+        self.assertEqual((sc.horizon, sc.positions[sc.start], sc.first), (1, b"c", [0, 0, 1]))
+
+    def test_one_that_is_not_accepted(self):
+        for helper in (brief, show, following):
+            status, out, err = self.run_helper(helper.main, self.given(LONGER, WAITS.replace(b"ceiling 8", b"ceiling 7")))
+            self.assertEqual((status, out), (1, ""), err)
+            self.assertIn("the plan isn't accepted: rejected 4 CeilingWrong", err)
 
 
 if __name__ == "__main__":
