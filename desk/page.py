@@ -50,12 +50,13 @@ def header(search):
     each = "" if search.seats.count == 1 else " each"
     told = " ".join([*tables.about_flown(search), *tables.about_names(search)])
     more = f'<p class="note">{escape(told)}</p>' if told else ""
+    up = "" if search.ceiling is None else ", that of the ceiling is rounded up"
     own = f"<details><summary>What the scenario says of itself</summary><pre>{escape(said)}</pre></details>" if said else ""
     return (
         f'<header><h1>Search plan <bdi>{escape(search.name)}</bdi></h1><div class="verdict">'
         f'<p class="chance"><strong>{search.report.percent}&nbsp;%</strong> chance to find them in {looks}{each}</p>'
         f'<p class="accepted">{escape(tables.verdict(search))}<small>{escape(search.checked_by)}</small></p></div>'
-        '<p class="note">Percentages are cut off after three digits. '
+        f'<p class="note">Percentages are cut off after three digits{up}. '
         "The chance is exact for the numbers of the scenario, and as good as they are.</p>"
         f"{more}{own}</header>"
     )

@@ -207,6 +207,7 @@ class Helpers(Room):
         self.assertEqual(status, 0, err)
         page = Tree(out).open[0]
         self.assertTrue(page.one(class_="accepted").text().startswith("Accepted: no path finds more than 100.000 %."))
+        self.assertIn("cut off after three digits, that of the ceiling is rounded up.", page.one("header").text())
         numbers = page.one("section", class_="numbers").text()
         for part in ("Chance6 of 8", "Ceiling8 of 8: rounded up in percent", "Gap plan8 records: they show that no path finds more than the ceiling"):
             self.assertIn(part, numbers)
