@@ -24,7 +24,7 @@ miss_from-push p t (a ∷ q) [] c h = absurd (omega arith)
 miss_from-push p t (a ∷ q) (b ∷ x) c h = rw (miss_from-push p (t + 1) q x c (omega arith)) (omega arith)
 
 -- a miss is the factors of the looks, times the denominator for each period after them
-miss_from-looked : (p : Problem) (t : ℕ) (q x : List ℕ) (j : ℕ) → length x ≡ length q + j → miss_from p t q x ≡ looked_along p t (map Some q) x * p.sweep.denominator ^ j
+pub miss_from-looked : (p : Problem) (t : ℕ) (q x : List ℕ) (j : ℕ) → length x ≡ length q + j → miss_from p t q x ≡ looked_along p t (map Some q) x * p.sweep.denominator ^ j
 unfolding miss_from looked_along
 miss_from-looked p t [] [] zero e = rw (pow-zero p.sweep.denominator) refl
 miss_from-looked p t [] [] (suc j) e = absurd (omega arith)

@@ -156,7 +156,7 @@ none_of_closed [] = refl
 none_of_closed (r ∷ rs) = none_of_closed rs
 
 -- a record is the record of its closed node
-shapes_of_closed : (rs : List TreeNode) → map shape_of (map closed_node rs) ≡ rs
+pub shapes_of_closed : (rs : List TreeNode) → map shape_of (map closed_node rs) ≡ rs
 shapes_of_closed [] = refl
 shapes_of_closed (r ∷ rs) = ap (λ (xs : List TreeNode). r ∷ xs) (shapes_of_closed rs)
 

@@ -1,5 +1,5 @@
 -- The gap plan of a problem whose greedy path isn't the best, computed.
-use Rattle.std.proofs.Common.{ℕ, ◌≡◌, ◌<◌, ◌≤◌, [], ◌∷◌, refl, arith, take, slice_index, Contains}
+use Rattle.std.proofs.Common.{ℕ, ◌≡◌, ◌≤◌, [], ◌∷◌, refl, arith, take, slice_index, Contains}
 use Rattle.std.proofs.lemmas.List.Elements.{All-from_recursion}
 use Rattle.search_grid.specs.Moves.{moves_from, IsMoveRow}
 use Rattle.drift_chain.proofs.Drifts.{AreChanges-none}
@@ -11,17 +11,12 @@ use Rattle.search_model.specs.Problem.{IsProblem}
 use Rattle.search_model.specs.Legal.{walks}
 use Rattle.search_model.specs.Tracks.{tracks, steps_product, weight_of, miss_from, missed_weight}
 use Rattle.search_model.specs.Bounds.{factors_along, reward_of, sum_along, greatest}
-use Rattle.search_model.proofs.ExampleProblems.{below_three, two_moves, one_step, letters, apart}
-use Rattle.search_model.proofs.NameLemmas.{below_more}
+use Rattle.search_model.proofs.ExampleProblems.{two_moves, one_step, letters, apart, below_four}
 use Rattle.list_laws.proofs.Members.{Contains-nil}
 use Rattle.bound_tree.specs.Gaps.{IsGoodOpen, GapAccepts}
 use Rattle.bound_tree.specs.declared.node.Kind.TheVariants.{Branch}
 use Rattle.bound_tree.specs.declared.gap.GapKind.TheVariants.{Closed}
 use Rattle.bound_tree.specs.WorkedGap.{node_at, greedy_isnt_best, greedy_gap, GreedyGap}
-
--- what holds of the first four numbers holds below four
-below_four : (P : ℕ → Type 0) → P 0 → P 1 → P 2 → P 3 → (d : ℕ) → d < 4 → P d
-below_four P p q r s = below_more P 3 (below_three P p q r) s
 
 four_names : AreNames 4 greedy_isnt_best.names
 four_names = record {

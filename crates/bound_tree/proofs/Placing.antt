@@ -13,7 +13,8 @@ use Rattle.bound_tree.specs.Accepts.{IsGoodKind, IsGood, expected_by, AreEaten}
 use Rattle.bound_tree.specs.Places.{opened_by, AreInPlace, EatenIsPlacedAndGood, EatenAreInPlace}
 use Rattle.bound_tree.proofs.Rooms.{legal_expected}
 
-nothing_either_way : (b : Bool) → ◌≡◌ {A = List (List ℕ)} (cond b [] []) []
+-- either way nothing is expected
+pub nothing_either_way : (b : Bool) → ◌≡◌ {A = List (List ℕ)} (cond b [] []) []
 nothing_either_way true = refl
 nothing_either_way false = refl
 

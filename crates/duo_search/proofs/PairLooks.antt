@@ -3,15 +3,14 @@ use Rattle.std.proofs.Common.{◌≡◌, ◌≢◌, ℕ, ◌+◌, ◌*◌, ◌<�
 use Rattle.std.specs.Prelude.{Result, IfOk, slice_index_or}
 use Rattle.exact_parts.specs.declared.no_memory.NoMemory.{NoMemory}
 use Rattle.std.specs.List.{range_with_len}
-use Rattle.std.specs.List.Sorted.{IsStrictlyIncreasing}
 use Rattle.std.proofs.Math.Nat.{mul-le-mul}
 use Rattle.std.proofs.lemmas.Bool.{cases_lt, cases_eq, eq-eqb, ne_eqb, lt-ltb, le-ltb}
 use Rattle.std.proofs.lemmas.List.{append-nil, map-append}
 use Rattle.std.proofs.lemmas.List.Elements.{All-map, All-filter, filter-append}
 use Rattle.std.proofs.lemmas.List.Kept.{IsStrictlyIncreasing-filter}
-use Rattle.std.proofs.lemmas.List.FromFn.{length-range_with_len, get_or-range_with_len, length-map-range_with_len, get_or-map-range_with_len}
+use Rattle.std.proofs.lemmas.List.FromFn.{length-map-range_with_len, get_or-map-range_with_len}
 use Rattle.list_laws.proofs.Members.{Contains-nil, Contains-cons_cases}
-use Rattle.list_laws.proofs.Ranges.{range_more, range_below, Contains-range_from_0}
+use Rattle.list_laws.proofs.Ranges.{range_more, range_below, Contains-range_from_0, range_rises}
 use Rattle.list_laws.proofs.Mapped.{map-map}
 use Rattle.sweep_table.specs.declared.part.LookPart.{LookPart}
 use Rattle.sweep_table.specs.LookParts.{LookParts, factor_in, factor_of, misses, IsLookRow, positions_of, cells_of, look_row}
@@ -64,11 +63,6 @@ module _ (f : ℕ → ℕ) (g c : ℕ) (within : f c ≤ g) where
       left : (d : ℕ) (cells : List ℕ) → Contains (d ∷ cells) c ⊎ (f c ≡ g) → g ≤ f d → Contains cells c ⊎ (f c ≡ g)
       left d cells (inr all) past = inr all
       left d cells (inl here) past = elim (Contains-cons_cases d c cells here) [ inl same ↦ inr (let is = ap f same in omega (arith, is, past, within)) | inr rest ↦ inl rest ]
-
-range_rises : (n : ℕ) → IsStrictlyIncreasing (range_with_len 0 n)
-range_rises n k inside =
-    let long = length-range_with_len 0 n in
-    rw (get_or-range_with_len 0 n k 0 (omega arith), get_or-range_with_len 0 n (k + 1) 0 (omega (arith, long))) (omega arith)
 
 map_same : (xs : List ℕ) → map (λ x. x) xs ≡ xs
 map_same [] = refl

@@ -10,6 +10,7 @@ use Rattle.list_laws.proofs.Members.{Contains-map, Contains-map_cases, Contains-
 use Rattle.list_laws.proofs.Pairs.{AllPairs-map}
 use Rattle.list_laws.proofs.Parts.{All-flat_map, AllPairs-flat_map}
 use Rattle.search_grid.specs.Moves.{moves_from, IsMoveRow, IsGrid}
+use Rattle.search_grid.proofs.Beside.{one-le-times}
 use Rattle.search_model.specs.Problem.{Problem, IsProblem}
 use Rattle.duo_search.specs.Product.{both_at, first_at, second_at, all_pairs, product_moves}
 use Rattle.duo_search.specs.Refusals.{HasFewMoves, IsSmall}
@@ -59,9 +60,6 @@ module _ (P : ℕ) (seconds : List ℕ) where
       All-flat_map (λ n. n < P * P) f firsts (λ i there.
       let first : i < P = All-contains (λ i. i < P) firsts i within there in
       All-map (λ n. n < P * P) (both_at P i) seconds (All-weaker (λ j. j < P) (λ j. both_at P i j < P * P) (λ j second. both_within P i j first second) seconds within'))
-
-one-le-times : (m k : ℕ) → 1 ≤ m → 1 ≤ k → 1 ≤ m * k
-one-le-times m k h g = omega (arith, mul-le-mul h g)
 
 module _ (p : Problem) (sound : IsProblem p) where
   -- the moves of a position are right

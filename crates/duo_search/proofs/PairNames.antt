@@ -4,7 +4,6 @@ use Rattle.std.specs.Fmt.{decimal}
 use Rattle.std.specs.Int.{IsInRange}
 use Rattle.std.specs.List.{range_with_len}
 use Rattle.std.proofs.lemmas.Fmt.{length-decimal-le}
-use Rattle.std.proofs.lemmas.Grind.{common_steps}
 use Rattle.std.proofs.lemmas.List.{length-append, length-take-le}
 use Rattle.std.proofs.lemmas.List.Elements.{All-cons, All-append, All-weaker, All-head, All-tail, All-map}
 use Rattle.std.proofs.lemmas.List.FromFn.{length-map-range_with_len, get_or-map-range_with_len}
@@ -12,14 +11,9 @@ use Rattle.std.proofs.lemmas.List.Sums.{list_all-from_AllPass}
 use Rattle.list_laws.proofs.Ranges.{All-range}
 use Rattle.exact_parts.proofs.Decimals.{All-decimal, decimal_tells}
 use Rattle.search_model.specs.Names.{IsName, AreNames, is_name_byte, name_in, IsRepeated}
+use Rattle.search_model.proofs.NameLemmas.{digits_are_of_names}
 use Rattle.duo_search.specs.Product.{product_name, product_names, first_at, second_at}
 use Rattle.duo_search.proofs.Numbers.{first_within, second_within, both_is}
-
-digit_names : (b : ℕ) → IsInRange 48 57 b → is_name_byte b ≡ true
-digit_names b range = grind (arith, common_steps)
-
-digits_name : (n : ℕ) → n < 256 → All (λ b. is_name_byte b ≡ true) (decimal n)
-digits_name n small = All-weaker (IsInRange 48 57) (λ b. is_name_byte b ≡ true) digit_names (decimal n) (All-decimal n (omega arith))
 
 short : (n : ℕ) → n < 256 → length (decimal n) ≤ 3
 short n small = length-decimal-le 3 n (omega arith) (omega arith) (omega arith)
@@ -30,7 +24,7 @@ name_right i j i_small j_small =
     let P : ℕ → Type 0 = λ b. is_name_byte b ≡ true in
     let long = length-append (decimal i) (45 ∷ decimal j) in
     let bytes : All P (product_name i j) =
-    All-cons P 112 _ refl (All-append P (decimal i) (45 ∷ decimal j) (digits_name i i_small) (All-cons P 45 (decimal j) refl (digits_name j j_small))) in
+    All-cons P 112 _ refl (All-append P (decimal i) (45 ∷ decimal j) (digits_are_of_names i i_small) (All-cons P 45 (decimal j) refl (digits_are_of_names j j_small))) in
     record {
       some = omega arith;
       short = omega (arith, long, short i i_small, short j j_small);

@@ -7,6 +7,7 @@ pub mod Firsts
 pub mod FirstFaults
 pub mod Found
 pub mod Halves
+pub mod Joined
 pub mod Keyed
 pub mod Mapped
 pub mod Matched

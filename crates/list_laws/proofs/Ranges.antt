@@ -1,6 +1,7 @@
 -- Ranges of numbers.
 use Rattle.std.proofs.Common.{ℕ, zero, suc, ◌+◌, ◌<◌, ◌≤◌, ◌≡◌, ◌∙◌, [], ◌∷◌, ◌++◌, sym, refl, ap, arith, add-one, add-zero, All, Contains}
 use Rattle.std.specs.List.{range_with_len}
+use Rattle.std.specs.List.Sorted.{IsStrictlyIncreasing}
 use Rattle.std.proofs.lemmas.List.FromFn.{length-range_with_len, get_or-range_with_len}
 use Rattle.std.proofs.lemmas.List.Elements.{All-nil, All-cons}
 
@@ -41,3 +42,9 @@ Contains-range_cases a n x (k, inside, is) =
 -- a number of a range from 0 on is below its end
 pub within_range : (n c : ℕ) → Contains (range_with_len 0 n) c → c < n
 within_range n c there = let at = Contains-range_cases 0 n c there in omega (arith, at.1, at.2)
+
+-- they rise
+pub range_rises : (n : ℕ) → IsStrictlyIncreasing (range_with_len 0 n)
+range_rises n k inside =
+    let long = length-range_with_len 0 n in
+    rw (get_or-range_with_len 0 n k 0 (omega arith), get_or-range_with_len 0 n (k + 1) 0 (omega (arith, long))) (omega arith)

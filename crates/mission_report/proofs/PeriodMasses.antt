@@ -5,7 +5,6 @@ use Rattle.std.proofs.lemmas.Bool.{cases_eq, eq-eqb, ne_eqb}
 use Rattle.std.proofs.lemmas.List.{length-take-le, length-take, take_all}
 use Rattle.std.proofs.lemmas.List.Sums.{sum-map}
 use Rattle.std.proofs.lemmas.Nat.{mul-pow}
-use Rattle.std.proofs.Math.Nat.{pow-zero, pow-suc}
 use Rattle.search_model.specs.Problem.{Problem, IsProblem}
 use Rattle.search_model.specs.Tracks.{tracks, weight_of, miss_from, miss_of, missed_weight}
 use Rattle.search_model.specs.Bounds.{cell_in}
@@ -15,22 +14,10 @@ use Rattle.search_model.proofs.Totals.{nothing_is_cut_off}
 use Rattle.belief_update.specs.Masses.{looked_along, mass_of, looks_to}
 use Rattle.belief_update.proofs.TrackSteps.{looked_along-nones}
 use Rattle.belief_update.proofs.Looks.{length-looks_to, looks_to-whole}
-use Rattle.belief_update.proofs.Missed.{missed_by_masses_hold}
+use Rattle.belief_update.proofs.Missed.{miss_from-looked, missed_by_masses_hold}
 use Rattle.belief_update.proofs.Rewards.{found_by_masses}
 use Rattle.mission_report.specs.Account.{all_cells, mass_in, masses_in}
 use Rattle.mission_report.specs.Laws.{MassesAreMissed, FoundAndLeftUpTo, MassesByBelief, LeftIsMissed, FoundAndLeft}
-
--- a miss is the factors of the looks, times the denominator for each period after them
-miss_looked : (p : Problem) (t : ℕ) (q x : List ℕ) (j : ℕ) → length x ≡ length q + j → miss_from p t q x ≡ looked_along p t (map Some q) x * p.sweep.denominator ^ j
-unfolding miss_from looked_along
-miss_looked p t [] [] zero e = rw (pow-zero p.sweep.denominator) refl
-miss_looked p t [] [] (suc j) e = absurd (omega arith)
-miss_looked p t [] (c ∷ x) zero e = absurd (omega arith)
-miss_looked p t [] (c ∷ x) (suc j) e =
-    let rest : miss_from p (t + 1) [] x ≡ 1 * p.sweep.denominator ^ j = miss_looked p (t + 1) [] x j (omega arith) in
-    rw (rest, pow-suc p.sweep.denominator j) (omega arith)
-miss_looked p t (a ∷ q) [] j e = absurd (omega arith)
-miss_looked p t (a ∷ q) (c ∷ x) j e = rw (miss_looked p (t + 1) q x j (omega arith)) (omega arith)
 
 -- looks in no period of a track miss nothing of it
 miss_taken : (p : Problem) (t n : ℕ) (q x : List ℕ) → length x ≤ n → miss_from p t (take n q) x ≡ miss_from p t q x
@@ -72,7 +59,7 @@ module _ (p : Problem) (sound : IsProblem p) (q : List ℕ) (t : ℕ) (some : 1 
       sum_by-filter (λ x. cell_in x t == c) (λ x. weight_of p x * miss_of p front x) (tracks p.cells p.horizon)
       ∙ sum_tracks-same p.cells p.horizon _ (λ x. weight_of p x * (looked_along p 1 looks x * here (cell_in x t))) (λ x same.
       let long : length x ≡ length front + (p.horizon - length front) = omega (arith, same, short, last) in
-      rw (miss_looked p 1 front x (p.horizon - length front) long, looked_along-nones p 1 (t - length front) (map Some front) x, same_test (cell_in x t) c)
+      rw (miss_from-looked p 1 front x (p.horizon - length front) long, looked_along-nones p 1 (t - length front) (map Some front) x, same_test (cell_in x t) c)
       (kept (c == cell_in x t) (weight_of p x) (looked_along p 1 (map Some front) x) rest))
       ∙ found_by_masses p sound looks here t some (length-looks_to t front short) last
       ∙ ap (λ (s : ℕ). s * drifts) (sum_by-same _ (λ d. here d * mass_of p looks d) all (λ d. omega arith) ∙ sum_by-range-pick p.cells c rest (mass_of p looks) lt)

@@ -25,14 +25,13 @@ use Rattle.tree_format.specs.declared.plan_item.Step.{Step}
 use Rattle.tree_format.specs.declared.plan_item.Step.TheVariants.{More, Item, Fault}
 use Rattle.tree_format.specs.Feeding.{HasRead, IfRead, IfMore, IfItem, IfFaulty, IsDecided, IsWhole, IsCutOff}
 use Rattle.tree_format.specs.FeedSteps.{Stand}
-use Rattle.tree_checker.specs.declared.verdict.RejectAt.{RejectAt}
 use Rattle.tree_checker.specs.declared.gap_verdict.GapRejectAt.{GapRejectAt}
 use Rattle.tree_checker.specs.declared.gap_verdict.GapVerdict.{GapVerdict}
 use Rattle.tree_checker.specs.declared.gap_verdict.GapVerdict.TheVariants as verdicts
 use Rattle.tree_checker.specs.GapReasons.{plain_at, gap_verdict_of}
 use Rattle.tree_checker.specs.Progress.{IsUnderWay, IsMadeFor}
 use Rattle.tree_checker.proofs.Reason.{no_reason_is_accepted}
-use Rattle.tree_checker.proofs.GapReason.{no_reason_is_accepted_gap}
+use Rattle.tree_checker.proofs.GapReason.{no_reason_is_accepted_gap, none_plain}
 use Rattle.plan_command.specs.declared.judge.Task.{Task}
 use Rattle.plan_command.specs.declared.judge.Judge.{Judge}
 use Rattle.plan_command.specs.declared.intake.Intake.{Intake}
@@ -256,15 +255,11 @@ module _ (piece : List ℕ) (old new : Judge) (r : Result (Unit {0}) PlanStop) w
 
 -- Where the text ends.
 
-plain_none : (reason : Option RejectAt) → plain_at reason ≡ None → reason ≡ None
-plain_none None h = refl
-plain_none (Some at) h = let bad : ⊥ = cc in absurd bad
-
 -- there is no reason exactly where it is accepted
 none_against : (family : Family) (p : Problem) (plan : GapPlan) → (reason_against family p plan ≡ None) ↔ IsAccepted family p plan
 none_against Plans p plan =
     let exact = no_reason_is_accepted p (plan_of plan) in
-    (λ none. exact.0 (plain_none _ none), λ accepts. ap plain_at (exact.1 accepts))
+    (λ none. exact.0 (none_plain _ none), λ accepts. ap plain_at (exact.1 accepts))
 none_against Gaps p plan = no_reason_is_accepted_gap p plan
 
 none_said : (reason : Option GapRejectAt) → gap_verdict_of reason ≡ verdicts.Accepted → reason ≡ None

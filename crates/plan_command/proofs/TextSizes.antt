@@ -2,7 +2,7 @@
 use Rattle.std.proofs.Common.{ℕ, ◌+◌, ◌*◌, ◌≤◌, ◌≡◌, List, [], ◌∷◌, ◌++◌, length, ap, arith, All, length-append, mul-le-mul_right}
 use Rattle.std.proofs.lemmas.List.Elements.{All-head, All-tail, All-weaker}
 use Rattle.text_rows.specs.Rows.{text_of, spaced}
-use Rattle.text_rows.proofs.RowLemmas.{join-fields, text_of-append}
+use Rattle.text_rows.proofs.RowLemmas.{join-fields, text_of-append, spaced_short}
 
 -- a row of at most m fields of at most k bytes
 abbrev pub IsShortRow : ℕ → ℕ → List (List ℕ) → Type 0
@@ -11,14 +11,6 @@ IsShortRow m k row = (length row ≤ m) × All (λ f. length f ≤ k) row
 -- a row that makes a line of at most n bytes, with its line feed
 abbrev pub IsShortLine : ℕ → List (List ℕ) → Type 0
 IsShortLine n row = length (text_of (row ∷ [])) ≤ n
-
--- fields of at most k bytes, each with a blank before it
-pub fields_fit : (k : ℕ) (fs : List (List ℕ)) → All (λ f. length f ≤ k) fs → length (spaced fs) ≤ length fs * (k + 1)
-fields_fit k [] each = omega arith
-fields_fit k (f ∷ fs) each =
-    let here = All-head (λ g. length g ≤ k) f fs each in
-    let rest = fields_fit k fs (All-tail (λ g. length g ≤ k) f fs each) in
-    omega (arith, length-append f (spaced fs), here, rest)
 
 -- a line is its first field, the others with a blank before each, and the line feed
 pub line_size : (f : List ℕ) (fs : List (List ℕ)) → length (text_of ((f ∷ fs) ∷ [])) ≡ length f + length (spaced fs) + 1
@@ -31,7 +23,7 @@ line_fits : (m k : ℕ) (row : List (List ℕ)) → IsShortRow m k row → IsSho
 line_fits m k [] short = omega arith
 line_fits m k (f ∷ fs) short =
     let here = All-head (λ g. length g ≤ k) f fs short.1 in
-    let rest = fields_fit k fs (All-tail (λ g. length g ≤ k) f fs short.1) in
+    let rest = spaced_short k fs (All-tail (λ g. length g ≤ k) f fs short.1) in
     let most = mul-le-mul_right (k + 1) short.0 in
     omega (arith, line_size f fs, here, rest, most)
 

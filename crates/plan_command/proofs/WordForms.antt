@@ -11,16 +11,16 @@ use Rattle.std.proofs.Math.Seq.{drop-append-add, take-append_seam}
 use Rattle.std.proofs.lemmas.List.Elements.{All-nil, All-cons, All-head, All-tail}
 use Rattle.std.proofs.lemmas.List.Quantifiers.{position-Some}
 use Rattle.exact_parts.specs.Decimal.{is_plain}
-use Rattle.search_model.specs.Names.{IsName}
+use Rattle.search_model.specs.Names.{IsName, is_name}
+use Rattle.search_model.proofs.NameLemmas.{is_name_tells, is_name_of}
 use Rattle.plan_command.specs.declared.request.Request.{Request}
 use Rattle.plan_command.specs.declared.request.Request.TheVariants.{Plan, Check, Report, Make, Drill, Convert, Gap, CheckGap, Replan, Map, Duo}
 use Rattle.plan_command.specs.Options.{AreOptions, IsRow}
 use Rattle.plan_command.specs.Words.{Spells, SpellNone, AreFlown}
-use Rattle.plan_command.specs.WordReading.{number_in, options_at, plan_at, gap_at, alone_at, report_at, make_at, drill_at, is_name, name_in, are_flown, place_of, replan_from, replan_at, map_at, duo_with, duo_from, duo_at, request_at}
+use Rattle.plan_command.specs.WordReading.{number_in, options_at, plan_at, gap_at, alone_at, report_at, make_at, drill_at, name_in, are_flown, place_of, replan_from, replan_at, map_at, duo_with, duo_from, duo_at, request_at}
 use Rattle.plan_command.specs.declared.request.TheConstants.{MOST_CLOSED}
 use Rattle.bound_tree.specs.declared.tree.TheConstants.{MOST_NODES}
 use Rattle.plan_command.proofs.OptionForms.{some_tells, none_of_some, is_that, IsNumber, number_tells, number_of_text, mapped_tells, both_tell, both_read, two_words, options_tell, options_read, options_lack, no_nodes, Lacks}
-use Rattle.plan_command.proofs.WordLists.{is_name_tells, is_name_of}
 
 -- the options that are read spell the request
 abbrev Told : List ℕ → List (List ℕ) → Option Request → Type 0

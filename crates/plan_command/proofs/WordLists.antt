@@ -3,12 +3,13 @@ use Rattle.std.proofs.Common.{ℕ, ◌≡◌, ◌≤◌, ◌<◌, Bool, true, fa
 use Rattle.std.specs.Prelude.{◌==◌, suc, IfSome, IfNone, if◌then◌else◌}
 use Rattle.std.specs.List.{list_all}
 use Rattle.std.proofs.lemmas.List.{length-map}
-use Rattle.std.proofs.lemmas.Bool.{and_parts, leb-true, le-leb}
+use Rattle.std.proofs.lemmas.Bool.{le-leb}
 use Rattle.std.proofs.lemmas.List.Folds.{list_all-map}
-use Rattle.search_model.specs.Names.{IsName}
-use Rattle.scenario_text.proofs.Positions.{position_map, position_within}
+use Rattle.search_model.specs.Names.{IsName, is_name}
+use Rattle.search_model.proofs.NameLemmas.{is_name_tells, is_name_of}
+use Rattle.scenario_text.proofs.Positions.{position_map}
 use Rattle.plan_command.specs.declared.request.Request.{Request}
-use Rattle.plan_command.specs.WordReading.{option_at, alone_at, report_at, make_at, duo_with, is_name, are_flown, name_in}
+use Rattle.plan_command.specs.WordReading.{option_at, alone_at, report_at, make_at, duo_with, are_flown, name_in}
 
 module _ {X Y : Type 0} (f : X → Y) where
   pub none_of : (xs : List X) → length xs < 1 → map f xs ≡ []
@@ -51,18 +52,6 @@ module _ {X : Type 0} (f : X → List ℕ) where
   duo_other options [] one = refl
   duo_other options (a ∷ []) one = absurd (one refl)
   duo_other options (a ∷ b ∷ xs) one = refl
-
--- a word is a name where it passes the test
-pub is_name_tells : (word : List ℕ) → is_name word ≡ true → IsName word
-unfolding is_name
-is_name_tells word e =
-    let parts = and_parts _ _ e in
-    let more = and_parts _ _ parts.1 in
-    record { some = leb-true _ _ parts.0; short = leb-true _ _ more.0; bytes = more.1 }
-
-pub is_name_of : (word : List ℕ) → IsName word → is_name word ≡ true
-unfolding is_name
-is_name_of word name = rw (le-leb _ _ name.some, le-leb _ _ name.short) name.bytes
 
 pub name_new : (word bytes : List ℕ) (r : Option (List ℕ)) → bytes ≡ word → IfSome r (λ n. (n ≡ bytes) × IsName bytes) → IfNone r (IsName bytes → ⊥) → r ≡ name_in word
 name_new word bytes (Some n) is (same, name) none = rw (is_name_of word (subst IsName is name), same, is) refl

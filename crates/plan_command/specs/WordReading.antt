@@ -6,7 +6,7 @@ use Rattle.std.specs.Str.{bytes_eq}
 use Rattle.exact_parts.specs.declared.number.Number.{Number}
 use Rattle.exact_parts.specs.declared.number.Number.TheVariants.{NotPlain, Above, Of}
 use Rattle.exact_parts.specs.Decimal.{number_at}
-use Rattle.search_model.specs.Names.{is_name_byte}
+use Rattle.search_model.specs.Names.{is_name}
 use Rattle.plan_command.specs.declared.request.Request.{Request}
 use Rattle.plan_command.specs.declared.request.Request.TheVariants.{Plan, Check, Report, Make, Drill, Convert, Gap, CheckGap, Replan, Map, Duo}
 use Rattle.plan_command.specs.declared.request.TheConstants.{WORKERS, MOST_WORKERS, MOST_CLOSED, MOST_FLOWN}
@@ -77,10 +77,7 @@ abbrev pub drill_at : List (List ℕ) → Option Request
 drill_at [] = None
 drill_at (number ∷ options) = of_both (λ n o. Drill n o.0) (number_in number) (options_at 0 options)
 
--- whether a word is a name
-unfoldable pub is_name : List ℕ → Bool
-is_name word = nat_le 1 (length word) && (nat_le (length word) 24 && list_all is_name_byte word)
-
+-- a word that is a name
 abbrev pub name_in : List ℕ → Option (List ℕ)
 name_in word = if is_name word then Some word else None
 

@@ -4,7 +4,8 @@ ghost use Rattle.std.specs.Prelude.{◌≡◌, ◌≤◌, ◌<◌, ◌+◌, [], 
 ghost use Rattle.std.specs.List.{list_all};
 ghost use Rattle.std.specs.Str.{bytes_eq};
 ghost use Rattle.plan_command.specs.Words.{Spells, SpellNone};
-ghost use Rattle.plan_command.specs.WordReading.{plan_at, gap_at, alone_at, report_at, make_at, drill_at, is_name as is_name_lem, are_flown as are_flown_lem, place_of as place_of_lem, replan_at, map_at, name_in, duo_with as duo_with_lem, duo_at, options_at, request_at};
+ghost use Rattle.search_model.specs.Names.{is_name as is_name_lem};
+ghost use Rattle.plan_command.specs.WordReading.{plan_at, gap_at, alone_at, report_at, make_at, drill_at, are_flown as are_flown_lem, place_of as place_of_lem, replan_at, map_at, name_in, duo_with as duo_with_lem, duo_at, options_at, request_at};
 
 use crate::options::{cut, is_word, number_between, options_from};
 use crate::request::{MOST_CLOSED, MOST_FLOWN, Request};

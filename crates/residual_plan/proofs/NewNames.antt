@@ -1,19 +1,18 @@
 -- The names of the scenario that forces a prefix.
-use Rattle.std.proofs.Common.{◌≡◌, ℕ, ◌<◌, ◌≤◌, ◌+◌, ◌-◌, ◌/◌, ◌%◌, true, List, [], ◌∷◌, ◌++◌, length, get_or, take, refl, sym, ap, ◌∙◌, arith, subst, inl, inr, get_or-take, length-append}
-use Rattle.std.specs.Prelude.{All, Contains}
+use Rattle.std.proofs.Common.{◌≡◌, ℕ, ◌<◌, ◌≤◌, ◌+◌, ◌-◌, ◌/◌, ◌%◌, List, [], ◌∷◌, ◌++◌, length, get_or, take, refl, sym, ap, ◌∙◌, arith, subst, inl, inr, get_or-take, length-append}
+use Rattle.std.specs.Prelude.{Contains}
 use Rattle.std.specs.Fmt.{decimal}
-use Rattle.std.specs.Int.{IsInRange}
 use Rattle.std.proofs.lemmas.Bool.{cases_lt}
 use Rattle.std.proofs.lemmas.Fmt.{decimal_digit, decimal_step_wide, length-decimal-le}
-use Rattle.std.proofs.lemmas.Grind.{common_steps}
 use Rattle.std.proofs.lemmas.List.{length-take-le, take-append-le, get_or_append_left, get_or-append_right}
 use Rattle.std.proofs.Math.Seq.{take-append-add}
-use Rattle.std.proofs.lemmas.List.Elements.{All-append, All-weaker, All-from_get_or, Contains-append_cases}
+use Rattle.std.proofs.lemmas.List.Elements.{All-append, All-from_get_or, Contains-append_cases}
 use Rattle.std.proofs.lemmas.List.FromFn.{length-map-range_with_len, get_or-map-range_with_len}
 use Rattle.std.proofs.lemmas.List.Sums.{list_all-from_AllPass}
-use Rattle.exact_parts.proofs.Decimals.{All-decimal, decimal_tells}
+use Rattle.exact_parts.proofs.Decimals.{decimal_tells}
 use Rattle.search_model.specs.Names.{IsName, AreNames, is_name_byte, name_in, IsRepeated}
 use Rattle.search_model.specs.Problem.{Problem, IsProblem}
+use Rattle.search_model.proofs.NameLemmas.{digits_are_of_names}
 use Rattle.residual_plan.specs.Forced.{forced_count, forced_name, forced_names, IsNameTaken}
 
 -- a number of one digit, and one of two
@@ -30,17 +29,11 @@ name_of_digits i large small =
     rw (decimal_step_wide i large (omega arith), front) refl
 
 -- each is a name
-digits_name : (n : ℕ) → n ≤ 200 → All (λ b. is_name_byte b ≡ true) (decimal n)
-digits_name n small = All-weaker (IsInRange 48 57) (λ b. is_name_byte b ≡ true) (λ b range. digit_names b range) (decimal n) (All-decimal n (omega arith))
-  where
-    digit_names : (b : ℕ) → IsInRange 48 57 b → is_name_byte b ≡ true
-    digit_names b range = grind (arith, common_steps)
-
 pub IsName-forced : (i : ℕ) → i ≤ 32 → IsName (forced_name i)
 unfolding forced_name
 IsName-forced i small =
     let short : length (decimal i) ≤ 3 = length-decimal-le 3 i (omega arith) (omega arith) (omega arith) in
-    record { some = omega arith; short = omega (arith, short); bytes = list_all-from_AllPass is_name_byte (decimal i) (digits_name i (omega arith)) }
+    record { some = omega arith; short = omega (arith, short); bytes = list_all-from_AllPass is_name_byte (decimal i) (digits_are_of_names i (omega arith)) }
 
 -- two of one name have the same number
 forced_name_tells : (i j : ℕ) → i ≤ 32 → j ≤ 32 → forced_name i ≡ forced_name j → i ≡ j

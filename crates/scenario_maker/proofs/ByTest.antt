@@ -10,7 +10,7 @@ use Rattle.std.proofs.lemmas.List.Folds.{list_any_at}
 use Rattle.std.proofs.lemmas.Slice.Eq.{bytes_eq-Decides}
 use Rattle.drift_chain.specs.declared.part.DriftPart.{DriftPart}
 use Rattle.drift_chain.specs.DriftRows.{IsDriftRow}
-use Rattle.search_model.specs.Names.{IsName, is_name_byte, name_in, IsRepeated}
+use Rattle.search_model.specs.Names.{name_in, IsRepeated}
 use Rattle.list_laws.proofs.Members.{Contains-nil, Contains-cons_cases}
 
 -- what passes a test
@@ -50,16 +50,6 @@ IsDriftRow-by_test denominator cells row passes =
       ascending = IsStrictlyIncreasing-by_test (map (λ e. e.cell) row) ascending.0;
       total = eqb-true (sum_by (λ e. e.part) row) denominator ascending.1;
     }
-
--- names
-abbrev pub is_name : List ℕ → Bool
-is_name name = nat_le 1 (length name) && (nat_le (length name) 24 && list_all is_name_byte name)
-
-pub IsName-by_test : (name : List ℕ) → is_name name ≡ true → IsName name
-IsName-by_test name passes =
-    let some = and_parts (nat_le 1 (length name)) _ passes in
-    let short = and_parts (nat_le (length name) 24) _ some.1 in
-    record { some = leb-true 1 (length name) some.0; short = leb-true (length name) 24 short.0; bytes = short.1 }
 
 -- names that differ from all later ones
 abbrev pub differ : List (List ℕ) → Bool

@@ -12,13 +12,14 @@ use Rattle.drift_chain.specs.DriftRows.{drift_over, IsDrift, IsDriftRow}
 use Rattle.drift_chain.specs.Faults.{parts_from}
 use Rattle.drift_chain.proofs.Drifts.{IsDrift-from_rows}
 use Rattle.search_grid.specs.Moves.{moves_from}
-use Rattle.search_model.specs.Names.{IsName, IsRepeated}
+use Rattle.search_model.specs.Names.{IsName, IsRepeated, is_name}
 use Rattle.search_model.specs.Grids.{grid_name, grid_names, spread_row, spread_rows}
-use Rattle.scenario_maker.proofs.ByTest.{All-by_test, is_drift_row, IsDriftRow-by_test, is_name, IsName-by_test, differ-apart}
+use Rattle.search_model.proofs.NameLemmas.{is_name_tells}
+use Rattle.scenario_maker.proofs.ByTest.{All-by_test, is_drift_row, IsDriftRow-by_test, differ-apart}
 
 pub names_right : All IsName (grid_names 5 5)
-unfolding digits
-names_right = All-by_test is_name IsName IsName-by_test (grid_names 5 5) refl
+unfolding digits is_name
+names_right = All-by_test is_name IsName is_name_tells (grid_names 5 5) refl
 
 pub names_apart : (c : ℕ) → ¬ IsRepeated (grid_names 5 5) c
 unfolding digits

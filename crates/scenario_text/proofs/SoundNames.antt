@@ -2,18 +2,16 @@
 use Rattle.std.proofs.Common.{◌≡◌, ℕ, zero, suc, ◌<◌, ◌≤◌, ◌+◌, ◌*◌, ◌/◌, ◌%◌, true, List, [], ◌∷◌, ◌++◌, length, get_or, take, refl, sym, ◌∙◌, arith, subst, inl, inr, get_or-take}
 use Rattle.std.specs.Prelude.{All, Contains}
 use Rattle.std.specs.Fmt.{decimal}
-use Rattle.std.specs.Int.{IsInRange}
 use Rattle.std.proofs.Math.Nat.{div-add-mod}
 use Rattle.std.proofs.lemmas.Bool.{cases_lt}
 use Rattle.std.proofs.lemmas.Fmt.{length-decimal-le}
-use Rattle.std.proofs.lemmas.Grind.{common_steps}
 use Rattle.std.proofs.lemmas.List.{length-append, length-take-le, length_push, take-append-le, take_at, get_or_append_left, get_or_push}
-use Rattle.std.proofs.lemmas.List.Elements.{All-cons, All-append, All-weaker, All-from_get_or}
+use Rattle.std.proofs.lemmas.List.Elements.{All-cons, All-append, All-from_get_or}
 use Rattle.std.proofs.lemmas.List.FromFn.{length-map-range_with_len, get_or-map-range_with_len}
 use Rattle.std.proofs.lemmas.List.Sums.{list_all-from_AllPass}
-use Rattle.exact_parts.proofs.Decimals.{All-decimal}
 use Rattle.search_model.specs.Names.{IsName, is_name_byte, name_in, IsRepeated}
 use Rattle.search_model.specs.Grids.{grid_name, grid_names}
+use Rattle.search_model.proofs.NameLemmas.{digits_are_of_names}
 use Rattle.scenario_text.proofs.GridNames.{grid_name_tells}
 
 -- a name that isn't there repeats none
@@ -37,12 +35,6 @@ differ_more names name differ new c again =
     ]
 
 -- The names of a grid's cells.
-digit_names : (b : ℕ) → IsInRange 48 57 b → is_name_byte b ≡ true
-digit_names b range = grind (arith, common_steps)
-
-digits_name : (n : ℕ) → n ≤ 200 → All (λ b. is_name_byte b ≡ true) (decimal n)
-digits_name n small = All-weaker (IsInRange 48 57) (λ b. is_name_byte b ≡ true) digit_names (decimal n) (All-decimal n (omega arith))
-
 short : (n : ℕ) → n ≤ 200 → length (decimal n) ≤ 3
 short n small = length-decimal-le 3 n (omega arith) (omega arith) (omega arith)
 
@@ -60,7 +52,7 @@ IsName-grid cols c some small =
     let P : ℕ → Type 0 = λ b. is_name_byte b ≡ true in
     let long = length-append (decimal (c / cols)) (99 ∷ decimal (c % cols)) in
     let bytes : All P (grid_name cols c) =
-    All-cons P 114 _ refl (All-append P (decimal (c / cols)) (99 ∷ decimal (c % cols)) (digits_name (c / cols) row) (All-cons P 99 (decimal (c % cols)) refl (digits_name (c % cols) column))) in
+    All-cons P 114 _ refl (All-append P (decimal (c / cols)) (99 ∷ decimal (c % cols)) (digits_are_of_names (c / cols) (omega (arith, row))) (All-cons P 99 (decimal (c % cols)) refl (digits_are_of_names (c % cols) (omega (arith, column))))) in
     record {
       some = omega arith;
       short = omega (arith, long, short (c / cols) row, short (c % cols) column);

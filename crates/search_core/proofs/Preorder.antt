@@ -1,5 +1,5 @@
 -- Balanced records in preorder are in place, and eaten where they are good.
-use Rattle.std.proofs.Common.{◌≡◌, ℕ, ◌+◌, ◌<◌, true, false, List, [], ◌∷◌, ◌++◌, map, inl, inr, sym, refl, ap, ◌∙◌, subst, arith, get_or, length, Bool, cond, Contains, All, AllPairs, append_assoc, append-nil}
+use Rattle.std.proofs.Common.{◌≡◌, ℕ, ◌+◌, ◌<◌, true, false, List, [], ◌∷◌, ◌++◌, map, inl, inr, sym, refl, ap, ◌∙◌, subst, arith, get_or, length, Contains, All, AllPairs, append_assoc, append-nil}
 use Rattle.std.specs.Prelude.{nat_lt}
 use Rattle.std.proofs.lemmas.Bool.{cases_lt, lt-ltb, true≢false}
 use Rattle.std.proofs.lemmas.List.Elements.{All-nil, All-head, All-tail, All-contains, All-map, All-weaker}
@@ -16,7 +16,7 @@ use Rattle.bound_tree.specs.declared.node.TreeNode.{TreeNode}
 use Rattle.bound_tree.specs.Accepts.{prefixes_of}
 use Rattle.bound_tree.specs.Accepts.{children_of, expected_by, IsGoodKind, IsGood}
 use Rattle.bound_tree.specs.Places.{opened_by, AreInPlace}
-use Rattle.bound_tree.proofs.Placing.{eaten_is_placed_and_good}
+use Rattle.bound_tree.proofs.Placing.{eaten_is_placed_and_good, nothing_either_way}
 use Rattle.search_core.specs.Counts.{count_of}
 use Rattle.search_core.specs.Balance.{expected_of}
 use Rattle.search_core.specs.Laws.{IsPreorder, BranchesAreShort, BalancedIsPlaced, BalancedIsAccepted}
@@ -59,10 +59,6 @@ first_is_least r rs pre s h = elim (Contains-cons_cases r s rs h) [
 -- a record that branches only below the horizon
 abbrev IsShort : Problem → TreeNode → Type 0
 IsShort p r = r.kind ≡ Branch → length r.prefix < p.horizon
-
-nothing_either_way : (b : Bool) → ◌≡◌ {A = List (List ℕ)} (cond b [] []) []
-nothing_either_way true = refl
-nothing_either_way false = refl
 
 -- it makes the same expected whether its length is asked for or not
 opened_by_short : (p : Problem) (q : List ℕ) (kind : Kind) → (kind ≡ Branch → length q < p.horizon) → opened_by p q kind ≡ expected_by p q kind

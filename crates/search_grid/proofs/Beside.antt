@@ -13,7 +13,7 @@ use Rattle.std.proofs.Math.Nat.{div-add-mod, mul-le-mul_left}
 use Rattle.search_grid.specs.Moves.{moves_from, IsMoveRow, IsGrid}
 use Rattle.search_grid.specs.Sides.{is_close, is_beside, moves_beside, side_moves, WorkedSides}
 use Rattle.list_laws.proofs.Ascending.{Ascends, count_at-le}
-use Rattle.list_laws.proofs.Ranges.{range_more, range_below}
+use Rattle.list_laws.proofs.Ranges.{range_more, range_below, range_rises}
 
 filter_more_of : (p : ℕ → Bool) (n : ℕ) → filter p (range_with_len 0 (n + 1)) ≡ filter p (range_with_len 0 n) ++ filter p (n ∷ [])
 filter_more_of p n =
@@ -130,11 +130,6 @@ some_kept p (x ∷ xs) (suc k) d inside is = rw (sum_by-cons (λ y. if p y then 
 pub stays : (k c : ℕ) → is_beside k c c ≡ true
 stays k c = grind (arith, nat_tests)
 
-range_rises : (n : ℕ) → IsStrictlyIncreasing (range_with_len 0 n)
-range_rises n k inside =
-    let long = length-range_with_len 0 n in
-    rw (get_or-range_with_len 0 n k 0 (omega arith), get_or-range_with_len 0 n (k + 1) 0 (omega (arith, long))) (omega arith)
-
 -- the moves of a cell
 row_right : (n k c : ℕ) → c < n → IsMoveRow n (filter (is_beside k c) (range_with_len 0 n))
 row_right n k c inside =
@@ -149,7 +144,7 @@ row_right n k c inside =
       within = All-filter (is_beside k c) (λ d. d < n) xs (range_below n);
     }
 
-one-le-times : (m k : ℕ) → 1 ≤ m → 1 ≤ k → 1 ≤ m * k
+pub one-le-times : (m k : ℕ) → 1 ≤ m → 1 ≤ k → 1 ≤ m * k
 one-le-times m k h g = grind (arith, mul-le-mul_left)
 
 pub length-side_moves : (rows columns : ℕ) → length (side_moves rows columns) ≡ rows * columns

@@ -28,7 +28,7 @@ unbeaten beats order (a ∷ xs) some =
     )
 
 -- the order of paths by their standings
-by_standing : (p : Problem) → IsStrictWeakOrder (λ q r. better (standing_of p q) (standing_of p r))
+pub by_standing : (p : Problem) → IsStrictWeakOrder (λ q r. better (standing_of p q) (standing_of p r))
 by_standing p = record {
   one_way = λ q r h. better_order.one_way (standing_of p q) (standing_of p r) h;
   chain = λ q r s h g. better_order.chain (standing_of p q) (standing_of p r) (standing_of p s) h g;

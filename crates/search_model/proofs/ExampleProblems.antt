@@ -17,11 +17,14 @@ use Rattle.list_laws.proofs.Members.{Contains-nil, Contains-cons_cases}
 below_one : (P : ℕ → Type 0) → P 0 → (d : ℕ) → d < 1 → P d
 below_one P p = below_more P 0 (λ d less. absurd (omega (arith, less))) p
 
-below_two : (P : ℕ → Type 0) → P 0 → P 1 → (d : ℕ) → d < 2 → P d
+pub below_two : (P : ℕ → Type 0) → P 0 → P 1 → (d : ℕ) → d < 2 → P d
 below_two P p q = below_more P 1 (below_one P p) q
 
 pub below_three : (P : ℕ → Type 0) → P 0 → P 1 → P 2 → (d : ℕ) → d < 3 → P d
 below_three P p q r = below_more P 2 (below_two P p q) r
+
+pub below_four : (P : ℕ → Type 0) → P 0 → P 1 → P 2 → P 3 → (d : ℕ) → d < 4 → P d
+below_four P p q r s = below_more P 3 (below_three P p q r) s
 
 one_move : (n a : ℕ) → a < n → IsMoveRow n (a ∷ [])
 one_move n a here = record { some = omega arith; few = omega arith; ascending = λ k less. absurd (omega (arith, less)); within = All-from_recursion (λ q. q < n) (a ∷ []) (here, tt) }

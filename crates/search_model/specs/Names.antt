@@ -12,6 +12,10 @@ pub record IsName (name : List ℕ) : Type 0 where
   pub short : length name ≤ 24
   pub bytes : IsTrue (list_all is_name_byte name)
 
+-- whether bytes are a name
+unfoldable pub is_name : List ℕ → Bool
+is_name name = nat_le 1 (length name) && (nat_le (length name) 24 && list_all is_name_byte name)
+
 -- the name of a number
 abbrev pub name_in : List (List ℕ) → ℕ → List ℕ
 name_in names c = slice_index_or names c []

@@ -1,13 +1,12 @@
 -- The best among the paths that begin with a prefix.
 use Rattle.std.proofs.Common.{ℕ, ◌-◌, ◌<◌, ◌≤◌, ◌≡◌, true, List, ◌++◌, map, length, take, drop, inl, inr, sym, subst, ◌∙◌, arith, Contains, IsTrue}
-use Rattle.std.specs.Cmp.{IsStrictWeakOrder}
 use Rattle.std.proofs.lemmas.Bool.{true≢false, cases_Bool}
 use Rattle.std.proofs.lemmas.List.{length-map, length-take-le, take-append-drop}
 use Rattle.search_model.specs.declared.standing.Standing.{Standing}
 use Rattle.search_model.specs.Problem.{Problem, IsProblem}
 use Rattle.search_model.specs.Legal.{last_of, IsLegal, IsPath, continuations}
 use Rattle.search_model.specs.Order.{better, Starts, standing_of}
-use Rattle.search_model.proofs.Best.{unbeaten}
+use Rattle.search_model.proofs.Best.{unbeaten, by_standing}
 use Rattle.search_model.proofs.LegalLemmas.{last_within}
 use Rattle.search_model.proofs.Orders.{better_order, better_total, better_one_way, same_or_differ}
 use Rattle.search_model.proofs.WalkLemmas.{some_walks, follows-append, continuations_are}
@@ -28,13 +27,6 @@ best_among_is_one p X y r best other = elim (same_or_differ r y) [
   | inl e ↦ e
   | inr differ ↦ absurd (true≢false (sym (other.better y best.path best.has (λ e. differ (sym e))) ∙ better_one_way (standing_of p y) (standing_of p r) (best.better r other.path other.has differ)))
 ]
-
--- the order of paths by their standings
-by_standing : (p : Problem) → IsStrictWeakOrder (λ q r. better (standing_of p q) (standing_of p r))
-by_standing p = record {
-  one_way = λ q r h. better_order.one_way (standing_of p q) (standing_of p r) h;
-  chain = λ q r s h g. better_order.chain (standing_of p q) (standing_of p r) (standing_of p s) h g;
-}
 
 module _ (p : Problem) (sound : IsProblem p) where
   -- the paths that begin with a legal prefix

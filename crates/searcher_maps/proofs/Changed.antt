@@ -7,7 +7,7 @@ use Rattle.std.proofs.lemmas.List.{append-nil}
 use Rattle.list_laws.proofs.Changed.{flat_map-push}
 use Rattle.list_laws.proofs.Ranges.{range_more, range_with_len-suc}
 use Rattle.searcher_maps.specs.Differing.{differing_at, differing_in, differing}
-use Rattle.searcher_maps.proofs.Joined.{find_none, find_at, all_joined, pairs_joined, find_hit, find_miss, all_one, pairs_one}
+use Rattle.list_laws.proofs.Joined.{find_none, find_at, all_joined, pairs_joined, find_hit, find_miss, all_one, pairs_one}
 
 module _ {R C : Type 0} (same : R → R → Bool) (change : ℕ → ℕ → R → C) (row : ℕ → ℕ → R) where
   -- no owner, and one more

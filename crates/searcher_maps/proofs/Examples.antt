@@ -8,18 +8,10 @@ use Rattle.sweep_table.specs.LookParts.{look_row, factor_in, factor_of}
 use Rattle.sweep_table.proofs.Factors.{IsSweep-from_parts}
 use Rattle.search_model.specs.Problem.{IsProblem}
 use Rattle.search_model.specs.Tracks.{tracks, steps_product, weight_of, miss_from, missed_weight}
-use Rattle.search_model.proofs.NameLemmas.{below_more}
-use Rattle.search_model.proofs.ExampleProblems.{below_three, one_step, two_cells_sound}
+use Rattle.search_model.proofs.ExampleProblems.{one_step, two_cells_sound, below_two, below_four}
 use Rattle.searcher_maps.specs.Stands.{product, missed_together, StandsFor}
 use Rattle.searcher_maps.specs.Worked.{two_views, both_views, WorkedTeams}
 use Rattle.searcher_maps.proofs.Following.{KeepsMoves}
-
--- what holds of the first few numbers holds below them
-below_two : (P : ℕ → Type 0) → P 0 → P 1 → (d : ℕ) → d < 2 → P d
-below_two P p q = below_more P 1 (below_more P 0 (λ d less. absurd (omega (arith, less))) p) q
-
-below_four : (P : ℕ → Type 0) → P 0 → P 1 → P 2 → P 3 → (d : ℕ) → d < 4 → P d
-below_four P p q r s = below_more P 3 (below_three P p q r) s
 
 two_views_sound : IsProblem two_views
 unfolding moves_from row_of

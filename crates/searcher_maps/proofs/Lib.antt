@@ -4,7 +4,6 @@ pub mod Finding
 pub mod Carrying
 pub mod Behind
 pub mod Examples
-pub mod Joined
 pub mod Changed
 pub mod SameRows
 pub mod DriftCopies

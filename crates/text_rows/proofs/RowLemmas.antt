@@ -1,9 +1,10 @@
 -- The text of rows of fields.
-use Rattle.std.proofs.Common.{◌≡◌, List, [], ◌∷◌, ◌++◌, map, sym, refl, ◌∙◌, ap, append_assoc, ℕ, ◌<◌, ◌+◌, length, get_or, take, drop, add-one, drop-cons}
+use Rattle.std.proofs.Common.{◌≡◌, List, [], ◌∷◌, ◌++◌, map, sym, refl, ◌∙◌, ap, append_assoc, ℕ, ◌<◌, ◌+◌, length, get_or, take, drop, add-one, drop-cons, ◌≤◌, ◌*◌, arith, length-append, All}
 use Rattle.std.specs.List.{join_with_byte, flat_map}
 use Rattle.std.proofs.lemmas.List.{append-nil, map-append, take-append-drop}
 use Rattle.std.proofs.Math.Seq.{take-suc}
 use Rattle.std.proofs.lemmas.List.Concat.{flat_map-append}
+use Rattle.std.proofs.lemmas.List.Elements.{All-head, All-tail}
 use Rattle.exact_parts.proofs.AppendLemmas.{Stands}
 use Rattle.text_rows.specs.Rows.{text_of, spaced}
 
@@ -47,3 +48,11 @@ stands_at_row f xs i d lt e = record {
 -- one row more
 pub text_of-more : {X : Type 0} (f : X → List (List ℕ)) (xs : List X) (i : ℕ) (d : X) → i < length xs → text_of (map f (take (i + 1) xs)) ≡ text_of (map f (take i xs)) ++ text_of (f (get_or xs i d) ∷ [])
 text_of-more f xs i d lt = ap (λ ys. text_of (map f ys)) (take_one_more xs i d lt) ∙ ap text_of (map-append f (take i xs) _) ∙ text_of-append (map f (take i xs)) _
+
+-- fields of at most k bytes, each with a blank before it
+pub spaced_short : (k : ℕ) (fs : List (List ℕ)) → All (λ f. length f ≤ k) fs → length (spaced fs) ≤ length fs * (k + 1)
+spaced_short k [] each = omega arith
+spaced_short k (f ∷ fs) each =
+    let here = All-head (λ g. length g ≤ k) f fs each in
+    let rest = spaced_short k fs (All-tail (λ g. length g ≤ k) f fs each) in
+    omega (arith, length-append f (spaced fs), here, rest)

@@ -1,5 +1,5 @@
 -- That the reasons against gap plans are all there are.
-use Rattle.std.proofs.Common.{◌≡◌, ◌↔◌, ℕ, ◌+◌, ◌<◌, ◌==◌, Bool, true, false, cond, not, List, [], ◌∷◌, ◌++◌, map, length, Option, Some, None, refl, sym, ap, ◌∙◌, subst, arith, max, All, eqb-true, eq-eqb, if◌then◌else◌, Result, Ok, Err, IfOk, IfNone}
+use Rattle.std.proofs.Common.{◌≡◌, ◌↔◌, ℕ, ◌+◌, ◌<◌, ◌==◌, Bool, true, false, not, List, [], ◌∷◌, ◌++◌, map, length, Option, Some, None, refl, sym, ap, ◌∙◌, subst, arith, max, All, eqb-true, eq-eqb, if◌then◌else◌, Result, Ok, Err, IfOk, IfNone}
 use Rattle.std.specs.Prelude.{nat_lt}
 use Rattle.std.specs.Option.{option_or, option_map}
 use Rattle.std.proofs.lemmas.Bool.{not-true}
@@ -20,7 +20,7 @@ use Rattle.bound_tree.specs.declared.gap.GapPlan.{GapPlan}
 use Rattle.bound_tree.specs.Accepts.{expected_by}
 use Rattle.bound_tree.specs.Places.{opened_by, AreInPlace}
 use Rattle.bound_tree.specs.Gaps.{shape_of_kind, shape_of, ceiling_of, IsGoodOpenKind, IsGoodOpen, open_numbers, closed_node, GapAccepts}
-use Rattle.bound_tree.proofs.Placing.{opened_by_good}
+use Rattle.bound_tree.proofs.Placing.{opened_by_good, nothing_either_way}
 use Rattle.tree_checker.specs.declared.verdict.Why.{Why}
 use Rattle.tree_checker.specs.declared.verdict.RejectAt.{RejectAt}
 use Rattle.tree_checker.specs.declared.gap_verdict.GapWhy.{GapWhy}
@@ -58,13 +58,9 @@ none_gap : (line : ℕ) (w : Option GapWhy) → gap_at line w ≡ None → w ≡
 none_gap line None h = refl
 none_gap line (Some w) h = cc
 
-none_plain : (r : Option RejectAt) → plain_at r ≡ None → r ≡ None
+pub none_plain : (r : Option RejectAt) → plain_at r ≡ None → r ≡ None
 none_plain None h = refl
 none_plain (Some r) h = cc
-
-nothing_either_way : (b : Bool) → ◌≡◌ {A = List (List ℕ)} (cond b [] []) []
-nothing_either_way true = refl
-nothing_either_way false = refl
 
 module _ (p : Problem) (s : Standing) where
   good_open : (q : List ℕ) (kind : GapKind) → AllTrue (open_tests p s q kind) → IsGoodOpenKind p s q kind

@@ -47,6 +47,7 @@ use Rattle.tree_format.proofs.SpelledLines.{IsLettered, HasPlace}
 use Rattle.tree_format.proofs.Spelled.{IsPathOf, IsCeiling, IsChanceOf, IsHeadOf, empty_legal}
 use Rattle.tree_format.proofs.LineNumbers.{few_records}
 use Rattle.bound_tree.specs.Places.{AreInPlace}
+use Rattle.bound_tree.proofs.Ceilings.{shapes_of_closed}
 
 -- where this is due, a row says this
 pub record Takes (p : Problem) (d : Due) (row : List (List ℕ)) (said : PlanLine) : Type 0 where
@@ -285,10 +286,6 @@ text_reads_back p v plan h k =
     Reads-row p (at_start (family_of v)) blank_plan plan (Version v) _ path_rows (Takes-version p v) path 1
 
 -- A plan is the plan of its gap plan.
-
-shapes_of_closed : (rs : List TreeNode) → map shape_of (map closed_node rs) ≡ rs
-shapes_of_closed [] = refl
-shapes_of_closed (r ∷ rs) = ap (λ (xs : List TreeNode). r ∷ xs) (shapes_of_closed rs)
 
 plan_of_gap : (plan : Plan) → plan_of (gap_of plan) ≡ plan
 plan_of_gap plan = ap (λ (tree : List TreeNode). record { standing = plan.standing; weight = plan.weight; tree = tree }) (shapes_of_closed plan.tree)

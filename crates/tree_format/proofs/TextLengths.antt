@@ -6,7 +6,7 @@ use Rattle.std.proofs.lemmas.List.{length-map}
 use Rattle.std.proofs.lemmas.List.Elements.{All-nil, All-cons, All-head, All-tail, All-map, All-weaker, All-get_or}
 use Rattle.exact_parts.proofs.Written.{digits_fit}
 use Rattle.text_rows.specs.Rows.{text_of, spaced}
-use Rattle.text_rows.proofs.RowLemmas.{join-fields, text_of-append}
+use Rattle.text_rows.proofs.RowLemmas.{join-fields, text_of-append, spaced_short}
 use Rattle.search_model.specs.Names.{IsName}
 use Rattle.search_model.specs.Problem.{Problem, IsProblem, position_name}
 use Rattle.bound_tree.specs.declared.node.Kind.TheVariants.{Branch, Whole, Mean, Tangent, Edge}
@@ -25,14 +25,6 @@ use Rattle.tree_format.specs.PlanText.{numbers, written, node_row, path_rows, ch
 use Rattle.tree_format.specs.RecordParts.{bound_fields, reference_of}
 use Rattle.tree_format.specs.TextLaws.{PlanTextIsShort}
 use Rattle.tree_format.proofs.LineTexts.{kind_text, head_parts, plan_parts}
-
--- fields of at most k bytes, each with a blank before it
-spaced_short : (k : ℕ) (fs : List (List ℕ)) → All (λ f. length f ≤ k) fs → length (spaced fs) ≤ length fs * (k + 1)
-spaced_short k [] each = omega arith
-spaced_short k (f ∷ fs) each =
-    let here = All-head (λ g. length g ≤ k) f fs each in
-    let rest = spaced_short k fs (All-tail (λ g. length g ≤ k) f fs each) in
-    omega (arith, length-append f (spaced fs), here, rest)
 
 -- a number has at most 39 digits
 number_short : (n : ℕ) → n < 2 ^ 128 → length (spaced (decimal n ∷ [])) ≤ 40
