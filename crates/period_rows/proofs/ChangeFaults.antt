@@ -14,7 +14,7 @@ use Rattle.period_rows.specs.declared.changes.GivenChange.{GivenChange}
 use Rattle.period_rows.specs.declared.fault.RowFault.{RowFault}
 use Rattle.period_rows.specs.declared.fault.RowFault.TheVariants.{PeriodOutOfRange, OwnerOutOfRange, DoubleChange, BadRow, NoMemory}
 use Rattle.period_rows.specs.Changes.{RowChange, change_of, key_of, change_at, IsSameKey, IsSameChange, AreChanges, HaveRows}
-use Rattle.period_rows.specs.Faults.{IsNoPeriod, HasEarlier, HasChangeFault, change_rank, IsFirstChangeFault, IsRefusal, IsRightChange, IsFirstOfChange}
+use Rattle.period_rows.specs.Faults.{IsNoPeriod, HasEarlier, HasRowFault, change_rank, IsFirstRowFault, IsRowRefusal, IsRightChange, IsFirstOfChange}
 
 -- what an absent change has
 abbrev nothing : RowChange
@@ -36,22 +36,22 @@ IsSameChange-sym x y same = (sym same.0, sym same.1, IsPermutation-sym x.row y.r
 
 -- the order of the entries in rows makes and mends no fault, where it makes no row wrong
 module _ (Wrong : List CellPart → Type 0) (any_order : (xs ys : List CellPart) → IsPermutation xs ys → Wrong xs → Wrong ys) (last owners : ℕ) where
-  pub HasChangeFault-same : (given made : List RowChange) → AllZip IsSameChange given made → (fault : RowFault) → HasChangeFault Wrong last owners given fault → HasChangeFault Wrong last owners made fault
-  HasChangeFault-same given made same (PeriodOutOfRange i) has =
+  pub HasRowFault-same : (given made : List RowChange) → AllZip IsSameChange given made → (fault : RowFault) → HasRowFault Wrong last owners given fault → HasRowFault Wrong last owners made fault
+  HasRowFault-same given made same (PeriodOutOfRange i) has =
       (rw (← length_all_zip IsSameChange given made same) has.0, rw (change_at-same given made same i has.0).0 has.1)
-  HasChangeFault-same given made same (OwnerOutOfRange i) has =
+  HasRowFault-same given made same (OwnerOutOfRange i) has =
       (rw (← length_all_zip IsSameChange given made same) has.0, rw (change_at-same given made same i has.0).1 has.1)
-  HasChangeFault-same given made same (DoubleChange i) has =
+  HasRowFault-same given made same (DoubleChange i) has =
       (rw (← length_all_zip IsSameChange given made same) has.0, HasEarlier-same given made same i has.0 has.1)
-  HasChangeFault-same given made same (BadRow i) has =
+  HasRowFault-same given made same (BadRow i) has =
       (rw (← length_all_zip IsSameChange given made same) has.0, any_order _ _ (change_at-same given made same i has.0).2 has.1)
-  HasChangeFault-same given made same NoMemory has = has
+  HasRowFault-same given made same NoMemory has = has
 
-  pub IsRefusal-same : (given made : List RowChange) → AllZip IsSameChange given made → (fault : RowFault) → IsRefusal Wrong last owners made fault → IsRefusal Wrong last owners given fault
-  IsRefusal-same given made same fault (inl none) = inl none
-  IsRefusal-same given made same fault (inr first) = inr (record {
-    there = HasChangeFault-same made given (AllZip-flip IsSameChange IsSameChange IsSameChange-sym given made same) fault first.there;
-    first = λ other has. first.first other (HasChangeFault-same given made same other has);
+  pub IsRowRefusal-same : (given made : List RowChange) → AllZip IsSameChange given made → (fault : RowFault) → IsRowRefusal Wrong last owners made fault → IsRowRefusal Wrong last owners given fault
+  IsRowRefusal-same given made same fault (inl none) = inl none
+  IsRowRefusal-same given made same fault (inr first) = inr (record {
+    there = HasRowFault-same made given (AllZip-flip IsSameChange IsSameChange IsSameChange-sym given made same) fault first.there;
+    first = λ other has. first.first other (HasRowFault-same given made same other has);
   })
 
 -- the keys of the first i changes
@@ -114,13 +114,13 @@ module _ (Right : List CellPart → Type 0) (last owners : ℕ) (changes : List 
 
 module _ (Right Wrong : List CellPart → Type 0) (apart : (row : List CellPart) → Right row → Wrong row → ⊥) (last owners : ℕ) (changes : List RowChange) where
   -- right changes have no fault
-  pub no_change_fault : AreChanges last owners changes → HaveRows Right changes → (fault : RowFault) → HasChangeFault Wrong last owners changes fault → ⊥
+  pub no_row_fault : AreChanges last owners changes → HaveRows Right changes → (fault : RowFault) → HasRowFault Wrong last owners changes fault → ⊥
   unfolding change_at
-  no_change_fault are right (PeriodOutOfRange i) has = let at = are.within i nothing has.0 in no_period last _ has.1 (at.0, at.1)
-  no_change_fault are right (OwnerOutOfRange i) has = let at = are.within i nothing has.0 in omega (arith, has.1, at.2)
-  no_change_fault are right (DoubleChange i) (inside, (k, below, same)) = are.differ k i nothing below inside same
-  no_change_fault are right (BadRow i) has = apart _ (right i nothing has.0) has.1
-  no_change_fault are right NoMemory has = has
+  no_row_fault are right (PeriodOutOfRange i) has = let at = are.within i nothing has.0 in no_period last _ has.1 (at.0, at.1)
+  no_row_fault are right (OwnerOutOfRange i) has = let at = are.within i nothing has.0 in omega (arith, has.1, at.2)
+  no_row_fault are right (DoubleChange i) (inside, (k, below, same)) = are.differ k i nothing below inside same
+  no_row_fault are right (BadRow i) has = apart _ (right i nothing has.0) has.1
+  no_row_fault are right NoMemory has = has
 
   -- the fault of a change is the named one where all before it are right
   module _ (i : ℕ) (inside : i < length changes) (before : AreRight Right last owners changes i) where
@@ -128,7 +128,7 @@ module _ (Right Wrong : List CellPart → Type 0) (apart : (row : List CellPart)
     from_here : (j : ℕ) → (IsRightChange Right last owners (keys_before changes j) (change_at changes j) → ⊥) → i ≤ j
     from_here j wrong = elim (cases_lt j i) [ inl earlier ↦ absurd (wrong (before j earlier)) | inr le ↦ le ]
 
-    later : (other : RowFault) → HasChangeFault Wrong last owners changes other → i ≤ (change_rank other).0
+    later : (other : RowFault) → HasRowFault Wrong last owners changes other → i ≤ (change_rank other).0
     later (PeriodOutOfRange j) has = from_here j (λ right. no_period last _ has.1 right.period)
     later (OwnerOutOfRange j) has = from_here j (λ right. omega (arith, has.1, right.owner))
     later (DoubleChange j) has = from_here j (λ right. none_earlier changes j (omega (arith, has.0)) right.alone has.1)
@@ -144,7 +144,7 @@ module _ (Right Wrong : List CellPart → Type 0) (apart : (row : List CellPart)
     from_1 NoMemory = omega arith
 
     module _ (period : (1 ≤ (change_at changes i).period) × ((change_at changes i).period ≤ last)) where
-      from_2 : (other : RowFault) → HasChangeFault Wrong last owners changes other → (change_rank other).0 ≡ i → 2 ≤ (change_rank other).1
+      from_2 : (other : RowFault) → HasRowFault Wrong last owners changes other → (change_rank other).0 ≡ i → 2 ≤ (change_rank other).1
       from_2 (PeriodOutOfRange j) has at = absurd (no_period last _ has.1 (rw at period))
       from_2 (OwnerOutOfRange j) has at = omega arith
       from_2 (DoubleChange j) has at = omega arith
@@ -152,7 +152,7 @@ module _ (Right Wrong : List CellPart → Type 0) (apart : (row : List CellPart)
       from_2 NoMemory has at = absurd has
 
       module _ (owner : (change_at changes i).owner < owners) where
-        from_3 : (other : RowFault) → HasChangeFault Wrong last owners changes other → (change_rank other).0 ≡ i → 3 ≤ (change_rank other).1
+        from_3 : (other : RowFault) → HasRowFault Wrong last owners changes other → (change_rank other).0 ≡ i → 3 ≤ (change_rank other).1
         from_3 (PeriodOutOfRange j) has at = absurd (no_period last _ has.1 (rw at period))
         from_3 (OwnerOutOfRange j) has at = let there : (change_at changes j).owner < owners = rw at owner in omega (arith, has.1, there)
         from_3 (DoubleChange j) has at = omega arith
@@ -160,25 +160,25 @@ module _ (Right Wrong : List CellPart → Type 0) (apart : (row : List CellPart)
         from_3 NoMemory has at = absurd has
 
         module _ (alone : ¬ Contains (keys_before changes i) (key_of (change_at changes i))) where
-          from_4 : (other : RowFault) → HasChangeFault Wrong last owners changes other → (change_rank other).0 ≡ i → 4 ≤ (change_rank other).1
+          from_4 : (other : RowFault) → HasRowFault Wrong last owners changes other → (change_rank other).0 ≡ i → 4 ≤ (change_rank other).1
           from_4 (PeriodOutOfRange j) has at = absurd (no_period last _ has.1 (rw at period))
           from_4 (OwnerOutOfRange j) has at = let there : (change_at changes j).owner < owners = rw at owner in omega (arith, has.1, there)
           from_4 (DoubleChange j) has at = let here : HasEarlier changes i = rw (← at) has.1 in absurd (none_earlier changes i (omega (arith, inside)) alone here)
           from_4 (BadRow j) has at = omega arith
           from_4 NoMemory has at = absurd has
 
-    pub first_of_changes : (fault : RowFault) → IsFirstOfChange Wrong last owners (keys_before changes i) i (change_at changes i) fault → IsFirstChangeFault Wrong last owners changes fault
+    pub first_of_changes : (fault : RowFault) → IsFirstOfChange Wrong last owners (keys_before changes i) i (change_at changes i) fault → IsFirstRowFault Wrong last owners changes fault
     first_of_changes (PeriodOutOfRange j) named =
-        rw named.0 (record { there = (inside, named.1); first = named_first (HasChangeFault Wrong last owners changes) change_rank i 1 later (λ other has at. from_1 other) })
+        rw named.0 (record { there = (inside, named.1); first = named_first (HasRowFault Wrong last owners changes) change_rank i 1 later (λ other has at. from_1 other) })
     first_of_changes (OwnerOutOfRange j) named =
-        rw named.0 (record { there = (inside, named.2); first = named_first (HasChangeFault Wrong last owners changes) change_rank i 2 later (from_2 named.1) })
+        rw named.0 (record { there = (inside, named.2); first = named_first (HasRowFault Wrong last owners changes) change_rank i 2 later (from_2 named.1) })
     first_of_changes (DoubleChange j) named =
         rw named.0 (record {
           there = (inside, earlier_from_key changes i (omega (arith, inside)) named.3);
-          first = named_first (HasChangeFault Wrong last owners changes) change_rank i 3 later (from_3 named.1 named.2);
+          first = named_first (HasRowFault Wrong last owners changes) change_rank i 3 later (from_3 named.1 named.2);
         })
     first_of_changes (BadRow j) named =
-        rw named.0 (record { there = (inside, named.4); first = named_first (HasChangeFault Wrong last owners changes) change_rank i 4 later (from_4 named.1 named.2 named.3) })
+        rw named.0 (record { there = (inside, named.4); first = named_first (HasRowFault Wrong last owners changes) change_rank i 4 later (from_4 named.1 named.2 named.3) })
     first_of_changes NoMemory named = absurd named
 
 -- the changes behind those of the code

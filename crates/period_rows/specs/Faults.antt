@@ -14,12 +14,12 @@ abbrev pub HasEarlier : List RowChange → ℕ → Type 0
 HasEarlier changes i = (k : ℕ) × (k < i) × IsSameKey (change_at changes k) (change_at changes i)
 
 -- changes have this fault, where some rows are wrong; that memory ran out is no fault of theirs
-abbrev pub HasChangeFault : (List CellPart → Type 0) → ℕ → ℕ → List RowChange → RowFault → Type 0
-HasChangeFault Wrong last owners changes (PeriodOutOfRange i) = (i < length changes) × IsNoPeriod last (change_at changes i).period
-HasChangeFault Wrong last owners changes (OwnerOutOfRange i) = (i < length changes) × (owners ≤ (change_at changes i).owner)
-HasChangeFault Wrong last owners changes (DoubleChange i) = (i < length changes) × HasEarlier changes i
-HasChangeFault Wrong last owners changes (BadRow i) = (i < length changes) × Wrong (change_at changes i).row
-HasChangeFault Wrong last owners changes NoMemory = ⊥
+abbrev pub HasRowFault : (List CellPart → Type 0) → ℕ → ℕ → List RowChange → RowFault → Type 0
+HasRowFault Wrong last owners changes (PeriodOutOfRange i) = (i < length changes) × IsNoPeriod last (change_at changes i).period
+HasRowFault Wrong last owners changes (OwnerOutOfRange i) = (i < length changes) × (owners ≤ (change_at changes i).owner)
+HasRowFault Wrong last owners changes (DoubleChange i) = (i < length changes) × HasEarlier changes i
+HasRowFault Wrong last owners changes (BadRow i) = (i < length changes) × Wrong (change_at changes i).row
+HasRowFault Wrong last owners changes NoMemory = ⊥
 
 -- the place of a fault's change, and the fault's number
 abbrev pub change_rank : RowFault → ℕ × ℕ
@@ -34,13 +34,13 @@ abbrev pub IsNotAfter : ℕ × ℕ → ℕ × ℕ → Type 0
 IsNotAfter one other = (one.0 < other.0) ⊎ ((one.0 ≡ other.0) × (one.1 ≤ other.1))
 
 -- the fault that is named: the changes have it, and none that goes before it
-pub record IsFirstChangeFault (Wrong : List CellPart → Type 0) (last owners : ℕ) (changes : List RowChange) (fault : RowFault) : Type 0 where
-  pub there : HasChangeFault Wrong last owners changes fault
-  pub first : (other : RowFault) → HasChangeFault Wrong last owners changes other → IsNotAfter (change_rank fault) (change_rank other)
+pub record IsFirstRowFault (Wrong : List CellPart → Type 0) (last owners : ℕ) (changes : List RowChange) (fault : RowFault) : Type 0 where
+  pub there : HasRowFault Wrong last owners changes fault
+  pub first : (other : RowFault) → HasRowFault Wrong last owners changes other → IsNotAfter (change_rank fault) (change_rank other)
 
 -- why changes aren't taken: no memory was found, or the fault that is named
-abbrev pub IsRefusal : (List CellPart → Type 0) → ℕ → ℕ → List RowChange → RowFault → Type 0
-IsRefusal Wrong last owners changes fault = (fault ≡ NoMemory) ⊎ IsFirstChangeFault Wrong last owners changes fault
+abbrev pub IsRowRefusal : (List CellPart → Type 0) → ℕ → ℕ → List RowChange → RowFault → Type 0
+IsRowRefusal Wrong last owners changes fault = (fault ≡ NoMemory) ⊎ IsFirstRowFault Wrong last owners changes fault
 
 -- a change whose key doesn't stand among those before it is right
 pub record IsRightChange (Right : List CellPart → Type 0) (last owners : ℕ) (keys : List (ℕ × ℕ)) (change : RowChange) : Type 0 where

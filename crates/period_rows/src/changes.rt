@@ -5,7 +5,7 @@ ghost use Rattle.std.specs.List.{AllZip};
 ghost use Rattle.std.specs.List.Sorted.{IsPermutation};
 ghost use Rattle.period_rows.specs.Rows.{IsInOrder};
 ghost use Rattle.period_rows.specs.Changes.{change_of, key_of, row_in_force, IsSameChange, AreChanges, HaveRows};
-ghost use Rattle.period_rows.specs.Faults.{HasChangeFault, IsRefusal, IsRightChange, IsFirstOfChange};
+ghost use Rattle.period_rows.specs.Faults.{HasRowFault, IsRowRefusal, IsRightChange, IsFirstOfChange};
 
 use crate::fault::RowFault;
 use crate::part::CellPart;
@@ -77,9 +77,9 @@ impl RowChanges {
         ensures changes { IfOk result (AreChanges last owners) }
         ensures right { IfOk result (HaveRows (T.right test.now)) }
         ensures faultless { let given = map change_of list.items in IsOk result → (fault : RowFault) →
-            HasChangeFault (T.wrong test.now) last owners given fault → ⊥ }
+            HasRowFault (T.wrong test.now) last owners given fault → ⊥ }
         ensures refusal { let given = map change_of list.items in
-            IfErr result (IsRefusal (T.wrong test.now) last owners given) }
+            IfErr result (IsRowRefusal (T.wrong test.now) last owners given) }
     {
         sort_changes(&mut list);
         let index = index_of(alloc, last, owners, test, &list)?;
@@ -87,6 +87,8 @@ impl RowChanges {
     }
 
     /// The row in force for an owner in a period: that of the change for both, or else the base row.
+    // It stands out of line, so that a loop over the rows of a caller without changes stays tight.
+    #[inline(never)]
     pub fn row_or<'a>(&'a self, t: u32, owner: u8, base: &'a [CellPart]) -> &'a [CellPart]
         ensures { result.now ≡ row_in_force self.now base.now t owner }
     {
@@ -120,7 +122,7 @@ fn index_of<T: RowTest>(
     ensures index { IfOk result (λ index. index.keys ≡ map key_of (map change_of changes.now)) }
     ensures changes { OnOk result (AreChanges last owners (map change_of changes.now)) }
     ensures right { OnOk result (HaveRows (T.right test.now) (map change_of changes.now)) }
-    ensures refusal { IfErr result (IsRefusal (T.wrong test.now) last owners (map change_of changes.now)) }
+    ensures refusal { IfErr result (IsRowRefusal (T.wrong test.now) last owners (map change_of changes.now)) }
 {
     let mut index = IndexSet::new(alloc);
     for (i, change) in changes.iter().enumerate() {
@@ -159,7 +161,8 @@ fn change_fault<T: RowTest>(
 ) -> Option<RowFault>
     requires { IsInOrder change.now.row.items }
     ensures none { IfNone result (IsRightChange (T.right test.now) last owners before.now.keys (change_of change.now)) }
-    ensures some { IfSome result (IsFirstOfChange (T.wrong test.now) last owners before.now.keys i (change_of change.now)) }
+    ensures some { IfSome result
+        (IsFirstOfChange (T.wrong test.now) last owners before.now.keys i (change_of change.now)) }
 {
     if change.period == 0 || change.period > last {
         Some(RowFault::PeriodOutOfRange(i))
