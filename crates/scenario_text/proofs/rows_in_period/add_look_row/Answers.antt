@@ -3,7 +3,7 @@ use Rattle.std.proofs.lemmas.List.{map_push}
 use Rattle.list_laws.proofs.Mapped.{list_any-map}
 use Rattle.scenario_text.specs.State.{state_of}
 use Rattle.scenario_text.proofs.EntryRows.{look_in_scanned}
-use Rattle.scenario_text.proofs.period_rows.add_look_row.Goals as goal
+use Rattle.scenario_text.proofs.rows_in_period.add_look_row.Goals as goal
 
 pub returns-in-Err : goal.returns-in-Err
 returns-in-Err c = λ t name fields when one form h. look_in_scanned (state_of c.args.draft.now) fields c.args.pairs t name c.args.period c.args.position when one form h ∙ search (rules, list_any-map, map_push)
