@@ -1,19 +1,15 @@
--- Rows of changes that are bad or right, and changes that have no fault.
-use Rattle.std.proofs.Common.{ℕ, ◌≡◌, true, false, Option, Some, None, List, inl, inr}
-use Rattle.std.specs.Option.{is_some, IfSome, IfNone}
+-- Rows of changes that are bad or right, and why changes aren't taken.
+use Rattle.std.proofs.Common.{ℕ, ◌≡◌, List, inl, inr}
 use Rattle.std.specs.List.Sorted.{IsPermutation}
 use Rattle.list_laws.proofs.Reordered.{Any-permutation}
 use Rattle.period_rows.specs.declared.part.CellPart.{CellPart}
 use Rattle.period_rows.specs.Changes.{RowChange, AreChanges, HaveRows}
 use Rattle.period_rows.proofs.ChangeFaults.{no_row_fault}
 use Rattle.period_rows.proofs.SameRows.{HasDouble-permutation, none_double}
-use Rattle.drift_chain.specs.declared.faults.DriftFault.{DriftFault}
-use Rattle.drift_chain.specs.declared.faults.DriftFault.TheVariants.{OutOfRange, ZeroPart, DoubleEntry, WrongSum, NoMemory}
 use Rattle.drift_chain.specs.declared.changes.ChangeFault.{ChangeFault}
 use Rattle.drift_chain.specs.declared.changes.ChangeFault.TheVariants as changes
 use Rattle.drift_chain.specs.DriftRows.{IsDriftRow}
-use Rattle.drift_chain.specs.Faults.{IsFirstOfRow}
-use Rattle.drift_chain.specs.ChangeFaults.{row_fault_of, IsBadRow, HasChangeFault, IsRefusal}
+use Rattle.drift_chain.specs.ChangeFaults.{row_fault_of, IsBadRow, IsRefusal}
 use Rattle.drift_chain.proofs.NamedFaults.{none_out, none_zero, wrong_sum-permutation}
 
 -- a right row isn't bad
@@ -30,27 +26,7 @@ bad_row-permutation denominator cells xs ys same (inr (inl zero)) = inr (inl (An
 bad_row-permutation denominator cells xs ys same (inr (inr (inl double))) = inr (inr (inl (HasDouble-permutation xs ys same double)))
 bad_row-permutation denominator cells xs ys same (inr (inr (inr wrong))) = inr (inr (inr (wrong_sum-permutation denominator xs ys same wrong)))
 
--- a row that has a fault is a bad one
-pub bad_row : (denominator cells c : ℕ) (row : List CellPart) (fault : Option DriftFault) → IfSome fault (IsFirstOfRow denominator cells c row) → is_some fault ≡ true → IsBadRow denominator cells row
-bad_row denominator cells c row None named some = absurd (let wrong : ⊥ = cc in wrong)
-bad_row denominator cells c row (Some (OutOfRange b)) named some = inl named.1
-bad_row denominator cells c row (Some (ZeroPart b)) named some = inr (inl named.2)
-bad_row denominator cells c row (Some (DoubleEntry b)) named some = inr (inr (inl named.3))
-bad_row denominator cells c row (Some (WrongSum b)) named some = inr (inr (inr named.4))
-bad_row denominator cells c row (Some NoMemory) named some = absurd named
-
--- and one that has none is right
-pub right_row : (denominator cells : ℕ) (row : List CellPart) (fault : Option DriftFault) → IfNone fault (IsDriftRow denominator cells row) → is_some fault ≡ false → IsDriftRow denominator cells row
-right_row denominator cells row None right none = right
-right_row denominator cells row (Some fault) right none = absurd (let wrong : ⊥ = cc in wrong)
-
--- right changes have no fault
-pub no_change_fault : (denominator cells : ℕ) (changes : List RowChange) → AreChanges 31 cells changes → HaveRows (IsDriftRow denominator cells) changes →
-    (fault : ChangeFault) → HasChangeFault denominator cells changes fault → ⊥
-no_change_fault denominator cells changes are right fault has =
-    no_row_fault (IsDriftRow denominator cells) (IsBadRow denominator cells) (right_is_not_bad denominator cells) 31 cells changes are right (row_fault_of fault) has
-
--- they are refused only where memory ran out
+-- right changes are refused only where memory ran out
 told_memory : (fault : ChangeFault) → row_fault_of fault ≡ row_fault_of changes.NoMemory → fault ≡ changes.NoMemory
 told_memory (changes.PeriodOutOfRange i) same = absurd (let wrong : ⊥ = cc in wrong)
 told_memory (changes.CellOutOfRange i) same = absurd (let wrong : ⊥ = cc in wrong)
@@ -61,4 +37,5 @@ told_memory changes.NoMemory same = λ i. changes.NoMemory
 pub refused_for_memory : (denominator cells : ℕ) (given : List RowChange) (fault : ChangeFault) → AreChanges 31 cells given → HaveRows (IsDriftRow denominator cells) given →
     IsRefusal denominator cells given fault → fault ≡ changes.NoMemory
 refused_for_memory denominator cells given fault are right (inl no_memory) = told_memory fault no_memory
-refused_for_memory denominator cells given fault are right (inr first) = absurd (no_change_fault denominator cells given are right fault first.there)
+refused_for_memory denominator cells given fault are right (inr first) =
+    absurd (no_row_fault (IsDriftRow denominator cells) (IsBadRow denominator cells) (right_is_not_bad denominator cells) 31 cells given are right (row_fault_of fault) first.there)

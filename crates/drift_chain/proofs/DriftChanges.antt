@@ -9,11 +9,7 @@ use Rattle.period_rows.specs.declared.part.CellPart.{CellPart}
 use Rattle.period_rows.specs.Rows.{IsAscending}
 use Rattle.period_rows.specs.Changes.{RowChange, is_for, row_in_force, AreChanges, HaveRows}
 use Rattle.period_rows.proofs.FoundRows.{row_in_force-cases}
-use Rattle.drift_chain.specs.DriftRows.{DriftRows, drift_cells, drift_over, drift_with, row_of, IsDriftRow, IsDrift}
-
--- a drift without changes is its rows
-pub plain_drift : (drift : DriftRows) → drift.changes ≡ [] → drift_over drift.denominator drift.rows ≡ drift
-plain_drift drift plain = ap (drift_with drift) (sym plain)
+use Rattle.drift_chain.specs.DriftRows.{DriftRows, drift_cells, drift_with, row_of, IsDriftRow, IsDrift}
 
 -- the row in force: that of the change that is found, or the cell's own
 pub row_of-changed : (drift : DriftRows) (t c : ℕ) (change : RowChange) → find (is_for t c) drift.changes ≡ Some change → row_of drift t c ≡ change.row

@@ -20,7 +20,7 @@ pub none_double : (row : List CellPart) → IsAscending row → HasDouble row �
 none_double row up double = omega (arith, count_at-le (λ entry. entry.cell) double.0 row (Ascends-from_keys (λ entry. entry.cell) row up), double.1)
 
 -- an ascending row is settled by its entries
-pub same_row : (xs ys : List CellPart) → IsAscending xs → IsAscending ys → IsPermutation xs ys → ys ≡ xs
+same_row : (xs ys : List CellPart) → IsAscending xs → IsAscending ys → IsPermutation xs ys → ys ≡ xs
 same_row xs ys up up' same =
     same_ascending (λ entry. entry.cell) ys xs (Ascends-from_keys (λ entry. entry.cell) ys up') (Ascends-from_keys (λ entry. entry.cell) xs up)
     (λ z there. Contains-permutation ys xs z (IsPermutation-sym xs ys same) there)

@@ -205,7 +205,7 @@ module _ (s : State) (h : IsSound s) (ended : s.stage ≡ Ended) where
     pub sweep : IsSweep p.sweep
 
   rows_long : (p : Problem) → Made p → length p.drift.rows ≡ length s.names
-  rows_long p m = m.parts.cells ∙ h.parts_length
+  rows_long p m = sym (length_all_zip IsPermutation _ _ m.parts) ∙ h.parts_length
 
   moves_long : (p : Problem) → Made p → length p.moves ≡ length (positions_in s)
   moves_long p m = m.moves.cells ∙ h.moves_length

@@ -3,7 +3,7 @@ use Rattle.std.proofs.Common.{◌≡◌, ℕ, ◌-◌, ◌<◌, ◌≤◌, List,
 use Rattle.std.specs.Prelude.{unwrap_or, slice_index_or, slice_index, max}
 use Rattle.std.specs.List.{AllZip, find, range_with_len}
 use Rattle.std.specs.List.Sorted.{IsPermutation, IsStrictlyIncreasing}
-use Rattle.std.specs.Option.{option_map_or, option_map}
+use Rattle.std.specs.Option.{option_map_or}
 use Rattle.std.proofs.lemmas.Bool.{cases_Bool, cases_eq, cases_lt}
 use Rattle.std.proofs.lemmas.List.{length-map, get_or-map, get_or_past}
 use Rattle.std.proofs.lemmas.List.Elements.{All-map, All-filter}
@@ -16,7 +16,6 @@ use Rattle.drift_chain.specs.DriftRows.{DriftRows, row_of, IsDriftRow, IsDrift}
 use Rattle.drift_chain.proofs.DriftChanges.{row_of-base}
 use Rattle.drift_chain.proofs.Drifts.{IsDrift-from_rows}
 use Rattle.period_rows.specs.Rows.{row_at}
-use Rattle.drift_chain.specs.ChangeFaults.{rows_in}
 use Rattle.search_grid.specs.Faults.{HasSameMoves}
 use Rattle.search_grid.specs.Moves.{moves_from}
 use Rattle.sweep_table.specs.LookParts.{LookParts, look_row, factor_in, factor_of, parts_over, IsLookRow, IsSweep}
@@ -40,9 +39,6 @@ use Rattle.scenario_text.proofs.SameRows.{kept, kept_rises, covered_parts, cover
 moves_kept : (rows : List (List ℕ)) → HasSameMoves rows rows
 moves_kept rows = record { cells = refl; moves = λ c inside. IsPermutation-refl (moves_from rows c) }
 
-parts_kept : (rows : List (List CellPart)) → AllZip IsPermutation rows rows
-parts_kept rows = record { cells = refl; parts = λ c inside. IsPermutation-refl (row_at rows c) }
-
 each_kept : {X : Type 0} (R : X → X → Type 0) → ((x : X) → R x x) → (xs : List X) → AllZip R xs xs
 each_kept R own [] = tt
 each_kept R own (x ∷ xs) = (own x, each_kept R own xs)
@@ -57,7 +53,7 @@ drift_told t c (r ∷ rows) base =
       | inr isnt ↦ rw isnt (drift_told t c rows base)
     ]
 
-look_told : (t a : ℕ) (rows : List PeriodRow) (base : List CellPart) → unwrap_or (option_map (λ (change : RowChange). change.row) (find (is_for t a) (map look_change_of rows))) (look_parts base) ≡ look_parts (option_map_or (λ (r : PeriodRow). r.row) (find (is_row_of t a) rows) base)
+look_told : (t a : ℕ) (rows : List PeriodRow) (base : List CellPart) → option_map_or (λ (change : RowChange). change.row) (find (is_for t a) (map look_change_of rows)) (look_parts base) ≡ look_parts (option_map_or (λ (r : PeriodRow). r.row) (find (is_row_of t a) rows) base)
 look_told t a [] base = refl
 look_told t a (r ∷ rows) base =
     elim (cases_Bool (is_row_of t a r)) [
@@ -116,7 +112,7 @@ module _ (p : Problem) (h : IsProblem p) where
         let some = some_row (row_of p.drift) p.cells (p.horizon - 1) t c (omega (arith, inside, base_long)) in
         subst (IsDriftRow p.drift.denominator (length base_rows)) (sym (full_row t c (omega (arith, inside, base_long)) ∙ some.1)) (right_row some.0 c inside);
     changes = record {
-      within = All-map (λ (change : RowChange). (1 ≤ change.period) × (change.period ≤ 31) × (change.cell < length base_rows)) drift_change_of (drift_changes p)
+      within = All-map (λ (change : RowChange). (1 ≤ change.period) × (change.period ≤ 31) × (change.owner < length base_rows)) drift_change_of (drift_changes p)
           (all_later (row_of p.drift) p.cells (p.horizon - 1) (λ r. (1 ≤ r.period) × (r.period ≤ 31) × (r.own < length base_rows)) (λ t c low high inside. (omega (arith, low), omega (arith, high, h.horizon.1), omega (arith, inside, base_long))));
       differ = λ i j d before inside same.
           let long = length-map (drift_changes p) drift_change_of in
@@ -125,7 +121,7 @@ module _ (p : Problem) (h : IsProblem p) where
           let other = get_or-map drift_change_of (drift_changes p) j nothing d there in
           alone (p.horizon - 1) p.cells (AreEntries p.cells p.drift.denominator) (drift_changes p) drift_periods i j before there
           (sym (ap (λ (c : RowChange). c.period) one) ∙ same.0 ∙ ap (λ (c : RowChange). c.period) other)
-          (sym (ap (λ (c : RowChange). c.cell) one) ∙ same.1 ∙ ap (λ (c : RowChange). c.cell) other);
+          (sym (ap (λ (c : RowChange). c.owner) one) ∙ same.1 ∙ ap (λ (c : RowChange). c.owner) other);
     };
   }
 
@@ -149,13 +145,13 @@ module _ (p : Problem) (h : IsProblem p) where
   full_look : (t a : ℕ) → a < p.positions → look_row full_looks t a ≡ look_parts (option_map_or (λ (r : PeriodRow). r.row) (find (is_row_of t a) (look_changes p)) (covered p 1 a))
   unfolding look_row
   full_look t a inside =
-      ap (λ (base : List CellPart). unwrap_or (option_map (λ (change : RowChange). change.row) (find (is_for t a) (map look_change_of (look_changes p)))) base) (look_at a inside)
+      ap (λ (base : List CellPart). option_map_or (λ (change : RowChange). change.row) (find (is_for t a) (map look_change_of (look_changes p))) base) (look_at a inside)
       ∙ look_told t a (look_changes p) (covered p 1 a)
 
   no_look : (t a : ℕ) → p.positions ≤ a → look_row full_looks t a ≡ []
   unfolding look_row
   no_look t a past =
-      ap (λ (base : List CellPart). unwrap_or (option_map (λ (change : RowChange). change.row) (find (is_for t a) (map look_change_of (look_changes p)))) base) (get_or_past full_looks.rows a [] (omega (arith, past, looks_long)))
+      ap (λ (base : List CellPart). option_map_or (λ (change : RowChange). change.row) (find (is_for t a) (map look_change_of (look_changes p))) base) (get_or_past full_looks.rows a [] (omega (arith, past, looks_long)))
       ∙ look_told t a (look_changes p) []
       ∙ ap (λ (o : Option PeriodRow). look_parts (option_map_or (λ (r : PeriodRow). r.row) o [])) (none_owner (covered p) p.positions p.horizon t a past)
 
@@ -227,8 +223,8 @@ module _ (p : Problem) (h : IsProblem p) where
     first = part_in-first p;
     moves = moves_kept p.moves;
     denominator = refl;
-    parts = parts_kept base_rows;
-    changes = record { keys = refl; rows = parts_kept (rows_in (map drift_change_of (drift_changes p))) };
+    parts = each_kept IsPermutation IsPermutation-refl base_rows;
+    changes = each_kept IsSameChange (λ change. (refl, refl, IsPermutation-refl change.row)) full_drift.changes;
     sweep = full_looks_said;
   }
 
@@ -324,8 +320,8 @@ module _ (p : Problem) (h : IsProblem p) where
       first = part_in-first p;
       moves = moves_kept p.moves;
       denominator = refl;
-      parts = parts_kept base_rows;
-      changes = record { keys = refl; rows = parts_kept [] };
+      parts = each_kept IsPermutation IsPermutation-refl base_rows;
+      changes = tt;
       sweep = refl;
     }
 

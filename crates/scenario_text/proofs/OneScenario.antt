@@ -3,13 +3,13 @@ use Rattle.std.proofs.Common.{◌≡◌, ℕ, zero, suc, add-one, ◌+◌, ◌<�
 use Rattle.std.specs.Prelude.{◌-◌, sum_by, unwrap_or}
 use Rattle.std.specs.List.{range_with_len, AllZip}
 use Rattle.std.specs.List.Sorted.{IsPermutation}
-use Rattle.std.proofs.lemmas.List.{take_all}
+use Rattle.std.proofs.lemmas.List.{get_or_default, take_all}
 use Rattle.std.proofs.lemmas.List.FromFn.{length-map-range_with_len, get_or-map-range_with_len}
 use Rattle.period_rows.specs.declared.part.CellPart.{CellPart}
-use Rattle.period_rows.specs.Changes.{RowChange, IsSameChange, HaveRows}
+use Rattle.list_laws.proofs.Matched.{AllZip-from_places}
+use Rattle.period_rows.specs.Changes.{RowChange, IsSameChange, AreChanges, HaveRows}
 use Rattle.drift_chain.specs.DriftRows.{drift_over, drift_with, part_in, IsDriftRow, IsDrift}
 use Rattle.period_rows.specs.Rows.{row_at}
-use Rattle.drift_chain.specs.ChangeFaults.{AreRight}
 use Rattle.drift_chain.proofs.Drifts.{IsDrift-from_rows}
 use Rattle.drift_chain.proofs.DriftChanges.{IsDrift-from_changes}
 use Rattle.search_grid.specs.Moves.{moves_from, IsMoveRow, IsGrid}
@@ -118,11 +118,11 @@ module _ (s : State) (h : IsSound s) (ended : s.stage ≡ due.Ended) where
   }
 
   same_parts : AllZip IsPermutation s.parts all_parts
-  unfolding cells drift_row
-  same_parts = record {
-    cells = long_parts ∙ sym h.parts_length;
-    parts = λ c lt. subst (IsPermutation (row_at s.parts c)) (sym (parts_in c (omega (arith, lt, h.parts_length)))) (in_order_same (λ e. e.cell) (row_at s.parts c));
-  }
+  unfolding all_parts row_at
+  same_parts = AllZip-from_places IsPermutation s.parts all_parts (long_parts ∙ sym h.parts_length) (λ c d lt.
+      let there : c < length all_parts = omega (arith, lt, h.parts_length, long_parts) in
+      rw (get_or_default s.parts c d [] lt, get_or_default all_parts c d [] there)
+      (subst (IsPermutation (row_at s.parts c)) (sym (parts_in c (omega (arith, lt, h.parts_length)))) (in_order_same (λ e. e.cell) (row_at s.parts c))))
 
   right_moves : (q : ℕ) → q < positions → IsMoveRow positions (moves_row q)
   unfolding moves_row
@@ -147,16 +147,21 @@ module _ (s : State) (h : IsSound s) (ended : s.stage ≡ due.Ended) where
   all_steps : List RowChange
   all_steps = map drifts.change_in_order s.drift_rows
 
-  right_steps : AreRight s.drift (length all_parts) all_steps
+  right_steps : AreChanges 31 (length all_parts) all_steps
   unfolding all_steps cells
-  right_steps = subst (λ (n : ℕ). AreRight s.drift n (map drifts.change_in_order s.drift_rows)) (sym long_parts) (drifts.right_in_order s.drift (length s.names) (s.horizon - 1) s.drift_rows h.changes.drifts (few_steps s h ended))
+  right_steps = subst (λ (n : ℕ). AreChanges 31 n (map drifts.change_in_order s.drift_rows)) (sym long_parts) (drifts.changes_right s.drift (length s.names) (s.horizon - 1) s.drift_rows h.changes.drifts (few_steps s h ended))
+
+  right_step_rows : HaveRows (IsDriftRow s.drift (length all_parts)) all_steps
+  unfolding all_steps cells
+  right_step_rows =
+      subst (λ (n : ℕ). HaveRows (IsDriftRow s.drift n) (map drifts.change_in_order s.drift_rows)) (sym long_parts) (drifts.rows_right s.drift (length s.names) (s.horizon - 1) s.drift_rows h.changes.drifts (few_steps s h ended))
 
   same_steps : AllZip IsSameChange (map drift_change_of s.drift_rows) all_steps
   unfolding all_steps
   same_steps = drifts.same_in_order s.drift (length s.names) (s.horizon - 1) s.drift_rows h.changes.drifts (few_steps s h ended)
 
   drift : IsDrift (drift_with (drift_over s.drift all_parts) all_steps)
-  drift = IsDrift-from_changes (drift_over s.drift all_parts) all_steps base refl right_steps
+  drift = IsDrift-from_changes (drift_over s.drift all_parts) all_steps base refl right_steps right_step_rows
 
   -- The looks.
   prints : LookParts

@@ -18,6 +18,7 @@ use Rattle.sweep_table.specs.Faults.{HasFault, HasOut, HasOver}
 use Rattle.sweep_table.specs.Changes.{HasChangeFault, IsBadRow}
 use Rattle.period_rows.proofs.SameRows.{row_at-map}
 use Rattle.sweep_table.proofs.Rows.{IsSweep-from_rows}
+use Rattle.list_laws.proofs.Matched.{AllZip-both}
 use Rattle.list_laws.proofs.Sums.{sum_by-map}
 use Rattle.scenario_text.specs.State.{PeriodRow}
 use Rattle.scenario_text.specs.Scenarios.{look_parts, look_change_of}
@@ -25,11 +26,6 @@ use Rattle.scenario_text.specs.Sound.{AreLooks, ArePeriodRows, IsLook}
 use Rattle.scenario_text.proofs.Ordered.{in_order_same}
 use Rattle.scenario_text.proofs.Periods.{nothing, alone}
 use Rattle.scenario_text.proofs.RowsInOrder.{cells_in_order, looks_in_order}
-
--- images of one list, element by element
-AllZip-both : {X Y : Type 0} (R : Y → Y → Type 0) (f g : X → Y) → ((x : X) → R (f x) (g x)) → (xs : List X) → AllZip R (map f xs) (map g xs)
-AllZip-both R f g both [] = tt
-AllZip-both R f g both (x ∷ xs) = (both x, AllZip-both R f g both xs)
 
 -- a right row has no fault
 module _ (cells denominator : ℕ) (row : List CellPart) (h : AreLooks cells denominator row) where
@@ -113,7 +109,7 @@ module _ (cells denominator : ℕ) (rows : List (Option (List CellPart))) (h : A
 
 -- the change of a row, with its entries in order
 abbrev pub change_in_order : PeriodRow → RowChange
-change_in_order r = record { period = r.period; position = r.own; row = look_parts (cells_in_order r.row) }
+change_in_order r = record { period = r.period; owner = r.own; row = look_parts (cells_in_order r.row) }
 
 module _ (denominator cells positions last : ℕ) (rows : List PeriodRow) (h : ArePeriodRows last positions (AreLooks cells denominator) rows) (most : last ≤ 32) where
   given : List RowChange
@@ -125,7 +121,7 @@ module _ (denominator cells positions last : ℕ) (rows : List PeriodRow) (h : A
 
   at : (i : ℕ) → i < length rows → change_at given i ≡ look_change_of (get_or rows i nothing)
   unfolding given change_at
-  at i lt = get_or-map look_change_of rows i nothing (record { period = 0; position = 0; row = [] }) lt
+  at i lt = get_or-map look_change_of rows i nothing (record { period = 0; owner = 0; row = [] }) lt
 
   pub no_change_fault : (fault : LookChangeFault) → HasChangeFault denominator cells positions (map look_change_of rows) fault → ⊥
   unfolding given
@@ -136,15 +132,15 @@ module _ (denominator cells positions last : ℕ) (rows : List PeriodRow) (h : A
       elim (bad.1) [ inl none ↦ omega (arith, none, same, span.0) | inr far ↦ omega (arith, far, same, span.1, most) ]
   no_change_fault (PositionOutOfRange i) bad =
       let lt = inside i bad.0 in
-      let same = ap (λ (c : RowChange). c.position) (at i lt) in
+      let same = ap (λ (c : RowChange). c.owner) (at i lt) in
       let within = h.within i nothing lt in
       omega (arith, bad.1, same, within)
   no_change_fault (DoubleChange i) bad =
       let lt = inside i bad.0 in
-      let (k, before, period, position) = bad.1 in
+      let (k, before, (period, position)) = bad.1 in
       let there : k < length rows = omega (arith, before, lt) in
       let P : RowChange → ℕ = λ c. c.period in
-      let O : RowChange → ℕ = λ c. c.position in
+      let O : RowChange → ℕ = λ c. c.owner in
       alone last positions (AreLooks cells denominator) rows h k i before lt (sym (ap P (at k there)) ∙ period ∙ ap P (at i lt)) (sym (ap O (at k there)) ∙ position ∙ ap O (at i lt))
   no_change_fault (BadRow i) bad =
       let lt = inside i bad.0 in

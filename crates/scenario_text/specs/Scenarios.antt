@@ -19,7 +19,7 @@ use Rattle.scenario_text.specs.Reading.{Front, front_of, alone_of}
 
 -- a drift row of one period, as a drift has it
 abbrev pub drift_change_of : PeriodRow → RowChange
-drift_change_of r = record { period = r.period; cell = r.own; row = r.row }
+drift_change_of r = record { period = r.period; owner = r.own; row = r.row }
 
 -- the entries of a look row, as a sweep has them
 abbrev pub look_parts : List CellPart → List CellPart
@@ -27,7 +27,7 @@ look_parts row = map (λ e. misses e.cell e.part) row
 
 -- a look row of one period, as a sweep has it
 abbrev pub look_change_of : PeriodRow → RowChange
-look_change_of r = record { period = r.period; position = r.own; row = look_parts r.row }
+look_change_of r = record { period = r.period; owner = r.own; row = look_parts r.row }
 
 -- in version 2 the looks are those of the rows, and of the rows of single periods, with their entries in ascending order
 pub record AreLooksOf (s : State) (sweep : LookParts) : Type 0 where

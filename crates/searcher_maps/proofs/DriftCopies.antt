@@ -60,10 +60,10 @@ module _ (drift : DriftRows) (h : IsDrift drift) where
       | inr none ↦ rw (row_of-base copied t c none, first_at c inside) (h.each 1 c inside)
     ]
 
-    changes_right : AreChanges (drift_cells drift) changes
+    changes_right : AreChanges 31 (drift_cells drift) changes
     changes_right = record {
       within =
-          all_changes is_same_drift drift_change (row_of drift) (λ change. (1 ≤ change.period) × (change.period ≤ 31) × (change.cell < drift_cells drift)) (drift_cells drift) end
+          all_changes is_same_drift drift_change (row_of drift) (λ change. (1 ≤ change.period) × (change.period ≤ 31) × (change.owner < drift_cells drift)) (drift_cells drift) end
           (λ t c low high inside. (omega (arith, low), omega (arith, high, few), inside));
       differ =
           pairs_of_changes is_same_drift drift_change (row_of drift) (λ change later. ¬ IsSameKey change later) (drift_cells drift) end

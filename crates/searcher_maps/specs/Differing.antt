@@ -28,11 +28,11 @@ is_same_drift xs ys = pointwise (λ x y. (x.cell == y.cell) && (x.part == y.part
 
 -- a change of looks from position a in period t
 abbrev pub look_change : ℕ → ℕ → List CellPart → RowChange
-look_change t a row = record { period = t; position = a; row = row }
+look_change t a row = record { period = t; owner = a; row = row }
 
 -- and one of the drift from cell c after period t
 abbrev pub drift_change : ℕ → ℕ → List CellPart → RowChange
-drift_change t c row = record { period = t; cell = c; row = row }
+drift_change t c row = record { period = t; owner = c; row = row }
 
 -- the change of looks of one position, those of one period, and all
 abbrev pub look_changes_at : (ℕ → ℕ → List CellPart) → ℕ → ℕ → List RowChange

@@ -3,5 +3,5 @@ pub mod OneRate
 pub mod Rows
 pub mod Changed
 mod MadeChanges
-mod NamedFaults
+pub mod NamedFaults
 mod Views

@@ -1,6 +1,7 @@
 use Rattle.std.proofs.Common.{◌≡◌, ℕ, ◌<◌, List, map, length, refl, sym, ap, ◌∙◌, arith, subst, Vec, Global}
 use Rattle.std.specs.Prelude.{slice_index, sum_by}
 use Rattle.std.proofs.lemmas.List.{length-map}
+use Rattle.std.proofs.lemmas.List.Elements.{length_all_zip}
 use Rattle.period_rows.specs.declared.part.CellPart.{CellPart}
 use Rattle.period_rows.specs.Changes.{RowChange, IsSameChange}
 use Rattle.drift_chain.specs.DriftRows.{DriftRows, drift_cells, part_in}
@@ -19,7 +20,7 @@ base_drift-requires-clause-faultless c = no_drift_fault (state_of c.args.draft) 
 pub changed_drift-requires-clause-faultless : goal.changed_drift-requires-clause-faultless
 changed_drift-requires-clause-faultless c =
     let s : State = state_of c.args.draft in
-    let cells : drift_cells c.base_drift.result ≡ length s.names = c.base_drift.ensures.made.cells ∙ c.requires.sound.parts_length in
+    let cells : drift_cells c.base_drift.result ≡ length s.names = sym (length_all_zip IsPermutation _ _ c.base_drift.ensures.made) ∙ c.requires.sound.parts_length in
     rw (c.base_drift.ensures.denominator, cells, c.in_ok-changes.ensures) (no_drift_change_fault s c.requires.sound c.requires.whole)
 
 pub returns : goal.returns
