@@ -3,7 +3,7 @@ use Rattle.std.proofs.Common.{ℕ, zero, suc, ◌+◌, ◌*◌, ◌-◌, ◌^◌
 use Rattle.std.proofs.lemmas.Bool.{cases_lt}
 use Rattle.std.proofs.lemmas.List.{drop_more}
 use Rattle.std.proofs.lemmas.List.Elements.{All-weaker, All-take, All-get_or}
-use Rattle.drift_chain.specs.declared.part.DriftPart.{DriftPart}
+use Rattle.period_rows.specs.declared.part.CellPart.{CellPart}
 use Rattle.drift_chain.specs.DriftRows.{row_of}
 use Rattle.sweep_table.specs.LookParts.{factor_of, positions_of}
 use Rattle.search_model.specs.Problem.{Problem, IsProblem}
@@ -14,7 +14,7 @@ use Rattle.backward_mass.specs.Table.{IsRow, IsMissedRow, AreRowsFrom}
 use Rattle.list_laws.proofs.Sums.{sum_by-same_all}
 
 -- what an entry of a row adds, by what is missed of the masses of the next period
-abbrev pub mass_term : List ℕ → DriftPart → ℕ
+abbrev pub mass_term : List ℕ → CellPart → ℕ
 mass_term missed entry = entry.part * slice_index missed entry.cell
 
 -- the positions of a path are positions of the looks
@@ -34,14 +34,14 @@ module _ (p : Problem) (sound : IsProblem p) (q : List ℕ) (path : IsPath p q) 
   missed_fits some d within = let fits = next_fits p sound t d more some within (drop t q) (drop (t + 1) q) in rw left_is at fits
 
   module _ (missed : List ℕ) (row : IsMissedRow p q t missed) where
-    term_is : (entry : DriftPart) → entry.cell < p.cells → mass_term missed entry ≡ entry_term p t (drop t q) (p.horizon - (t + 1)) entry
+    term_is : (entry : CellPart) → entry.cell < p.cells → mass_term missed entry ≡ entry_term p t (drop t q) (p.horizon - (t + 1)) entry
     term_is entry within = rw (row entry.cell within, left_is) refl
 
-    terms_are : (entries : List DriftPart) → All (λ entry. entry.cell < p.cells) entries → sum_by (mass_term missed) entries ≡ sum_by (entry_term p t (drop t q) (p.horizon - (t + 1))) entries
+    terms_are : (entries : List CellPart) → All (λ entry. entry.cell < p.cells) entries → sum_by (mass_term missed) entries ≡ sum_by (entry_term p t (drop t q) (p.horizon - (t + 1))) entries
     terms_are entries within = sum_by-same_all _ _ entries (All-weaker (λ entry. entry.cell < p.cells) _ term_is entries within)
 
     -- the sum over the entries so far and the next one fits
-    pub sum_fits : 1 ≤ t → (c : ℕ) → c < p.cells → (i : ℕ) (e : DriftPart) → i < length (row_of p.drift t c) →
+    pub sum_fits : 1 ≤ t → (c : ℕ) → c < p.cells → (i : ℕ) (e : CellPart) → i < length (row_of p.drift t c) →
         sum_by (mass_term missed) (take i (row_of p.drift t c)) + mass_term missed (get_or (row_of p.drift t c) i e) < 2 ^ 127
     sum_fits some c here i e lt =
         let entries = row_of p.drift t c in

@@ -3,7 +3,7 @@ use Rattle.std.proofs.Common.{ℕ, ◌+◌, ◌*◌, ◌^◌, ◌<◌, ◌≤◌
 use Rattle.std.proofs.Math.Nat.{mul-le-mul_left}
 use Rattle.std.proofs.lemmas.Bool.{cases_eq, eq-eqb, ne_eqb}
 use Rattle.std.proofs.lemmas.List.Sums.{sum_by_more, sum_by_more_le}
-use Rattle.drift_chain.specs.declared.part.DriftPart.{DriftPart}
+use Rattle.period_rows.specs.declared.part.CellPart.{CellPart}
 use Rattle.drift_chain.specs.DriftRows.{part_in}
 
 -- an empty row has no part
@@ -12,14 +12,14 @@ unfolding part_in
 part_in_none d = refl
 
 -- one more entry of a row: its part counts at its own cell alone
-pub part_in_more_same : (row : List DriftPart) (i : ℕ) (e : DriftPart) (d : ℕ) → i < length row → (get_or row i e).cell ≡ d →
+pub part_in_more_same : (row : List CellPart) (i : ℕ) (e : CellPart) (d : ℕ) → i < length row → (get_or row i e).cell ≡ d →
     part_in (take (i + 1) row) d ≡ part_in (take i row) d + (get_or row i e).part
 unfolding part_in
 part_in_more_same row i e d h same =
     let test : ((get_or row i e).cell == d) ≡ true = eq-eqb (get_or row i e).cell d same in
     sum_by_more (λ entry. if entry.cell == d then entry.part else 0) row i e h ∙ rw test refl
 
-pub part_in_more_other : (row : List DriftPart) (i : ℕ) (e : DriftPart) (d : ℕ) → i < length row → (get_or row i e).cell ≢ d →
+pub part_in_more_other : (row : List CellPart) (i : ℕ) (e : CellPart) (d : ℕ) → i < length row → (get_or row i e).cell ≢ d →
     part_in (take (i + 1) row) d ≡ part_in (take i row) d
 unfolding part_in
 part_in_more_other row i e d h apart =
@@ -27,7 +27,7 @@ part_in_more_other row i e d h apart =
     sum_by_more (λ entry. if entry.cell == d then entry.part else 0) row i e h ∙ rw test (omega arith)
 
 -- the parts so far and the next one are within the row's part
-pub part_in_more_le : (row : List DriftPart) (i : ℕ) (e : DriftPart) → i < length row →
+pub part_in_more_le : (row : List CellPart) (i : ℕ) (e : CellPart) → i < length row →
     part_in (take i row) (get_or row i e).cell + (get_or row i e).part ≤ part_in row (get_or row i e).cell
 unfolding part_in
 part_in_more_le row i e h =
@@ -37,7 +37,7 @@ part_in_more_le row i e h =
     rw test at le
 
 -- what an entry adds fits
-pub entry-fits : (olds : List ℕ) (row : List DriftPart) (mass i n now : ℕ) (e : DriftPart) → i < length row → All (λ entry. entry.cell < n) row →
+pub entry-fits : (olds : List ℕ) (row : List CellPart) (mass i n now : ℕ) (e : CellPart) → i < length row → All (λ entry. entry.cell < n) row →
     ((d : ℕ) → d < n → slice_index olds d + mass * part_in row d < 2 ^ 127) →
     now ≡ slice_index olds (get_or row i e).cell + mass * part_in (take i row) (get_or row i e).cell →
     now + mass * (get_or row i e).part < 2 ^ 127
@@ -48,7 +48,7 @@ entry-fits olds row mass i n now e h entries fits is =
     omega (arith, whole, le, is)
 
 -- what an entry adds is right
-pub entry-adds : (olds now : List ℕ) (row : List DriftPart) (mass i : ℕ) (e : DriftPart) → i < length row →
+pub entry-adds : (olds now : List ℕ) (row : List CellPart) (mass i : ℕ) (e : CellPart) → i < length row →
     ((d : ℕ) → d < length now → slice_index now d ≡ slice_index olds d + mass * part_in (take i row) d) →
     (d : ℕ) → d < length now →
     slice_index (set now (get_or row i e).cell (get_or now (get_or row i e).cell 0 + mass * (get_or row i e).part)) d ≡ slice_index olds d + mass * part_in (take (i + 1) row) d

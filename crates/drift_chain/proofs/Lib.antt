@@ -1,9 +1,5 @@
-pub mod ChangeKeys
-pub mod ChangeOrder
-pub mod ChangeRows
+pub mod ChangeFaults
 pub mod DriftChanges
 pub mod Drifts
 pub mod NamedFaults
-pub mod PartRows
 pub mod Parts
-pub mod SameChanges

@@ -1,12 +1,14 @@
 //! The rows of the drift.
 
-ghost use Rattle.std.specs.Prelude.{◌≡◌, ◌<◌, ◌≤◌, ◌↔◌, [], length, map, slice_index_or, IsOk, IfOk, IfErr};
-ghost use Rattle.std.specs.List.Sorted.{IsStrictlyIncreasing};
-ghost use Rattle.drift_chain.specs.DriftRows.{DriftRows, part_in, row_of};
+ghost use Rattle.std.specs.Prelude.{◌≡◌, ◌<◌, ◌≤◌, ◌↔◌, length, map, IsOk, IfOk, IfErr};
+ghost use Rattle.std.specs.List.{AllZip};
+ghost use Rattle.std.specs.List.Sorted.{IsPermutation};
+ghost use Rattle.period_rows.specs.Rows.{IsAscending};
+ghost use Rattle.drift_chain.specs.DriftRows.{part_in};
 
-use crate::changes::{ChangeFault, Changes, DriftChange};
+use crate::changes::{ChangeFault, DriftChange, changes_over};
 use crate::faults::{DriftFault, put_in_order};
-use crate::part::DriftPart;
+use period_rows::{CellPart, RowChanges};
 use std::alloc::Global;
 use std::marker::Model;
 
@@ -15,8 +17,8 @@ use std::marker::Model;
 #[derive(Debug, Drop)]
 pub struct Drift {
     denominator: u32,
-    rows: Vec<Vec<DriftPart>>,
-    changes: Option<Changes>,
+    rows: Vec<Vec<CellPart>>,
+    changes: Option<RowChanges>,
 }
 
 impl Model for Drift {
@@ -34,22 +36,23 @@ impl Model for Drift {
 impl Drift {
     ghost use Rattle.std.specs.Prelude.{Ok, Err, [], ◌⊎◌};
     ghost use Rattle.drift_chain.specs.DriftRows.{drift_cells, row_of, part_of, drift_over, drift_with, IsDrift};
-    ghost use Rattle.drift_chain.specs.Faults.{HasSameParts, HasFault, IsFirstFault};
-    ghost use Rattle.drift_chain.specs.ChangeFaults.{row_change, AreSameChanges, HasChangeFault, IsRefusal};
+    ghost use Rattle.period_rows.specs.Changes.{IsSameChange};
+    ghost use Rattle.drift_chain.specs.Faults.{HasFault, IsFirstFault};
+    ghost use Rattle.drift_chain.specs.ChangeFaults.{row_change, HasChangeFault, IsRefusal};
     ghost use Rattle.drift_chain.specs.declared.changes.ChangeFault.TheVariants.{NoMemory};
 
     /// Makes the drift whose row of cell `c` is `rows[c]`, which it puts in ascending order of cells.
     ///
     /// The error is the fault of the least row that has one, and of its faults the first in the order of
     /// the variants. Takes no memory.
-    pub fn new(denominator: u32, mut rows: Vec<Vec<DriftPart>>) -> Result<Drift, DriftFault>
+    pub fn new(denominator: u32, mut rows: Vec<Vec<CellPart>>) -> Result<Drift, DriftFault>
         requires some_denominator { 1 ≤ denominator }
         requires most_denominator { denominator ≤ 1000000 }
         requires some_row { 1 ≤ length rows.items }
         requires most_rows { length rows.items ≤ 200 }
         ensures denominator { IfOk result (λ drift. drift.denominator ≡ denominator) }
         ensures made { let given = map (λ row. row.items) rows.items in IfOk result (λ drift.
-            HasSameParts given drift.rows) }
+            AllZip IsPermutation given drift.rows) }
         ensures plain { IfOk result (λ drift. drift.changes ≡ []) }
         ensures sound { IfOk result IsDrift }
         ensures faultless { let given = map (λ row.
@@ -74,7 +77,7 @@ impl Drift {
         requires { self.changes ≡ [] }
         ensures base { IfOk result (λ drift. drift ≡ drift_with self drift.changes) }
         ensures made { let given = map row_change changes.items in IfOk result (λ drift.
-            AreSameChanges given drift.changes) }
+            AllZip IsSameChange given drift.changes) }
         ensures sound { IfOk result IsDrift }
         ensures faultless { let given = map row_change changes.items in
             IsOk result → (fault : ChangeFault) → HasChangeFault self.denominator (drift_cells self) given fault → ⊥ }
@@ -91,7 +94,7 @@ impl Drift {
             rows,
             ..
         } = self;
-        let changes = Changes::new(alloc, denominator, rows.len() as u8, changes)?;
+        let changes = changes_over(alloc, denominator, rows.len() as u8, changes)?;
         Ok(Drift {
             denominator,
             rows,
@@ -116,16 +119,16 @@ impl Drift {
     }
 
     /// The row of cell `c` for the step after period `t`, in ascending order of cells.
-    pub fn row(&self, t: u32, c: u8) -> &[DriftPart]
+    pub fn row(&self, t: u32, c: u8) -> &[CellPart]
         requires first { 1 ≤ t }
         requires last { t ≤ 31 }
         requires cell { c < drift_cells self.now }
         ensures value { result.now ≡ row_of self.now t c }
         ensures sound { IsDrift self.now }
     {
-        let own: &[DriftPart] = &self.rows[c as usize];
+        let own: &[CellPart] = &self.rows[c as usize];
         match &self.changes {
-            Some(changes) => row_in_force(changes, own, t, c),
+            Some(changes) => changes.row_or(t, c, own),
             None => own,
         }
     }
@@ -143,19 +146,9 @@ impl Drift {
     }
 }
 
-// The row of the change for a period and a cell, or else the cell's own. It stands out of line, so that a loop over the rows
-// of a drift without changes stays tight.
-#[inline(never)]
-fn row_in_force<'a>(changes: &'a Changes, own: &'a [DriftPart], t: u32, c: u8) -> &'a [DriftPart]
-    ensures { (drift : DriftRows) → drift.changes ≡ changes.now → slice_index_or drift.rows c [] ≡ own.now →
-        result.now ≡ row_of drift t c }
-{
-    changes.row(t, c).unwrap_or(own)
-}
-
 // The part that an ascending row gives to cell `d`.
-fn part_in_row(row: &[DriftPart], d: u8) -> u32
-    requires { IsStrictlyIncreasing (map (λ entry. entry.cell) row.now) }
+fn part_in_row(row: &[CellPart], d: u8) -> u32
+    requires { IsAscending row.now }
     ensures { result ≡ part_in row.now d }
 {
     match row.binary_search_by_key(&d, |entry| entry.cell) {

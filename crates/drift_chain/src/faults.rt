@@ -1,11 +1,13 @@
 //! What is wrong with rows of parts.
 
-ghost use Rattle.std.specs.Prelude.{◌≡◌, ℕ, ◌<◌, ◌≤◌, ◌↔◌, length, map, sum_by, IsTrue, IfSome, IfNone, IfErr, OnOk, MatchBool};
-ghost use Rattle.std.specs.List.Sorted.{IsNonDecreasingBy, IsStrictlyIncreasing};
+ghost use Rattle.std.specs.Prelude.{◌≡◌, ℕ, ◌<◌, ◌≤◌, ◌↔◌, length, map, sum_by, IsTrue, IfSome, IfNone, IfErr, OnOk};
+ghost use Rattle.std.specs.List.{AllZip};
+ghost use Rattle.std.specs.List.Sorted.{IsPermutation};
+ghost use Rattle.period_rows.specs.Rows.{row_at, IsInOrder};
 ghost use Rattle.drift_chain.specs.DriftRows.{drift_over, IsDriftRow, IsDrift};
-ghost use Rattle.drift_chain.specs.Faults.{parts_from, HasSameParts, HasDouble, IsFirstOfRow, IsFirstFault};
+ghost use Rattle.drift_chain.specs.Faults.{IsFirstOfRow, IsFirstFault};
 
-use crate::part::DriftPart;
+use period_rows::{CellPart, has_double, sort_rows};
 
 /// Why rows of parts make no drift, or none was made. A fault of a row names its cell.
 #[derive(Clone, Copy, Debug, PartialEq, Eq)]
@@ -23,10 +25,10 @@ pub enum DriftFault {
 }
 
 /// Puts each row in ascending order of cells, if the rows then make a drift.
-pub(crate) fn put_in_order(denominator: u32, rows: &mut [Vec<DriftPart>]) -> Result<(), DriftFault>
+pub(crate) fn put_in_order(denominator: u32, rows: &mut [Vec<CellPart>]) -> Result<(), DriftFault>
     requires denominator { (1 ≤ denominator) × (denominator ≤ 1000000) }
     requires count { (1 ≤ length rows.old) × (length rows.old ≤ 200) }
-    ensures same { HasSameParts (map (λ row. row.items) rows.old) (map (λ row. row.items) rows.new) }
+    ensures same { AllZip IsPermutation (map (λ row. row.items) rows.old) (map (λ row. row.items) rows.new) }
     ensures drift { OnOk result (IsDrift (drift_over denominator (map (λ row. row.items) rows.new))) }
     ensures fault { IfErr result (IsFirstFault denominator (map (λ row. row.items) rows.old)) }
 {
@@ -37,23 +39,11 @@ pub(crate) fn put_in_order(denominator: u32, rows: &mut [Vec<DriftPart>]) -> Res
     }
 }
 
-// Puts each row in ascending order of cells.
-fn sort_rows(rows: &mut [Vec<DriftPart>])
-    ensures same { HasSameParts (map (λ row. row.items) rows.old) (map (λ row. row.items) rows.new) }
-    ensures ascending { (c : ℕ) → c < length rows.old → IsNonDecreasingBy (λ entry.
-        entry.cell) (parts_from (map (λ row. row.items) rows.new) c) }
-{
-    for row in rows.iter_mut() {
-        row.sort_unstable_by_key(|entry| entry.cell);
-    }
-}
-
 // The fault that is named of rows in ascending order of cells.
-fn first_fault(denominator: u32, rows: &[Vec<DriftPart>]) -> Option<DriftFault>
+fn first_fault(denominator: u32, rows: &[Vec<CellPart>]) -> Option<DriftFault>
     requires denominator { (1 ≤ denominator) × (denominator ≤ 1000000) }
     requires count { (1 ≤ length rows.now) × (length rows.now ≤ 200) }
-    requires ascending { (c : ℕ) → c < length rows.now → IsNonDecreasingBy (λ entry.
-        entry.cell) (parts_from (map (λ row. row.items) rows.now) c) }
+    requires in_order { (c : ℕ) → c < length rows.now → IsInOrder (row_at (map (λ row. row.items) rows.now) c) }
     ensures none { IfNone result (IsDrift (drift_over denominator (map (λ row. row.items) rows.now))) }
     ensures some { IfSome result (IsFirstFault denominator (map (λ row. row.items) rows.now)) }
 {
@@ -70,10 +60,10 @@ pub(crate) fn row_fault(
     denominator: u32,
     cells: usize,
     cell: u8,
-    row: &[DriftPart],
+    row: &[CellPart],
 ) -> Option<DriftFault>
-    requires few { cells ≤ 200 }
-    requires ascending { IsNonDecreasingBy (λ entry. entry.cell) row.now }
+    requires few { cells ≤ 255 }
+    requires in_order { IsInOrder row.now }
     ensures none { IfNone result (IsDriftRow denominator cells row.now) }
     ensures some { IfSome result (IsFirstOfRow denominator cells cell row.now) }
 {
@@ -90,17 +80,9 @@ pub(crate) fn row_fault(
     }
 }
 
-// Whether a cell has two entries in a row in ascending order.
-fn has_double(row: &[DriftPart]) -> bool
-    requires { IsNonDecreasingBy (λ entry. entry.cell) row.now }
-    ensures { MatchBool result (HasDouble row.now) (IsStrictlyIncreasing (map (λ entry. entry.cell) row.now)) }
-{
-    !row.is_sorted_by(|a, b| a.cell < b.cell)
-}
-
 // Whether the parts of a row sum to the denominator.
-fn sums_to(denominator: u32, row: &[DriftPart]) -> bool
-    requires { length row.now ≤ 200 }
+fn sums_to(denominator: u32, row: &[CellPart]) -> bool
+    requires { length row.now ≤ 255 }
     ensures { IsTrue result ↔ (sum_by (λ entry. entry.part) row.now ≡ denominator) }
 {
     let sum: u64 = row.iter().map(|entry| u64::from(entry.part)).sum();

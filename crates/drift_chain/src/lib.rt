@@ -4,9 +4,8 @@
 mod chain;
 pub mod changes;
 mod faults;
-pub mod part;
 
 pub use chain::Drift;
 pub use changes::{ChangeFault, DriftChange};
 pub use faults::DriftFault;
-pub use part::DriftPart;
+pub use period_rows::CellPart as DriftPart;

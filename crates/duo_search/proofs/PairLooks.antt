@@ -12,7 +12,7 @@ use Rattle.std.proofs.lemmas.List.FromFn.{length-map-range_with_len, get_or-map-
 use Rattle.list_laws.proofs.Members.{Contains-nil, Contains-cons_cases}
 use Rattle.list_laws.proofs.Ranges.{range_more, range_below, Contains-range_from_0, range_rises}
 use Rattle.list_laws.proofs.Mapped.{map-map}
-use Rattle.sweep_table.specs.declared.part.LookPart.{LookPart}
+use Rattle.period_rows.specs.declared.part.CellPart.{CellPart}
 use Rattle.sweep_table.specs.LookParts.{LookParts, factor_in, factor_of, misses, IsLookRow, positions_of, cells_of, look_row}
 use Rattle.sweep_table.proofs.Factors.{factor_of-le}
 use Rattle.search_model.specs.Problem.{Problem, IsProblem}
@@ -23,22 +23,22 @@ use Rattle.duo_search.specs.Rows.{product_look, product_looks, HasProductLooks}
 use Rattle.duo_search.proofs.Numbers.{few_pairs}
 
 -- of some cells those of which less than all is missed, with what is missed
-abbrev pub entries_of : (ℕ → ℕ) → ℕ → List ℕ → List LookPart
+abbrev pub entries_of : (ℕ → ℕ) → ℕ → List ℕ → List CellPart
 entries_of f g cells = map (λ c. misses c (f c)) (filter (λ c. nat_lt (f c) g) cells)
 
 -- one cell more
 entries_more : (f : ℕ → ℕ) (g n : ℕ) → entries_of f g (range_with_len 0 (n + 1)) ≡ entries_of f g (range_with_len 0 n) ++ entries_of f g (n ∷ [])
 entries_more f g n =
-    let entry : ℕ → LookPart = λ c. misses c (f c) in
+    let entry : ℕ → CellPart = λ c. misses c (f c) in
     let kept : ℕ → Bool = λ c. nat_lt (f c) g in
     ap (λ cells. map entry (filter kept cells)) (range_more n) ∙ ap (map entry) (filter-append kept (range_with_len 0 n) (n ∷ [])) ∙ map-append entry (filter kept (range_with_len 0 n)) (filter kept (n ∷ []))
 
 -- which is covered
-pub entry_kept : (f : ℕ → ℕ) (g n : ℕ) (row : List LookPart) → f n < g → row ≡ entries_of f g (range_with_len 0 n) → row ++ misses n (f n) ∷ [] ≡ entries_of f g (range_with_len 0 (n + 1))
+pub entry_kept : (f : ℕ → ℕ) (g n : ℕ) (row : List CellPart) → f n < g → row ≡ entries_of f g (range_with_len 0 n) → row ++ misses n (f n) ∷ [] ≡ entries_of f g (range_with_len 0 (n + 1))
 entry_kept f g n row less so_far = rw so_far (sym (entries_more f g n ∙ rw (lt-ltb (f n) g less) refl))
 
 -- or not
-pub entry_left : (f : ℕ → ℕ) (g n : ℕ) (row : List LookPart) → g ≤ f n → row ≡ entries_of f g (range_with_len 0 n) → row ≡ entries_of f g (range_with_len 0 (n + 1))
+pub entry_left : (f : ℕ → ℕ) (g n : ℕ) (row : List CellPart) → g ≤ f n → row ≡ entries_of f g (range_with_len 0 n) → row ≡ entries_of f g (range_with_len 0 (n + 1))
 entry_left f g n row all so_far = so_far ∙ sym (entries_more f g n ∙ rw (le-ltb (f n) g all) (append-nil _))
 
 module _ (f : ℕ → ℕ) (g c : ℕ) (within : f c ≤ g) where
@@ -71,7 +71,7 @@ map_same (x ∷ xs) = ap (λ (ys : List ℕ). x ∷ ys) (map_same xs)
 -- entries for cells in order are a row of looks
 pub entries_right : (f : ℕ → ℕ) (g cells : ℕ) → ((c : ℕ) → f c ≤ g) → IsLookRow g cells (entries_of f g (range_with_len 0 cells))
 entries_right f g cells parts =
-    let entry : ℕ → LookPart = λ c. misses c (f c) in
+    let entry : ℕ → CellPart = λ c. misses c (f c) in
     let kept = filter (λ c. nat_lt (f c) g) (range_with_len 0 cells) in
     let keys : map (λ e. e.cell) (map entry kept) ≡ kept = map-map (λ e. e.cell) entry kept ∙ map_same kept in
     record {
@@ -98,7 +98,7 @@ module _ (p : Problem) (sound : IsProblem p) where
 
 module _ (p : Problem) (sound : IsProblem p) (small : IsSmall p) where
   -- the rows of all periods
-  abbrev rows_in_all : List (List (List LookPart))
+  abbrev rows_in_all : List (List (List CellPart))
   rows_in_all = map (product_looks p) (range_with_len 1 p.horizon)
 
   rows_at : (t : ℕ) → 1 ≤ t → t ≤ p.horizon → slice_index_or rows_in_all (t - 1) [] ≡ product_looks p t
@@ -122,7 +122,7 @@ module _ (p : Problem) (sound : IsProblem p) (small : IsSmall p) where
   rows_right =
       let P = p.positions in
       let periods = range_with_len 1 p.horizon in
-      let Row : List LookPart → Type 0 = λ row. IsLookRow (p.sweep.denominator * p.sweep.denominator) p.cells row in
+      let Row : List CellPart → Type 0 = λ row. IsLookRow (p.sweep.denominator * p.sweep.denominator) p.cells row in
       record {
         periods = (omega (arith, length-periods, sound.horizon.0), omega (arith, length-periods, sound.horizon.1));
         positions = (omega (arith, many_given, mul-le-mul sound.positions.0 sound.positions.0), omega (arith, many_given, few_pairs P small.positions));
@@ -131,7 +131,7 @@ module _ (p : Problem) (sound : IsProblem p) (small : IsSmall p) where
       }
 
   -- and looks that have these rows are the products
-  pub looks_right : (given : List (List (List LookPart))) (sweep : LookParts) → given ≡ rows_in_all → positions_of sweep ≡ positions_given given → cells_of sweep ≡ p.cells →
+  pub looks_right : (given : List (List (List CellPart))) (sweep : LookParts) → given ≡ rows_in_all → positions_of sweep ≡ positions_given given → cells_of sweep ≡ p.cells →
       sweep.denominator ≡ p.sweep.denominator * p.sweep.denominator → ((t a : ℕ) → 1 ≤ t → t ≤ length given → a < positions_given given → look_row sweep t a ≡ row_given given t a) → HasProductLooks p sweep
   unfolding factor_of
   looks_right given sweep is size cells denominator rows = record {
@@ -146,7 +146,7 @@ module _ (p : Problem) (sound : IsProblem p) (small : IsSmall p) where
   }
 
   -- whatever came of making them
-  pub looks_made : (given : List (List (List LookPart))) (result : Result LookParts NoMemory) (g cells n : ℕ) → g ≡ p.sweep.denominator → cells ≡ p.cells → length given ≡ n → given ≡ rows_in_all →
+  pub looks_made : (given : List (List (List CellPart))) (result : Result LookParts NoMemory) (g cells n : ℕ) → g ≡ p.sweep.denominator → cells ≡ p.cells → length given ≡ n → given ≡ rows_in_all →
       IfOk result (λ sweep. positions_of sweep ≡ positions_given given) → IfOk result (λ sweep. cells_of sweep ≡ cells) → IfOk result (λ sweep. sweep.denominator ≡ g * g) →
       IfOk result (λ sweep. (t a : ℕ) → 1 ≤ t → t ≤ n → a < positions_given given → look_row sweep t a ≡ row_given given t a) → IfOk result (HasProductLooks p)
   looks_made given (Ok sweep) g cells n parts many periods is size counted denominator rows =

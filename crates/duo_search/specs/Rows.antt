@@ -1,7 +1,7 @@
 -- The parts of the product problem's searcher, by number of position.
 use Rattle.std.specs.Prelude.{ℕ, ◌≡◌, ◌*◌, ◌<◌, ◌≤◌, nat_lt, List, map, filter}
 use Rattle.std.specs.List.{range_with_len}
-use Rattle.sweep_table.specs.declared.part.LookPart.{LookPart}
+use Rattle.period_rows.specs.declared.part.CellPart.{CellPart}
 use Rattle.sweep_table.specs.LookParts.{LookParts, positions_of, cells_of, factor_of, misses}
 use Rattle.search_model.specs.Problem.{Problem}
 use Rattle.searcher_maps.specs.declared.searcher.Searcher.{Searcher}
@@ -12,12 +12,12 @@ abbrev pub product_rows : Problem → List (List ℕ)
 product_rows p = map (product_moves p) (range_with_len 0 (p.positions * p.positions))
 
 -- an entry for each cell of which the looks of both don't miss all
-unfoldable pub product_look : Problem → ℕ → ℕ → List LookPart
+unfoldable pub product_look : Problem → ℕ → ℕ → List CellPart
 product_look p t n =
     map (λ c. misses c (product_factor p t n c)) (filter (λ c. nat_lt (product_factor p t n c) (p.sweep.denominator * p.sweep.denominator)) (range_with_len 0 p.cells))
 
 -- such a row for each position
-abbrev pub product_looks : Problem → ℕ → List (List LookPart)
+abbrev pub product_looks : Problem → ℕ → List (List CellPart)
 product_looks p t = map (product_look p t) (range_with_len 0 (p.positions * p.positions))
 
 -- what is made of the looks

@@ -1,7 +1,7 @@
 -- What the second of two looks finds of masses in the period of the first one, and what the first one takes of that.
 use Rattle.std.proofs.Common.{ℕ, ◌+◌, ◌*◌, ◌-◌, ◌≤◌, ◌≡◌, List, length, sym, ap, ◌∙◌, arith, sum_by}
 use Rattle.std.specs.List.{range_with_len}
-use Rattle.sweep_table.specs.declared.part.LookPart.{LookPart}
+use Rattle.period_rows.specs.declared.part.CellPart.{CellPart}
 use Rattle.sweep_table.specs.LookParts.{look_row}
 use Rattle.search_model.specs.Problem.{Problem, IsProblem}
 use Rattle.list_laws.proofs.Sums.{sum_by-same, sum_by-times, sum_by-plus, sum_by-exchange}
@@ -34,7 +34,7 @@ module _ (p : Problem) (t b : ℕ) where
       let g = p.sweep.denominator in
       sum_by-same (found_in p (λ d. sum_by (λ x. f x d) xs)) (λ e. sum_by (λ x. f x e.cell * (g - e.part)) xs) (look_row p.sweep t b)
       (λ e. sym (sum_by-times (λ x. f x e.cell) (g - e.part) xs))
-      ∙ sum_by-exchange (λ (e : LookPart) x. f x e.cell * (g - e.part)) (look_row p.sweep t b) xs
+      ∙ sum_by-exchange (λ (e : CellPart) x. f x e.cell * (g - e.part)) (look_row p.sweep t b) xs
 
 module _ (p : Problem) (q : List ℕ) (t b : ℕ) where
   -- what it finds of all that goes on from one cell
@@ -58,8 +58,8 @@ module _ (p : Problem) (q : List ℕ) (t b : ℕ) where
   found_taken a =
       let g = p.sweep.denominator in
       let before = look_row p.sweep (t - 1) a in
-      found-sum p t b (λ (e : LookPart) d. going_on p q t d e.cell * (g - e.part)) before
-      ∙ sum_by-same (λ (e : LookPart). found_of p t b (λ d. going_on p q t d e.cell * (g - e.part))) (found_in p (through p q t b)) before
+      found-sum p t b (λ (e : CellPart) d. going_on p q t d e.cell * (g - e.part)) before
+      ∙ sum_by-same (λ (e : CellPart). found_of p t b (λ d. going_on p q t d e.cell * (g - e.part))) (found_in p (through p q t b)) before
       (λ e. found-times p t b (λ d. going_on p q t d e.cell) (g - e.part) ∙ ap (λ (m : ℕ). m * (g - e.part)) (through_is e.cell))
 
   -- what a look from b finds after one from a in the period before, and what that one takes of it, are what it finds

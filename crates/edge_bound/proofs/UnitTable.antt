@@ -6,9 +6,8 @@ use Rattle.std.specs.List.{range_with_len}
 use Rattle.std.proofs.lemmas.Bool.{cases_eq, eq-eqb, eqb-true, and_parts}
 use Rattle.std.proofs.lemmas.Nat.{mul-le}
 use Rattle.std.proofs.Math.Nat.{mul-le-mul_right}
-use Rattle.drift_chain.specs.declared.part.DriftPart.{DriftPart}
+use Rattle.period_rows.specs.declared.part.CellPart.{CellPart}
 use Rattle.drift_chain.specs.DriftRows.{part_of, part_in}
-use Rattle.sweep_table.specs.declared.part.LookPart.{LookPart}
 use Rattle.sweep_table.specs.LookParts.{look_row, factor_of}
 use Rattle.search_model.specs.Problem.{Problem, IsProblem}
 use Rattle.search_model.proofs.DriftSums.{steps_total}
@@ -19,30 +18,30 @@ use Rattle.edge_bound.specs.Units.{HasUnits, HasBlock, HasBlocks, IsSteady}
 
 -- Rows that are the same.
 
-step_decides : (x y : DriftPart) → (((x.cell == y.cell) && (x.part == y.part)) ≡ true → x ≡ y) × (x ≡ y → ((x.cell == y.cell) && (x.part == y.part)) ≡ true)
+step_decides : (x y : CellPart) → (((x.cell == y.cell) && (x.part == y.part)) ≡ true → x ≡ y) × (x ≡ y → ((x.cell == y.cell) && (x.part == y.part)) ≡ true)
 step_decides x y = (
   λ both.
       let parts = and_parts (x.cell == y.cell) (x.part == y.part) both in
       let cell = eqb-true x.cell y.cell parts.0 in
       let part = eqb-true x.part y.part parts.1 in
       λ i. record { cell = cell i; part = part i },
-  λ same. rw (eq-eqb x.cell y.cell (ap (λ (e : DriftPart). e.cell) same), eq-eqb x.part y.part (ap (λ (e : DriftPart). e.part) same)) refl,
+  λ same. rw (eq-eqb x.cell y.cell (ap (λ (e : CellPart). e.cell) same), eq-eqb x.part y.part (ap (λ (e : CellPart). e.part) same)) refl,
 )
 
-pub same_steps : (xs ys : List DriftPart) → pointwise (λ x y. (x.cell == y.cell) && (x.part == y.part)) xs ys ≡ true → xs ≡ ys
+pub same_steps : (xs ys : List CellPart) → pointwise (λ x y. (x.cell == y.cell) && (x.part == y.part)) xs ys ≡ true → xs ≡ ys
 same_steps xs ys = (pointwise_decides step_decides xs ys).0
 
-look_decides : (x y : LookPart) → (((x.cell == y.cell) && (x.part == y.part)) ≡ true → x ≡ y) × (x ≡ y → ((x.cell == y.cell) && (x.part == y.part)) ≡ true)
+look_decides : (x y : CellPart) → (((x.cell == y.cell) && (x.part == y.part)) ≡ true → x ≡ y) × (x ≡ y → ((x.cell == y.cell) && (x.part == y.part)) ≡ true)
 look_decides x y = (
   λ both.
       let parts = and_parts (x.cell == y.cell) (x.part == y.part) both in
       let cell = eqb-true x.cell y.cell parts.0 in
       let part = eqb-true x.part y.part parts.1 in
       λ i. record { cell = cell i; part = part i },
-  λ same. rw (eq-eqb x.cell y.cell (ap (λ (e : LookPart). e.cell) same), eq-eqb x.part y.part (ap (λ (e : LookPart). e.part) same)) refl,
+  λ same. rw (eq-eqb x.cell y.cell (ap (λ (e : CellPart). e.cell) same), eq-eqb x.part y.part (ap (λ (e : CellPart). e.part) same)) refl,
 )
 
-pub same_looks : (xs ys : List LookPart) → pointwise (λ x y. (x.cell == y.cell) && (x.part == y.part)) xs ys ≡ true → xs ≡ ys
+pub same_looks : (xs ys : List CellPart) → pointwise (λ x y. (x.cell == y.cell) && (x.part == y.part)) xs ys ≡ true → xs ≡ ys
 same_looks xs ys = (pointwise_decides look_decides xs ys).0
 
 -- What a look finds of a unit.
@@ -61,8 +60,8 @@ one-within p sound t c b here =
 -- in a steady problem it is the same in all periods
 steady_one : (p : Problem) → IsSteady p → (t c b : ℕ) → 2 ≤ t → t ≤ p.horizon → c < p.cells → b < p.positions → one_of p t c b ≡ one_of p 2 c b
 steady_one p steady t c b first last here there =
-    ap (λ (row : List DriftPart). sum_by (found_in p (part_in row)) (look_row p.sweep t b)) (steady.steps t c first last here)
-    ∙ ap (λ (row : List LookPart). sum_by (found_in p (part_of p.drift 1 c)) row) (steady.looks t b first last there)
+    ap (λ (row : List CellPart). sum_by (found_in p (part_in row)) (look_row p.sweep t b)) (steady.steps t c first last here)
+    ∙ ap (λ (row : List CellPart). sum_by (found_in p (part_of p.drift 1 c)) row) (steady.looks t b first last there)
 
 -- Places of a row of cells.
 

@@ -1,12 +1,12 @@
 -- What looks find of masses, in all cells that they cover.
 use Rattle.std.specs.Prelude.{ℕ, ◌*◌, ◌-◌, sum_by}
 use Rattle.drift_chain.specs.DriftRows.{part_of}
-use Rattle.sweep_table.specs.declared.part.LookPart.{LookPart}
+use Rattle.period_rows.specs.declared.part.CellPart.{CellPart}
 use Rattle.sweep_table.specs.LookParts.{look_row}
 use Rattle.search_model.specs.Problem.{Problem}
 
 -- what is found of the mass of a cell that a look covers
-abbrev pub found_in : Problem → (ℕ → ℕ) → LookPart → ℕ
+abbrev pub found_in : Problem → (ℕ → ℕ) → CellPart → ℕ
 found_in p mass entry = mass entry.cell * (p.sweep.denominator - entry.part)
 
 -- what a look from position a in period t finds, where each cell has some mass

@@ -45,3 +45,8 @@ AllZip-flip R S turned [] [] zip = tt
 AllZip-flip R S turned [] (y ∷ ys) zip = absurd zip
 AllZip-flip R S turned (x ∷ xs) [] zip = absurd zip
 AllZip-flip R S turned (x ∷ xs) (y ∷ ys) zip = (turned x y zip.0, AllZip-flip R S turned xs ys zip.1)
+
+-- images of one list match, element by element
+pub AllZip-both : {X Y : Type 0} (R : Y → Y → Type 0) (f g : X → Y) → ((x : X) → R (f x) (g x)) → (xs : List X) → AllZip R (map f xs) (map g xs)
+AllZip-both R f g both [] = tt
+AllZip-both R f g both (x ∷ xs) = (both x, AllZip-both R f g both xs)

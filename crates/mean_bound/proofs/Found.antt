@@ -1,7 +1,7 @@
 -- The rewards, by the masses of the cells that a look covers.
 use Rattle.std.proofs.Common.{ℕ, ◌+◌, ◌*◌, ◌-◌, ◌^◌, ◌<◌, ◌≤◌, ◌≡◌, List, length, get_or, slice_index, refl, sym, ap, ◌∙◌, arith, sum_by}
 use Rattle.std.specs.List.{range_with_len}
-use Rattle.sweep_table.specs.declared.part.LookPart.{LookPart}
+use Rattle.period_rows.specs.declared.part.CellPart.{CellPart}
 use Rattle.sweep_table.specs.LookParts.{LookParts, look_row, factor_of}
 use Rattle.search_model.specs.Problem.{Problem, IsProblem}
 use Rattle.search_model.specs.Bounds.{reward_of}
@@ -15,14 +15,14 @@ use Rattle.belief_update.proofs.Rewards.{rewards_by_masses_hold}
 use Rattle.mean_bound.specs.Rewards.{found_of}
 
 -- the entries of a look are of cells, with parts of the denominator
-module _ (p : Problem) (sound : IsProblem p) (sweep : LookParts) (t a : ℕ) (row entries : List LookPart) (same : sweep ≡ p.sweep) (is : row ≡ look_row sweep t a) (all : entries ≡ row) where
+module _ (p : Problem) (sound : IsProblem p) (sweep : LookParts) (t a : ℕ) (row entries : List CellPart) (same : sweep ≡ p.sweep) (is : row ≡ look_row sweep t a) (all : entries ≡ row) where
   are_row : entries ≡ look_row p.sweep t a
   are_row = all ∙ is ∙ ap (λ (s : LookParts). look_row s t a) same
 
-  pub entry_cell : (i : ℕ) (e : LookPart) → i < length entries → (get_or entries i e).cell < p.cells
+  pub entry_cell : (i : ℕ) (e : CellPart) → i < length entries → (get_or entries i e).cell < p.cells
   entry_cell i e inside = rw are_row (covered_cell p sound t a i e (rw are_row at inside))
 
-  pub entry_part : (i : ℕ) (e : LookPart) → i < length entries → (get_or entries i e).part ≤ p.sweep.denominator
+  pub entry_part : (i : ℕ) (e : CellPart) → i < length entries → (get_or entries i e).part ≤ p.sweep.denominator
   entry_part i e inside = rw are_row (covered_part p sound t a i e (rw are_row at inside))
 
 -- the period of a belief after the looks of a prefix

@@ -1,6 +1,6 @@
 -- The rewards after a prefix, in one list with a row of positions for each period.
 use Rattle.std.specs.Prelude.{ℕ, ◌-◌, ◌*◌, List, length, slice_index, sum_by}
-use Rattle.sweep_table.specs.declared.part.LookPart.{LookPart}
+use Rattle.period_rows.specs.declared.part.CellPart.{CellPart}
 use Rattle.sweep_table.specs.LookParts.{look_row}
 use Rattle.search_model.specs.Problem.{Problem}
 use Rattle.search_model.specs.Legal.{last_of}
@@ -17,7 +17,7 @@ abbrev pub HasRewards : Problem → List ℕ → List ℕ → Type 0
 HasRewards p q rewards = HasRewardsTo p q p.horizon rewards
 
 -- what is found of the mass of a cell that a look covers
-abbrev pub found_in : Problem → BeliefState → LookPart → ℕ
+abbrev pub found_in : Problem → BeliefState → CellPart → ℕ
 found_in p b entry = slice_index b.masses entry.cell * (p.sweep.denominator - entry.part)
 
 -- what a look from a position finds of the masses of a belief, in all cells that it covers

@@ -14,10 +14,9 @@ use Rattle.list_laws.proofs.Mapped.{map-map}
 use Rattle.list_laws.proofs.Ranges.{All-range}
 use Rattle.list_laws.proofs.Rising.{increasing_from_ascends}
 use Rattle.search_grid.specs.Moves.{moves_from}
-use Rattle.drift_chain.specs.declared.part.DriftPart.{DriftPart}
+use Rattle.period_rows.specs.declared.part.CellPart.{CellPart}
 use Rattle.drift_chain.specs.DriftRows.{row_of, IsDriftRow}
 use Rattle.drift_chain.proofs.Parts.{length-le_cells}
-use Rattle.sweep_table.specs.declared.part.LookPart.{LookPart}
 use Rattle.sweep_table.specs.LookParts.{look_row, factor_of}
 use Rattle.sweep_table.proofs.Factors.{factor_of-le}
 use Rattle.search_model.specs.Names.{IsName, name_in}
@@ -50,7 +49,7 @@ abbrev AreShort : ℕ → List (List (List ℕ)) → Type 0
 AreShort n rows = (length rows ≤ n) × All IsShort rows
 
 -- at most 200 entries with parts up to 1,000,000
-abbrev AreFew : List DriftPart → Type 0
+abbrev AreFew : List CellPart → Type 0
 AreFew es = (length es ≤ 200) × All (λ e. e.part ≤ 1000000) es
 
 -- such a row of one period
@@ -94,7 +93,7 @@ two_fields a b short short' = All-cons IsShortField a (b ∷ []) short (one_fiel
 three_fields : (a b c : List ℕ) → IsShortField a → IsShortField b → IsShortField c → All IsShortField (a ∷ b ∷ c ∷ [])
 three_fields a b c short short' short'' = All-cons IsShortField a (b ∷ c ∷ []) short (two_fields b c short' short'')
 
-entries_short : (names : List (List ℕ)) (es : List DriftPart) → All IsName names → All (λ e. e.part ≤ 1000000) es → All IsShortField (entry_fields names es)
+entries_short : (names : List (List ℕ)) (es : List CellPart) → All IsName names → All (λ e. e.part ≤ 1000000) es → All IsShortField (entry_fields names es)
 entries_short names [] each small = All-nil IsShortField
 entries_short names (e ∷ es) each small =
     let part = number_short e.part (All-head (λ e. e.part ≤ 1000000) e es small) in
@@ -104,7 +103,7 @@ entries_short names (e ∷ es) each small =
 -- Rows.
 
 -- at most three fields, and entries behind them
-row_short : (names : List (List ℕ)) (fs : List (List ℕ)) (es : List DriftPart) → All IsName names → length fs ≤ 3 → All IsShortField fs → AreFew es → IsShort (fs ++ entry_fields names es)
+row_short : (names : List (List ℕ)) (fs : List (List ℕ)) (es : List CellPart) → All IsName names → length fs ≤ 3 → All IsShortField fs → AreFew es → IsShort (fs ++ entry_fields names es)
 row_short names fs es each three short few = (
   omega (arith, length-append fs (entry_fields names es), length-entry_fields names es, three, few.0),
   All-append IsShortField fs (entry_fields names es) short (entries_short names es each few.1),
@@ -221,13 +220,13 @@ module _ (s : State) (h : IsSmall s) where
 -- Rows of a problem.
 
 -- a row in order
-drift_few : (denominator cells : ℕ) (es : List DriftPart) → denominator ≤ 1000000 → cells ≤ 200 → IsDriftRow denominator cells es → AreFew es
+drift_few : (denominator cells : ℕ) (es : List CellPart) → denominator ≤ 1000000 → cells ≤ 200 → IsDriftRow denominator cells es → AreFew es
 drift_few denominator cells es low few row =
     let long = length-le_cells cells es row.within row.ascending in
     (omega (arith, long, few), λ k d inside. let part = get_or-le-sum_by (λ e. e.part) es k d inside in omega (arith, part, row.total, low))
 
 -- at most one row for each period from the second on, and each owner
-later_few : (row : ℕ → ℕ → List DriftPart) (owners last : ℕ) → length (later_rows row owners last) ≤ owners * (last - 1)
+later_few : (row : ℕ → ℕ → List CellPart) (owners last : ℕ) → length (later_rows row owners last) ≤ owners * (last - 1)
 later_few row owners last =
     let one : (t : ℕ) → length (other_rows row owners t) ≤ owners = λ t.
     let each = length-flat_map-le (λ c. cond (is_same_row (row t c) (row 1 c)) [] (record { period = t; own = c; row = row t c } ∷ [])) 1 (λ c. one_or_none (is_same_row (row t c) (row 1 c)) (record { period = t; own = c; row = row t c })) (range_with_len 0 owners) in
@@ -246,9 +245,9 @@ module _ (p : Problem) (h : IsProblem p) where
   covered_at : (t a : ℕ) → AreFew (covered p t a)
   covered_at t a =
       let looks = look_of_row p h t a in
-      let cell : LookPart → ℕ = λ e. e.cell in
+      let cell : CellPart → ℕ = λ e. e.cell in
       let row = kept p.sweep.denominator (look_row p.sweep t a) in
-      let up : IsStrictlyIncreasing (map (λ (e : DriftPart). e.cell) (covered p t a)) = subst IsStrictlyIncreasing (sym (map-map (λ (e : DriftPart). e.cell) (λ (e : LookPart). record { cell = e.cell; part = e.part }) row)) (increasing_from_ascends cell row (kept_rises p h t a)) in
+      let up : IsStrictlyIncreasing (map (λ (e : CellPart). e.cell) (covered p t a)) = subst IsStrictlyIncreasing (sym (map-map (λ (e : CellPart). e.cell) (λ (e : CellPart). record { cell = e.cell; part = e.part }) row)) (increasing_from_ascends cell row (kept_rises p h t a)) in
       let long = length-le_cells p.cells (covered p t a) looks.within up in
       (omega (arith, long, h.cells), All-weaker (λ e. e.part ≤ p.sweep.denominator) (λ e. e.part ≤ 1000000) (λ e le. omega (arith, le, h.sweep.denominator)) (covered p t a) looks.parts)
 

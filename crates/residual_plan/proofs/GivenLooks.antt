@@ -4,7 +4,7 @@ use Rattle.std.specs.List.{range_with_len}
 use Rattle.std.proofs.lemmas.List.Elements.{All-map}
 use Rattle.std.proofs.lemmas.List.FromFn.{length-map-range_with_len, get_or-map-range_with_len}
 use Rattle.list_laws.proofs.Ranges.{All-range}
-use Rattle.sweep_table.specs.declared.part.LookPart.{LookPart}
+use Rattle.period_rows.specs.declared.part.CellPart.{CellPart}
 use Rattle.sweep_table.specs.LookParts.{IsLookRow}
 use Rattle.search_model.specs.Problem.{Problem, IsProblem}
 use Rattle.searcher_maps.specs.Periods.{positions_given, row_given, AreLookRows}
@@ -30,7 +30,7 @@ module _ (p : Problem) (flown : List ℕ) where
   pub row_is_given : (t a : ℕ) → 1 ≤ t → t ≤ p.horizon → a < forced_count p flown → row_given (forced_looks p flown) t a ≡ forced_look p flown t a
   unfolding forced_looks_in
   row_is_given t a from to within =
-      ap (λ (rows : List (List LookPart)). get_or rows a []) (period_at t from to) ∙ get_or-map-range_with_len (forced_look p flown t) 0 (forced_count p flown) a a [] within (omega arith)
+      ap (λ (rows : List (List CellPart)). get_or rows a []) (period_at t from to) ∙ get_or-map-range_with_len (forced_look p flown t) 0 (forced_count p flown) a a [] within (omega arith)
 
   rows_right : IsProblem p → (t : ℕ) → All (IsLookRow p.sweep.denominator p.cells) (forced_looks_in p flown t)
   unfolding forced_looks_in forced_look

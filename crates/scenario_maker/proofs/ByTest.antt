@@ -8,7 +8,7 @@ use Rattle.std.proofs.lemmas.Bool.{ltb-true, leb-true, eqb-true, and_parts, not-
 use Rattle.std.proofs.lemmas.List.Elements.{All-nil, All-cons}
 use Rattle.std.proofs.lemmas.List.Folds.{list_any_at}
 use Rattle.std.proofs.lemmas.Slice.Eq.{bytes_eq-Decides}
-use Rattle.drift_chain.specs.declared.part.DriftPart.{DriftPart}
+use Rattle.period_rows.specs.declared.part.CellPart.{CellPart}
 use Rattle.drift_chain.specs.DriftRows.{IsDriftRow}
 use Rattle.search_model.specs.Names.{name_in, IsRepeated}
 use Rattle.list_laws.proofs.Members.{Contains-nil, Contains-cons_cases}
@@ -35,15 +35,15 @@ IsStrictlyIncreasing-by_test (x ∷ y ∷ ys) passes (suc k) lt =
     rw add-one (rw add-one at rest)
 
 -- drift rows
-abbrev pub is_drift_row : ℕ → ℕ → List DriftPart → Bool
+abbrev pub is_drift_row : ℕ → ℕ → List CellPart → Bool
 is_drift_row denominator cells row =
     list_all (λ e. nat_lt e.cell cells) row && (list_all (λ e. nat_le 1 e.part) row && (rises (map (λ e. e.cell) row) && (sum_by (λ e. e.part) row == denominator)))
 
-pub IsDriftRow-by_test : (denominator cells : ℕ) (row : List DriftPart) → is_drift_row denominator cells row ≡ true → IsDriftRow denominator cells row
+pub IsDriftRow-by_test : (denominator cells : ℕ) (row : List CellPart) → is_drift_row denominator cells row ≡ true → IsDriftRow denominator cells row
 IsDriftRow-by_test denominator cells row passes =
-    let within = and_parts (list_all (λ (e : DriftPart). nat_lt e.cell cells) row) _ passes in
-    let positive = and_parts (list_all (λ (e : DriftPart). nat_le 1 e.part) row) _ within.1 in
-    let ascending = and_parts (rises (map (λ (e : DriftPart). e.cell) row)) _ positive.1 in
+    let within = and_parts (list_all (λ (e : CellPart). nat_lt e.cell cells) row) _ passes in
+    let positive = and_parts (list_all (λ (e : CellPart). nat_le 1 e.part) row) _ within.1 in
+    let ascending = and_parts (rises (map (λ (e : CellPart). e.cell) row)) _ positive.1 in
     record {
       within = All-by_test (λ e. nat_lt e.cell cells) (λ e. e.cell < cells) (λ e. ltb-true e.cell cells) row within.0;
       positive = All-by_test (λ e. nat_le 1 e.part) (λ e. 1 ≤ e.part) (λ e. leb-true 1 e.part) row positive.0;

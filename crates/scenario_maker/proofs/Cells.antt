@@ -9,7 +9,7 @@ use Rattle.std.proofs.lemmas.List.{get_or_past}
 use Rattle.std.proofs.lemmas.List.FromFn.{length-map-range_with_len}
 use Rattle.search_grid.specs.Sides.{moves_beside, side_moves}
 use Rattle.drift_chain.specs.DriftRows.{drift_over, IsDrift, IsDriftRow}
-use Rattle.drift_chain.specs.Faults.{parts_from}
+use Rattle.period_rows.specs.Rows.{row_at}
 use Rattle.drift_chain.proofs.Drifts.{IsDrift-from_rows}
 use Rattle.search_grid.specs.Moves.{moves_from}
 use Rattle.search_model.specs.Names.{IsName, IsRepeated, is_name}
@@ -57,7 +57,7 @@ taken_few part moves few short =
 
 -- rows that pass the test make a drift
 rows_right : (part : ℕ) → list_all (is_drift_row 12 25) (spread_rows 12 part (side_moves 5 5)) ≡ true → IsDrift (drift_over 12 (spread_rows 12 part (side_moves 5 5)))
-unfolding parts_from
+unfolding row_at
 rows_right part passes =
     let rows = spread_rows 12 part (side_moves 5 5) in
     let all = All-by_test (is_drift_row 12 25) (IsDriftRow 12 25) (IsDriftRow-by_test 12 25) rows passes in

@@ -1,7 +1,7 @@
 -- The scenario of what was read whole.
 use Rattle.std.proofs.Common.{◌≡◌, ℕ, ◌<◌, ◌≤◌, false, List, [], ◌∷◌, map, length, Option, Some, None, refl, sym, ap, ◌∙◌, arith, subst, inl, inr, ◌⊎◌}
 use Rattle.std.specs.Prelude.{◌==◌, ◌||◌, ◌-◌, All, sum_by, sum, slice_index, unwrap_or, is_none}
-use Rattle.std.specs.List.{list_any}
+use Rattle.std.specs.List.{list_any, AllZip}
 use Rattle.std.specs.List.Sorted.{IsPermutation}
 use Rattle.std.proofs.lemmas.Bool.{eqb-false, or_parts}
 use Rattle.std.proofs.lemmas.List.{length-map}
@@ -10,13 +10,15 @@ use Rattle.search_grid.specs.declared.faults.GridFault.{GridFault}
 use Rattle.search_grid.specs.declared.faults.GridFault.TheVariants as grid
 use Rattle.search_grid.specs.Moves.{moves_from, IsGrid}
 use Rattle.search_grid.specs.Faults.{HasSameMoves, HasFault as HasGridFault}
-use Rattle.drift_chain.specs.declared.part.DriftPart.{DriftPart}
+use Rattle.period_rows.specs.declared.part.CellPart.{CellPart}
 use Rattle.drift_chain.specs.declared.changes.ChangeFault.{ChangeFault}
 use Rattle.drift_chain.specs.declared.faults.DriftFault.{DriftFault}
 use Rattle.drift_chain.specs.declared.faults.DriftFault.TheVariants as drift
 use Rattle.drift_chain.specs.DriftRows.{IsDrift, part_in}
-use Rattle.drift_chain.specs.Faults.{parts_from, HasSameParts, HasFault as HasDriftFault}
-use Rattle.drift_chain.specs.ChangeFaults.{AreSameChanges, HasChangeFault}
+use Rattle.period_rows.specs.Rows.{row_at}
+use Rattle.drift_chain.specs.Faults.{HasFault as HasDriftFault}
+use Rattle.period_rows.specs.Changes.{IsSameChange}
+use Rattle.drift_chain.specs.ChangeFaults.{HasChangeFault}
 use Rattle.sweep_table.specs.declared.changes.LookChangeFault.{LookChangeFault}
 use Rattle.sweep_table.specs.declared.faults.LookFault.{LookFault}
 use Rattle.sweep_table.specs.Faults.{HasFault as HasLookFault}
@@ -42,7 +44,7 @@ not_empty P row some (inl none) = absurd (eqb-false (length row) 0 some none)
 not_empty P row some (inr h) = h
 
 -- where the first parts sum to something, there is a cell
-some_within : (cells total : ℕ) (entries : List DriftPart) → 1 ≤ total → AreEntries cells total entries → 1 ≤ cells
+some_within : (cells total : ℕ) (entries : List CellPart) → 1 ≤ total → AreEntries cells total entries → 1 ≤ cells
 some_within cells total [] some h = let none : 0 ≡ total = h.total in omega (arith, some, none)
 some_within cells total (e ∷ entries) some h = let lt = All-head (λ x. x.cell < cells) e entries h.within in omega (arith, lt)
 
@@ -94,15 +96,15 @@ module _ (s : State) (h : IsSound s) (ended : s.stage ≡ Ended) where
   all_parts : All (AreEntries (length s.names) s.drift) s.parts
   all_parts k row lt =
       let rest = (or_parts (list_any (λ (r : List ℕ). length r == 0) s.moves) _ lacks_none).1 in
-      let some = none_pass (λ (r : List DriftPart). length r == 0) s.parts (or_parts (list_any (λ (r : List DriftPart). length r == 0) s.parts) _ rest).0 k row lt in
+      let some = none_pass (λ (r : List CellPart). length r == 0) s.parts (or_parts (list_any (λ (r : List CellPart). length r == 0) s.parts) _ rest).0 k row lt in
       not_empty (AreEntries (length s.names) s.drift) _ some (h.parts k row lt)
 
   pub moves_of : (q : ℕ) → q < length s.moves → AreMoves (length (positions_in s)) (moves_from s.moves q)
   unfolding moves_from
   moves_of q lt = all_moves q [] lt
 
-  pub parts_at : (c : ℕ) → c < length s.parts → AreEntries (length s.names) s.drift (parts_from s.parts c)
-  unfolding parts_from
+  pub parts_at : (c : ℕ) → c < length s.parts → AreEntries (length s.names) s.drift (row_at s.parts c)
+  unfolding row_at
   parts_at c lt = all_parts c [] lt
 
   -- the moves make a grid
@@ -123,12 +125,12 @@ module _ (s : State) (h : IsSound s) (ended : s.stage ≡ Ended) where
   no_drift_fault (drift.OutOfRange c) bad =
       let row = parts_at c bad.0 in
       let lt = row.within bad.1.0 bad.1.1 bad.1.2 in
-      let same = ap (λ (e : DriftPart). e.cell) bad.1.3 in
+      let same = ap (λ (e : CellPart). e.cell) bad.1.3 in
       omega (arith, lt, same, bad.1.4, h.parts_length)
   no_drift_fault (drift.ZeroPart c) bad =
       let row = parts_at c bad.0 in
       let some = row.positive bad.1.0 bad.1.1 bad.1.2 in
-      let same = ap (λ (e : DriftPart). e.part) bad.1.3 in
+      let same = ap (λ (e : CellPart). e.part) bad.1.3 in
       omega (arith, some, same, bad.1.4)
   no_drift_fault (drift.DoubleEntry c) bad = let row = parts_at c bad.0 in omega (arith, bad.1.1, row.once bad.1.0)
   no_drift_fault (drift.WrongSum c) bad = let row = parts_at c bad.0 in bad.1 row.total
@@ -196,14 +198,14 @@ module _ (s : State) (h : IsSound s) (ended : s.stage ≡ Ended) where
     pub moves : HasSameMoves s.moves p.moves
     pub grid : IsGrid p.moves
     pub denominator : p.drift.denominator ≡ s.drift
-    pub parts : HasSameParts s.parts p.drift.rows
-    pub changes : AreSameChanges (map drift_change_of s.drift_rows) p.drift.changes
+    pub parts : AllZip IsPermutation s.parts p.drift.rows
+    pub changes : AllZip IsSameChange (map drift_change_of s.drift_rows) p.drift.changes
     pub drift : IsDrift p.drift
     pub looks : SaysLooks s.version s p.sweep
     pub sweep : IsSweep p.sweep
 
   rows_long : (p : Problem) → Made p → length p.drift.rows ≡ length s.names
-  rows_long p m = m.parts.cells ∙ h.parts_length
+  rows_long p m = sym (length_all_zip IsPermutation _ _ m.parts) ∙ h.parts_length
 
   moves_long : (p : Problem) → Made p → length p.moves ≡ length (positions_in s)
   moves_long p m = m.moves.cells ∙ h.moves_length

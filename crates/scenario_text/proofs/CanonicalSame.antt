@@ -3,24 +3,22 @@ use Rattle.std.proofs.Common.{◌≡◌, ℕ, ◌-◌, ◌<◌, ◌≤◌, List,
 use Rattle.std.specs.Prelude.{unwrap_or, slice_index_or, slice_index, max}
 use Rattle.std.specs.List.{AllZip, find, range_with_len}
 use Rattle.std.specs.List.Sorted.{IsPermutation, IsStrictlyIncreasing}
-use Rattle.std.specs.Option.{option_map_or, option_map}
+use Rattle.std.specs.Option.{option_map_or}
 use Rattle.std.proofs.lemmas.Bool.{cases_Bool, cases_eq, cases_lt}
 use Rattle.std.proofs.lemmas.List.{length-map, get_or-map, get_or_past}
 use Rattle.std.proofs.lemmas.List.Elements.{All-map, All-filter}
 use Rattle.std.proofs.lemmas.List.FromFn.{length-map-range_with_len, get_or-map-range_with_len}
 use Rattle.std.proofs.lemmas.List.Sorted.{IsPermutation-refl}
 use Rattle.list_laws.proofs.Rising.{increasing_from_ascends}
-use Rattle.drift_chain.specs.declared.part.DriftPart.{DriftPart}
-use Rattle.drift_chain.specs.DriftRows.{DriftRows, DriftRowChange, row_of, is_change, IsDriftRow, IsDrift}
+use Rattle.period_rows.specs.declared.part.CellPart.{CellPart}
+use Rattle.period_rows.specs.Changes.{RowChange, is_for, IsSameChange}
+use Rattle.drift_chain.specs.DriftRows.{DriftRows, row_of, IsDriftRow, IsDrift}
 use Rattle.drift_chain.proofs.DriftChanges.{row_of-base}
 use Rattle.drift_chain.proofs.Drifts.{IsDrift-from_rows}
-use Rattle.drift_chain.specs.Faults.{HasSameParts, parts_from}
-use Rattle.drift_chain.specs.ChangeFaults.{rows_in}
+use Rattle.period_rows.specs.Rows.{row_at}
 use Rattle.search_grid.specs.Faults.{HasSameMoves}
 use Rattle.search_grid.specs.Moves.{moves_from}
-use Rattle.sweep_table.specs.declared.part.LookPart.{LookPart}
-use Rattle.sweep_table.specs.LookParts.{LookParts, LookRowChange, is_for, look_row, factor_in, factor_of, parts_over, IsLookRow, IsSweep}
-use Rattle.sweep_table.specs.Changes.{IsSameChange}
+use Rattle.sweep_table.specs.LookParts.{LookParts, look_row, factor_in, factor_of, parts_over, IsLookRow, IsSweep}
 use Rattle.sweep_table.proofs.Factors.{factor_of-le, factor_of-own, factor_of-apart, empty_row, length-own_rows, IsSweep-from_parts}
 use Rattle.search_model.specs.Problem.{Problem, IsProblem}
 use Rattle.search_model.specs.Same.{AreSame}
@@ -41,16 +39,13 @@ use Rattle.scenario_text.proofs.SameRows.{kept, kept_rises, covered_parts, cover
 moves_kept : (rows : List (List ℕ)) → HasSameMoves rows rows
 moves_kept rows = record { cells = refl; moves = λ c inside. IsPermutation-refl (moves_from rows c) }
 
-parts_kept : (rows : List (List DriftPart)) → HasSameParts rows rows
-parts_kept rows = record { cells = refl; parts = λ c inside. IsPermutation-refl (parts_from rows c) }
-
 each_kept : {X : Type 0} (R : X → X → Type 0) → ((x : X) → R x x) → (xs : List X) → AllZip R xs xs
 each_kept R own [] = tt
 each_kept R own (x ∷ xs) = (own x, each_kept R own xs)
 
 -- The change of a period and an owner, among rows.
 
-drift_told : (t c : ℕ) (rows : List PeriodRow) (base : List DriftPart) → option_map_or (λ (change : DriftRowChange). change.row) (find (is_change t c) (map drift_change_of rows)) base ≡ option_map_or (λ (r : PeriodRow). r.row) (find (is_row_of t c) rows) base
+drift_told : (t c : ℕ) (rows : List PeriodRow) (base : List CellPart) → option_map_or (λ (change : RowChange). change.row) (find (is_for t c) (map drift_change_of rows)) base ≡ option_map_or (λ (r : PeriodRow). r.row) (find (is_row_of t c) rows) base
 drift_told t c [] base = refl
 drift_told t c (r ∷ rows) base =
     elim (cases_Bool (is_row_of t c r)) [
@@ -58,7 +53,7 @@ drift_told t c (r ∷ rows) base =
       | inr isnt ↦ rw isnt (drift_told t c rows base)
     ]
 
-look_told : (t a : ℕ) (rows : List PeriodRow) (base : List DriftPart) → unwrap_or (option_map (λ (change : LookRowChange). change.row) (find (is_for t a) (map look_change_of rows))) (look_parts base) ≡ look_parts (option_map_or (λ (r : PeriodRow). r.row) (find (is_row_of t a) rows) base)
+look_told : (t a : ℕ) (rows : List PeriodRow) (base : List CellPart) → option_map_or (λ (change : RowChange). change.row) (find (is_for t a) (map look_change_of rows)) (look_parts base) ≡ look_parts (option_map_or (λ (r : PeriodRow). r.row) (find (is_row_of t a) rows) base)
 look_told t a [] base = refl
 look_told t a (r ∷ rows) base =
     elim (cases_Bool (is_row_of t a r)) [
@@ -66,13 +61,13 @@ look_told t a (r ∷ rows) base =
       | inr isnt ↦ rw isnt (look_told t a rows base)
     ]
 
-row_is : (drift : DriftRows) (t c : ℕ) → row_of drift t c ≡ option_map_or (λ (change : DriftRowChange). change.row) (find (is_change t c) drift.changes) (slice_index_or drift.rows c [])
+row_is : (drift : DriftRows) (t c : ℕ) → row_of drift t c ≡ option_map_or (λ (change : RowChange). change.row) (find (is_for t c) drift.changes) (slice_index_or drift.rows c [])
 unfolding row_of
 row_is drift t c = refl
 
-look_factor : (sweep : LookParts) (t a c : ℕ) (row : List LookPart) → look_row sweep t a ≡ row → factor_of sweep t a c ≡ factor_in sweep.denominator row c
+look_factor : (sweep : LookParts) (t a c : ℕ) (row : List CellPart) → look_row sweep t a ≡ row → factor_of sweep t a c ≡ factor_in sweep.denominator row c
 unfolding factor_of
-look_factor sweep t a c row is = ap (λ (r : List LookPart). factor_in sweep.denominator r c) is
+look_factor sweep t a c row is = ap (λ (r : List CellPart). factor_in sweep.denominator r c) is
 
 -- a period up to the last but one is one of the later ones, or the first
 before_last : (t n : ℕ) → 1 ≤ t → t < max 2 n → (t ≤ n - 1) ⊎ (t ≡ 1)
@@ -83,7 +78,7 @@ before_last t n low high =
     ]
 
 module _ (p : Problem) (h : IsProblem p) where
-  abbrev base_rows : List (List DriftPart)
+  abbrev base_rows : List (List CellPart)
   base_rows = map (row_of p.drift 1) (range_with_len 0 p.cells)
 
   base_long : length base_rows ≡ p.cells
@@ -104,7 +99,7 @@ module _ (p : Problem) (h : IsProblem p) where
   full_row t c inside =
       row_is full_drift t c
       ∙ drift_told t c (drift_changes p) (slice_index_or base_rows c [])
-      ∙ ap (λ (base : List DriftPart). option_map_or (λ (r : PeriodRow). r.row) (find (is_row_of t c) (drift_changes p)) base) (base_at c inside)
+      ∙ ap (λ (base : List CellPart). option_map_or (λ (r : PeriodRow). r.row) (find (is_row_of t c) (drift_changes p)) base) (base_at c inside)
 
   drift_periods : ArePeriodRows (p.horizon - 1) p.cells (AreEntries p.cells p.drift.denominator) (drift_changes p)
   drift_periods = are_period_rows (row_of p.drift) p.cells (p.horizon - 1) (AreEntries p.cells p.drift.denominator) (drift_row p h)
@@ -117,7 +112,7 @@ module _ (p : Problem) (h : IsProblem p) where
         let some = some_row (row_of p.drift) p.cells (p.horizon - 1) t c (omega (arith, inside, base_long)) in
         subst (IsDriftRow p.drift.denominator (length base_rows)) (sym (full_row t c (omega (arith, inside, base_long)) ∙ some.1)) (right_row some.0 c inside);
     changes = record {
-      within = All-map (λ (change : DriftRowChange). (1 ≤ change.period) × (change.period ≤ 31) × (change.cell < length base_rows)) drift_change_of (drift_changes p)
+      within = All-map (λ (change : RowChange). (1 ≤ change.period) × (change.period ≤ 31) × (change.owner < length base_rows)) drift_change_of (drift_changes p)
           (all_later (row_of p.drift) p.cells (p.horizon - 1) (λ r. (1 ≤ r.period) × (r.period ≤ 31) × (r.own < length base_rows)) (λ t c low high inside. (omega (arith, low), omega (arith, high, h.horizon.1), omega (arith, inside, base_long))));
       differ = λ i j d before inside same.
           let long = length-map (drift_changes p) drift_change_of in
@@ -125,8 +120,8 @@ module _ (p : Problem) (h : IsProblem p) where
           let one = get_or-map drift_change_of (drift_changes p) i nothing d (omega (arith, before, there)) in
           let other = get_or-map drift_change_of (drift_changes p) j nothing d there in
           alone (p.horizon - 1) p.cells (AreEntries p.cells p.drift.denominator) (drift_changes p) drift_periods i j before there
-          (sym (ap (λ (c : DriftRowChange). c.period) one) ∙ same.0 ∙ ap (λ (c : DriftRowChange). c.period) other)
-          (sym (ap (λ (c : DriftRowChange). c.cell) one) ∙ same.1 ∙ ap (λ (c : DriftRowChange). c.cell) other);
+          (sym (ap (λ (c : RowChange). c.period) one) ∙ same.0 ∙ ap (λ (c : RowChange). c.period) other)
+          (sym (ap (λ (c : RowChange). c.owner) one) ∙ same.1 ∙ ap (λ (c : RowChange). c.owner) other);
     };
   }
 
@@ -145,18 +140,18 @@ module _ (p : Problem) (h : IsProblem p) where
   look_at : (a : ℕ) → a < p.positions → slice_index_or full_looks.rows a [] ≡ look_parts (covered p 1 a)
   look_at a inside =
       get_or-map (λ row. look_parts (unwrap_or row [])) (map (λ a. Some (covered p 1 a)) (range_with_len 0 p.positions)) a None [] (omega (arith, inside, length-map-range_with_len (λ a. Some (covered p 1 a)) 0 p.positions))
-      ∙ ap (λ (o : Option (List DriftPart)). look_parts (unwrap_or o [])) (get_or-map-range_with_len (λ a. Some (covered p 1 a)) 0 p.positions a a None inside (omega arith))
+      ∙ ap (λ (o : Option (List CellPart)). look_parts (unwrap_or o [])) (get_or-map-range_with_len (λ a. Some (covered p 1 a)) 0 p.positions a a None inside (omega arith))
 
   full_look : (t a : ℕ) → a < p.positions → look_row full_looks t a ≡ look_parts (option_map_or (λ (r : PeriodRow). r.row) (find (is_row_of t a) (look_changes p)) (covered p 1 a))
   unfolding look_row
   full_look t a inside =
-      ap (λ (base : List LookPart). unwrap_or (option_map (λ (change : LookRowChange). change.row) (find (is_for t a) (map look_change_of (look_changes p)))) base) (look_at a inside)
+      ap (λ (base : List CellPart). option_map_or (λ (change : RowChange). change.row) (find (is_for t a) (map look_change_of (look_changes p))) base) (look_at a inside)
       ∙ look_told t a (look_changes p) (covered p 1 a)
 
   no_look : (t a : ℕ) → p.positions ≤ a → look_row full_looks t a ≡ []
   unfolding look_row
   no_look t a past =
-      ap (λ (base : List LookPart). unwrap_or (option_map (λ (change : LookRowChange). change.row) (find (is_for t a) (map look_change_of (look_changes p)))) base) (get_or_past full_looks.rows a [] (omega (arith, past, looks_long)))
+      ap (λ (base : List CellPart). option_map_or (λ (change : RowChange). change.row) (find (is_for t a) (map look_change_of (look_changes p))) base) (get_or_past full_looks.rows a [] (omega (arith, past, looks_long)))
       ∙ look_told t a (look_changes p) []
       ∙ ap (λ (o : Option PeriodRow). look_parts (option_map_or (λ (r : PeriodRow). r.row) o [])) (none_owner (covered p) p.positions p.horizon t a past)
 
@@ -165,9 +160,9 @@ module _ (p : Problem) (h : IsProblem p) where
       let right = h.sweep.each t a in
       let row = kept p.sweep.denominator (look_row p.sweep t a) in
       let made : IsLookRow p.sweep.denominator p.cells row = record {
-        within = All-filter _ (λ (e : LookPart). e.cell < p.cells) (look_row p.sweep t a) (subst (λ (n : ℕ). All (λ (e : LookPart). e.cell < n) (look_row p.sweep t a)) h.sweep_cells right.within);
-        ascending = increasing_from_ascends (λ (e : LookPart). e.cell) row (kept_rises p h t a);
-        parts = All-filter _ (λ (e : LookPart). e.part ≤ p.sweep.denominator) (look_row p.sweep t a) right.parts;
+        within = All-filter _ (λ (e : CellPart). e.cell < p.cells) (look_row p.sweep t a) (subst (λ (n : ℕ). All (λ (e : CellPart). e.cell < n) (look_row p.sweep t a)) h.sweep_cells right.within);
+        ascending = increasing_from_ascends (λ (e : CellPart). e.cell) row (kept_rises p h t a);
+        parts = All-filter _ (λ (e : CellPart). e.part ≤ p.sweep.denominator) (look_row p.sweep t a) right.parts;
       } in
       subst (IsLookRow p.sweep.denominator (length p.names)) (sym (covered_parts p h t a)) (subst (λ (n : ℕ). IsLookRow p.sweep.denominator n row) (sym h.names.count) made)
 
@@ -191,8 +186,8 @@ module _ (p : Problem) (h : IsProblem p) where
     cells = refl;
     rows = each_kept IsPermutation IsPermutation-refl full_looks.rows;
     changes = each_kept IsSameChange (λ change. (refl, refl, IsPermutation-refl change.row)) full_looks.changes;
-    ascending = All-map (λ (change : LookRowChange). IsStrictlyIncreasing (map (λ (e : LookPart). e.cell) change.row)) look_change_of (look_changes p)
-        (all_later (covered p) p.positions p.horizon (λ r. IsStrictlyIncreasing (map (λ (e : LookPart). e.cell) (look_parts r.row))) (λ t a low high inside. let right = kept_right t a in right.ascending));
+    ascending = All-map (λ (change : RowChange). IsStrictlyIncreasing (map (λ (e : CellPart). e.cell) change.row)) look_change_of (look_changes p)
+        (all_later (covered p) p.positions p.horizon (λ r. IsStrictlyIncreasing (map (λ (e : CellPart). e.cell) (look_parts r.row))) (λ t a low high inside. let right = kept_right t a in right.ascending));
   }
 
   -- the problem of version 2
@@ -228,8 +223,8 @@ module _ (p : Problem) (h : IsProblem p) where
     first = part_in-first p;
     moves = moves_kept p.moves;
     denominator = refl;
-    parts = parts_kept base_rows;
-    changes = record { keys = refl; rows = parts_kept (rows_in (map drift_change_of (drift_changes p))) };
+    parts = each_kept IsPermutation IsPermutation-refl base_rows;
+    changes = each_kept IsSameChange (λ change. (refl, refl, IsPermutation-refl change.row)) full_drift.changes;
     sweep = full_looks_said;
   }
 
@@ -268,8 +263,8 @@ module _ (p : Problem) (h : IsProblem p) where
   plain_row : (t c : ℕ) → c < p.cells → row_of plain_drift t c ≡ row_of p.drift 1 c
   plain_row t c inside = row_of-base plain_drift t c refl ∙ base_at c inside
 
-  base_right : (c : ℕ) → c < p.cells → IsDriftRow p.drift.denominator p.cells (parts_from base_rows c)
-  unfolding parts_from
+  base_right : (c : ℕ) → c < p.cells → IsDriftRow p.drift.denominator p.cells (row_at base_rows c)
+  unfolding row_at
   base_right c inside =
       rw (base_at c inside) (subst (λ (n : ℕ). IsDriftRow p.drift.denominator n (row_of p.drift 1 c)) h.drift_cells (h.drift.each 1 c (omega (arith, inside, h.drift_cells))))
 
@@ -325,8 +320,8 @@ module _ (p : Problem) (h : IsProblem p) where
       first = part_in-first p;
       moves = moves_kept p.moves;
       denominator = refl;
-      parts = parts_kept base_rows;
-      changes = record { keys = refl; rows = parts_kept [] };
+      parts = each_kept IsPermutation IsPermutation-refl base_rows;
+      changes = tt;
       sweep = refl;
     }
 

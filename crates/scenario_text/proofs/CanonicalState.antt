@@ -7,10 +7,9 @@ use Rattle.std.proofs.lemmas.List.Elements.{All-map, All-nil, All-weaker, All-fi
 use Rattle.std.proofs.lemmas.List.FromFn.{length-map-range_with_len, get_or-map-range_with_len}
 use Rattle.list_laws.proofs.Ascending.{Ascends-from_keys, count_at-le}
 use Rattle.list_laws.proofs.Sums.{sum_by-map}
-use Rattle.drift_chain.specs.declared.part.DriftPart.{DriftPart}
+use Rattle.period_rows.specs.declared.part.CellPart.{CellPart}
 use Rattle.drift_chain.specs.DriftRows.{row_of, IsDriftRow}
 use Rattle.search_grid.specs.Moves.{moves_from}
-use Rattle.sweep_table.specs.declared.part.LookPart.{LookPart}
 use Rattle.sweep_table.specs.LookParts.{look_row, factor_of}
 use Rattle.sweep_table.proofs.Factors.{factor_of-le}
 use Rattle.search_model.specs.Problem.{Problem, IsProblem}
@@ -35,7 +34,7 @@ none_passes test (x ∷ xs) each =
     rw head (none_passes test xs (All-tail (λ x. test x ≡ false) x xs each))
 
 -- a row in order, as entries
-entries_from : (denominator cells : ℕ) (es : List DriftPart) → IsDriftRow denominator cells es → AreEntries cells denominator es
+entries_from : (denominator cells : ℕ) (es : List CellPart) → IsDriftRow denominator cells es → AreEntries cells denominator es
 entries_from denominator cells es row = record {
   within = row.within;
   positive = row.positive;
@@ -44,7 +43,7 @@ entries_from denominator cells es row = record {
 }
 
 -- such a row isn't empty
-some_entry : (denominator cells : ℕ) (es : List DriftPart) → AreEntries cells denominator es → 1 ≤ denominator → length es ≢ 0
+some_entry : (denominator cells : ℕ) (es : List CellPart) → AreEntries cells denominator es → 1 ≤ denominator → length es ≢ 0
 some_entry denominator cells [] row low e = absurd (let total = row.total in omega (arith, total, low))
 some_entry denominator cells (x ∷ es) row low e = omega (arith, e)
 
@@ -59,13 +58,13 @@ module _ (p : Problem) (h : IsProblem p) where
       let row = kept p.sweep.denominator (look_row p.sweep t a) in
       let right = h.sweep.each t a in
       record {
-        within = All-map (λ (e : DriftPart). e.cell < p.cells) (λ (e : LookPart). record { cell = e.cell; part = e.part }) row (All-filter _ (λ (e : LookPart). e.cell < p.cells) (look_row p.sweep t a) (subst (λ (n : ℕ). All (λ (e : LookPart). e.cell < n) (look_row p.sweep t a)) h.sweep_cells right.within));
-        parts = All-map (λ (e : DriftPart). e.part ≤ p.sweep.denominator) (λ (e : LookPart). record { cell = e.cell; part = e.part }) row (All-filter _ (λ (e : LookPart). e.part ≤ p.sweep.denominator) (look_row p.sweep t a) right.parts);
-        once = λ d. let few = count_at-le (λ (e : LookPart). e.cell) d row (kept_rises p h t a) in omega (arith, few, counted d row);
+        within = All-map (λ (e : CellPart). e.cell < p.cells) (λ (e : CellPart). record { cell = e.cell; part = e.part }) row (All-filter _ (λ (e : CellPart). e.cell < p.cells) (look_row p.sweep t a) (subst (λ (n : ℕ). All (λ (e : CellPart). e.cell < n) (look_row p.sweep t a)) h.sweep_cells right.within));
+        parts = All-map (λ (e : CellPart). e.part ≤ p.sweep.denominator) (λ (e : CellPart). record { cell = e.cell; part = e.part }) row (All-filter _ (λ (e : CellPart). e.part ≤ p.sweep.denominator) (look_row p.sweep t a) right.parts);
+        once = λ d. let few = count_at-le (λ (e : CellPart). e.cell) d row (kept_rises p h t a) in omega (arith, few, counted d row);
       }
     where
-      counted : (d : ℕ) (row : List LookPart) → count_by (λ (e : DriftPart). e.cell == d) (map (λ (e : LookPart). record { cell = e.cell; part = e.part }) row) ≡ count_by (λ (e : LookPart). e.cell == d) row
-      counted d row = sum_by-map (λ (e : DriftPart). cond (e.cell == d) 1 0) (λ (e : LookPart). record { cell = e.cell; part = e.part }) row
+      counted : (d : ℕ) (row : List CellPart) → count_by (λ (e : CellPart). e.cell == d) (map (λ (e : CellPart). record { cell = e.cell; part = e.part }) row) ≡ count_by (λ (e : CellPart). e.cell == d) row
+      counted d row = sum_by-map (λ (e : CellPart). cond (e.cell == d) 1 0) (λ (e : CellPart). record { cell = e.cell; part = e.part }) row
 
   move_row : (q : ℕ) → q < length p.moves → AreMoves (length p.position_names) (get_or p.moves q [])
   move_row q inside =
@@ -81,9 +80,9 @@ module _ (p : Problem) (h : IsProblem p) where
   some_moves : list_any (λ (row : List ℕ). length row == 0) p.moves ≡ false
   some_moves = none_passes (λ (row : List ℕ). length row == 0) p.moves (All-weaker (AreMoves (length p.position_names)) (λ row. (length row == 0) ≡ false) (λ row are. ne_eqb (length row) 0 (λ e. omega (arith, e, are.some))) p.moves all_moves)
 
-  some_parts : list_any (λ (row : List DriftPart). length row == 0) (map (row_of p.drift 1) (range_with_len 0 p.cells)) ≡ false
+  some_parts : list_any (λ (row : List CellPart). length row == 0) (map (row_of p.drift 1) (range_with_len 0 p.cells)) ≡ false
   some_parts =
-      none_passes (λ (row : List DriftPart). length row == 0) (map (row_of p.drift 1) (range_with_len 0 p.cells))
+      none_passes (λ (row : List CellPart). length row == 0) (map (row_of p.drift 1) (range_with_len 0 p.cells))
       (All-weaker (AreEntries (length p.names) p.drift.denominator) (λ row. (length row == 0) ≡ false) (λ row are. ne_eqb (length row) 0 (some_entry p.drift.denominator (length p.names) row are h.drift.denominator.0)) (map (row_of p.drift 1) (range_with_len 0 p.cells)) all_parts)
 
   first_right : AreEntries (length p.names) p.total (first_entries p)
@@ -92,7 +91,7 @@ module _ (p : Problem) (h : IsProblem p) where
   pub full_sound : IsSound (full_state p)
   full_sound =
       let looks = map (λ a. Some (covered p 1 a)) (range_with_len 0 p.positions) in
-      let some_looks = none_passes (λ (o : Option (List DriftPart)). is_none o) looks (all_made (λ o. is_none o ≡ false) (λ a. Some (covered p 1 a)) p.positions (λ a inside. refl)) in
+      let some_looks = none_passes (λ (o : Option (List CellPart)). is_none o) looks (all_made (λ o. is_none o ≡ false) (λ a. Some (covered p 1 a)) p.positions (λ a inside. refl)) in
       record {
         settled = record { horizon = λ place. h.horizon; total = λ place. h.total; drift = λ place. h.drift.denominator; look = λ place. h.sweep.denominator };
         few = omega (arith, h.names.count, h.cells.1);

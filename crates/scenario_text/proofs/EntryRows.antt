@@ -9,7 +9,7 @@ use Rattle.exact_parts.specs.declared.number.Number.{Number}
 use Rattle.exact_parts.specs.declared.number.Number.TheVariants.{Of}
 use Rattle.exact_parts.specs.Decimal.{number_at}
 use Rattle.list_laws.proofs.Mapped.{list_any-map}
-use Rattle.drift_chain.specs.declared.part.DriftPart.{DriftPart}
+use Rattle.period_rows.specs.declared.part.CellPart.{CellPart}
 use Rattle.scenario_text.specs.declared.draft.Stage.TheVariants as due
 use Rattle.scenario_text.specs.declared.draft.Draft.{Draft}
 use Rattle.scenario_text.specs.declared.kind.TextKind.{TextKind}
@@ -53,7 +53,7 @@ module _ (names : List (List ℕ)) where
   unfolding pairs_of entries_in
   entries_alike [] = refl
   entries_alike (name ∷ []) = refl
-  entries_alike (name ∷ p ∷ fields) = ap (λ (es : List DriftPart). record { cell = unwrap_or (cell_named names name) 0; part = part p } ∷ es) (entries_alike fields)
+  entries_alike (name ∷ p ∷ fields) = ap (λ (es : List CellPart). record { cell = unwrap_or (cell_named names name) 0; part = part p } ∷ es) (entries_alike fields)
 
   pub sum_said : (fields : List (List ℕ)) → sum_by part (pair_parts fields) ≡ sum_by (λ e. e.part) (entries_in names fields)
   unfolding pair_parts entries_in
@@ -132,37 +132,37 @@ scanned names least fields scan bad over own rest after h goes =
 
 -- What follows the names of each row.
 
-abbrev pub first_after : State → ℕ → List DriftPart → Result State TextKind
+abbrev pub first_after : State → ℕ → List CellPart → Result State TextKind
 first_after s sum entries = cond (not (sum == s.total)) (Err WrongSum) (Ok (record s { stage = due.Rows; first = entries }))
 
-abbrev pub drift_after : State → Option ℕ → ℕ → List DriftPart → Result State TextKind
+abbrev pub drift_after : State → Option ℕ → ℕ → List CellPart → Result State TextKind
 drift_after s own sum entries =
     cond (holds_of own (has_parts s)) (Err DoubleRow) (cond (not (sum == s.drift)) (Err WrongSum) (Ok (record s { parts = set s.parts (unwrap_or own 0) entries })))
 
-abbrev pub drift_in_after : State → ℕ → Option ℕ → ℕ → List DriftPart → Result State TextKind
+abbrev pub drift_in_after : State → ℕ → Option ℕ → ℕ → List CellPart → Result State TextKind
 drift_in_after s t own sum entries =
     cond (holds_of own (has_period_row s.drift_rows t)) (Err DoubleRow) (cond (not (sum == s.drift)) (Err WrongSum) (Ok (record s { drift_rows = s.drift_rows ++ record { period = t; own = unwrap_or own 0; row = entries } ∷ [] })))
 
-abbrev pub look_after : State → Option ℕ → Bool → List DriftPart → Result State TextKind
+abbrev pub look_after : State → Option ℕ → Bool → List CellPart → Result State TextKind
 look_after s own over entries =
     cond (holds_of own (has_look s)) (Err DoubleRow) (cond over (Err PartOver) (Ok (record s { looks = set s.looks (unwrap_or own 0) (Some entries) })))
 
-abbrev pub look_in_after : State → ℕ → Option ℕ → Bool → List DriftPart → Result State TextKind
+abbrev pub look_in_after : State → ℕ → Option ℕ → Bool → List CellPart → Result State TextKind
 look_in_after s t own over entries =
     cond (holds_of own (has_period_row s.look_rows t)) (Err DoubleRow) (cond over (Err PartOver) (Ok (record s { look_rows = s.look_rows ++ record { period = t; own = unwrap_or own 0; row = entries } ∷ [] })))
 
 -- a sum, and a test, of entries that are those of the fields
-same_sum : (f : Option ℕ → ℕ → List DriftPart → Result State TextKind) (names fields : List (List ℕ)) (own : Option ℕ) (c : ℕ) (entries : List DriftPart) → own ≡ Some c → entries ≡ entries_in names fields → f own (sum_by part (pair_parts fields)) (entries_in names fields) ≡ f (Some c) (sum_by (λ e. e.part) entries) entries
+same_sum : (f : Option ℕ → ℕ → List CellPart → Result State TextKind) (names fields : List (List ℕ)) (own : Option ℕ) (c : ℕ) (entries : List CellPart) → own ≡ Some c → entries ≡ entries_in names fields → f own (sum_by part (pair_parts fields)) (entries_in names fields) ≡ f (Some c) (sum_by (λ e. e.part) entries) entries
 same_sum f names fields own c entries is same =
     ap (λ (o : Option ℕ). f o (sum_by part (pair_parts fields)) (entries_in names fields)) is
     ∙ ap (λ (n : ℕ). f (Some c) n (entries_in names fields)) (sum_said names fields)
-    ∙ ap (λ (es : List DriftPart). f (Some c) (sum_by (λ e. e.part) es) es) (sym same)
+    ∙ ap (λ (es : List CellPart). f (Some c) (sum_by (λ e. e.part) es) es) (sym same)
 
-same_test : (f : Option ℕ → Bool → List DriftPart → Result State TextKind) (g : ℕ) (names fields : List (List ℕ)) (own : Option ℕ) (c : ℕ) (entries : List DriftPart) → own ≡ Some c → entries ≡ entries_in names fields → f own (list_any (λ x. nat_lt g (part x)) (pair_parts fields)) (entries_in names fields) ≡ f (Some c) (list_any (λ e. nat_lt g e.part) entries) entries
+same_test : (f : Option ℕ → Bool → List CellPart → Result State TextKind) (g : ℕ) (names fields : List (List ℕ)) (own : Option ℕ) (c : ℕ) (entries : List CellPart) → own ≡ Some c → entries ≡ entries_in names fields → f own (list_any (λ x. nat_lt g (part x)) (pair_parts fields)) (entries_in names fields) ≡ f (Some c) (list_any (λ e. nat_lt g e.part) entries) entries
 same_test f g names fields own c entries is same =
     ap (λ (o : Option ℕ). f o (list_any (λ x. nat_lt g (part x)) (pair_parts fields)) (entries_in names fields)) is
     ∙ ap (λ (b : Bool). f (Some c) b (entries_in names fields)) (any_said names (nat_lt g) fields)
-    ∙ ap (λ (es : List DriftPart). f (Some c) (list_any (λ e. nat_lt g e.part) es) es) (sym same)
+    ∙ ap (λ (es : List CellPart). f (Some c) (list_any (λ e. nat_lt g e.part) es) es) (sym same)
 
 -- the last test of the numbers has no more to it
 over_last : (b o u d : Bool) (rest : Result State TextKind) → names_first b (o || false) u d rest ≡ names_first b o u d rest
@@ -228,39 +228,39 @@ module _ (s : State) (fields : List (List ℕ)) (scan : Scan) where
       ∙ scanned s.names 0 fields scan (is_bad 1 n) (is_over n) own rest after (seen_in s.names 0 fields scan seen) (λ c is same. same_test (look_in_after s (number_in n)) s.look s.names fields own c scan.entries.items is same))
 
 -- Fields without a fault among their numbers and names, and what they say.
-pub record AreSaid (names : List (List ℕ)) (least : ℕ) (fields : List (List ℕ)) (es : List DriftPart) : Type 0 where
+pub record AreSaid (names : List (List ℕ)) (least : ℕ) (fields : List (List ℕ)) (es : List CellPart) : Type 0 where
   pub bad : list_any (λ n. is_bad n.least (number_at n.most n.field)) (within least 1000000 (pair_parts fields)) ≡ false
   pub over : list_any (λ n. is_over (number_at n.most n.field)) (within least 1000000 (pair_parts fields)) ≡ false
   pub known : list_any (λ f. is_none (cell_named names f)) (pair_names fields) ≡ false
   pub once : stands_twice (pair_names fields) ≡ false
   pub entries : entries_in names fields ≡ es
 
-pub first_said : (s : State) (fields : List (List ℕ)) (es : List DriftPart) → are_pairs fields ≡ true → AreSaid s.names 1 fields es → sum_by (λ e. e.part) es ≡ s.total → row_at First s fields ≡ Ok (record s { stage = due.Rows; first = es })
+pub first_said : (s : State) (fields : List (List ℕ)) (es : List CellPart) → are_pairs fields ≡ true → AreSaid s.names 1 fields es → sum_by (λ e. e.part) es ≡ s.total → row_at First s fields ≡ Ok (record s { stage = due.Rows; first = es })
 first_said s fields es form h total =
-    let whole = eq-eqb (sum_by part (pair_parts fields)) s.total (sum_said s.names fields ∙ ap (λ (xs : List DriftPart). sum_by (λ e. e.part) xs) h.entries ∙ total) in
+    let whole = eq-eqb (sum_by part (pair_parts fields)) s.total (sum_said s.names fields ∙ ap (λ (xs : List CellPart). sum_by (λ e. e.part) xs) h.entries ∙ total) in
     rw (form, h.bad, h.over, h.known, h.once, whole, h.entries) refl
 
-pub drift_said : (s : State) (name : List ℕ) (c : ℕ) (fields : List (List ℕ)) (es : List DriftPart) → cell_named s.names name ≡ Some c → are_pairs fields ≡ true → AreSaid s.names 1 fields es → sum_by (λ e. e.part) es ≡ s.drift → slice_index_or s.parts c [] ≡ [] → row_at Drift s (name ∷ fields) ≡ Ok (record s { parts = set s.parts c es })
+pub drift_said : (s : State) (name : List ℕ) (c : ℕ) (fields : List (List ℕ)) (es : List CellPart) → cell_named s.names name ≡ Some c → are_pairs fields ≡ true → AreSaid s.names 1 fields es → sum_by (λ e. e.part) es ≡ s.drift → slice_index_or s.parts c [] ≡ [] → row_at Drift s (name ∷ fields) ≡ Ok (record s { parts = set s.parts c es })
 drift_said s name c fields es found form h total before =
-    let whole = eq-eqb (sum_by part (pair_parts fields)) s.drift (sum_said s.names fields ∙ ap (λ (xs : List DriftPart). sum_by (λ e. e.part) xs) h.entries ∙ total) in
+    let whole = eq-eqb (sum_by part (pair_parts fields)) s.drift (sum_said s.names fields ∙ ap (λ (xs : List CellPart). sum_by (λ e. e.part) xs) h.entries ∙ total) in
     rw (form, h.bad, h.over, found, h.known, h.once, before, whole, h.entries) refl
 
-pub drift_in_said : (s : State) (t name : List ℕ) (period c : ℕ) (fields : List (List ℕ)) (es : List DriftPart) → number_at (s.horizon - 1) t ≡ Of period → 1 ≤ period → cell_named s.names name ≡ Some c → are_pairs fields ≡ true → AreSaid s.names 1 fields es → sum_by (λ e. e.part) es ≡ s.drift → has_period_row s.drift_rows period c ≡ false
+pub drift_in_said : (s : State) (t name : List ℕ) (period c : ℕ) (fields : List (List ℕ)) (es : List CellPart) → number_at (s.horizon - 1) t ≡ Of period → 1 ≤ period → cell_named s.names name ≡ Some c → are_pairs fields ≡ true → AreSaid s.names 1 fields es → sum_by (λ e. e.part) es ≡ s.drift → has_period_row s.drift_rows period c ≡ false
     → row_at DriftIn s (t ∷ name ∷ fields) ≡ Ok (record s { drift_rows = s.drift_rows ++ record { period = period; own = c; row = es } ∷ [] })
 drift_in_said s t name period c fields es when some found form h total before =
-    let whole = eq-eqb (sum_by part (pair_parts fields)) s.drift (sum_said s.names fields ∙ ap (λ (xs : List DriftPart). sum_by (λ e. e.part) xs) h.entries ∙ total) in
+    let whole = eq-eqb (sum_by part (pair_parts fields)) s.drift (sum_said s.names fields ∙ ap (λ (xs : List CellPart). sum_by (λ e. e.part) xs) h.entries ∙ total) in
     let least = le-ltb period 1 some in
     rw (form, when, least, h.bad, h.over, found, h.known, h.once, before, whole, h.entries) refl
 
-pub look_said : (s : State) (name : List ℕ) (q : ℕ) (fields : List (List ℕ)) (es : List DriftPart) → cell_named (positions_in s) name ≡ Some q → are_even fields ≡ true → AreSaid s.names 0 fields es → list_any (λ e. nat_lt s.look e.part) es ≡ false → slice_index_or s.looks q None ≡ None → row_at Look s (name ∷ fields) ≡ Ok (record s { looks = set s.looks q (Some es) })
+pub look_said : (s : State) (name : List ℕ) (q : ℕ) (fields : List (List ℕ)) (es : List CellPart) → cell_named (positions_in s) name ≡ Some q → are_even fields ≡ true → AreSaid s.names 0 fields es → list_any (λ e. nat_lt s.look e.part) es ≡ false → slice_index_or s.looks q None ≡ None → row_at Look s (name ∷ fields) ≡ Ok (record s { looks = set s.looks q (Some es) })
 look_said s name q fields es found form h within before =
-    let below = any_said s.names (nat_lt s.look) fields ∙ ap (λ (xs : List DriftPart). list_any (λ e. nat_lt s.look e.part) xs) h.entries ∙ within in
+    let below = any_said s.names (nat_lt s.look) fields ∙ ap (λ (xs : List CellPart). list_any (λ e. nat_lt s.look e.part) xs) h.entries ∙ within in
     rw (form, h.bad, h.over, found, h.known, h.once, before, below, h.entries) refl
 
-pub look_in_said : (s : State) (t name : List ℕ) (period q : ℕ) (fields : List (List ℕ)) (es : List DriftPart) → number_at s.horizon t ≡ Of period → 1 ≤ period → cell_named (positions_in s) name ≡ Some q → are_even fields ≡ true → AreSaid s.names 0 fields es → list_any (λ e. nat_lt s.look e.part) es ≡ false → has_period_row s.look_rows period q ≡ false
+pub look_in_said : (s : State) (t name : List ℕ) (period q : ℕ) (fields : List (List ℕ)) (es : List CellPart) → number_at s.horizon t ≡ Of period → 1 ≤ period → cell_named (positions_in s) name ≡ Some q → are_even fields ≡ true → AreSaid s.names 0 fields es → list_any (λ e. nat_lt s.look e.part) es ≡ false → has_period_row s.look_rows period q ≡ false
     → row_at LookIn s (t ∷ name ∷ fields) ≡ Ok (record s { look_rows = s.look_rows ++ record { period = period; own = q; row = es } ∷ [] })
 look_in_said s t name period q fields es when some found form h within before =
-    let below = any_said s.names (nat_lt s.look) fields ∙ ap (λ (xs : List DriftPart). list_any (λ e. nat_lt s.look e.part) xs) h.entries ∙ within in
+    let below = any_said s.names (nat_lt s.look) fields ∙ ap (λ (xs : List CellPart). list_any (λ e. nat_lt s.look e.part) xs) h.entries ∙ within in
     let least = le-ltb period 1 some in
     rw (form, when, least, h.bad, h.over, found, h.known, h.once, before, below, h.entries) refl
 

@@ -3,7 +3,7 @@ use Rattle.std.proofs.Common.{◌≡◌, ℕ, ◌<◌, ◌≤◌, true, List, []
 use Rattle.std.specs.Prelude.{All}
 use Rattle.std.proofs.lemmas.Grind.{common_steps}
 use Rattle.std.proofs.lemmas.List.Elements.{All-head, All-tail}
-use Rattle.drift_chain.specs.declared.part.DriftPart.{DriftPart}
+use Rattle.period_rows.specs.declared.part.CellPart.{CellPart}
 use Rattle.search_model.specs.Names.{IsName, is_name_byte, name_in}
 use Rattle.scenario_text.specs.RowFields.{entry_fields}
 use Rattle.text_rows.specs.Fields.{is_field_byte}
@@ -22,7 +22,7 @@ module _ (names : List (List ℕ)) (cells : ℕ) (field : (c : ℕ) → c < cell
   AreFields-named cs within = AreFields-map (name_in names) (λ c. c < cells) field cs within
 
   -- the pairs of some entries
-  pub AreFields-entries : (es : List DriftPart) → All (λ e. e.cell < cells) es → All (λ e. e.part ≤ 1000000) es → AreFields (entry_fields names es)
+  pub AreFields-entries : (es : List CellPart) → All (λ e. e.cell < cells) es → All (λ e. e.part ≤ 1000000) es → AreFields (entry_fields names es)
   AreFields-entries [] within small = tt
   AreFields-entries (e ∷ es) within small = (
     field e.cell (All-head (λ e. e.cell < cells) e es within),

@@ -6,7 +6,7 @@ use Rattle.std.proofs.lemmas.Bool.{cases_eq, eq-eqb, ne_eqb}
 use Rattle.std.proofs.lemmas.List.Elements.{All-nil, All-cons, All-weaker}
 use Rattle.std.proofs.lemmas.List.FromFn.{fill_by_all}
 use Rattle.std.proofs.lemmas.List.Sums.{sum_by-cons, sum-map}
-use Rattle.drift_chain.specs.declared.part.DriftPart.{DriftPart}
+use Rattle.period_rows.specs.declared.part.CellPart.{CellPart}
 use Rattle.drift_chain.specs.DriftRows.{IsDriftRow, part_in}
 use Rattle.search_model.specs.Problem.{Problem, IsProblem, first_of}
 use Rattle.scenario_text.specs.Canonical.{first_entries}
@@ -15,11 +15,11 @@ use Rattle.list_laws.proofs.Pairs.{AllPairs-nil, AllPairs-cons}
 use Rattle.list_laws.proofs.Rising.{increasing_from_ascends}
 
 -- the entry of a number with a positive part
-abbrev entry_at : (ℕ → ℕ) → ℕ → List DriftPart
+abbrev entry_at : (ℕ → ℕ) → ℕ → List CellPart
 entry_at f c = if f c == 0 then [] else record { cell = c; part = f c } ∷ []
 
 -- entries from a up to b, with this sum
-record Enters (a b total : ℕ) (es : List DriftPart) : Type 0 where
+record Enters (a b total : ℕ) (es : List CellPart) : Type 0 where
   from : All (λ e. a ≤ e.cell) es
   upto : All (λ e. e.cell < b) es
   positive : All (λ e. 1 ≤ e.part) es
@@ -35,7 +35,7 @@ none_entered a b = record {
   total_is = refl;
 }
 
-one_more : (a b total part : ℕ) (es : List DriftPart) → a < b → 1 ≤ part → Enters (a + 1) b total es → Enters a b (part + total) (record { cell = a; part = part } ∷ es)
+one_more : (a b total part : ℕ) (es : List CellPart) → a < b → 1 ≤ part → Enters (a + 1) b total es → Enters a b (part + total) (record { cell = a; part = part } ∷ es)
 one_more a b total part es lt some h = record {
   from = All-cons (λ e. a ≤ e.cell) (record { cell = a; part = part }) es (omega arith) (All-weaker (λ e. a + 1 ≤ e.cell) (λ e. a ≤ e.cell) (λ e le. omega arith) es h.from);
   upto = All-cons (λ e. e.cell < b) (record { cell = a; part = part }) es lt h.upto;
@@ -44,7 +44,7 @@ one_more a b total part es lt some h = record {
   total_is = sum_by-cons (λ e. e.part) (record { cell = a; part = part }) es ∙ ap (λ (n : ℕ). part + n) h.total_is;
 }
 
-one_later : (a b total : ℕ) (es : List DriftPart) → Enters (a + 1) b total es → Enters a b total es
+one_later : (a b total : ℕ) (es : List CellPart) → Enters (a + 1) b total es → Enters a b total es
 one_later a b total es h = record {
   from = All-weaker (λ e. a + 1 ≤ e.cell) (λ e. a ≤ e.cell) (λ e le. omega arith) es h.from;
   upto = h.upto;
@@ -83,7 +83,7 @@ IsDriftRow-first p h =
 none_at : (a d v : ℕ) → v ≡ 0 → cond (eqb a d) v 0 ≡ 0
 none_at a d v none = elim (cases_eq a d) [ inl same ↦ rw (eq-eqb a d same) none | inr other ↦ rw (ne_eqb a d other) refl ]
 
-part_more : (f : ℕ → ℕ) (a d : ℕ) (es : List DriftPart) → part_in (entry_at f a ++ es) d ≡ cond (eqb a d) (f a) 0 + part_in es d
+part_more : (f : ℕ → ℕ) (a d : ℕ) (es : List CellPart) → part_in (entry_at f a ++ es) d ≡ cond (eqb a d) (f a) 0 + part_in es d
 unfolding part_in
 part_more f a d es =
     let more : sum_by (λ e. if e.cell == d then e.part else 0) (record { cell = a; part = f a } ∷ es) ≡ cond (eqb a d) (f a) 0 + part_in es d = sum_by-cons (λ e. if e.cell == d then e.part else 0) (record { cell = a; part = f a }) es in

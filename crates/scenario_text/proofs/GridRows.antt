@@ -9,7 +9,7 @@ use Rattle.std.proofs.lemmas.Nat.{mul-le}
 use Rattle.std.proofs.lemmas.List.{length-map, length-replicate, get_or-replicate}
 use Rattle.std.proofs.lemmas.List.Elements.{All-get_or}
 use Rattle.std.proofs.lemmas.List.FromFn.{fill_by_all, length-map-range_with_len}
-use Rattle.drift_chain.specs.declared.part.DriftPart.{DriftPart}
+use Rattle.period_rows.specs.declared.part.CellPart.{CellPart}
 use Rattle.search_grid.specs.Moves.{IsMoveRow}
 use Rattle.search_grid.specs.Sides.{moves_beside, side_moves}
 use Rattle.search_grid.proofs.Beside.{IsGrid-from_sides, side_moves_from, length-side_moves}
@@ -65,7 +65,7 @@ no_elements (x ∷ xs) n long none = absurd (omega (arith, long, none))
 -- The cells.
 
 -- a state with these cells, none of which has a row
-abbrev with_names : State → Stage → Bool → List (List ℕ) → List (List ℕ) → List (List DriftPart) → List (Option ℕ) → State
+abbrev with_names : State → Stage → Bool → List (List ℕ) → List (List ℕ) → List (List CellPart) → List (Option ℕ) → State
 with_names s stage gridded names moves parts overlook = record s { stage = stage; gridded = gridded; names = names; moves = moves; parts = parts; overlook = overlook }
 
 -- the first k cells of a grid were named
@@ -95,7 +95,7 @@ none_yet s cols h one at none =
     unset false h = refl
 
 next_name : (s : State) (cols k : ℕ) → s.version ≡ One → with_name (after_names s cols k) (grid_name cols k) ≡ after_names s cols (k + 1)
-next_name s cols k one = rw (one, next_of (grid_name cols) k (grid_name cols k) refl, next_of {X = List ℕ} (λ c. []) k [] refl, next_of {X = List DriftPart} (λ c. []) k [] refl, next_of {X = Option ℕ} (λ c. None) k None refl) refl
+next_name s cols k one = rw (one, next_of (grid_name cols) k (grid_name cols k) refl, next_of {X = List ℕ} (λ c. []) k [] refl, next_of {X = List CellPart} (λ c. []) k [] refl, next_of {X = Option ℕ} (λ c. None) k None refl) refl
 
 cell_begins : (version : TextVersion) (named : Bool) → line_due version due.Cells named (codes "cell") ≡ Some Cell
 cell_begins One named = refl
@@ -114,7 +114,7 @@ Takes-grid_name s cols k one some few =
 
 all_named : (s : State) (rows cols : ℕ) → after_names s cols (rows * cols) ≡ plain (with_cells s rows cols) (replicate (rows * cols) [])
 all_named s rows cols =
-    rw (same_to {X = List ℕ} [] (rows * cols), same_to {X = List DriftPart} [] (rows * cols), same_to {X = Option ℕ} None (rows * cols)) refl
+    rw (same_to {X = List ℕ} [] (rows * cols), same_to {X = List CellPart} [] (rows * cols), same_to {X = Option ℕ} None (rows * cols)) refl
 
 cells_read : (s : State) (rows cols : ℕ) → IsSound s → s.version ≡ One → s.stage ≡ due.Cells → s.names ≡ [] → 1 ≤ cols → rows * cols ≤ 200 → AreTaken s (for_each (rows * cols) (λ c. cell_row (grid_name cols c))) (plain (with_cells s rows cols) (replicate (rows * cols) []))
 cells_read s rows cols h one at none some few =
@@ -182,7 +182,7 @@ start_alike a a' moves line one at some e = elim (read_fields a a' line e) [
 ]
 
 -- the first parts behind either
-first_fields : (a a' : State) (moves : List (List ℕ)) (fields : List (List ℕ)) → a.stage ≡ due.First → fields_at a fields ≡ Ok a' → (es : List DriftPart) × (a' ≡ record a { stage = due.Rows; first = es }) × (fields_at (record a { gridded = false; moves = moves }) fields ≡ Ok (record a { gridded = false; moves = moves; stage = due.Rows; first = es }))
+first_fields : (a a' : State) (moves : List (List ℕ)) (fields : List (List ℕ)) → a.stage ≡ due.First → fields_at a fields ≡ Ok a' → (es : List CellPart) × (a' ≡ record a { stage = due.Rows; first = es }) × (fields_at (record a { gridded = false; moves = moves }) fields ≡ Ok (record a { gridded = false; moves = moves; stage = due.Rows; first = es }))
 first_fields a a' moves [] at e = absurd (err_ok BadLine a' e)
 first_fields a a' moves (key ∷ fields) at e =
     let b = record a { gridded = false; moves = moves } in
@@ -191,7 +191,7 @@ first_fields a a' moves (key ∷ fields) at e =
     let here : line_due a.version a.stage (nat_lt 0 (length a.names)) key ≡ Some First = ap (λ (g : Stage). line_due a.version g (nat_lt 0 (length a.names)) key) at ∙ passing _ _ _ is.0 in
     (entries_in a.names fields, sym made.0, begins b key fields First here ∙ made.1)
 
-first_alike : (a a' : State) (moves : List (List ℕ)) (line : List ℕ) → a.stage ≡ due.First → line_at a line ≡ Ok a' → (a' ≡ a) ⊎ ((es : List DriftPart) × (a' ≡ record a { stage = due.Rows; first = es }) × (line_at (record a { gridded = false; moves = moves }) line ≡ Ok (record a { gridded = false; moves = moves; stage = due.Rows; first = es })))
+first_alike : (a a' : State) (moves : List (List ℕ)) (line : List ℕ) → a.stage ≡ due.First → line_at a line ≡ Ok a' → (a' ≡ a) ⊎ ((es : List CellPart) × (a' ≡ record a { stage = due.Rows; first = es }) × (line_at (record a { gridded = false; moves = moves }) line ≡ Ok (record a { gridded = false; moves = moves; stage = due.Rows; first = es })))
 first_alike a a' moves line at e = elim (read_fields a a' line e) [
   | inl silent ↦ inl silent
   | inr said ↦

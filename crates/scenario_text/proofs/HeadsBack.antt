@@ -9,7 +9,7 @@ use Rattle.std.proofs.lemmas.List.{take_more, take_all, get_or-take, length-take
 use Rattle.std.proofs.lemmas.List.Elements.{All-get_or}
 use Rattle.std.proofs.lemmas.List.Sums.{get_or-le-sum_by}
 use Rattle.exact_parts.proofs.Decimals.{number_at-decimal}
-use Rattle.drift_chain.specs.declared.part.DriftPart.{DriftPart}
+use Rattle.period_rows.specs.declared.part.CellPart.{CellPart}
 use Rattle.list_laws.proofs.Firsts.{position-none}
 use Rattle.search_grid.specs.Moves.{moves_from}
 use Rattle.search_model.specs.Names.{IsName, IsRepeated, is_name_byte, name_in}
@@ -84,7 +84,7 @@ module _ (s : State) (h : IsSound s) (ended : s.stage ≡ due.Ended) (ungridded 
   first_entries : AreEntries (length s.names) s.total s.first
   first_entries = h.first (reached s.stage due.Ended 5 ended (omega arith))
 
-  some_first : (es : List DriftPart) → AreEntries (length s.names) s.total es → 0 < length es
+  some_first : (es : List CellPart) → AreEntries (length s.names) s.total es → 0 < length es
   some_first [] are = absurd (let total = are.total in omega (arith, total, total_limits.0))
   some_first (e ∷ es) are = omega arith
 
@@ -121,7 +121,7 @@ module _ (s : State) (h : IsSound s) (ended : s.stage ≡ due.Ended) (ungridded 
       Reads-row (before_start stage) before_first s _ _ (Takes-start stage here) (λ e. cc) (Reads-row before_first (before_rows s h ended) s _ _ Takes-first (λ e. cc) (Reads-moves s h ended))
 
   -- The names.
-  abbrev head_at : Stage → TextVersion → List (List ℕ) → List (List ℕ) → List (List ℕ) → List (List DriftPart) → List (Option ℕ) → List (Option (List DriftPart)) → State
+  abbrev head_at : Stage → TextVersion → List (List ℕ) → List (List ℕ) → List (List ℕ) → List (List CellPart) → List (Option ℕ) → List (Option (List CellPart)) → State
   head_at stage version names positions moves parts overlook looks =
       record blank_state { stage = stage; version = version; horizon = s.horizon; total = s.total; drift = s.drift; look = s.look; names = names; positions = positions; moves = moves; parts = parts; overlook = overlook; looks = looks }
 
@@ -129,13 +129,13 @@ module _ (s : State) (h : IsSound s) (ended : s.stage ≡ due.Ended) (ungridded 
   head_is : (stage : Stage) → before_start stage ≡ head_at stage s.version s.names s.positions (blanks [] (length s.moves)) (blanks [] (length s.parts)) (blanks None (length s.overlook)) (blanks None (length s.looks))
   head_is stage =
       let moves = none_filled (moves_from s.moves) [] (length s.moves) in
-      rw (ungridded, moves, none_filled {X = List DriftPart} _ [] (length s.parts), none_filled {X = Option ℕ} _ None (length s.overlook), none_filled {X = Option (List DriftPart)} _ None (length s.looks)) refl
+      rw (ungridded, moves, none_filled {X = List CellPart} _ [] (length s.parts), none_filled {X = Option ℕ} _ None (length s.overlook), none_filled {X = Option (List CellPart)} _ None (length s.looks)) refl
 
   some_cells : (version : TextVersion) → s.version ≡ version → 0 < length s.names
   some_cells One e = let start = start_within in let here : length (positions_in s) ≡ length s.names = ap (λ (v : TextVersion). length (by_version v s.names s.positions)) e in omega (arith, start, here)
   some_cells Two e = some_of s.first first_entries
     where
-      some_of : (es : List DriftPart) → AreEntries (length s.names) s.total es → 0 < length s.names
+      some_of : (es : List CellPart) → AreEntries (length s.names) s.total es → 0 < length s.names
       some_of [] are = absurd (let total = are.total in omega (arith, total, total_limits.0))
       some_of (e ∷ es) are = let lt = are.within 0 e (omega arith) in omega (arith, lt)
 
@@ -152,7 +152,7 @@ module _ (s : State) (h : IsSound s) (ended : s.stage ≡ due.Ended) (ungridded 
   Takes-cell_one : (k : ℕ) → k < length s.names → Takes (cells_one k) (cell_row (name_in s.names k)) (cells_one (k + 1))
   Takes-cell_one k lt =
       let long : length (take k s.names) ≡ k = length-take-le k s.names (omega (arith, lt)) in
-      let next : with_name (cells_one k) (name_in s.names k) ≡ cells_one (k + 1) = rw (sym (take_more s.names k [] lt), next_of {X = List ℕ} (λ c. []) k [] refl, next_of {X = List DriftPart} (λ c. []) k [] refl, next_of {X = Option ℕ} (λ c. None) k None refl) refl in
+      let next : with_name (cells_one k) (name_in s.names k) ≡ cells_one (k + 1) = rw (sym (take_more s.names k [] lt), next_of {X = List ℕ} (λ c. []) k [] refl, next_of {X = List CellPart} (λ c. []) k [] refl, next_of {X = Option ℕ} (λ c. None) k None refl) refl in
       record {
         fields = (word (codes "cell") (omega arith) refl, (IsField-name (name_in s.names k) (IsName-at k lt), tt));
         says = refl;
@@ -181,7 +181,7 @@ module _ (s : State) (h : IsSound s) (ended : s.stage ≡ due.Ended) (ungridded 
   Takes-cell_two : (k : ℕ) → k < length s.names → Takes (cells_two k) (cell_row (name_in s.names k)) (cells_two (k + 1))
   Takes-cell_two k lt =
       let long : length (take k s.names) ≡ k = length-take-le k s.names (omega (arith, lt)) in
-      let next : with_name (cells_two k) (name_in s.names k) ≡ cells_two (k + 1) = rw (sym (take_more s.names k [] lt), next_of {X = List DriftPart} (λ c. []) k [] refl) refl in
+      let next : with_name (cells_two k) (name_in s.names k) ≡ cells_two (k + 1) = rw (sym (take_more s.names k [] lt), next_of {X = List CellPart} (λ c. []) k [] refl) refl in
       record {
         fields = (word (codes "cell") (omega arith) refl, (IsField-name (name_in s.names k) (IsName-at k lt), tt));
         says = refl;
@@ -196,7 +196,7 @@ module _ (s : State) (h : IsSound s) (ended : s.stage ≡ due.Ended) (ungridded 
       let long : length (take j s.positions) ≡ j = length-take-le j s.positions (omega (arith, lt)) in
       let name : IsName (name_in s.positions j) = All-get_or IsName s.positions j [] lt h.positions.names in
       let behind = ne_eqb (j + 1) 0 (λ e. omega (arith, e)) in
-      let next : with_position (placed j) (name_in s.positions j) ≡ placed (j + 1) = rw (sym (take_more s.positions j [] lt), next_of {X = List ℕ} (λ c. []) j [] refl, next_of {X = Option (List DriftPart)} (λ c. None) j None refl, behind) refl in
+      let next : with_position (placed j) (name_in s.positions j) ≡ placed (j + 1) = rw (sym (take_more s.positions j [] lt), next_of {X = List ℕ} (λ c. []) j [] refl, next_of {X = Option (List CellPart)} (λ c. None) j None refl, behind) refl in
       let some = lt-ltb 0 (length s.names) (some_cells Two two) in
       let here : line_due Two (stage_after j) (nat_lt 0 (length s.names)) (codes "position") ≡ Some Position = rw some (position_begins (j == 0)) in
       record {

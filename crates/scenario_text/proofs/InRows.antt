@@ -8,7 +8,7 @@ use Rattle.std.proofs.lemmas.List.{length-replicate, get_or-replicate}
 use Rattle.std.proofs.lemmas.List.Elements.{All-get_or}
 use Rattle.std.proofs.lemmas.List.FromFn.{fill_by_all, get_or-map-range_with_len}
 use Rattle.std.proofs.lemmas.List.Sums.{sum_by-cons, get_or-le-sum_by}
-use Rattle.drift_chain.specs.declared.part.DriftPart.{DriftPart}
+use Rattle.period_rows.specs.declared.part.CellPart.{CellPart}
 use Rattle.search_grid.specs.Moves.{moves_from}
 use Rattle.search_model.specs.Names.{IsName, name_in}
 use Rattle.scenario_text.specs.declared.draft.Stage.{Stage}
@@ -157,17 +157,17 @@ once_differ (c ∷ cs) once =
     let fewer : (d : ℕ) → count_by (λ m. m == d) cs ≤ 1 = λ d. let next = sum_by-cons (λ m. cond (m == d) 1 0) c cs in let most = once d in omega (arith, next, most) in
     rw alone (once_differ cs fewer)
 
-some_of : (cells denominator : ℕ) (es : List DriftPart) → AreEntries cells denominator es → 1 ≤ denominator → 0 < length es
+some_of : (cells denominator : ℕ) (es : List CellPart) → AreEntries cells denominator es → 1 ≤ denominator → 0 < length es
 some_of cells denominator [] are low = absurd (omega (arith, are.total))
 some_of cells denominator (e ∷ es) are low = omega arith
 
-small_of : (cells denominator most : ℕ) (es : List DriftPart) → AreEntries cells denominator es → denominator ≤ most → All (λ e. e.part ≤ most) es
+small_of : (cells denominator most : ℕ) (es : List CellPart) → AreEntries cells denominator es → denominator ≤ most → All (λ e. e.part ≤ most) es
 small_of cells denominator most es are le = λ i d lt. omega (arith, get_or-le-sum_by (λ e. e.part) es i d lt, are.total)
 
-none_there : (rows : List (List DriftPart)) → list_any (λ row. nat_lt 0 (length row)) rows ≡ false → (k : ℕ) → k < length rows → get_or rows k [] ≡ []
+none_there : (rows : List (List CellPart)) → list_any (λ row. nat_lt 0 (length row)) rows ≡ false → (k : ℕ) → k < length rows → get_or rows k [] ≡ []
 none_there rows none k lt = empty_of (get_or rows k []) (none_pass (λ row. nat_lt 0 (length row)) rows none k [] lt)
   where
-    empty_of : (row : List DriftPart) → nat_lt 0 (length row) ≡ false → row ≡ []
+    empty_of : (row : List CellPart) → nat_lt 0 (length row) ≡ false → row ≡ []
     empty_of [] e = refl
     empty_of (x ∷ xs) e = absurd (let le = ltb-false 0 (length (x ∷ xs)) e in omega (arith, le))
 
@@ -197,13 +197,13 @@ spread_in_rows s t part came at few e =
     let gridded = not_refused (not s.gridded) _ _ t told in
     let new = not_refused (list_any (λ row. nat_lt 0 (length row)) s.parts) _ _ t gridded.1 in
     let narrow = not_refused (list_any (λ row. nat_lt s.drift (part * (length row - 1))) s.moves) _ _ t new.1 in
-    let of : ℕ → List DriftPart = λ c. spread_row s.drift part c (moves_from s.moves c) in
+    let of : ℕ → List CellPart = λ c. spread_row s.drift part c (moves_from s.moves c) in
     let after : ℕ → State = λ k. record s { parts = filled of [] n k } in
     let row : ℕ → List (List ℕ) = λ c. drift_of s.names c (of c) in
-    let first : s ≡ after 0 = ap (λ (xs : List (List DriftPart)). record s { parts = xs }) (filled-none of [] n s.parts h.parts_length (λ k lt. none_there s.parts new.0 k (omega (arith, lt, h.parts_length)))) in
+    let first : s ≡ after 0 = ap (λ (xs : List (List CellPart)). record s { parts = xs }) (filled-none of [] n s.parts h.parts_length (λ k lt. none_there s.parts new.0 k (omega (arith, lt, h.parts_length)))) in
     let long : map of (range_with_len 0 (length s.moves)) ≡ filled of [] n n = ap (λ (m : ℕ). map of (range_with_len 0 m)) (cell_moves s h one) ∙ sym (filled-all of [] n) in
     let made : record s { parts = spread_rows s.drift part s.moves } ≡ t = cc in
-    let last : after n ≡ t = ap (λ (xs : List (List DriftPart)). record s { parts = xs }) (sym long) ∙ made in
+    let last : after n ≡ t = ap (λ (xs : List (List CellPart)). record s { parts = xs }) (sym long) ∙ made in
     let takes : (k : ℕ) → k < n → Takes (after k) (row k) (after (k + 1)) = λ k lt.
     let found = named_at s.names h.differ k lt in
     let are = spread_entries s part h one (not-false _ gridded.0) narrow.0 k lt in
@@ -215,7 +215,7 @@ spread_in_rows s t part came at few e =
       says = refl;
       taken = begins (after k) (codes "drift") _ Drift (row_begins (after k) (codes "drift") Drift one at refl)
           ∙ drift_said (after k) (name_in s.names k) k (entry_fields s.names (of k)) (of k) found even (AreSaid-named s.names n (named_at s.names h.differ) 1 (of k) are.within small are.positive differ) are.total (filled-open of [] n k lt)
-          ∙ ap (λ (xs : List (List DriftPart)). Ok (record s { parts = xs })) (filled-next of [] n k lt);
+          ∙ ap (λ (xs : List (List CellPart)). Ok (record s { parts = xs })) (filled-next of [] n k lt);
     } in
     subst (λ (u : State). AreTaken u (for_each n row) t) (sym first)
     (subst (AreTaken (after 0) (for_each n row)) last (taken_range n 0 n row after (omega arith) takes (λ k. unended_rows s.stage at)))

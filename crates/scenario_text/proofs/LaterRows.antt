@@ -4,7 +4,7 @@ use Rattle.std.specs.Prelude.{◌==◌, ◌&&◌}
 use Rattle.std.specs.List.{find}
 use Rattle.std.specs.Option.{option_map_or}
 use Rattle.std.proofs.lemmas.Bool.{cases_lt, eq-eqb, ne_eqb, and_left, and_right}
-use Rattle.drift_chain.specs.declared.part.DriftPart.{DriftPart}
+use Rattle.period_rows.specs.declared.part.CellPart.{CellPart}
 use Rattle.scenario_text.specs.State.{PeriodRow}
 use Rattle.scenario_text.specs.Canonical.{is_same_row, other_rows, later_rows}
 use Rattle.scenario_text.specs.Sound.{ArePeriodRows}
@@ -15,7 +15,7 @@ use Rattle.list_laws.proofs.Joined.{find_none, find_at, count_none, count_at, al
 abbrev pub is_row_of : ℕ → ℕ → PeriodRow → Bool
 is_row_of t c r = (r.period == t) && (r.own == c)
 
-module _ (row : ℕ → ℕ → List DriftPart) (owners last : ℕ) where
+module _ (row : ℕ → ℕ → List CellPart) (owners last : ℕ) where
   abbrev entry : ℕ → ℕ → PeriodRow
   entry t c = record { period = t; own = c; row = row t c }
 
@@ -88,7 +88,7 @@ module _ (row : ℕ → ℕ → List DriftPart) (owners last : ℕ) where
       all_joined (entries t) Q owners 0 (λ c from inside. all_one (entry t c) Q (is_same_row (row t c) (row 1 c)) (each t c low (omega (arith, low, high)) (omega (arith, inside)))))
 
   -- they are rows of one period each, no two for the same
-  pub are_period_rows : (IsRow : List DriftPart → Type 0) → ((t c : ℕ) → c < owners → IsRow (row t c)) → ArePeriodRows last owners IsRow (later_rows row owners last)
+  pub are_period_rows : (IsRow : List CellPart → Type 0) → ((t c : ℕ) → c < owners → IsRow (row t c)) → ArePeriodRows last owners IsRow (later_rows row owners last)
   are_period_rows IsRow right = record {
     periods = all_later (λ r. (1 ≤ r.period) × (r.period ≤ last)) (λ t c low high inside. (omega (arith, low), high));
     within = all_later (λ r. r.own < owners) (λ t c low high inside. inside);

@@ -1,20 +1,21 @@
 -- A text that reads spells one scenario.
 use Rattle.std.proofs.Common.{◌≡◌, ℕ, zero, suc, add-one, ◌+◌, ◌<◌, ◌≤◌, List, [], ◌∷◌, map, length, get_or, set, replicate, Result, Ok, Err, refl, sym, ap, ◌∙◌, subst, arith}
 use Rattle.std.specs.Prelude.{◌-◌, sum_by, unwrap_or}
-use Rattle.std.specs.List.{range_with_len}
+use Rattle.std.specs.List.{range_with_len, AllZip}
 use Rattle.std.specs.List.Sorted.{IsPermutation}
-use Rattle.std.proofs.lemmas.List.{take_all}
+use Rattle.std.proofs.lemmas.List.{get_or_default, take_all}
 use Rattle.std.proofs.lemmas.List.FromFn.{length-map-range_with_len, get_or-map-range_with_len}
-use Rattle.drift_chain.specs.declared.part.DriftPart.{DriftPart}
-use Rattle.drift_chain.specs.DriftRows.{DriftRowChange, drift_over, drift_with, part_in, IsDriftRow, IsDrift}
-use Rattle.drift_chain.specs.Faults.{parts_from, HasSameParts}
-use Rattle.drift_chain.specs.ChangeFaults.{AreRight, AreSameChanges}
+use Rattle.period_rows.specs.declared.part.CellPart.{CellPart}
+use Rattle.list_laws.proofs.Matched.{AllZip-from_places}
+use Rattle.period_rows.specs.Changes.{RowChange, IsSameChange, AreChanges, HaveRows}
+use Rattle.drift_chain.specs.DriftRows.{drift_over, drift_with, part_in, IsDriftRow, IsDrift}
+use Rattle.period_rows.specs.Rows.{row_at}
 use Rattle.drift_chain.proofs.Drifts.{IsDrift-from_rows}
 use Rattle.drift_chain.proofs.DriftChanges.{IsDrift-from_changes}
 use Rattle.search_grid.specs.Moves.{moves_from, IsMoveRow, IsGrid}
 use Rattle.search_grid.specs.Faults.{HasSameMoves}
-use Rattle.sweep_table.specs.LookParts.{LookParts, looks_over, parts_over, IsSweep}
-use Rattle.sweep_table.specs.Changes.{with_changes, HaveRightRows}
+use Rattle.sweep_table.specs.LookParts.{LookParts, looks_over, parts_over, IsSweep, IsLookRow}
+use Rattle.sweep_table.specs.Changes.{with_changes}
 use Rattle.sweep_table.proofs.Changed.{IsSweep-with_changes, ascending_from_right}
 use Rattle.search_model.specs.Problem.{Problem}
 use Rattle.scenario_text.specs.declared.draft.Stage.{Stage}
@@ -76,13 +77,13 @@ module _ (s : State) (h : IsSound s) (ended : s.stage ≡ due.Ended) where
   moves_row : ℕ → List ℕ
   moves_row q = in_order (λ m. m) (moves_from s.moves q)
 
-  drift_row : ℕ → List DriftPart
-  drift_row c = cells_in_order (parts_from s.parts c)
+  drift_row : ℕ → List CellPart
+  drift_row c = cells_in_order (row_at s.parts c)
 
   all_moves : List (List ℕ)
   all_moves = map moves_row (range_with_len 0 positions)
 
-  all_parts : List (List DriftPart)
+  all_parts : List (List CellPart)
   all_parts = map drift_row (range_with_len 0 cells)
 
   long_moves : length all_moves ≡ positions
@@ -97,15 +98,15 @@ module _ (s : State) (h : IsSound s) (ended : s.stage ≡ due.Ended) where
   unfolding all_moves moves_from
   moves_in q lt = get_or-map-range_with_len moves_row 0 positions q q [] lt (omega arith)
 
-  parts_in : (c : ℕ) → c < cells → parts_from all_parts c ≡ drift_row c
-  unfolding all_parts parts_from
+  parts_in : (c : ℕ) → c < cells → row_at all_parts c ≡ drift_row c
+  unfolding all_parts row_at
   parts_in c lt = get_or-map-range_with_len drift_row 0 cells c c [] lt (omega arith)
 
   moves_given : (q : ℕ) → q < positions → AreMoves positions (moves_from s.moves q)
   unfolding positions
   moves_given q lt = moves_of s h ended q (omega (arith, lt, h.moves_length))
 
-  parts_given : (c : ℕ) → c < cells → AreEntries cells s.drift (parts_from s.parts c)
+  parts_given : (c : ℕ) → c < cells → AreEntries cells s.drift (row_at s.parts c)
   unfolding cells
   parts_given c lt = parts_at s h ended c (omega (arith, lt, h.parts_length))
 
@@ -116,12 +117,12 @@ module _ (s : State) (h : IsSound s) (ended : s.stage ≡ due.Ended) where
     moves = λ q lt. subst (IsPermutation (moves_from s.moves q)) (sym (moves_in q (omega (arith, lt, h.moves_length)))) (in_order_same (λ m. m) (moves_from s.moves q));
   }
 
-  same_parts : HasSameParts s.parts all_parts
-  unfolding cells drift_row
-  same_parts = record {
-    cells = long_parts ∙ sym h.parts_length;
-    parts = λ c lt. subst (IsPermutation (parts_from s.parts c)) (sym (parts_in c (omega (arith, lt, h.parts_length)))) (in_order_same (λ e. e.cell) (parts_from s.parts c));
-  }
+  same_parts : AllZip IsPermutation s.parts all_parts
+  unfolding all_parts row_at
+  same_parts = AllZip-from_places IsPermutation s.parts all_parts (long_parts ∙ sym h.parts_length) (λ c d lt.
+      let there : c < length all_parts = omega (arith, lt, h.parts_length, long_parts) in
+      rw (get_or_default s.parts c d [] lt, get_or_default all_parts c d [] there)
+      (subst (IsPermutation (row_at s.parts c)) (sym (parts_in c (omega (arith, lt, h.parts_length)))) (in_order_same (λ e. e.cell) (row_at s.parts c))))
 
   right_moves : (q : ℕ) → q < positions → IsMoveRow positions (moves_row q)
   unfolding moves_row
@@ -129,7 +130,7 @@ module _ (s : State) (h : IsSound s) (ended : s.stage ≡ due.Ended) where
 
   right_parts : (c : ℕ) → c < cells → IsDriftRow s.drift cells (drift_row c)
   unfolding drift_row
-  right_parts c lt = entries_in_order cells s.drift (parts_from s.parts c) (parts_given c lt)
+  right_parts c lt = entries_in_order cells s.drift (row_at s.parts c) (parts_given c lt)
 
   grid : IsGrid all_moves
   unfolding positions
@@ -143,25 +144,30 @@ module _ (s : State) (h : IsSound s) (ended : s.stage ≡ due.Ended) where
   base =
       IsDrift-from_rows s.drift all_parts cells (sym long_parts) (drift_limits s h ended) (some_cell s h ended, h.few) (λ c lt. subst (IsDriftRow s.drift cells) (sym (parts_in c lt)) (right_parts c lt))
 
-  all_steps : List DriftRowChange
+  all_steps : List RowChange
   all_steps = map drifts.change_in_order s.drift_rows
 
-  right_steps : AreRight s.drift (length all_parts) all_steps
+  right_steps : AreChanges 31 (length all_parts) all_steps
   unfolding all_steps cells
-  right_steps = subst (λ (n : ℕ). AreRight s.drift n (map drifts.change_in_order s.drift_rows)) (sym long_parts) (drifts.right_in_order s.drift (length s.names) (s.horizon - 1) s.drift_rows h.changes.drifts (few_steps s h ended))
+  right_steps = subst (λ (n : ℕ). AreChanges 31 n (map drifts.change_in_order s.drift_rows)) (sym long_parts) (drifts.changes_right s.drift (length s.names) (s.horizon - 1) s.drift_rows h.changes.drifts (few_steps s h ended))
 
-  same_steps : AreSameChanges (map drift_change_of s.drift_rows) all_steps
+  right_step_rows : HaveRows (IsDriftRow s.drift (length all_parts)) all_steps
+  unfolding all_steps cells
+  right_step_rows =
+      subst (λ (n : ℕ). HaveRows (IsDriftRow s.drift n) (map drifts.change_in_order s.drift_rows)) (sym long_parts) (drifts.rows_right s.drift (length s.names) (s.horizon - 1) s.drift_rows h.changes.drifts (few_steps s h ended))
+
+  same_steps : AllZip IsSameChange (map drift_change_of s.drift_rows) all_steps
   unfolding all_steps
   same_steps = drifts.same_in_order s.drift (length s.names) (s.horizon - 1) s.drift_rows h.changes.drifts (few_steps s h ended)
 
   drift : IsDrift (drift_with (drift_over s.drift all_parts) all_steps)
-  drift = IsDrift-from_changes (drift_over s.drift all_parts) all_steps base refl right_steps
+  drift = IsDrift-from_changes (drift_over s.drift all_parts) all_steps base refl right_steps right_step_rows
 
   -- The looks.
   prints : LookParts
   prints = with_changes (looks_over s.look cells (map looks.row_in_order s.looks)) (map looks.change_in_order s.look_rows)
 
-  changes_right_here : HaveRightRows s.look (length s.names) (map looks.change_in_order s.look_rows)
+  changes_right_here : HaveRows (IsLookRow s.look (length s.names)) (map looks.change_in_order s.look_rows)
   changes_right_here = looks.changes_right s.look (length s.names) (length (positions_in s)) s.horizon s.look_rows h.changes.looks (omega (arith, horizon_limits s h ended))
 
   prints_right : s.version ≡ Two → IsSweep prints
@@ -192,7 +198,7 @@ module _ (s : State) (h : IsSound s) (ended : s.stage ≡ due.Ended) where
   unfolding cells
   placed zero le = (replicate cells 0, Placed-none cells s.first)
   placed (suc i) le =
-      let nothing : DriftPart = record { cell = 0; part = 0 } in
+      let nothing : CellPart = record { cell = 0; part = 0 } in
       let so_far = placed i (omega arith) in
       let entry = get_or s.first i nothing in
       let more = Placed-more cells (first_entries s h ended).0 s.first (first_entries s h ended).1 i nothing (omega arith) so_far.0 so_far.1 in
@@ -226,8 +232,8 @@ module _ (s : State) (h : IsSound s) (ended : s.stage ≡ due.Ended) where
         start = refl;
         total = refl;
         first_cells = first.1.cells_are;
-        first = λ c lt. first.1.each c lt ∙ ap (λ (es : List DriftPart). part_in es c) whole;
-        first_total = first.1.total_is ∙ ap (λ (es : List DriftPart). sum_by (λ e. e.part) es) whole;
+        first = λ c lt. first.1.each c lt ∙ ap (λ (es : List CellPart). part_in es c) whole;
+        first_total = first.1.total_is ∙ ap (λ (es : List CellPart). sum_by (λ e. e.part) es) whole;
         moves = same_moves;
         grid = grid;
         denominator = refl;

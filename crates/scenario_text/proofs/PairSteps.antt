@@ -5,7 +5,7 @@ use Rattle.std.specs.List.{list_any, onto_first}
 use Rattle.std.proofs.lemmas.List.{append-nil, map_push}
 use Rattle.std.proofs.Math.Bool.{or-false}
 use Rattle.std.proofs.lemmas.Bool.{eq-eqb, ne_eqb, le-leb, eqb-true, or_parts}
-use Rattle.drift_chain.specs.declared.part.DriftPart.{DriftPart}
+use Rattle.period_rows.specs.declared.part.CellPart.{CellPart}
 use Rattle.scenario_text.specs.declared.pair.Pair.{Pair}
 use Rattle.scenario_text.specs.declared.pairs.Scan.{Scan}
 use Rattle.text_rows.specs.Fields.{ends_field, fields_of}
@@ -125,13 +125,13 @@ seen_added least done x cell old marked new is m none a h =
     let entries : old.entries.items ≡ entries_of done = h.entries b o u d in
     let same : marked.entries.items ≡ entries_of done = rw m.entries entries in
     let no_double : has_double (map (λ (x : Pair). x.cell) done) ≡ false = sym (h.double b o u) ∙ d in
-    let among : list_any (λ (e : DriftPart). e.cell == cell) (entries_of done) ≡ stands_in (Some cell) (map (λ x. x.cell) done) = has_entry done cell (sym h.unknown ∙ u) in
+    let among : list_any (λ (e : CellPart). e.cell == cell) (entries_of done) ≡ stands_in (Some cell) (map (λ x. x.cell) done) = has_entry done cell (sym h.unknown ∙ u) in
     record {
       bad = marked_any (λ x. is_bad least x.part) done x old.bad new.bad h.bad (a.bad ∙ m.bad);
       over = marked_any (λ x. is_over x.part) done x old.over new.over h.over (a.over ∙ m.over);
       unknown = marked_any (λ x. is_none x.cell) done x old.unknown new.unknown h.unknown (a.unknown ∙ m.unknown);
-      double = λ _ _ _. rw (cells_push done x, no_double, is) (a.double ∙ ap (list_any (λ (e : DriftPart). e.cell == cell)) same ∙ among);
-      entries = λ _ _ _ twice. a.entries twice ∙ ap (λ (es : List DriftPart). es ++ record { cell = cell; part = number_in x.part } ∷ []) same ∙ entries_push done x cell is;
+      double = λ _ _ _. rw (cells_push done x, no_double, is) (a.double ∙ ap (list_any (λ (e : CellPart). e.cell == cell)) same ∙ among);
+      entries = λ _ _ _ twice. a.entries twice ∙ ap (λ (es : List CellPart). es ++ record { cell = cell; part = number_in x.part } ∷ []) same ∙ entries_push done x cell is;
     }
 
 pub on_ok : {T E : Type 0} (r : Result T E) (P Q : Type 0) → (P → Q) → OnOk r P → OnOk r Q

@@ -6,7 +6,7 @@ use Rattle.std.proofs.lemmas.Bool.{le-ltb, le-leb, eq-eqb}
 use Rattle.std.proofs.lemmas.List.Elements.{All-head, All-tail}
 use Rattle.exact_parts.specs.declared.number.Number.TheVariants.{Of}
 use Rattle.exact_parts.proofs.Decimals.{number_at-decimal}
-use Rattle.drift_chain.specs.declared.part.DriftPart.{DriftPart}
+use Rattle.period_rows.specs.declared.part.CellPart.{CellPart}
 use Rattle.search_model.specs.Names.{name_in}
 use Rattle.scenario_text.specs.declared.pair.Pair.{Pair}
 use Rattle.scenario_text.specs.Fields.{cell_named, are_pairs, is_bad, is_over}
@@ -15,10 +15,10 @@ use Rattle.scenario_text.proofs.EntryRows.{AreSaid, parts_any, any_unknown, twic
 use Rattle.scenario_text.specs.RowFields.{entry_fields}
 
 -- what an entry's pair says
-abbrev pub said : DriftPart → Pair
+abbrev pub said : CellPart → Pair
 said e = record { cell = Some e.cell; part = Of e.part }
 
-pairs_of-named : (names : List (List ℕ)) (cells : ℕ) → ((c : ℕ) → c < cells → cell_named names (name_in names c) ≡ Some c) → (es : List DriftPart) → All (λ e. e.cell < cells) es → All (λ e. e.part ≤ 1000000) es → pairs_of names (entry_fields names es) ≡ map said es
+pairs_of-named : (names : List (List ℕ)) (cells : ℕ) → ((c : ℕ) → c < cells → cell_named names (name_in names c) ≡ Some c) → (es : List CellPart) → All (λ e. e.cell < cells) es → All (λ e. e.part ≤ 1000000) es → pairs_of names (entry_fields names es) ≡ map said es
 unfolding pairs_of
 pairs_of-named names cells found [] within small = refl
 pairs_of-named names cells found (e ∷ es) within small =
@@ -26,35 +26,35 @@ pairs_of-named names cells found (e ∷ es) within small =
     let part = number_at-decimal 1000000 e.part (All-head (λ e. e.part ≤ 1000000) e es small) (omega arith) in
     rw (cell, part, pairs_of-named names cells found es (All-tail (λ e. e.cell < cells) e es within) (All-tail (λ e. e.part ≤ 1000000) e es small)) refl
 
-none_bad : (least : ℕ) (es : List DriftPart) → All (λ e. least ≤ e.part) es → list_any (λ x. is_bad least x.part) (map said es) ≡ false
+none_bad : (least : ℕ) (es : List CellPart) → All (λ e. least ≤ e.part) es → list_any (λ x. is_bad least x.part) (map said es) ≡ false
 none_bad least [] positive = refl
 none_bad least (e ∷ es) positive =
     let head = le-ltb e.part least (All-head (λ e. least ≤ e.part) e es positive) in
     rw (head, none_bad least es (All-tail (λ e. least ≤ e.part) e es positive)) refl
 
-none_over : (es : List DriftPart) → list_any (λ x. is_over x.part) (map said es) ≡ false
+none_over : (es : List CellPart) → list_any (λ x. is_over x.part) (map said es) ≡ false
 none_over [] = refl
 none_over (e ∷ es) = none_over es
 
-none_unknown : (es : List DriftPart) → list_any (λ x. is_none x.cell) (map said es) ≡ false
+none_unknown : (es : List CellPart) → list_any (λ x. is_none x.cell) (map said es) ≡ false
 none_unknown [] = refl
 none_unknown (e ∷ es) = none_unknown es
 
-cells_said : (es : List DriftPart) → map (λ x. x.cell) (map said es) ≡ map Some (map (λ e. e.cell) es)
+cells_said : (es : List CellPart) → map (λ x. x.cell) (map said es) ≡ map Some (map (λ e. e.cell) es)
 cells_said [] = refl
 cells_said (e ∷ es) = ap (λ (xs : List _). Some e.cell ∷ xs) (cells_said es)
 
-entries_said : (es : List DriftPart) → entries_of (map said es) ≡ es
+entries_said : (es : List CellPart) → entries_of (map said es) ≡ es
 entries_said [] = refl
-entries_said (e ∷ es) = ap (λ (xs : List DriftPart). e ∷ xs) (entries_said es)
+entries_said (e ∷ es) = ap (λ (xs : List CellPart). e ∷ xs) (entries_said es)
 
-pub length-entry_fields : (names : List (List ℕ)) (es : List DriftPart) → length (entry_fields names es) ≡ 2 * length es
+pub length-entry_fields : (names : List (List ℕ)) (es : List CellPart) → length (entry_fields names es) ≡ 2 * length es
 length-entry_fields names [] = refl
 length-entry_fields names (e ∷ es) = let rest = length-entry_fields names es in omega arith
 
 -- entries for different cells that are written as pairs are said by these
 module _ (names : List (List ℕ)) (cells : ℕ) (found : (c : ℕ) → c < cells → cell_named names (name_in names c) ≡ Some c) where
-  pub AreSaid-named : (least : ℕ) (es : List DriftPart) → All (λ e. e.cell < cells) es → All (λ e. e.part ≤ 1000000) es → All (λ e. least ≤ e.part) es → has_double (map Some (map (λ e. e.cell) es)) ≡ false → AreSaid names least (entry_fields names es) es
+  pub AreSaid-named : (least : ℕ) (es : List CellPart) → All (λ e. e.cell < cells) es → All (λ e. e.part ≤ 1000000) es → All (λ e. least ≤ e.part) es → has_double (map Some (map (λ e. e.cell) es)) ≡ false → AreSaid names least (entry_fields names es) es
   AreSaid-named least es within small positive differ =
       let fields = entry_fields names es in
       let pairs = pairs_of-named names cells found es within small in
@@ -67,7 +67,7 @@ module _ (names : List (List ℕ)) (cells : ℕ) (found : (c : ℕ) → c < cell
         entries = sym (entries_alike names fields) ∙ ap entries_of pairs ∙ entries_said es;
       }
 
-pub are_pairs-named : (names : List (List ℕ)) (es : List DriftPart) → 0 < length es → are_pairs (entry_fields names es) ≡ true
+pub are_pairs-named : (names : List (List ℕ)) (es : List CellPart) → 0 < length es → are_pairs (entry_fields names es) ≡ true
 are_pairs-named names es some =
     let long = length-entry_fields names es in
     let two = le-leb 2 (length (entry_fields names es)) (omega arith) in

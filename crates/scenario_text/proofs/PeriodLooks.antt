@@ -6,16 +6,19 @@ use Rattle.std.specs.List.Sorted.{IsPermutation}
 use Rattle.std.proofs.lemmas.List.{length-map, get_or-map}
 use Rattle.std.proofs.lemmas.List.Elements.{All-map, All-nil}
 use Rattle.std.proofs.lemmas.List.Sorted.{IsPermutation-map}
-use Rattle.drift_chain.specs.declared.part.DriftPart.{DriftPart}
-use Rattle.sweep_table.specs.declared.part.LookPart.{LookPart}
+use Rattle.period_rows.specs.declared.part.CellPart.{CellPart}
 use Rattle.sweep_table.specs.declared.faults.LookFault.{LookFault}
 use Rattle.sweep_table.specs.declared.faults.LookFault.TheVariants as looks
 use Rattle.sweep_table.specs.declared.changes.LookChangeFault.{LookChangeFault}
 use Rattle.sweep_table.specs.declared.changes.LookChangeFault.TheVariants.{PeriodOutOfRange, PositionOutOfRange, DoubleChange, BadRow, NoMemory}
-use Rattle.sweep_table.specs.LookParts.{LookRowChange, looks_over, misses, IsLookRow, IsSweep}
-use Rattle.sweep_table.specs.Faults.{row_at, HasFault, HasOut, HasDouble, HasOver}
-use Rattle.sweep_table.specs.Changes.{change_at, HasChangeFault, HaveRightRows, IsBadRow, IsSameChange}
-use Rattle.sweep_table.proofs.Rows.{IsSweep-from_rows, row_at-map}
+use Rattle.period_rows.specs.Changes.{RowChange, change_at, HaveRows, IsSameChange}
+use Rattle.sweep_table.specs.LookParts.{looks_over, misses, IsLookRow, IsSweep}
+use Rattle.period_rows.specs.Rows.{row_at, HasDouble}
+use Rattle.sweep_table.specs.Faults.{HasFault, HasOut, HasOver}
+use Rattle.sweep_table.specs.Changes.{HasChangeFault, IsBadRow}
+use Rattle.period_rows.proofs.SameRows.{row_at-map}
+use Rattle.sweep_table.proofs.Rows.{IsSweep-from_rows}
+use Rattle.list_laws.proofs.Matched.{AllZip-both}
 use Rattle.list_laws.proofs.Sums.{sum_by-map}
 use Rattle.scenario_text.specs.State.{PeriodRow}
 use Rattle.scenario_text.specs.Scenarios.{look_parts, look_change_of}
@@ -24,30 +27,25 @@ use Rattle.scenario_text.proofs.Ordered.{in_order_same}
 use Rattle.scenario_text.proofs.Periods.{nothing, alone}
 use Rattle.scenario_text.proofs.RowsInOrder.{cells_in_order, looks_in_order}
 
--- images of one list, element by element
-AllZip-both : {X Y : Type 0} (R : Y → Y → Type 0) (f g : X → Y) → ((x : X) → R (f x) (g x)) → (xs : List X) → AllZip R (map f xs) (map g xs)
-AllZip-both R f g both [] = tt
-AllZip-both R f g both (x ∷ xs) = (both x, AllZip-both R f g both xs)
-
 -- a right row has no fault
-module _ (cells denominator : ℕ) (row : List DriftPart) (h : AreLooks cells denominator row) where
+module _ (cells denominator : ℕ) (row : List CellPart) (h : AreLooks cells denominator row) where
   pub not_out : HasOut cells (look_parts row) → ⊥
   not_out out =
       let within = All-map (λ x. x.cell < cells) (λ e. misses e.cell e.part) row h.within in
       let lt = within out.0 out.1 out.2 in
-      let same = ap (λ (x : LookPart). x.cell) out.3 in
+      let same = ap (λ (x : CellPart). x.cell) out.3 in
       omega (arith, lt, same, out.4)
 
   pub not_double : HasDouble (look_parts row) → ⊥
   not_double double =
-      let same : count_by (λ x. x.cell == double.0) (look_parts row) ≡ count_by (λ e. e.cell == double.0) row = sum_by-map (λ (x : LookPart). cond (x.cell == double.0) 1 0) (λ e. misses e.cell e.part) row in
+      let same : count_by (λ x. x.cell == double.0) (look_parts row) ≡ count_by (λ e. e.cell == double.0) row = sum_by-map (λ (x : CellPart). cond (x.cell == double.0) 1 0) (λ e. misses e.cell e.part) row in
       omega (arith, double.1, same, h.once double.0)
 
   pub not_over : HasOver denominator (look_parts row) → ⊥
   not_over over =
       let within = All-map (λ x. x.part ≤ denominator) (λ e. misses e.cell e.part) row h.parts in
       let le = within over.0 over.1 over.2 in
-      let same = ap (λ (x : LookPart). x.part) over.3 in
+      let same = ap (λ (x : CellPart). x.part) over.3 in
       omega (arith, le, same, over.4)
 
   pub none_bad : IsBadRow denominator cells (look_parts row) → ⊥
@@ -56,18 +54,18 @@ module _ (cells denominator : ℕ) (row : List DriftPart) (h : AreLooks cells de
   none_bad (inr (inr over)) = not_over over
 
 -- a row that wasn't read is empty
-given_look : (cells denominator : ℕ) (o : Option (List DriftPart)) → IsLook cells denominator o → AreLooks cells denominator (unwrap_or o [])
+given_look : (cells denominator : ℕ) (o : Option (List CellPart)) → IsLook cells denominator o → AreLooks cells denominator (unwrap_or o [])
 given_look cells denominator None h = record { within = All-nil (λ e. e.cell < cells); parts = All-nil (λ e. e.part ≤ denominator); once = λ d. omega arith }
 given_look cells denominator (Some row) h = h
 
-abbrev base_row : Option (List DriftPart) → List LookPart
+abbrev base_row : Option (List CellPart) → List CellPart
 base_row o = look_parts (unwrap_or o [])
 
-abbrev pub row_in_order : Option (List DriftPart) → List LookPart
+abbrev pub row_in_order : Option (List CellPart) → List CellPart
 row_in_order o = look_parts (cells_in_order (unwrap_or o []))
 
-module _ (cells denominator : ℕ) (rows : List (Option (List DriftPart))) (h : All (IsLook cells denominator) rows) (some : 1 ≤ length rows) (few : length rows ≤ 200) (some_cell : 1 ≤ cells) (few_cells : cells ≤ 200) where
-  rows_given : List (List LookPart)
+module _ (cells denominator : ℕ) (rows : List (Option (List CellPart))) (h : All (IsLook cells denominator) rows) (some : 1 ≤ length rows) (few : length rows ≤ 200) (some_cell : 1 ≤ cells) (few_cells : cells ≤ 200) where
+  rows_given : List (List CellPart)
   rows_given = map base_row rows
 
   long : length rows_given ≡ length rows
@@ -110,11 +108,11 @@ module _ (cells denominator : ℕ) (rows : List (Option (List DriftPart))) (h : 
       rw (row_at-map row_in_order rows p None there) (looks_in_order cells denominator (unwrap_or (get_or rows p None) []) (row_given p there)))
 
 -- the change of a row, with its entries in order
-abbrev pub change_in_order : PeriodRow → LookRowChange
-change_in_order r = record { period = r.period; position = r.own; row = look_parts (cells_in_order r.row) }
+abbrev pub change_in_order : PeriodRow → RowChange
+change_in_order r = record { period = r.period; owner = r.own; row = look_parts (cells_in_order r.row) }
 
 module _ (denominator cells positions last : ℕ) (rows : List PeriodRow) (h : ArePeriodRows last positions (AreLooks cells denominator) rows) (most : last ≤ 32) where
-  given : List LookRowChange
+  given : List RowChange
   given = map look_change_of rows
 
   inside : (i : ℕ) → i < length given → i < length rows
@@ -123,30 +121,30 @@ module _ (denominator cells positions last : ℕ) (rows : List PeriodRow) (h : A
 
   at : (i : ℕ) → i < length rows → change_at given i ≡ look_change_of (get_or rows i nothing)
   unfolding given change_at
-  at i lt = get_or-map look_change_of rows i nothing (record { period = 0; position = 0; row = [] }) lt
+  at i lt = get_or-map look_change_of rows i nothing (record { period = 0; owner = 0; row = [] }) lt
 
   pub no_change_fault : (fault : LookChangeFault) → HasChangeFault denominator cells positions (map look_change_of rows) fault → ⊥
   unfolding given
   no_change_fault (PeriodOutOfRange i) bad =
       let lt = inside i bad.0 in
-      let same = ap (λ (c : LookRowChange). c.period) (at i lt) in
+      let same = ap (λ (c : RowChange). c.period) (at i lt) in
       let span = h.periods i nothing lt in
       elim (bad.1) [ inl none ↦ omega (arith, none, same, span.0) | inr far ↦ omega (arith, far, same, span.1, most) ]
   no_change_fault (PositionOutOfRange i) bad =
       let lt = inside i bad.0 in
-      let same = ap (λ (c : LookRowChange). c.position) (at i lt) in
+      let same = ap (λ (c : RowChange). c.owner) (at i lt) in
       let within = h.within i nothing lt in
       omega (arith, bad.1, same, within)
   no_change_fault (DoubleChange i) bad =
       let lt = inside i bad.0 in
-      let (k, before, period, position) = bad.1 in
+      let (k, before, (period, position)) = bad.1 in
       let there : k < length rows = omega (arith, before, lt) in
-      let P : LookRowChange → ℕ = λ c. c.period in
-      let O : LookRowChange → ℕ = λ c. c.position in
+      let P : RowChange → ℕ = λ c. c.period in
+      let O : RowChange → ℕ = λ c. c.owner in
       alone last positions (AreLooks cells denominator) rows h k i before lt (sym (ap P (at k there)) ∙ period ∙ ap P (at i lt)) (sym (ap O (at k there)) ∙ position ∙ ap O (at i lt))
   no_change_fault (BadRow i) bad =
       let lt = inside i bad.0 in
-      let B : LookRowChange → Type 0 = λ c. IsBadRow denominator cells c.row in
+      let B : RowChange → Type 0 = λ c. IsBadRow denominator cells c.row in
       none_bad cells denominator (get_or rows i nothing).row (h.right i nothing lt) (subst B (at i lt) bad.1)
   no_change_fault NoMemory bad = bad
 
@@ -154,5 +152,5 @@ module _ (denominator cells positions last : ℕ) (rows : List PeriodRow) (h : A
   changes_same =
       AllZip-both IsSameChange look_change_of change_in_order (λ r. (refl, refl, IsPermutation-map (λ e. misses e.cell e.part) r.row (cells_in_order r.row) (in_order_same (λ e. e.cell) r.row))) rows
 
-  pub changes_right : HaveRightRows denominator cells (map change_in_order rows)
+  pub changes_right : HaveRows (IsLookRow denominator cells) (map change_in_order rows)
   changes_right = All-map (λ c. IsLookRow denominator cells c.row) change_in_order rows (λ k d lt. looks_in_order cells denominator (get_or rows k d).row (h.right k d lt))

@@ -3,7 +3,7 @@ use Rattle.std.proofs.Common.{◌≡◌, ℕ, zero, suc, ◌+◌, ◌<◌, ◌�
 use Rattle.std.specs.Prelude.{◌==◌, ◌&&◌, count_by}
 use Rattle.std.proofs.lemmas.Bool.{eq-eqb}
 use Rattle.std.proofs.lemmas.List.Sums.{sum_by-cons}
-use Rattle.drift_chain.specs.declared.part.DriftPart.{DriftPart}
+use Rattle.period_rows.specs.declared.part.CellPart.{CellPart}
 use Rattle.scenario_text.specs.State.{PeriodRow}
 use Rattle.scenario_text.specs.Sound.{ArePeriodRows}
 
@@ -34,7 +34,7 @@ twice p (x ∷ xs) (suc k) (suc i) d before lt here there =
     omega (arith, step, both)
 
 -- no two rows are for one period and one owner
-pub alone : (last owners : ℕ) (IsRow : List DriftPart → Type 0) (rows : List PeriodRow) → ArePeriodRows last owners IsRow rows → (k i : ℕ) → k < i → i < length rows →
+pub alone : (last owners : ℕ) (IsRow : List CellPart → Type 0) (rows : List PeriodRow) → ArePeriodRows last owners IsRow rows → (k i : ℕ) → k < i → i < length rows →
     (get_or rows k nothing).period ≡ (get_or rows i nothing).period → (get_or rows k nothing).own ≡ (get_or rows i nothing).own → ⊥
 alone last owners IsRow rows h k i before inside period own =
     let t = (get_or rows i nothing).period in

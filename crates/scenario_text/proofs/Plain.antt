@@ -3,7 +3,7 @@ use Rattle.std.proofs.Common.{◌≡◌, ℕ, ◌-◌, ◌<◌, ◌≤◌, true,
 use Rattle.std.specs.Cmp.Lexicographic.{pointwise}
 use Rattle.std.specs.Str.{bytes_eq}
 use Rattle.std.proofs.lemmas.Bool.{cases_Bool, cases_eq, and_parts, and_from}
-use Rattle.drift_chain.specs.declared.part.DriftPart.{DriftPart}
+use Rattle.period_rows.specs.declared.part.CellPart.{CellPart}
 use Rattle.drift_chain.specs.DriftRows.{row_of}
 use Rattle.search_model.specs.Problem.{Problem, IsProblem}
 use Rattle.scenario_text.specs.declared.draft.TextVersion.TheVariants.{One, Two}
@@ -34,7 +34,7 @@ unfolding canonical_text
 text_full p full = ap (λ (s : State). text_of (state_rows s)) (state_full p full)
 
 -- rows that are steady, period by period
-steady_each : (row : ℕ → ℕ → List DriftPart) (owners last t c : ℕ) → is_steady row owners last ≡ true → 1 ≤ t → t ≤ last → c < owners → row t c ≡ row 1 c
+steady_each : (row : ℕ → ℕ → List CellPart) (owners last t c : ℕ) → is_steady row owners last ≡ true → 1 ≤ t → t ≤ last → c < owners → row t c ≡ row 1 c
 steady_each row owners last t c all low high inside =
     elim (cases_eq t 1) [
       | inl first ↦ ap (λ (k : ℕ). row k c) first
@@ -43,7 +43,7 @@ steady_each row owners last t c all low high inside =
           same_row (row t c) (row 1 c) (all_each (λ c. is_same_row (row t c) (row 1 c)) owners 0 c period (omega arith) (omega (arith, inside)))
     ]
 
-steady_from : (row : ℕ → ℕ → List DriftPart) (owners last : ℕ) → ((t c : ℕ) → 1 ≤ t → t ≤ last → c < owners → row t c ≡ row 1 c) → is_steady row owners last ≡ true
+steady_from : (row : ℕ → ℕ → List CellPart) (owners last : ℕ) → ((t c : ℕ) → 1 ≤ t → t ≤ last → c < owners → row t c ≡ row 1 c) → is_steady row owners last ≡ true
 steady_from row owners last each =
     all_from (is_as_first row owners) (last - 1) 2 (λ t low high.
     all_from (λ c. is_same_row (row t c) (row 1 c)) owners 0 (λ c from inside. row_same (row t c) (row 1 c) (each t c (omega (arith, low)) (omega (arith, low, high)) (omega (arith, inside)))))

@@ -10,10 +10,9 @@ use Rattle.std.proofs.lemmas.List.Concat.{flat_map-append}
 use Rattle.text_rows.specs.Rows.{text_of, spaced}
 use Rattle.text_rows.proofs.RowLemmas.{join-fields, text_of-append, text_of-map}
 use Rattle.list_laws.proofs.Parts.{flat_map-same}
-use Rattle.drift_chain.specs.declared.part.DriftPart.{DriftPart}
+use Rattle.period_rows.specs.declared.part.CellPart.{CellPart}
 use Rattle.drift_chain.specs.DriftRows.{row_of}
 use Rattle.search_grid.specs.Moves.{moves_from}
-use Rattle.sweep_table.specs.declared.part.LookPart.{LookPart}
 use Rattle.sweep_table.specs.LookParts.{LookParts, cells_of, look_row, factor_of, IsSweep}
 use Rattle.sweep_table.proofs.Factors.{factor_in-none}
 use Rattle.search_model.specs.Names.{name_in}
@@ -45,19 +44,19 @@ spaced-names : (names : List (List ℕ)) (qs : List ℕ) → spaced (map (name_i
 spaced-names names [] = refl
 spaced-names names (q ∷ qs) = ap (λ (t : List ℕ). 32 ∷ (name_in names q ++ t)) (spaced-names names qs)
 
-spaced-pairs : (p : Problem) (es : List DriftPart) → spaced (entry_fields p.names es) ≡ flat_map (entry_text p) es
+spaced-pairs : (p : Problem) (es : List CellPart) → spaced (entry_fields p.names es) ≡ flat_map (entry_text p) es
 spaced-pairs p [] = refl
 spaced-pairs p (e ∷ es) =
     ap (λ (t : List ℕ). 32 ∷ (cell_name p e.cell ++ 32 ∷ (decimal e.part ++ t))) (spaced-pairs p es)
     ∙ ap (λ (t : List ℕ). 32 ∷ t) (sym (append_assoc (cell_name p e.cell) (32 ∷ decimal e.part) (flat_map (entry_text p) es)))
 
 -- the cells that a look doesn't miss all of, cell by cell
-covered_by : (p : Problem) (e : LookPart) (es : List LookPart) (all : Bool) → flat_map (entry_text p) (map (λ e. record { cell = e.cell; part = e.part }) (cond (not all) (e ∷ es) es)) ≡
+covered_by : (p : Problem) (e : CellPart) (es : List CellPart) (all : Bool) → flat_map (entry_text p) (map (λ e. record { cell = e.cell; part = e.part }) (cond (not all) (e ∷ es) es)) ≡
     cond all [] (entry_text p (record { cell = e.cell; part = e.part })) ++ flat_map (entry_text p) (map (λ e. record { cell = e.cell; part = e.part }) es)
 covered_by p e es true = refl
 covered_by p e es false = refl
 
-covered_entries : (p : Problem) (es : List LookPart) → flat_map (entry_text p) (map (λ e. record { cell = e.cell; part = e.part }) (filter (λ e. not (e.part == p.sweep.denominator)) es)) ≡ flat_map (covered_text p) es
+covered_entries : (p : Problem) (es : List CellPart) → flat_map (entry_text p) (map (λ e. record { cell = e.cell; part = e.part }) (filter (λ e. not (e.part == p.sweep.denominator)) es)) ≡ flat_map (covered_text p) es
 covered_entries p [] = refl
 covered_entries p (e ∷ es) =
     covered_by p e (filter (λ e. not (e.part == p.sweep.denominator)) es) (e.part == p.sweep.denominator)
@@ -149,7 +148,7 @@ joined : {X Y Z : Type 0} (f : Y → List Z) (g : X → List Y) (xs : List X) �
 joined f g [] = refl
 joined {X} {Y} {Z} f g (x ∷ xs) = flat_map-append f (g x) (flat_map g xs) ∙ ap (λ (zs : List Z). flat_map f (g x) ++ zs) (joined f g xs)
 
-later_lines : (line : PeriodRow → List (List ℕ)) (row : ℕ → ℕ → List DriftPart) (owners last : ℕ) → text_of (map line (later_rows row owners last)) ≡
+later_lines : (line : PeriodRow → List (List ℕ)) (row : ℕ → ℕ → List CellPart) (owners last : ℕ) → text_of (map line (later_rows row owners last)) ≡
     flat_map (λ t. flat_map (λ c. if is_same_row (row t c) (row 1 c) then [] else line_of (line (record { period = t; own = c; row = row t c }))) (range_with_len 0 owners)) (range_with_len 2 (last - 1))
 later_lines line row owners last =
     text_of-map line (later_rows row owners last)

@@ -9,7 +9,7 @@ use Rattle.std.proofs.lemmas.List.Elements.{All-get_or, All-head, All-tail, All-
 use Rattle.std.proofs.lemmas.List.FromFn.{fill_by_all}
 use Rattle.std.proofs.lemmas.List.Sums.{sum_by-cons, sum_by_more, sum_by-take-le, get_or-le-sum_by}
 use Rattle.exact_parts.proofs.Decimals.{number_at-decimal}
-use Rattle.drift_chain.specs.declared.part.DriftPart.{DriftPart}
+use Rattle.period_rows.specs.declared.part.CellPart.{CellPart}
 use Rattle.search_grid.specs.Moves.{moves_from}
 use Rattle.search_model.specs.Names.{IsName, IsRepeated, name_in}
 use Rattle.text_rows.proofs.RowTexts.{IsField, AreFields, IsField-decimal, word}
@@ -98,16 +98,16 @@ with_moves-once s q positions row h before =
     rw (unknown, double, before, some, numbers) refl
 
 -- entries and looks, as pairs
-pub entry_once : (es : List DriftPart) → ((d : ℕ) → count_by (λ e. e.cell == d) es ≤ 1) → has_double (map Some (map (λ e. e.cell) es)) ≡ false
+pub entry_once : (es : List CellPart) → ((d : ℕ) → count_by (λ e. e.cell == d) es ≤ 1) → has_double (map Some (map (λ e. e.cell) es)) ≡ false
 entry_once es once = once_differ (map (λ e. e.cell) es) (λ d. let same = sum_by-map (λ m. cond (m == d) 1 0) (λ e. e.cell) es in let most = once d in omega (arith, same, most))
 
-none_above : (g : ℕ) (es : List DriftPart) → All (λ e. e.part ≤ g) es → list_any (λ e. nat_lt g e.part) es ≡ false
+none_above : (g : ℕ) (es : List CellPart) → All (λ e. e.part ≤ g) es → list_any (λ e. nat_lt g e.part) es ≡ false
 none_above g [] within = refl
 none_above g (e ∷ es) within =
     let head = le-ltb g e.part (All-head (λ e. e.part ≤ g) e es within) in
     rw (head, none_above g es (All-tail (λ e. e.part ≤ g) e es within)) refl
 
-even_entries : (names : List (List ℕ)) (es : List DriftPart) → are_even (entry_fields names es) ≡ true
+even_entries : (names : List (List ℕ)) (es : List CellPart) → are_even (entry_fields names es) ≡ true
 even_entries names es = let long = length-entry_fields names es in eq-eqb _ 0 (omega (arith, long))
 
 module _ (s : State) (h : IsSound s) (ended : s.stage ≡ due.Ended) where
@@ -139,13 +139,13 @@ module _ (s : State) (h : IsSound s) (ended : s.stage ≡ due.Ended) where
   has_parts_row : (c : ℕ) → c < length s.parts → AreEntries (length s.names) s.drift (slice_index_or s.parts c [])
   has_parts_row c lt =
       let rest = (or_parts (list_any (λ (r : List ℕ). length r == 0) s.moves) _ (h.whole ended)).1 in
-      let some = none_pass (λ (r : List DriftPart). length r == 0) s.parts (or_parts (list_any (λ (r : List DriftPart). length r == 0) s.parts) _ rest).0 c [] lt in
+      let some = none_pass (λ (r : List CellPart). length r == 0) s.parts (or_parts (list_any (λ (r : List CellPart). length r == 0) s.parts) _ rest).0 c [] lt in
       elim (h.parts c [] lt) [ inl none ↦ absurd (let bad : true ≡ false = sym (eq-eqb _ 0 none) ∙ some in let end : ⊥ = cc in end) | inr row ↦ row ]
 
   last_two : (list_any (λ o. is_none o) s.overlook || list_any (λ o. is_none o) s.looks) ≡ false
   last_two =
       let rest = (or_parts (list_any (λ (r : List ℕ). length r == 0) s.moves) _ (h.whole ended)).1 in
-      (or_parts (list_any (λ (r : List DriftPart). length r == 0) s.parts) _ rest).1
+      (or_parts (list_any (λ (r : List CellPart). length r == 0) s.parts) _ rest).1
 
   some_is : {X : Type 0} (o : Option X) (d : X) → is_none o ≡ false → o ≡ Some (unwrap_or o d)
   some_is None d e = absurd (let bad : ⊥ = cc in bad)
@@ -155,10 +155,10 @@ module _ (s : State) (h : IsSound s) (ended : s.stage ≡ due.Ended) where
   has_overlook_part c lt = some_is (slice_index_or s.overlook c None) 0 (none_pass (λ (o : Option ℕ). is_none o) s.overlook (or_parts (list_any (λ (o : Option ℕ). is_none o) s.overlook) _ last_two).0 c None lt)
 
   has_look_row : (q : ℕ) → q < length s.looks → slice_index_or s.looks q None ≡ Some (unwrap_or (slice_index_or s.looks q None) [])
-  has_look_row q lt = some_is (slice_index_or s.looks q None) [] (none_pass (λ (o : Option (List DriftPart)). is_none o) s.looks (or_parts (list_any (λ (o : Option ℕ). is_none o) s.overlook) _ last_two).1 q None lt)
+  has_look_row q lt = some_is (slice_index_or s.looks q None) [] (none_pass (λ (o : Option (List CellPart)). is_none o) s.looks (or_parts (list_any (λ (o : Option ℕ). is_none o) s.overlook) _ last_two).1 q None lt)
 
   look_right : (q : ℕ) → q < length s.looks → AreLooks (length s.names) s.look (unwrap_or (slice_index_or s.looks q None) [])
-  look_right q lt = subst (λ (o : Option (List DriftPart)). IsLook (length s.names) s.look o) (has_look_row q lt) (h.positions.covered q None lt)
+  look_right q lt = subst (λ (o : Option (List CellPart)). IsLook (length s.names) s.look o) (has_look_row q lt) (h.positions.covered q None lt)
 
   overlook_right : (c : ℕ) → c < length s.overlook → unwrap_or (slice_index_or s.overlook c None) 0 ≤ s.look
   overlook_right c lt = subst (λ (o : Option ℕ). IsPart s.look o) (has_overlook_part c lt) (h.overlook c None lt)
@@ -190,38 +190,38 @@ module _ (s : State) (h : IsSound s) (ended : s.stage ≡ due.Ended) where
   version_of_look_rows One e some = absurd (let none : length s.look_rows ≡ 0 = ap (λ (rs : List PeriodRow). length rs) (h.changes.every_period e).1 in omega (arith, some, none))
 
   -- entries, as pairs
-  said_entries : (es : List DriftPart) → AreEntries (length s.names) s.drift es → AreSaid s.names 1 (entry_fields s.names es) es
+  said_entries : (es : List CellPart) → AreEntries (length s.names) s.drift es → AreSaid s.names 1 (entry_fields s.names es) es
   said_entries es are =
       AreSaid-named s.names (length s.names) found_cell 1 es are.within (λ i d lt. omega (arith, get_or-le-sum_by (λ e. e.part) es i d lt, are.total, drift_limits.1)) are.positive (entry_once es are.once)
 
-  said_looks : (es : List DriftPart) → AreLooks (length s.names) s.look es → AreSaid s.names 0 (entry_fields s.names es) es
+  said_looks : (es : List CellPart) → AreLooks (length s.names) s.look es → AreSaid s.names 0 (entry_fields s.names es) es
   said_looks es are =
       AreSaid-named s.names (length s.names) found_cell 0 es are.within (All-weaker (λ e. e.part ≤ s.look) (λ e. e.part ≤ 1000000) (λ e le. omega (arith, le, look_limits.1)) es are.parts) (All-weaker (λ e. e.part ≤ s.look) (λ e. 0 ≤ e.part) (λ e le. omega arith) es are.parts) (entry_once es are.once)
 
-  fields_entries : (es : List DriftPart) → AreEntries (length s.names) s.drift es → AreFields (entry_fields s.names es)
+  fields_entries : (es : List CellPart) → AreEntries (length s.names) s.drift es → AreFields (entry_fields s.names es)
   fields_entries es are = AreFields-entries s.names (length s.names) field_cell es are.within (λ i d lt. omega (arith, get_or-le-sum_by (λ e. e.part) es i d lt, are.total, drift_limits.1))
 
-  fields_looks : (es : List DriftPart) → AreLooks (length s.names) s.look es → AreFields (entry_fields s.names es)
+  fields_looks : (es : List CellPart) → AreLooks (length s.names) s.look es → AreFields (entry_fields s.names es)
   fields_looks es are = AreFields-entries s.names (length s.names) field_cell es are.within (All-weaker (λ e. e.part ≤ s.look) (λ e. e.part ≤ 1000000) (λ e le. omega (arith, le, look_limits.1)) es are.parts)
 
-  some_entries : (es : List DriftPart) → AreEntries (length s.names) s.drift es → 0 < length es
+  some_entries : (es : List CellPart) → AreEntries (length s.names) s.drift es → 0 < length es
   some_entries [] are = absurd (let total = are.total in omega (arith, total, drift_limits.0))
   some_entries (e ∷ es) are = omega arith
 
   -- Some of the rows were read.
-  abbrev rows_at : List (List ℕ) → List (List DriftPart) → List PeriodRow → List (Option ℕ) → List (Option (List DriftPart)) → List PeriodRow → State
+  abbrev rows_at : List (List ℕ) → List (List CellPart) → List PeriodRow → List (Option ℕ) → List (Option (List CellPart)) → List PeriodRow → State
   rows_at moves parts drifts overlook looks more = record s { stage = due.Rows; moves = moves; parts = parts; drift_rows = drifts; overlook = overlook; looks = looks; look_rows = more }
 
   abbrev moves_so_far : ℕ → List (List ℕ)
   moves_so_far k = filled (moves_from s.moves) [] (length s.moves) k
 
-  abbrev parts_so_far : ℕ → List (List DriftPart)
+  abbrev parts_so_far : ℕ → List (List CellPart)
   parts_so_far k = filled (λ c. slice_index_or s.parts c []) [] (length s.parts) k
 
   abbrev overlook_so_far : ℕ → List (Option ℕ)
   overlook_so_far k = filled (λ c. Some (unwrap_or (slice_index_or s.overlook c None) 0)) None (length s.overlook) k
 
-  abbrev looks_so_far : ℕ → List (Option (List DriftPart))
+  abbrev looks_so_far : ℕ → List (Option (List CellPart))
   looks_so_far k = filled (λ q. Some (unwrap_or (slice_index_or s.looks q None) [])) None (length s.looks) k
 
   abbrev nothing : PeriodRow
@@ -273,7 +273,7 @@ module _ (s : State) (h : IsSound s) (ended : s.stage ≡ due.Ended) where
         says = refl;
         taken = begins t (codes "look") _ Look (ap (λ (v : TextVersion). line_due v due.Rows (nat_lt 0 (length s.names)) (codes "look")) two)
             ∙ look_said t (name_in (positions_in s) k) k (entry_fields s.names row) row (found_position k own) (even_entries s.names row) (said_looks row are) (none_above s.look row are.parts) (filled-open (λ q. Some (unwrap_or (slice_index_or s.looks q None) [])) None (length s.looks) k lt)
-            ∙ ap (λ (ls : List (Option (List DriftPart))). Ok (record t { looks = ls })) (filled-next (λ q. Some (unwrap_or (slice_index_or s.looks q None) [])) None (length s.looks) k lt);
+            ∙ ap (λ (ls : List (Option (List CellPart))). Ok (record t { looks = ls })) (filled-next (λ q. Some (unwrap_or (slice_index_or s.looks q None) [])) None (length s.looks) k lt);
       }
 
   Takes-overlook : (k : ℕ) → k < length s.overlook → Takes (rows_at s.moves s.parts s.drift_rows (overlook_so_far k) (looks_so_far 0) []) (overlook_of s.names k (unwrap_or (slice_index_or s.overlook k None) 0)) (rows_at s.moves s.parts s.drift_rows (overlook_so_far (k + 1)) (looks_so_far 0) [])
@@ -320,7 +320,7 @@ module _ (s : State) (h : IsSound s) (ended : s.stage ≡ due.Ended) where
         says = refl;
         taken = begins t (codes "drift") _ Drift (drift_begins s.version (nat_lt 0 (length s.names)))
             ∙ drift_said t (name_in s.names k) k (entry_fields s.names row) row (found_cell k own) (are_pairs-named s.names row (some_entries row are)) (said_entries row are) are.total (filled-open (λ c. slice_index_or s.parts c []) [] (length s.parts) k lt)
-            ∙ ap (λ (xs : List (List DriftPart)). Ok (record t { parts = xs })) (filled-next (λ c. slice_index_or s.parts c []) [] (length s.parts) k lt);
+            ∙ ap (λ (xs : List (List CellPart)). Ok (record t { parts = xs })) (filled-next (λ c. slice_index_or s.parts c []) [] (length s.parts) k lt);
       }
 
   Takes-moves : (k : ℕ) → k < length s.moves → Takes (rows_at (moves_so_far k) (parts_so_far 0) [] (overlook_so_far 0) (looks_so_far 0) []) (moves_of (positions_in s) k (moves_from s.moves k)) (rows_at (moves_so_far (k + 1)) (parts_so_far 0) [] (overlook_so_far 0) (looks_so_far 0) [])
@@ -357,7 +357,7 @@ module _ (s : State) (h : IsSound s) (ended : s.stage ≡ due.Ended) where
       let n = length s.looks in
       let whole = full (λ q. Some (unwrap_or (slice_index_or s.looks q None) [])) None s.looks n refl has_look_row in
       Reads-range n 0 n (λ q. look_of s.names (positions_in s) q (unwrap_or (slice_index_or s.looks q None) [])) (λ k. rows_at s.moves s.parts s.drift_rows s.overlook (looks_so_far k) []) (look_in_rows s) s (omega arith) Takes-look (λ k e. cc)
-      (subst (λ (ls : List (Option (List DriftPart))). Reads (rows_at s.moves s.parts s.drift_rows s.overlook ls []) (look_in_rows s) s) (sym whole) Reads-look_in)
+      (subst (λ (ls : List (Option (List CellPart))). Reads (rows_at s.moves s.parts s.drift_rows s.overlook ls []) (look_in_rows s) s) (sym whole) Reads-look_in)
 
   Reads-overlook : Reads (rows_at s.moves s.parts s.drift_rows (overlook_so_far 0) (looks_so_far 0) []) (overlook_rows s) s
   Reads-overlook =
@@ -380,7 +380,7 @@ module _ (s : State) (h : IsSound s) (ended : s.stage ≡ due.Ended) where
       let n = length s.parts in
       let whole = full (λ c. slice_index_or s.parts c []) [] s.parts n refl (λ k lt. refl) in
       Reads-range n 0 n (λ c. drift_of s.names c (slice_index_or s.parts c [])) (λ k. rows_at s.moves (parts_so_far k) [] (overlook_so_far 0) (looks_so_far 0) []) (drift_in_rows s) s (omega arith) Takes-drift (λ k e. cc)
-      (subst (λ (xs : List (List DriftPart)). Reads (rows_at s.moves xs [] (overlook_so_far 0) (looks_so_far 0) []) (drift_in_rows s) s) (sym whole) Reads-drift_in)
+      (subst (λ (xs : List (List CellPart)). Reads (rows_at s.moves xs [] (overlook_so_far 0) (looks_so_far 0) []) (drift_in_rows s) s) (sym whole) Reads-drift_in)
 
   -- no row was read yet
   abbrev pub before_rows : State

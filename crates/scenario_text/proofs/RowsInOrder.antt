@@ -4,7 +4,7 @@ use Rattle.std.specs.List.Sorted.{IsStrictlyIncreasing}
 use Rattle.std.proofs.lemmas.List.{map-id}
 use Rattle.std.proofs.lemmas.List.Elements.{All-map}
 use Rattle.std.proofs.lemmas.List.Sorted.{length_permutation, All-permutation, sum_by-IsPermutation}
-use Rattle.drift_chain.specs.declared.part.DriftPart.{DriftPart}
+use Rattle.period_rows.specs.declared.part.CellPart.{CellPart}
 use Rattle.drift_chain.specs.DriftRows.{IsDriftRow}
 use Rattle.search_grid.specs.Moves.{IsMoveRow}
 use Rattle.sweep_table.specs.LookParts.{misses, IsLookRow}
@@ -14,7 +14,7 @@ use Rattle.scenario_text.specs.Scenarios.{look_parts}
 use Rattle.scenario_text.specs.Sound.{AreEntries, AreLooks, AreMoves}
 use Rattle.scenario_text.proofs.Ordered.{in_order, in_order_same, in_order_rises}
 
-abbrev pub cells_in_order : List DriftPart → List DriftPart
+abbrev pub cells_in_order : List CellPart → List CellPart
 cells_in_order row = in_order (λ e. e.cell) row
 
 pub moves_in_order : (positions : ℕ) (row : List ℕ) → AreMoves positions row → IsMoveRow positions (in_order (λ m. m) row)
@@ -28,7 +28,7 @@ moves_in_order positions row given =
       within = All-permutation (λ d. d < positions) row (in_order (λ m. m) row) same given.within;
     }
 
-pub entries_in_order : (cells denominator : ℕ) (row : List DriftPart) → AreEntries cells denominator row → IsDriftRow denominator cells (cells_in_order row)
+pub entries_in_order : (cells denominator : ℕ) (row : List CellPart) → AreEntries cells denominator row → IsDriftRow denominator cells (cells_in_order row)
 entries_in_order cells denominator row given =
     let same = in_order_same (λ e. e.cell) row in
     record {
@@ -38,7 +38,7 @@ entries_in_order cells denominator row given =
       total = sum_by-IsPermutation (λ e. e.part) row (cells_in_order row) same ∙ given.total;
     }
 
-pub looks_in_order : (cells denominator : ℕ) (row : List DriftPart) → AreLooks cells denominator row → IsLookRow denominator cells (look_parts (cells_in_order row))
+pub looks_in_order : (cells denominator : ℕ) (row : List CellPart) → AreLooks cells denominator row → IsLookRow denominator cells (look_parts (cells_in_order row))
 looks_in_order cells denominator row given =
     let same = in_order_same (λ e. e.cell) row in
     let up : IsStrictlyIncreasing (map (λ e. e.cell) (cells_in_order row)) = increasing_from_ascends (λ e. e.cell) _ (in_order_rises (λ e. e.cell) row given.once) in

@@ -9,8 +9,7 @@ use Rattle.std.proofs.lemmas.Slice.Eq.{bytes_eq-Decides}
 use Rattle.std.proofs.lemmas.List.Elements.{All-head, All-tail, All-weaker, filter_passes}
 use Rattle.std.proofs.lemmas.List.Kept.{AllPairs-filter}
 use Rattle.list_laws.proofs.Ascending.{Ascends, Ascends-head, Ascends-tail, Ascends-from_keys}
-use Rattle.drift_chain.specs.declared.part.DriftPart.{DriftPart}
-use Rattle.sweep_table.specs.declared.part.LookPart.{LookPart}
+use Rattle.period_rows.specs.declared.part.CellPart.{CellPart}
 use Rattle.sweep_table.specs.LookParts.{look_row, cells_of, factor_in, factor_of}
 use Rattle.sweep_table.proofs.Factors.{factor_in-none}
 use Rattle.search_model.specs.Names.{name_in}
@@ -39,20 +38,20 @@ all_but_one P n a t low high fails = false_from_ne_true _ (λ all. true≢false 
 
 -- The same entries.
 
-part_decides : (x y : DriftPart) → (((x.cell == y.cell) && (x.part == y.part)) ≡ true → x ≡ y) × (x ≡ y → ((x.cell == y.cell) && (x.part == y.part)) ≡ true)
+part_decides : (x y : CellPart) → (((x.cell == y.cell) && (x.part == y.part)) ≡ true → x ≡ y) × (x ≡ y → ((x.cell == y.cell) && (x.part == y.part)) ≡ true)
 part_decides x y = (
   λ both.
       let parts = and_parts (x.cell == y.cell) (x.part == y.part) both in
       let cell = eqb-true x.cell y.cell parts.0 in
       let part = eqb-true x.part y.part parts.1 in
       λ i. record { cell = cell i; part = part i },
-  λ same. rw (eq-eqb x.cell y.cell (ap (λ (e : DriftPart). e.cell) same), eq-eqb x.part y.part (ap (λ (e : DriftPart). e.part) same)) refl,
+  λ same. rw (eq-eqb x.cell y.cell (ap (λ (e : CellPart). e.cell) same), eq-eqb x.part y.part (ap (λ (e : CellPart). e.part) same)) refl,
 )
 
-pub same_row : (xs ys : List DriftPart) → is_same_row xs ys ≡ true → xs ≡ ys
+pub same_row : (xs ys : List CellPart) → is_same_row xs ys ≡ true → xs ≡ ys
 same_row xs ys = (pointwise_decides part_decides xs ys).0
 
-pub row_same : (xs ys : List DriftPart) → xs ≡ ys → is_same_row xs ys ≡ true
+pub row_same : (xs ys : List CellPart) → xs ≡ ys → is_same_row xs ys ≡ true
 row_same xs ys = (pointwise_decides part_decides xs ys).1
 
 -- The same names.
@@ -81,25 +80,25 @@ own_name xs ys c same = (bytes_eq-Decides (name_in xs c) (name_in ys c)).1 (ap (
 
 -- What a row of looks doesn't miss all of.
 
-abbrev pub kept : ℕ → List LookPart → List LookPart
+abbrev pub kept : ℕ → List CellPart → List CellPart
 kept g row = filter (λ e. not (e.part == g)) row
 
 -- a row without its first entry gives all other cells the same factor
-factor_in-other : (g : ℕ) (e : LookPart) (row : List LookPart) (c : ℕ) → e.cell ≢ c → factor_in g (e ∷ row) c ≡ factor_in g row c
+factor_in-other : (g : ℕ) (e : CellPart) (row : List CellPart) (c : ℕ) → e.cell ≢ c → factor_in g (e ∷ row) c ≡ factor_in g row c
 unfolding factor_in
 factor_in-other g e row c apart = rw (ne_eqb e.cell c apart) refl
 
-factor_in-own : (g : ℕ) (e : LookPart) (row : List LookPart) (c : ℕ) → e.cell ≡ c → factor_in g (e ∷ row) c ≡ e.part
+factor_in-own : (g : ℕ) (e : CellPart) (row : List CellPart) (c : ℕ) → e.cell ≡ c → factor_in g (e ∷ row) c ≡ e.part
 unfolding factor_in
 factor_in-own g e row c same = rw (eq-eqb e.cell c same) refl
 
 -- and its own cell all
-factor_in-behind : (g : ℕ) (e : LookPart) (row : List LookPart) → Ascends (λ e. e.cell) (e ∷ row) → factor_in g row e.cell ≡ g
+factor_in-behind : (g : ℕ) (e : CellPart) (row : List CellPart) → Ascends (λ e. e.cell) (e ∷ row) → factor_in g row e.cell ≡ g
 factor_in-behind g e row up =
     factor_in-none g row e.cell (All-weaker (λ d. e.cell < d.cell) (λ d. d.cell ≢ e.cell) (λ d lt same. omega (arith, lt, same)) row (Ascends-head (λ e. e.cell) e row up))
 
 -- what is left out doesn't change a factor
-factor_in-kept : (g : ℕ) (row : List LookPart) (c : ℕ) → Ascends (λ e. e.cell) row → factor_in g (kept g row) c ≡ factor_in g row c
+factor_in-kept : (g : ℕ) (row : List CellPart) (c : ℕ) → Ascends (λ e. e.cell) row → factor_in g (kept g row) c ≡ factor_in g row c
 factor_in-kept g [] c up = refl
 factor_in-kept g (e ∷ row) c up =
     let rest = factor_in-kept g row c (Ascends-tail (λ e. e.cell) e row up) in
@@ -121,12 +120,12 @@ nothing : (g c : ℕ) → factor_in g [] c ≡ g
 unfolding factor_in
 nothing g c = refl
 
-absent : (g c : ℕ) (e : LookPart) (row : List LookPart) → c < e.cell → Ascends (λ e. e.cell) (e ∷ row) → factor_in g (e ∷ row) c ≡ g
+absent : (g c : ℕ) (e : CellPart) (row : List CellPart) → c < e.cell → Ascends (λ e. e.cell) (e ∷ row) → factor_in g (e ∷ row) c ≡ g
 absent g c e row lt up =
     factor_in-other g e row c (λ same. omega (arith, lt, same)) ∙ factor_in-none g row c (All-weaker (λ d. e.cell < d.cell) (λ d. d.cell ≢ c) (λ d more same. omega (arith, lt, more, same)) row (Ascends-head (λ e. e.cell) e row up))
 
 -- rows of the same factors, that miss all of no cell, are the same
-same_factors : (g : ℕ) (xs ys : List LookPart) → Ascends (λ e. e.cell) xs → Ascends (λ e. e.cell) ys → All (λ e. e.part ≢ g) xs → All (λ e. e.part ≢ g) ys → ((c : ℕ) → factor_in g xs c ≡ factor_in g ys c) → xs ≡ ys
+same_factors : (g : ℕ) (xs ys : List CellPart) → Ascends (λ e. e.cell) xs → Ascends (λ e. e.cell) ys → All (λ e. e.part ≢ g) xs → All (λ e. e.part ≢ g) ys → ((c : ℕ) → factor_in g xs c ≡ factor_in g ys c) → xs ≡ ys
 same_factors g [] [] up up' some some' each = refl
 same_factors g [] (y ∷ ys) up up' some some' each =
     absurd (All-head (λ e. e.part ≢ g) y ys some' (sym (factor_in-own g y ys y.cell refl) ∙ sym (each y.cell) ∙ nothing g y.cell))
@@ -152,9 +151,9 @@ same_factors g (x ∷ xs) (y ∷ ys) up up' some some' each =
 
 -- The looks of a problem.
 
-parts_again : (es : List LookPart) → look_parts (map (λ e. record { cell = e.cell; part = e.part }) es) ≡ es
+parts_again : (es : List CellPart) → look_parts (map (λ e. record { cell = e.cell; part = e.part }) es) ≡ es
 parts_again [] = refl
-parts_again (e ∷ es) = ap (λ (xs : List LookPart). e ∷ xs) (parts_again es)
+parts_again (e ∷ es) = ap (λ (xs : List CellPart). e ∷ xs) (parts_again es)
 
 module _ (p : Problem) (h : IsProblem p) where
   pub covered_parts : (t a : ℕ) → look_parts (covered p t a) ≡ kept p.sweep.denominator (look_row p.sweep t a)
@@ -165,7 +164,7 @@ module _ (p : Problem) (h : IsProblem p) where
 
   kept_some : (t a : ℕ) → All (λ e. e.part ≢ p.sweep.denominator) (kept p.sweep.denominator (look_row p.sweep t a))
   kept_some t a =
-      All-weaker {X = LookPart} (λ e. not (e.part == p.sweep.denominator) ≡ true) (λ e. e.part ≢ p.sweep.denominator) (λ e passes all. true≢false (sym passes ∙ rw (eq-eqb e.part p.sweep.denominator all) refl)) (kept p.sweep.denominator (look_row p.sweep t a)) (filter_passes (λ e. not (e.part == p.sweep.denominator)) (look_row p.sweep t a))
+      All-weaker {X = CellPart} (λ e. not (e.part == p.sweep.denominator) ≡ true) (λ e. e.part ≢ p.sweep.denominator) (λ e passes all. true≢false (sym passes ∙ rw (eq-eqb e.part p.sweep.denominator all) refl)) (kept p.sweep.denominator (look_row p.sweep t a)) (filter_passes (λ e. not (e.part == p.sweep.denominator)) (look_row p.sweep t a))
 
   -- what is covered has the factors of the look
   kept_factor : (t a c : ℕ) → factor_in p.sweep.denominator (kept p.sweep.denominator (look_row p.sweep t a)) c ≡ factor_of p.sweep t a c
@@ -173,11 +172,11 @@ module _ (p : Problem) (h : IsProblem p) where
   kept_factor t a c = factor_in-kept p.sweep.denominator (look_row p.sweep t a) c (Ascends-from_keys (λ e. e.cell) (look_row p.sweep t a) (h.sweep.each t a).ascending)
 
   pub covered_factor : (t a c : ℕ) → factor_in p.sweep.denominator (look_parts (covered p t a)) c ≡ factor_of p.sweep t a c
-  covered_factor t a c = ap (λ (row : List LookPart). factor_in p.sweep.denominator row c) (covered_parts t a) ∙ kept_factor t a c
+  covered_factor t a c = ap (λ (row : List CellPart). factor_in p.sweep.denominator row c) (covered_parts t a) ∙ kept_factor t a c
 
   -- looks that cover the same have the same factors
   pub factors_same : (t u a : ℕ) → covered p t a ≡ covered p u a → (c : ℕ) → factor_of p.sweep t a c ≡ factor_of p.sweep u a c
-  factors_same t u a same c = sym (covered_factor t a c) ∙ ap (λ (row : List DriftPart). factor_in p.sweep.denominator (look_parts row) c) same ∙ covered_factor u a c
+  factors_same t u a same c = sym (covered_factor t a c) ∙ ap (λ (row : List CellPart). factor_in p.sweep.denominator (look_parts row) c) same ∙ covered_factor u a c
 
   -- and the other way round
   pub covered_same : (t u a : ℕ) → ((c : ℕ) → c < p.cells → factor_of p.sweep t a c ≡ factor_of p.sweep u a c) → covered p t a ≡ covered p u a
@@ -192,10 +191,10 @@ module _ (p : Problem) (h : IsProblem p) where
 
 -- A look that covers no cell but one.
 
-abbrev as_parts : List LookPart → List DriftPart
+abbrev as_parts : List CellPart → List CellPart
 as_parts xs = map (λ e. record { cell = e.cell; part = e.part }) xs
 
-covers_one : (g q : ℕ) (xs : List LookPart) → Ascends (λ e. e.cell) xs → All (λ e. e.part ≢ g) xs → ((c : ℕ) → c ≢ q → factor_in g xs c ≡ g) → list_all (λ e. e.cell == q) (as_parts xs) ≡ true
+covers_one : (g q : ℕ) (xs : List CellPart) → Ascends (λ e. e.cell) xs → All (λ e. e.part ≢ g) xs → ((c : ℕ) → c ≢ q → factor_in g xs c ≡ g) → list_all (λ e. e.cell == q) (as_parts xs) ≡ true
 covers_one g q [] up some each = refl
 covers_one g q (x ∷ xs) up some each =
     elim (cases_eq x.cell q) [
@@ -204,7 +203,7 @@ covers_one g q (x ∷ xs) up some each =
       | inr other ↦ absurd (All-head (λ e. e.part ≢ g) x xs some (sym (factor_in-own g x xs x.cell refl) ∙ each x.cell other))
     ]
 
-one_covered : (g q : ℕ) (xs : List LookPart) → list_all (λ e. e.cell == q) (as_parts xs) ≡ true → (c : ℕ) → c ≢ q → factor_in g xs c ≡ g
+one_covered : (g q : ℕ) (xs : List CellPart) → list_all (λ e. e.cell == q) (as_parts xs) ≡ true → (c : ℕ) → c ≢ q → factor_in g xs c ≡ g
 unfolding factor_in
 one_covered g q [] all c apart = refl
 one_covered g q (x ∷ xs) all c apart =

@@ -8,7 +8,7 @@ use Rattle.std.proofs.lemmas.List.{length-map}
 use Rattle.std.proofs.lemmas.List.Elements.{All-nil, All-cons, All-map, All-weaker}
 use Rattle.std.proofs.lemmas.List.Sums.{sum_by-cons, fails_before_first}
 use Rattle.std.proofs.lemmas.Slice.Eq.{bytes_eq-Decides}
-use Rattle.drift_chain.specs.declared.part.DriftPart.{DriftPart}
+use Rattle.period_rows.specs.declared.part.CellPart.{CellPart}
 use Rattle.scenario_text.specs.declared.pair.Pair.{Pair}
 use Rattle.scenario_text.specs.Fields.{is_bad, is_over, number_in, cell_named}
 use Rattle.scenario_text.specs.ByCells.{stands_in, has_double, pairs_of, entries_of}
@@ -117,42 +117,42 @@ pairs_once : (pairs : List Pair) → list_any (λ x. is_none x.cell) pairs ≡ f
 pairs_once pairs found single d =
     let cells = map (λ (x : Pair). x.cell) pairs in
     let all : count_by (λ m. m == d) (map (λ m. unwrap_or m 0) cells) ≤ 1 = once_each cells (list_any-map (λ m. is_none m) (λ x. x.cell) pairs ∙ found) single d in
-    let here = sum_by-map (λ (e : DriftPart). cond (e.cell == d) 1 0) (λ (x : Pair). record { cell = unwrap_or x.cell 0; part = number_in x.part }) pairs in
+    let here = sum_by-map (λ (e : CellPart). cond (e.cell == d) 1 0) (λ (x : Pair). record { cell = unwrap_or x.cell 0; part = number_in x.part }) pairs in
     let there = sum_by-map (λ m. cond (m == d) 1 0) (λ m. unwrap_or m 0) cells ∙ sum_by-map (λ (m : Option ℕ). cond (unwrap_or m 0 == d) 1 0) (λ (x : Pair). x.cell) pairs in
     omega (arith, all, here, there)
 
 -- the entries of fields that have no fault among their numbers and names
-module _ (names fields : List (List ℕ)) (es : List DriftPart) where
+module _ (names fields : List (List ℕ)) (es : List CellPart) where
   said_within : (least : ℕ) → AreSaid names least fields es → All (λ e. e.cell < length names) es
   said_within least h =
       let found = any_unknown names fields ∙ h.known in
       let all : All (λ e. e.cell < length names) (entries_of (pairs_of names fields)) = All-map (λ e. e.cell < length names) _ (pairs_of names fields) (pairs_within names fields found) in
-      subst (λ (xs : List DriftPart). All (λ e. e.cell < length names) xs) (entries_alike names fields ∙ h.entries) all
+      subst (λ (xs : List CellPart). All (λ e. e.cell < length names) xs) (entries_alike names fields ∙ h.entries) all
 
   said_once : (least : ℕ) → AreSaid names least fields es → (d : ℕ) → count_by (λ e. e.cell == d) es ≤ 1
   said_once least h d =
       let found = any_unknown names fields ∙ h.known in
       let single = twice names fields h.known ∙ h.once in
-      subst (λ (xs : List DriftPart). count_by (λ e. e.cell == d) xs ≤ 1) (entries_alike names fields ∙ h.entries) (pairs_once (pairs_of names fields) found single d)
+      subst (λ (xs : List CellPart). count_by (λ e. e.cell == d) xs ≤ 1) (entries_alike names fields ∙ h.entries) (pairs_once (pairs_of names fields) found single d)
 
   said_positive : AreSaid names 1 fields es → All (λ e. 1 ≤ e.part) es
   said_positive h =
       let good = parts_any names is_bad 1 fields ∙ h.bad in
       let small = parts_any names (λ l x. is_over x) 1 fields ∙ h.over in
       let all : All (λ e. 1 ≤ e.part) (entries_of (pairs_of names fields)) = All-map (λ e. 1 ≤ e.part) _ (pairs_of names fields) (pairs_positive (pairs_of names fields) good small) in
-      subst (λ (xs : List DriftPart). All (λ e. 1 ≤ e.part) xs) (entries_alike names fields ∙ h.entries) all
+      subst (λ (xs : List CellPart). All (λ e. 1 ≤ e.part) xs) (entries_alike names fields ∙ h.entries) all
 
   pub AreEntries-said : (denominator : ℕ) → AreSaid names 1 fields es → sum_by part (pair_parts fields) ≡ denominator → AreEntries (length names) denominator es
   AreEntries-said denominator h total = record {
     within = said_within 1 h;
     positive = said_positive h;
     once = said_once 1 h;
-    total = ap (λ (xs : List DriftPart). sum_by (λ e. e.part) xs) (sym h.entries) ∙ sym (sum_said names fields) ∙ total;
+    total = ap (λ (xs : List CellPart). sum_by (λ e. e.part) xs) (sym h.entries) ∙ sym (sum_said names fields) ∙ total;
   }
 
   pub AreLooks-said : (denominator : ℕ) → AreSaid names 0 fields es → list_any (λ f. nat_lt denominator (part f)) (pair_parts fields) ≡ false → AreLooks (length names) denominator es
   AreLooks-said denominator h none =
-      let above : list_any (λ e. nat_lt denominator e.part) es ≡ false = ap (λ (xs : List DriftPart). list_any (λ e. nat_lt denominator e.part) xs) (sym h.entries) ∙ sym (any_said names (nat_lt denominator) fields) ∙ none in
+      let above : list_any (λ e. nat_lt denominator e.part) es ≡ false = ap (λ (xs : List CellPart). list_any (λ e. nat_lt denominator e.part) xs) (sym h.entries) ∙ sym (any_said names (nat_lt denominator) fields) ∙ none in
       record {
         within = said_within 0 h;
         parts = All-weaker (λ e. nat_lt denominator e.part ≡ false) (λ e. e.part ≤ denominator) (λ e fails. ltb-false denominator e.part fails) es (none_pass (λ e. nat_lt denominator e.part) es above);

@@ -5,7 +5,7 @@ use Rattle.std.specs.List.{list_all, list_any}
 use Rattle.std.proofs.lemmas.Bool.{ltb-false, leb-false, or_parts, not-false, eqb-true}
 use Rattle.std.proofs.lemmas.List.{length-replicate, length_push}
 use Rattle.std.proofs.lemmas.List.Elements.{All-nil, All-head, All-push, All-weaker, All-replicate}
-use Rattle.drift_chain.specs.declared.part.DriftPart.{DriftPart}
+use Rattle.period_rows.specs.declared.part.CellPart.{CellPart}
 use Rattle.search_grid.specs.Sides.{side_moves}
 use Rattle.search_model.specs.Names.{IsName, is_name_byte}
 use Rattle.scenario_text.specs.declared.draft.Stage.{Stage}
@@ -58,7 +58,7 @@ no_grid a b g e other early h is = elim (h is) [
 ]
 
 -- the positions as the stage goes on
-pub positions_on : (v : TextVersion) (a b : Stage) (cells g : ℕ) (positions : List (List ℕ)) (looks : List (Option (List DriftPart))) → (place_of b ≤ 2 → place_of a ≤ 2) → ArePositions v a cells g positions looks → ArePositions v b cells g positions looks
+pub positions_on : (v : TextVersion) (a b : Stage) (cells g : ℕ) (positions : List (List ℕ)) (looks : List (Option (List CellPart))) → (place_of b ≤ 2 → place_of a ≤ 2) → ArePositions v a cells g positions looks → ArePositions v b cells g positions looks
 positions_on v a b cells g positions looks before h = record {
   few = h.few;
   names = h.names;
@@ -70,7 +70,7 @@ positions_on v a b cells g positions looks before h = record {
 }
 
 -- no row of one period
-pub none_period : (last owners : ℕ) (IsRow : List DriftPart → Type 0) → ArePeriodRows last owners IsRow []
+pub none_period : (last owners : ℕ) (IsRow : List CellPart → Type 0) → ArePeriodRows last owners IsRow []
 none_period last owners IsRow = record {
   periods = All-nil (λ r. (1 ≤ r.period) × (r.period ≤ last));
   within = All-nil (λ r. r.own < owners);
@@ -237,12 +237,12 @@ wider_moves m n le row (inl none) = inl none
 wider_moves m n le row (inr h) =
     inr (record { some = h.some; few = h.few; within = All-weaker (λ d. d < m) (λ d. d < n) (λ d lt. omega arith) row h.within; once = h.once })
 
-wider_entries : (m n d : ℕ) → m ≤ n → (row : List DriftPart) → (length row ≡ 0) ⊎ AreEntries m d row → (length row ≡ 0) ⊎ AreEntries n d row
+wider_entries : (m n d : ℕ) → m ≤ n → (row : List CellPart) → (length row ≡ 0) ⊎ AreEntries m d row → (length row ≡ 0) ⊎ AreEntries n d row
 wider_entries m n d le row (inl none) = inl none
 wider_entries m n d le row (inr h) =
     inr (record { within = All-weaker (λ e. e.cell < m) (λ e. e.cell < n) (λ e lt. omega arith) row h.within; positive = h.positive; once = h.once; total = h.total })
 
-wider_look : (m n g : ℕ) → m ≤ n → (o : Option (List DriftPart)) → IsLook m g o → IsLook n g o
+wider_look : (m n g : ℕ) → m ≤ n → (o : Option (List CellPart)) → IsLook m g o → IsLook n g o
 wider_look m n g le None h = h
 wider_look m n g le (Some row) h = record { within = All-weaker (λ e. e.cell < m) (λ e. e.cell < n) (λ e lt. omega arith) row h.within; parts = h.parts; once = h.once }
 
@@ -274,7 +274,7 @@ module _ (s : State) (name : List ℕ) (at : s.stage ≡ due.Cells) (is_name : I
 
   wider_parts : All (λ row. (length row ≡ 0) ⊎ AreEntries (length (s.names ++ name ∷ [])) s.drift row) (s.parts ++ [] ∷ [])
   wider_parts =
-      let Q : List DriftPart → Type 0 = λ row. (length row ≡ 0) ⊎ AreEntries (length (s.names ++ name ∷ [])) s.drift row in
+      let Q : List CellPart → Type 0 = λ row. (length row ≡ 0) ⊎ AreEntries (length (s.names ++ name ∷ [])) s.drift row in
       All-push Q s.parts [] (All-weaker _ Q (wider_entries (length s.names) (length (s.names ++ name ∷ [])) s.drift (omega (arith, long))) s.parts h.parts) (inl refl)
 
   cell_in : (version : TextVersion) → s.version ≡ version → IsSound (cell_as version s name)
@@ -497,7 +497,7 @@ start_sound s (name ∷ []) t past h e =
 start_sound s (name ∷ more ∷ fields) t past h e = absurd (err_ok BadLine t e)
 
 -- `first NAME PART NAME PART ..`
-first_taken : (s : State) (entries : List DriftPart) → s.stage ≡ due.First → AreEntries (length s.names) s.total entries → IsSound s → IsSound (record s { stage = due.Rows; first = entries })
+first_taken : (s : State) (entries : List CellPart) → s.stage ≡ due.First → AreEntries (length s.names) s.total entries → IsSound s → IsSound (record s { stage = due.Rows; first = entries })
 first_taken s entries at are h = record {
   settled = settled_on s.stage due.Rows _ _ _ _ (reached s.stage due.First 3 at (omega arith)) h.settled;
   few = h.few;

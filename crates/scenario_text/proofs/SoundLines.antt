@@ -6,7 +6,7 @@ use Rattle.std.proofs.lemmas.Bool.{ltb-true, ltb-false, eqb-true, eqb-false, not
 use Rattle.std.proofs.lemmas.List.{length-set, length-map, length-replicate}
 use Rattle.std.proofs.lemmas.List.Elements.{All-set, All-push, All-replicate}
 use Rattle.std.proofs.lemmas.List.Sums.{count_by-le-length, sum_by-cons, sum_by_push}
-use Rattle.drift_chain.specs.declared.part.DriftPart.{DriftPart}
+use Rattle.period_rows.specs.declared.part.CellPart.{CellPart}
 use Rattle.exact_parts.specs.Width.{Fits}
 use Rattle.search_grid.specs.Moves.{moves_from}
 use Rattle.scenario_text.specs.declared.draft.Stage.{Stage}
@@ -83,7 +83,7 @@ moves_sound s (name ∷ moves) t at h e =
     found_moves s (cell_named (positions_in s) name) moves t at (named_within (positions_in s) name) (ltb-false 64 (length moves) few.0) h few.1
 
 -- `drift NAME NAME PART NAME PART ..`
-parts_set : (s : State) (c : ℕ) (row : List DriftPart) → s.stage ≡ due.Rows → AreEntries (length s.names) s.drift row → IsSound s → IsSound (record s { parts = set s.parts c row })
+parts_set : (s : State) (c : ℕ) (row : List CellPart) → s.stage ≡ due.Rows → AreEntries (length s.names) s.drift row → IsSound s → IsSound (record s { parts = set s.parts c row })
 parts_set s c row at are h = record {
   settled = h.settled;
   few = h.few;
@@ -129,7 +129,7 @@ none_counts p (x ∷ xs) none =
     let parts = or_parts (p x) (list_any p xs) none in
     sum_by-cons (λ y. cond (p y) 1 0) x xs ∙ rw parts.0 (omega (arith, none_counts p xs parts.1))
 
-period_row_more : (last owners : ℕ) (IsRow : List DriftPart → Type 0) (rows : List PeriodRow) (r : PeriodRow) → (1 ≤ r.period) × (r.period ≤ last) → r.own < owners → IsRow r.row → has_period_row rows r.period r.own ≡ false → ArePeriodRows last owners IsRow rows → ArePeriodRows last owners IsRow (rows ++ r ∷ [])
+period_row_more : (last owners : ℕ) (IsRow : List CellPart → Type 0) (rows : List PeriodRow) (r : PeriodRow) → (1 ≤ r.period) × (r.period ≤ last) → r.own < owners → IsRow r.row → has_period_row rows r.period r.own ≡ false → ArePeriodRows last owners IsRow rows → ArePeriodRows last owners IsRow (rows ++ r ∷ [])
 period_row_more last owners IsRow rows r when whose right new h = record {
   periods = All-push (λ x. (1 ≤ x.period) × (x.period ≤ last)) rows r h.periods when;
   within = All-push (λ x. x.own < owners) rows r h.within whose;
@@ -215,7 +215,7 @@ drift_in_sound s (period ∷ name ∷ fields) t at h e =
     sound_ok _ t right.1 (drift_row_added s _ at.0 at.1 rows h)
 
 -- `look NAME NAME PART NAME PART ..`
-look_set : (s : State) (q : ℕ) (row : List DriftPart) → s.stage ≡ due.Rows → AreLooks (length s.names) s.look row → IsSound s → IsSound (record s { looks = set s.looks q (Some row) })
+look_set : (s : State) (q : ℕ) (row : List CellPart) → s.stage ≡ due.Rows → AreLooks (length s.names) s.look row → IsSound s → IsSound (record s { looks = set s.looks q (Some row) })
 look_set s q row at are h = record {
   settled = h.settled;
   few = h.few;

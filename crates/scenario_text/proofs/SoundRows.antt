@@ -7,7 +7,7 @@ use Rattle.std.proofs.lemmas.List.Elements.{All-map, All-filter, All-from_get_or
 use Rattle.std.proofs.lemmas.List.FromFn.{length-map-range_with_len, get_or-map-range_with_len}
 use Rattle.std.proofs.lemmas.List.Kept.{AllPairs-from_increasing}
 use Rattle.std.proofs.lemmas.List.Sums.{sum_by-cons, count_by-le-length}
-use Rattle.drift_chain.specs.declared.part.DriftPart.{DriftPart}
+use Rattle.period_rows.specs.declared.part.CellPart.{CellPart}
 use Rattle.search_grid.specs.Moves.{moves_from, IsMoveRow}
 use Rattle.search_grid.specs.Sides.{is_beside, side_moves}
 use Rattle.list_laws.proofs.Ascending.{count_at-le}
@@ -123,8 +123,8 @@ spread_total denominator part c row once some le =
 pub AreEntries-spread : (cells denominator part c : ℕ) (row : List ℕ) → AreMoves cells row → count_by (λ m. m == c) row ≡ 1 → part * (length row - 1) ≤ denominator → AreEntries cells denominator (spread_row denominator part c row)
 unfolding spread_row
 AreEntries-spread cells denominator part c row moves own le =
-    let f : ℕ → DriftPart = λ m. record { cell = m; part = if m == c then rest_of denominator part (length row) else part } in
-    let p : DriftPart → Bool = λ e. nat_lt 0 e.part in
+    let f : ℕ → CellPart = λ m. record { cell = m; part = if m == c then rest_of denominator part (length row) else part } in
+    let p : CellPart → Bool = λ e. nat_lt 0 e.part in
     let all : sum_by (λ e. e.part) (filter p (map f row)) ≡ denominator =
     kept_sum (λ e. e.part) (map f row) ∙ sum_by-map (λ e. e.part) f row ∙ spread_total denominator part c row own moves.some le in
     record {
@@ -156,5 +156,5 @@ All-spread_rows cells denominator part moves all own narrow =
     let P : List ℕ → Type 0 = λ r. (length r ≡ 0) ⊎ AreMoves cells r in
     let given : (length (moves_from moves c) ≡ 0) ⊎ AreMoves cells (moves_from moves c) = subst P (sym row) (all c [] within) in
     let fails : nat_lt denominator (part * (length (moves_from moves c) - 1)) ≡ false = rw row (none_pass (λ r. nat_lt denominator (part * (length r - 1))) moves narrow c [] within) in
-    let Q : List DriftPart → Type 0 = λ r. (length r ≡ 0) ⊎ AreEntries cells denominator r in
+    let Q : List CellPart → Type 0 = λ r. (length r ≡ 0) ⊎ AreEntries cells denominator r in
     subst Q (sym at) (inr (AreEntries-spread cells denominator part c (moves_from moves c) (own_row cells c (moves_from moves c) given here) here (ltb-false _ _ fails))))

@@ -9,17 +9,17 @@ use Rattle.std.proofs.lemmas.List.Folds.{list_any_at}
 use Rattle.std.proofs.lemmas.List.FromFn.{map-range_with_len_more}
 use Rattle.search_grid.specs.Moves.{moves_from}
 use Rattle.search_grid.proofs.MoveRows.{moves_from-map}
-use Rattle.drift_chain.specs.declared.part.DriftPart.{DriftPart}
+use Rattle.period_rows.specs.declared.part.CellPart.{CellPart}
 use Rattle.search_model.specs.Grids.{rest_of, spread_row}
 
 -- the entry of a move, and the entries that stand
-abbrev pub entry_to : ℕ → ℕ → ℕ → ℕ → DriftPart
+abbrev pub entry_to : ℕ → ℕ → ℕ → ℕ → CellPart
 entry_to c rest part m = record { cell = m; part = if m == c then rest else part }
 
-abbrev pub kept : List DriftPart → List DriftPart
+abbrev pub kept : List CellPart → List CellPart
 kept entries = filter (λ e. nat_lt 0 e.part) entries
 
-pub kept_more : (f : ℕ → DriftPart) (moves : List ℕ) (i : ℕ) → i < length moves → kept (map f (take (i + 1) moves)) ≡ kept (map f (take i moves)) ++ kept (f (get_or moves i 0) ∷ [])
+pub kept_more : (f : ℕ → CellPart) (moves : List ℕ) (i : ℕ) → i < length moves → kept (map f (take (i + 1) moves)) ≡ kept (map f (take i moves)) ++ kept (f (get_or moves i 0) ∷ [])
 kept_more f moves i lt = ap kept (map_more f moves i 0 lt) ∙ filter-append (λ e. nat_lt 0 e.part) (map f (take i moves)) (f (get_or moves i 0) ∷ [])
 
 pub spread_row-is : (denominator part c rest : ℕ) (moves : List ℕ) → rest ≡ rest_of denominator part (length moves) → kept (map (entry_to c rest part) moves) ≡ spread_row denominator part c moves

@@ -6,7 +6,7 @@ use Rattle.scenario_text.specs.declared.kind.TextKind.TheVariants.{BadNumber, Ov
 use Rattle.scenario_text.specs.declared.pair.Pair.{Pair}
 use Rattle.scenario_text.specs.Fields.{number_in, cell_named}
 use Rattle.exact_parts.specs.Decimal.{number_at}
-use Rattle.drift_chain.specs.declared.part.DriftPart.{DriftPart}
+use Rattle.period_rows.specs.declared.part.CellPart.{CellPart}
 
 -- a cell's number stands among others
 abbrev pub stands_in : Option ℕ → List (Option ℕ) → Bool
@@ -25,7 +25,7 @@ pairs_of names (name ∷ []) = []
 pairs_of names (name ∷ part ∷ fields) = record { cell = cell_named names name; part = number_at 1000000 part } ∷ pairs_of names fields
 
 -- their entries
-abbrev pub entries_of : List Pair → List DriftPart
+abbrev pub entries_of : List Pair → List CellPart
 entries_of pairs = map (λ x. record { cell = unwrap_or x.cell 0; part = number_in x.part }) pairs
 
 -- nothing, or the first kind of fault among the numbers and the names of pairs

@@ -4,7 +4,7 @@ use Rattle.std.specs.Str.{bytes_eq}
 use Rattle.std.specs.Cmp.Lexicographic.{pointwise}
 use Rattle.std.specs.List.{flat_map, list_all, range_with_len}
 use Rattle.text_rows.specs.Rows.{text_of}
-use Rattle.drift_chain.specs.declared.part.DriftPart.{DriftPart}
+use Rattle.period_rows.specs.declared.part.CellPart.{CellPart}
 use Rattle.drift_chain.specs.DriftRows.{row_of}
 use Rattle.sweep_table.specs.LookParts.{look_row, factor_of}
 use Rattle.search_model.specs.Problem.{Problem, first_of}
@@ -15,23 +15,23 @@ use Rattle.scenario_text.specs.StateRows.{state_rows}
 use Rattle.scenario_text.specs.Reading.{Front}
 
 -- the cells with a positive first part, ascending
-abbrev pub first_entries : Problem → List DriftPart
+abbrev pub first_entries : Problem → List CellPart
 first_entries p = flat_map (λ c. if first_of p c == 0 then [] else record { cell = c; part = first_of p c } ∷ []) (range_with_len 0 p.cells)
 
 -- the cells that a look from position a in period t covers, ascending: those of which it doesn't miss all
-abbrev pub covered : Problem → ℕ → ℕ → List DriftPart
+abbrev pub covered : Problem → ℕ → ℕ → List CellPart
 covered p t a = map (λ e. record { cell = e.cell; part = e.part }) (filter (λ e. not (e.part == p.sweep.denominator)) (look_row p.sweep t a))
 
 -- the same entries in the same order
-abbrev pub is_same_row : List DriftPart → List DriftPart → Bool
+abbrev pub is_same_row : List CellPart → List CellPart → Bool
 is_same_row xs ys = pointwise (λ x y. (x.cell == y.cell) && (x.part == y.part)) xs ys
 
 -- the rows of period t that aren't those of period 1, by their owners
-abbrev pub other_rows : (ℕ → ℕ → List DriftPart) → ℕ → ℕ → List PeriodRow
+abbrev pub other_rows : (ℕ → ℕ → List CellPart) → ℕ → ℕ → List PeriodRow
 other_rows row owners t = flat_map (λ c. if is_same_row (row t c) (row 1 c) then [] else record { period = t; own = c; row = row t c } ∷ []) (range_with_len 0 owners)
 
 -- and of the periods 2 to the last one, by periods and owners
-abbrev pub later_rows : (ℕ → ℕ → List DriftPart) → ℕ → ℕ → List PeriodRow
+abbrev pub later_rows : (ℕ → ℕ → List CellPart) → ℕ → ℕ → List PeriodRow
 later_rows row owners last = flat_map (other_rows row owners) (range_with_len 2 (last - 1))
 
 -- the target drifts after each period but the last one
@@ -43,11 +43,11 @@ abbrev pub look_changes : Problem → List PeriodRow
 look_changes p = later_rows (covered p) p.positions p.horizon
 
 -- whether the rows of period t are those of period 1
-abbrev pub is_as_first : (ℕ → ℕ → List DriftPart) → ℕ → ℕ → Bool
+abbrev pub is_as_first : (ℕ → ℕ → List CellPart) → ℕ → ℕ → Bool
 is_as_first row owners t = list_all (λ c. is_same_row (row t c) (row 1 c)) (range_with_len 0 owners)
 
 -- and whether those of the periods 2 to the last one are
-abbrev pub is_steady : (ℕ → ℕ → List DriftPart) → ℕ → ℕ → Bool
+abbrev pub is_steady : (ℕ → ℕ → List CellPart) → ℕ → ℕ → Bool
 is_steady row owners last = list_all (is_as_first row owners) (range_with_len 2 (last - 1))
 
 -- whether a look from position a in period 1 covers no cell but the one of its number

@@ -4,7 +4,7 @@ use Rattle.std.specs.Str.{bytes_eq}
 use Rattle.exact_parts.specs.declared.number.Number.{Number}
 use Rattle.exact_parts.specs.declared.number.Number.TheVariants.{NotPlain, Above, Of}
 use Rattle.exact_parts.specs.Decimal.{number_at}
-use Rattle.drift_chain.specs.declared.part.DriftPart.{DriftPart}
+use Rattle.period_rows.specs.declared.part.CellPart.{CellPart}
 
 -- blanks alone, or a comment
 abbrev pub says_nothing : List (List ℕ) → Bool
@@ -45,7 +45,7 @@ abbrev pub are_pairs : List (List ℕ) → Bool
 are_pairs fields = nat_le 2 (length fields) && are_even fields
 
 -- the entries of `NAME PART NAME PART ..`
-unfoldable pub entries_in : List (List ℕ) → List (List ℕ) → List DriftPart
+unfoldable pub entries_in : List (List ℕ) → List (List ℕ) → List CellPart
 entries_in names [] = []
 entries_in names (name ∷ []) = []
 entries_in names (name ∷ part ∷ fields) = record { cell = unwrap_or (cell_named names name) 0; part = number_in (number_at 1000000 part) } ∷ entries_in names fields

@@ -3,10 +3,9 @@ use Rattle.std.specs.Prelude.{ℕ, ◌-◌, ◌==◌, if◌then◌else◌, List,
 use Rattle.std.specs.List.{flat_map, join_with_byte, range_with_len}
 use Rattle.std.specs.Fmt.{decimal}
 use Rattle.text_rows.specs.Rows.{text_of}
-use Rattle.drift_chain.specs.declared.part.DriftPart.{DriftPart}
+use Rattle.period_rows.specs.declared.part.CellPart.{CellPart}
 use Rattle.drift_chain.specs.DriftRows.{row_of}
 use Rattle.search_grid.specs.Moves.{moves_from}
-use Rattle.sweep_table.specs.declared.part.LookPart.{LookPart}
 use Rattle.sweep_table.specs.LookParts.{factor_of}
 use Rattle.search_model.specs.Problem.{Problem, first_of, cell_name, position_name}
 use Rattle.scenario_text.specs.declared.draft.TextVersion.{TextVersion}
@@ -24,7 +23,7 @@ abbrev pub name_text : Problem → ℕ → List ℕ
 name_text p q = 32 ∷ position_name p q
 
 -- ` NAME PART`
-abbrev pub entry_text : Problem → DriftPart → List ℕ
+abbrev pub entry_text : Problem → CellPart → List ℕ
 entry_text p e = 32 ∷ (cell_name p e.cell ++ 32 ∷ decimal e.part)
 
 -- ` NAME PART` of a cell with a positive first part
@@ -32,7 +31,7 @@ abbrev pub first_text : Problem → ℕ → List ℕ
 first_text p c = if first_of p c == 0 then [] else entry_text p (record { cell = c; part = first_of p c })
 
 -- ` NAME PART` of a cell that a look covers, where it doesn't miss all of it
-abbrev pub covered_text : Problem → LookPart → List ℕ
+abbrev pub covered_text : Problem → CellPart → List ℕ
 covered_text p e = if e.part == p.sweep.denominator then [] else entry_text p (record { cell = e.cell; part = e.part })
 
 -- the first three lines

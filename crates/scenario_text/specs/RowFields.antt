@@ -2,11 +2,11 @@
 use Rattle.std.specs.Prelude.{ℕ, List, [], ◌∷◌, map, codes}
 use Rattle.std.specs.List.{flat_map}
 use Rattle.std.specs.Fmt.{decimal}
-use Rattle.drift_chain.specs.declared.part.DriftPart.{DriftPart}
+use Rattle.period_rows.specs.declared.part.CellPart.{CellPart}
 use Rattle.search_model.specs.Names.{name_in}
 
 -- `NAME PART NAME PART ..`
-abbrev pub entry_fields : List (List ℕ) → List DriftPart → List (List ℕ)
+abbrev pub entry_fields : List (List ℕ) → List CellPart → List (List ℕ)
 entry_fields names entries = flat_map (λ e. name_in names e.cell ∷ decimal e.part ∷ []) entries
 
 -- `cell NAME`
@@ -18,7 +18,7 @@ abbrev pub moves_of : List (List ℕ) → ℕ → List ℕ → List (List ℕ)
 moves_of names c moves = codes "moves" ∷ name_in names c ∷ map (name_in names) moves
 
 -- `drift NAME NAME PART ..` of a cell
-abbrev pub drift_of : List (List ℕ) → ℕ → List DriftPart → List (List ℕ)
+abbrev pub drift_of : List (List ℕ) → ℕ → List CellPart → List (List ℕ)
 drift_of names c entries = codes "drift" ∷ name_in names c ∷ entry_fields names entries
 
 -- `overlook NAME PART` of a cell

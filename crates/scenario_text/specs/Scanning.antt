@@ -1,7 +1,7 @@
 -- What was seen of the pairs of a line, while they are read one after the other.
 use Rattle.std.specs.Prelude.{ℕ, ◌≡◌, ◌||◌, ◌==◌, false, List, [], ◌∷◌, ◌++◌, map, is_none}
 use Rattle.std.specs.List.{list_any}
-use Rattle.drift_chain.specs.declared.part.DriftPart.{DriftPart}
+use Rattle.period_rows.specs.declared.part.CellPart.{CellPart}
 use Rattle.scenario_text.specs.declared.pair.Pair.{Pair}
 use Rattle.scenario_text.specs.declared.pairs.Scan.{Scan}
 use Rattle.scenario_text.specs.Fields.{is_bad, is_over}
@@ -24,7 +24,7 @@ pub record IsMarked (least : ℕ) (old : Scan) (pair : Pair) (new : Scan) : Type
   pub entries : new.entries ≡ old.entries
 
 -- an entry was added, unless its cell stands in an entry already
-pub record IsAdded (old : Scan) (entry : DriftPart) (new : Scan) : Type 0 where
+pub record IsAdded (old : Scan) (entry : CellPart) (new : Scan) : Type 0 where
   pub bad : new.bad ≡ old.bad
   pub over : new.over ≡ old.over
   pub unknown : new.unknown ≡ old.unknown

@@ -3,13 +3,11 @@ use Rattle.std.specs.Prelude.{ℕ, ◌≡◌, ◌+◌, ◌<◌, List, [], map, l
 use Rattle.std.specs.List.{AllZip}
 use Rattle.std.specs.List.Sorted.{IsPermutation}
 use Rattle.search_grid.specs.Faults.{HasSameMoves}
-use Rattle.drift_chain.specs.declared.part.DriftPart.{DriftPart}
-use Rattle.drift_chain.specs.DriftRows.{DriftRowChange, part_in}
-use Rattle.drift_chain.specs.Faults.{HasSameParts}
-use Rattle.drift_chain.specs.ChangeFaults.{AreSameChanges}
-use Rattle.sweep_table.specs.declared.part.LookPart.{LookPart}
-use Rattle.sweep_table.specs.LookParts.{LookParts, LookRowChange, misses, parts_over}
-use Rattle.sweep_table.specs.Changes.{HaveAscendingRows, IsSameChange}
+use Rattle.period_rows.specs.declared.part.CellPart.{CellPart}
+use Rattle.period_rows.specs.Changes.{RowChange, HaveRows, IsSameChange}
+use Rattle.drift_chain.specs.DriftRows.{part_in}
+use Rattle.sweep_table.specs.LookParts.{LookParts, misses, parts_over}
+use Rattle.period_rows.specs.Rows.{IsAscending}
 use Rattle.search_model.specs.Problem.{Problem, IsProblem, first_of}
 use Rattle.scenario_text.specs.declared.stop.TextStop.{TextStop}
 use Rattle.scenario_text.specs.declared.stop.TextStop.TheVariants.{Fault, NoMemory}
@@ -20,16 +18,16 @@ use Rattle.scenario_text.specs.State.{State, PeriodRow, positions_in}
 use Rattle.scenario_text.specs.Reading.{Front, front_of, alone_of}
 
 -- a drift row of one period, as a drift has it
-abbrev pub drift_change_of : PeriodRow → DriftRowChange
-drift_change_of r = record { period = r.period; cell = r.own; row = r.row }
+abbrev pub drift_change_of : PeriodRow → RowChange
+drift_change_of r = record { period = r.period; owner = r.own; row = r.row }
 
 -- the entries of a look row, as a sweep has them
-abbrev pub look_parts : List DriftPart → List LookPart
+abbrev pub look_parts : List CellPart → List CellPart
 look_parts row = map (λ e. misses e.cell e.part) row
 
 -- a look row of one period, as a sweep has it
-abbrev pub look_change_of : PeriodRow → LookRowChange
-look_change_of r = record { period = r.period; position = r.own; row = look_parts r.row }
+abbrev pub look_change_of : PeriodRow → RowChange
+look_change_of r = record { period = r.period; owner = r.own; row = look_parts r.row }
 
 -- in version 2 the looks are those of the rows, and of the rows of single periods, with their entries in ascending order
 pub record AreLooksOf (s : State) (sweep : LookParts) : Type 0 where
@@ -37,7 +35,7 @@ pub record AreLooksOf (s : State) (sweep : LookParts) : Type 0 where
   pub cells : sweep.cells ≡ length s.names
   pub rows : AllZip IsPermutation (map (λ row. look_parts (unwrap_or row [])) s.looks) sweep.rows
   pub changes : AllZip IsSameChange (map look_change_of s.look_rows) sweep.changes
-  pub ascending : HaveAscendingRows sweep.changes
+  pub ascending : HaveRows IsAscending sweep.changes
 
 -- in version 1 each look covers the cell of its position's number alone, with its overlook part
 abbrev pub SaysLooks : TextVersion → State → LookParts → Type 0
@@ -55,8 +53,8 @@ pub record Says (s : State) (p : Problem) : Type 0 where
   pub first : (c : ℕ) → c < p.cells → first_of p c ≡ part_in s.first c
   pub moves : HasSameMoves s.moves p.moves
   pub denominator : p.drift.denominator ≡ s.drift
-  pub parts : HasSameParts s.parts p.drift.rows
-  pub changes : AreSameChanges (map drift_change_of s.drift_rows) p.drift.changes
+  pub parts : AllZip IsPermutation s.parts p.drift.rows
+  pub changes : AllZip IsSameChange (map drift_change_of s.drift_rows) p.drift.changes
   pub sweep : SaysLooks s.version s p.sweep
 
 -- the text of this scenario, up to its line `end`, stands at the front, and has so many bytes

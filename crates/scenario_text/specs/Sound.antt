@@ -1,7 +1,7 @@
 -- What the lines that were read have settled.
 use Rattle.std.specs.Prelude.{ℕ, ◌≡◌, ◌<◌, ◌≤◌, ◌==◌, ◌&&◌, ◌-◌, ◌⊎◌, true, false, List, [], length, count_by, sum_by, All, Option, None, Some}
 use Rattle.exact_parts.specs.Width.{Fits}
-use Rattle.drift_chain.specs.declared.part.DriftPart.{DriftPart}
+use Rattle.period_rows.specs.declared.part.CellPart.{CellPart}
 use Rattle.search_grid.specs.Moves.{moves_from}
 use Rattle.search_model.specs.Names.{IsName, IsRepeated}
 use Rattle.scenario_text.specs.declared.draft.Stage.{Stage}
@@ -31,14 +31,14 @@ pub record IsSettled (stage : Stage) (t a d g : ℕ) : Type 0 where
   pub look : 3 ≤ place_of stage → (1 ≤ g) × (g ≤ 1000000)
 
 -- entries for different cells, out of so many, with positive parts that sum to the denominator
-pub record AreEntries (cells denominator : ℕ) (entries : List DriftPart) : Type 0 where
+pub record AreEntries (cells denominator : ℕ) (entries : List CellPart) : Type 0 where
   pub within : All (λ e. e.cell < cells) entries
   pub positive : All (λ e. 1 ≤ e.part) entries
   pub once : (d : ℕ) → count_by (λ e. e.cell == d) entries ≤ 1
   pub total : sum_by (λ e. e.part) entries ≡ denominator
 
 -- entries for different cells, out of so many, with parts up to the denominator
-pub record AreLooks (cells denominator : ℕ) (entries : List DriftPart) : Type 0 where
+pub record AreLooks (cells denominator : ℕ) (entries : List CellPart) : Type 0 where
   pub within : All (λ e. e.cell < cells) entries
   pub parts : All (λ e. e.part ≤ denominator) entries
   pub once : (d : ℕ) → count_by (λ e. e.cell == d) entries ≤ 1
@@ -56,12 +56,12 @@ IsPart look None = Unit {0}
 IsPart look (Some part) = part ≤ look
 
 -- a row of looks, if there is one
-abbrev pub IsLook : ℕ → ℕ → Option (List DriftPart) → Type 0
+abbrev pub IsLook : ℕ → ℕ → Option (List CellPart) → Type 0
 IsLook cells look None = Unit {0}
 IsLook cells look (Some row) = AreLooks cells look row
 
 -- the positions that have names of their own, in version 2, each with its row of looks
-pub record ArePositions (version : TextVersion) (stage : Stage) (cells look : ℕ) (positions : List (List ℕ)) (looks : List (Option (List DriftPart))) : Type 0 where
+pub record ArePositions (version : TextVersion) (stage : Stage) (cells look : ℕ) (positions : List (List ℕ)) (looks : List (Option (List CellPart))) : Type 0 where
   pub few : length positions ≤ 200
   pub names : All IsName positions
   pub differ : (q : ℕ) → ¬ IsRepeated positions q
@@ -71,7 +71,7 @@ pub record ArePositions (version : TextVersion) (stage : Stage) (cells look : �
   pub cells_alone : version ≡ One → length positions ≡ 0
 
 -- rows of one period each, for periods up to the last and for owners out of so many, no two for the same
-pub record ArePeriodRows (last owners : ℕ) (IsRow : List DriftPart → Type 0) (rows : List PeriodRow) : Type 0 where
+pub record ArePeriodRows (last owners : ℕ) (IsRow : List CellPart → Type 0) (rows : List PeriodRow) : Type 0 where
   pub periods : All (λ r. (1 ≤ r.period) × (r.period ≤ last)) rows
   pub within : All (λ r. r.own < owners) rows
   pub right : All (λ r. IsRow r.row) rows

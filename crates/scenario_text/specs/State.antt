@@ -1,7 +1,7 @@
 -- What has been read so far.
 use Rattle.std.specs.Prelude.{ℕ, Bool, false, List, [], map, Option}
 use Rattle.std.specs.Option.{option_map}
-use Rattle.drift_chain.specs.declared.part.DriftPart.{DriftPart}
+use Rattle.period_rows.specs.declared.part.CellPart.{CellPart}
 use Rattle.scenario_text.specs.declared.draft.Stage.{Stage}
 use Rattle.scenario_text.specs.declared.draft.Stage.TheVariants.{Version}
 use Rattle.scenario_text.specs.declared.draft.TextVersion.{TextVersion}
@@ -13,7 +13,7 @@ use Rattle.scenario_text.specs.declared.draft.RowIn.{RowIn}
 pub record PeriodRow : Type 0 where
   pub period : ℕ
   pub own : ℕ
-  pub row : List DriftPart
+  pub row : List CellPart
 
 -- `moves` has an element a position, `parts` and, in version 1, `overlook` one a cell, and, in version 2, `looks` one a position;
 -- a row of moves or of parts that wasn't read yet is empty. The last two lists are in the order of their lines.
@@ -28,11 +28,11 @@ pub record State : Type 0 where
   pub positions : List (List ℕ)
   pub gridded : Bool
   pub start : ℕ
-  pub first : List DriftPart
+  pub first : List CellPart
   pub moves : List (List ℕ)
-  pub parts : List (List DriftPart)
+  pub parts : List (List CellPart)
   pub overlook : List (Option ℕ)
-  pub looks : List (Option (List DriftPart))
+  pub looks : List (Option (List CellPart))
   pub drift_rows : List PeriodRow
   pub look_rows : List PeriodRow
 

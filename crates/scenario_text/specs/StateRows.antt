@@ -2,7 +2,7 @@
 use Rattle.std.specs.Prelude.{ℕ, List, [], ◌∷◌, ◌++◌, map, length, unwrap_or, slice_index_or, None, codes}
 use Rattle.std.specs.List.{range_with_len}
 use Rattle.std.specs.Fmt.{decimal}
-use Rattle.drift_chain.specs.declared.part.DriftPart.{DriftPart}
+use Rattle.period_rows.specs.declared.part.CellPart.{CellPart}
 use Rattle.search_grid.specs.Moves.{moves_from}
 use Rattle.search_model.specs.Names.{name_in}
 use Rattle.scenario_text.specs.declared.draft.TextVersion.{TextVersion}
@@ -24,7 +24,7 @@ abbrev pub drift_in_of : List (List ℕ) → PeriodRow → List (List ℕ)
 drift_in_of names r = codes "driftin" ∷ decimal r.period ∷ name_in names r.own ∷ entry_fields names r.row
 
 -- `look NAME NAME PART ..`
-abbrev pub look_of : List (List ℕ) → List (List ℕ) → ℕ → List DriftPart → List (List ℕ)
+abbrev pub look_of : List (List ℕ) → List (List ℕ) → ℕ → List CellPart → List (List ℕ)
 look_of names positions q row = codes "look" ∷ name_in positions q ∷ entry_fields names row
 
 -- `lookin T NAME NAME PART ..`

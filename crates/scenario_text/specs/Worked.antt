@@ -1,6 +1,6 @@
 -- Worked texts: what their lines add, and a fault of each kind.
 use Rattle.std.specs.Prelude.{ℕ, ◌≡◌, ◌+◌, true, false, List, [], ◌∷◌, ◌++◌, take, Some, Result, Ok, Err, codes}
-use Rattle.drift_chain.specs.declared.part.DriftPart.{DriftPart}
+use Rattle.period_rows.specs.declared.part.CellPart.{CellPart}
 use Rattle.scenario_text.specs.declared.draft.Stage.TheVariants.{Ended}
 use Rattle.scenario_text.specs.declared.draft.TextVersion.TheVariants.{One}
 use Rattle.scenario_text.specs.declared.kind.TextKind.{TextKind}
@@ -13,7 +13,7 @@ use Rattle.scenario_text.specs.Reading.{Front, lines_at}
 abbrev pub said : List (List ℕ) → Result Front TextFault
 said lines = lines_at blank_state 1 lines
 
-abbrev pub entry : ℕ → ℕ → DriftPart
+abbrev pub entry : ℕ → ℕ → CellPart
 entry cell part = record { cell = cell; part = part }
 
 -- two cells, each with its rows

@@ -1,6 +1,6 @@
 -- Worked texts of version 2: what their lines add, and faults of each kind.
 use Rattle.std.specs.Prelude.{ℕ, ◌≡◌, ◌-◌, false, List, [], ◌∷◌, ◌++◌, take, Some, Ok, codes}
-use Rattle.drift_chain.specs.declared.part.DriftPart.{DriftPart}
+use Rattle.period_rows.specs.declared.part.CellPart.{CellPart}
 use Rattle.scenario_text.specs.declared.draft.Stage.TheVariants.{Ended}
 use Rattle.scenario_text.specs.declared.draft.TextVersion.TheVariants.{Two}
 use Rattle.scenario_text.specs.declared.kind.TextKind.{TextKind}
@@ -26,7 +26,7 @@ by_positions =
     ∷ codes "lookin 2 w b 0"
     ∷ []
 
-abbrev pub in_period : ℕ → ℕ → List DriftPart → PeriodRow
+abbrev pub in_period : ℕ → ℕ → List CellPart → PeriodRow
 in_period period own row = record { period = period; own = own; row = row }
 
 abbrev pub positions_say : State

@@ -4,8 +4,11 @@ ghost use Rattle.std.specs.Prelude.{[], ◌≡◌, ◌≤◌, map, length, IfOk}
 ghost use Rattle.drift_chain.specs.declared.faults.DriftFault.{DriftFault};
 ghost use Rattle.drift_chain.specs.declared.changes.ChangeFault.{ChangeFault as ChangeFaultLem};
 ghost use Rattle.drift_chain.specs.DriftRows.{IsDrift, drift_cells, drift_with};
-ghost use Rattle.drift_chain.specs.Faults.{HasSameParts, HasFault};
-ghost use Rattle.drift_chain.specs.ChangeFaults.{AreSameChanges, HasChangeFault, row_change};
+ghost use Rattle.std.specs.List.{AllZip};
+ghost use Rattle.std.specs.List.Sorted.{IsPermutation};
+ghost use Rattle.drift_chain.specs.Faults.{HasFault};
+ghost use Rattle.period_rows.specs.Changes.{IsSameChange};
+ghost use Rattle.drift_chain.specs.ChangeFaults.{HasChangeFault, row_change};
 ghost use Rattle.scenario_text.specs.State.{period_row_of};
 ghost use Rattle.scenario_text.specs.Scenarios.{drift_change_of};
 
@@ -36,7 +39,7 @@ pub fn base_drift(denominator: u32, rows: Vec<Vec<DriftPart>>) -> Drift
     requires most_rows { length rows.items ≤ 200 }
     requires faultless { (fault : DriftFault) → HasFault denominator (map (λ row. row.items) rows.items) fault → ⊥ }
     ensures denominator { result.denominator ≡ denominator }
-    ensures made { HasSameParts (map (λ row. row.items) rows.items) result.rows }
+    ensures made { AllZip IsPermutation (map (λ row. row.items) rows.items) result.rows }
     ensures steady { result.changes ≡ [] }
     ensures sound { IsDrift result }
 {
@@ -57,7 +60,7 @@ pub fn changed_drift(
     requires faultless { (fault : ChangeFaultLem) →
         HasChangeFault drift.denominator (drift_cells drift) (map row_change changes.items) fault → ⊥ }
     ensures base { IfOk result (λ changed. changed ≡ drift_with drift changed.changes) }
-    ensures made { IfOk result (λ changed. AreSameChanges (map row_change changes.items) changed.changes) }
+    ensures made { IfOk result (λ changed. AllZip IsSameChange (map row_change changes.items) changed.changes) }
     ensures sound { IfOk result IsDrift }
 {
     if changes.is_empty() {

@@ -13,7 +13,7 @@ mod line;
 mod number_field;
 mod pair;
 mod pairs;
-mod period_rows;
+mod rows_in_period;
 mod pieces;
 mod printing;
 mod reading;

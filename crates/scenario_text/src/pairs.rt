@@ -3,7 +3,7 @@
 
 ghost use Rattle.std.specs.Prelude.{◌≡◌, ◌≤◌, ◌||◌, ◌==◌, false, List, ◌++◌, ◌∷◌, [], map, length, sum_by, IfOk, OnOk};
 ghost use Rattle.std.specs.List.{list_any};
-ghost use Rattle.drift_chain.specs.declared.part.DriftPart.{DriftPart};
+ghost use Rattle.period_rows.specs.declared.part.CellPart.{CellPart as DriftPart};
 ghost use Rattle.text_rows.specs.Fields.{fields_of as fields_lem};
 ghost use Rattle.scenario_text.specs.declared.pair.Pair.{Pair};
 ghost use Rattle.scenario_text.specs.Fields.{number_in as number_in_lem};

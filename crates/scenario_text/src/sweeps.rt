@@ -8,7 +8,9 @@ ghost use Rattle.sweep_table.specs.declared.faults.LookFault.{LookFault};
 ghost use Rattle.sweep_table.specs.declared.changes.LookChangeFault.{LookChangeFault as LookChangeFaultLem};
 ghost use Rattle.sweep_table.specs.LookParts.{IsSweep, cells_of, looks_over, parts_over, positions_of};
 ghost use Rattle.sweep_table.specs.Faults.{HasFault};
-ghost use Rattle.sweep_table.specs.Changes.{HasChangeFault, HaveAscendingRows, IsSameChange, change_of, with_changes};
+ghost use Rattle.period_rows.specs.Changes.{HaveRows, IsSameChange};
+ghost use Rattle.period_rows.specs.Rows.{IsAscending};
+ghost use Rattle.sweep_table.specs.Changes.{HasChangeFault, change_of, with_changes};
 ghost use Rattle.scenario_text.specs.declared.draft.Stage.{Stage};
 ghost use Rattle.scenario_text.specs.declared.draft.TextVersion.{TextVersion as Version};
 ghost use Rattle.scenario_text.specs.State.{period_row_of, state_of};
@@ -115,7 +117,7 @@ fn changed_sweep(alloc: Global, sweep: Sweep, changes: Vec<LookChange>) -> Resul
         ⊥ }
     ensures base { IfOk result (λ changed. changed ≡ with_changes sweep changed.changes) }
     ensures made { IfOk result (λ changed. AllZip IsSameChange (map change_of changes.items) changed.changes) }
-    ensures ascending { IfOk result (λ changed. HaveAscendingRows changed.changes) }
+    ensures ascending { IfOk result (λ changed. HaveRows IsAscending changed.changes) }
     ensures sound { IfOk result IsSweep }
 {
     if changes.is_empty() {

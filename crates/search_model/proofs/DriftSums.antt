@@ -4,12 +4,12 @@ use Rattle.std.specs.List.{range_with_len, AllByRecursion}
 use Rattle.std.proofs.lemmas.List.Sums.{sum_by-cons, sum-map}
 use Rattle.std.proofs.lemmas.List.FromFn.{fill_by_all}
 use Rattle.std.proofs.lemmas.List.Elements.{recursion_from_All}
-use Rattle.drift_chain.specs.declared.part.DriftPart.{DriftPart}
+use Rattle.period_rows.specs.declared.part.CellPart.{CellPart}
 use Rattle.drift_chain.specs.DriftRows.{DriftRows, drift_cells, row_of, part_in, part_of, IsDrift}
 use Rattle.search_model.specs.Problem.{Problem, first_of, IsProblem}
 use Rattle.list_laws.proofs.Sums.{sum_by-same, sum_by-none, sum_by-plus, sum_by-range-pick}
 
-by_cells : (n : ℕ) (f : ℕ → ℕ) (row : List DriftPart) → AllByRecursion (λ entry. entry.cell < n) row →
+by_cells : (n : ℕ) (f : ℕ → ℕ) (row : List CellPart) → AllByRecursion (λ entry. entry.cell < n) row →
     sum_by (λ d. part_in row d * f d) (range_with_len 0 n) ≡ sum_by (λ entry. entry.part * f entry.cell) row
 unfolding part_in
 by_cells n f [] h = sum_by-same _ (λ _. 0) (range_with_len 0 n) (λ d. omega arith) ∙ sum_by-none (range_with_len 0 n)
@@ -19,7 +19,7 @@ by_cells n f (entry ∷ row) h =
     ∙ rw (sum_by-range-pick n entry.cell entry.part f h.0, by_cells n f row h.1) (sym (sum_by-cons (λ e. e.part * f e.cell) entry row))
 
 -- a sum over cells of a row's parts times numbers is the sum over its entries
-pub row_by_cells : (n : ℕ) (f : ℕ → ℕ) (row : List DriftPart) → All (λ entry. entry.cell < n) row →
+pub row_by_cells : (n : ℕ) (f : ℕ → ℕ) (row : List CellPart) → All (λ entry. entry.cell < n) row →
     sum_by (λ d. part_in row d * f d) (range_with_len 0 n) ≡ sum_by (λ entry. entry.part * f entry.cell) row
 row_by_cells n f row within = by_cells n f row (recursion_from_All _ row within)
 

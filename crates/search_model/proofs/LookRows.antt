@@ -3,7 +3,7 @@ use Rattle.std.proofs.Common.{ℕ, ◌*◌, ◌-◌, ◌<◌, ◌≤◌, ◌≡�
 use Rattle.std.specs.List.{range_with_len}
 use Rattle.std.proofs.lemmas.List.Elements.{All-get_or}
 use Rattle.std.proofs.lemmas.List.Sums.{sum_by-cons}
-use Rattle.sweep_table.specs.declared.part.LookPart.{LookPart}
+use Rattle.period_rows.specs.declared.part.CellPart.{CellPart}
 use Rattle.sweep_table.specs.LookParts.{LookParts, look_row, factor_of, misses, IsLookRow}
 use Rattle.sweep_table.proofs.Factors.{found_by_look}
 use Rattle.search_model.specs.Problem.{Problem, IsProblem}
@@ -13,10 +13,10 @@ module _ (p : Problem) (sound : IsProblem p) (t a : ℕ) where
   covered_row = subst (λ cells. IsLookRow p.sweep.denominator cells (look_row p.sweep t a)) sound.sweep_cells (sound.sweep.each t a)
 
   -- an entry of a look's row is of a cell, with a part of the denominator
-  pub covered_cell : (i : ℕ) (e : LookPart) → i < length (look_row p.sweep t a) → (get_or (look_row p.sweep t a) i e).cell < p.cells
+  pub covered_cell : (i : ℕ) (e : CellPart) → i < length (look_row p.sweep t a) → (get_or (look_row p.sweep t a) i e).cell < p.cells
   covered_cell i e inside = All-get_or (λ entry. entry.cell < p.cells) (look_row p.sweep t a) i e inside covered_row.within
 
-  pub covered_part : (i : ℕ) (e : LookPart) → i < length (look_row p.sweep t a) → (get_or (look_row p.sweep t a) i e).part ≤ p.sweep.denominator
+  pub covered_part : (i : ℕ) (e : CellPart) → i < length (look_row p.sweep t a) → (get_or (look_row p.sweep t a) i e).part ≤ p.sweep.denominator
   covered_part i e inside = All-get_or (λ entry. entry.part ≤ p.sweep.denominator) (look_row p.sweep t a) i e inside covered_row.parts
 
   -- what a look finds of a mass in each cell is what it finds in the cells that it covers
@@ -43,5 +43,5 @@ module _ (p : Problem) (sound : IsProblem p) (t a : ℕ) where
         rw own_row at (covered_part 0 (misses 0 0) inside)
 
     -- what is summed over its row is what its one cell gives
-    pub sum_own : (f : LookPart → ℕ) → sum_by f (look_row p.sweep t a) ≡ f (misses a part)
+    pub sum_own : (f : CellPart → ℕ) → sum_by f (look_row p.sweep t a) ≡ f (misses a part)
     sum_own f = rw own_row (omega (arith, sum_by-cons f (misses a part) []))

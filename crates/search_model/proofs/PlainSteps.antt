@@ -5,7 +5,7 @@ use Rattle.std.proofs.lemmas.Nat.{mul-le}
 use Rattle.std.proofs.Math.Nat.{pow-suc}
 use Rattle.std.proofs.lemmas.List.Sums.{sum_by_more}
 use Rattle.std.proofs.lemmas.List.Elements.{All-tail}
-use Rattle.drift_chain.specs.declared.part.DriftPart.{DriftPart}
+use Rattle.period_rows.specs.declared.part.CellPart.{CellPart}
 use Rattle.drift_chain.specs.DriftRows.{row_of}
 use Rattle.search_model.specs.Problem.{Problem, first_of, IsProblem}
 use Rattle.search_model.specs.Legal.{Follows}
@@ -16,7 +16,7 @@ use Rattle.search_model.proofs.After.{after_of-zero, after_of-by_row, after_of-l
 use Rattle.search_model.proofs.Totals.{powers_fit, after_entries-fit, missed_cells-fit}
 
 -- what an entry of a row adds
-abbrev pub entry_term : Problem → ℕ → List ℕ → ℕ → DriftPart → ℕ
+abbrev pub entry_term : Problem → ℕ → List ℕ → ℕ → CellPart → ℕ
 entry_term p t q m entry = entry.part * (look_factor p (t + 1) q entry.cell * after_of p (t + 1) entry.cell (drop 1 q) m)
 
 -- what a first cell adds
@@ -37,7 +37,7 @@ module _ (p : Problem) (sound : IsProblem p) where
       omega (arith, product, rw (pow-suc p.sweep.denominator m) at fits)
 
   -- the sum over the entries so far and the next one fits
-  pub entry_fits : (t c : ℕ) → t < p.horizon → 1 ≤ t → c < p.cells → (q : List ℕ) (i : ℕ) (e : DriftPart) → i < length (row_of p.drift t c) →
+  pub entry_fits : (t c : ℕ) → t < p.horizon → 1 ≤ t → c < p.cells → (q : List ℕ) (i : ℕ) (e : CellPart) → i < length (row_of p.drift t c) →
       sum_by (entry_term p t q (p.horizon - (t + 1))) (take i (row_of p.drift t c)) + entry_term p t q (p.horizon - (t + 1)) (get_or (row_of p.drift t c) i e) < 2 ^ 127
   entry_fits t c more some here q i e lt =
       let m = p.horizon - (t + 1) in

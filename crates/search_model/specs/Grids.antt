@@ -2,7 +2,7 @@
 use Rattle.std.specs.Prelude.{ℕ, ◌-◌, ◌*◌, ◌/◌, ◌%◌, ◌==◌, nat_lt, if◌then◌else◌, List, ◌∷◌, ◌++◌, map, length, filter}
 use Rattle.std.specs.List.{range_with_len}
 use Rattle.std.specs.Fmt.{decimal}
-use Rattle.drift_chain.specs.declared.part.DriftPart.{DriftPart}
+use Rattle.period_rows.specs.declared.part.CellPart.{CellPart}
 use Rattle.search_grid.specs.Moves.{moves_from}
 
 -- `r`, the row number, `c`, the column number
@@ -18,10 +18,10 @@ abbrev pub rest_of : ℕ → ℕ → ℕ → ℕ
 rest_of denominator part moves = denominator - part * (moves - 1)
 
 -- the drift row of a cell with these moves: the part to each side neighbour, the rest to itself; no part of 0 stands in it
-unfoldable pub spread_row : ℕ → ℕ → ℕ → List ℕ → List DriftPart
+unfoldable pub spread_row : ℕ → ℕ → ℕ → List ℕ → List CellPart
 spread_row denominator part c moves =
     filter (λ e. nat_lt 0 e.part) (map (λ m. record { cell = m; part = if m == c then rest_of denominator part (length moves) else part }) moves)
 
 -- the drift rows of all cells
-abbrev pub spread_rows : ℕ → ℕ → List (List ℕ) → List (List DriftPart)
+abbrev pub spread_rows : ℕ → ℕ → List (List ℕ) → List (List CellPart)
 spread_rows denominator part moves = map (λ c. spread_row denominator part c (moves_from moves c)) (range_with_len 0 (length moves))

@@ -1,6 +1,6 @@
 -- Small problems, and what the definitions make of them.
 use Rattle.std.specs.Prelude.{ℕ, ◌≡◌, [], ◌∷◌, map}
-use Rattle.drift_chain.specs.declared.part.DriftPart.{DriftPart}
+use Rattle.period_rows.specs.declared.part.CellPart.{CellPart}
 use Rattle.drift_chain.specs.DriftRows.{drift_over}
 use Rattle.sweep_table.specs.LookParts.{parts_over}
 use Rattle.search_model.specs.Problem.{Problem, IsProblem}
@@ -9,7 +9,7 @@ use Rattle.search_model.specs.Tracks.{tracks, weight_of, miss_of, whole_weight, 
 use Rattle.search_model.specs.Order.{IsBest}
 
 -- an entry of a drift row
-abbrev pub goes_to : ℕ → ℕ → DriftPart
+abbrev pub goes_to : ℕ → ℕ → CellPart
 goes_to c part = record { cell = c; part = part }
 
 -- one cell, one period: a look misses 1 of 2

@@ -7,29 +7,30 @@ use Rattle.std.proofs.lemmas.Bool.{eq-eqb, ne_eqb, and_from, and_left, and_right
 use Rattle.std.proofs.lemmas.List.Elements.{All-contains}
 use Rattle.std.proofs.lemmas.List.FromFn.{get_or-map-range_with_len, length-map-range_with_len}
 use Rattle.list_laws.proofs.Firsts.{found_or_none}
-use Rattle.drift_chain.specs.declared.part.DriftPart.{DriftPart}
-use Rattle.drift_chain.specs.DriftRows.{DriftRowChange, DriftRows, drift_cells, drift_over, drift_with, row_of, is_change, IsSameKey, IsDriftRow, AreChanges, IsDrift}
-use Rattle.drift_chain.specs.Faults.{parts_from}
+use Rattle.period_rows.specs.declared.part.CellPart.{CellPart}
+use Rattle.period_rows.specs.Changes.{RowChange, is_for, IsSameKey, AreChanges}
+use Rattle.drift_chain.specs.DriftRows.{DriftRows, drift_cells, drift_over, drift_with, row_of, IsDriftRow, IsDrift}
+use Rattle.period_rows.specs.Rows.{row_at}
 use Rattle.drift_chain.proofs.Drifts.{IsDrift-from_rows}
 use Rattle.drift_chain.proofs.DriftChanges.{row_of-changed, row_of-base}
 use Rattle.searcher_maps.specs.Differing.{is_same_drift, drift_change, drift_changes}
 use Rattle.searcher_maps.proofs.SameRows.{same_drift}
 use Rattle.searcher_maps.proofs.Changed.{all_changes, pairs_of_changes, in_force}
 
-own : (t c : ℕ) (row : List DriftPart) → is_change t c (drift_change t c row) ≡ true
+own : (t c : ℕ) (row : List CellPart) → is_for t c (drift_change t c row) ≡ true
 own t c row = and_from (t == t) (c == c) (eq-eqb t t refl) (eq-eqb c c refl)
 
-other : (t c u d : ℕ) (row : List DriftPart) → (u ≢ t) ⊎ (d ≢ c) → is_change t c (drift_change u d row) ≡ false
+other : (t c u d : ℕ) (row : List CellPart) → (u ≢ t) ⊎ (d ≢ c) → is_for t c (drift_change u d row) ≡ false
 other t c u d row (inl apart) = and_left (u == t) (d == c) (ne_eqb u t apart)
 other t c u d row (inr apart) = and_right (u == t) (d == c) (ne_eqb d c apart)
 
-apart : (t c u d : ℕ) (row other_row : List DriftPart) → (t ≢ u) ⊎ (c ≢ d) → ¬ IsSameKey (drift_change t c row) (drift_change u d other_row)
+apart : (t c u d : ℕ) (row other_row : List CellPart) → (t ≢ u) ⊎ (c ≢ d) → ¬ IsSameKey (drift_change t c row) (drift_change u d other_row)
 apart t c u d row other_row (inl periods) same = periods same.0
 apart t c u d row other_row (inr cells) same = cells same.1
 
 module _ (drift : DriftRows) (h : IsDrift drift) where
   -- the rows of period 1
-  abbrev pub first_rows : List (List DriftPart)
+  abbrev pub first_rows : List (List CellPart)
   first_rows = map (row_of drift 1) (range_with_len 0 (drift_cells drift))
 
   pub as_many : length first_rows ≡ drift_cells drift
@@ -39,11 +40,11 @@ module _ (drift : DriftRows) (h : IsDrift drift) where
   first_at c inside = get_or-map-range_with_len (row_of drift 1) 0 (drift_cells drift) c c [] inside (omega arith)
 
   pub IsDrift-first : IsDrift (drift_over drift.denominator first_rows)
-  unfolding parts_from
+  unfolding row_at
   IsDrift-first = IsDrift-from_rows drift.denominator first_rows (drift_cells drift) (sym as_many) h.denominator h.size (λ c inside. rw (first_at c inside) (h.each 1 c inside))
 
   module _ (end : ℕ) (few : end ≤ 32) where
-    abbrev pub changes : List DriftRowChange
+    abbrev pub changes : List RowChange
     changes = drift_changes (row_of drift) (drift_cells drift) end
 
     abbrev pub copied : DriftRows
@@ -53,16 +54,16 @@ module _ (drift : DriftRows) (h : IsDrift drift) where
     right_rows = all_changes is_same_drift drift_change (row_of drift) (λ change. IsDriftRow drift.denominator (drift_cells drift) change.row) (drift_cells drift) end (λ t c low high inside. h.each t c inside)
 
     row_right : (t c : ℕ) → c < drift_cells drift → IsDriftRow drift.denominator (drift_cells drift) (row_of copied t c)
-    row_right t c inside = elim (found_or_none (is_change t c) changes) [
+    row_right t c inside = elim (found_or_none (is_for t c) changes) [
       | inl (change, there, found) ↦
           rw (row_of-changed copied t c change found) (All-contains (λ change. IsDriftRow drift.denominator (drift_cells drift) change.row) changes change right_rows there)
       | inr none ↦ rw (row_of-base copied t c none, first_at c inside) (h.each 1 c inside)
     ]
 
-    changes_right : AreChanges (drift_cells drift) changes
+    changes_right : AreChanges 31 (drift_cells drift) changes
     changes_right = record {
       within =
-          all_changes is_same_drift drift_change (row_of drift) (λ change. (1 ≤ change.period) × (change.period ≤ 31) × (change.cell < drift_cells drift)) (drift_cells drift) end
+          all_changes is_same_drift drift_change (row_of drift) (λ change. (1 ≤ change.period) × (change.period ≤ 31) × (change.owner < drift_cells drift)) (drift_cells drift) end
           (λ t c low high inside. (omega (arith, low), omega (arith, high, few), inside));
       differ =
           pairs_of_changes is_same_drift drift_change (row_of drift) (λ change later. ¬ IsSameKey change later) (drift_cells drift) end
@@ -78,7 +79,7 @@ module _ (drift : DriftRows) (h : IsDrift drift) where
     }
 
     -- a drift of these parts
-    pub assembled : (made : DriftRows) (denominator : ℕ) (rows : List (List DriftPart)) (given : List DriftRowChange) → made ≡ drift_over denominator rows → denominator ≡ drift.denominator →
+    pub assembled : (made : DriftRows) (denominator : ℕ) (rows : List (List CellPart)) (given : List RowChange) → made ≡ drift_over denominator rows → denominator ≡ drift.denominator →
         rows ≡ first_rows → given ≡ changes → drift_with made given ≡ copied
     assembled made denominator rows given is denominators same_rows same_changes =
         ap (λ (m : DriftRows). drift_with m given) is ∙ (λ i. record { denominator = denominators i; rows = same_rows i; changes = same_changes i })
@@ -87,5 +88,5 @@ module _ (drift : DriftRows) (h : IsDrift drift) where
     pub same_rows : (t c : ℕ) → 1 ≤ t → t < max 2 end → c < drift_cells drift → row_of copied t c ≡ row_of drift t c
     unfolding row_of
     same_rows t c some before inside =
-        ap (option_map_or (λ (change : DriftRowChange). change.row) (find (is_change t c) changes)) (first_at c inside)
-        ∙ in_force is_same_drift drift_change (row_of drift) is_change (λ (change : DriftRowChange). change.row) same_drift own other (λ u d row. refl) (drift_cells drift) end t c some before inside
+        ap (option_map_or (λ (change : RowChange). change.row) (find (is_for t c) changes)) (first_at c inside)
+        ∙ in_force is_same_drift drift_change (row_of drift) is_for (λ (change : RowChange). change.row) same_drift own other (λ u d row. refl) (drift_cells drift) end t c some before inside

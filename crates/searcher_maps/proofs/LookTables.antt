@@ -5,15 +5,15 @@ use Rattle.std.specs.List.{find}
 use Rattle.std.specs.Option.{option_map, option_map_or}
 use Rattle.std.proofs.lemmas.Bool.{eq-eqb, ne_eqb, and_from, and_left, and_right}
 use Rattle.std.proofs.lemmas.List.{length-map}
-use Rattle.list_laws.proofs.Ascending.{Ascends-from_keys, count_at-le}
-use Rattle.list_laws.proofs.Reordered.{none_fails}
-use Rattle.sweep_table.specs.declared.part.LookPart.{LookPart}
+use Rattle.period_rows.specs.declared.part.CellPart.{CellPart}
 use Rattle.sweep_table.specs.declared.changes.LookChangeFault.{LookChangeFault}
-use Rattle.sweep_table.specs.declared.changes.LookChangeFault.TheVariants.{PeriodOutOfRange, PositionOutOfRange, DoubleChange, BadRow, NoMemory}
-use Rattle.sweep_table.specs.LookParts.{LookRowChange, LookParts, positions_of, cells_of, is_for, look_row, looks_over, IsLookRow, IsSweep}
-use Rattle.sweep_table.specs.Faults.{row_at}
-use Rattle.sweep_table.specs.Changes.{change_at, with_changes, IsBadRow, HasChangeFault, HaveRightRows, HaveAscendingRows}
+use Rattle.period_rows.specs.Changes.{RowChange, is_for, IsSameKey, AreChanges, HaveRows}
+use Rattle.sweep_table.specs.LookParts.{LookParts, positions_of, cells_of, look_row, looks_over, IsLookRow, IsSweep}
+use Rattle.period_rows.specs.Rows.{row_at, IsAscending}
+use Rattle.period_rows.proofs.ChangeFaults.{no_row_fault}
+use Rattle.sweep_table.specs.Changes.{with_changes, row_fault_of, IsBadRow, HasChangeFault}
 use Rattle.sweep_table.proofs.Changed.{ascending_from_right}
+use Rattle.sweep_table.proofs.NamedFaults.{none_bad}
 use Rattle.sweep_table.proofs.Rows.{IsSweep-from_rows}
 use Rattle.searcher_maps.specs.Periods.{rows_by_period, positions_given, row_given, AreLookRows}
 use Rattle.searcher_maps.specs.Differing.{is_same_look, look_change, look_changes}
@@ -21,108 +21,82 @@ use Rattle.searcher_maps.proofs.SameRows.{same_look}
 use Rattle.searcher_maps.proofs.Changed.{all_changes, pairs_of_changes, in_force}
 use Rattle.searcher_maps.proofs.GivenRows.{rows_in, period_at}
 
-own : (t a : ℕ) (row : List LookPart) → is_for t a (look_change t a row) ≡ true
+own : (t a : ℕ) (row : List CellPart) → is_for t a (look_change t a row) ≡ true
 own t a row = and_from (t == t) (a == a) (eq-eqb t t refl) (eq-eqb a a refl)
 
-other : (t a u b : ℕ) (row : List LookPart) → (u ≢ t) ⊎ (b ≢ a) → is_for t a (look_change u b row) ≡ false
+other : (t a u b : ℕ) (row : List CellPart) → (u ≢ t) ⊎ (b ≢ a) → is_for t a (look_change u b row) ≡ false
 other t a u b row (inl apart) = and_left (u == t) (b == a) (ne_eqb u t apart)
 other t a u b row (inr apart) = and_right (u == t) (b == a) (ne_eqb b a apart)
 
--- two changes are for different periods or positions
-abbrev AreApart : LookRowChange → LookRowChange → Type 0
-AreApart change later = ¬ ((change.period ≡ later.period) × (change.position ≡ later.position))
-
-apart : (t a u b : ℕ) (row other_row : List LookPart) → (t ≢ u) ⊎ (a ≢ b) → AreApart (look_change t a row) (look_change u b other_row)
+apart : (t a u b : ℕ) (row other_row : List CellPart) → (t ≢ u) ⊎ (a ≢ b) → ¬ IsSameKey (look_change t a row) (look_change u b other_row)
 apart t a u b row other_row (inl periods) same = periods same.0
 apart t a u b row other_row (inr positions) same = positions same.1
 
--- a right row isn't bad
-none_bad : (g cells : ℕ) (row : List LookPart) → IsLookRow g cells row → IsBadRow g cells row → ⊥
-none_bad g cells row right (inl out) = none_fails (λ entry. entry.cell < cells) (λ entry. cells ≤ entry.cell) (λ entry lt le. omega arith) row right.within out
-none_bad g cells row right (inr (inl double)) = omega (arith, count_at-le (λ entry. entry.cell) double.0 row (Ascends-from_keys (λ entry. entry.cell) row right.ascending), double.1)
-none_bad g cells row right (inr (inr over)) = none_fails (λ entry. entry.part ≤ g) (λ entry. g < entry.part) (λ entry le lt. omega arith) row right.parts over
-
-abbrev nothing : LookRowChange
-nothing = record { period = 0; position = 0; row = [] }
-
--- changes for periods 1 to 32 and for positions, no two for the same, whose rows are right, have no fault
-module _ (g cells positions : ℕ) (changes : List LookRowChange) (within : All (λ change. (1 ≤ change.period) × (change.period ≤ 32) × (change.position < positions)) changes) (right : HaveRightRows g cells changes) (differ : AllPairs AreApart changes) where
-  no_fault : (fault : LookChangeFault) → HasChangeFault g cells positions changes fault → ⊥
-  unfolding change_at
-  no_fault (PeriodOutOfRange i) (inside, inl none) = omega (arith, none, (within i nothing inside).0)
-  no_fault (PeriodOutOfRange i) (inside, inr late) = omega (arith, late, (within i nothing inside).1)
-  no_fault (PositionOutOfRange i) has = omega (arith, has.1, (within i nothing has.0).2)
-  no_fault (DoubleChange i) (inside, (k, before, period, position)) = differ k i nothing before inside (period, position)
-  no_fault (BadRow i) has = none_bad g cells (change_at changes i).row (right i nothing has.0) has.1
-  no_fault NoMemory has = has
-
-map_or : {X Y : Type 0} (f : X → Y) (o : Option X) (y : Y) → unwrap_or (option_map f o) y ≡ option_map_or f o y
-map_or f None y = refl
-map_or f (Some x) y = refl
-
 -- what is asked of the rows that are given
-pub record AreGiven (g cells : ℕ) (given : List (List (List LookPart))) : Type 0 where
+pub record AreGiven (g cells : ℕ) (given : List (List (List CellPart))) : Type 0 where
   pub denominator : (1 ≤ g) × (g ≤ 1000000)
   pub count : (1 ≤ cells) × (cells ≤ 200)
   pub rows : AreLookRows g cells given
 
-module _ (g cells : ℕ) (given : List (List (List LookPart))) (h : AreGiven g cells given) where
+module _ (g cells : ℕ) (given : List (List (List CellPart))) (h : AreGiven g cells given) where
   row_right : (t a : ℕ) → 1 ≤ t → t ≤ length given → a < positions_given given → IsLookRow g cells (row_given given t a)
   row_right t a some last inside =
       let there : t - 1 < length given = omega (arith, some, last) in
       let long : length (slice_index_or given (t - 1) []) ≡ positions_given given = h.rows.same (t - 1) [] there in
       h.rows.right (t - 1) [] there a [] (omega (arith, long, inside))
 
-  abbrev pub base_rows : List (List LookPart)
+  abbrev pub base_rows : List (List CellPart)
   base_rows = slice_index_or given 0 []
 
   pub IsSweep-base : IsSweep (looks_over g cells base_rows)
   unfolding row_at
   IsSweep-base = IsSweep-from_rows g cells base_rows h.denominator h.rows.positions h.count (λ a inside. row_right 1 a (omega arith) (omega (arith, h.rows.periods)) inside)
 
-  abbrev pub changes : List LookRowChange
+  abbrev pub changes : List RowChange
   changes = look_changes (row_given given) (positions_given given) (length given + 1)
 
-  right_rows : HaveRightRows g cells changes
+  right_rows : HaveRows (IsLookRow g cells) changes
   right_rows =
       all_changes is_same_look look_change (row_given given) (λ change. IsLookRow g cells change.row) (positions_given given) (length given + 1)
       (λ t a low high inside. row_right t a (omega (arith, low)) (omega (arith, high)) inside)
 
-  pub ascending : HaveAscendingRows changes
+  pub ascending : HaveRows IsAscending changes
   ascending = ascending_from_right g cells changes right_rows
 
-  within : All (λ change. (1 ≤ change.period) × (change.period ≤ 32) × (change.position < positions_given given)) changes
-  within =
-      all_changes is_same_look look_change (row_given given) (λ change. (1 ≤ change.period) × (change.period ≤ 32) × (change.position < positions_given given)) (positions_given given) (length given + 1)
-      (λ t a low high inside. (omega (arith, low), omega (arith, high, h.rows.periods), inside))
-
-  differ : AllPairs AreApart changes
-  differ =
-      pairs_of_changes is_same_look look_change (row_given given) AreApart (positions_given given) (length given + 1) (λ t a u b keys. apart t a u b (row_given given t a) (row_given given u b) keys)
+  changes_right : AreChanges 32 (positions_given given) changes
+  changes_right = record {
+    within =
+        all_changes is_same_look look_change (row_given given) (λ change. (1 ≤ change.period) × (change.period ≤ 32) × (change.owner < positions_given given)) (positions_given given) (length given + 1)
+        (λ t a low high inside. (omega (arith, low), omega (arith, high, h.rows.periods), inside));
+    differ =
+        pairs_of_changes is_same_look look_change (row_given given) (λ change later. ¬ IsSameKey change later) (positions_given given) (length given + 1)
+        (λ t a u b keys. apart t a u b (row_given given t a) (row_given given u b) keys);
+  }
 
   -- the changes have no fault over a table of the rows of period 1
-  pub faultless : (made : LookParts) (rows : List (List LookPart)) (changed : List LookRowChange) → made ≡ looks_over g cells rows → rows ≡ base_rows → changed ≡ changes → (fault : LookChangeFault) →
+  pub faultless : (made : LookParts) (rows : List (List CellPart)) (changed : List RowChange) → made ≡ looks_over g cells rows → rows ≡ base_rows → changed ≡ changes → (fault : LookChangeFault) →
       HasChangeFault made.denominator (cells_of made) (positions_of made) changed fault → ⊥
   faultless made rows changed is base same fault has =
       let over : made ≡ looks_over g cells base_rows = is ∙ ap (looks_over g cells) base in
       let here : HasChangeFault g cells (positions_given given) changed fault = subst (λ (m : LookParts). HasChangeFault m.denominator (cells_of m) (positions_of m) changed fault) over has in
-      no_fault g cells (positions_given given) changes within right_rows differ fault (subst (λ (cs : List LookRowChange). HasChangeFault g cells (positions_given given) cs fault) same here)
+      no_row_fault (IsLookRow g cells) (IsBadRow g cells) (none_bad g cells) 32 (positions_given given) changes changes_right right_rows (row_fault_of fault)
+      (subst (λ (cs : List RowChange). HasChangeFault g cells (positions_given given) cs fault) same here)
 
   -- those that the code makes of the rows
-  pub made_changes : (periods slice : List (Vec (Vec LookPart Global) Global)) (first : Vec (Vec LookPart Global) Global) (positions : ℕ) (changed : List LookRowChange) → rows_by_period periods ≡ given →
+  pub made_changes : (periods slice : List (Vec (Vec CellPart Global) Global)) (first : Vec (Vec CellPart Global) Global) (positions : ℕ) (changed : List RowChange) → rows_by_period periods ≡ given →
       slice ≡ periods → first ≡ get_or periods 0 first → positions ≡ length first.items → changed ≡ look_changes (row_given (rows_by_period slice)) positions (length slice + 1) → changed ≡ changes
   made_changes periods slice first positions changed view same there as_many is =
       let size : length given ≡ length periods = sym (ap length view) ∙ length-map periods rows_in in
       let inside : 0 < length periods = omega (arith, size, h.rows.periods) in
-      let all : length first.items ≡ positions_given given = sym (length-map first.items (λ (row : Vec LookPart Global). row.items)) ∙ ap length (sym (period_at periods 0 first inside there) ∙ ap (λ (rows : List (List (List LookPart))). slice_index_or rows 0 []) view) in
+      let all : length first.items ≡ positions_given given = sym (length-map first.items (λ (row : Vec CellPart Global). row.items)) ∙ ap length (sym (period_at periods 0 first inside there) ∙ ap (λ (rows : List (List (List CellPart))). slice_index_or rows 0 []) view) in
       let long : length slice + 1 ≡ length given + 1 = omega (arith, size, ap length same) in
-      is ∙ ap (λ (rows : List (List (List LookPart))). look_changes (row_given rows) positions (length slice + 1)) (ap rows_by_period same ∙ view)
+      is ∙ ap (λ (rows : List (List (List CellPart))). look_changes (row_given rows) positions (length slice + 1)) (ap rows_by_period same ∙ view)
       ∙ ap (λ n. look_changes (row_given given) n (length slice + 1)) (as_many ∙ all) ∙ ap (λ n. look_changes (row_given given) (positions_given given) n) long
 
   abbrev pub looked : LookParts
   looked = record { denominator = g; cells = cells; rows = base_rows; changes = changes }
 
-  pub assembled : (made : LookParts) (rows : List (List LookPart)) (changed : List LookRowChange) → made ≡ looks_over g cells rows → rows ≡ base_rows → changed ≡ changes → with_changes made changed ≡ looked
+  pub assembled : (made : LookParts) (rows : List (List CellPart)) (changed : List RowChange) → made ≡ looks_over g cells rows → rows ≡ base_rows → changed ≡ changes → with_changes made changed ≡ looked
   assembled made rows changed is base same =
       ap (λ (m : LookParts). with_changes m changed) is ∙ (λ i. record { denominator = g; cells = cells; rows = base i; changes = same i })
 
@@ -130,6 +104,5 @@ module _ (g cells : ℕ) (given : List (List (List LookPart))) (h : AreGiven g c
   pub same_rows : (t a : ℕ) → 1 ≤ t → t ≤ length given → a < positions_given given → look_row looked t a ≡ row_given given t a
   unfolding look_row
   same_rows t a some last inside =
-      map_or (λ (change : LookRowChange). change.row) (find (is_for t a) changes) (slice_index_or base_rows a [])
-      ∙ in_force is_same_look look_change (row_given given) is_for (λ (change : LookRowChange). change.row) same_look own other (λ u b row. refl) (positions_given given) (length given + 1) t a some
+      in_force is_same_look look_change (row_given given) is_for (λ (change : RowChange). change.row) same_look own other (λ u b row. refl) (positions_given given) (length given + 1) t a some
       (omega (arith, some, last)) inside

@@ -1,9 +1,11 @@
 //! Looks that are given period by period.
 
 ghost use Rattle.std.specs.Prelude.{◌≡◌, ℕ, ◌+◌, ◌<◌, ◌≤◌, [], ◌++◌, length, map, IfOk, OnOk, All};
-ghost use Rattle.sweep_table.specs.declared.part.LookPart.{LookPart};
+ghost use Rattle.period_rows.specs.declared.part.CellPart.{CellPart as LookPart};
 ghost use Rattle.sweep_table.specs.LookParts.{look_row, looks_over, positions_of, cells_of, IsLookRow, IsSweep};
-ghost use Rattle.sweep_table.specs.Changes.{change_of, with_changes, HasChangeFault, HaveAscendingRows};
+ghost use Rattle.period_rows.specs.Changes.{HaveRows};
+ghost use Rattle.period_rows.specs.Rows.{IsAscending};
+ghost use Rattle.sweep_table.specs.Changes.{change_of, with_changes, HasChangeFault};
 ghost use Rattle.sweep_table.specs.declared.changes.LookChangeFault.{LookChangeFault as LookChangeFaultLem};
 ghost use Rattle.searcher_maps.specs.Periods.{rows_by_period, positions_given, row_given, AreLookRows};
 ghost use Rattle.searcher_maps.specs.Differing.{is_same_look, look_changes_at, look_changes_in, look_changes};
@@ -113,7 +115,7 @@ fn base_sweep(denominator: u32, cells: u8, rows: Vec<Vec<LookPart>>) -> Sweep
 fn changed_sweep(alloc: Global, sweep: Sweep, changes: Vec<LookChange>) -> Result<Sweep, NoMemory>
     requires steady { sweep.changes ≡ [] }
     requires sound { IsSweep sweep }
-    requires ascending { HaveAscendingRows (map change_of changes.items) }
+    requires ascending { HaveRows IsAscending (map change_of changes.items) }
     requires faultless { (fault : LookChangeFaultLem) →
         HasChangeFault sweep.denominator (cells_of sweep) (positions_of sweep) (map change_of changes.items) fault →
         ⊥ }

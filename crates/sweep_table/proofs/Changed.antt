@@ -1,20 +1,11 @@
 -- Sweeps whose looks change in single periods.
-use Rattle.std.proofs.Common.{ℕ, ◌<◌, ◌≤◌, ◌≡◌, ◌⊎◌, ◌∙◌, Option, Some, None, IfSome, IfNone, ap, arith, List, [], length, get_or, slice_index_or, refl, sym, subst, Contains, inl, inr}
-use Rattle.std.specs.List.{AllZip}
-use Rattle.std.proofs.lemmas.List.{same_lists}
-use Rattle.std.proofs.lemmas.List.Elements.{length_all_zip, AllZip-get_or, All-contains}
-use Rattle.list_laws.proofs.Firsts.{found_or_none}
-use Rattle.sweep_table.specs.LookParts.{LookRowChange, LookParts, is_for, look_row, factor_in, factor_of, cells_of, IsLookRow, IsSweep, IsOneRate}
-use Rattle.sweep_table.specs.Changes.{with_changes, IsSameChange, HaveRightRows, HaveAscendingRows}
-use Rattle.sweep_table.proofs.Rows.{same_row}
-
--- a row in force is that of a change, or the base row
-row_cases : (sweep : LookParts) (t p : ℕ) → ((change : LookRowChange) × Contains sweep.changes change × (look_row sweep t p ≡ change.row)) ⊎ (look_row sweep t p ≡ slice_index_or sweep.rows p [])
-unfolding look_row
-row_cases sweep t p = elim (found_or_none (is_for t p) sweep.changes) [
-  | inl (change, there, found) ↦ inl (change, there, rw found refl)
-  | inr none ↦ inr (rw none refl)
-]
+use Rattle.std.proofs.Common.{ℕ, ◌≤◌, ◌≡◌, ◌∙◌, Option, Some, None, IfSome, IfNone, ap, arith, List, [], slice_index_or, refl, sym, subst, inl, inr}
+use Rattle.std.proofs.lemmas.List.Elements.{All-contains}
+use Rattle.period_rows.specs.Rows.{IsAscending}
+use Rattle.period_rows.specs.Changes.{RowChange, HaveRows}
+use Rattle.period_rows.proofs.FoundRows.{row_in_force-cases}
+use Rattle.sweep_table.specs.LookParts.{LookParts, look_row, factor_in, factor_of, cells_of, IsLookRow, IsSweep, IsOneRate}
+use Rattle.sweep_table.specs.Changes.{with_changes}
 
 module _ (sweep : LookParts) (none : sweep.changes ≡ []) where
   -- without changes the base row is in force
@@ -52,27 +43,18 @@ module _ (sweep : LookParts) (none : sweep.changes ≡ []) where
   steady_none horizon some (Some rate) told = told
 
   -- right changes keep a sweep
-  pub IsSweep-with_changes : IsSweep sweep → (changes : List LookRowChange) → HaveRightRows sweep.denominator (cells_of sweep) changes → IsSweep (with_changes sweep changes)
+  pub IsSweep-with_changes : IsSweep sweep → (changes : List RowChange) → HaveRows (IsLookRow sweep.denominator (cells_of sweep)) changes → IsSweep (with_changes sweep changes)
+  unfolding look_row
   IsSweep-with_changes sound changes right = record {
     denominator = sound.denominator;
     positions = sound.positions;
     cells = sound.cells;
-    each = λ t p. elim (row_cases (with_changes sweep changes) t p) [
+    each = λ t p. elim (row_in_force-cases changes (slice_index_or sweep.rows p []) t p) [
       | inl (change, there, is) ↦ rw is (All-contains (λ c. IsLookRow sweep.denominator (cells_of sweep) c.row) changes change right there)
       | inr is ↦ rw is (subst (IsLookRow sweep.denominator (cells_of sweep)) (base_row t p) (sound.each t p))
     ];
   }
 
--- changes with ascending rows are settled by their entries
-pub same_changes : (given made : List LookRowChange) → AllZip IsSameChange given made → HaveAscendingRows given → HaveAscendingRows made → made ≡ given
-same_changes given made same up up' =
-    let size = length_all_zip IsSameChange given made same in
-    same_lists made given (sym size) (λ k d inside.
-    let there : k < length given = rw size inside in
-    let here = AllZip-get_or IsSameChange given made k d d same there in
-    let row = same_row (get_or given k d).row (get_or made k d).row (up k d there) (up' k d inside) here.2 in
-    λ i. record { period = here.0 i; position = here.1 i; row = row i })
-
 -- right rows ascend
-pub ascending_from_right : (g cells : ℕ) (changes : List LookRowChange) → HaveRightRows g cells changes → HaveAscendingRows changes
+pub ascending_from_right : (g cells : ℕ) (changes : List RowChange) → HaveRows (IsLookRow g cells) changes → HaveRows IsAscending changes
 ascending_from_right g cells changes right = λ k d inside. (right k d inside).ascending

@@ -9,21 +9,21 @@ use Rattle.std.proofs.lemmas.List.Sums.{sum_by-cons}
 use Rattle.list_laws.proofs.Ascending.{Ascends, Ascends-from_keys, Ascends-head, Ascends-tail}
 use Rattle.list_laws.proofs.Found.{find_key-none, find_key-one}
 use Rattle.list_laws.proofs.Sums.{sum_by-plus, sum_by-none, sum_by-range-pick, sum_by-range-same}
-use Rattle.sweep_table.specs.declared.part.LookPart.{LookPart}
+use Rattle.period_rows.specs.declared.part.CellPart.{CellPart}
 use Rattle.sweep_table.specs.LookParts.{LookParts, look_row, factor_in, factor_of, cells_of, parts_over, own_row, IsLookRow, IsSweep}
 
 -- a row without the cell misses all of it
-pub factor_in-none : (g : ℕ) (row : List LookPart) (c : ℕ) → All (λ entry. entry.cell ≢ c) row → factor_in g row c ≡ g
+pub factor_in-none : (g : ℕ) (row : List CellPart) (c : ℕ) → All (λ entry. entry.cell ≢ c) row → factor_in g row c ≡ g
 unfolding factor_in
 factor_in-none g row c none = rw (find_key-none (λ entry. entry.cell) c row none) refl
 
 -- an ascending row misses of an entry's cell that entry's part
-pub factor_in-entry : (g : ℕ) (row : List LookPart) (k : ℕ) (e : LookPart) → Ascends (λ entry. entry.cell) row → k < length row → factor_in g row (get_or row k e).cell ≡ (get_or row k e).part
+pub factor_in-entry : (g : ℕ) (row : List CellPart) (k : ℕ) (e : CellPart) → Ascends (λ entry. entry.cell) row → k < length row → factor_in g row (get_or row k e).cell ≡ (get_or row k e).part
 unfolding factor_in
 factor_in-entry g row k e up inside = rw (find_key-one (λ entry. entry.cell) row k e up inside) refl
 
 -- the factors of a row, entry by entry
-factor_in-cons : (g : ℕ) (entry : LookPart) (row : List LookPart) (c : ℕ) → factor_in g (entry ∷ row) c ≡ (if entry.cell == c then entry.part else factor_in g row c)
+factor_in-cons : (g : ℕ) (entry : CellPart) (row : List CellPart) (c : ℕ) → factor_in g (entry ∷ row) c ≡ (if entry.cell == c then entry.part else factor_in g row c)
 unfolding factor_in
 factor_in-cons g entry row c = elim (cases_eq entry.cell c) [
   | inl same ↦ rw (eq-eqb entry.cell c same) refl
@@ -31,18 +31,18 @@ factor_in-cons g entry row c = elim (cases_eq entry.cell c) [
 ]
 
 -- no factor of a row exceeds what no part does
-pub factor_in-le : (g : ℕ) (row : List LookPart) → All (λ entry. entry.part ≤ g) row → (c : ℕ) → factor_in g row c ≤ g
+pub factor_in-le : (g : ℕ) (row : List CellPart) → All (λ entry. entry.part ≤ g) row → (c : ℕ) → factor_in g row c ≤ g
 unfolding factor_in
 factor_in-le g [] parts c = omega arith
 factor_in-le g (entry ∷ row) parts c =
-    let P : LookPart → Type 0 = λ e. e.part ≤ g in
+    let P : CellPart → Type 0 = λ e. e.part ≤ g in
     elim (cases_eq entry.cell c) [
       | inl same ↦ rw (eq-eqb entry.cell c same) (All-head P entry row parts)
       | inr apart ↦ rw (ne_eqb entry.cell c apart) (factor_in-le g row (All-tail P entry row parts) c)
     ]
 
 -- what is made of the factors of all cells together is made of the parts of a row, where nothing is made of the denominator
-pub made_in_row : (h : ℕ → ℕ) (g cells : ℕ) (row : List LookPart) (x : ℕ → ℕ) → h g ≡ 0 → All (λ entry. entry.cell < cells) row → Ascends (λ entry. entry.cell) row →
+pub made_in_row : (h : ℕ → ℕ) (g cells : ℕ) (row : List CellPart) (x : ℕ → ℕ) → h g ≡ 0 → All (λ entry. entry.cell < cells) row → Ascends (λ entry. entry.cell) row →
     sum_by (λ c. x c * h (factor_in g row c)) (range_with_len 0 cells) ≡ sum_by (λ entry. x entry.cell * h entry.part) row
 made_in_row h g cells [] x nothing within up =
     sum_by-range-same cells (λ c. x c * h (factor_in g [] c)) (λ _. 0) (λ c lt. rw (factor_in-none g [] c (All-nil (λ entry. entry.cell ≢ c)), nothing) (omega arith))

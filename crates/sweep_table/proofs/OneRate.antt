@@ -8,7 +8,7 @@ use Rattle.list_laws.proofs.Ascending.{Ascends-from_keys}
 use Rattle.list_laws.proofs.Halves.{All-front, All-back}
 use Rattle.list_laws.proofs.Members.{Contains-head, Contains-tail, Contains-cons_cases, Contains-map_cases, Contains-flat_map, Contains-flat_map_cases}
 use Rattle.list_laws.proofs.Ranges.{Contains-range, Contains-range_from_0, Contains-range_cases, within_range}
-use Rattle.sweep_table.specs.declared.part.LookPart.{LookPart}
+use Rattle.period_rows.specs.declared.part.CellPart.{CellPart}
 use Rattle.sweep_table.specs.LookParts.{LookParts, positions_of, cells_of, look_row, factor_in, factor_of, IsSweep, IsOneRate}
 use Rattle.sweep_table.specs.Rates.{AreEither, IsRateOf, TellsRate, parts_at, parts_in_period, parts_up_to}
 use Rattle.sweep_table.proofs.Factors.{factor_in-entry, factor_of-le}
@@ -75,9 +75,9 @@ module _ (g so_far : ℕ) (whole : List ℕ) (rate : ℕ) where
   stands_last left is stands = stands (Some rate) (subst (λ ys. TellsRate g (rate ∷ ys) (Some rate)) (sym is) (tells_one g rate))
 
   -- at one entry of a row
-  module _ (row : List LookPart) (i : ℕ) (d : LookPart) (inside : i < length row) where
+  module _ (row : List CellPart) (i : ℕ) (d : CellPart) (inside : i < length row) where
     row_left : map (λ e. e.part) (drop i row) ≡ ((get_or row i d).part ∷ []) ++ map (λ e. e.part) (drop (i + 1) row)
-    row_left = ap (map (λ (e : LookPart). e.part)) (drop_more row i d inside)
+    row_left = ap (map (λ (e : CellPart). e.part)) (drop_more row i d inside)
 
     pub row_more : (next : ℕ) → Stands g so_far whole rate (map (λ e. e.part) (drop i row)) → IsRateOf g (rate ∷ (get_or row i d).part ∷ []) next →
         Stands g so_far whole next (map (λ e. e.part) (drop (i + 1) row))
@@ -110,7 +110,7 @@ without_denominator g rate parts is = record {
 -- the one rate of a sweep's parts is that of its factors
 module _ (sweep : LookParts) (sound : IsSweep sweep) (horizon : ℕ) (some : 1 ≤ horizon) where
   -- a row's factor is one of its parts, or the denominator
-  factor_cases : (g : ℕ) (row : List LookPart) (c : ℕ) → Contains (map (λ entry. entry.part) row) (factor_in g row c) ⊎ (factor_in g row c ≡ g)
+  factor_cases : (g : ℕ) (row : List CellPart) (c : ℕ) → Contains (map (λ entry. entry.part) row) (factor_in g row c) ⊎ (factor_in g row c ≡ g)
   unfolding factor_in
   factor_cases g [] c = inr refl
   factor_cases g (entry ∷ row) c = elim (cases_eq entry.cell c) [
@@ -144,7 +144,7 @@ module _ (sweep : LookParts) (sound : IsSweep sweep) (horizon : ℕ) (some : 1 �
   factor_at part there =
       let (t, at, within) = Contains-flat_map_cases (parts_in_period sweep) (range_with_len 1 horizon) part there in
       let (p, place, stands) = Contains-flat_map_cases (parts_at sweep t) (range_with_len 0 (positions_of sweep)) part within in
-      let (entry, stands_in, is) = Contains-map_cases (λ (e : LookPart). e.part) (look_row sweep t p) part stands in
+      let (entry, stands_in, is) = Contains-map_cases (λ (e : CellPart). e.part) (look_row sweep t p) part stands in
       let (i, below, t_is) = Contains-range_cases 1 horizon t at in
       let position = within_range (positions_of sweep) p place in
       let right = sound.each t p in

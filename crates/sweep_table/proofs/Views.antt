@@ -1,13 +1,15 @@
 -- What contracts see of a sweep, by the form that it has.
-use Rattle.std.proofs.Common.{ℕ, ◌<◌, ◌≡◌, ◌∙◌, List, length, map, ap, sym, subst, arith, Vec, Global}
+use Rattle.std.proofs.Common.{ℕ, ◌<◌, ◌≡◌, ◌∙◌, List, [], length, get_or, slice_index_or, unwrap_or, ap, sym, subst, arith, Vec, Global}
 use Rattle.std.proofs.Math.ListN.{length-map}
-use Rattle.std.specs.List.Sorted.{IsStrictlyIncreasing}
-use Rattle.sweep_table.specs.declared.part.LookPart.{LookPart}
+use Rattle.std.proofs.lemmas.List.{get_or-map}
+use Rattle.period_rows.specs.declared.part.CellPart.{CellPart}
+use Rattle.period_rows.specs.Rows.{IsAscending}
+use Rattle.period_rows.specs.Changes.{RowChange, row_in_force}
 use Rattle.sweep_table.specs.declared.table.Looks.{Looks}
 use Rattle.sweep_table.specs.declared.footprints.Footprints.{Footprints as Prints}
 use Rattle.sweep_table.specs.declared.table.Looks.TheVariants.{Plain, Footprints}
 use Rattle.sweep_table.specs.LookParts.{LookParts, positions_of, look_row, parts_over, IsSweep}
-use Rattle.sweep_table.specs.Forms.{seen, prints_seen, IsIndexed, AreIndexed, IsKept}
+use Rattle.sweep_table.specs.Forms.{seen, prints_seen}
 use Rattle.sweep_table.proofs.Factors.{length-own_rows}
 
 module _ (g : ℕ) (looks : Looks) (now : LookParts) (view : seen g looks ≡ now) where
@@ -25,13 +27,20 @@ module _ (g : ℕ) (looks : Looks) (now : LookParts) (view : seen g looks ≡ no
     prints-seen = sym view ∙ ap (seen g) form
 
     pub prints-inside : (p : ℕ) → p < positions_of now → p < length prints.rows.items
-    prints-inside p position = omega (arith, ap positions_of prints-seen, length-map prints.rows.items (λ (row : Vec LookPart Global). row.items))
-
-    pub prints-indexed : IsKept g looks → IsIndexed prints.changes
-    prints-indexed kept = subst AreIndexed form kept.indexed
+    prints-inside p position = omega (arith, ap positions_of prints-seen, length-map prints.rows.items (λ (row : Vec CellPart Global). row.items))
 
     -- a row in force ascends
-    pub prints-ascending : IsKept g looks → (t p : ℕ) (row : List LookPart) → row ≡ look_row (prints_seen g prints) t p → IsStrictlyIncreasing (map (λ entry. entry.cell) row)
-    prints-ascending kept t p row is =
-        let sound : IsSweep (prints_seen g prints) = subst (λ l. IsSweep (seen g l)) form kept.sound in
-        rw is (sound.each t p).ascending
+    pub prints-ascending : IsSweep (seen g looks) → (t p : ℕ) (row : List CellPart) → row ≡ look_row (prints_seen g prints) t p → IsAscending row
+    prints-ascending sound t p row is =
+        let here : IsSweep (prints_seen g prints) = subst (λ l. IsSweep (seen g l)) form sound in
+        rw is (here.each t p).ascending
+
+-- the row in force of footprints, from the base row that the code reads
+module _ (g : ℕ) (prints : Prints) (t p : ℕ) (row : Vec CellPart Global) (inside : p < length prints.rows.items) (read : row ≡ get_or prints.rows.items p row) where
+  base_row : row.items ≡ slice_index_or (prints_seen g prints).rows p []
+  base_row = ap (λ (r : Vec CellPart Global). r.items) read ∙ sym (get_or-map (λ (r : Vec CellPart Global). r.items) prints.rows.items p row [] inside)
+
+  pub prints-row : (base : List CellPart) → base ≡ row.items → (changes : List RowChange) → unwrap_or prints.changes [] ≡ changes → row_in_force changes base t p ≡ look_row (prints_seen g prints) t p
+  unfolding look_row
+  prints-row base is changes told =
+      ap (λ (cs : List RowChange). row_in_force cs base t p) (sym told) ∙ ap (λ (b : List CellPart). row_in_force (unwrap_or prints.changes []) b t p) (is ∙ base_row)

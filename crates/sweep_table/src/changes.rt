@@ -1,18 +1,25 @@
 //! Rows of single periods, in place of the base rows.
 
-ghost use Rattle.std.specs.Prelude.{◌≡◌, ◌↔◌, [], ◌∷◌, ◌++◌, map, Contains, IsTrue, IsOk, IfOk, IfErr, IfSome, IfNone, OnOk, MatchBool, All};
+ghost use Rattle.std.specs.Prelude.{◌≡◌, map, IsOk, IfOk, IfErr};
 ghost use Rattle.std.specs.List.{AllZip};
-ghost use Rattle.std.specs.List.Sorted.{IsNonDecreasingBy};
+ghost use Rattle.period_rows.specs.Changes.{change_of as given_change, IsSameChange, HaveRows};
 ghost use Rattle.sweep_table.specs.LookParts.{IsLookRow};
-ghost use Rattle.sweep_table.specs.Changes.{change_of, key_of_change, IsSameChange, IsBadRow, HaveRightRows, HasChangeFault, IsRefusal, IsRightChange, IsFirstOfChange};
+ghost use Rattle.sweep_table.specs.Changes.{change_of, HasChangeFault, IsRefusal};
 
-use crate::faults::{has_double, has_out, has_over};
-use crate::part::{LookChange, LookPart};
-use indexmap::IndexSet;
+use crate::faults::{has_out, has_over};
+use period_rows::{CellPart, GivenChange, RowChanges, RowFault, RowTest, has_double};
 use std::alloc::{AllocError, Global};
 
-/// The most periods in which looks may change.
-pub(crate) const MOST_PERIODS: u32 = 32;
+// The last period in which looks may change.
+const LAST_PERIOD: u32 = 32;
+
+/// What a look from one position covers in one period, in place of what it covers else.
+#[derive(Debug, Drop)]
+pub struct LookChange {
+    pub period: u32,
+    pub position: u8,
+    pub row: Vec<CellPart>,
+}
 
 /// Why looks can't be changed, or weren't. A fault names the place of its change in the list.
 #[derive(Clone, Copy, Debug, PartialEq, Eq)]
@@ -30,7 +37,6 @@ pub enum LookChangeFault {
 }
 
 impl From<AllocError> for LookChangeFault {
-    ghost use Rattle.std.specs.Prelude.{◌≡◌};
     ghost use Rattle.sweep_table.specs.declared.changes.LookChangeFault.TheVariants.{NoMemory};
 
     ghost from_gives = { λ _ e. e ≡ NoMemory };
@@ -40,115 +46,77 @@ impl From<AllocError> for LookChangeFault {
     }
 }
 
-/// Changes in the order in which they were given, and the period and position of each at its place.
-#[derive(Debug, Drop)]
-pub(crate) struct Changes {
-    pub(crate) given: Vec<LookChange>,
-    pub(crate) index: IndexSet<(u32, u8)>,
-}
+impl From<RowFault> for LookChangeFault {
+    ghost use Rattle.sweep_table.specs.Changes.{row_fault_of};
 
-/// Makes the changes of looks over so many cells from so many positions, each row put in ascending order.
-pub(crate) fn make_changes(
-    alloc: Global,
-    denominator: u32,
-    cells: u8,
-    positions: u8,
-    mut given: Vec<LookChange>,
-) -> Result<Changes, LookChangeFault>
-    ensures same { let was = map change_of given.items in IfOk result (λ made.
-        AllZip IsSameChange was (map change_of made.given.items)) }
-    ensures right { IfOk result (λ made. HaveRightRows denominator cells (map change_of made.given.items)) }
-    ensures indexed { IfOk result (λ made. made.index.keys ≡ map key_of_change (map change_of made.given.items)) }
-    ensures faultless { let was = map change_of given.items in IsOk result → (fault : LookChangeFault) →
-        HasChangeFault denominator cells positions was fault → ⊥ }
-    ensures refusal { let was = map change_of given.items in IfErr result (IsRefusal denominator cells positions was) }
-{
-    sort_rows(&mut given);
-    let index = index_of(alloc, denominator, cells, positions, &given)?;
-    Ok(Changes { given, index })
-}
+    ghost from_gives = { λ fault e. row_fault_of e ≡ fault };
 
-// Puts each row in ascending order of cells.
-fn sort_rows(changes: &mut [LookChange])
-    ensures same { AllZip IsSameChange (map change_of changes.old) (map change_of changes.new) }
-    ensures ascending { All (λ change. IsNonDecreasingBy (λ entry. entry.cell) change.row) (map change_of changes.new) }
-{
-    for change in changes.iter_mut() {
-        change.row.sort_unstable_by_key(|entry| entry.cell);
-    }
-}
-
-// The periods and positions of changes whose rows are in ascending order, if they are right.
-fn index_of(
-    alloc: Global,
-    denominator: u32,
-    cells: u8,
-    positions: u8,
-    changes: &[LookChange],
-) -> Result<IndexSet<(u32, u8)>, LookChangeFault>
-    requires { All (λ change. IsNonDecreasingBy (λ entry. entry.cell) change.row) (map change_of changes.now) }
-    ensures indexed { IfOk result (λ index. index.keys ≡ map key_of_change (map change_of changes.now)) }
-    ensures right { OnOk result (HaveRightRows denominator cells (map change_of changes.now)) }
-    ensures faultless { IsOk result → (fault : LookChangeFault) →
-        HasChangeFault denominator cells positions (map change_of changes.now) fault → ⊥ }
-    ensures refusal { IfErr result (IsRefusal denominator cells positions (map change_of changes.now)) }
-{
-    let mut index = IndexSet::new(alloc);
-    for (i, change) in changes.iter().enumerate() {
-        if let Some(fault) = change_fault(denominator, cells, positions, &index, i, change) {
-            return Err(fault);
+    fn from(fault: RowFault) -> LookChangeFault {
+        match fault {
+            RowFault::PeriodOutOfRange(place) => LookChangeFault::PeriodOutOfRange(place),
+            RowFault::OwnerOutOfRange(place) => LookChangeFault::PositionOutOfRange(place),
+            RowFault::DoubleChange(place) => LookChangeFault::DoubleChange(place),
+            RowFault::BadRow(place) => LookChangeFault::BadRow(place),
+            RowFault::NoMemory => LookChangeFault::NoMemory,
         }
-        add_key(&mut index, change)?;
     }
-    Ok(index)
 }
 
-// Whether a change's period and position are among those of an index.
-fn has_key(index: &IndexSet<(u32, u8)>, change: &LookChange) -> bool
-    ensures { IsTrue result ↔ Contains index.now.keys (key_of_change (change_of change.now)) }
-{
-    index.contains(&(change.period, change.position))
+// What a row of looks has to keep: the denominator of its parts, and the number of cells.
+#[derive(Clone, Copy)]
+struct LookRow {
+    denominator: u32,
+    cells: u8,
 }
 
-// Puts the period and position of a change last, which no earlier change is for.
-fn add_key(index: &mut IndexSet<(u32, u8)>, change: &LookChange) -> Result<(), AllocError>
-    requires { ¬ Contains index.old.keys (key_of_change (change_of change.now)) }
-    ensures { OnOk result (index.new.keys ≡ index.old.keys ++ key_of_change (change_of change.now) ∷ []) }
-{
-    index.insert((change.period, change.position))?;
-    Ok(())
+impl RowTest for LookRow {
+    ghost use Rattle.sweep_table.specs.LookParts.{IsLookRow};
+    ghost use Rattle.sweep_table.specs.Changes.{IsBadRow};
+
+    ghost right = { λ test row. IsLookRow test.denominator test.cells row };
+
+    ghost wrong = { λ test row. IsBadRow test.denominator test.cells row };
+
+    fn is_wrong(&self, row: &[CellPart]) -> bool {
+        has_out(self.cells, row) || has_double(row) || has_over(self.denominator, row)
+    }
 }
 
-// What is wrong with the change at place `i`, whose row is in ascending order, behind those that the index has.
-fn change_fault(
+/// Takes changes of looks over so many cells from so many positions, each row of which it puts in ascending order.
+pub(crate) fn changes_over(
+    alloc: Global,
     denominator: u32,
     cells: u8,
     positions: u8,
-    before: &IndexSet<(u32, u8)>,
-    i: usize,
-    change: &LookChange,
-) -> Option<LookChangeFault>
-    requires { IsNonDecreasingBy (λ entry. entry.cell) change.now.row.items }
-    ensures none { IfNone result (IsRightChange denominator cells positions before.now.keys (change_of change.now)) }
-    ensures some { IfSome result (IsFirstOfChange denominator cells positions before.now.keys i (change_of change.now)) }
+    list: Vec<LookChange>,
+) -> Result<RowChanges, LookChangeFault>
+    ensures same { let given = map change_of list.items in IfOk result (AllZip IsSameChange given) }
+    ensures right { IfOk result (HaveRows (IsLookRow denominator cells)) }
+    ensures faultless { let given = map change_of list.items in IsOk result → (fault : LookChangeFault) →
+        HasChangeFault denominator cells positions given fault → ⊥ }
+    ensures refusal { let given = map change_of list.items in
+        IfErr result (IsRefusal denominator cells positions given) }
 {
-    if change.period == 0 || change.period > MOST_PERIODS {
-        Some(LookChangeFault::PeriodOutOfRange(i))
-    } else if change.position >= positions {
-        Some(LookChangeFault::PositionOutOfRange(i))
-    } else if has_key(before, change) {
-        Some(LookChangeFault::DoubleChange(i))
-    } else if is_bad(denominator, cells, &change.row) {
-        Some(LookChangeFault::BadRow(i))
-    } else {
-        None
+    let given = as_given(alloc, list)?;
+    let row = LookRow { denominator, cells };
+    match RowChanges::new(alloc, LAST_PERIOD, positions, &row, given) {
+        Ok(changes) => Ok(changes),
+        Err(fault) => Err(LookChangeFault::from(fault)),
     }
 }
 
-// Whether something is wrong with a row in ascending order.
-fn is_bad(denominator: u32, cells: u8, row: &[LookPart]) -> bool
-    requires { IsNonDecreasingBy (λ entry. entry.cell) row.now }
-    ensures { MatchBool result (IsBadRow denominator cells row.now) (IsLookRow denominator cells row.now) }
+// Changes as rows of single periods.
+fn as_given(alloc: Global, list: Vec<LookChange>) -> Result<Vec<GivenChange>, AllocError>
+    ensures { let changes = map change_of list.items in IfOk result (λ given.
+        map given_change given.items ≡ changes) }
 {
-    has_out(cells, row) || has_double(row) || has_over(denominator, row)
+    let mut given = Vec::new(alloc);
+    for change in list {
+        given.push(GivenChange {
+            period: change.period,
+            owner: change.position,
+            row: change.row,
+        })?;
+    }
+    Ok(given)
 }

@@ -2,11 +2,12 @@
 
 ghost use Rattle.std.specs.Prelude.{◌≡◌, ℕ, ◌<◌, ◌≤◌, ◌↔◌, ◌⊎◌, length, map, slice_index, IsTrue, IfSome, IfNone, IfErr, OnOk, MatchBool, All};
 ghost use Rattle.std.specs.List.{AllZip};
-ghost use Rattle.std.specs.List.Sorted.{IsNonDecreasingBy, IsPermutation, IsStrictlyIncreasing};
+ghost use Rattle.std.specs.List.Sorted.{IsPermutation};
+ghost use Rattle.period_rows.specs.Rows.{row_at, IsInOrder};
 ghost use Rattle.sweep_table.specs.LookParts.{looks_over, IsLookRow, IsSweep};
-ghost use Rattle.sweep_table.specs.Faults.{row_at, HasOut, HasDouble, HasOver, IsFirstOfRow, IsFirstFault};
+ghost use Rattle.sweep_table.specs.Faults.{HasOut, HasOver, IsFirstOfRow, IsFirstFault};
 
-use crate::part::LookPart;
+use period_rows::{CellPart, has_double, sort_rows};
 
 /// The most positions and cells of a sweep.
 pub(crate) const MOST_CELLS: usize = 200;
@@ -49,7 +50,7 @@ pub(crate) fn first_over(denominator: u32, overlook: &[u32]) -> Option<usize>
 pub(crate) fn put_in_order(
     denominator: u32,
     cells: u8,
-    rows: &mut [Vec<LookPart>],
+    rows: &mut [Vec<CellPart>],
 ) -> Result<(), LookFault>
     requires denominator { (1 ≤ denominator) × (denominator ≤ 1000000) }
     ensures same { AllZip IsPermutation (map (λ row. row.items) rows.old) (map (λ row. row.items) rows.new) }
@@ -63,22 +64,10 @@ pub(crate) fn put_in_order(
     }
 }
 
-// Puts each row in ascending order of cells.
-fn sort_rows(rows: &mut [Vec<LookPart>])
-    ensures same { AllZip IsPermutation (map (λ row. row.items) rows.old) (map (λ row. row.items) rows.new) }
-    ensures ascending { (p : ℕ) → p < length rows.old → IsNonDecreasingBy (λ entry.
-        entry.cell) (row_at (map (λ row. row.items) rows.new) p) }
-{
-    for row in rows.iter_mut() {
-        row.sort_unstable_by_key(|entry| entry.cell);
-    }
-}
-
 // The fault that is named of rows in ascending order of cells.
-fn first_fault(denominator: u32, cells: u8, rows: &[Vec<LookPart>]) -> Option<LookFault>
+fn first_fault(denominator: u32, cells: u8, rows: &[Vec<CellPart>]) -> Option<LookFault>
     requires denominator { (1 ≤ denominator) × (denominator ≤ 1000000) }
-    requires ascending { (p : ℕ) → p < length rows.now → IsNonDecreasingBy (λ entry.
-        entry.cell) (row_at (map (λ row. row.items) rows.now) p) }
+    requires in_order { (p : ℕ) → p < length rows.now → IsInOrder (row_at (map (λ row. row.items) rows.now) p) }
     ensures none { IfNone result (IsSweep (looks_over denominator cells (map (λ row. row.items) rows.now))) }
     ensures some { IfSome result (IsFirstFault denominator cells (map (λ row. row.items) rows.now)) }
 {
@@ -101,8 +90,8 @@ fn has_wrong_sizes(cells: u8, rows: usize) -> bool
 }
 
 // What is wrong with the row of a position, in ascending order.
-fn row_fault(denominator: u32, cells: u8, position: u8, row: &[LookPart]) -> Option<LookFault>
-    requires { IsNonDecreasingBy (λ entry. entry.cell) row.now }
+fn row_fault(denominator: u32, cells: u8, position: u8, row: &[CellPart]) -> Option<LookFault>
+    requires { IsInOrder row.now }
     ensures none { IfNone result (IsLookRow denominator cells row.now) }
     ensures some { IfSome result (IsFirstOfRow denominator cells position row.now) }
 {
@@ -118,22 +107,14 @@ fn row_fault(denominator: u32, cells: u8, position: u8, row: &[LookPart]) -> Opt
 }
 
 /// Whether an entry isn't a cell.
-pub(crate) fn has_out(cells: u8, row: &[LookPart]) -> bool
+pub(crate) fn has_out(cells: u8, row: &[CellPart]) -> bool
     ensures { MatchBool result (HasOut cells row.now) (All (λ entry. entry.cell < cells) row.now) }
 {
     row.iter().any(|entry| entry.cell >= cells)
 }
 
-/// Whether a cell has two entries in a row in ascending order.
-pub(crate) fn has_double(row: &[LookPart]) -> bool
-    requires { IsNonDecreasingBy (λ entry. entry.cell) row.now }
-    ensures { MatchBool result (HasDouble row.now) (IsStrictlyIncreasing (map (λ entry. entry.cell) row.now)) }
-{
-    !row.is_sorted_by(|a, b| a.cell < b.cell)
-}
-
 /// Whether a part exceeds the denominator.
-pub(crate) fn has_over(denominator: u32, row: &[LookPart]) -> bool
+pub(crate) fn has_over(denominator: u32, row: &[CellPart]) -> bool
     ensures { MatchBool result (HasOver denominator row.now) (All (λ entry. entry.part ≤ denominator) row.now) }
 {
     row.iter().any(|entry| entry.part > denominator)

@@ -2,16 +2,15 @@
 //! undetected.
 #![tactic(auto)]
 
-mod changes;
+pub mod changes;
 mod faults;
 mod footprints;
 mod look;
-pub mod part;
 mod rates;
 mod table;
 
-pub use changes::LookChangeFault;
+pub use changes::{LookChange, LookChangeFault};
 pub use faults::{LookFault, SweepFault};
 pub use look::Look;
-pub use part::{LookChange, LookPart};
+pub use period_rows::CellPart as LookPart;
 pub use table::Sweep;

@@ -2,7 +2,7 @@
 
 ghost use Rattle.std.specs.Prelude.{◌≡◌, [], ◌∷◌};
 
-use crate::part::LookPart;
+use period_rows::CellPart;
 use std::marker::Model;
 
 /// The cells that one look covers, each with the part that it misses, in ascending order.
@@ -14,15 +14,15 @@ pub struct Look<'a> {
 // What a look covers: one cell, or a row of them.
 #[derive(Debug, Drop)]
 enum Covers<'a> {
-    One([LookPart; 1]),
-    Row(&'a [LookPart]),
+    One([CellPart; 1]),
+    Row(&'a [CellPart]),
 }
 
 impl<'a> Model for Look<'a> {
     ghost use Rattle.std.specs.Prelude.{List};
-    ghost use Rattle.sweep_table.specs.declared.part.LookPart.{LookPart};
+    ghost use Rattle.period_rows.specs.declared.part.CellPart.{CellPart};
 
-    ghost Value = { List LookPart };
+    ghost Value = { List CellPart };
 
     ghost use Rattle.sweep_table.specs.Covered.{parts_in};
 
@@ -31,7 +31,7 @@ impl<'a> Model for Look<'a> {
 
 impl<'a> Look<'a> {
     /// The look that covers one cell.
-    pub(crate) fn one(part: LookPart) -> Look<'a>
+    pub(crate) fn one(part: CellPart) -> Look<'a>
         ensures { result ≡ part ∷ [] }
     {
         Look {
@@ -40,7 +40,7 @@ impl<'a> Look<'a> {
     }
 
     /// The look that covers a row of cells.
-    pub(crate) fn row(row: &'a [LookPart]) -> Look<'a>
+    pub(crate) fn row(row: &'a [CellPart]) -> Look<'a>
         ensures { result ≡ row.now }
     {
         Look {
@@ -49,7 +49,7 @@ impl<'a> Look<'a> {
     }
 
     /// The cells with their parts.
-    pub fn parts(&self) -> &[LookPart]
+    pub fn parts(&self) -> &[CellPart]
         ensures { result.now ≡ self.now }
     {
         match &self.covers {

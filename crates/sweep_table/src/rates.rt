@@ -4,8 +4,8 @@ ghost use Rattle.std.specs.Prelude.{ℕ, ◌<◌, ◌≤◌, [], ◌∷◌, map,
 ghost use Rattle.sweep_table.specs.LookParts.{IsSweep, IsOneRate};
 ghost use Rattle.sweep_table.specs.Rates.{TellsRate, parts_in_period};
 
-use crate::part::LookPart;
 use crate::table::Sweep;
+use period_rows::CellPart;
 
 impl Sweep {
     /// The least factor of the periods up to the horizon, where every one of them is that one or the denominator.
@@ -52,7 +52,7 @@ fn rate_in_period(sweep: &Sweep, t: u32, so_far: u32) -> Option<u32>
 }
 
 // The one rate of a rate so far and of the parts of a row.
-fn rate_in_row(denominator: u32, so_far: u32, row: &[LookPart]) -> Option<u32>
+fn rate_in_row(denominator: u32, so_far: u32, row: &[CellPart]) -> Option<u32>
     ensures { TellsRate denominator (so_far ∷ map (λ entry. entry.part) row.now) result }
 {
     let mut rate = so_far;

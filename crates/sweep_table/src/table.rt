@@ -6,11 +6,11 @@ ghost use Rattle.std.specs.List.Sorted.{IsPermutation};
 ghost use Rattle.sweep_table.specs.LookParts.{IsSweep};
 ghost use Rattle.sweep_table.specs.Forms.{seen, prints_seen};
 
-use crate::changes::{LookChangeFault, make_changes};
+use crate::changes::{LookChange, LookChangeFault, changes_over};
 use crate::faults::{LookFault, MOST_CELLS, SweepFault, first_over, put_in_order};
 use crate::footprints::{Footprints, factor_in_row, own_rows, row_in_force};
 use crate::look::Look;
-use crate::part::{LookChange, LookPart};
+use period_rows::CellPart;
 use std::alloc::{AllocError, Global};
 use std::marker::Model;
 
@@ -33,18 +33,21 @@ impl Model for Sweep {
 
     ghost Value = { LookParts };
 
-    ghost use Rattle.sweep_table.specs.Forms.{seen, IsKept};
+    ghost use Rattle.sweep_table.specs.LookParts.{IsSweep};
+    ghost use Rattle.sweep_table.specs.Forms.{seen};
 
     ghost view = { λ s. seen s.denominator s.looks };
 
-    ghost invariant = { λ s. IsKept s.denominator s.looks };
+    ghost invariant = { λ s. IsSweep (seen s.denominator s.looks) };
 }
 
 impl Sweep {
     ghost use Rattle.std.specs.Prelude.{Ok};
-    ghost use Rattle.sweep_table.specs.LookParts.{factor_of, look_row, misses, positions_of, cells_of, parts_over, looks_over};
+    ghost use Rattle.sweep_table.specs.LookParts.{factor_of, look_row, misses, positions_of, cells_of, parts_over, looks_over, IsLookRow};
+    ghost use Rattle.period_rows.specs.Rows.{IsAscending};
+    ghost use Rattle.period_rows.specs.Changes.{IsSameChange, HaveRows};
     ghost use Rattle.sweep_table.specs.Faults.{HasWrongCount, IsFirstOver, HasFault, IsFirstFault};
-    ghost use Rattle.sweep_table.specs.Changes.{change_of, with_changes, IsSameChange, HaveAscendingRows, HaveRightRows, HasChangeFault, IsRefusal};
+    ghost use Rattle.sweep_table.specs.Changes.{change_of, with_changes, HasChangeFault, IsRefusal};
 
     /// Makes the table of looks that each cover the searcher's own cell alone: a look there misses that cell's part,
     /// out of `denominator`.
@@ -79,7 +82,7 @@ impl Sweep {
     pub fn footprints(
         denominator: u32,
         cells: u8,
-        mut rows: Vec<Vec<LookPart>>,
+        mut rows: Vec<Vec<CellPart>>,
     ) -> Result<Sweep, LookFault>
         requires some { 1 ≤ denominator }
         requires few { denominator ≤ 1000000 }
@@ -119,14 +122,14 @@ impl Sweep {
         ensures base { IfOk result (λ sweep. sweep ≡ with_changes self sweep.changes) }
         ensures made { let given = map change_of changes.items in IfOk result (λ sweep.
             AllZip IsSameChange given sweep.changes) }
-        ensures right { IfOk result (λ sweep. HaveRightRows self.denominator (cells_of self) sweep.changes) }
+        ensures right { IfOk result (λ sweep. HaveRows (IsLookRow self.denominator (cells_of self)) sweep.changes) }
         ensures sound { IfOk result IsSweep }
         ensures faultless { let given = map change_of changes.items in IsOk result → (fault : LookChangeFault) →
             HasChangeFault self.denominator (cells_of self) (positions_of self) given fault → ⊥ }
         ensures refusal { let given = map change_of changes.items in IfErr result
             (IsRefusal self.denominator (cells_of self) (positions_of self) given) }
-        ensures kept { let given = map change_of changes.items in HaveAscendingRows given → IfOk result (λ sweep.
-            sweep ≡ with_changes self given) }
+        ensures kept { let given = map change_of changes.items in HaveRows IsAscending given →
+            IfOk result (λ sweep. sweep ≡ with_changes self given) }
     {
         let Sweep { denominator, looks } = self;
         let Footprints {
@@ -134,7 +137,7 @@ impl Sweep {
             rows,
             changes: _,
         } = as_footprints(alloc, looks)?;
-        let changes = make_changes(alloc, denominator, cells, rows.len() as u8, changes)?;
+        let changes = changes_over(alloc, denominator, cells, rows.len() as u8, changes)?;
         Ok(Sweep {
             denominator,
             looks: Looks::Footprints(Footprints {
@@ -206,7 +209,7 @@ impl Sweep {
         ensures sound { IsSweep self.now }
     {
         match &self.looks {
-            Looks::Plain(overlook) => Look::one(LookPart {
+            Looks::Plain(overlook) => Look::one(CellPart {
                 cell: p,
                 part: overlook[p as usize],
             }),

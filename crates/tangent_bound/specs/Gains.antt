@@ -1,6 +1,6 @@
 -- The gains of one more look, along a reference path: forward masses meet backward masses.
 use Rattle.std.specs.Prelude.{ℕ, ◌≡◌, ◌*◌, nat_lt, if◌then◌else◌, List, take, sum_by, Contains}
-use Rattle.sweep_table.specs.declared.part.LookPart.{LookPart}
+use Rattle.period_rows.specs.declared.part.CellPart.{CellPart}
 use Rattle.sweep_table.specs.LookParts.{look_row}
 use Rattle.search_model.specs.Problem.{Problem}
 use Rattle.search_model.specs.Legal.{IsPath}
@@ -23,7 +23,7 @@ abbrev pub missed_in : Problem → List ℕ → ℕ → ℕ → ℕ
 missed_in p x t c = forward_of p (take t x) t c * backward_of p x t c
 
 -- the same of an entry's cell, where a look over the entry finds something there
-abbrev pub missed_at : Problem → List ℕ → ℕ → LookPart → ℕ
+abbrev pub missed_at : Problem → List ℕ → ℕ → CellPart → ℕ
 missed_at p x t entry = if nat_lt entry.part p.sweep.denominator then missed_in p x t entry.cell else 0
 
 -- what a path misses of all tracks that a look from position a covers in period t

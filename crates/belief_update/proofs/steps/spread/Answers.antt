@@ -1,10 +1,10 @@
 use Rattle.std.proofs.Common.{◌<◌, length, slice_index, slice_index_or, arith}
 use Rattle.std.proofs.Math.ListN.{length-set}
-use Rattle.drift_chain.specs.declared.part.DriftPart.{DriftPart}
+use Rattle.period_rows.specs.declared.part.CellPart.{CellPart}
 use Rattle.belief_update.proofs.RowSteps.{part_in_none, entry-fits, entry-adds}
 use Rattle.belief_update.proofs.steps.spread.Goals as goal
 
-abbrev no_entry : DriftPart
+abbrev no_entry : CellPart
 no_entry = record { cell = 0; part = 0 }
 
 pub loop-entry-init : goal.loop-entry-init

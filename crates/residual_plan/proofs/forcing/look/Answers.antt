@@ -1,5 +1,5 @@
 use Rattle.std.proofs.Common.{◌++◌, List, ap, ◌∙◌, arith}
-use Rattle.sweep_table.specs.declared.part.LookPart.{LookPart}
+use Rattle.period_rows.specs.declared.part.CellPart.{CellPart}
 use Rattle.sweep_table.specs.LookParts.{positions_of, look_row}
 use Rattle.residual_plan.specs.Rows.{forced_look}
 use Rattle.residual_plan.proofs.Places.{source_within}
@@ -15,4 +15,4 @@ unfolding forced_look
 returns c =
     let p = c.args.sc.now in
     let row = c.parts.ensures ∙ c.look.ensures.value ∙ ap (λ s. look_row s c.args.t c.source.result) c.sweep.ensures.value ∙ ap (look_row p.sweep c.args.t) c.source.ensures in
-    c.in_ok-extend_from_slice.ensures.items ∙ ap (λ (xs : List LookPart). xs ++ c.parts.result.now) c.new-row.ensures.items ∙ row
+    c.in_ok-extend_from_slice.ensures.items ∙ ap (λ (xs : List CellPart). xs ++ c.parts.result.now) c.new-row.ensures.items ∙ row

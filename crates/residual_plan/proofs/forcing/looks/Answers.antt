@@ -2,13 +2,13 @@ use Rattle.std.proofs.Common.{◌≡◌, ◌+◌, List, Vec, Global, map, refl, 
 use Rattle.std.specs.List.{range_with_len}
 use Rattle.std.proofs.lemmas.List.{map_push}
 use Rattle.std.proofs.lemmas.List.FromFn.{map-range_with_len_more}
-use Rattle.sweep_table.specs.declared.part.LookPart.{LookPart}
+use Rattle.period_rows.specs.declared.part.CellPart.{CellPart}
 use Rattle.residual_plan.specs.Rows.{forced_looks_in, forced_looks}
 use Rattle.residual_plan.proofs.forcing.looks.Goals as goal
 
 pub loop-t-preserved : goal.loop-t-preserved
 loop-t-preserved c =
-    let items : Vec (Vec LookPart Global) Global → List (List LookPart) = λ period. map (λ row. row.items) period.items in
+    let items : Vec (Vec CellPart Global) Global → List (List CellPart) = λ period. map (λ row. row.items) period.items in
     let rows = forced_looks_in c.args.sc.now c.args.flown.now in
     let before : map items c.loop-t.rows.items ≡ map rows (range_with_len 1 c.loop-t.t) = c.loop-t.invariant in
     let next = map-range_with_len_more rows 1 c.loop-t.t (c.loop-t.t + 1) (omega arith) in

@@ -2,14 +2,14 @@ use Rattle.std.proofs.Common.{◌≡◌, List, Vec, Global, map, refl, sym, ap, 
 use Rattle.std.specs.List.{range_with_len}
 use Rattle.std.proofs.lemmas.List.{map_push}
 use Rattle.std.proofs.lemmas.List.FromFn.{map-range_with_len_more}
-use Rattle.sweep_table.specs.declared.part.LookPart.{LookPart}
+use Rattle.period_rows.specs.declared.part.CellPart.{CellPart}
 use Rattle.residual_plan.specs.Forced.{forced_count}
 use Rattle.residual_plan.specs.Rows.{forced_look, forced_looks_in}
 use Rattle.residual_plan.proofs.forcing.looks_in.Goals as goal
 
 pub loop-a-preserved : goal.loop-a-preserved
 loop-a-preserved c =
-    let items : Vec LookPart Global → List LookPart = λ row. row.items in
+    let items : Vec CellPart Global → List CellPart = λ row. row.items in
     let row = forced_look c.args.sc.now c.args.flown.now c.args.t in
     let before : map items c.loop-a.rows.items ≡ map row (range_with_len 0 c.loop-a.a) = c.loop-a.invariant in
     let next = map-range_with_len_more row 0 c.loop-a.a c.loop-a.a (omega arith) in

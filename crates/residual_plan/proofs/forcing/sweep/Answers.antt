@@ -1,6 +1,6 @@
 use Rattle.std.proofs.Common.{◌≡◌, ◌≤◌, ◌<◌, List, length, refl, sym, ap, ◌∙◌, subst, arith}
 use Rattle.std.proofs.lemmas.List.{length-map}
-use Rattle.sweep_table.specs.declared.part.LookPart.{LookPart}
+use Rattle.period_rows.specs.declared.part.CellPart.{CellPart}
 use Rattle.searcher_maps.specs.Periods.{rows_by_period, positions_given, row_given, AreLookRows}
 use Rattle.residual_plan.specs.Rows.{forced_looks}
 use Rattle.residual_plan.proofs.GivenLooks.{count_periods, count_given, row_is_given, are_look_rows}
@@ -28,4 +28,4 @@ returns-clause-looks c t a from to within =
     let last : t ≤ length c.in_ok-rows.rows.items = omega (arith, to, periods, count) in
     let given : positions_given (rows_by_period c.in_ok-rows.rows.items) ≡ positions_given (forced_looks p flown) = ap positions_given c.in_ok-rows.ensures in
     let position : a < positions_given (rows_by_period c.in_ok-rows.rows.items) = omega (arith, within, given, count_given p flown c.cells.ensures.sound.horizon.0) in
-    c.in_ok-sweep.ensures.rows t a from last position ∙ ap (λ (rows : List (List (List LookPart))). row_given rows t a) c.in_ok-rows.ensures ∙ row_is_given p flown t a from to within
+    c.in_ok-sweep.ensures.rows t a from last position ∙ ap (λ (rows : List (List (List CellPart))). row_given rows t a) c.in_ok-rows.ensures ∙ row_is_given p flown t a from to within

@@ -1,6 +1,6 @@
 use Rattle.std.proofs.Common.{◌≤◌, length, ◌∙◌, ap, sym, subst, List, ℕ}
 use Rattle.std.specs.Prelude.{All}
-use Rattle.drift_chain.specs.declared.part.DriftPart.{DriftPart}
+use Rattle.period_rows.specs.declared.part.CellPart.{CellPart}
 use Rattle.drift_chain.specs.DriftRows.{drift_over, IsDrift}
 use Rattle.search_model.specs.Grids.{spread_rows}
 use Rattle.scenario_maker.proofs.Cells.{few_moves, drift_right}
@@ -13,7 +13,7 @@ spread_rows-requires-clause-few c =
 
 pub drift_of-requires : goal.drift_of-requires
 drift_of-requires c =
-    let P : List (List DriftPart) → Type 0 = λ rows. IsDrift (drift_over 12 rows) in
+    let P : List (List CellPart) → Type 0 = λ rows. IsDrift (drift_over 12 rows) in
     let made = c.in_ok-rows.ensures ∙ ap (spread_rows 12 c.args.part) c.requires.grid in
     subst P (sym made) (drift_right c.args.part c.requires.some c.requires.most)
 

@@ -2,7 +2,7 @@ use Rattle.std.proofs.Common.{◌≡◌, length, map, refl, ◌∙◌, ap, sym, 
 use Rattle.std.specs.List.{range_with_len}
 use Rattle.std.proofs.lemmas.List.{map_push}
 use Rattle.std.proofs.lemmas.List.FromFn.{map-range_with_len_more}
-use Rattle.drift_chain.specs.declared.part.DriftPart.{DriftPart}
+use Rattle.period_rows.specs.declared.part.CellPart.{CellPart}
 use Rattle.search_grid.specs.Moves.{moves_from}
 use Rattle.search_model.specs.Grids.{spread_row}
 use Rattle.scenario_maker.proofs.Cells.{row_few}
@@ -15,7 +15,7 @@ spread_row-requires-clause-few c =
 
 pub loop-c-preserved : goal.loop-c-preserved
 loop-c-preserved c =
-    let parts : Vec DriftPart Global → List DriftPart = λ row. row.items in
+    let parts : Vec CellPart Global → List CellPart = λ row. row.items in
     let before : map parts c.loop-c.rows.items ≡ map (λ k. spread_row 12 c.args.part k (moves_from c.args.grid.now k)) (range_with_len 0 c.loop-c.c) = c.loop-c.invariant in
     let own = c.in_ok-spread_row.ensures ∙ ap (λ (ms : List ℕ). spread_row 12 c.args.part c.loop-c.c ms) c.moves.ensures.value in
     let next = map-range_with_len_more (λ k. spread_row 12 c.args.part k (moves_from c.args.grid.now k)) 0 c.loop-c.c c.loop-c.c (omega arith) in

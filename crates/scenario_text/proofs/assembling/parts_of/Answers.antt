@@ -1,5 +1,5 @@
 use Rattle.std.proofs.Common.{rules, ◌≡◌, replicate}
-use Rattle.drift_chain.specs.declared.part.DriftPart.{DriftPart}
+use Rattle.period_rows.specs.declared.part.CellPart.{CellPart}
 use Rattle.scenario_text.proofs.Places.{Placed-none, Placed-more}
 use Rattle.scenario_text.proofs.assembling.parts_of.Goals as goal
 
@@ -10,5 +10,5 @@ loop-entry-init c =
 
 pub loop-entry-preserved : goal.loop-entry-preserved
 loop-entry-preserved c =
-    let nothing : DriftPart = record { cell = 0; part = 0 } in
+    let nothing : CellPart = record { cell = 0; part = 0 } in
     Placed-more c.args.cells c.requires.0 c.args.entries.now c.requires.1 c.loop-entry.entry-index nothing c.loop-entry-test.true c.loop-entry.parts.items c.loop-entry.invariant

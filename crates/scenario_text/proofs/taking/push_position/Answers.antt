@@ -2,14 +2,14 @@ use Rattle.std.proofs.Common.{refl, ◌∙◌, ap, map, ◌≡◌, Bool, None, L
 use Rattle.std.specs.Option.{option_map}
 use Rattle.std.specs.Str.{bytes_eq}
 use Rattle.std.proofs.lemmas.List.{map_push}
-use Rattle.drift_chain.specs.declared.part.DriftPart.{DriftPart}
+use Rattle.period_rows.specs.declared.part.CellPart.{CellPart}
 use Rattle.scenario_text.proofs.Columns.{inserted_last}
 use Rattle.scenario_text.proofs.taking.push_position.Goals as goal
 
 pub returns : goal.returns
 returns c =
     let bytes : Vec ℕ Global → List ℕ = λ n. n.items in
-    let parts : Vec DriftPart Global → List DriftPart = λ n. n.items in
+    let parts : Vec CellPart Global → List CellPart = λ n. n.items in
     let same : Vec ℕ Global → Vec ℕ Global → Bool = λ x y. bytes_eq x.items y.items in
     let name : c.extend_from_slice.new.self.items ≡ c.args.name.now =
     c.in_ok-extend_from_slice.ensures.items ∙ ap (λ (x : List ℕ). x ++ c.args.name.now) c.new-bytes.ensures.items in

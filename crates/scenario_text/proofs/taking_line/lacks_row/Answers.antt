@@ -1,6 +1,6 @@
 use Rattle.std.proofs.Common.{List, rules, Vec, Global}
 use Rattle.list_laws.proofs.Mapped.{list_any-map}
-use Rattle.drift_chain.specs.declared.part.DriftPart.{DriftPart}
+use Rattle.period_rows.specs.declared.part.CellPart.{CellPart}
 use Rattle.scenario_text.proofs.Columns.{none_kept}
 use Rattle.scenario_text.proofs.taking_line.lacks_row.Goals as goal
 
@@ -9,6 +9,6 @@ returns-then-any_no_overlook c = simp list_any-map (search rules)
 
 pub returns-else-any_no_overlook : goal.returns-else-any_no_overlook
 returns-else-any_no_overlook c =
-    let rows : Vec DriftPart Global → List DriftPart = λ row. row.items in
+    let rows : Vec CellPart Global → List CellPart = λ row. row.items in
     let looks = none_kept rows c.args.draft.now.looks.items in
     rw looks (simp list_any-map (search rules))

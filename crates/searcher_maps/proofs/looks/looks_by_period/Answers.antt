@@ -1,9 +1,10 @@
 use Rattle.std.proofs.Common.{◌∙◌, refl, sym, ap, subst, List, arith}
 use Rattle.std.proofs.lemmas.List.{length-map}
 use Rattle.std.proofs.lemmas.Result.{IfOk-weaker}
-use Rattle.sweep_table.specs.declared.part.LookPart.{LookPart}
+use Rattle.period_rows.specs.declared.part.CellPart.{CellPart}
 use Rattle.sweep_table.specs.LookParts.{LookParts, look_row, looks_over, IsSweep}
-use Rattle.sweep_table.specs.Changes.{HaveAscendingRows}
+use Rattle.period_rows.specs.Changes.{HaveRows}
+use Rattle.period_rows.specs.Rows.{IsAscending}
 use Rattle.searcher_maps.specs.Periods.{rows_by_period}
 use Rattle.searcher_maps.proofs.GivenRows.{rows_in, period_at}
 use Rattle.searcher_maps.proofs.LookTables.{AreGiven, IsSweep-base, ascending, faultless, made_changes, assembled, same_rows}
@@ -15,7 +16,7 @@ base_sweep-base-requires c =
     let given = rows_by_period c.args.rows.items in
     let h : AreGiven g c.args.cells given = record { denominator = (c.requires.some, c.requires.few); count = (c.requires.some_cell, c.requires.few_cells); rows = c.requires.rows } in
     let base = period_at c.args.rows.items 0 c.swap_remove.result (omega arith) c.swap_remove.ensures.value in
-    subst (λ (rows : List (List LookPart)). IsSweep (looks_over g c.args.cells rows)) base (IsSweep-base g c.args.cells given h)
+    subst (λ (rows : List (List CellPart)). IsSweep (looks_over g c.args.cells rows)) base (IsSweep-base g c.args.cells given h)
 
 pub changed_sweep-requires-clause-ascending : goal.changed_sweep-requires-clause-ascending
 changed_sweep-requires-clause-ascending c =
@@ -23,7 +24,7 @@ changed_sweep-requires-clause-ascending c =
     let given = rows_by_period c.args.rows.items in
     let h : AreGiven g c.args.cells given = record { denominator = (c.requires.some, c.requires.few); count = (c.requires.some_cell, c.requires.few_cells); rows = c.requires.rows } in
     let changed = made_changes g c.args.cells given h c.args.rows.items _ c.index.result.now c.len-positions.result _ refl c.deref.ensures.value c.index.ensures (omega (arith, c.len-positions.ensures)) c.in_ok-changes.ensures in
-    subst HaveAscendingRows (sym changed) (ascending g c.args.cells given h)
+    subst (HaveRows IsAscending) (sym changed) (ascending g c.args.cells given h)
 
 pub changed_sweep-requires-clause-faultless : goal.changed_sweep-requires-clause-faultless
 changed_sweep-requires-clause-faultless c =

@@ -1,14 +1,15 @@
 use Rattle.std.proofs.Common.{◌<◌, ◌∙◌, sym, ap, map, length, below_more, arith}
 use Rattle.std.proofs.Math.ListN.{length-map}
 use Rattle.sweep_table.specs.Faults.{HasWrongSizes}
-use Rattle.sweep_table.proofs.Rows.{IsSweep-from_rows, row_at-map}
+use Rattle.period_rows.proofs.SameRows.{row_at-map}
+use Rattle.sweep_table.proofs.Rows.{IsSweep-from_rows}
 use Rattle.sweep_table.proofs.NamedFaults.{first_from_row, sizes_from_none}
 use Rattle.sweep_table.proofs.faults.first_fault.Goals as goal
 
 pub row_fault-requires : goal.row_fault-requires
 row_fault-requires c =
     let row = c.deref.ensures.value ∙ ap (λ row. row.items) c.index-rows-p.is ∙ sym (row_at-map (λ row. row.items) c.args.rows.now c.loop-p.p c.index-rows-p.result c.loop-p-test.true) in
-    rw row (c.requires.ascending c.loop-p.p c.loop-p-test.true)
+    rw row (c.requires.in_order c.loop-p.p c.loop-p-test.true)
 
 pub returns-in-Some-clause-some : goal.returns-in-Some-clause-some
 returns-in-Some-clause-some c =

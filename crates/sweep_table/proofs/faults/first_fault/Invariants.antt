@@ -1,6 +1,6 @@
 use Rattle.std.proofs.Common.{ℕ, ◌<◌, map}
 use Rattle.sweep_table.specs.LookParts.{IsLookRow}
-use Rattle.sweep_table.specs.Faults.{row_at}
+use Rattle.period_rows.specs.Rows.{row_at}
 use Rattle.sweep_table.proofs.faults.first_fault.Given as goal
 
 abbrev pub invariant-loop-p : goal.invariant-loop-p

@@ -2,7 +2,7 @@ use Rattle.std.proofs.Common.{◌≡◌, ◌∙◌, ap, sym, slice_index}
 use Rattle.std.proofs.lemmas.List.{get_or_default}
 use Rattle.sweep_table.specs.LookParts.{factor_of, factor_in, parts_over}
 use Rattle.sweep_table.proofs.Factors.{factor_of-own, factor_of-apart}
-use Rattle.sweep_table.proofs.Views.{plain-seen, plain-inside, prints-seen, prints-inside, prints-indexed, prints-ascending}
+use Rattle.sweep_table.proofs.Views.{plain-seen, plain-inside, prints-seen, prints-inside, prints-ascending}
 use Rattle.sweep_table.proofs.table.Sweep.factor.Goals as goal
 
 pub returns-in-Plain-clause-value : goal.returns-in-Plain-clause-value
@@ -21,11 +21,8 @@ returns-in-Plain-2-clause-value c =
     sym (factor_of-apart c.self.inside.denominator overlook c.args.t c.args.p c.args.c here c.if-p-c.false)
     ∙ ap (λ s. factor_of s c.args.t c.args.p c.args.c) (sym (plain-seen _ _ _ c.self.view_is _ c.in-Plain.is))
 
-pub row_in_force-requires-clause-position : goal.row_in_force-requires-clause-position
-row_in_force-requires-clause-position c = prints-inside _ _ _ c.self.view_is _ c.in-Footprints.is c.args.p c.requires.position
-
-pub row_in_force-requires-clause-indexed : goal.row_in_force-requires-clause-indexed
-row_in_force-requires-clause-indexed c = prints-indexed _ _ _ c.self.view_is _ c.in-Footprints.is c.self.invariant
+pub row_in_force-requires : goal.row_in_force-requires
+row_in_force-requires c = prints-inside _ _ _ c.self.view_is _ c.in-Footprints.is c.args.p c.requires.position
 
 pub factor_in_row-requires : goal.factor_in_row-requires
 factor_in_row-requires c =

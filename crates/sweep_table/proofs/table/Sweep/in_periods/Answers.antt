@@ -1,12 +1,12 @@
 use Rattle.std.proofs.Common.{◌≡◌, length, map, refl, arith}
 use Rattle.sweep_table.specs.Changes.{change_of}
-use Rattle.sweep_table.proofs.MadeChanges.{made_faultless, made_right, made_sound, made_kept, made_same}
+use Rattle.sweep_table.proofs.MadeChanges.{made_faultless, made_right, made_sound, made_same}
 use Rattle.sweep_table.proofs.table.Sweep.in_periods.Goals as goal
 
 pub invariant_of-result : goal.invariant_of-result
 invariant_of-result c =
-    made_kept c.self.inside.denominator c.self.inside.looks c.args.self c.self.view_is c.in_ok-cells.field-0 c.in_ok-cells.ensures c.in_ok-changes.changes c.in_ok-changes.ensures.right
-    c.self.invariant c.requires c.in_ok-changes.ensures.indexed
+    made_sound c.self.inside.denominator c.self.inside.looks c.args.self c.self.view_is c.in_ok-cells.field-0 c.in_ok-cells.ensures c.in_ok-changes.changes c.in_ok-changes.ensures.right
+    c.self.invariant c.requires
 
 pub returns-clause-right : goal.returns-clause-right
 returns-clause-right c =
@@ -15,7 +15,7 @@ returns-clause-right c =
 pub returns-clause-sound : goal.returns-clause-sound
 returns-clause-sound c =
     made_sound c.self.inside.denominator c.self.inside.looks c.args.self c.self.view_is c.in_ok-cells.field-0 c.in_ok-cells.ensures c.in_ok-changes.changes c.in_ok-changes.ensures.right
-    c.self.invariant.sound c.requires
+    c.self.invariant c.requires
 
 pub returns-clause-kept : goal.returns-clause-kept
 returns-clause-kept c =

@@ -2,7 +2,7 @@ use Rattle.std.proofs.Common.{◌≡◌, ◌∙◌, ap, sym, arith, [], ◌∷�
 use Rattle.std.proofs.lemmas.List.{get_or_default}
 use Rattle.sweep_table.specs.LookParts.{look_row, misses}
 use Rattle.sweep_table.proofs.Factors.{look_row-own}
-use Rattle.sweep_table.proofs.Views.{plain-seen, plain-inside, prints-seen, prints-inside, prints-indexed}
+use Rattle.sweep_table.proofs.Views.{plain-seen, plain-inside, prints-seen, prints-inside}
 use Rattle.sweep_table.proofs.table.Sweep.look.Goals as goal
 
 pub index-requires : goal.index-requires
@@ -15,11 +15,8 @@ returns-in-Plain-clause-value c =
     let part : c.index.result.now ≡ slice_index overlook c.args.p = c.index.ensures ∙ get_or_default overlook c.args.p _ 0 here in
     c.one.ensures ∙ ap (λ n. misses c.args.p n ∷ []) part ∙ sym (look_row-own _ overlook c.args.t c.args.p here) ∙ ap (λ s. look_row s c.args.t c.args.p) (sym (plain-seen _ _ _ c.self.view_is _ c.in-Plain.is))
 
-pub row_in_force-requires-clause-position : goal.row_in_force-requires-clause-position
-row_in_force-requires-clause-position c = prints-inside _ _ _ c.self.view_is _ c.in-Footprints.is c.args.p c.requires.position
-
-pub row_in_force-requires-clause-indexed : goal.row_in_force-requires-clause-indexed
-row_in_force-requires-clause-indexed c = prints-indexed _ _ _ c.self.view_is _ c.in-Footprints.is c.self.invariant
+pub row_in_force-requires : goal.row_in_force-requires
+row_in_force-requires c = prints-inside _ _ _ c.self.view_is _ c.in-Footprints.is c.args.p c.requires.position
 
 pub returns-in-Footprints-clause-value : goal.returns-in-Footprints-clause-value
 returns-in-Footprints-clause-value c =

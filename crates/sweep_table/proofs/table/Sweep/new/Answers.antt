@@ -11,7 +11,7 @@ made c =
     IsSweep-from_parts _ overlook (omega arith, omega arith) (grind (arith, common_steps), omega arith) within
 
 pub invariant_of-result : goal.invariant_of-result
-invariant_of-result c = record { sound = made c; indexed = tt }
+invariant_of-result c = made c
 
 pub returns-in-Some-clause-right : goal.returns-in-Some-clause-right
 returns-in-Some-clause-right c =

@@ -1,0 +1,4 @@
+pub mod ChangeFaults
+pub mod FoundRows
+pub mod RowOrder
+pub mod SameRows

@@ -1,7 +1,0 @@
-use Rattle.std.proofs.Common.{◌∙◌, refl}
-use Rattle.list_laws.proofs.Keyed.{key-from_absent}
-use Rattle.sweep_table.specs.Changes.{change_of, key_of_change}
-use Rattle.sweep_table.proofs.changes.add_key.Goals as goal
-
-pub returns : goal.returns
-returns c = c.in_ok-insert.ensures.keys ∙ (rw (key-from_absent (key_of_change (change_of c.args.change.now)) c.args.index.now.keys c.requires) refl)
