@@ -7,4 +7,4 @@ mod rows;
 
 pub use fields::{after_field, cut_field, first_fields, is_blank, skip_blanks};
 pub use lines::{cut, cut_line};
-pub use rows::{Field, push_field, push_fields, push_row};
+pub use rows::{Field, begin_row, push_field, push_fields, push_row};

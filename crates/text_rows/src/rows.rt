@@ -55,6 +55,17 @@ pub fn push_fields(out: &mut Vec<u8>, fields: &[Field]) -> Result<(), NoMemory>
     Ok(())
 }
 
+/// Begins a row of any length: a word, and the first fields behind it. A line feed ends the row.
+#[tactic(auto, using(crate::proofs::RowSteps::row_steps))]
+pub fn begin_row(out: &mut Vec<u8>, word: &[u8], fields: &[Field]) -> Result<(), NoMemory>
+    requires { All IsField fields.now }
+    ensures ok { OnOk result (out.new.items ≡ out.old.items ++ (word.now ++ spaced (map field_text fields.now))) }
+    ensures err { OnErr result (Begins out.old.items out.new.items) }
+{
+    out.extend_from_slice(word)?;
+    push_fields(out, fields)
+}
+
 /// Appends a row: a word, and fields behind it.
 #[tactic(auto, using(crate::proofs::RowSteps::row_steps))]
 pub fn push_row(out: &mut Vec<u8>, word: &[u8], fields: &[Field]) -> Result<(), NoMemory>
@@ -62,8 +73,7 @@ pub fn push_row(out: &mut Vec<u8>, word: &[u8], fields: &[Field]) -> Result<(), 
     ensures ok { OnOk result (out.new.items ≡ out.old.items ++ text_of ((word.now ∷ map field_text fields.now) ∷ [])) }
     ensures err { OnErr result (Begins out.old.items out.new.items) }
 {
-    out.extend_from_slice(word)?;
-    push_fields(out, fields)?;
+    begin_row(out, word, fields)?;
     out.push(b'\n')?;
     Ok(())
 }
