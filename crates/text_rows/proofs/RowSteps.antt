@@ -1,8 +1,9 @@
 -- A row is appended field by field, and a text row by row.
 use Rattle.std.proofs.Common.{◌≡◌, ℕ, ◌+◌, ◌-◌, ◌≤◌, ◌<◌, List, [], ◌∷◌, ◌++◌, length, get_or, take, map, sym, ap, ◌∙◌, append_assoc, arith, add-one}
 use Rattle.std.specs.List.{join_with_byte, flat_map, range_with_len}
-use Rattle.std.proofs.lemmas.List.{append-nil, map-append}
+use Rattle.std.proofs.lemmas.List.{map-append}
 use Rattle.std.proofs.lemmas.List.Concat.{flat_map-append}
+use Rattle.list_laws.proofs.Changed.{flat_map-push}
 use Rattle.list_laws.proofs.Ranges.{range_with_len-suc, range_more}
 use Rattle.exact_parts.proofs.Beginnings.{begins_same, begins_more, begins_after}
 use Rattle.exact_parts.proofs.AppendLemmas.{at_refusal}
@@ -11,9 +12,6 @@ use Rattle.text_rows.proofs.RowLemmas.{join-fields, text_of-append, take_one_mor
 
 -- what is left where memory was refused begins with what stood there
 pub ruleset row_steps = (begins_same, begins_more, begins_after, at_refusal)
-
-flat_map_one : {X Y : Type 0} (f : X → List Y) (xs : List X) (x : X) → flat_map f (xs ++ x ∷ []) ≡ flat_map f xs ++ f x
-flat_map_one {Y = Y} f xs x = flat_map-append f xs (x ∷ []) ∙ ap (λ (ys : List Y). flat_map f xs ++ ys) (append-nil (f x))
 
 -- a text behind another
 texts_then : (old mid new text more : List ℕ) → mid ≡ old ++ text → new ≡ mid ++ more → new ≡ old ++ (text ++ more)
@@ -41,13 +39,13 @@ rows_then old mid new rows more e f = texts_then old mid new _ _ e f ∙ ap (λ 
 pub fields_more : {X : Type 0} (f : X → List (List ℕ)) (xs : List X) (i : ℕ) (d : X) (old mid new : List ℕ) → i < length xs → mid ≡ old ++ spaced (flat_map f (take i xs)) → new ≡ mid ++ spaced (f (get_or xs i d)) → new ≡ old ++ spaced (flat_map f (take (i + 1) xs))
 fields_more f xs i d old mid new lt e more =
     fields_then old mid new (flat_map f (take i xs)) (f (get_or xs i d)) e more
-    ∙ ap (λ (fields : List (List ℕ)). old ++ spaced fields) (sym (ap (flat_map f) (take_one_more xs i d lt) ∙ flat_map_one f (take i xs) (get_or xs i d)))
+    ∙ ap (λ (fields : List (List ℕ)). old ++ spaced fields) (sym (ap (flat_map f) (take_one_more xs i d lt) ∙ flat_map-push f (take i xs) (get_or xs i d)))
 
 -- of one number more
 pub fields_in_range : (f : ℕ → List (List ℕ)) (k : ℕ) (old mid new : List ℕ) → mid ≡ old ++ spaced (flat_map f (range_with_len 0 k)) → new ≡ mid ++ spaced (f k) → new ≡ old ++ spaced (flat_map f (range_with_len 0 (k + 1)))
 fields_in_range f k old mid new e more =
     fields_then old mid new (flat_map f (range_with_len 0 k)) (f k) e more
-    ∙ ap (λ (fields : List (List ℕ)). old ++ spaced fields) (sym (ap (flat_map f) (range_more k) ∙ flat_map_one f (range_with_len 0 k) k))
+    ∙ ap (λ (fields : List (List ℕ)). old ++ spaced fields) (sym (ap (flat_map f) (range_more k) ∙ flat_map-push f (range_with_len 0 k) k))
 
 -- the row of one number more
 pub row_in_range : (f : ℕ → List (List ℕ)) (k : ℕ) (old mid new : List ℕ) → mid ≡ old ++ text_of (map f (range_with_len 0 k)) → new ≡ mid ++ text_of (f k ∷ []) → new ≡ old ++ text_of (map f (range_with_len 0 (k + 1)))
@@ -56,8 +54,8 @@ row_in_range f k old mid new e more =
     ∙ ap (λ (rows : List (List (List ℕ))). old ++ text_of rows) (sym (ap (map f) (range_more k) ∙ map-append f (range_with_len 0 k) (k ∷ [])))
 
 -- the rows that stand for what one number more, from another one on, makes
-pub rows_in_range : {X : Type 0} (row : X → List (List ℕ)) (g : ℕ → List X) (a k : ℕ) (old mid new : List ℕ) → mid ≡ old ++ text_of (map row (flat_map g (range_with_len a k))) → new ≡ mid ++ text_of (map row (g (a + k))) → new ≡ old ++ text_of (map row (flat_map g (range_with_len a (k + 1))))
-rows_in_range row g a k old mid new e more =
-    let one : range_with_len a (k + 1) ≡ range_with_len a k ++ (a + k) ∷ [] = rw add-one (range_with_len-suc a k) in
-    rows_then old mid new (map row (flat_map g (range_with_len a k))) (map row (g (a + k))) e more
-    ∙ ap (λ (rows : List (List (List ℕ))). old ++ text_of rows) (sym (ap (λ (ks : List ℕ). map row (flat_map g ks)) one ∙ ap (map row) (flat_map_one g (range_with_len a k) (a + k)) ∙ map-append row (flat_map g (range_with_len a k)) (g (a + k))))
+pub rows_in_range : {X : Type 0} (row : X → List (List ℕ)) (g : ℕ → List X) (a k n : ℕ) (old mid new : List ℕ) → a + k ≡ n → mid ≡ old ++ text_of (map row (flat_map g (range_with_len a k))) → new ≡ mid ++ text_of (map row (g n)) → new ≡ old ++ text_of (map row (flat_map g (range_with_len a (k + 1))))
+rows_in_range row g a k n old mid new at e more =
+    let one : range_with_len a (k + 1) ≡ range_with_len a k ++ n ∷ [] = rw (add-one, ← at) (range_with_len-suc a k) in
+    rows_then old mid new (map row (flat_map g (range_with_len a k))) (map row (g n)) e more
+    ∙ ap (λ (rows : List (List (List ℕ))). old ++ text_of rows) (sym (ap (λ (ks : List ℕ). map row (flat_map g ks)) one ∙ ap (map row) (flat_map-push g (range_with_len a k) n) ∙ map-append row (flat_map g (range_with_len a k)) (g n)))
