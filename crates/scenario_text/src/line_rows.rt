@@ -52,7 +52,8 @@ fn push_entries(out: &mut Vec<u8>, sc: &Scenario, entries: &[DriftPart]) -> Resu
 #[tactic(auto, using(text_rows::proofs::RowSteps::row_steps))]
 fn push_first_of(out: &mut Vec<u8>, sc: &Scenario, c: u8) -> Result<(), NoMemory>
     requires { c < sc.now.cells }
-    ensures ok { OnOk result (out.new.items ≡ out.old.items ++ spaced (entry_fields sc.now.names (first_entry sc.now c))) }
+    ensures ok { OnOk result (out.new.items ≡ out.old.items ++
+        spaced (entry_fields sc.now.names (first_entry sc.now c))) }
     ensures err { OnErr result (Begins out.old.items out.new.items) }
 {
     let part = sc.first(c);
@@ -66,7 +67,8 @@ fn push_first_of(out: &mut Vec<u8>, sc: &Scenario, c: u8) -> Result<(), NoMemory
 // The fields of the first parts.
 #[tactic(auto, using(text_rows::proofs::RowSteps::row_steps))]
 fn push_first(out: &mut Vec<u8>, sc: &Scenario) -> Result<(), NoMemory>
-    ensures ok { OnOk result (out.new.items ≡ out.old.items ++ spaced (entry_fields sc.now.names (first_entries sc.now))) }
+    ensures ok { OnOk result (out.new.items ≡ out.old.items ++
+        spaced (entry_fields sc.now.names (first_entries sc.now))) }
     ensures err { OnErr result (Begins out.old.items out.new.items) }
 {
     for c in 0..sc.cells() {
@@ -78,7 +80,8 @@ fn push_first(out: &mut Vec<u8>, sc: &Scenario) -> Result<(), NoMemory>
 /// Appends the row of the first parts.
 #[tactic(auto, using(text_rows::proofs::RowSteps::row_steps))]
 pub fn push_first_row(out: &mut Vec<u8>, sc: &Scenario) -> Result<(), NoMemory>
-    ensures ok { OnOk result (out.new.items ≡ out.old.items ++ text_of (first_row sc.now.names (first_entries sc.now) ∷ [])) }
+    ensures ok { OnOk result (out.new.items ≡ out.old.items ++
+        text_of (first_row sc.now.names (first_entries sc.now) ∷ [])) }
     ensures err { OnErr result (Begins out.old.items out.new.items) }
 {
     begin_row(out, b"first", &[])?;
@@ -91,7 +94,8 @@ pub fn push_first_row(out: &mut Vec<u8>, sc: &Scenario) -> Result<(), NoMemory>
 #[tactic(auto, using(text_rows::proofs::RowSteps::row_steps))]
 fn push_covered_part(out: &mut Vec<u8>, sc: &Scenario, entry: LookPart) -> Result<(), NoMemory>
     requires { entry.cell < sc.now.cells }
-    ensures ok { OnOk result (out.new.items ≡ out.old.items ++ spaced (entry_fields sc.now.names (covered_entry sc.now entry))) }
+    ensures ok { OnOk result (out.new.items ≡ out.old.items ++
+        spaced (entry_fields sc.now.names (covered_entry sc.now entry))) }
     ensures err { OnErr result (Begins out.old.items out.new.items) }
 {
     let LookPart { cell, part } = entry;
@@ -146,7 +150,8 @@ fn push_look(out: &mut Vec<u8>, sc: &Scenario, t: u32, q: u8) -> Result<(), NoMe
     requires problem { IsProblem sc.now }
     requires period { (1 ≤ t) × (t ≤ 32) }
     requires position { q < sc.now.positions }
-    ensures ok { OnOk result (out.new.items ≡ out.old.items ++ spaced (entry_fields sc.now.names (covered sc.now t q))) }
+    ensures ok { OnOk result (out.new.items ≡ out.old.items ++
+        spaced (entry_fields sc.now.names (covered sc.now t q))) }
     ensures err { OnErr result (Begins out.old.items out.new.items) }
 {
     let look = sc.sweep().look(t, q);
@@ -181,7 +186,8 @@ fn push_look_row(
 #[tactic(auto, using(text_rows::proofs::RowSteps::row_steps))]
 fn push_names(out: &mut Vec<u8>, sc: &Scenario, positions: &[u8]) -> Result<(), NoMemory>
     requires { All (λ q. q < sc.now.positions) positions.now }
-    ensures ok { OnOk result (out.new.items ≡ out.old.items ++ spaced (map (name_in sc.now.position_names) positions.now)) }
+    ensures ok { OnOk result (out.new.items ≡ out.old.items ++
+        spaced (map (name_in sc.now.position_names) positions.now)) }
     ensures err { OnErr result (Begins out.old.items out.new.items) }
 {
     for q in positions {

@@ -260,8 +260,8 @@ fn print_rows(out: &mut Vec<u8>, sc: &Scenario) -> Result<(), NoMemory>
     Ok(())
 }
 
-/// Appends the canonical text of a scenario: of version 1 where such a text can say it, or else of version 2. At `NoMemory`
-/// `out` is as it was.
+/// Appends the canonical text of a scenario: of version 1 where such a text can say it, or else of version 2.
+/// At `NoMemory` `out` is as it was.
 #[tactic(auto, using(exact_parts::proofs::Beginnings::begins_steps))]
 pub fn print_scenario(out: &mut Vec<u8>, sc: &Scenario) -> Result<(), NoMemory>
     ensures ok { OnOk result (out.new.items ≡ out.old.items ++ canonical_text sc.now) }

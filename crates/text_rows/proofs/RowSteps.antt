@@ -1,6 +1,6 @@
 -- A row is appended field by field, and a text row by row.
-use Rattle.std.proofs.Common.{◌≡◌, ℕ, ◌+◌, ◌-◌, ◌≤◌, ◌<◌, List, [], ◌∷◌, ◌++◌, length, get_or, take, map, sym, ap, ◌∙◌, append_assoc, arith, add-one}
-use Rattle.std.specs.List.{join_with_byte, flat_map, range_with_len}
+use Rattle.std.proofs.Common.{◌≡◌, ℕ, ◌+◌, ◌<◌, List, [], ◌∷◌, ◌++◌, length, get_or, take, map, sym, ap, ◌∙◌, append_assoc, add-one}
+use Rattle.std.specs.List.{flat_map, range_with_len}
 use Rattle.std.proofs.lemmas.List.{map-append}
 use Rattle.std.proofs.lemmas.List.Concat.{flat_map-append}
 use Rattle.list_laws.proofs.Changed.{flat_map-push}
@@ -21,9 +21,13 @@ texts_then old mid new text more e f = f ∙ ap (λ (t : List ℕ). t ++ more) e
 pub row_whole : (old at new word : List ℕ) (fields : List (List ℕ)) → at ≡ old ++ (word ++ spaced fields) → new ≡ at ++ 10 ∷ [] → new ≡ old ++ text_of ((word ∷ fields) ∷ [])
 row_whole old at new word fields begun end = texts_then old at new _ (10 ∷ []) (begun ∙ ap (λ (t : List ℕ). old ++ t) (sym (join-fields word fields))) end
 
+-- a word, the fields behind it, and the line feed
+pub row_ended : (old at now new word : List ℕ) (fields : List (List ℕ)) → at ≡ old ++ word → now ≡ at ++ spaced fields → new ≡ now ++ 10 ∷ [] → new ≡ old ++ text_of ((word ∷ fields) ∷ [])
+row_ended old at now new word fields begun more end = row_whole old now new word fields (texts_then old at now word (spaced fields) begun more) end
+
 -- a row that was begun, the fields that follow, and the line feed
-pub row_ended : (old at now new word : List ℕ) (first fields : List (List ℕ)) → at ≡ old ++ (word ++ spaced first) → now ≡ at ++ spaced fields → new ≡ now ++ 10 ∷ [] → new ≡ old ++ text_of ((word ∷ (first ++ fields)) ∷ [])
-row_ended old at now new word first fields begun more end =
+pub begun_row_ended : (old at now new word : List ℕ) (first fields : List (List ℕ)) → at ≡ old ++ (word ++ spaced first) → now ≡ at ++ spaced fields → new ≡ now ++ 10 ∷ [] → new ≡ old ++ text_of ((word ∷ (first ++ fields)) ∷ [])
+begun_row_ended old at now new word first fields begun more end =
     let whole : (word ++ spaced first) ++ spaced fields ≡ word ++ spaced (first ++ fields) =
     append_assoc word (spaced first) (spaced fields) ∙ ap (λ (t : List ℕ). word ++ t) (sym (flat_map-append (λ (field : List ℕ). 32 ∷ field) first fields)) in
     row_whole old now new word (first ++ fields) (texts_then old at now _ (spaced fields) begun more ∙ ap (λ (t : List ℕ). old ++ t) whole) end
