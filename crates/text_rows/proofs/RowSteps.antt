@@ -6,38 +6,34 @@ use Rattle.std.proofs.lemmas.List.Concat.{flat_map-append}
 use Rattle.list_laws.proofs.Changed.{flat_map-push}
 use Rattle.list_laws.proofs.Ranges.{range_with_len-suc, range_more}
 use Rattle.exact_parts.proofs.Beginnings.{begins_same, begins_more, begins_after}
-use Rattle.exact_parts.proofs.AppendLemmas.{at_refusal}
+use Rattle.exact_parts.proofs.AppendLemmas.{at_refusal, then_more}
 use Rattle.text_rows.specs.Rows.{text_of, spaced}
 use Rattle.text_rows.proofs.RowLemmas.{join-fields, text_of-append, take_one_more}
 
 -- what is left where memory was refused begins with what stood there
 pub ruleset row_steps = (begins_same, begins_more, begins_after, at_refusal)
 
--- a text behind another
-texts_then : (old mid new text more : List ℕ) → mid ≡ old ++ text → new ≡ mid ++ more → new ≡ old ++ (text ++ more)
-texts_then old mid new text more e f = f ∙ ap (λ (t : List ℕ). t ++ more) e ∙ append_assoc old text more
-
 -- a row that was begun, and the line feed
 pub row_whole : (old at new word : List ℕ) (fields : List (List ℕ)) → at ≡ old ++ (word ++ spaced fields) → new ≡ at ++ 10 ∷ [] → new ≡ old ++ text_of ((word ∷ fields) ∷ [])
-row_whole old at new word fields begun end = texts_then old at new _ (10 ∷ []) (begun ∙ ap (λ (t : List ℕ). old ++ t) (sym (join-fields word fields))) end
+row_whole old at new word fields begun end = then_more old at new _ (10 ∷ []) (begun ∙ ap (λ (t : List ℕ). old ++ t) (sym (join-fields word fields))) end
 
 -- a word, the fields behind it, and the line feed
 pub row_ended : (old at now new word : List ℕ) (fields : List (List ℕ)) → at ≡ old ++ word → now ≡ at ++ spaced fields → new ≡ now ++ 10 ∷ [] → new ≡ old ++ text_of ((word ∷ fields) ∷ [])
-row_ended old at now new word fields begun more end = row_whole old now new word fields (texts_then old at now word (spaced fields) begun more) end
+row_ended old at now new word fields begun more end = row_whole old now new word fields (then_more old at now word (spaced fields) begun more) end
 
 -- a row that was begun, the fields that follow, and the line feed
 pub begun_row_ended : (old at now new word : List ℕ) (first fields : List (List ℕ)) → at ≡ old ++ (word ++ spaced first) → now ≡ at ++ spaced fields → new ≡ now ++ 10 ∷ [] → new ≡ old ++ text_of ((word ∷ (first ++ fields)) ∷ [])
 begun_row_ended old at now new word first fields begun more end =
     let whole : (word ++ spaced first) ++ spaced fields ≡ word ++ spaced (first ++ fields) =
     append_assoc word (spaced first) (spaced fields) ∙ ap (λ (t : List ℕ). word ++ t) (sym (flat_map-append (λ (field : List ℕ). 32 ∷ field) first fields)) in
-    row_whole old now new word (first ++ fields) (texts_then old at now _ (spaced fields) begun more ∙ ap (λ (t : List ℕ). old ++ t) whole) end
+    row_whole old now new word (first ++ fields) (then_more old at now _ (spaced fields) begun more ∙ ap (λ (t : List ℕ). old ++ t) whole) end
 
 -- fields behind others, and rows behind others
 pub fields_then : (old mid new : List ℕ) (fields more : List (List ℕ)) → mid ≡ old ++ spaced fields → new ≡ mid ++ spaced more → new ≡ old ++ spaced (fields ++ more)
-fields_then old mid new fields more e f = texts_then old mid new _ _ e f ∙ ap (λ (t : List ℕ). old ++ t) (sym (flat_map-append (λ (field : List ℕ). 32 ∷ field) fields more))
+fields_then old mid new fields more e f = then_more old mid new _ _ e f ∙ ap (λ (t : List ℕ). old ++ t) (sym (flat_map-append (λ (field : List ℕ). 32 ∷ field) fields more))
 
 pub rows_then : (old mid new : List ℕ) (rows more : List (List (List ℕ))) → mid ≡ old ++ text_of rows → new ≡ mid ++ text_of more → new ≡ old ++ text_of (rows ++ more)
-rows_then old mid new rows more e f = texts_then old mid new _ _ e f ∙ ap (λ (t : List ℕ). old ++ t) (sym (text_of-append rows more))
+rows_then old mid new rows more e f = then_more old mid new _ _ e f ∙ ap (λ (t : List ℕ). old ++ t) (sym (text_of-append rows more))
 
 -- the fields of one element more
 pub fields_more : {X : Type 0} (f : X → List (List ℕ)) (xs : List X) (i : ℕ) (d : X) (old mid new : List ℕ) → i < length xs → mid ≡ old ++ spaced (flat_map f (take i xs)) → new ≡ mid ++ spaced (f (get_or xs i d)) → new ≡ old ++ spaced (flat_map f (take (i + 1) xs))
