@@ -1,4 +1,5 @@
 //! The rows of the canonical text, one by one.
+#![tactic(auto, using(text_rows::proofs::RowSteps::row_steps))]
 
 ghost use Rattle.std.specs.Prelude.{◌≡◌, ◌<◌, ◌≤◌, ◌++◌, ◌∷◌, [], All, map, OnOk, OnErr};
 ghost use Rattle.std.specs.List.{flat_map};
@@ -22,7 +23,6 @@ use sweep_table::LookPart;
 use text_rows::{Field, begin_row, push_field, push_fields, push_row};
 
 // The fields of one entry.
-#[tactic(auto, using(text_rows::proofs::RowSteps::row_steps))]
 fn push_entry(out: &mut Vec<u8>, sc: &Scenario, entry: DriftPart) -> Result<(), NoMemory>
     requires { entry.cell < sc.now.cells }
     ensures ok { OnOk result (out.new.items ≡ out.old.items ++ spaced (entry_fields sc.now.names (entry ∷ []))) }
@@ -36,7 +36,6 @@ fn push_entry(out: &mut Vec<u8>, sc: &Scenario, entry: DriftPart) -> Result<(), 
 }
 
 // The fields of these entries.
-#[tactic(auto, using(text_rows::proofs::RowSteps::row_steps))]
 fn push_entries(out: &mut Vec<u8>, sc: &Scenario, entries: &[DriftPart]) -> Result<(), NoMemory>
     requires { All (λ entry. entry.cell < sc.now.cells) entries.now }
     ensures ok { OnOk result (out.new.items ≡ out.old.items ++ spaced (entry_fields sc.now.names entries.now)) }
@@ -49,7 +48,6 @@ fn push_entries(out: &mut Vec<u8>, sc: &Scenario, entries: &[DriftPart]) -> Resu
 }
 
 // The fields of a cell's first part, where it is positive.
-#[tactic(auto, using(text_rows::proofs::RowSteps::row_steps))]
 fn push_first_of(out: &mut Vec<u8>, sc: &Scenario, c: u8) -> Result<(), NoMemory>
     requires { c < sc.now.cells }
     ensures ok { OnOk result (out.new.items ≡ out.old.items ++
@@ -65,7 +63,6 @@ fn push_first_of(out: &mut Vec<u8>, sc: &Scenario, c: u8) -> Result<(), NoMemory
 }
 
 // The fields of the first parts.
-#[tactic(auto, using(text_rows::proofs::RowSteps::row_steps))]
 fn push_first(out: &mut Vec<u8>, sc: &Scenario) -> Result<(), NoMemory>
     ensures ok { OnOk result (out.new.items ≡ out.old.items ++
         spaced (entry_fields sc.now.names (first_entries sc.now))) }
@@ -78,7 +75,6 @@ fn push_first(out: &mut Vec<u8>, sc: &Scenario) -> Result<(), NoMemory>
 }
 
 /// Appends the row of the first parts.
-#[tactic(auto, using(text_rows::proofs::RowSteps::row_steps))]
 pub fn push_first_row(out: &mut Vec<u8>, sc: &Scenario) -> Result<(), NoMemory>
     ensures ok { OnOk result (out.new.items ≡ out.old.items ++
         text_of (first_row sc.now.names (first_entries sc.now) ∷ [])) }
@@ -91,7 +87,6 @@ pub fn push_first_row(out: &mut Vec<u8>, sc: &Scenario) -> Result<(), NoMemory>
 }
 
 // The fields of a cell that a look covers, where it doesn't miss all of it.
-#[tactic(auto, using(text_rows::proofs::RowSteps::row_steps))]
 fn push_covered_part(out: &mut Vec<u8>, sc: &Scenario, entry: LookPart) -> Result<(), NoMemory>
     requires { entry.cell < sc.now.cells }
     ensures ok { OnOk result (out.new.items ≡ out.old.items ++
@@ -107,7 +102,6 @@ fn push_covered_part(out: &mut Vec<u8>, sc: &Scenario, entry: LookPart) -> Resul
 }
 
 // The fields of the cells that a look covers.
-#[tactic(auto, using(text_rows::proofs::RowSteps::row_steps))]
 fn push_covered(out: &mut Vec<u8>, sc: &Scenario, entries: &[LookPart]) -> Result<(), NoMemory>
     requires { All (λ entry. entry.cell < sc.now.cells) entries.now }
     ensures ok { OnOk result (out.new.items ≡ out.old.items ++
@@ -121,7 +115,6 @@ fn push_covered(out: &mut Vec<u8>, sc: &Scenario, entries: &[LookPart]) -> Resul
 }
 
 // The row of a cell's drift that is in force in one period, behind a word and fields.
-#[tactic(auto, using(text_rows::proofs::RowSteps::row_steps))]
 fn push_drift_row(
     out: &mut Vec<u8>,
     sc: &Scenario,
@@ -145,7 +138,6 @@ fn push_drift_row(
 }
 
 // The fields of the cells that a look of one period covers.
-#[tactic(auto, using(text_rows::proofs::RowSteps::row_steps))]
 fn push_look(out: &mut Vec<u8>, sc: &Scenario, t: u32, q: u8) -> Result<(), NoMemory>
     requires problem { IsProblem sc.now }
     requires period { (1 ≤ t) × (t ≤ 32) }
@@ -159,7 +151,6 @@ fn push_look(out: &mut Vec<u8>, sc: &Scenario, t: u32, q: u8) -> Result<(), NoMe
 }
 
 // The row of the looks from a position in one period, behind a word and fields.
-#[tactic(auto, using(text_rows::proofs::RowSteps::row_steps))]
 fn push_look_row(
     out: &mut Vec<u8>,
     sc: &Scenario,
@@ -183,7 +174,6 @@ fn push_look_row(
 }
 
 // The names of positions.
-#[tactic(auto, using(text_rows::proofs::RowSteps::row_steps))]
 fn push_names(out: &mut Vec<u8>, sc: &Scenario, positions: &[u8]) -> Result<(), NoMemory>
     requires { All (λ q. q < sc.now.positions) positions.now }
     ensures ok { OnOk result (out.new.items ≡ out.old.items ++
@@ -197,7 +187,6 @@ fn push_names(out: &mut Vec<u8>, sc: &Scenario, positions: &[u8]) -> Result<(), 
 }
 
 // The row of a position's moves.
-#[tactic(auto, using(text_rows::proofs::RowSteps::row_steps))]
 fn push_moves(out: &mut Vec<u8>, sc: &Scenario, q: u8) -> Result<(), NoMemory>
     requires problem { IsProblem sc.now }
     requires position { q < sc.now.positions }
@@ -225,7 +214,6 @@ fn own_part(sc: &Scenario, q: u8) -> u32
 }
 
 /// Appends the row of a sort that a cell or a position has.
-#[tactic(auto, using(text_rows::proofs::RowSteps::row_steps))]
 pub fn push_sort_row(out: &mut Vec<u8>, sc: &Scenario, sort: RowSort, n: u8) -> Result<(), NoMemory>
     requires problem { IsProblem sc.now }
     requires owner { n < sort_owners sc.now sort }
@@ -261,7 +249,6 @@ pub fn push_sort_row(out: &mut Vec<u8>, sc: &Scenario, sort: RowSort, n: u8) -> 
 }
 
 /// Appends the row of one period that a cell or a position has.
-#[tactic(auto, using(text_rows::proofs::RowSteps::row_steps))]
 pub fn push_in_period(
     out: &mut Vec<u8>,
     sc: &Scenario,

@@ -1,4 +1,5 @@
 //! The canonical text of a scenario.
+#![tactic(auto, using(text_rows::proofs::RowSteps::row_steps))]
 
 ghost use Rattle.std.specs.Prelude.{◌≡◌, ◌<◌, ◌≤◌, ◌++◌, ◌+◌, ◌∷◌, [], map, OnOk, OnErr};
 ghost use Rattle.text_rows.specs.Rows.{text_of};
@@ -27,7 +28,6 @@ fn owners(sc: &Scenario, sort: RowSort) -> u8
 }
 
 // The rows of a sort.
-#[tactic(auto, using(text_rows::proofs::RowSteps::row_steps))]
 fn print_sort(out: &mut Vec<u8>, sc: &Scenario, sort: RowSort) -> Result<(), NoMemory>
     requires { IsProblem sc.now }
     ensures ok { OnOk result (out.new.items ≡ out.old.items ++ text_of (sort_rows sc.now sort)) }
@@ -53,7 +53,6 @@ fn is_as_in_first(sc: &Scenario, sort: ChangeSort, t: u32, c: u8) -> bool
 }
 
 // The row of one period, where it isn't that of period 1.
-#[tactic(auto, using(text_rows::proofs::RowSteps::row_steps))]
 fn push_change(
     out: &mut Vec<u8>,
     sc: &Scenario,
@@ -86,7 +85,6 @@ fn owners_in(sc: &Scenario, sort: ChangeSort) -> u8
 }
 
 // All such rows of one period.
-#[tactic(auto, using(text_rows::proofs::RowSteps::row_steps))]
 fn print_period(out: &mut Vec<u8>, sc: &Scenario, sort: ChangeSort, t: u32) -> Result<(), NoMemory>
     requires problem { IsProblem sc.now }
     requires period { (1 ≤ t) × (t ≤ change_limit sort) }
@@ -112,7 +110,6 @@ fn behind_last(sc: &Scenario, sort: ChangeSort) -> u32
 }
 
 // And those of all periods but the first.
-#[tactic(auto, using(text_rows::proofs::RowSteps::row_steps))]
 fn print_changes(out: &mut Vec<u8>, sc: &Scenario, sort: ChangeSort) -> Result<(), NoMemory>
     requires { IsProblem sc.now }
     ensures ok { OnOk result (out.new.items ≡ out.old.items ++ text_of (change_rows sc.now sort)) }
@@ -125,7 +122,6 @@ fn print_changes(out: &mut Vec<u8>, sc: &Scenario, sort: ChangeSort) -> Result<(
 }
 
 // The first row.
-#[tactic(auto, using(text_rows::proofs::RowSteps::row_steps))]
 fn push_version(out: &mut Vec<u8>, version: TextVersion) -> Result<(), NoMemory>
     ensures ok { OnOk result (out.new.items ≡ out.old.items ++ text_of (version_row version ∷ [])) }
     ensures err { OnErr result (Begins out.old.items out.new.items) }
@@ -137,7 +133,6 @@ fn push_version(out: &mut Vec<u8>, version: TextVersion) -> Result<(), NoMemory>
 }
 
 // The first three rows.
-#[tactic(auto, using(text_rows::proofs::RowSteps::row_steps))]
 fn print_head(out: &mut Vec<u8>, sc: &Scenario, version: TextVersion) -> Result<(), NoMemory>
     ensures ok { OnOk result (out.new.items ≡ out.old.items ++ text_of (head_rows version sc.now)) }
     ensures err { OnErr result (Begins out.old.items out.new.items) }
@@ -156,7 +151,6 @@ fn print_head(out: &mut Vec<u8>, sc: &Scenario, version: TextVersion) -> Result<
 }
 
 // The rows up to the cells.
-#[tactic(auto, using(text_rows::proofs::RowSteps::row_steps))]
 fn print_front(out: &mut Vec<u8>, sc: &Scenario, version: TextVersion) -> Result<(), NoMemory>
     requires { IsProblem sc.now }
     ensures ok { OnOk result (out.new.items ≡ out.old.items ++ text_of (front_rows version sc.now)) }
@@ -168,7 +162,6 @@ fn print_front(out: &mut Vec<u8>, sc: &Scenario, version: TextVersion) -> Result
 }
 
 // The rows of the start and of the first parts.
-#[tactic(auto, using(text_rows::proofs::RowSteps::row_steps))]
 fn print_start(out: &mut Vec<u8>, sc: &Scenario) -> Result<(), NoMemory>
     ensures ok { OnOk result (out.new.items ≡ out.old.items ++ text_of (start_rows sc.now)) }
     ensures err { OnErr result (Begins out.old.items out.new.items) }
@@ -182,7 +175,6 @@ fn print_start(out: &mut Vec<u8>, sc: &Scenario) -> Result<(), NoMemory>
 }
 
 // The rows from the start to the drift rows.
-#[tactic(auto, using(text_rows::proofs::RowSteps::row_steps))]
 fn print_body(out: &mut Vec<u8>, sc: &Scenario) -> Result<(), NoMemory>
     requires { IsProblem sc.now }
     ensures ok { OnOk result (out.new.items ≡ out.old.items ++ text_of (body_rows sc.now)) }
@@ -195,7 +187,6 @@ fn print_body(out: &mut Vec<u8>, sc: &Scenario) -> Result<(), NoMemory>
 }
 
 // The rows behind them in version 2.
-#[tactic(auto, using(text_rows::proofs::RowSteps::row_steps))]
 fn print_later(out: &mut Vec<u8>, sc: &Scenario) -> Result<(), NoMemory>
     requires { IsProblem sc.now }
     ensures ok { OnOk result (out.new.items ≡ out.old.items ++ text_of (later_change_rows sc.now)) }
@@ -208,7 +199,6 @@ fn print_later(out: &mut Vec<u8>, sc: &Scenario) -> Result<(), NoMemory>
 }
 
 // The rows of version 1 but the last one.
-#[tactic(auto, using(text_rows::proofs::RowSteps::row_steps))]
 fn print_plain(out: &mut Vec<u8>, sc: &Scenario) -> Result<(), NoMemory>
     requires { IsProblem sc.now }
     ensures ok { OnOk result (out.new.items ≡ out.old.items ++ text_of (plain_rows sc.now)) }
@@ -221,7 +211,6 @@ fn print_plain(out: &mut Vec<u8>, sc: &Scenario) -> Result<(), NoMemory>
 }
 
 // The rows of version 2 but the last one.
-#[tactic(auto, using(text_rows::proofs::RowSteps::row_steps))]
 fn print_full(out: &mut Vec<u8>, sc: &Scenario) -> Result<(), NoMemory>
     requires { IsProblem sc.now }
     ensures ok { OnOk result (out.new.items ≡ out.old.items ++ text_of (full_rows sc.now)) }
@@ -235,7 +224,6 @@ fn print_full(out: &mut Vec<u8>, sc: &Scenario) -> Result<(), NoMemory>
 }
 
 // The rows of the version that can say it, but the last one.
-#[tactic(auto, using(text_rows::proofs::RowSteps::row_steps))]
 fn print_either(out: &mut Vec<u8>, sc: &Scenario) -> Result<(), NoMemory>
     requires { IsProblem sc.now }
     ensures ok { OnOk result (out.new.items ≡ out.old.items ++ text_of (chosen_rows sc.now)) }
@@ -249,7 +237,6 @@ fn print_either(out: &mut Vec<u8>, sc: &Scenario) -> Result<(), NoMemory>
 }
 
 // All rows.
-#[tactic(auto, using(text_rows::proofs::RowSteps::row_steps))]
 fn print_rows(out: &mut Vec<u8>, sc: &Scenario) -> Result<(), NoMemory>
     ensures ok { OnOk result (out.new.items ≡ out.old.items ++ canonical_text sc.now) }
     ensures err { OnErr result (Begins out.old.items out.new.items) }

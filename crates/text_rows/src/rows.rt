@@ -1,4 +1,5 @@
 //! Rows of fields, as text: the fields with one blank between, and a line feed.
+#![tactic(auto, using(crate::proofs::RowSteps::row_steps))]
 
 ghost use Rattle.std.specs.Prelude.{◌≡◌, ◌++◌, ◌∷◌, [], All, map, OnOk, OnErr};
 ghost use Rattle.exact_parts.specs.Appending.{Begins};
@@ -32,7 +33,6 @@ fn push_text(out: &mut Vec<u8>, field: Field) -> Result<(), NoMemory>
 }
 
 /// Appends a blank and a field.
-#[tactic(auto, using(crate::proofs::RowSteps::row_steps))]
 pub fn push_field(out: &mut Vec<u8>, field: Field) -> Result<(), NoMemory>
     requires { IsField field }
     ensures ok { OnOk result (out.new.items ≡ out.old.items ++ spaced (field_text field.entry ∷ [])) }
@@ -43,7 +43,6 @@ pub fn push_field(out: &mut Vec<u8>, field: Field) -> Result<(), NoMemory>
 }
 
 /// Appends fields, each with a blank before it.
-#[tactic(auto, using(crate::proofs::RowSteps::row_steps))]
 pub fn push_fields(out: &mut Vec<u8>, fields: &[Field]) -> Result<(), NoMemory>
     requires { All IsField fields.now }
     ensures ok { OnOk result (out.new.items ≡ out.old.items ++ spaced (map field_text fields.now)) }
@@ -56,7 +55,6 @@ pub fn push_fields(out: &mut Vec<u8>, fields: &[Field]) -> Result<(), NoMemory>
 }
 
 /// Begins a row of any length: a word, and the first fields behind it. A line feed ends the row.
-#[tactic(auto, using(crate::proofs::RowSteps::row_steps))]
 pub fn begin_row(out: &mut Vec<u8>, word: &[u8], fields: &[Field]) -> Result<(), NoMemory>
     requires { All IsField fields.now }
     ensures ok { OnOk result (out.new.items ≡ out.old.items ++ (word.now ++ spaced (map field_text fields.now))) }
@@ -67,7 +65,6 @@ pub fn begin_row(out: &mut Vec<u8>, word: &[u8], fields: &[Field]) -> Result<(),
 }
 
 /// Appends a row: a word, and fields behind it.
-#[tactic(auto, using(crate::proofs::RowSteps::row_steps))]
 pub fn push_row(out: &mut Vec<u8>, word: &[u8], fields: &[Field]) -> Result<(), NoMemory>
     requires { All IsField fields.now }
     ensures ok { OnOk result (out.new.items ≡ out.old.items ++ text_of ((word.now ∷ map field_text fields.now) ∷ [])) }
