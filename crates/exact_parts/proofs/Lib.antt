@@ -4,4 +4,5 @@ pub mod Written
 pub mod Widths
 pub mod Decimals
 pub mod AppendLemmas
+pub mod Beginnings
 pub mod Percents

@@ -1,9 +1,8 @@
 -- The text of a report as JSON: it has no float, so its text is known byte for byte.
-use Rattle.std.proofs.Common.{ℕ, ◌≡◌, List, [], ◌∷◌, ◌++◌, false, map, refl, sym, ap, ◌∙◌}
+use Rattle.std.proofs.Common.{ℕ, ◌≡◌, List, [], ◌∷◌, ◌++◌, false, map, refl, ap, ◌∙◌}
 use Rattle.serde_json.specs.Data.{Data}
 use Rattle.serde_json.specs.View.{items_of}
 use Rattle.serde_json.specs.Written.{has_float, items_have_float, compact_text}
-use Rattle.exact_parts.proofs.AppendLemmas.{Stands}
 use Rattle.search_model.specs.Problem.{Problem}
 use Rattle.mission_report.specs.Account.{all_cells, mass_left, values_along}
 use Rattle.mission_report.specs.Json.{decimal_value, place_value, left_entry, report_value, report_json}
@@ -16,11 +15,7 @@ report_plain : (p : Problem) (q : List ℕ) → has_float (report_value p q) ≡
 report_plain p q =
     rw (items_plain (λ c. left_entry p c (mass_left p q c)) (λ _. refl) (all_cells p), items_plain (place_value p) (λ _. refl) q, items_plain decimal_value (λ _. refl) (values_along p q)) refl
 
--- the compact text of the report's value stands, and then comes the line feed
-pub value_stands : (p : Problem) (q : List ℕ) (v : Data) (text : List ℕ) {old now : List ℕ} → v ≡ report_value p q → (has_float v ≡ false → text ≡ compact_text v) → now ≡ old ++ text → Stands old now (10 ∷ []) (report_json p q)
+-- the compact text of the report's value, and a line feed
+pub written_json : (p : Problem) (q : List ℕ) (v : Data) (text : List ℕ) → v ≡ report_value p q → (has_float v ≡ false → text ≡ compact_text v) → text ++ 10 ∷ [] ≡ report_json p q
 unfolding report_json
-value_stands p q v text is told e = record {
-  done = text;
-  appended = e;
-  whole = ap (λ (t : List ℕ). t ++ 10 ∷ []) (sym (told (ap has_float is ∙ report_plain p q) ∙ ap compact_text is));
-}
+written_json p q v text is told = ap (λ (t : List ℕ). t ++ 10 ∷ []) (told (ap has_float is ∙ report_plain p q) ∙ ap compact_text is)

@@ -2,7 +2,6 @@ pub mod Examples
 pub mod PeriodMasses
 pub mod Values
 pub mod CourseSteps
-pub mod LineTexts
 pub mod Shares
 pub mod RowSteps
 pub mod Masses

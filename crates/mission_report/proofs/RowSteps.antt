@@ -1,12 +1,11 @@
 -- The lines of periods and of cells, one after the other.
-use Rattle.std.proofs.Common.{ℕ, ◌+◌, ◌*◌, ◌-◌, ◌<◌, ◌≤◌, ◌≡◌, List, [], ◌∷◌, ◌++◌, map, length, get_or, take, take_all, drop, slice_index, refl, sym, ap, ◌∙◌, arith, zero-add, append_assoc}
+use Rattle.std.proofs.Common.{ℕ, ◌+◌, ◌*◌, ◌-◌, ◌<◌, ◌≤◌, ◌≡◌, List, [], ◌∷◌, ◌++◌, map, length, get_or, take, take_all, slice_index, refl, sym, ap, ◌∙◌, arith, zero-add}
 use Rattle.std.specs.List.{flat_map, range_with_len}
-use Rattle.std.proofs.lemmas.List.{length-map, take_more, take-append-drop}
-use Rattle.std.proofs.lemmas.List.Concat.{flat_map-append}
+use Rattle.std.proofs.lemmas.List.{length-map, take_more}
 use Rattle.std.proofs.lemmas.List.FromFn.{length-range_with_len, get_or-range_with_len, get_or-map-range_with_len}
 use Rattle.text_rows.specs.Rows.{text_of}
-use Rattle.text_rows.proofs.RowLemmas.{text_of-append, stands_at_row, text_of-more}
-use Rattle.exact_parts.proofs.AppendLemmas.{Stands, then_more}
+use Rattle.text_rows.proofs.RowLemmas.{text_of-append, text_of-more}
+use Rattle.exact_parts.proofs.AppendLemmas.{then_more}
 use Rattle.list_laws.proofs.Changed.{flat_map-push}
 use Rattle.search_model.specs.Problem.{Problem}
 use Rattle.search_model.specs.Tracks.{whole_weight}
@@ -25,13 +24,6 @@ module _ (f : ℕ → List (List ℕ)) (a n : ℕ) where
   within : (k : ℕ) → k < n → k < length (range_with_len a n)
   within k lt = omega (arith, length-range_with_len a n, lt)
 
-  -- the lines before one of them stand
-  pub line_next : (k : ℕ) (row : List (List ℕ)) {old now : List ℕ} → k < n → row ≡ f (a + k) → now ≡ old ++ lines_to k →
-      Stands old now (text_of (row ∷ []) ++ text_of (map f (drop (k + 1) (range_with_len a n)))) (text_of (map f (range_with_len a n)))
-  line_next k row {old} {now} lt is e =
-      let next : get_or (range_with_len a n) k 0 ≡ a + k = get_or-range_with_len a n k 0 lt in
-      rw (is, ← next) (stands_at_row f (range_with_len a n) k 0 (within k lt) e)
-
   -- one line more
   pub line_more : (k : ℕ) (row : List (List ℕ)) (old mid now : List ℕ) → k < n → row ≡ f (a + k) → mid ≡ old ++ lines_to k → now ≡ mid ++ text_of (row ∷ []) → now ≡ old ++ lines_to (k + 1)
   line_more k row old mid now lt is e line =
@@ -48,9 +40,6 @@ module _ (g : ℕ → List (List (List ℕ))) (a n : ℕ) where
   abbrev pub blocks_to : ℕ → List ℕ
   blocks_to k = text_of (flat_map g (take k (range_with_len a n)))
 
-  abbrev pub blocks_from : ℕ → List ℕ
-  blocks_from k = text_of (flat_map g (drop k (range_with_len a n)))
-
   blocks_one_more : (k : ℕ) → k < n → blocks_to (k + 1) ≡ blocks_to k ++ text_of (g (a + k))
   blocks_one_more k lt =
       let xs = range_with_len a n in
@@ -59,19 +48,6 @@ module _ (g : ℕ → List (List (List ℕ))) (a n : ℕ) where
       ∙ ap text_of (flat_map-push g (take k xs) (get_or xs k 0))
       ∙ text_of-append (flat_map g (take k xs)) (g (get_or xs k 0))
       ∙ ap (λ (d : ℕ). blocks_to k ++ text_of (g d)) next
-
-  blocks_cut : (k : ℕ) → k < n → text_of (flat_map g (range_with_len a n)) ≡ blocks_to k ++ (text_of (g (a + k)) ++ blocks_from (k + 1))
-  blocks_cut k lt =
-      let xs = range_with_len a n in
-      ap (λ (ys : List ℕ). text_of (flat_map g ys)) (sym (take-append-drop (k + 1) xs))
-      ∙ ap text_of (flat_map-append g (take (k + 1) xs) (drop (k + 1) xs))
-      ∙ text_of-append (flat_map g (take (k + 1) xs)) (flat_map g (drop (k + 1) xs))
-      ∙ ap (λ (t : List ℕ). t ++ blocks_from (k + 1)) (blocks_one_more k lt)
-      ∙ append_assoc (blocks_to k) (text_of (g (a + k))) (blocks_from (k + 1))
-
-  -- the lines before those of a number stand
-  pub block_next : (k : ℕ) {old now : List ℕ} → k < n → now ≡ old ++ blocks_to k → Stands old now (text_of (g (a + k)) ++ blocks_from (k + 1)) (text_of (flat_map g (range_with_len a n)))
-  block_next k lt e = record { done = blocks_to k; appended = e; whole = blocks_cut k lt }
 
   -- those of one number more
   pub block_more : (k : ℕ) (old mid now : List ℕ) → k < n → mid ≡ old ++ blocks_to k → now ≡ mid ++ text_of (g (a + k)) → now ≡ old ++ blocks_to (k + 1)

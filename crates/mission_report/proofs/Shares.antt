@@ -4,11 +4,11 @@ use Rattle.std.specs.Prelude.{All}
 use Rattle.std.proofs.Math.Nat.{one-le-pow, one-le-mul}
 use Rattle.std.proofs.lemmas.List.Elements.{All-cons, All-nil}
 use Rattle.exact_parts.proofs.Widths.{ten_weights_fit}
+use Rattle.text_rows.specs.RowFields.{IsField}
+use Rattle.text_rows.specs.declared.rows.Field.{Field}
+use Rattle.text_rows.specs.declared.rows.Field.TheVariants.{Share}
 use Rattle.search_model.specs.Problem.{Problem, IsProblem}
 use Rattle.search_model.specs.Tracks.{whole_weight}
-use Rattle.mission_report.specs.Lines.{IsField}
-use Rattle.mission_report.specs.declared.lines.Field.{Field}
-use Rattle.mission_report.specs.declared.lines.Field.TheVariants.{Share}
 
 module _ (p : Problem) (sound : IsProblem p) where
   -- there is some weight

@@ -5,4 +5,3 @@ pub mod Json
 pub mod Laws
 pub mod Worked
 pub mod Course
-pub mod Lines

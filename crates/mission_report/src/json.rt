@@ -3,7 +3,6 @@
 ghost use Rattle.std.specs.Prelude.{◌≡◌, ◌<◌, ◌++◌, length, map, slice_index, IfOk, OnOk, OnErr};
 ghost use Rattle.serde_json.specs.Data.{string};
 ghost use Rattle.serde_json.specs.View.{view};
-ghost use Rattle.exact_parts.specs.Appending.{AppendsFront};
 ghost use Rattle.search_model.specs.Legal.{IsPath};
 ghost use Rattle.mission_report.specs.Account.{all_cells};
 ghost use Rattle.mission_report.specs.Json.{decimal_value, place_value, left_entry, object_of, report_value as report_value_lem, report_json};
@@ -123,15 +122,14 @@ fn report_value(alloc: Global, sc: &Scenario, path: &Path) -> Result<Value, NoMe
 ///
 /// # Errors
 ///
-/// `NoMemory`: a front of the text was appended.
+/// `NoMemory`: `out` is then as it was.
 pub fn push_report_json(out: &mut Vec<u8>, sc: &Scenario, path: &Path) -> Result<(), NoMemory>
     requires { IsPath sc.now path.now }
     ensures ok { OnOk result (out.new.items ≡ out.old.items ++ report_json sc.now path.now) }
-    ensures err { OnErr result (AppendsFront out.old.items out.new.items (report_json sc.now path.now)) }
+    ensures err { OnErr result (out.new.items ≡ out.old.items) }
 {
     let alloc = *out.allocator();
-    let text = report_value(alloc, sc, path)?.to_vec(alloc)?;
-    out.extend_from_slice(&text)?;
-    out.push(b'\n')?;
-    Ok(())
+    let mut text = report_value(alloc, sc, path)?.to_vec(alloc)?;
+    text.push(b'\n')?;
+    Ok(out.extend_from_slice(&text)?)
 }

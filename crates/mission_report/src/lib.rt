@@ -5,7 +5,6 @@
 mod course;
 mod json;
 mod laws;
-mod lines;
 mod maps;
 mod report;
 

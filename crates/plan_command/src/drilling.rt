@@ -27,8 +27,9 @@ use search_workers::Gate;
 use std::alloc::Global;
 use std::sync::Wait;
 use std::thread::Threads;
+use text_rows::{Field, push_row};
 use tree_checker::{Verdict, check};
-use tree_format::{PlanStop, print_plan_2, push_names, push_number, read_plan};
+use tree_format::{PlanStop, print_plan_2, push_path, read_plan};
 
 /// The text of the scenario that is made from a number.
 pub fn answer_make(alloc: Global, number: u64) -> Result<Answer, Stop>
@@ -95,13 +96,12 @@ fn summary(alloc: Global, number: u64, sc: &Scenario, best: &Standing) -> Result
     requires value { best.now.value ≡ value_of sc.now best.now.path }
     ensures { IfOk result (λ text. text.items ≡ drill_text number sc.now best.now.path) }
 {
-    let mut text = Vec::from_slice(alloc, b"drill 1\nnumber")?;
-    push_number(&mut text, u128::from(number))?;
-    text.extend_from_slice(b"\npath")?;
-    push_names(&mut text, sc, best.path.cells())?;
-    text.push(b'\n')?;
+    let mut text = Vec::new(alloc);
+    push_row(&mut text, b"drill", &[Field::Word(b"1")])?;
+    push_row(&mut text, b"number", &[Field::Number(u128::from(number))])?;
+    push_path(&mut text, sc, &best.path)?;
     push_chance(&mut text, sc, best.value)?;
-    text.extend_from_slice(b"accepted\n")?;
+    push_row(&mut text, b"accepted", &[])?;
     Ok(text)
 }
 

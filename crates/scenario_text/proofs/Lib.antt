@@ -5,7 +5,6 @@ pub mod Positions
 pub mod Ranges
 pub mod Ascending
 pub mod FieldTexts
-pub mod Appending
 pub mod Printed
 pub mod Loop
 pub mod Determined

@@ -1,5 +1,6 @@
 -- What a text of version 1 can say.
-use Rattle.std.proofs.Common.{◌≡◌, ℕ, ◌-◌, ◌<◌, ◌≤◌, true, false, List, refl, sym, ap, ◌∙◌, arith, inl, inr}
+use Rattle.std.proofs.Common.{◌≡◌, ℕ, ◌-◌, ◌<◌, ◌≤◌, true, false, List, [], ◌∷◌, ◌++◌, refl, sym, ap, ◌∙◌, arith, inl, inr}
+use Rattle.std.specs.Prelude.{codes}
 use Rattle.std.specs.Cmp.Lexicographic.{pointwise}
 use Rattle.std.specs.Str.{bytes_eq}
 use Rattle.std.proofs.lemmas.Bool.{cases_Bool, cases_eq, and_parts, and_from}
@@ -9,10 +10,10 @@ use Rattle.search_model.specs.Problem.{Problem, IsProblem}
 use Rattle.scenario_text.specs.declared.draft.TextVersion.TheVariants.{One, Two}
 use Rattle.scenario_text.specs.State.{State}
 use Rattle.scenario_text.specs.Canonical.{covered, is_same_row, is_as_first, is_steady, covers_itself, is_plain, plain_state, full_state, state_of_problem, canonical_text}
-use Rattle.scenario_text.specs.StateRows.{state_rows}
-use Rattle.scenario_text.specs.Printing.{plain_text, full_text}
+use Rattle.scenario_text.specs.Printing.{chosen_rows}
 use Rattle.text_rows.specs.Rows.{text_of}
 use Rattle.scenario_text.specs.Laws.{IsPlain, CanonicalVersion}
+use Rattle.scenario_text.proofs.Printed.{plain_state_rows, full_state_rows}
 use Rattle.scenario_text.proofs.SameRows.{all_from, all_each, same_row, row_same, same_names, names_same, factors_same, covered_same, covers_itself-from, covers_itself-each}
 
 -- the state by the test
@@ -23,15 +24,6 @@ state_plain p plain = rw plain refl
 pub state_full : (p : Problem) → is_plain p ≡ false → state_of_problem p ≡ full_state p
 unfolding state_of_problem
 state_full p full = rw full refl
-
--- and the text
-pub text_plain : (p : Problem) → is_plain p ≡ true → canonical_text p ≡ plain_text p
-unfolding canonical_text
-text_plain p plain = ap (λ (s : State). text_of (state_rows s)) (state_plain p plain)
-
-pub text_full : (p : Problem) → is_plain p ≡ false → canonical_text p ≡ full_text p
-unfolding canonical_text
-text_full p full = ap (λ (s : State). text_of (state_rows s)) (state_full p full)
 
 -- rows that are steady, period by period
 steady_each : (row : ℕ → ℕ → List CellPart) (owners last t c : ℕ) → is_steady row owners last ≡ true → 1 ≤ t → t ≤ last → c < owners → row t c ≡ row 1 c
@@ -51,6 +43,14 @@ steady_from row owners last each =
 pub plain_names : (p : Problem) → is_plain p ≡ true → p.position_names ≡ p.names
 unfolding is_plain
 plain_names p plain = same_names p.position_names p.names (and_parts (pointwise bytes_eq p.position_names p.names) _ plain).0
+
+-- the text is made of the rows that are printed
+pub canonical_rows : (p : Problem) → IsProblem p → canonical_text p ≡ text_of (chosen_rows p ++ (codes "end" ∷ []) ∷ [])
+unfolding canonical_text
+canonical_rows p h = elim (cases_Bool (is_plain p)) [
+  | inl plain ↦ rw (state_plain p plain, plain) (ap text_of (plain_state_rows p h (plain_names p plain)))
+  | inr full ↦ rw (state_full p full, full) (ap text_of (full_state_rows p h))
+]
 
 module _ (p : Problem) (h : IsProblem p) where
   pub plain_is : is_plain p ≡ true → IsPlain p

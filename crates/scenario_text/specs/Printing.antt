@@ -1,124 +1,116 @@
--- The pieces of the canonical text.
+-- The rows of the canonical text, as they are printed.
 use Rattle.std.specs.Prelude.{ℕ, ◌-◌, ◌==◌, if◌then◌else◌, List, [], ◌∷◌, ◌++◌, map, codes}
-use Rattle.std.specs.List.{flat_map, join_with_byte, range_with_len}
+use Rattle.std.specs.List.{range_with_len}
 use Rattle.std.specs.Fmt.{decimal}
-use Rattle.text_rows.specs.Rows.{text_of}
 use Rattle.period_rows.specs.declared.part.CellPart.{CellPart}
 use Rattle.drift_chain.specs.DriftRows.{row_of}
 use Rattle.search_grid.specs.Moves.{moves_from}
 use Rattle.sweep_table.specs.LookParts.{factor_of}
 use Rattle.search_model.specs.Problem.{Problem, first_of, cell_name, position_name}
 use Rattle.scenario_text.specs.declared.draft.TextVersion.{TextVersion}
-use Rattle.scenario_text.specs.declared.draft.TextVersion.TheVariants.{Two}
-use Rattle.scenario_text.specs.Canonical.{first_entries, covered, is_same_row, plain_state, full_state}
-use Rattle.scenario_text.specs.RowFields.{entry_fields, cell_row, moves_of, drift_of, overlook_of}
-use Rattle.scenario_text.specs.StateRows.{version_row, position_row, drift_in_of, look_of, look_in_of, state_rows}
+use Rattle.scenario_text.specs.declared.draft.TextVersion.TheVariants.{One, Two}
+use Rattle.scenario_text.specs.declared.row_sorts.RowSort.{RowSort}
+use Rattle.scenario_text.specs.declared.row_sorts.RowSort.TheVariants.{Cells, Positions, Moves, Drift, Overlook, Looks}
+use Rattle.scenario_text.specs.declared.row_sorts.ChangeSort.{ChangeSort}
+use Rattle.scenario_text.specs.declared.row_sorts.ChangeSort.TheVariants.{DriftIn, LookIn}
+use Rattle.scenario_text.specs.State.{PeriodRow}
+use Rattle.scenario_text.specs.Canonical.{first_entries, covered, is_same_row, later_rows, is_plain}
+use Rattle.scenario_text.specs.RowFields.{cell_row, first_row, moves_of, drift_of, overlook_of}
+use Rattle.scenario_text.specs.StateRows.{version_row, position_row, drift_in_of, look_of, look_in_of}
 
--- a row's fields with one blank between, and a line feed
-abbrev pub line_of : List (List ℕ) → List ℕ
-line_of row = join_with_byte 32 row ++ 10 ∷ []
+-- the row of a sort for a cell or a position
+abbrev pub sort_row : Problem → RowSort → ℕ → List (List ℕ)
+sort_row p Cells c = cell_row (cell_name p c)
+sort_row p Positions q = position_row (position_name p q)
+sort_row p Moves q = moves_of p.position_names q (moves_from p.moves q)
+sort_row p Drift c = drift_of p.names c (row_of p.drift 1 c)
+sort_row p Overlook q = overlook_of p.position_names q (factor_of p.sweep 1 q q)
+sort_row p Looks q = look_of p.names p.position_names q (covered p 1 q)
 
--- ` NAME` of a position
-abbrev pub name_text : Problem → ℕ → List ℕ
-name_text p q = 32 ∷ position_name p q
+-- how many have one
+abbrev pub sort_owners : Problem → RowSort → ℕ
+sort_owners p Cells = p.cells
+sort_owners p Positions = p.positions
+sort_owners p Moves = p.positions
+sort_owners p Drift = p.cells
+sort_owners p Overlook = p.positions
+sort_owners p Looks = p.positions
 
--- ` NAME PART`
-abbrev pub entry_text : Problem → CellPart → List ℕ
-entry_text p e = 32 ∷ (cell_name p e.cell ++ 32 ∷ decimal e.part)
+-- the rows of a sort, in order
+abbrev pub sort_rows : Problem → RowSort → List (List (List ℕ))
+sort_rows p sort = map (sort_row p sort) (range_with_len 0 (sort_owners p sort))
 
--- ` NAME PART` of a cell with a positive first part
-abbrev pub first_text : Problem → ℕ → List ℕ
-first_text p c = if first_of p c == 0 then [] else entry_text p (record { cell = c; part = first_of p c })
+-- what is in force in period t for a cell or a position
+abbrev pub in_force : Problem → ChangeSort → ℕ → ℕ → List CellPart
+in_force p DriftIn t c = row_of p.drift t c
+in_force p LookIn t q = covered p t q
 
--- ` NAME PART` of a cell that a look covers, where it doesn't miss all of it
-abbrev pub covered_text : Problem → CellPart → List ℕ
-covered_text p e = if e.part == p.sweep.denominator then [] else entry_text p (record { cell = e.cell; part = e.part })
+-- how many have such a row, and the last period of one
+abbrev pub change_owners : Problem → ChangeSort → ℕ
+change_owners p DriftIn = p.cells
+change_owners p LookIn = p.positions
 
--- the first three lines
-abbrev pub horizon_text : TextVersion → ℕ → List ℕ
-horizon_text version horizon = line_of (version_row version) ++ line_of (codes "horizon" ∷ decimal horizon ∷ [])
+abbrev pub change_last : Problem → ChangeSort → ℕ
+change_last p DriftIn = p.horizon - 1
+change_last p LookIn = p.horizon
 
-abbrev pub parts_text : ℕ → ℕ → ℕ → List ℕ
-parts_text total drift look = line_of (codes "parts" ∷ decimal total ∷ decimal drift ∷ decimal look ∷ [])
+-- the period after which no text has such a row
+abbrev pub change_limit : ChangeSort → ℕ
+change_limit DriftIn = 31
+change_limit LookIn = 32
 
-abbrev pub head_text : TextVersion → Problem → List ℕ
-head_text version p = horizon_text version p.horizon ++ parts_text p.total p.drift.denominator p.sweep.denominator
+-- the row of one period
+abbrev pub change_row : Problem → ChangeSort → PeriodRow → List (List ℕ)
+change_row p DriftIn r = drift_in_of p.names r
+change_row p LookIn r = look_in_of p.names p.position_names r
 
--- the lines of one cell, and of one position
-abbrev pub cell_text : Problem → ℕ → List ℕ
-cell_text p c = line_of (cell_row (cell_name p c))
+-- it stands where it isn't that of period 1
+abbrev pub change_at : Problem → ChangeSort → ℕ → ℕ → List PeriodRow
+change_at p sort t c = if is_same_row (in_force p sort t c) (in_force p sort 1 c) then [] else record { period = t; own = c; row = in_force p sort t c } ∷ []
 
-abbrev pub position_text : Problem → ℕ → List ℕ
-position_text p q = line_of (position_row (position_name p q))
+-- in all periods but the first
+abbrev pub change_rows : Problem → ChangeSort → List (List (List ℕ))
+change_rows p sort = map (change_row p sort) (later_rows (in_force p sort) (change_owners p sort) (change_last p sort))
 
-abbrev pub moves_text : Problem → ℕ → List ℕ
-moves_text p q = line_of (moves_of p.position_names q (moves_from p.moves q))
+-- the entry of a cell with a positive first part
+abbrev pub first_entry : Problem → ℕ → List CellPart
+first_entry p c = if first_of p c == 0 then [] else record { cell = c; part = first_of p c } ∷ []
 
-abbrev pub drift_text : Problem → ℕ → List ℕ
-drift_text p c = line_of (drift_of p.names c (row_of p.drift 1 c))
+-- and that of a cell that a look covers, where it doesn't miss all of it
+abbrev pub covered_entry : Problem → CellPart → List CellPart
+covered_entry p e = if e.part == p.sweep.denominator then [] else record { cell = e.cell; part = e.part } ∷ []
 
-abbrev pub overlook_text : Problem → ℕ → List ℕ
-overlook_text p q = line_of (overlook_of p.position_names q (factor_of p.sweep 1 q q))
+-- the first three rows
+abbrev pub head_rows : TextVersion → Problem → List (List (List ℕ))
+head_rows version p =
+    version_row version
+    ∷ (codes "horizon" ∷ decimal p.horizon ∷ [])
+    ∷ (codes "parts" ∷ decimal p.total ∷ decimal p.drift.denominator ∷ decimal p.sweep.denominator ∷ [])
+    ∷ []
 
-abbrev pub look_text : Problem → ℕ → List ℕ
-look_text p q = line_of (look_of p.names p.position_names q (covered p 1 q))
+-- and the cells
+abbrev pub front_rows : TextVersion → Problem → List (List (List ℕ))
+front_rows version p = head_rows version p ++ sort_rows p Cells
 
--- the lines of one period for a cell, and for a position
-abbrev pub drift_in_text : Problem → ℕ → ℕ → List ℕ
-drift_in_text p t c = line_of (drift_in_of p.names (record { period = t; own = c; row = row_of p.drift t c }))
+-- the rows of the start and of the first parts
+abbrev pub start_rows : Problem → List (List (List ℕ))
+start_rows p = (codes "start" ∷ position_name p p.start ∷ []) ∷ first_row p.names (first_entries p) ∷ []
 
-abbrev pub look_in_text : Problem → ℕ → ℕ → List ℕ
-look_in_text p t q = line_of (look_in_of p.names p.position_names (record { period = t; own = q; row = covered p t q }))
+-- the rows from the start to the drift rows
+abbrev pub body_rows : Problem → List (List (List ℕ))
+body_rows p = start_rows p ++ (sort_rows p Moves ++ sort_rows p Drift)
 
--- the line of one period, where its row isn't that of period 1
-abbrev pub drift_change_text : Problem → ℕ → ℕ → List ℕ
-drift_change_text p t c = if is_same_row (row_of p.drift t c) (row_of p.drift 1 c) then [] else drift_in_text p t c
+-- the rows behind them in version 2
+abbrev pub later_change_rows : Problem → List (List (List ℕ))
+later_change_rows p = change_rows p DriftIn ++ (sort_rows p Looks ++ change_rows p LookIn)
 
-abbrev pub look_change_text : Problem → ℕ → ℕ → List ℕ
-look_change_text p t q = if is_same_row (covered p t q) (covered p 1 q) then [] else look_in_text p t q
+-- the rows of each version but the last one
+abbrev pub plain_rows : Problem → List (List (List ℕ))
+plain_rows p = front_rows One p ++ (body_rows p ++ sort_rows p Overlook)
 
--- all such lines of one period
-abbrev pub drift_period_text : Problem → ℕ → List ℕ
-drift_period_text p t = flat_map (drift_change_text p t) (range_with_len 0 p.cells)
+abbrev pub full_rows : Problem → List (List (List ℕ))
+full_rows p = front_rows Two p ++ (sort_rows p Positions ++ (body_rows p ++ later_change_rows p))
 
-abbrev pub look_period_text : Problem → ℕ → List ℕ
-look_period_text p t = flat_map (look_change_text p t) (range_with_len 0 p.positions)
-
--- and of the periods 2 to the last one
-abbrev pub drift_changes_text : Problem → List ℕ
-drift_changes_text p = flat_map (drift_period_text p) (range_with_len 2 (p.horizon - 1 - 1))
-
-abbrev pub look_changes_text : Problem → List ℕ
-look_changes_text p = flat_map (look_period_text p) (range_with_len 2 (p.horizon - 1))
-
--- the lines of the start and of the first parts
-abbrev pub chance_text : Problem → List ℕ
-chance_text p = line_of (codes "start" ∷ position_name p p.start ∷ []) ++ line_of (codes "first" ∷ entry_fields p.names (first_entries p))
-
--- the lines from the start to the drift rows
-abbrev pub body_text : Problem → List ℕ
-body_text p = chance_text p ++ (flat_map (moves_text p) (range_with_len 0 p.positions) ++ flat_map (drift_text p) (range_with_len 0 p.cells))
-
--- the lines up to the cells, and in version 2 up to the positions
-abbrev pub front_text : TextVersion → Problem → List ℕ
-front_text version p = head_text version p ++ text_of (map cell_row p.names)
-
-abbrev pub named_text : Problem → List ℕ
-named_text p = front_text Two p ++ text_of (map position_row p.position_names)
-
--- the lines behind the drift rows, in version 1 and in version 2
-abbrev pub overlook_end_text : Problem → List ℕ
-overlook_end_text p = flat_map (overlook_text p) (range_with_len 0 p.positions) ++ codes "end\n"
-
-abbrev pub look_end_text : Problem → List ℕ
-look_end_text p = look_changes_text p ++ codes "end\n"
-
-abbrev pub changes_text : Problem → List ℕ
-changes_text p = drift_changes_text p ++ (flat_map (look_text p) (range_with_len 0 p.positions) ++ look_end_text p)
-
--- the text of each version
-abbrev pub plain_text : Problem → List ℕ
-plain_text p = text_of (state_rows (plain_state p))
-
-abbrev pub full_text : Problem → List ℕ
-full_text p = text_of (state_rows (full_state p))
+-- the rows of the version that the canonical text has, but the last one
+abbrev pub chosen_rows : Problem → List (List (List ℕ))
+chosen_rows p = if is_plain p then plain_rows p else full_rows p

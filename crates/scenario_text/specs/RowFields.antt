@@ -21,6 +21,10 @@ moves_of names c moves = codes "moves" ∷ name_in names c ∷ map (name_in name
 abbrev pub drift_of : List (List ℕ) → ℕ → List CellPart → List (List ℕ)
 drift_of names c entries = codes "drift" ∷ name_in names c ∷ entry_fields names entries
 
+-- `first NAME PART ..`
+abbrev pub first_row : List (List ℕ) → List DriftPart → List (List ℕ)
+first_row names entries = codes "first" ∷ entry_fields names entries
+
 -- `overlook NAME PART` of a cell
 abbrev pub overlook_of : List (List ℕ) → ℕ → ℕ → List (List ℕ)
 overlook_of names c part = codes "overlook" ∷ name_in names c ∷ decimal part ∷ []

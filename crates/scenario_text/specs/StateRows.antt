@@ -8,7 +8,7 @@ use Rattle.search_model.specs.Names.{name_in}
 use Rattle.scenario_text.specs.declared.draft.TextVersion.{TextVersion}
 use Rattle.scenario_text.specs.declared.draft.TextVersion.TheVariants.{One, Two}
 use Rattle.scenario_text.specs.State.{State, PeriodRow, positions_in}
-use Rattle.scenario_text.specs.RowFields.{entry_fields, cell_row, moves_of, drift_of, overlook_of}
+use Rattle.scenario_text.specs.RowFields.{entry_fields, cell_row, first_row, moves_of, drift_of, overlook_of}
 
 -- `scenario 1` or `scenario 2`
 abbrev pub version_row : TextVersion → List (List ℕ)
@@ -54,7 +54,7 @@ moves_rows s = map (λ q. moves_of (positions_in s) q (moves_from s.moves q)) (r
 abbrev pub start_rows : State → List (List (List ℕ))
 start_rows s =
     (codes "start" ∷ name_in (positions_in s) s.start ∷ [])
-    ∷ (codes "first" ∷ entry_fields s.names s.first)
+    ∷ first_row s.names s.first
     ∷ moves_rows s
 
 -- the cells and the positions that have names of their own

@@ -1,3 +1,4 @@
+pub mod RowSteps
 pub mod RowLemmas
 pub mod Splits
 pub mod LineCuts

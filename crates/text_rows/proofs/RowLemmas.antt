@@ -26,7 +26,7 @@ text_of-map f (x ∷ xs) = ap (λ (t : List ℕ). join_with_byte 32 (f x) ++ 10 
 cut_at : {X : Type 0} (xs : List X) (i : ℕ) (d : X) → i < length xs → xs ≡ take i xs ++ get_or xs i d ∷ drop (i + 1) xs
 cut_at xs i d lt = sym (take-append-drop i xs) ∙ ap (λ ys. take i xs ++ ys) (rw (add-one, drop-cons xs i d) refl)
 
-take_one_more : {X : Type 0} (xs : List X) (i : ℕ) (d : X) → i < length xs → take (i + 1) xs ≡ take i xs ++ get_or xs i d ∷ []
+pub take_one_more : {X : Type 0} (xs : List X) (i : ℕ) (d : X) → i < length xs → take (i + 1) xs ≡ take i xs ++ get_or xs i d ∷ []
 take_one_more xs i d lt = rw add-one (take-suc xs i d lt)
 
 -- the fields up to a place stand, and then come the one there and those behind it

@@ -1,3 +1,4 @@
+pub mod RowFields
 pub mod Fields
 pub mod Kinds
 pub mod Lines

@@ -1,12 +1,11 @@
--- The text of a line as the pieces that are written one after the other.
+-- Texts as the pieces that are written one after the other.
 use Rattle.std.proofs.Common.{◌≡◌, ℕ, List, [], ◌∷◌, ◌++◌, map, length, codes, refl, sym, ◌∙◌, ap, append_assoc}
 use Rattle.std.specs.Fmt.{decimal}
 use Rattle.std.proofs.lemmas.List.Concat.{flat_map-append}
 use Rattle.std.proofs.lemmas.List.{append-nil, length-map}
 use Rattle.text_rows.specs.Rows.{text_of, spaced}
 use Rattle.text_rows.proofs.RowLemmas.{join-fields, text_of-append}
-use Rattle.exact_parts.proofs.AppendLemmas.{Stands}
-use Rattle.search_model.specs.Problem.{Problem, position_name}
+use Rattle.search_model.specs.Problem.{Problem}
 use Rattle.bound_tree.specs.declared.node.Kind.TheVariants.{Branch, Whole, Mean, Tangent, Edge}
 use Rattle.bound_tree.specs.declared.gap.GapKind.{GapKind}
 use Rattle.bound_tree.specs.declared.gap.GapKind.TheVariants.{Closed, Waiting}
@@ -16,40 +15,8 @@ use Rattle.bound_tree.specs.declared.plan.Plan.{Plan}
 use Rattle.bound_tree.specs.Gaps.{closed_node, gap_of}
 use Rattle.search_model.specs.declared.standing.Standing.{Standing}
 use Rattle.tree_format.specs.declared.plan_line.Dialect.{Dialect}
-use Rattle.tree_format.specs.declared.plan_line.Dialect.TheVariants.{One, Two, Gap}
-use Rattle.tree_format.specs.declared.plan_line.Prefixes.{Prefixes}
-use Rattle.tree_format.specs.PlanText.{numbers, node_fields, written, node_row, first_words, path_rows, chance_row, ceiling_row, ceiling_rows, count_row, head_rows, text_in}
+use Rattle.tree_format.specs.PlanText.{numbers, node_fields, node_row, path_rows, chance_row, ceiling_rows, count_row, head_rows, text_in}
 use Rattle.tree_format.specs.RecordParts.{letter_of, bound_fields, reference_of}
-
--- the first line, a line feed and `path`; then the names are left
-pub path_begun : (v : Dialect) (p : Problem) (q old now : List ℕ) → now ≡ old ++ first_words v → Stands old now (spaced (map (position_name p) q) ++ 10 ∷ []) (text_of (path_rows v p q))
-path_begun One p q old now e = record {
-  done = codes "plan 1" ++ 10 ∷ codes "path";
-  appended = e;
-  whole = ap (λ (x : List ℕ). codes "plan 1" ++ 10 ∷ (x ++ 10 ∷ [])) (join-fields (codes "path") (map (position_name p) q));
-}
-path_begun Two p q old now e = record {
-  done = codes "plan 2" ++ 10 ∷ codes "path";
-  appended = e;
-  whole = ap (λ (x : List ℕ). codes "plan 2" ++ 10 ∷ (x ++ 10 ∷ [])) (join-fields (codes "path") (map (position_name p) q));
-}
-path_begun Gap p q old now e = record {
-  done = codes "gap 1" ++ 10 ∷ codes "path";
-  appended = e;
-  whole = ap (λ (x : List ℕ). codes "gap 1" ++ 10 ∷ (x ++ 10 ∷ [])) (join-fields (codes "path") (map (position_name p) q));
-}
-
--- `chance`; then the value and the weight are left
-pub chance_begun : (value weight : ℕ) (old now : List ℕ) → now ≡ old ++ codes "chance" → Stands old now ((32 ∷ decimal value) ++ ((32 ∷ decimal weight) ++ 10 ∷ [])) (text_of (chance_row value weight ∷ []))
-chance_begun value weight old now e = record { done = codes "chance"; appended = e; whole = simp append_assoc }
-
--- `ceiling`; then the number is left
-pub ceiling_begun : (n : ℕ) (old now : List ℕ) → now ≡ old ++ codes "ceiling" → Stands old now ((32 ∷ decimal n) ++ 10 ∷ []) (text_of (ceiling_row n ∷ []))
-ceiling_begun n old now e = record { done = codes "ceiling"; appended = e; whole = simp append_assoc }
-
--- `nodes`; then the number is left
-pub count_begun : (n : ℕ) (old now : List ℕ) → now ≡ old ++ codes "nodes" → Stands old now ((32 ∷ decimal n) ++ 10 ∷ []) (text_of (count_row n ∷ []))
-count_begun n old now e = record { done = codes "nodes"; appended = e; whole = simp append_assoc }
 
 -- what stands behind a record's letter
 abbrev pub after_letter : GapKind → List ℕ → List ℕ
@@ -64,10 +31,6 @@ kind_text q (Closed (Tangent bound reference)) =
     ∙ simp (append_assoc, flat_map-append)
 kind_text q (Closed (Edge bound)) = ap (λ (x : List ℕ). x ++ 10 ∷ []) (join-fields (codes "E") (decimal bound ∷ numbers q)) ∙ simp (append_assoc)
 kind_text q (Waiting n) = ap (λ (x : List ℕ). x ++ 10 ∷ []) (join-fields (codes "O") (decimal n ∷ numbers q)) ∙ simp (append_assoc)
-
--- a record's letter; then what stands behind it is left
-pub record_begun : (w : Prefixes) (q : List ℕ) (kind : GapKind) (old now : List ℕ) → now ≡ old ++ letter_of kind ∷ [] → Stands old now (after_letter kind (written w q)) (text_of (node_fields (written w q) kind ∷ []))
-record_begun w q kind old now e = record { done = letter_of kind ∷ []; appended = e; whole = kind_text (written w q) kind }
 
 -- the parts of the lines before the records
 pub head_parts : (v : Dialect) (p : Problem) (s : Standing) (weight ceiling n : ℕ) → text_of (head_rows v p s weight ceiling n)

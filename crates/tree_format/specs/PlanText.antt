@@ -53,12 +53,6 @@ node_row v node = node_fields (written (prefixes_in v) node.prefix) node.kind
 abbrev pub path_rows : Dialect → Problem → List ℕ → List (List (List ℕ))
 path_rows v p q = version_row v ∷ (codes "path" ∷ map (position_name p) q) ∷ []
 
--- the first line with its line feed, and the word of the next line
-abbrev pub first_words : Dialect → List ℕ
-first_words One = codes "plan 1" ++ 10 ∷ codes "path"
-first_words Two = codes "plan 2" ++ 10 ∷ codes "path"
-first_words Gap = codes "gap 1" ++ 10 ∷ codes "path"
-
 abbrev pub chance_row : ℕ → ℕ → List (List ℕ)
 chance_row value weight = codes "chance" ∷ decimal value ∷ decimal weight ∷ []
 

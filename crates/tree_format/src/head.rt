@@ -1,91 +1,87 @@
 //! The lines before the records.
 
-ghost use Rattle.std.specs.Prelude.{◌≡◌, ◌<◌, ◌^◌, ◌++◌, ◌∷◌, [], OnOk, OnErr};
-ghost use Rattle.exact_parts.specs.Appending.{AppendsFront};
+ghost use Rattle.std.specs.Prelude.{◌≡◌, ◌<◌, ◌^◌, ◌++◌, ◌∷◌, [], map, codes, OnOk, OnErr};
+ghost use Rattle.exact_parts.specs.Appending.{Begins};
 ghost use Rattle.text_rows.specs.Rows.{text_of};
-ghost use Rattle.tree_format.specs.PlanText.{ArePositions, first_words as first_words_lem, path_rows, chance_row, ceiling_row, ceiling_rows, count_row, head_rows};
+ghost use Rattle.search_model.specs.Problem.{position_name};
+ghost use Rattle.tree_format.specs.Dialects.{version_row};
+ghost use Rattle.tree_format.specs.PlanText.{ArePositions, chance_row, ceiling_rows, head_rows};
 
 use crate::dialects::has_ceiling;
 use crate::plan_line::Dialect;
-use crate::writing::{push_names, push_number};
-use exact_parts::NoMemory;
+use crate::writing::push_names;
+use exact_parts::{NoMemory, cut_if_refused};
 use search_model::{Path, Scenario, Standing};
+use text_rows::{Field, push_row};
 
-// The first line, and the word of the next.
-fn first_words(dialect: Dialect) -> &'static [u8]
-    ensures { result.now ≡ first_words_lem dialect }
+// Appends the first line.
+fn push_version(out: &mut Vec<u8>, dialect: Dialect) -> Result<(), NoMemory>
+    ensures ok { OnOk result (out.new.items ≡ out.old.items ++ text_of (version_row dialect ∷ [])) }
+    ensures err { OnErr result (Begins out.old.items out.new.items) }
 {
     match dialect {
-        Dialect::One => b"plan 1\npath",
-        Dialect::Two => b"plan 2\npath",
-        Dialect::Gap => b"gap 1\npath",
+        Dialect::One => push_row(out, b"plan", &[Field::Word(b"1")]),
+        Dialect::Two => push_row(out, b"plan", &[Field::Word(b"2")]),
+        Dialect::Gap => push_row(out, b"gap", &[Field::Word(b"1")]),
     }
 }
 
-// Appends the first line and `path NAME ..`.
-fn push_path(
-    out: &mut Vec<u8>,
-    dialect: Dialect,
-    sc: &Scenario,
-    path: &Path,
-) -> Result<(), NoMemory>
+// Appends the line `path NAME ..`.
+#[tactic(auto, using(text_rows::proofs::RowSteps::row_steps))]
+fn push_places(out: &mut Vec<u8>, sc: &Scenario, path: &Path) -> Result<(), NoMemory>
     requires { ArePositions sc.now path.now }
-    ensures ok { OnOk result (out.new.items ≡ out.old.items ++ text_of (path_rows dialect sc.now path.now)) }
-    ensures err { OnErr result (AppendsFront out.old.items out.new.items (text_of (path_rows dialect sc.now path.now))) }
+    ensures ok { OnOk result (out.new.items ≡ out.old.items ++
+        text_of ((codes "path" ∷ map (position_name sc.now) path.now) ∷ [])) }
+    ensures err { OnErr result (Begins out.old.items out.new.items) }
 {
-    out.extend_from_slice(first_words(dialect))?;
+    out.extend_from_slice(b"path")?;
     push_names(out, sc, path.cells())?;
     out.push(b'\n')?;
     Ok(())
 }
 
+/// Appends the line `path NAME ..` of a path.
+///
+/// # Errors
+///
+/// `NoMemory`: `out` is then as it was.
+pub fn push_path(out: &mut Vec<u8>, sc: &Scenario, path: &Path) -> Result<(), NoMemory>
+    requires { ArePositions sc.now path.now }
+    ensures ok { OnOk result (out.new.items ≡ out.old.items ++
+        text_of ((codes "path" ∷ map (position_name sc.now) path.now) ∷ [])) }
+    ensures err { OnErr result (out.new.items ≡ out.old.items) }
+{
+    let len = out.len();
+    let appended = push_places(out, sc, path);
+    cut_if_refused(out, len, appended)
+}
+
 // Appends the line `chance V W`.
 fn push_chance(out: &mut Vec<u8>, value: u128, weight: u128) -> Result<(), NoMemory>
     ensures ok { OnOk result (out.new.items ≡ out.old.items ++ text_of (chance_row value weight ∷ [])) }
-    ensures err { OnErr result (AppendsFront out.old.items out.new.items (text_of (chance_row value weight ∷ []))) }
+    ensures err { OnErr result (Begins out.old.items out.new.items) }
 {
-    out.extend_from_slice(b"chance")?;
-    push_number(out, value)?;
-    push_number(out, weight)?;
-    out.push(b'\n')?;
-    Ok(())
+    push_row(
+        out,
+        b"chance",
+        &[Field::Number(value), Field::Number(weight)],
+    )
 }
 
-// Appends the line `ceiling N`.
-fn push_ceiling_line(out: &mut Vec<u8>, ceiling: u128) -> Result<(), NoMemory>
-    ensures ok { OnOk result (out.new.items ≡ out.old.items ++ text_of (ceiling_row ceiling ∷ [])) }
-    ensures err { OnErr result (AppendsFront out.old.items out.new.items (text_of (ceiling_row ceiling ∷ []))) }
-{
-    out.extend_from_slice(b"ceiling")?;
-    push_number(out, ceiling)?;
-    out.push(b'\n')?;
-    Ok(())
-}
-
-// Appends it where the text has it.
+// Appends the line `ceiling N` where the text has it.
 fn push_ceiling(out: &mut Vec<u8>, dialect: Dialect, ceiling: u128) -> Result<(), NoMemory>
     ensures ok { OnOk result (out.new.items ≡ out.old.items ++ text_of (ceiling_rows dialect ceiling)) }
-    ensures err { OnErr result (AppendsFront out.old.items out.new.items (text_of (ceiling_rows dialect ceiling))) }
+    ensures err { OnErr result (Begins out.old.items out.new.items) }
 {
     if has_ceiling(dialect) {
-        push_ceiling_line(out, ceiling)
+        push_row(out, b"ceiling", &[Field::Number(ceiling)])
     } else {
         Ok(())
     }
 }
 
-// Appends the line `nodes N`.
-fn push_count(out: &mut Vec<u8>, nodes: usize) -> Result<(), NoMemory>
-    ensures ok { OnOk result (out.new.items ≡ out.old.items ++ text_of (count_row nodes ∷ [])) }
-    ensures err { OnErr result (AppendsFront out.old.items out.new.items (text_of (count_row nodes ∷ []))) }
-{
-    out.extend_from_slice(b"nodes")?;
-    push_number(out, nodes as u128)?;
-    out.push(b'\n')?;
-    Ok(())
-}
-
 /// Appends all lines before the records, of which so many follow.
+#[tactic(auto, using(text_rows::proofs::RowSteps::row_steps))]
 pub fn push_head(
     out: &mut Vec<u8>,
     dialect: Dialect,
@@ -98,13 +94,13 @@ pub fn push_head(
     requires { ArePositions sc.now standing.now.path }
     ensures ok { OnOk result (out.new.items ≡ out.old.items ++
         text_of (head_rows dialect sc.now standing.now weight ceiling nodes)) }
-    ensures err { OnErr result (AppendsFront out.old.items out.new.items
-        (text_of (head_rows dialect sc.now standing.now weight ceiling nodes))) }
+    ensures err { OnErr result (Begins out.old.items out.new.items) }
     ensures narrow { OnOk result (standing.now.value < 2 ^ 128) }
 {
-    push_path(out, dialect, sc, &standing.path)?;
+    push_version(out, dialect)?;
+    push_places(out, sc, &standing.path)?;
     push_chance(out, standing.value, weight)?;
     push_ceiling(out, dialect, ceiling)?;
-    push_count(out, nodes)?;
+    push_row(out, b"nodes", &[Field::Number(nodes as u128)])?;
     Ok(())
 }

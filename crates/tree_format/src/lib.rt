@@ -33,6 +33,7 @@ pub use feed_laws::{
     cut_anywhere, each_fault_is_met, fault_is_last, gathered_is_summary, items_in_order,
     items_of_the_plan,
 };
+pub use head::push_path;
 pub use kind::{PlanFault, PlanKind, plan_kind_name};
 pub use laws::{
     first_fault_decides, gap_text_reads_back, kinds_by_table, one_gap_a_text, one_plan_a_text,
@@ -45,4 +46,3 @@ pub use plan_line::Family;
 pub use printing::{print_gap, print_plan, print_plan_2};
 pub use reading::{read_gap, read_plan};
 pub use stop::PlanStop;
-pub use writing::{push_names, push_number};

@@ -1,7 +1,7 @@
 //! The whole text.
 
 ghost use Rattle.std.specs.Prelude.{◌≡◌, ◌∷◌, [], ◌++◌, map, OnOk, OnErr};
-ghost use Rattle.exact_parts.specs.Appending.{AppendsFront};
+ghost use Rattle.exact_parts.specs.Appending.{Begins};
 ghost use Rattle.bound_tree.specs.Places.{AreInPlace};
 ghost use Rattle.tree_format.specs.PlanText.{IsPrintable, IsNarrow, HasNoEdge, IsPlanText, IsPlanText2, IsPrintableGap, IsNarrowGap, IsGapText, text_in, plan_text, plan_text_2, gap_text};
 ghost use Rattle.bound_tree.specs.Gaps.{shape_of, gap_of};
@@ -10,10 +10,12 @@ use crate::head::push_head;
 use crate::plan_line::Dialect;
 use crate::records::{push_nodes, push_records};
 use bound_tree::{GapPlan, Plan};
-use exact_parts::NoMemory;
+use exact_parts::{NoMemory, cut_if_refused};
 use search_model::Scenario;
+use text_rows::push_row;
 
 // Appends the text of a plan of this dialect.
+#[tactic(auto, using(text_rows::proofs::RowSteps::row_steps))]
 fn push_plan(
     out: &mut Vec<u8>,
     dialect: Dialect,
@@ -22,7 +24,7 @@ fn push_plan(
 ) -> Result<(), NoMemory>
     requires { IsPrintable sc.now plan.now }
     ensures ok { OnOk result (out.new.items ≡ out.old.items ++ text_in dialect sc.now (gap_of plan.now)) }
-    ensures err { OnErr result (AppendsFront out.old.items out.new.items (text_in dialect sc.now (gap_of plan.now))) }
+    ensures err { OnErr result (Begins out.old.items out.new.items) }
     ensures narrow { OnOk result (IsNarrow plan.now) }
 {
     let records = plan.tree.nodes();
@@ -36,7 +38,7 @@ fn push_plan(
         records.len(),
     )?;
     push_records(out, dialect, records)?;
-    out.extend_from_slice(b"end\n")?;
+    push_row(out, b"end", &[])?;
     Ok(())
 }
 
@@ -45,15 +47,17 @@ fn push_plan(
 ///
 /// # Errors
 ///
-/// `NoMemory`: `out` then ends with a front of the text.
+/// `NoMemory`: `out` is then as it was.
 pub fn print_plan(out: &mut Vec<u8>, sc: &Scenario, plan: &Plan) -> Result<(), NoMemory>
     requires printable { IsPrintable sc.now plan.now }
     requires no_edge { HasNoEdge plan.now }
     ensures ok { OnOk result (out.new.items ≡ out.old.items ++ plan_text sc.now plan.now) }
-    ensures err { OnErr result (AppendsFront out.old.items out.new.items (plan_text sc.now plan.now)) }
+    ensures err { OnErr result (out.new.items ≡ out.old.items) }
     ensures spelled { OnOk result (IsPlanText sc.now plan.now (plan_text sc.now plan.now)) }
 {
-    push_plan(out, Dialect::One, sc, plan)
+    let len = out.len();
+    let appended = push_plan(out, Dialect::One, sc, plan);
+    cut_if_refused(out, len, appended)
 }
 
 /// Appends the text of version 2 of a plan whose records have the prefixes that are expected, the one spelling that it has
@@ -61,22 +65,25 @@ pub fn print_plan(out: &mut Vec<u8>, sc: &Scenario, plan: &Plan) -> Result<(), N
 ///
 /// # Errors
 ///
-/// `NoMemory`: `out` then ends with a front of the text.
+/// `NoMemory`: `out` is then as it was.
 pub fn print_plan_2(out: &mut Vec<u8>, sc: &Scenario, plan: &Plan) -> Result<(), NoMemory>
     requires printable { IsPrintable sc.now plan.now }
     requires in_place { AreInPlace sc.now ([] ∷ []) plan.now.tree }
     ensures ok { OnOk result (out.new.items ≡ out.old.items ++ plan_text_2 sc.now plan.now) }
-    ensures err { OnErr result (AppendsFront out.old.items out.new.items (plan_text_2 sc.now plan.now)) }
+    ensures err { OnErr result (out.new.items ≡ out.old.items) }
     ensures spelled { OnOk result (IsPlanText2 sc.now plan.now (plan_text_2 sc.now plan.now)) }
 {
-    push_plan(out, Dialect::Two, sc, plan)
+    let len = out.len();
+    let appended = push_plan(out, Dialect::Two, sc, plan);
+    cut_if_refused(out, len, appended)
 }
 
 // Appends the text of a gap plan.
+#[tactic(auto, using(text_rows::proofs::RowSteps::row_steps))]
 fn push_gap(out: &mut Vec<u8>, sc: &Scenario, plan: &GapPlan) -> Result<(), NoMemory>
     requires { IsPrintableGap sc.now plan.now }
     ensures ok { OnOk result (out.new.items ≡ out.old.items ++ gap_text sc.now plan.now) }
-    ensures err { OnErr result (AppendsFront out.old.items out.new.items (gap_text sc.now plan.now)) }
+    ensures err { OnErr result (Begins out.old.items out.new.items) }
     ensures narrow { OnOk result (IsNarrowGap plan.now) }
 {
     let nodes = plan.nodes.nodes();
@@ -90,7 +97,7 @@ fn push_gap(out: &mut Vec<u8>, sc: &Scenario, plan: &GapPlan) -> Result<(), NoMe
         nodes.len(),
     )?;
     push_nodes(out, Dialect::Gap, nodes)?;
-    out.extend_from_slice(b"end\n")?;
+    push_row(out, b"end", &[])?;
     Ok(())
 }
 
@@ -99,13 +106,15 @@ fn push_gap(out: &mut Vec<u8>, sc: &Scenario, plan: &GapPlan) -> Result<(), NoMe
 ///
 /// # Errors
 ///
-/// `NoMemory`: `out` then ends with a front of the text.
+/// `NoMemory`: `out` is then as it was.
 pub fn print_gap(out: &mut Vec<u8>, sc: &Scenario, plan: &GapPlan) -> Result<(), NoMemory>
     requires printable { IsPrintableGap sc.now plan.now }
     requires in_place { AreInPlace sc.now ([] ∷ []) (map shape_of plan.now.nodes) }
     ensures ok { OnOk result (out.new.items ≡ out.old.items ++ gap_text sc.now plan.now) }
-    ensures err { OnErr result (AppendsFront out.old.items out.new.items (gap_text sc.now plan.now)) }
+    ensures err { OnErr result (out.new.items ≡ out.old.items) }
     ensures spelled { OnOk result (IsGapText sc.now plan.now (gap_text sc.now plan.now)) }
 {
-    push_gap(out, sc, plan)
+    let len = out.len();
+    let appended = push_gap(out, sc, plan);
+    cut_if_refused(out, len, appended)
 }

@@ -1,7 +1,7 @@
 //! The lines of records.
 
 ghost use Rattle.std.specs.Prelude.{◌≡◌, ◌++◌, ◌∷◌, [], map, OnOk, OnErr, All};
-ghost use Rattle.exact_parts.specs.Appending.{AppendsFront};
+ghost use Rattle.exact_parts.specs.Appending.{Begins};
 ghost use Rattle.text_rows.specs.Rows.{text_of, spaced};
 ghost use Rattle.bound_tree.specs.Gaps.{closed_node};
 ghost use Rattle.tree_format.specs.Dialects.{prefixes_in as prefixes_in_lem};
@@ -10,10 +10,11 @@ ghost use Rattle.tree_format.specs.RecordParts.{letter_of, bound_fields, referen
 
 use crate::dialects::prefixes_in;
 use crate::plan_line::{Dialect, Prefixes};
-use crate::writing::{push_number, push_positions};
+use crate::writing::push_positions;
 use bound_tree::{GapKind, GapNode, Kind, TreeNode};
 use exact_parts::NoMemory;
 use search_model::Path;
+use text_rows::{Field, push_field};
 
 // The letter of a kind of record.
 fn letter(kind: &GapKind) -> u8
@@ -32,22 +33,22 @@ fn letter(kind: &GapKind) -> u8
 // Appends the number of a record, where it has one.
 fn push_bound(out: &mut Vec<u8>, kind: &GapKind) -> Result<(), NoMemory>
     ensures ok { OnOk result (out.new.items ≡ out.old.items ++ spaced (bound_fields kind.now)) }
-    ensures err { OnErr result (AppendsFront out.old.items out.new.items (spaced (bound_fields kind.now))) }
+    ensures err { OnErr result (Begins out.old.items out.new.items) }
     ensures narrow { IsNarrowNode kind.now }
 {
     match kind {
         GapKind::Closed(Kind::Branch) => Ok(()),
         GapKind::Closed(Kind::Whole(n) | Kind::Mean(n) | Kind::Tangent(n, _) | Kind::Edge(n)) => {
-            push_number(out, *n)
+            push_field(out, Field::Number(*n))
         }
-        GapKind::Waiting(n) => push_number(out, *n),
+        GapKind::Waiting(n) => push_field(out, Field::Number(*n)),
     }
 }
 
 // Appends the positions of a reference, where the record has one.
 fn push_reference(out: &mut Vec<u8>, kind: &GapKind) -> Result<(), NoMemory>
     ensures ok { OnOk result (out.new.items ≡ out.old.items ++ spaced (numbers (reference_of kind.now))) }
-    ensures err { OnErr result (AppendsFront out.old.items out.new.items (spaced (numbers (reference_of kind.now)))) }
+    ensures err { OnErr result (Begins out.old.items out.new.items) }
 {
     match kind {
         GapKind::Closed(Kind::Tangent(_, reference)) => push_positions(out, reference.cells()),
@@ -59,8 +60,7 @@ fn push_reference(out: &mut Vec<u8>, kind: &GapKind) -> Result<(), NoMemory>
 // Appends the prefix of a record, where the text has it.
 fn push_prefix(out: &mut Vec<u8>, prefixes: Prefixes, prefix: &Path) -> Result<(), NoMemory>
     ensures ok { OnOk result (out.new.items ≡ out.old.items ++ spaced (numbers (written prefixes prefix.now))) }
-    ensures err { OnErr result (AppendsFront out.old.items out.new.items
-        (spaced (numbers (written prefixes prefix.now)))) }
+    ensures err { OnErr result (Begins out.old.items out.new.items) }
 {
     match prefixes {
         Prefixes::Written => push_positions(out, prefix.cells()),
@@ -69,6 +69,7 @@ fn push_prefix(out: &mut Vec<u8>, prefixes: Prefixes, prefix: &Path) -> Result<(
 }
 
 // Appends the line of a record.
+#[tactic(auto, using(text_rows::proofs::RowSteps::row_steps))]
 fn push_record(
     out: &mut Vec<u8>,
     prefixes: Prefixes,
@@ -77,8 +78,7 @@ fn push_record(
 ) -> Result<(), NoMemory>
     ensures ok { OnOk result (out.new.items ≡ out.old.items ++
         text_of (node_fields (written prefixes prefix.now) kind.now ∷ [])) }
-    ensures err { OnErr result (AppendsFront out.old.items out.new.items
-        (text_of (node_fields (written prefixes prefix.now) kind.now ∷ []))) }
+    ensures err { OnErr result (Begins out.old.items out.new.items) }
     ensures narrow { OnOk result (IsNarrowNode kind.now) }
 {
     out.push(letter(kind))?;
@@ -92,7 +92,7 @@ fn push_record(
 // Appends the line of a node.
 fn push_node(out: &mut Vec<u8>, dialect: Dialect, node: &GapNode) -> Result<(), NoMemory>
     ensures ok { OnOk result (out.new.items ≡ out.old.items ++ text_of (node_row dialect node.now ∷ [])) }
-    ensures err { OnErr result (AppendsFront out.old.items out.new.items (text_of (node_row dialect node.now ∷ []))) }
+    ensures err { OnErr result (Begins out.old.items out.new.items) }
     ensures narrow { OnOk result (IsNarrowNode node.now.kind) }
 {
     push_record(out, prefixes_in(dialect), &node.prefix, &node.kind)
@@ -101,8 +101,7 @@ fn push_node(out: &mut Vec<u8>, dialect: Dialect, node: &GapNode) -> Result<(), 
 // Appends the line of a record that is closed.
 fn push_closed(out: &mut Vec<u8>, dialect: Dialect, r: &TreeNode) -> Result<(), NoMemory>
     ensures ok { OnOk result (out.new.items ≡ out.old.items ++ text_of (node_row dialect (closed_node r.now) ∷ [])) }
-    ensures err { OnErr result (AppendsFront out.old.items out.new.items
-        (text_of (node_row dialect (closed_node r.now) ∷ []))) }
+    ensures err { OnErr result (Begins out.old.items out.new.items) }
     ensures narrow { OnOk result (IsNarrowKind r.now.kind) }
 {
     push_record(
@@ -114,6 +113,7 @@ fn push_closed(out: &mut Vec<u8>, dialect: Dialect, r: &TreeNode) -> Result<(), 
 }
 
 /// Appends the lines of records.
+#[tactic(auto, using(text_rows::proofs::RowSteps::row_steps))]
 pub fn push_records(
     out: &mut Vec<u8>,
     dialect: Dialect,
@@ -121,8 +121,7 @@ pub fn push_records(
 ) -> Result<(), NoMemory>
     ensures ok { OnOk result (out.new.items ≡ out.old.items ++
         text_of (map (λ r. node_row dialect (closed_node r)) records.now)) }
-    ensures err { OnErr result (AppendsFront out.old.items out.new.items
-        (text_of (map (λ r. node_row dialect (closed_node r)) records.now))) }
+    ensures err { OnErr result (Begins out.old.items out.new.items) }
     ensures narrow { OnOk result (All (λ r. IsNarrowKind r.kind) records.now) }
 {
     for r in records {
@@ -132,10 +131,10 @@ pub fn push_records(
 }
 
 /// Appends the lines of nodes.
+#[tactic(auto, using(text_rows::proofs::RowSteps::row_steps))]
 pub fn push_nodes(out: &mut Vec<u8>, dialect: Dialect, nodes: &[GapNode]) -> Result<(), NoMemory>
     ensures ok { OnOk result (out.new.items ≡ out.old.items ++ text_of (map (node_row dialect) nodes.now)) }
-    ensures err { OnErr result (AppendsFront out.old.items out.new.items
-        (text_of (map (node_row dialect) nodes.now))) }
+    ensures err { OnErr result (Begins out.old.items out.new.items) }
     ensures narrow { OnOk result (All (λ r. IsNarrowNode r.kind) nodes.now) }
 {
     for r in nodes {

@@ -1,10 +1,8 @@
-use Rattle.std.proofs.Common.{ℕ, ◌+◌, ◌<◌, ◌≤◌, ◌≡◌, List, ◌++◌, length, take, subst, ap, ◌∙◌, arith}
-use Rattle.exact_parts.specs.Appending.{AppendsFront}
-use Rattle.exact_parts.proofs.AppendLemmas.{stands_stopped, at_refusal}
+use Rattle.std.proofs.Common.{ℕ, ◌+◌, ◌<◌, ◌≤◌, ◌≡◌, List, ◌++◌, length, take, ap, ◌∙◌, arith}
 use Rattle.text_rows.specs.Rows.{text_of}
 use Rattle.mission_report.specs.Map.{period_block}
 use Rattle.mission_report.proofs.CourseSteps.{position_in}
-use Rattle.mission_report.proofs.RowSteps.{blocks_from, block_next, block_more, blocks_all}
+use Rattle.mission_report.proofs.RowSteps.{block_more, blocks_all}
 use Rattle.mission_report.proofs.MapSteps.{after_look, block_is}
 use Rattle.mission_report.proofs.maps.push_looks.Goals as goal
 
@@ -20,19 +18,6 @@ push_look-requires-clause-belief c =
     let long = ap length c.cells-looks.ensures.value in
     let here : c.loop-i.i < length q = omega (arith, c.loop-i-test.true, long) in
     (take (c.loop-i.i + 1) q, after_look p q c.args.trail.now.prefix c.loop-i.i c.row.result.now c.requires.prefix here (c.row.ensures.belief p c.requires.trail))
-
-pub returns-in_err-push_look-clause-err : goal.returns-in_err-push_look-clause-err
-returns-in_err-push_look-clause-err c =
-    let p = c.args.sc.now in
-    let q = c.args.flown.now in
-    let i = c.loop-i.i in
-    let long = ap length c.cells-looks.ensures.value in
-    let here : i < length q = omega (arith, c.loop-i-test.true, long) in
-    let belief = after_look p q c.args.trail.now.prefix i c.row.result.now c.requires.prefix here (c.row.ensures.belief p c.requires.trail) in
-    let block = block_is p q c.cells-looks.result.now i c.row.result.now c.cells-looks.ensures.value here belief in
-    let stopped : AppendsFront c.loop-i.out.items c.push_look.new.out.items (text_of (period_block p q (1 + i))) =
-    subst (λ (rows : List (List (List ℕ))). AppendsFront c.loop-i.out.items c.push_look.new.out.items (text_of rows)) block (c.in_err-push_look.ensures.err (take (i + 1) q) belief) in
-    at_refusal _ _ (stands_stopped (text_of (period_block p q (1 + i))) (blocks_from (period_block p q) 1 (length q) (i + 1)) (block_next (period_block p q) 1 (length q) i here c.loop-i.invariant) stopped)
 
 pub loop-i-preserved : goal.loop-i-preserved
 loop-i-preserved c =

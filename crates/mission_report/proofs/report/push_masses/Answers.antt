@@ -1,13 +1,9 @@
-use Rattle.std.proofs.Common.{ℕ, ◌*◌, ◌<◌, ◌≤◌, ◌≡◌, List, Some, map, slice_index, arith}
-use Rattle.exact_parts.specs.Appending.{AppendsFront}
-use Rattle.exact_parts.proofs.AppendLemmas.{stands_stopped, at_refusal}
-use Rattle.text_rows.specs.Rows.{text_of}
+use Rattle.std.proofs.Common.{◌*◌, ◌<◌, ◌≤◌, ◌≡◌, slice_index, arith}
 use Rattle.search_model.specs.Tracks.{whole_weight}
 use Rattle.search_model.proofs.Totals.{whole_weight-fits}
-use Rattle.belief_update.specs.Belief.{IsBelief}
-use Rattle.mission_report.specs.Report.{left_row, mass_rows}
+use Rattle.mission_report.specs.Report.{left_row}
 use Rattle.mission_report.proofs.Masses.{mass_times-part, mass_lines}
-use Rattle.mission_report.proofs.RowSteps.{left_by, left_line, line_next, line_more, lines_all}
+use Rattle.mission_report.proofs.RowSteps.{left_by, left_line, line_more, lines_all}
 use Rattle.mission_report.proofs.report.push_masses.Goals as goal
 
 -- a cell's mass in the period is a part of the whole weight
@@ -22,17 +18,6 @@ overflow_mul-at c = omega (arith, part c, whole_weight-fits c.args.sc.now c.cell
 
 pub push_left-requires-clause-mass : goal.push_left-requires-clause-mass
 push_left-requires-clause-mass c = part c
-
-pub returns-in_err-push_left-clause-err : goal.returns-in_err-push_left-clause-err
-returns-in_err-push_left-clause-err c =
-    let p = c.args.sc.now in
-    let belief = c.args.belief.now in
-    let later = c.later_parts-later.result in
-    let here : c.loop-c.c < p.cells = omega (arith, c.loop-c-test.true, c.cells-c-end.ensures.value) in
-    let before = line_next (left_by p belief.masses later) 0 p.cells c.loop-c.c (left_row p c.loop-c.c (c.at.result * later)) here (left_line p belief.masses later c.loop-c.c c.at.result c.at.ensures) c.loop-c.invariant in
-    let told : (q : List ℕ) → IsBelief p (map Some q) belief → AppendsFront c.args.out.now.items c.push_left.new.out.items (text_of (mass_rows p q belief.period)) = λ q is.
-    rw (mass_lines p c.cells-c-end.ensures.sound q belief is later (rw c.period-t.ensures at c.later_parts-later.ensures)) at (stands_stopped _ _ before c.in_err-push_left.ensures.err) in
-    at_refusal _ _ told
 
 pub loop-c-preserved : goal.loop-c-preserved
 loop-c-preserved c =

@@ -1,8 +1,7 @@
 use Rattle.std.proofs.Common.{◌+◌, ◌<◌, slice_index, length, ap, arith}
-use Rattle.exact_parts.proofs.AppendLemmas.{stands_stopped, at_refusal}
 use Rattle.mission_report.specs.Report.{period_row, period_of}
 use Rattle.mission_report.proofs.CourseSteps.{position_at}
-use Rattle.mission_report.proofs.RowSteps.{period_line, values_long, value_part, line_next, line_more, lines_all}
+use Rattle.mission_report.proofs.RowSteps.{period_line, values_long, value_part, line_more, lines_all}
 use Rattle.mission_report.proofs.report.push_periods.Goals as goal
 
 pub bounds-values-i : goal.bounds-values-i
@@ -19,17 +18,6 @@ pub push_period-requires-clause-value : goal.push_period-requires-clause-value
 push_period-requires-clause-value c =
     let long = ap length c.cells-looks.ensures.value in
     value_part c.args.sc.now c.args.path.now c.args.values.now c.loop-i.i c.requires.values (omega (arith, c.loop-i-test.true, c.requires.path.whole, long))
-
-pub returns-in_err-push_period-clause-err : goal.returns-in_err-push_period-clause-err
-returns-in_err-push_period-clause-err c =
-    let p = c.args.sc.now in
-    let q = c.args.path.now in
-    let i = c.loop-i.i in
-    let long = ap length c.cells-looks.ensures.value in
-    let more : i < p.horizon = omega (arith, c.loop-i-test.true, c.requires.path.whole, long) in
-    let row = period_row p (i + 1) (slice_index c.cells-looks.result.now i) (slice_index c.args.values.now i) in
-    let before = line_next (period_of p q) 1 p.horizon i row more (period_line p q c.cells-looks.result.now c.args.values.now i c.cells-looks.ensures.value c.requires.values more) c.loop-i.invariant in
-    at_refusal _ _ (stands_stopped _ _ before c.in_err-push_period.ensures.err)
 
 pub loop-i-preserved : goal.loop-i-preserved
 loop-i-preserved c =

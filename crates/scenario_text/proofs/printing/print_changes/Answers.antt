@@ -1,21 +1,20 @@
-use Rattle.std.proofs.lemmas.Result.{on_err_weaker, on_ok_weaker}
-use Rattle.scenario_text.proofs.Appending.{front_of_three-first, front_of_three-second, front_of_three-third, three_appended}
-use Rattle.exact_parts.proofs.AppendLemmas.{at_refusal}
-use Rattle.scenario_text.proofs.Printed.{changes_text-pieces}
+use Rattle.std.proofs.Common.{◌≡◌, ◌++◌, ◌+◌, ◌-◌, ◌∙◌, ap, arith, ℕ, map}
+use Rattle.std.specs.List.{flat_map, range_with_len}
+use Rattle.text_rows.specs.Rows.{text_of}
+use Rattle.text_rows.proofs.RowSteps.{rows_in_range}
+use Rattle.scenario_text.specs.Canonical.{other_rows}
+use Rattle.scenario_text.specs.Printing.{in_force, change_owners, change_last, change_row}
 use Rattle.scenario_text.proofs.printing.print_changes.Goals as goal
 
-pub returns-in_err-print_drift_changes-clause-no_memory : goal.returns-in_err-print_drift_changes-clause-no_memory
-returns-in_err-print_drift_changes-clause-no_memory c =
-    at_refusal _ _ (front_of_three-first _ _ (changes_text-pieces c.args.sc.now) c.in_err-print_drift_changes.ensures.no_memory)
-
-pub returns-in_err-print_looks-clause-no_memory : goal.returns-in_err-print_looks-clause-no_memory
-returns-in_err-print_looks-clause-no_memory c =
-    at_refusal _ _ (front_of_three-second _ _ _ (changes_text-pieces c.args.sc.now) c.in_ok-print_drift_changes.ensures.ok c.in_err-print_looks.ensures.no_memory)
+pub loop-t-preserved : goal.loop-t-preserved
+loop-t-preserved c =
+    let p = c.args.sc.now in
+    let next : c.loop-t.t + 1 - 2 ≡ c.loop-t.t - 2 + 1 = omega arith in
+    let text = rows_in_range (change_row p c.args.sort) (other_rows (in_force p c.args.sort) (change_owners p c.args.sort)) 2 (c.loop-t.t - 2) c.loop-t.t _ _ _ (omega arith) c.loop-t.invariant.text c.in_ok-print_period.ensures.ok in
+    record { text = rw next text; within = omega (arith, c.behind_last-t-end.ensures.value) }
 
 pub returns-clause-ok : goal.returns-clause-ok
 returns-clause-ok c =
-    on_ok_weaker _ (three_appended _ _ _ _ (changes_text-pieces c.args.sc.now) c.in_ok-print_drift_changes.ensures.ok c.in_ok-print_looks.ensures.ok) c.print_look_end.ensures.ok
-
-pub returns-clause-no_memory : goal.returns-clause-no_memory
-returns-clause-no_memory c =
-    on_err_weaker _ (front_of_three-third _ _ _ _ (changes_text-pieces c.args.sc.now) c.in_ok-print_drift_changes.ensures.ok c.in_ok-print_looks.ensures.ok) c.print_look_end.ensures.no_memory
+    let p = c.args.sc.now in
+    let all : c.loop-t.t - 2 ≡ change_last p c.args.sort - 1 = omega (arith, c.behind_last-t-end.ensures.value, c.loop-t.invariant.within) in
+    c.loop-t.invariant.text ∙ ap (λ (n : ℕ). c.args.out.now.items ++ text_of (map (change_row p c.args.sort) (flat_map (other_rows (in_force p c.args.sort) (change_owners p c.args.sort)) (range_with_len 2 n)))) all

@@ -1,21 +1,11 @@
-use Rattle.std.proofs.lemmas.Result.{on_err_weaker, on_ok_weaker}
-use Rattle.scenario_text.proofs.Appending.{front_of_three-first, front_of_three-second, front_of_three-third, three_appended}
-use Rattle.exact_parts.proofs.AppendLemmas.{at_refusal}
-use Rattle.scenario_text.proofs.Printed.{full_text-pieces}
+use Rattle.std.proofs.Common.{◌++◌}
+use Rattle.scenario_text.specs.declared.draft.TextVersion.TheVariants.{Two}
+use Rattle.scenario_text.specs.declared.row_sorts.RowSort.TheVariants.{Positions}
+use Rattle.scenario_text.specs.Printing.{front_rows, sort_rows, body_rows, later_change_rows}
+use Rattle.text_rows.proofs.RowSteps.{rows_then}
 use Rattle.scenario_text.proofs.printing.print_full.Goals as goal
-
-pub returns-in_err-print_named-clause-no_memory : goal.returns-in_err-print_named-clause-no_memory
-returns-in_err-print_named-clause-no_memory c =
-    at_refusal _ _ (front_of_three-first _ _ (full_text-pieces c.args.sc.now c.requires) c.in_err-print_named.ensures.no_memory)
-
-pub returns-in_err-print_body-clause-no_memory : goal.returns-in_err-print_body-clause-no_memory
-returns-in_err-print_body-clause-no_memory c =
-    at_refusal _ _ (front_of_three-second _ _ _ (full_text-pieces c.args.sc.now c.requires) c.in_ok-print_named.ensures.ok c.in_err-print_body.ensures.no_memory)
 
 pub returns-clause-ok : goal.returns-clause-ok
 returns-clause-ok c =
-    on_ok_weaker _ (three_appended _ _ _ _ (full_text-pieces c.args.sc.now c.requires) c.in_ok-print_named.ensures.ok c.in_ok-print_body.ensures.ok) c.print_changes.ensures.ok
-
-pub returns-clause-no_memory : goal.returns-clause-no_memory
-returns-clause-no_memory c =
-    on_err_weaker _ (front_of_three-third _ _ _ _ (full_text-pieces c.args.sc.now c.requires) c.in_ok-print_named.ensures.ok c.in_ok-print_body.ensures.ok) c.print_changes.ensures.no_memory
+    let p = c.args.sc.now in
+    rows_then _ _ _ (front_rows Two p) (sort_rows p Positions ++ (body_rows p ++ later_change_rows p)) c.in_ok-print_front.ensures.ok (rows_then _ _ _ (sort_rows p Positions) (body_rows p ++ later_change_rows p) c.in_ok-print_sort.ensures.ok (rows_then _ _ _ (body_rows p) (later_change_rows p) c.in_ok-print_body.ensures.ok c.in_ok-print_later.ensures.ok))

@@ -1,33 +1,17 @@
-use Rattle.std.proofs.Common.{sym, append-nil}
-use Rattle.exact_parts.proofs.AppendLemmas.{stands_first, stands_next, stands_last, stands_stopped, at_refusal}
-use Rattle.tree_format.proofs.LineTexts.{head_parts}
+use Rattle.std.proofs.Common.{List, ℕ, [], ◌∷◌, map, codes}
+use Rattle.text_rows.proofs.RowSteps.{rows_then}
+use Rattle.search_model.specs.Problem.{position_name}
+use Rattle.tree_format.specs.Dialects.{version_row}
+use Rattle.tree_format.specs.PlanText.{chance_row, ceiling_rows, count_row}
 use Rattle.tree_format.proofs.head.push_head.Goals as goal
-
-pub returns-in_err-push_path-clause-err : goal.returns-in_err-push_path-clause-err
-returns-in_err-push_path-clause-err c = at_refusal _ _ (stands_stopped _ _ (stands_first (head_parts c.args.dialect c.args.sc.now c.args.standing.now c.args.weight c.args.ceiling c.args.nodes)) c.in_err-push_path.ensures.err)
-
-pub returns-in_err-push_chance-clause-err : goal.returns-in_err-push_chance-clause-err
-returns-in_err-push_chance-clause-err c =
-    let path = stands_next _ _ (stands_first (head_parts c.args.dialect c.args.sc.now c.args.standing.now c.args.weight c.args.ceiling c.args.nodes)) c.in_ok-push_path.ensures.ok in
-    at_refusal _ _ (stands_stopped _ _ path c.in_err-push_chance.ensures.err)
-
-pub returns-in_err-push_ceiling-clause-err : goal.returns-in_err-push_ceiling-clause-err
-returns-in_err-push_ceiling-clause-err c =
-    let path = stands_next _ _ (stands_first (head_parts c.args.dialect c.args.sc.now c.args.standing.now c.args.weight c.args.ceiling c.args.nodes)) c.in_ok-push_path.ensures.ok in
-    let chance = stands_next _ _ path c.in_ok-push_chance.ensures.ok in
-    at_refusal _ _ (stands_stopped _ _ chance c.in_err-push_ceiling.ensures.err)
-
-pub returns-in_err-push_count-clause-err : goal.returns-in_err-push_count-clause-err
-returns-in_err-push_count-clause-err c =
-    let path = stands_next _ _ (stands_first (head_parts c.args.dialect c.args.sc.now c.args.standing.now c.args.weight c.args.ceiling c.args.nodes)) c.in_ok-push_path.ensures.ok in
-    let chance = stands_next _ _ path c.in_ok-push_chance.ensures.ok in
-    let ceiling = stands_next _ _ chance c.in_ok-push_ceiling.ensures.ok in
-    at_refusal _ _ (stands_stopped _ _ ceiling c.in_err-push_count.ensures.err)
 
 pub returns-clause-ok : goal.returns-clause-ok
 returns-clause-ok c =
-    let path = stands_next _ _ (stands_first (head_parts c.args.dialect c.args.sc.now c.args.standing.now c.args.weight c.args.ceiling c.args.nodes)) c.in_ok-push_path.ensures.ok in
-    let chance = stands_next _ _ path c.in_ok-push_chance.ensures.ok in
-    let ceiling = stands_next _ _ chance c.in_ok-push_ceiling.ensures.ok in
-    let count = stands_next _ _ ceiling c.in_ok-push_count.ensures.ok in
-    stands_last count (sym (append-nil _))
+    let version = version_row c.args.dialect in
+    let path : List (List ℕ) = codes "path" ∷ map (position_name c.args.sc.now) c.args.standing.now.path in
+    let chance = chance_row c.args.standing.now.value c.args.weight in
+    let above = ceiling_rows c.args.dialect c.args.ceiling in
+    let places = rows_then _ _ _ (version ∷ []) (path ∷ []) c.in_ok-push_version.ensures.ok c.in_ok-push_places.ensures.ok in
+    let valued = rows_then _ _ _ (version ∷ path ∷ []) (chance ∷ []) places c.in_ok-push_chance.ensures.ok in
+    let topped = rows_then _ _ _ (version ∷ path ∷ chance ∷ []) above valued c.in_ok-push_ceiling.ensures.ok in
+    rows_then _ _ _ (version ∷ path ∷ chance ∷ above) (count_row c.args.nodes ∷ []) topped c.in_ok-push_row.ensures.ok

@@ -1,29 +1,14 @@
 use Rattle.std.proofs.Common.{rules}
-use Rattle.exact_parts.proofs.AppendLemmas.{stands_first, stands_next, stands_last, stands_stopped, stands_refused, at_refusal}
+use Rattle.exact_parts.proofs.AppendLemmas.{stands_first, stands_next, stands_last}
 use Rattle.tree_format.proofs.LineTexts.{gap_parts}
 use Rattle.tree_format.specs.declared.plan_line.Dialect.TheVariants.{Gap}
 use Rattle.tree_format.proofs.printing.push_gap.Goals as goal
-
-pub returns-in_err-push_head-clause-err : goal.returns-in_err-push_head-clause-err
-returns-in_err-push_head-clause-err c =
-    at_refusal _ _ (stands_stopped _ _ (stands_first (gap_parts Gap c.args.sc.now c.args.plan.now)) (rw c.nodes-nodes.ensures at c.in_err-push_head.ensures.err))
-
-pub returns-in_err-push_nodes-clause-err : goal.returns-in_err-push_nodes-clause-err
-returns-in_err-push_nodes-clause-err c =
-    let head = stands_next _ _ (stands_first (gap_parts Gap c.args.sc.now c.args.plan.now)) (rw c.nodes-nodes.ensures at c.in_ok-push_head.ensures.ok) in
-    at_refusal _ _ (stands_stopped _ _ head (rw c.nodes-nodes.ensures at c.in_err-push_nodes.ensures.err))
-
-pub returns-in_err-extend_from_slice-clause-err : goal.returns-in_err-extend_from_slice-clause-err
-returns-in_err-extend_from_slice-clause-err c =
-    let head = stands_next _ _ (stands_first (gap_parts Gap c.args.sc.now c.args.plan.now)) (rw c.nodes-nodes.ensures at c.in_ok-push_head.ensures.ok) in
-    let records = stands_next _ _ head (rw c.nodes-nodes.ensures at c.in_ok-push_nodes.ensures.ok) in
-    at_refusal _ _ (stands_refused records c.in_err-extend_from_slice.ensures.items)
 
 pub returns-clause-ok : goal.returns-clause-ok
 returns-clause-ok c =
     let head = stands_next _ _ (stands_first (gap_parts Gap c.args.sc.now c.args.plan.now)) (rw c.nodes-nodes.ensures at c.in_ok-push_head.ensures.ok) in
     let records = stands_next _ _ head (rw c.nodes-nodes.ensures at c.in_ok-push_nodes.ensures.ok) in
-    stands_last records c.in_ok-extend_from_slice.ensures.items
+    stands_last records c.in_ok-push_row.ensures.ok
 
 pub returns-clause-narrow : goal.returns-clause-narrow
 returns-clause-narrow c = record {

@@ -1,24 +1,9 @@
-use Rattle.exact_parts.proofs.AppendLemmas.{stands_first, stands_next, stands_last, stands_stopped, stands_refused, at_refusal}
+use Rattle.exact_parts.proofs.AppendLemmas.{stands_first, stands_next, stands_last}
 use Rattle.tree_format.proofs.LineTexts.{plan_parts}
 use Rattle.tree_format.proofs.printing.push_plan.Goals as goal
-
-pub returns-in_err-push_head-clause-err : goal.returns-in_err-push_head-clause-err
-returns-in_err-push_head-clause-err c =
-    at_refusal _ _ (stands_stopped _ _ (stands_first (plan_parts c.args.dialect c.args.sc.now c.args.plan.now)) (rw c.nodes-records.ensures at c.in_err-push_head.ensures.err))
-
-pub returns-in_err-push_records-clause-err : goal.returns-in_err-push_records-clause-err
-returns-in_err-push_records-clause-err c =
-    let head = stands_next _ _ (stands_first (plan_parts c.args.dialect c.args.sc.now c.args.plan.now)) (rw c.nodes-records.ensures at c.in_ok-push_head.ensures.ok) in
-    at_refusal _ _ (stands_stopped _ _ head (rw c.nodes-records.ensures at c.in_err-push_records.ensures.err))
-
-pub returns-in_err-extend_from_slice-clause-err : goal.returns-in_err-extend_from_slice-clause-err
-returns-in_err-extend_from_slice-clause-err c =
-    let head = stands_next _ _ (stands_first (plan_parts c.args.dialect c.args.sc.now c.args.plan.now)) (rw c.nodes-records.ensures at c.in_ok-push_head.ensures.ok) in
-    let records = stands_next _ _ head (rw c.nodes-records.ensures at c.in_ok-push_records.ensures.ok) in
-    at_refusal _ _ (stands_refused records c.in_err-extend_from_slice.ensures.items)
 
 pub returns-clause-ok : goal.returns-clause-ok
 returns-clause-ok c =
     let head = stands_next _ _ (stands_first (plan_parts c.args.dialect c.args.sc.now c.args.plan.now)) (rw c.nodes-records.ensures at c.in_ok-push_head.ensures.ok) in
     let records = stands_next _ _ head (rw c.nodes-records.ensures at c.in_ok-push_records.ensures.ok) in
-    stands_last records c.in_ok-extend_from_slice.ensures.items
+    stands_last records c.in_ok-push_row.ensures.ok

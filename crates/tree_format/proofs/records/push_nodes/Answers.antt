@@ -1,18 +1,11 @@
 use Rattle.std.proofs.Common.{◌≡◌, ◌++◌, ◌∷◌, [], ◌∙◌, ap, sym, subst, List, ℕ}
 use Rattle.std.proofs.lemmas.List.Elements.{All-more}
-use Rattle.exact_parts.specs.Appending.{AppendsFront}
 use Rattle.text_rows.specs.Rows.{text_of}
-use Rattle.text_rows.proofs.RowLemmas.{stands_at_row, text_of-more}
-use Rattle.exact_parts.proofs.AppendLemmas.{stands_stopped, then_more, at_refusal}
+use Rattle.text_rows.proofs.RowLemmas.{text_of-more}
+use Rattle.exact_parts.proofs.AppendLemmas.{then_more}
 use Rattle.bound_tree.specs.declared.gap.GapNode.{GapNode}
 use Rattle.tree_format.specs.PlanText.{node_row, IsNarrowNode}
 use Rattle.tree_format.proofs.records.push_nodes.Goals as goal
-
-pub returns-in_err-push_node-clause-err : goal.returns-in_err-push_node-clause-err
-returns-in_err-push_node-clause-err c =
-    let before = stands_at_row (node_row c.args.dialect) c.args.nodes.now c.loop-r.r-index c.r-item.result c.loop-r-test.true c.loop-r.invariant.text in
-    at_refusal _ _ (stands_stopped _ _ before
-    (subst (λ (r : GapNode). AppendsFront c.loop-r.out.items c.push_node.new.out.items (text_of (node_row c.args.dialect r ∷ []))) c.r-item.is c.in_err-push_node.ensures.err))
 
 pub loop-r-preserved : goal.loop-r-preserved
 loop-r-preserved c =

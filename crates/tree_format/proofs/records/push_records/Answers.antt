@@ -1,19 +1,12 @@
 use Rattle.std.proofs.Common.{◌≡◌, ◌++◌, ◌∷◌, [], ◌∙◌, ap, sym, subst, List, ℕ}
 use Rattle.std.proofs.lemmas.List.Elements.{All-more}
-use Rattle.exact_parts.specs.Appending.{AppendsFront}
 use Rattle.text_rows.specs.Rows.{text_of}
-use Rattle.text_rows.proofs.RowLemmas.{stands_at_row, text_of-more}
-use Rattle.exact_parts.proofs.AppendLemmas.{stands_stopped, then_more, at_refusal}
+use Rattle.text_rows.proofs.RowLemmas.{text_of-more}
+use Rattle.exact_parts.proofs.AppendLemmas.{then_more}
 use Rattle.bound_tree.specs.declared.node.TreeNode.{TreeNode}
 use Rattle.bound_tree.specs.Gaps.{closed_node}
 use Rattle.tree_format.specs.PlanText.{node_row, IsNarrowKind}
 use Rattle.tree_format.proofs.records.push_records.Goals as goal
-
-pub returns-in_err-push_closed-clause-err : goal.returns-in_err-push_closed-clause-err
-returns-in_err-push_closed-clause-err c =
-    let before = stands_at_row (λ (r : TreeNode). node_row c.args.dialect (closed_node r)) c.args.records.now c.loop-r.r-index c.r-item.result c.loop-r-test.true c.loop-r.invariant.text in
-    at_refusal _ _ (stands_stopped _ _ before
-    (subst (λ (r : TreeNode). AppendsFront c.loop-r.out.items c.push_closed.new.out.items (text_of (node_row c.args.dialect (closed_node r) ∷ []))) c.r-item.is c.in_err-push_closed.ensures.err))
 
 pub loop-r-preserved : goal.loop-r-preserved
 loop-r-preserved c =
