@@ -4,3 +4,4 @@ pub mod LineCuts
 pub mod FieldCuts
 pub mod RowTexts
 pub mod Results
+pub mod LineMachine

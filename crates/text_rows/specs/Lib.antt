@@ -2,3 +2,4 @@ pub mod Fields
 pub mod Kinds
 pub mod Lines
 pub mod Rows
+pub mod LineMachine
