@@ -5,3 +5,4 @@ pub mod FieldCuts
 pub mod RowTexts
 pub mod Results
 pub mod LineMachine
+pub mod WholeLines

@@ -3,3 +3,4 @@ pub mod Kinds
 pub mod Lines
 pub mod Rows
 pub mod LineMachine
+pub mod WholeLines

@@ -1,24 +1,27 @@
 -- What a line makes of reading, or the end of the bytes in its place.
-use Rattle.std.proofs.Common.{◌≡◌, ℕ, ◌+◌, Bool, false, List, [], ◌∷◌, length, Result, Ok, Err, refl, sym, ◌∙◌, arith, ap, inl, inr}
-use Rattle.std.specs.Prelude.{IsTrue}
+use Rattle.std.proofs.Common.{◌≡◌, ℕ, suc, ◌+◌, ◌-◌, Bool, true, false, List, [], ◌∷◌, length, Result, Ok, Err, refl, sym, ◌∙◌, arith, ap}
+use Rattle.std.specs.Prelude.{IsTrue, if◌then◌else◌}
 use Rattle.std.proofs.lemmas.Grind.{common_steps}
-use Rattle.std.specs.List.{onto_first}
-use Rattle.std.proofs.lemmas.Bool.{ne_eqb}
 use Rattle.search_model.specs.Problem.{Problem}
 use Rattle.bound_tree.specs.declared.gap.GapPlan.{GapPlan}
 use Rattle.tree_format.specs.declared.due.Due.{Due}
+use Rattle.tree_format.specs.declared.plan_line.Family.{Family}
 use Rattle.tree_format.specs.declared.plan_line.Stage.{Stage}
 use Rattle.tree_format.specs.declared.plan_line.Stage.TheVariants as due
 use Rattle.tree_format.specs.declared.plan_line.PlanLine.{PlanLine}
 use Rattle.tree_format.specs.declared.kind.PlanKind.{PlanKind}
 use Rattle.tree_format.specs.declared.kind.PlanKind.TheVariants.{EarlyEnd, Rest}
 use Rattle.tree_format.specs.declared.kind.PlanFault.{PlanFault}
-use Rattle.text_rows.specs.Lines.{pieces_of}
+use Rattle.text_rows.specs.Lines.{pieces_of, after_lines}
 use Rattle.text_rows.specs.Fields.{exact_fields}
-use Rattle.text_rows.proofs.Splits.{some_piece, split_nothing, some_left}
-use Rattle.tree_format.specs.Reading.{line_at, pieces_at, is_ended, next, taken, at_line_number}
+use Rattle.text_rows.specs.LineMachine.{Reached, read_from}
+use Rattle.text_rows.specs.WholeLines.{whole_lines}
+use Rattle.text_rows.proofs.LineCuts.{after_none}
+use Rattle.text_rows.proofs.LineMachine as machine
+use Rattle.text_rows.proofs.WholeLines.{whole_line, no_whole_line, after_piece}
+use Rattle.tree_format.specs.Reading.{line_at, is_ended, next, taken, at_line_number, at_start, blank_plan, Progress, behind, plan_lines, unless_more, alone, front_of, text_at}
 
-unended : (stage : Stage) → (stage ≡ due.Ended → ⊥) → is_ended stage ≡ false
+pub unended : (stage : Stage) → (stage ≡ due.Ended → ⊥) → is_ended stage ≡ false
 unended (due.Version family) h = refl
 unended due.Path h = refl
 unended due.Chance h = refl
@@ -27,45 +30,82 @@ unended due.Count h = refl
 unended (due.Records left) h = refl
 unended due.Ended h = absurd (h refl)
 
+-- what was read, where the first line has this number, and what follows it
+abbrev left_of : ℕ → List ℕ → Result (Reached Progress) PlanFault → Result GapPlan PlanFault
+left_of number text (Err fault) = Err fault
+left_of number text (Ok front) = unless_more (front.line + 1) (after_lines (front.line + 1 - number) text) front.state.plan
+
+abbrev standing : Due → GapPlan → Progress
+standing d plan = record { due = d; plan = plan }
+
+-- what a text says from the line of this number on
+unfoldable pub rest_at : Problem → ℕ → Due → GapPlan → List ℕ → Result GapPlan PlanFault
+rest_at p number d plan text = if is_ended d.stage then unless_more number text plan else left_of number text (read_from (plan_lines p) (standing d plan) number (whole_lines text))
+
+-- from its first line on
+text_left : (text : List ℕ) (r : Result (Reached Progress) PlanFault) → alone text r ≡ left_of 1 text r
+text_left text (Err fault) = refl
+text_left text (Ok front) = let same : front.line ≡ front.line + 1 - 1 = omega arith in ap (λ (n : ℕ). unless_more (front.line + 1) (after_lines n text) front.state.plan) same
+
+pub text_rest : (family : Family) (p : Problem) (text : List ℕ) → text_at family p text ≡ rest_at p 1 (at_start family) blank_plan text
+unfolding rest_at
+text_rest family p text = text_left text (front_of family p text)
+
 module _ (p : Problem) (number : ℕ) (d : Due) (plan : GapPlan) where
+  -- behind a line that is cut off
+  left_on : (text after : List ℕ) (lines : List (List ℕ)) (s : Progress) (r : Result (Reached Progress) PlanFault) → ((n : ℕ) → after_lines (suc n) text ≡ after_lines n after) → read_from (plan_lines p) s (number + 1) lines ≡ r → left_of number text r ≡ left_of (number + 1) after r
+  left_on text after lines s (Err fault) cut e = refl
+  left_on text after lines s (Ok front) cut e =
+      let read = machine.read_told (plan_lines p) s (number + 1) lines front e in
+      let count : front.line + 1 - number ≡ suc (front.line + 1 - (number + 1)) = omega (arith, read.line) in
+      ap (λ (t : List ℕ). unless_more (front.line + 1) t front.state.plan) (ap (λ (n : ℕ). after_lines n text) count ∙ cut (front.line + 1 - (number + 1)))
+
+  -- before the end the lines are read
+  lines_left : (rest : List ℕ) → (d.stage ≡ due.Ended → ⊥) → rest_at p number d plan rest ≡ left_of number rest (read_from (plan_lines p) (standing d plan) number (whole_lines rest))
+  unfolding rest_at
+  lines_left rest goes = rw (unended d.stage goes) refl
+
+  -- behind it nothing may stand
+  none_left : (rest : List ℕ) → is_ended d.stage ≡ true → rest_at p number d plan rest ≡ unless_more number rest plan
+  unfolding rest_at
+  none_left rest ended = rw ended refl
+
   -- a line that is taken
-  pub at_line : (said : PlanLine) (rest line after : List ℕ) (all : Result GapPlan PlanFault) → (d.stage ≡ due.Ended → ⊥) → pieces_of rest ≡ line ∷ pieces_of after → line_at p d (exact_fields line) ≡ Ok said → pieces_at p number d plan (pieces_of rest) ≡ all → pieces_at p (number + 1) (next p d said) (taken plan said) (pieces_of after) ≡ all
-  unfolding pieces_at
-  at_line said rest line after all goes e f so_far = sym (rw (e, unended d.stage goes, some_piece 10 after, f) refl) ∙ so_far
+  line_on : (d' : Due) (plan' : GapPlan) (b : Bool) (rest line after : List ℕ) → is_ended d'.stage ≡ b → (d.stage ≡ due.Ended → ⊥) → pieces_of rest ≡ line ∷ pieces_of after → behind p (standing d plan) (line_at p d (exact_fields line)) ≡ Ok (standing d' plan') →
+      rest_at p (number + 1) d' plan' after ≡ rest_at p number d plan rest
+  unfolding rest_at
+  line_on d' plan' true rest line after ended goes e f =
+      let one : number + 1 - number ≡ suc 0 = omega arith in
+      let cut : after_lines (number + 1 - number) rest ≡ after = ap (λ (n : ℕ). after_lines n rest) one ∙ after_piece 0 rest line after e ∙ sym (after_none after) in
+      let read = machine.at_last (plan_lines p) (standing d plan) (standing d' plan') number line (whole_lines after) (whole_lines rest) (whole_line rest line after e) f ended in
+      rw ended (sym (lines_left rest goes ∙ ap (left_of number rest) read ∙ ap (λ (t : List ℕ). unless_more (number + 1) t plan') cut))
+  line_on d' plan' false rest line after ended goes e f =
+      let read = machine.at_line (plan_lines p) (standing d plan) (standing d' plan') number line (whole_lines after) (whole_lines rest) (whole_line rest line after e) f ended in
+      let more = read_from (plan_lines p) (standing d' plan') (number + 1) (whole_lines after) in
+      rw ended (sym (lines_left rest goes ∙ ap (left_of number rest) read ∙ left_on rest after (whole_lines after) (standing d' plan') more (λ n. after_piece n rest line after e) refl))
+
+  pub at_line : (said : PlanLine) (rest line after : List ℕ) (all : Result GapPlan PlanFault) → (d.stage ≡ due.Ended → ⊥) → pieces_of rest ≡ line ∷ pieces_of after → line_at p d (exact_fields line) ≡ Ok said → rest_at p number d plan rest ≡ all → rest_at p (number + 1) (next p d said) (taken plan said) after ≡ all
+  at_line said rest line after all goes e f so_far = line_on (next p d said) (taken plan said) _ rest line after refl goes e (ap (behind p (standing d plan)) f) ∙ so_far
 
   -- a line with a fault
-  pub at_fault : (kind : PlanKind) (rest line after : List ℕ) (all : Result GapPlan PlanFault) → (d.stage ≡ due.Ended → ⊥) → pieces_of rest ≡ line ∷ pieces_of after → line_at p d (exact_fields line) ≡ Err kind → pieces_at p number d plan (pieces_of rest) ≡ all → all ≡ Err (at_line_number number kind)
-  unfolding pieces_at
-  at_fault kind rest line after all goes e f so_far = sym so_far ∙ rw (e, unended d.stage goes, some_piece 10 after, f) refl
+  pub at_fault : (kind : PlanKind) (rest line after : List ℕ) (all : Result GapPlan PlanFault) → (d.stage ≡ due.Ended → ⊥) → pieces_of rest ≡ line ∷ pieces_of after → line_at p d (exact_fields line) ≡ Err kind → rest_at p number d plan rest ≡ all → all ≡ Err (at_line_number number kind)
+  at_fault kind rest line after all goes e f so_far =
+      let read = machine.at_fault (plan_lines p) (standing d plan) number line (whole_lines after) (whole_lines rest) kind (whole_line rest line after e) (ap (behind p (standing d plan)) f) in
+      sym so_far ∙ lines_left rest goes ∙ ap (left_of number rest) read
 
   -- a line without its line feed
-  pub at_early : (rest : List ℕ) (all : Result GapPlan PlanFault) → (d.stage ≡ due.Ended → ⊥) → pieces_of rest ≡ rest ∷ [] → pieces_at p number d plan (pieces_of rest) ≡ all → all ≡ Err (at_line_number number EarlyEnd)
-  unfolding pieces_at
-  at_early rest all goes e so_far = sym so_far ∙ rw (e, unended d.stage goes) refl
+  pub at_early : (rest : List ℕ) (all : Result GapPlan PlanFault) → (d.stage ≡ due.Ended → ⊥) → pieces_of rest ≡ rest ∷ [] → rest_at p number d plan rest ≡ all → all ≡ Err (at_line_number number EarlyEnd)
+  at_early rest all goes e so_far = sym so_far ∙ lines_left rest goes ∙ ap (left_of number rest) (machine.at_early (plan_lines p) (standing d plan) number (whole_lines rest) (no_whole_line rest e))
 
   -- nothing behind the end
-  pub at_end : (rest : List ℕ) (all : Result GapPlan PlanFault) → d.stage ≡ due.Ended → length rest ≡ 0 → pieces_at p number d plan (pieces_of rest) ≡ all → all ≡ Ok plan
-  unfolding pieces_at
-  at_end [] all ended none so_far = sym so_far ∙ rw (split_nothing 10, ended) refl
+  pub at_end : (rest : List ℕ) (all : Result GapPlan PlanFault) → d.stage ≡ due.Ended → length rest ≡ 0 → rest_at p number d plan rest ≡ all → all ≡ Ok plan
+  at_end [] all ended none so_far = sym so_far ∙ none_left [] (ap is_ended ended)
   at_end (c ∷ cs) all ended none so_far = absurd (omega arith)
 
-  onto_left : (pieces : List (List ℕ)) (c : ℕ) → d.stage ≡ due.Ended → pieces_at p number d plan (onto_first c pieces) ≡ Err (at_line_number number Rest)
-  unfolding pieces_at
-  onto_left [] c ended = rw ended refl
-  onto_left (piece ∷ pieces) c ended = rw (ended, ne_eqb (length (c ∷ piece)) 0 (λ e. omega arith)) refl
-
-  feed_left : (cs : List ℕ) → d.stage ≡ due.Ended → pieces_at p number d plan ([] ∷ pieces_of cs) ≡ Err (at_line_number number Rest)
-  unfolding pieces_at
-  feed_left cs ended = rw (ended, some_piece 10 cs) refl
-
   -- a byte behind the end
-  pub at_rest : (rest : List ℕ) (all : Result GapPlan PlanFault) → d.stage ≡ due.Ended → (length rest ≡ 0 → ⊥) → pieces_at p number d plan (pieces_of rest) ≡ all → all ≡ Err (at_line_number number Rest)
+  pub at_rest : (rest : List ℕ) (all : Result GapPlan PlanFault) → d.stage ≡ due.Ended → (length rest ≡ 0 → ⊥) → rest_at p number d plan rest ≡ all → all ≡ Err (at_line_number number Rest)
   at_rest [] all ended some so_far = absurd (some refl)
-  at_rest (c ∷ cs) all ended some so_far =
-      elim (some_left 10 c cs) [
-        | inl e ↦ sym so_far ∙ ap (pieces_at p number d plan) e ∙ feed_left cs ended
-        | inr e ↦ sym so_far ∙ ap (pieces_at p number d plan) e ∙ onto_left (pieces_of cs) c ended
-      ]
+  at_rest (c ∷ cs) all ended some so_far = sym so_far ∙ none_left (c ∷ cs) (ap is_ended ended)
 
 -- a test that the end was read failed
 pub goes_on : (ended : Bool) (stage : Stage) → (stage ≡ due.Ended → IsTrue ended) → ended ≡ false → stage ≡ due.Ended → ⊥

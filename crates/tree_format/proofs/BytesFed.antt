@@ -29,11 +29,10 @@ use Rattle.text_rows.specs.Fields.{exact_fields}
 use Rattle.text_rows.specs.Lines.{HasNoFeed, lines_text}
 use Rattle.text_rows.proofs.Splits.{split_piece}
 use Rattle.text_rows.proofs.Results.{err_ok}
-use Rattle.tree_format.specs.Faults.{due_behind}
 use Rattle.tree_format.specs.Reading.{line_at, stage_line, at_start, blank_plan, behind_chance, next, taken, is_ended, at_line_number}
 use Rattle.tree_format.specs.Gathering.{Gathered, nothing_gathered, gathered}
 use Rattle.tree_format.specs.FeedSteps.{Stand, Moved, stand_at, moved, step_of, line_ended, line_begun, byte_fed}
-use Rattle.tree_format.specs.Feeding.{told, plan_behind, HasRead, IsDecided, IsKindOf, IsItem, GoesOn}
+use Rattle.tree_format.specs.Feeding.{due_behind, told, plan_behind, HasRead, IsDecided, IsKindOf, IsItem, GoesOn}
 use Rattle.tree_format.proofs.AtLines.{at_fault, at_rest}
 use Rattle.tree_format.proofs.FirstFaults.{unended_stage}
 use Rattle.tree_format.proofs.SpelledLines.{IsLettered, version_told, path_told, chance_told, ceiling_told, count_told, record_told, IsRecordLine, record_printable, IsEndLine}

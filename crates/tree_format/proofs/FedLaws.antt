@@ -22,13 +22,12 @@ use Rattle.text_rows.specs.Lines.{pieces_of, HasNoFeed, lines_text}
 use Rattle.text_rows.specs.Fields.{exact_fields}
 use Rattle.text_rows.proofs.Splits.{split_piece, split_whole, split_nothing}
 use Rattle.text_rows.proofs.Results.{same_ok}
-use Rattle.tree_format.specs.Faults.{AreSaid, due_behind}
-use Rattle.tree_format.specs.Reading.{line_at, at_start, blank_plan, next, taken, is_ended, at_line_number, pieces_at, text_at}
+use Rattle.tree_format.specs.Reading.{line_at, at_start, blank_plan, next, taken, is_ended, at_line_number, text_at}
 use Rattle.text_rows.specs.Kinds.{first_kind, fault_of}
 use Rattle.tree_format.specs.FeedSteps.{Stand, stand_at, byte_fed}
-use Rattle.tree_format.specs.Feeding.{items_of, told, plan_behind, HasRead, Tells, IsDecided, IsWhole, IsCutOff, GoesOn}
+use Rattle.tree_format.specs.Feeding.{AreSaid, due_behind, items_of, told, plan_behind, HasRead, Tells, IsDecided, IsWhole, IsCutOff, GoesOn}
 use Rattle.tree_format.specs.FeedLaws.{CutAnywhere, ItemsOfThePlan, EachFaultIsMet, FaultIsLast, AreInOrder, ItemsInOrder, GatheredIsSummary}
-use Rattle.tree_format.proofs.AtLines.{at_line, at_fault, at_early, at_end}
+use Rattle.tree_format.proofs.AtLines.{rest_at, at_line, at_fault, at_early, at_end}
 use Rattle.tree_format.proofs.FirstFaults.{unended_stage}
 use Rattle.tree_format.proofs.Spelled.{IsReadAt, family_at, ended_stage}
 use Rattle.tree_format.proofs.Tables.{kinds_by_table}
@@ -112,7 +111,7 @@ no_both plan f e = let bad : ⊥ = cc in bad
 
 module _ (p : Problem) (number : ℕ) (d : Due) (plan : GapPlan) (begun : List ℕ) (goes : d.stage ≡ due.Ended → ⊥) (free : HasNoFeed begun) where
   abbrev ends : Result GapPlan PlanFault
-  ends = pieces_at p number d plan (pieces_of (begun ++ 10 ∷ []))
+  ends = rest_at p number d plan (begun ++ 10 ∷ [])
 
   -- with its line feed the line has another fault, or none
   fed_said : (said : PlanLine) → line_at p d (exact_fields begun) ≡ Ok said → ends ≡ Err (at_line_number number EarlyEnd) → ⊥

@@ -13,14 +13,13 @@ use Rattle.tree_format.specs.declared.plan_line.Stage.TheVariants as due
 use Rattle.tree_format.specs.declared.plan_item.PlanItem.{PlanItem}
 use Rattle.tree_format.specs.declared.plan_item.Step.{Step}
 use Rattle.tree_format.specs.declared.plan_item.Step.TheVariants.{More}
-use Rattle.text_rows.specs.Lines.{pieces_of, HasNoFeed}
+use Rattle.text_rows.specs.Lines.{HasNoFeed, lines_text}
 use Rattle.text_rows.proofs.Splits.{split_whole}
-use Rattle.tree_format.specs.Faults.{due_behind}
-use Rattle.tree_format.specs.Reading.{at_start, blank_plan, at_line_number, pieces_at, text_at}
+use Rattle.tree_format.specs.Reading.{at_start, blank_plan, at_line_number, text_at}
 use Rattle.tree_format.specs.Gathering.{Gathered, nothing_gathered}
 use Rattle.tree_format.specs.FeedSteps.{Stand}
-use Rattle.tree_format.specs.Feeding.{told, plan_behind, HasRead, IfRead, Tells, IsWhole, IsCutOff, GoesOn}
-use Rattle.tree_format.proofs.AtLines.{at_early, at_end}
+use Rattle.tree_format.specs.Feeding.{due_behind, told, plan_behind, HasRead, IfRead, Tells, IsWhole, IsCutOff, GoesOn}
+use Rattle.tree_format.proofs.AtLines.{rest_at, text_rest, at_early, at_end}
 use Rattle.tree_format.proofs.Gatherings.{gathered_nothing}
 use Rattle.tree_format.proofs.Feedings.{reads_on}
 
@@ -79,8 +78,8 @@ module _ (family : Family) (p : Problem) (fed : List ℕ) (items : List PlanItem
   abbrev number : ℕ
   number = 1 + length read.before
 
-  line_left : pieces_at p number d plan (pieces_of read.begun) ≡ text_at family p fed
-  line_left = sym (ap (text_at family p) read.whole ∙ reads_on p read.before read.said (at_start family) blank_plan 1 read.begun read.feeds read.right)
+  line_left : rest_at p number d plan read.begun ≡ text_at family p fed
+  line_left = sym (ap (text_at family p) read.whole ∙ text_rest family p (lines_text read.before ++ read.begun) ∙ reads_on p read.before read.said (at_start family) blank_plan 1 read.begun read.feeds read.right)
 
   is_due : feed.due ≡ d
   is_due = ap (λ (s : Stand). s.due) read.stand

@@ -11,11 +11,10 @@ use Rattle.tree_format.specs.declared.plan_item.PlanItem.{PlanItem}
 use Rattle.text_rows.specs.Lines.{pieces_of, HasNoFeed, lines_text}
 use Rattle.text_rows.specs.Fields.{exact_fields}
 use Rattle.text_rows.proofs.Splits.{split_piece}
-use Rattle.tree_format.specs.Faults.{AreSaid, due_behind}
-use Rattle.tree_format.specs.Reading.{line_at, at_start, blank_plan, next, taken, pieces_at, text_at}
+use Rattle.tree_format.specs.Reading.{line_at, at_start, blank_plan, next, taken, text_at}
 use Rattle.tree_format.specs.FeedSteps.{Stand}
-use Rattle.tree_format.specs.Feeding.{plan_behind, HasRead}
-use Rattle.tree_format.proofs.AtLines.{at_line}
+use Rattle.tree_format.specs.Feeding.{AreSaid, due_behind, plan_behind, HasRead}
+use Rattle.tree_format.proofs.AtLines.{rest_at, text_rest, at_line}
 use Rattle.tree_format.proofs.FirstFaults.{due_still}
 use Rattle.tree_format.proofs.Spelled.{IsRead, family_due, line_on}
 
@@ -58,8 +57,8 @@ family_behind p h d plan (line ∷ before) (first ∷ said) right read =
     family_behind p h (next p d first) (taken plan first) before said right.1 on.read ∙ on.family
 
 -- reading goes on behind right lines
-pub reads_on : (p : Problem) (before : List (List ℕ)) (said : List PlanLine) (d : Due) (plan : GapPlan) (number : ℕ) (rest : List ℕ) → All HasNoFeed before → AreSaid p d before said → pieces_at p number d plan (pieces_of (lines_text before ++ rest)) ≡ pieces_at p (number + length before) (due_behind p d said) (plan_behind plan said) (pieces_of rest)
-reads_on p [] [] d plan number rest feeds right = let same : number ≡ number + 0 = omega arith in ap (λ (n : ℕ). pieces_at p n d plan (pieces_of rest)) same
+pub reads_on : (p : Problem) (before : List (List ℕ)) (said : List PlanLine) (d : Due) (plan : GapPlan) (number : ℕ) (rest : List ℕ) → All HasNoFeed before → AreSaid p d before said → rest_at p number d plan (lines_text before ++ rest) ≡ rest_at p (number + length before) (due_behind p d said) (plan_behind plan said) rest
+reads_on p [] [] d plan number rest feeds right = let same : number ≡ number + 0 = omega arith in ap (λ (n : ℕ). rest_at p n d plan rest) same
 reads_on p [] (first ∷ said) d plan number rest feeds right = absurd right
 reads_on p (line ∷ before) [] d plan number rest feeds right = absurd right
 reads_on p (line ∷ before) (first ∷ said) d plan number rest feeds right =
@@ -71,10 +70,10 @@ reads_on p (line ∷ before) (first ∷ said) d plan number rest feeds right =
     let later : number + 1 + length before ≡ number + suc (length before) = omega arith in
     sym (at_line p number d plan first text line left _ goes cut right.0 refl)
     ∙ reads_on p before said (next p d first) (taken plan first) (number + 1) rest (All-tail HasNoFeed line before feeds) right.1
-    ∙ ap (λ (n : ℕ). pieces_at p n (due_behind p (next p d first) said) (plan_behind (taken plan first) said) (pieces_of rest)) later
+    ∙ ap (λ (n : ℕ). rest_at p n (due_behind p (next p d first) said) (plan_behind (taken plan first) said) rest) later
 
 -- where a byte and more follows what a feed was fed
-pub text_behind : (family : Family) (p : Problem) (fed : List ℕ) (items : List PlanItem) (feed : Stand) (read : HasRead family p fed items feed) (c : ℕ) (more : List ℕ) → pieces_at p (1 + length read.before) (due_behind p (at_start family) read.said) (plan_behind blank_plan read.said) (pieces_of (read.begun ++ c ∷ more)) ≡ text_at family p ((fed ++ c ∷ []) ++ more)
+pub text_behind : (family : Family) (p : Problem) (fed : List ℕ) (items : List PlanItem) (feed : Stand) (read : HasRead family p fed items feed) (c : ℕ) (more : List ℕ) → rest_at p (1 + length read.before) (due_behind p (at_start family) read.said) (plan_behind blank_plan read.said) (read.begun ++ c ∷ more) ≡ text_at family p ((fed ++ c ∷ []) ++ more)
 text_behind family p fed items feed read c more =
     let text : (fed ++ c ∷ []) ++ more ≡ lines_text read.before ++ (read.begun ++ c ∷ more) = ap (λ (t : List ℕ). (t ++ c ∷ []) ++ more) read.whole ∙ simp append_assoc in
-    sym (ap (text_at family p) text ∙ reads_on p read.before read.said (at_start family) blank_plan 1 (read.begun ++ c ∷ more) read.feeds read.right)
+    sym (ap (text_at family p) text ∙ text_rest family p (lines_text read.before ++ (read.begun ++ c ∷ more)) ∙ reads_on p read.before read.said (at_start family) blank_plan 1 (read.begun ++ c ∷ more) read.feeds read.right)

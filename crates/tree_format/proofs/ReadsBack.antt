@@ -8,7 +8,6 @@ use Rattle.std.proofs.lemmas.Bool.{le-leb, ne_eqb}
 use Rattle.std.proofs.lemmas.List.{append-nil, length-map}
 use Rattle.std.proofs.lemmas.List.Elements.{All-nil, All-cons, All-get_or, All-head, All-tail, All-append, All-map, All-weaker}
 use Rattle.text_rows.specs.Rows.{text_of}
-use Rattle.text_rows.specs.Lines.{pieces_of}
 use Rattle.text_rows.specs.Fields.{is_word}
 use Rattle.text_rows.proofs.RowTexts.{IsField, AreFields, IsRow, exact_fields-row, pieces_of-row, row_fields, none_empty, word, field_by, IsField-decimal, AreFields-map, AreFields-append}
 use Rattle.search_model.specs.Problem.{Problem, IsProblem, position_name}
@@ -40,9 +39,9 @@ use Rattle.tree_format.specs.declared.plan_line.Stage.TheVariants as due
 use Rattle.tree_format.specs.declared.plan_line.PlanLine.{PlanLine}
 use Rattle.tree_format.specs.declared.plan_line.PlanLine.TheVariants.{Version, Path, Chance, Ceiling, Count, Node, End}
 use Rattle.tree_format.specs.ReadingLaws.{PlanTextReadsBack, PlanText2ReadsBack, GapTextReadsBack, OnePlanAText, OneGapAText}
-use Rattle.tree_format.specs.Reading.{is_end, ending, all_of, place_in, position_named, most_positions, node_line, placed, stage_line, line_at, at_start, blank_plan, places_behind, next, taken, pieces_at, text_at, as_plan, plan_at, gap_at}
+use Rattle.tree_format.specs.Reading.{is_end, ending, all_of, place_in, position_named, most_positions, node_line, placed, stage_line, line_at, at_start, blank_plan, places_behind, next, taken, text_at, as_plan, plan_at, gap_at}
 use Rattle.tree_format.proofs.Said.{amount_in-decimal, place_in-decimal, position_named-name, all_of-map}
-use Rattle.tree_format.proofs.AtLines.{at_line, at_end}
+use Rattle.tree_format.proofs.AtLines.{rest_at, text_rest, at_line, at_end}
 use Rattle.tree_format.proofs.SpelledLines.{IsLettered, HasPlace}
 use Rattle.tree_format.proofs.Spelled.{IsPathOf, IsCeiling, IsChanceOf, IsHeadOf, empty_legal}
 use Rattle.tree_format.proofs.LineNumbers.{few_records}
@@ -56,7 +55,7 @@ pub record Takes (p : Problem) (d : Due) (row : List (List ℕ)) (said : PlanLin
 
 -- from here on the text of the rows is read to its end as this plan, whatever the number of its first line
 abbrev pub Reads : Problem → Due → GapPlan → List (List (List ℕ)) → GapPlan → Type 0
-Reads p d plan rows whole = (number : ℕ) → pieces_at p number d plan (pieces_of (text_of rows)) ≡ Ok whole
+Reads p d plan rows whole = (number : ℕ) → rest_at p number d plan (text_of rows) ≡ Ok whole
 
 line_at-row : (p : Problem) (d : Due) (said : PlanLine) (row : List (List ℕ)) → Takes p d row said → line_at p d row ≡ Ok said
 unfolding line_at
@@ -282,7 +281,7 @@ text_reads_back p v plan h k =
     let count = Reads-row p (at_stage v empty due.Count) (with_nodes plan []) plan (Count (length plan.nodes)) _ record_rows (Takes-count p v empty (length plan.nodes) k.few) records in
     let chance = Reads-chance p v plan plan record_rows k.head count in
     let path = Reads-row p (at_stage v empty due.Path) blank_plan plan (Path plan.standing.path) _ chance_rows (Takes-path p h v empty plan.standing.path k.head.chance.path) chance in
-    Reads-row p (at_start (family_of v)) blank_plan plan (Version v) _ path_rows (Takes-version p v) path 1
+    text_rest (family_of v) p (text_in v p plan) ∙ Reads-row p (at_start (family_of v)) blank_plan plan (Version v) _ path_rows (Takes-version p v) path 1
 
 -- A plan is the plan of its gap plan.
 

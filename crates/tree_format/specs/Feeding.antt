@@ -10,6 +10,7 @@ use Rattle.tree_format.specs.declared.kind.PlanKind.TheVariants.{EarlyEnd}
 use Rattle.tree_format.specs.declared.kind.PlanFault.{PlanFault}
 use Rattle.tree_format.specs.declared.plan_line.Family.{Family}
 use Rattle.tree_format.specs.declared.plan_line.Family.TheVariants.{Plans, Gaps}
+use Rattle.tree_format.specs.declared.due.Due.{Due}
 use Rattle.tree_format.specs.declared.plan_line.Stage.{Stage}
 use Rattle.tree_format.specs.declared.plan_line.Stage.TheVariants as due
 use Rattle.tree_format.specs.declared.plan_line.PlanLine.{PlanLine}
@@ -18,9 +19,9 @@ use Rattle.tree_format.specs.declared.plan_item.PlanItem.TheVariants.{Head, Node
 use Rattle.tree_format.specs.declared.plan_item.Step.{Step}
 use Rattle.tree_format.specs.declared.plan_item.Step.TheVariants.{More, Item, Fault}
 use Rattle.tree_format.specs.PlanText.{ArePositions, IsPrintableRecord}
-use Rattle.tree_format.specs.Faults.{AreSaid, due_behind}
+use Rattle.text_rows.specs.Fields.{exact_fields}
 use Rattle.text_rows.specs.Lines.{HasNoFeed, lines_text}
-use Rattle.tree_format.specs.Reading.{at_start, blank_plan, taken, text_at}
+use Rattle.tree_format.specs.Reading.{line_at, at_start, blank_plan, next, taken, text_at}
 use Rattle.tree_format.specs.FeedSteps.{Stand, stand_at}
 use Rattle.tree_format.specs.Dialects.{most_records}
 
@@ -37,6 +38,18 @@ told due.Ceiling plan = []
 told due.Count plan = []
 told (due.Records left) plan = Head plan.standing plan.weight plan.ceiling (length plan.nodes + left) ∷ map (λ r. Node r) plan.nodes
 told due.Ended plan = items_of plan
+
+-- each line says this where it is due
+abbrev pub AreSaid : Problem → Due → List (List ℕ) → List PlanLine → Type 0
+AreSaid p d [] [] = Unit {0}
+AreSaid p d [] (said ∷ more) = ⊥
+AreSaid p d (line ∷ lines) [] = ⊥
+AreSaid p d (line ∷ lines) (said ∷ more) = (line_at p d (exact_fields line) ≡ Ok said) × AreSaid p (next p d said) lines more
+
+-- what is due behind lines that say this
+abbrev pub due_behind : Problem → Due → List PlanLine → Due
+due_behind p d [] = d
+due_behind p d (said ∷ more) = due_behind p (next p d said) more
 
 -- what lines have said of a plan
 abbrev pub plan_behind : GapPlan → List PlanLine → GapPlan
