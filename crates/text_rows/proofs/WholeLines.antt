@@ -9,34 +9,20 @@ use Rattle.text_rows.specs.WholeLines.{whole_lines}
 use Rattle.text_rows.proofs.Splits.{split_piece, split_whole, some_piece, split_joined, split_free}
 use Rattle.text_rows.proofs.LineCuts.{after_none, after_lines-line}
 
--- a line and what follows its line feed
-feed_join : (line : List ℕ) (rest : List (List ℕ)) → (length rest == 0) ≡ false → join_with_byte 10 (line ∷ rest) ≡ line ++ 10 ∷ join_with_byte 10 rest
-feed_join line [] e = absurd (let bad : ⊥ = cc in bad)
-feed_join line (piece ∷ pieces) e = refl
-
-piece_cut : (text line after : List ℕ) → pieces_of text ≡ line ∷ pieces_of after → (text ≡ line ++ 10 ∷ after) × HasNoFeed line
-piece_cut text line after e = (
-  sym (split_joined 10 text) ∙ ap (join_with_byte 10) e ∙ feed_join line (pieces_of after) (some_piece 10 after) ∙ ap (λ (t : List ℕ). line ++ 10 ∷ t) (split_joined 10 after),
-  All-head HasNoFeed line (pieces_of after) (subst (All HasNoFeed) e (split_free 10 text)),
-)
-
--- the first piece of more is such a line
-pub whole_line : (text line after : List ℕ) → pieces_of text ≡ line ∷ pieces_of after → whole_lines text ≡ line ∷ whole_lines after
+-- a line in front of others
+pub whole_line : (text line after : List ℕ) → text ≡ line ++ 10 ∷ after → HasNoFeed line → whole_lines text ≡ line ∷ whole_lines after
 unfolding whole_lines
-whole_line text line after e =
+whole_line text line after is free =
+    let cut : pieces_of text ≡ line ∷ pieces_of after = ap pieces_of is ∙ split_piece 10 line after free in
     let some : 1 ≤ length (pieces_of after) = let none = eqb-false (length (pieces_of after)) 0 (some_piece 10 after) in omega (arith, none) in
-    let long = ap length e in
+    let long = ap length cut in
     let count : length (pieces_of text) - 1 ≡ suc (length (pieces_of after) - 1) = omega (arith, long, some) in
-    ap (λ (n : ℕ). take n (pieces_of text)) count ∙ ap (take (suc (length (pieces_of after) - 1))) e
+    ap (λ (n : ℕ). take n (pieces_of text)) count ∙ ap (take (suc (length (pieces_of after) - 1))) cut
 
--- the only piece is none
-pub no_whole_line : (text : List ℕ) → pieces_of text ≡ text ∷ [] → whole_lines text ≡ []
+-- without a line feed there is none
+pub no_whole_line : (text : List ℕ) → HasNoFeed text → whole_lines text ≡ []
 unfolding whole_lines
-no_whole_line text e = ap (λ (ps : List (List ℕ)). take (length ps - 1) ps) e
-
--- what follows it
-pub after_piece : (n : ℕ) (text line after : List ℕ) → pieces_of text ≡ line ∷ pieces_of after → after_lines (suc n) text ≡ after_lines n after
-after_piece n text line after e = let cut = piece_cut text line after e in ap (after_lines (suc n)) cut.0 ∙ after_lines-line n line after cut.1
+no_whole_line text free = ap (λ (ps : List (List ℕ)). take (length ps - 1) ps) (split_whole 10 text free)
 
 -- a text that has a line feed
 record HasFeed (text : List ℕ) : Type 0 where
@@ -59,9 +45,9 @@ feed_or_none (c ∷ cs) = elim (cases_eq c 10) [
 pub lines_first : (before more : List (List ℕ)) (text : List ℕ) → whole_lines text ≡ before ++ more → text ≡ lines_text before ++ after_lines (length before) text
 lines_first [] more text e = after_none text
 lines_first (line ∷ before) more text e = elim (feed_or_none text) [
-  | inl free ↦ absurd (let none : [] ≡ line ∷ (before ++ more) = sym (no_whole_line text (split_whole 10 text free)) ∙ e in let bad : ⊥ = cc in bad)
+  | inl free ↦ absurd (let none : [] ≡ line ∷ (before ++ more) = sym (no_whole_line text free) ∙ e in let bad : ⊥ = cc in bad)
   | inr cut ↦
-      let both : cut.line ∷ whole_lines cut.rest ≡ line ∷ (before ++ more) = sym (whole_line text cut.line cut.rest (ap pieces_of cut.whole ∙ split_piece 10 cut.line cut.rest cut.free)) ∙ e in
+      let both : cut.line ∷ whole_lines cut.rest ≡ line ∷ (before ++ more) = sym (whole_line text cut.line cut.rest cut.whole cut.free) ∙ e in
       let first : cut.line ≡ line = cc in
       let later : whole_lines cut.rest ≡ before ++ more = cc in
       let behind : after_lines (suc (length before)) text ≡ after_lines (length before) cut.rest = ap (after_lines (suc (length before))) cut.whole ∙ after_lines-line (length before) cut.line cut.rest cut.free in

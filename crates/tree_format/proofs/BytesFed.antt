@@ -27,16 +27,14 @@ use Rattle.tree_format.specs.declared.plan_item.Step.{Step}
 use Rattle.tree_format.specs.declared.plan_item.Step.TheVariants.{More, Item, Fault}
 use Rattle.text_rows.specs.Fields.{exact_fields}
 use Rattle.text_rows.specs.Lines.{HasNoFeed, lines_text}
-use Rattle.text_rows.proofs.Splits.{split_piece}
 use Rattle.text_rows.proofs.Results.{err_ok}
 use Rattle.tree_format.specs.Reading.{line_at, stage_line, at_start, blank_plan, behind_chance, next, taken, is_ended, at_line_number}
 use Rattle.tree_format.specs.Gathering.{Gathered, nothing_gathered, gathered}
 use Rattle.tree_format.specs.FeedSteps.{Stand, Moved, stand_at, moved, step_of, line_ended, line_begun, byte_fed}
 use Rattle.tree_format.specs.Feeding.{due_behind, told, plan_behind, HasRead, IsDecided, IsKindOf, IsItem, GoesOn}
-use Rattle.tree_format.proofs.AtLines.{at_fault, at_rest}
-use Rattle.tree_format.proofs.FirstFaults.{unended_stage}
+use Rattle.tree_format.proofs.AtLines.{ended_stage, unended_stage, at_fault, at_rest}
 use Rattle.tree_format.proofs.SpelledLines.{IsLettered, version_told, path_told, chance_told, ceiling_told, count_told, record_told, IsRecordLine, record_printable, IsEndLine}
-use Rattle.tree_format.proofs.Spelled.{IsReadAt, IsRead, family_due, expected_legal, ended_stage}
+use Rattle.tree_format.proofs.Spelled.{IsReadAt, IsRead, family_due, expected_legal}
 use Rattle.tree_format.proofs.Gatherings.{gathered_more, gathered_judged}
 use Rattle.tree_format.proofs.Feedings.{lines_more, due_more, plan_more, said_more, read_behind, text_behind, family_behind}
 
@@ -177,7 +175,7 @@ module _ (family : Family) (p : Problem) (h : IsProblem p) (fed : List ℕ) (ite
 
   line_end : (r : Result PlanLine PlanKind) → (d.stage ≡ due.Ended → ⊥) → line_at p d (exact_fields read.begun) ≡ r → GoesOn family p (fed ++ 10 ∷ []) items (line_ended p here r).step (line_ended p here r).stand
   line_end (Err kind) goes e = λ more.
-      at_fault p number d plan kind (read.begun ++ 10 ∷ more) read.begun more _ goes (split_piece 10 read.begun more read.open_line) e (text_behind family p fed items s read 10 more)
+      at_fault p number d plan kind (read.begun ++ 10 ∷ more) read.begun more _ goes refl read.open_line e (text_behind family p fed items s read 10 more)
   line_end (Ok said) goes e =
       let settled = read_behind p h (at_start family) blank_plan read.before read.said read.right (refl, refl) in
       let here_is : family_due d ≡ family = family_behind p h (at_start family) blank_plan read.before read.said read.right (refl, refl) in

@@ -2,7 +2,7 @@
 use Rattle.std.proofs.Common.{◌≡◌, ℕ, suc, ◌≤◌, ◌+◌, Bool, true, false, List, [], ◌∷◌, ◌++◌, length, take, drop, Some, Result, Ok, Err, refl, sym, ap, subst, ◌∙◌, arith, append_assoc, length-append, ◌⊎◌, inl, inr}
 use Rattle.std.specs.Prelude.{All}
 use Rattle.std.proofs.lemmas.List.{append-nil, take-append-drop}
-use Rattle.std.proofs.lemmas.List.Elements.{All-head, All-tail}
+use Rattle.std.proofs.lemmas.List.Elements.{All-nil, All-head, All-tail}
 use Rattle.search_model.specs.Problem.{Problem, IsProblem}
 use Rattle.bound_tree.specs.declared.gap.GapPlan.{GapPlan}
 use Rattle.tree_format.specs.declared.plan_line.Family.{Family}
@@ -20,16 +20,15 @@ use Rattle.tree_format.specs.declared.plan_item.Step.{Step}
 use Rattle.tree_format.specs.declared.plan_item.Step.TheVariants.{More, Item, Fault}
 use Rattle.text_rows.specs.Lines.{pieces_of, HasNoFeed, lines_text}
 use Rattle.text_rows.specs.Fields.{exact_fields}
-use Rattle.text_rows.proofs.Splits.{split_piece, split_whole, split_nothing}
+use Rattle.text_rows.proofs.Splits.{split_piece, split_whole}
 use Rattle.text_rows.proofs.Results.{same_ok}
 use Rattle.tree_format.specs.Reading.{line_at, at_start, blank_plan, next, taken, is_ended, at_line_number, text_at}
 use Rattle.text_rows.specs.Kinds.{first_kind, fault_of}
 use Rattle.tree_format.specs.FeedSteps.{Stand, stand_at, byte_fed}
 use Rattle.tree_format.specs.Feeding.{AreSaid, due_behind, items_of, told, plan_behind, HasRead, Tells, IsDecided, IsWhole, IsCutOff, GoesOn}
 use Rattle.tree_format.specs.FeedLaws.{CutAnywhere, ItemsOfThePlan, EachFaultIsMet, FaultIsLast, AreInOrder, ItemsInOrder, GatheredIsSummary}
-use Rattle.tree_format.proofs.AtLines.{rest_at, at_line, at_fault, at_early, at_end}
-use Rattle.tree_format.proofs.FirstFaults.{unended_stage}
-use Rattle.tree_format.proofs.Spelled.{IsReadAt, family_at, ended_stage}
+use Rattle.tree_format.proofs.AtLines.{ended_stage, unended_stage, rest_at, at_line, at_fault, at_early, at_end}
+use Rattle.tree_format.proofs.Spelled.{IsReadAt, family_at}
 use Rattle.tree_format.proofs.Tables.{kinds_by_table}
 use Rattle.tree_format.proofs.Gatherings.{gathered_summary}
 use Rattle.tree_format.proofs.Feedings.{read_behind, family_behind, text_behind}
@@ -116,18 +115,18 @@ module _ (p : Problem) (number : ℕ) (d : Due) (plan : GapPlan) (begun : List �
   -- with its line feed the line has another fault, or none
   fed_said : (said : PlanLine) → line_at p d (exact_fields begun) ≡ Ok said → ends ≡ Err (at_line_number number EarlyEnd) → ⊥
   fed_said said e early =
-      let later = at_line p number d plan said (begun ++ 10 ∷ []) begun [] ends goes (split_piece 10 begun [] free) e refl in
+      let later = at_line p number d plan said (begun ++ 10 ∷ []) begun [] ends goes refl free e refl in
       by_test (is_ended (next p d said).stage)
       (λ ended. no_both _ _ (sym early ∙ at_end p (number + 1) (next p d said) (taken plan said) [] ends (ended_stage _ ended) refl later))
       (λ unended.
-      let again = same_fault _ _ (sym early ∙ at_early p (number + 1) (next p d said) (taken plan said) [] ends (unended_stage _ unended) (split_nothing 10) later) in
+      let again = same_fault _ _ (sym early ∙ at_early p (number + 1) (next p d said) (taken plan said) [] ends (unended_stage _ unended) (All-nil (λ (b : ℕ). b ≡ 10 → ⊥)) later) in
       let same = ap (λ (f : PlanFault). f.line) again in
       omega (arith, same))
 
   line_fed : (r : Result PlanLine PlanKind) → line_at p d (exact_fields begun) ≡ r → ends ≡ Err (at_line_number number EarlyEnd) → ⊥
   line_fed (Ok said) e early = fed_said said e early
   line_fed (Err kind) e early =
-      let wrong = at_fault p number d plan kind (begun ++ 10 ∷ []) begun [] ends goes (split_piece 10 begun [] free) e refl in
+      let wrong = at_fault p number d plan kind (begun ++ 10 ∷ []) begun [] ends goes refl free e refl in
       let same = ap (λ (f : PlanFault). f.kind) (same_fault _ _ (sym wrong ∙ early)) in
       never_early p d (exact_fields begun) (e ∙ ap Err same)
 

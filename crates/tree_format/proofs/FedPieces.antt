@@ -14,7 +14,6 @@ use Rattle.tree_format.specs.declared.plan_item.PlanItem.{PlanItem}
 use Rattle.tree_format.specs.declared.plan_item.Step.{Step}
 use Rattle.tree_format.specs.declared.plan_item.Step.TheVariants.{More}
 use Rattle.text_rows.specs.Lines.{HasNoFeed, lines_text}
-use Rattle.text_rows.proofs.Splits.{split_whole}
 use Rattle.tree_format.specs.Reading.{at_start, blank_plan, at_line_number, text_at}
 use Rattle.tree_format.specs.Gathering.{Gathered, nothing_gathered}
 use Rattle.tree_format.specs.FeedSteps.{Stand}
@@ -97,7 +96,7 @@ module _ (family : Family) (p : Problem) (fed : List ℕ) (items : List PlanItem
   -- before it a line feed is missing
   pub read_early : (feed.due.stage ≡ due.Ended → ⊥) → IsCutOff family p fed (at_line_number feed.number EarlyEnd)
   read_early goes =
-      let early = at_early p number d plan read.begun _ (λ ended. goes (ap (λ (x : Due). x.stage) is_due ∙ ended)) (split_whole 10 read.begun read.open_line) line_left in
+      let early = at_early p number d plan read.begun _ (λ ended. goes (ap (λ (x : Due). x.stage) is_due ∙ ended)) read.open_line line_left in
       record {
         first = early ∙ ap (λ (s : Stand). Err (at_line_number s.number EarlyEnd)) (sym read.stand);
         early = refl;

@@ -8,9 +8,8 @@ use Rattle.tree_format.specs.declared.plan_line.Family.{Family}
 use Rattle.tree_format.specs.declared.due.Due.{Due}
 use Rattle.tree_format.specs.declared.plan_line.PlanLine.{PlanLine}
 use Rattle.tree_format.specs.declared.plan_item.PlanItem.{PlanItem}
-use Rattle.text_rows.specs.Lines.{pieces_of, HasNoFeed, lines_text}
+use Rattle.text_rows.specs.Lines.{HasNoFeed, lines_text}
 use Rattle.text_rows.specs.Fields.{exact_fields}
-use Rattle.text_rows.proofs.Splits.{split_piece}
 use Rattle.tree_format.specs.Reading.{line_at, at_start, blank_plan, next, taken, text_at}
 use Rattle.tree_format.specs.FeedSteps.{Stand}
 use Rattle.tree_format.specs.Feeding.{AreSaid, due_behind, plan_behind, HasRead}
@@ -65,10 +64,9 @@ reads_on p (line ∷ before) (first ∷ said) d plan number rest feeds right =
     let left = lines_text before ++ rest in
     let text = lines_text (line ∷ before) ++ rest in
     let begins : text ≡ line ++ 10 ∷ left = simp append_assoc in
-    let cut : pieces_of text ≡ line ∷ pieces_of left = ap pieces_of begins ∙ split_piece 10 line left (All-head HasNoFeed line before feeds) in
     let goes = due_still p d (exact_fields line) first right.0 in
     let later : number + 1 + length before ≡ number + suc (length before) = omega arith in
-    sym (at_line p number d plan first text line left _ goes cut right.0 refl)
+    sym (at_line p number d plan first text line left _ goes begins (All-head HasNoFeed line before feeds) right.0 refl)
     ∙ reads_on p before said (next p d first) (taken plan first) (number + 1) rest (All-tail HasNoFeed line before feeds) right.1
     ∙ ap (λ (n : ℕ). rest_at p n (due_behind p (next p d first) said) (plan_behind (taken plan first) said) rest) later
 

@@ -1,5 +1,5 @@
 -- The fault that reading gives is the first one.
-use Rattle.std.proofs.Common.{◌≡◌, ℕ, ◌+◌, true, false, List, [], ◌∷◌, Result, Ok, Err, refl, sym, ap, subst, ◌∙◌, inl, inr}
+use Rattle.std.proofs.Common.{◌≡◌, ℕ, ◌+◌, List, [], ◌∷◌, Result, Ok, Err, refl, sym, ap, subst, ◌∙◌, inl, inr}
 use Rattle.std.proofs.lemmas.Bool.{cond_both}
 use Rattle.search_model.specs.Problem.{Problem}
 use Rattle.bound_tree.specs.declared.gap.GapPlan.{GapPlan}
@@ -16,7 +16,7 @@ use Rattle.text_rows.specs.LineMachine.{Reached}
 use Rattle.text_rows.specs.WholeLines.{whole_lines}
 use Rattle.text_rows.proofs.LineMachine as machine
 use Rattle.text_rows.proofs.Results.{err_ok}
-use Rattle.tree_format.specs.Reading.{line_at, with_stage, is_ended, at_line_number, Progress, unread, plan_lines, front_of, unless_more, alone}
+use Rattle.tree_format.specs.Reading.{line_at, with_stage, at_line_number, Progress, unread, plan_lines, front_of, unless_more, alone}
 use Rattle.tree_format.specs.Faults.{IsRest, IsFirstFault}
 use Rattle.tree_format.specs.ReadingLaws.{FirstFaultDecides}
 
@@ -26,9 +26,6 @@ unfolding line_at
 due_still p d fields said e ended =
     let at_end : line_at p (with_stage due.Ended d) fields ≡ Ok said = subst (λ (s : Stage). line_at p (with_stage s d) fields ≡ Ok said) ended e in
     cond_both _ (Err BadLine) (Err BadLine) (λ (x : Result PlanLine PlanKind). x ≡ Ok said → ⊥) (λ _ e'. err_ok BadLine said e') (λ _ e'. err_ok BadLine said e') at_end
-
-pub unended_stage : (stage : Stage) → is_ended stage ≡ false → stage ≡ due.Ended → ⊥
-unended_stage stage unended ended = let bad : true ≡ false = subst (λ (s : Stage). is_ended s ≡ false) ended unended in cc
 
 -- the fault of what follows the line `end`
 more_told : (number : ℕ) (rest : List ℕ) (plan : GapPlan) (fault : PlanFault) → unless_more number rest plan ≡ Err fault → (rest ≡ [] → ⊥) × (at_line_number number Rest ≡ fault)

@@ -9,7 +9,7 @@ use Rattle.std.proofs.lemmas.List.{append-nil, length-map}
 use Rattle.std.proofs.lemmas.List.Elements.{All-nil, All-cons, All-get_or, All-head, All-tail, All-append, All-map, All-weaker}
 use Rattle.text_rows.specs.Rows.{text_of}
 use Rattle.text_rows.specs.Fields.{is_word}
-use Rattle.text_rows.proofs.RowTexts.{IsField, AreFields, IsRow, exact_fields-row, pieces_of-row, row_fields, none_empty, word, field_by, IsField-decimal, AreFields-map, AreFields-append}
+use Rattle.text_rows.proofs.RowTexts.{IsField, AreFields, IsRow, exact_fields-row, row_free, row_fields, none_empty, word, field_by, IsField-decimal, AreFields-map, AreFields-append}
 use Rattle.search_model.specs.Problem.{Problem, IsProblem, position_name}
 use Rattle.bound_tree.specs.declared.node.Kind.TheVariants.{Branch, Whole, Mean, Tangent, Edge}
 use Rattle.bound_tree.specs.declared.node.TreeNode.{TreeNode}
@@ -66,7 +66,7 @@ Reads-row : (p : Problem) (d : Due) (plan whole : GapPlan) (said : PlanLine) (ro
 Reads-row p d plan whole said row rows h rest = λ number.
     let line = join_with_byte 32 row in
     let read = ap (line_at p d) (exact_fields-row row h.fields) ∙ line_at-row p d said row h in
-    sym (at_line p number d plan said (line ++ 10 ∷ text_of rows) line (text_of rows) _ h.goes (pieces_of-row row (text_of rows) (row_fields row h.fields)) read refl) ∙ rest (number + 1)
+    sym (at_line p number d plan said (line ++ 10 ∷ text_of rows) line (text_of rows) _ h.goes refl (row_free row (row_fields row h.fields)) read refl) ∙ rest (number + 1)
 
 abbrev at_stage : Dialect → List (List ℕ) → Stage → Due
 at_stage v expected stage = record { dialect = v; stage = stage; expected = expected }

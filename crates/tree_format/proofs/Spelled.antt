@@ -1,5 +1,5 @@
 -- What is read as a plan is the text of that plan.
-use Rattle.std.proofs.Common.{◌≡◌, ℕ, ◌<◌, ◌≤◌, ◌+◌, ◌-◌, ◌^◌, true, List, [], ◌∷◌, ◌++◌, map, length, Result, Ok, Err, refl, sym, ap, subst, ◌∙◌, arith, append_assoc, length-append, inl, inr}
+use Rattle.std.proofs.Common.{◌≡◌, ℕ, ◌<◌, ◌≤◌, ◌+◌, ◌-◌, ◌^◌, List, [], ◌∷◌, ◌++◌, map, length, Result, Ok, Err, refl, sym, ap, subst, ◌∙◌, arith, append_assoc, length-append, inl, inr}
 use Rattle.std.specs.Prelude.{All, codes}
 use Rattle.std.proofs.lemmas.Grind.{flat_map-append}
 use Rattle.std.proofs.lemmas.Bool.{cond_both}
@@ -43,8 +43,9 @@ use Rattle.tree_format.specs.declared.plan_line.Stage.TheVariants as due
 use Rattle.tree_format.specs.declared.plan_line.PlanLine.{PlanLine}
 use Rattle.tree_format.specs.declared.plan_line.PlanLine.TheVariants.{Chance}
 use Rattle.tree_format.specs.PlanText.{node_row, path_rows, chance_row, ceiling_rows, head_rows, plan_rows, text_in, ArePositions, IsPrintableKind, IsPrintableRecord, IsPrintable, IsNarrowKind, IsNarrow, IsNoEdge, IsTextOfPlan, IsNarrowNode, IsGapText}
-use Rattle.tree_format.specs.Reading.{line_at, stage_line, places_behind, behind_chance, next, taken, is_ended, at_line_number, Progress, unread, behind, plan_lines, front_of, unless_more, alone, text_at, as_plan}
+use Rattle.tree_format.specs.Reading.{line_at, stage_line, places_behind, behind_chance, next, taken, at_line_number, Progress, unread, behind, plan_lines, front_of, unless_more, alone, text_at, as_plan}
 use Rattle.tree_format.specs.ReadingLaws.{OneTextAPlan, OneTextAGap}
+use Rattle.tree_format.proofs.AtLines.{ended_stage}
 use Rattle.tree_format.proofs.SpelledLines.{IsVersionLine, version_told, IsPathLine, path_told, IsChanceLine, chance_told, IsCeilingLine, ceiling_told, IsCountLine, count_told, IsLettered, HasPlace, IsRecordLine, record_printable, IsEndLine, record_told}
 use Rattle.text_rows.proofs.Splits.{split_joined}
 
@@ -312,15 +313,6 @@ record IsWhole (p : Problem) (family : Family) (text : List ℕ) (whole : GapPla
   expected : List (List ℕ)
   spelled : text ≡ text_of (plan_rows version p whole)
   read : IsReadAt p version expected due.Ended whole
-
-pub ended_stage : (stage : Stage) → is_ended stage ≡ true → stage ≡ due.Ended
-ended_stage (due.Version family) e = absurd (let bad : ⊥ = cc in bad)
-ended_stage due.Path e = absurd (let bad : ⊥ = cc in bad)
-ended_stage due.Chance e = absurd (let bad : ⊥ = cc in bad)
-ended_stage due.Ceiling e = absurd (let bad : ⊥ = cc in bad)
-ended_stage due.Count e = absurd (let bad : ⊥ = cc in bad)
-ended_stage (due.Records left) e = absurd (let bad : ⊥ = cc in bad)
-ended_stage due.Ended e = refl
 
 -- lines more were read
 record AreReadOn (p : Problem) (s t : Progress) (lines : List (List ℕ)) : Type 0 where
