@@ -21,7 +21,7 @@ unfolding line_at
 silent_lines_add_nothing s line e = rw e refl
 
 pub first_fault_decides : FirstFaultDecides
-first_fault_decides text fault = machine.first_fault_decides scenario_lines blank_state 1 (lines_of text) fault
+first_fault_decides text fault = machine.first_fault_decides scenario_lines blank_state 1 (lines_of text) fault refl
 
 -- Behind the line `end`.
 

@@ -1,5 +1,5 @@
 -- Where the line `end` of a text stands, and what follows it.
-use Rattle.std.proofs.Common.{◌≡◌, ℕ, ◌+◌, ◌-◌, ◌≤◌, true, List, ◌∷◌, length, Option, Some, None, Ok, refl, sym, ap, ◌∙◌, arith, length-append}
+use Rattle.std.proofs.Common.{◌≡◌, ℕ, ◌+◌, ◌-◌, ◌≤◌, true, List, length, Option, Some, None, Ok, refl, sym, ap, ◌∙◌, arith, length-append}
 use Rattle.search_model.specs.Problem.{Problem}
 use Rattle.scenario_text.specs.declared.draft.Stage.{Stage}
 use Rattle.scenario_text.specs.declared.draft.Stage.TheVariants.{Version, Horizon, Parts, Cells, Positions, Start, First, Rows, Ended}
@@ -23,13 +23,13 @@ ended_stage Rows e = absurd (let bad : ⊥ = cc in bad)
 ended_stage Ended e = refl
 
 pub front_ended : (text : List ℕ) (front : Front) → front_of text ≡ Ok front → front.state.stage ≡ Ended
-front_ended text front is = ended_stage front.state.stage (read_told scenario_lines blank_state 1 (lines_of text) front is).ends
+front_ended text front is = ended_stage front.state.stage (read_told scenario_lines blank_state 1 (lines_of text) front refl is).ends
 
 pub front_line : (text : List ℕ) (front : Front) → front_of text ≡ Ok front → front.line ≤ length (lines_of text)
 front_line text front is =
-    let read = read_told scenario_lines blank_state 1 (lines_of text) front is in
+    let read = read_told scenario_lines blank_state 1 (lines_of text) front refl is in
     let long = ap length read.whole in
-    omega (arith, long, length-append read.before (read.last ∷ read.behind), read.line)
+    omega (arith, long, length-append read.read read.behind, read.line)
 
 pub front_room : (text : List ℕ) (front : Front) → front_of text ≡ Ok front → front.line + length (after_lines front.line text) ≤ length text
 front_room text front is = lines_fit front.line text (front_line text front is)

@@ -278,7 +278,7 @@ behind_start s t rows cols n first one some_row some_col few taken done =
           let moves = moves_read plain_end rows cols one some_row some_col few in (
             record plain_end { moves = none },
             said.2,
-            unended_rows due.Rows refl,
+            refl,
             subst (λ (x : State). AreTaken scenario_lines (record plain_end { moves = none }) (move_lines rows cols) (record x { gridded = false })) reached moves,
           )
     ]

@@ -67,7 +67,7 @@ module _ {X : Type 0} (f : ℕ → X) (empty : X) (n : ℕ) where
 pub taken_range : (n a b : ℕ) (row : ℕ → List (List ℕ)) (s : ℕ → State) → a + n ≡ b → ((k : ℕ) → k < b → Takes (s k) (row k) (s (k + 1))) → ((k : ℕ) → is_ended (s k).stage ≡ false) → AreTaken scenario_lines (s a) (map (λ c. line_text (row c)) (range_with_len a n)) (s b)
 taken_range zero a b row s e takes unended = let here : a ≡ b = omega arith in ap s here
 taken_range (suc n) a b row s e takes unended =
-    (s (a + 1), line_at-row (s a) (s (a + 1)) (row a) (takes a (omega arith)), unended (a + 1), taken_range n (a + 1) b row s (omega arith) takes unended)
+    (s (a + 1), line_at-row (s a) (s (a + 1)) (row a) (takes a (omega arith)), unended a, taken_range n (a + 1) b row s (omega arith) takes unended)
 
 pub unended_rows : (stage : Stage) → stage ≡ due.Rows → is_ended stage ≡ false
 unended_rows stage at = ap is_ended at

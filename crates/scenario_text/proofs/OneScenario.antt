@@ -35,13 +35,13 @@ use Rattle.scenario_text.proofs.PeriodDrifts as drifts
 use Rattle.scenario_text.proofs.PeriodLooks as looks
 use Rattle.scenario_text.proofs.Places.{Placed, Placed-none, Placed-more}
 use Rattle.scenario_text.proofs.RowsInOrder.{cells_in_order, moves_in_order, entries_in_order}
-use Rattle.scenario_text.proofs.Soundness.{blank_sound, line_sound, taken_sound}
+use Rattle.scenario_text.proofs.Soundness.{blank_sound, taken_sound}
 
 -- what is read up to the end is sound
 front_sound : (text : List ℕ) (front : Front) → front_of text ≡ Ok front → IsSound front.state
 front_sound text front reads =
-    let read = read_told scenario_lines blank_state 1 (lines_of text) front reads in
-    line_sound read.reached front.state read.last (taken_sound read.before blank_state read.reached blank_sound read.right) read.taken
+    let read = read_told scenario_lines blank_state 1 (lines_of text) front refl reads in
+    taken_sound read.read blank_state front.state blank_sound read.right
 
 -- The rows in ascending order.
 module _ (s : State) (h : IsSound s) (ended : s.stage ≡ due.Ended) where

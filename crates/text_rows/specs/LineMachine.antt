@@ -31,10 +31,10 @@ read_from m s number (line ∷ lines) = go_on m number (m.step s line) (λ t. re
 
 -- The first fault, in other words than those of reading: the lines before it are right.
 
--- each line is right behind those before it, none ends the text, and this is what they say
+-- the text hadn't ended before any of these lines, each of them is right behind those before it, and this is what they say
 abbrev pub AreTaken : {S K F : Type 0} → LineMachine S K F → S → List (List ℕ) → S → Type 0
 AreTaken m s [] reached = s ≡ reached
-AreTaken {S} m s (line ∷ lines) reached = (next : S) × (m.step s line ≡ Ok next) × (m.ended next ≡ false) × AreTaken m next lines reached
+AreTaken {S} m s (line ∷ lines) reached = (next : S) × (m.step s line ≡ Ok next) × (m.ended s ≡ false) × AreTaken m next lines reached
 
 -- the first of these lines is wrong behind what was read
 pub record IsWrongLine {S K F : Type 0} (m : LineMachine S K F) (s : S) (lines : List (List ℕ)) (kind : K) : Type 0 where
@@ -43,11 +43,11 @@ pub record IsWrongLine {S K F : Type 0} (m : LineMachine S K F) (s : S) (lines :
   pub whole : lines ≡ line ∷ more
   pub wrong : m.step s line ≡ Err kind
 
--- no line is left and none ended the text, or the first that is left is wrong
+-- no line is left, or the first that is left is wrong
 abbrev pub HasFault : {S K F : Type 0} → LineMachine S K F → S → List (List ℕ) → K → Type 0
 HasFault m s lines kind = ((kind ≡ m.early) × (lines ≡ [])) ⊎ IsWrongLine m s lines kind
 
--- from here on, where the first line has this number
+-- from here on, where the first line has this number: the lines before it are right, and the text hasn't ended
 pub record IsFaultFrom {S K F : Type 0} (m : LineMachine S K F) (s : S) (number : ℕ) (lines : List (List ℕ)) (fault : F) : Type 0 where
   pub before : List (List ℕ)
   pub left : List (List ℕ)
@@ -55,5 +55,6 @@ pub record IsFaultFrom {S K F : Type 0} (m : LineMachine S K F) (s : S) (number 
   pub kind : K
   pub whole : lines ≡ before ++ left
   pub right : AreTaken m s before reached
+  pub goes : m.ended reached ≡ false
   pub here : HasFault m reached left kind
   pub is : fault ≡ m.fault (number + length before) kind

@@ -1,31 +1,17 @@
 -- The fault that reading gives is the first one.
-use Rattle.std.proofs.Common.{◌≡◌, ℕ, ◌+◌, List, [], ◌∷◌, Result, Ok, Err, refl, sym, ap, subst, ◌∙◌, inl, inr}
-use Rattle.std.proofs.lemmas.Bool.{cond_both}
+use Rattle.std.proofs.Common.{◌≡◌, ℕ, ◌+◌, List, [], ◌∷◌, Result, Ok, Err, refl, sym, ap, ◌∙◌, inl, inr}
 use Rattle.search_model.specs.Problem.{Problem}
 use Rattle.bound_tree.specs.declared.gap.GapPlan.{GapPlan}
-use Rattle.tree_format.specs.declared.kind.PlanKind.{PlanKind}
-use Rattle.tree_format.specs.declared.kind.PlanKind.TheVariants.{BadLine, Rest}
+use Rattle.tree_format.specs.declared.kind.PlanKind.TheVariants.{Rest}
 use Rattle.tree_format.specs.declared.kind.PlanFault.{PlanFault}
-use Rattle.tree_format.specs.declared.due.Due.{Due}
 use Rattle.tree_format.specs.declared.plan_line.Family.{Family}
-use Rattle.tree_format.specs.declared.plan_line.Stage.{Stage}
-use Rattle.tree_format.specs.declared.plan_line.Stage.TheVariants as due
-use Rattle.tree_format.specs.declared.plan_line.PlanLine.{PlanLine}
 use Rattle.text_rows.specs.Lines.{after_lines}
 use Rattle.text_rows.specs.LineMachine.{Reached}
 use Rattle.text_rows.specs.WholeLines.{whole_lines}
 use Rattle.text_rows.proofs.LineMachine as machine
-use Rattle.text_rows.proofs.Results.{err_ok}
-use Rattle.tree_format.specs.Reading.{line_at, with_stage, at_line_number, Progress, unread, plan_lines, front_of, unless_more, alone}
+use Rattle.tree_format.specs.Reading.{at_line_number, Progress, unread, plan_lines, front_of, unless_more, alone}
 use Rattle.tree_format.specs.Faults.{IsRest, IsFirstFault}
 use Rattle.tree_format.specs.ReadingLaws.{FirstFaultDecides}
-
--- no line is due behind the end
-pub due_still : (p : Problem) (d : Due) (fields : List (List ℕ)) (said : PlanLine) → line_at p d fields ≡ Ok said → d.stage ≡ due.Ended → ⊥
-unfolding line_at
-due_still p d fields said e ended =
-    let at_end : line_at p (with_stage due.Ended d) fields ≡ Ok said = subst (λ (s : Stage). line_at p (with_stage s d) fields ≡ Ok said) ended e in
-    cond_both _ (Err BadLine) (Err BadLine) (λ (x : Result PlanLine PlanKind). x ≡ Ok said → ⊥) (λ _ e'. err_ok BadLine said e') (λ _ e'. err_ok BadLine said e') at_end
 
 -- the fault of what follows the line `end`
 more_told : (number : ℕ) (rest : List ℕ) (plan : GapPlan) (fault : PlanFault) → unless_more number rest plan ≡ Err fault → (rest ≡ [] → ⊥) × (at_line_number number Rest ≡ fault)
@@ -38,7 +24,7 @@ more_given number (c ∷ cs) plan some = refl
 
 module _ (family : Family) (p : Problem) (text : List ℕ) (fault : PlanFault) where
   fault_told : (r : Result (Reached Progress) PlanFault) → front_of family p text ≡ r → alone text r ≡ Err fault → IsFirstFault family p text fault
-  fault_told (Err other) is e = let same : other ≡ fault = cc in inl ((machine.first_fault_decides (plan_lines p) (unread family) 1 (whole_lines text) fault).0 (is ∙ ap Err same))
+  fault_told (Err other) is e = let same : other ≡ fault = cc in inl ((machine.first_fault_decides (plan_lines p) (unread family) 1 (whole_lines text) fault refl).0 (is ∙ ap Err same))
   fault_told (Ok front) is e =
       let more = more_told (front.line + 1) (after_lines front.line text) front.state.plan fault e in
       inr (record { front = front; reads = is; some = more.0; is = sym more.1 })
@@ -50,7 +36,7 @@ pub first_fault_decides : FirstFaultDecides
 first_fault_decides family p text fault = (
   λ e. fault_told family p text fault (front_of family p text) refl e,
   λ h. elim h [
-    | inl first ↦ ap (alone text) ((machine.first_fault_decides (plan_lines p) (unread family) 1 (whole_lines text) fault).1 first)
+    | inl first ↦ ap (alone text) ((machine.first_fault_decides (plan_lines p) (unread family) 1 (whole_lines text) fault refl).1 first)
     | inr rest ↦ rest_given family p text fault rest
   ],
 )

@@ -1,7 +1,6 @@
 -- What is read as a plan is the text of that plan.
 use Rattle.std.proofs.Common.{◌≡◌, ℕ, ◌<◌, ◌≤◌, ◌+◌, ◌-◌, ◌^◌, List, [], ◌∷◌, ◌++◌, map, length, Result, Ok, Err, refl, sym, ap, subst, ◌∙◌, arith, append_assoc, length-append, inl, inr}
 use Rattle.std.specs.Prelude.{All, codes}
-use Rattle.std.proofs.lemmas.Grind.{flat_map-append}
 use Rattle.std.proofs.lemmas.Bool.{cond_both}
 use Rattle.std.proofs.lemmas.List.{append-nil, map-append, length-map}
 use Rattle.std.proofs.lemmas.List.Elements.{All-nil, All-cons, All-head, All-tail, All-append, All-push, All-map, All-weaker}
@@ -315,10 +314,10 @@ record IsWhole (p : Problem) (family : Family) (text : List ℕ) (whole : GapPla
   read : IsReadAt p version expected due.Ended whole
 
 -- lines more were read
-record AreReadOn (p : Problem) (s t : Progress) (lines : List (List ℕ)) : Type 0 where
-  rows : text_of (rows_read p t.due.dialect t.due.stage t.plan) ≡ text_of (rows_read p s.due.dialect s.due.stage s.plan) ++ lines_text lines
-  read : IsRead p t.due t.plan
-  family : family_due t.due ≡ family_due s.due
+pub record AreReadOn (p : Problem) (s t : Progress) (lines : List (List ℕ)) : Type 0 where
+  pub rows : text_of (rows_read p t.due.dialect t.due.stage t.plan) ≡ text_of (rows_read p s.due.dialect s.due.stage s.plan) ++ lines_text lines
+  pub read : IsRead p t.due t.plan
+  pub family : family_due t.due ≡ family_due s.due
 
 -- one of them
 step_on : (p : Problem) → IsProblem p → (s t : Progress) (line : List ℕ) (r : Result PlanLine PlanKind) → IsRead p s.due s.plan → line_at p s.due (exact_fields line) ≡ r → behind p s r ≡ Ok t → AreReadOn p s t (line ∷ [])
@@ -332,7 +331,7 @@ step_on p h s t line (Ok said) read e f =
       family = on.family;
     })
 
-lines_on : (p : Problem) → IsProblem p → (lines : List (List ℕ)) (s t : Progress) → IsRead p s.due s.plan → AreTaken (plan_lines p) s lines t → AreReadOn p s t lines
+pub lines_on : (p : Problem) → IsProblem p → (lines : List (List ℕ)) (s t : Progress) → IsRead p s.due s.plan → AreTaken (plan_lines p) s lines t → AreReadOn p s t lines
 lines_on p h [] s t read right =
     subst (λ (u : Progress). AreReadOn p s u []) right (record { rows = sym (append-nil (text_of (rows_read p s.due.dialect s.due.stage s.plan))); read = read; family = refl })
 lines_on p h (line ∷ lines) s t read right =
@@ -363,18 +362,13 @@ nothing_more number (c ∷ cs) plan whole e = absurd (err_ok (at_line_number num
 front_told : (family : Family) (p : Problem) → IsProblem p → (text : List ℕ) (whole : GapPlan) (r : Result (Reached Progress) PlanFault) → front_of family p text ≡ r → alone text r ≡ Ok whole → IsWhole p family text whole
 front_told family p h text whole (Err fault) e alone_is = absurd (err_ok fault whole alone_is)
 front_told family p h text whole (Ok front) e alone_is =
-    let read = read_told (plan_lines p) (unread family) 1 (whole_lines text) front e in
+    let read = read_told (plan_lines p) (unread family) 1 (whole_lines text) front refl e in
     let none = nothing_more (front.line + 1) (after_lines front.line text) front.state.plan whole alone_is in
-    let lines = read.before ++ read.last ∷ [] in
-    let first = lines_on p h read.before (unread family) read.reached (refl, refl) read.right in
-    let last = step_on p h read.reached front.state read.last _ first.read refl read.taken in
-    let cut : whole_lines text ≡ lines ++ read.behind = read.whole ∙ sym (append_assoc read.before (read.last ∷ []) read.behind) in
-    let count : front.line ≡ length lines = omega (arith, read.line, length-append read.before (read.last ∷ [])) in
-    let nothing : after_lines (length lines) text ≡ [] = ap (λ (n : ℕ). after_lines n text) (sym count) ∙ none.0 in
-    let spelled : text ≡ lines_text read.before ++ lines_text (read.last ∷ []) =
-    lines_first lines read.behind text cut ∙ ap (λ (t : List ℕ). lines_text lines ++ t) nothing ∙ append-nil (lines_text lines) ∙ flat_map-append (λ line. line ++ 10 ∷ []) read.before (read.last ∷ []) in
-    subst (IsWhole p family text) none.1
-    (whole_read p family text front.state (ended_stage front.state.due.stage read.ends) last.read (last.family ∙ first.family) (spelled ∙ sym (last.rows ∙ ap (λ (x : List ℕ). x ++ lines_text (read.last ∷ [])) first.rows)))
+    let on = lines_on p h read.read (unread family) front.state (refl, refl) read.right in
+    let count : front.line ≡ length read.read = omega (arith, read.line) in
+    let nothing : after_lines (length read.read) text ≡ [] = ap (λ (n : ℕ). after_lines n text) (sym count) ∙ none.0 in
+    let spelled : text ≡ lines_text read.read = lines_first read.read read.behind text read.whole ∙ ap (λ (t : List ℕ). lines_text read.read ++ t) nothing ∙ append-nil (lines_text read.read) in
+    subst (IsWhole p family text) none.1 (whole_read p family text front.state (ended_stage front.state.due.stage read.ends) on.read on.family (spelled ∙ sym on.rows))
 
 -- what was read as a text of plans is the gap plan of a plan
 kind_back : (v : Dialect) (kind : GapKind) → family_of v ≡ Plans → IsLettered v kind → Closed (shape_of_kind kind) ≡ kind
