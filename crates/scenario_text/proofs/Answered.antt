@@ -70,10 +70,12 @@ kind_free s line kind e =
     (λ _ e'. kind_among (tests_of s line) _ kind (rows_free s line) e') e)
 
 pub first_free : (text : List ℕ) (fault : TextFault) → IsFirstFault text fault → fault.kind ≡ Rest → ⊥
-first_free text fault h = elim h.here [
-  | inl early ↦ λ same. absurd (let bad : EarlyEnd ≡ Rest = sym early.0 ∙ same in let none : ⊥ = cc in none)
-  | inr wrong ↦ kind_free h.reached wrong.line fault.kind wrong.wrong
-]
+first_free text fault h same =
+    let here : h.kind ≡ Rest = ap (λ (f : TextFault). f.kind) (sym h.is) ∙ same in
+    elim h.here [
+      | inl early ↦ absurd (let bad : EarlyEnd ≡ Rest = sym early.0 ∙ here in let none : ⊥ = cc in none)
+      | inr wrong ↦ kind_free h.reached wrong.line h.kind wrong.wrong here
+    ]
 
 -- The scenario that a text spells is one.
 

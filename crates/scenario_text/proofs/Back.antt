@@ -27,7 +27,7 @@ Takes-version Two = record { fields = (word (codes "scenario") (omega arith) ref
 
 -- the rows that say a whole state are read as it is
 Reads-state : (s : State) → IsSound s → s.stage ≡ due.Ended → s.gridded ≡ false → Reads blank_state (state_rows s) s
-Reads-state s h ended ungridded = Reads-row _ _ _ _ _ (Takes-version s.version) (λ e. cc) (Reads-begun s h ended ungridded)
+Reads-state s h ended ungridded = Reads-row _ _ _ _ _ (Takes-version s.version) refl (Reads-begun s h ended ungridded)
 
 sound : (p : Problem) → IsProblem p → IsSound (state_of_problem p)
 sound p h = elim (cases_Bool (is_plain p)) [

@@ -1,5 +1,5 @@
 -- Reading a scenario's front ignores what follows a line with the one word `end`.
-use Rattle.std.proofs.Common.{◌≡◌, ℕ, zero, suc, ◌+◌, ◌≤◌, Bool, true, false, List, [], ◌∷◌, ◌++◌, length, Some, None, Result, Ok, Err, refl, sym, ap, ◌∙◌, subst, arith, append_assoc, length-append}
+use Rattle.std.proofs.Common.{◌≡◌, ℕ, zero, suc, ◌+◌, ◌≤◌, Bool, true, false, List, [], ◌∷◌, ◌++◌, length, Some, None, Ok, Err, refl, sym, ap, ◌∙◌, subst, arith, append_assoc, length-append}
 use Rattle.std.specs.Prelude.{codes, not, nat_lt, ◌==◌, if◌then◌else◌}
 use Rattle.std.specs.List.{list_all, onto_first}
 use Rattle.scenario_text.specs.declared.draft.Stage.{Stage}
@@ -7,14 +7,14 @@ use Rattle.scenario_text.specs.declared.draft.Stage.TheVariants as due
 use Rattle.scenario_text.specs.declared.draft.TextVersion.{TextVersion}
 use Rattle.scenario_text.specs.declared.draft.TextVersion.TheVariants.{One, Two}
 use Rattle.scenario_text.specs.declared.line.Line.TheVariants.{End}
-use Rattle.scenario_text.specs.declared.kind.TextKind.{TextKind}
 use Rattle.scenario_text.specs.declared.kind.TextKind.TheVariants.{NotText, BadLine}
-use Rattle.scenario_text.specs.declared.kind.TextFault.{TextFault}
 use Rattle.text_rows.specs.Lines.{lines_of, after_lines}
 use Rattle.text_rows.specs.Fields.{fields_of, is_text_byte}
 use Rattle.scenario_text.specs.Fields.{says_nothing}
 use Rattle.scenario_text.specs.State.{State, blank_state}
-use Rattle.scenario_text.specs.Reading.{Front, line_at, lines_at, go_on, unless_ended, front_of}
+use Rattle.text_rows.specs.LineMachine.{read_from}
+use Rattle.text_rows.proofs.LineMachine.{end_cuts}
+use Rattle.scenario_text.specs.Reading.{Front, line_at, is_ended, scenario_lines, front_of}
 use Rattle.scenario_text.specs.KindTable.{line_due, tests}
 use Rattle.scenario_text.specs.Grammar.{added, unless_any, row_at, fields_at}
 use Rattle.scenario_text.proofs.Passed.{passed}
@@ -53,21 +53,6 @@ line_ends s t line word e =
     let reads : List (List ℕ) → Type 0 =
     λ fields. (if says_nothing fields then Ok s else (if not (list_all is_text_byte line) then Err NotText else fields_at s fields)) ≡ Ok t in
     stage_ends s.version s.stage (nat_lt 0 (length s.names)) s t (not_refused (not (list_all is_text_byte line)) NotText _ t (subst reads word e)).1
-
--- What follows it isn't looked at.
-
-last_goes : (r : Result State TextKind) (number : ℕ) (f g : State → Result Front TextFault) → ((t : State) → r ≡ Ok t → t.stage ≡ due.Ended) → go_on r number f ≡ go_on r number g
-last_goes (Err kind) number f g ends = refl
-last_goes (Ok t) number f g ends = rw (ends t refl) refl
-
-go_alike : (r : Result State TextKind) (number : ℕ) (f g : State → Result Front TextFault) → ((t : State) → f t ≡ g t) → go_on r number f ≡ go_on r number g
-go_alike (Err kind) number f g same = refl
-go_alike (Ok t) number f g same = ap (unless_ended t.stage t number) (same t)
-
-lines_cut : (before : List (List ℕ)) (s : State) (number : ℕ) (last : List ℕ) (more : List (List ℕ)) → fields_of last ≡ codes "end" ∷ [] → lines_at s number (before ++ last ∷ more) ≡ lines_at s number (before ++ last ∷ [])
-unfolding lines_at
-lines_cut [] s number last more word = last_goes (line_at s last) number _ _ (λ t e. line_ends s t last word e)
-lines_cut (line ∷ before) s number last more word = go_alike (line_at s line) number _ _ (λ t. lines_cut before t (number + 1) last more word)
 
 -- Lines behind a line feed.
 
@@ -123,7 +108,9 @@ same_front front rest h =
     ∙ ap (λ (t : List ℕ). lines_of t ++ lines_of rest) (sym h.feed.1)
     ∙ ap (λ (ls : List (List ℕ)). ls ++ lines_of rest) h.lines
     ∙ append_assoc h.before (h.last ∷ []) (lines_of rest) in
-    ap (lines_at blank_state 1) lines ∙ lines_cut h.before blank_state 1 h.last (lines_of rest) h.word ∙ ap (lines_at blank_state 1) (sym h.lines)
+    ap (read_from scenario_lines blank_state 1) lines
+    ∙ end_cuts scenario_lines h.before blank_state 1 h.last (lines_of rest) [] (λ s t e. ap is_ended (line_ends s t h.last h.word e))
+    ∙ ap (read_from scenario_lines blank_state 1) (sym h.lines)
 
 same_rest : (front rest : List ℕ) (read : Front) → EndsWithEnd front → front_of front ≡ Ok read → after_lines read.line (front ++ rest) ≡ after_lines read.line front ++ rest
 same_rest front rest read h reads =

@@ -1,112 +1,27 @@
 -- The fault that reading gives is the first one.
-use Rattle.std.proofs.Common.{◌≡◌, ℕ, ◌+◌, true, false, List, [], ◌∷◌, ◌++◌, length, Option, Some, None, Result, Ok, Err, refl, sym, ap, subst, ◌∙◌, arith, ◌⊎◌, inl, inr}
+use Rattle.std.proofs.Common.{◌≡◌, ℕ, ◌+◌, true, false, List, [], ◌∷◌, ◌++◌, length, Option, Some, None, Result, Ok, Err, refl, sym, ap, ◌∙◌, arith, inl, inr}
 use Rattle.std.specs.Prelude.{All}
 use Rattle.std.specs.List.{list_all}
 use Rattle.std.proofs.lemmas.Bool.{cond_both}
 use Rattle.std.proofs.lemmas.List.Elements.{All-nil, All-cons, All-head, All-tail}
-use Rattle.scenario_text.specs.declared.draft.Stage.{Stage}
-use Rattle.scenario_text.specs.declared.draft.Stage.TheVariants as due
 use Rattle.scenario_text.specs.declared.kind.TextKind.{TextKind}
-use Rattle.scenario_text.specs.declared.kind.TextKind.TheVariants.{EarlyEnd, Rest}
+use Rattle.scenario_text.specs.declared.kind.TextKind.TheVariants.{Rest}
 use Rattle.scenario_text.specs.declared.kind.TextFault.{TextFault}
 use Rattle.text_rows.specs.Lines.{lines_of, after_lines}
 use Rattle.text_rows.specs.Fields.{is_blank}
-use Rattle.scenario_text.specs.State.{State, blank_state}
-use Rattle.scenario_text.specs.Reading.{Front, line_at, lines_at, go_on, unless_ended, front_of, first_said, unless_more, alone, alone_of}
-use Rattle.scenario_text.specs.Faults.{AreTaken, HasFault, IsFaultFrom, IsRest, IsFirstFaultAlone}
+use Rattle.scenario_text.specs.State.{blank_state}
+use Rattle.text_rows.proofs.LineMachine as machine
+use Rattle.scenario_text.specs.Reading.{Front, line_at, scenario_lines, front_of, first_said, unless_more, alone, alone_of}
+use Rattle.scenario_text.specs.Faults.{IsRest, IsFirstFaultAlone}
 use Rattle.scenario_text.specs.ReadingLaws.{SilentLinesAddNothing, FirstFaultDecides, FirstFaultDecidesAlone}
-use Rattle.scenario_text.proofs.Loop.{at_fault, at_line, said_next, said_here}
+use Rattle.scenario_text.proofs.Loop.{said_next, said_here}
 
 pub silent_lines_add_nothing : SilentLinesAddNothing
 unfolding line_at
 silent_lines_add_nothing s line e = rw e refl
 
--- A first fault is given.
-
-abbrev fault_of : ℕ → TextKind → TextFault
-fault_of number kind = record { line = number; kind = kind }
-
-made_fault : (fault : TextFault) (number : ℕ) (kind : TextKind) → fault.line ≡ number → fault.kind ≡ kind → fault_of number kind ≡ fault
-made_fault fault number kind line same = let whole : fault_of number kind ≡ fault_of fault.line fault.kind = rw (line, same) refl in whole
-
-no_line : (s : State) (number : ℕ) → lines_at s number [] ≡ Err (fault_of number EarlyEnd)
-unfolding lines_at
-no_line s number = refl
-
-module _ (fault : TextFault) where
-  fault_here : (s : State) (number : ℕ) (lines : List (List ℕ)) → fault.line ≡ number → HasFault s lines fault.kind → lines_at s number lines ≡ Err fault
-  fault_here s number lines line here = elim here [
-    | inl early ↦ ap (lines_at s number) early.1 ∙ no_line s number ∙ ap Err (made_fault fault number EarlyEnd line early.0)
-    | inr wrong ↦ at_fault s number wrong.line wrong.more lines fault.kind wrong.whole wrong.wrong ∙ ap Err (made_fault fault number fault.kind line refl)
-  ]
-
-  -- and the lines before
-  fault_behind : (before : List (List ℕ)) (s reached : State) (number : ℕ) (left : List (List ℕ)) → AreTaken s before reached → fault.line ≡ number + length before → HasFault reached left fault.kind → lines_at s number (before ++ left) ≡ Err fault
-  fault_behind [] s reached number left right line here = fault_here s number left (omega (arith, line)) (subst (λ (t : State). HasFault t left fault.kind) (sym right) here)
-  fault_behind (first ∷ before) s reached number left right line here =
-      at_line s right.0 number first (before ++ left) (first ∷ (before ++ left)) refl right.1 right.2
-      ∙ fault_behind before right.0 reached (number + 1) left right.3 (omega (arith, line)) here
-
--- The fault that is given is the first.
-
--- none before it
-none_before : (s : State) (number : ℕ) (lines : List (List ℕ)) (kind : TextKind) (fault : TextFault) → ◌≡◌ {A = Result Front TextFault} (Err (record { line = number; kind = kind })) (Err fault) → HasFault s lines kind → IsFaultFrom s number lines fault
-none_before s number lines kind fault e here =
-    let there : TextFault = record { line = number; kind = kind } in
-    let same : there ≡ fault = cc in
-    subst (IsFaultFrom s number lines) same (record {
-      before = [];
-      left = lines;
-      reached = s;
-      whole = refl;
-      right = refl;
-      here = here;
-      line = omega arith;
-    })
-
--- a line before it
-line_before : (s next : State) (number : ℕ) (line : List ℕ) (lines : List (List ℕ)) (fault : TextFault) → line_at s line ≡ Ok next → (next.stage ≡ due.Ended → ⊥) → IsFaultFrom next (number + 1) lines fault → IsFaultFrom s number (line ∷ lines) fault
-line_before s next number line lines fault taken goes h = record {
-  before = line ∷ h.before;
-  left = h.left;
-  reached = h.reached;
-  whole = ap (λ (ls : List (List ℕ)). line ∷ ls) h.whole;
-  right = (next, taken, goes, h.right);
-  here = h.here;
-  line = omega (arith, h.line);
-}
-
--- a line that is taken and doesn't end the text
-goes_on : (stage : Stage) (t : State) (number : ℕ) (more : Result Front TextFault) (fault : TextFault) → unless_ended stage t number more ≡ Err fault → (stage ≡ due.Ended → ⊥) × (more ≡ Err fault)
-goes_on due.Version t number more fault e = ((λ h. absurd (let bad : ⊥ = cc in bad)), e)
-goes_on due.Horizon t number more fault e = ((λ h. absurd (let bad : ⊥ = cc in bad)), e)
-goes_on due.Parts t number more fault e = ((λ h. absurd (let bad : ⊥ = cc in bad)), e)
-goes_on due.Cells t number more fault e = ((λ h. absurd (let bad : ⊥ = cc in bad)), e)
-goes_on due.Positions t number more fault e = ((λ h. absurd (let bad : ⊥ = cc in bad)), e)
-goes_on due.Start t number more fault e = ((λ h. absurd (let bad : ⊥ = cc in bad)), e)
-goes_on due.First t number more fault e = ((λ h. absurd (let bad : ⊥ = cc in bad)), e)
-goes_on due.Rows t number more fault e = ((λ h. absurd (let bad : ⊥ = cc in bad)), e)
-goes_on due.Ended t number more fault e = absurd (let bad : ⊥ = cc in bad)
-
--- the fault of a line, or of what follows it
-line_or_later : (number : ℕ) (r : Result State TextKind) (more : State → Result Front TextFault) (fault : TextFault) → go_on r number more ≡ Err fault →
-    ((kind : TextKind) × (r ≡ Err kind) × (fault_of number kind ≡ fault)) ⊎ ((next : State) × (r ≡ Ok next) × (next.stage ≡ due.Ended → ⊥) × (more next ≡ Err fault))
-line_or_later number (Err kind) more fault e = inl (kind, refl, (let here : TextFault = record { line = number; kind = kind } in let same : here ≡ fault = cc in same))
-line_or_later number (Ok next) more fault e = let on = goes_on next.stage next number (more next) fault e in inr (next, refl, on.0, on.1)
-
-fault_told : (fault : TextFault) (lines : List (List ℕ)) (s : State) (number : ℕ) → lines_at s number lines ≡ Err fault → IsFaultFrom s number lines fault
-unfolding lines_at
-fault_told fault [] s number e = none_before s number [] EarlyEnd fault e (inl (refl, refl))
-fault_told fault (line ∷ lines) s number e = elim (line_or_later number (line_at s line) (λ t. lines_at t (number + 1) lines) fault e) [
-  | inl wrong ↦ none_before s number (line ∷ lines) wrong.0 fault (ap Err wrong.2) (inr (record { line = line; more = lines; whole = refl; wrong = wrong.1 }))
-  | inr right ↦ line_before s right.0 number line lines fault right.1 right.2 (fault_told fault lines right.0 (number + 1) right.3)
-]
-
 pub first_fault_decides : FirstFaultDecides
-first_fault_decides text fault = (
-  fault_told fault (lines_of text) blank_state 1,
-  λ h. ap (lines_at blank_state 1) h.whole ∙ fault_behind fault h.before blank_state h.reached 1 h.left h.right h.line h.here,
-)
+first_fault_decides text fault = machine.first_fault_decides scenario_lines blank_state 1 (lines_of text) fault refl
 
 -- Behind the line `end`.
 
@@ -181,11 +96,15 @@ alone_told : (text : List ℕ) (fault : TextFault) (r : Result Front TextFault) 
 alone_told text fault (Err other) is e = let same : other ≡ fault = cc in inl ((first_fault_decides text fault).0 (is ∙ ap Err same))
 alone_told text fault (Ok front) is e = inr (rest_told text front fault is e)
 
+abbrev fault_of : ℕ → TextKind → TextFault
+fault_of number kind = record { line = number; kind = kind }
+
 rest_given : (text : List ℕ) (fault : TextFault) → IsRest text fault → alone_of text ≡ Err fault
 rest_given text fault h =
     let said : first_said (h.front.line + 1) (lines_of (after_lines h.front.line text)) ≡ Some (h.front.line + 1 + length h.silent) =
     ap (first_said (h.front.line + 1)) h.behind ∙ said_from h.silent (h.front.line + 1) h.said h.more h.blank h.speaks in
-    ap (alone text) h.reads ∙ ap (λ (o : Option ℕ). unless_more o h.front) said ∙ ap Err (made_fault fault _ Rest h.line h.kind)
+    let same : fault_of (h.front.line + 1 + length h.silent) Rest ≡ fault_of fault.line fault.kind = rw (h.line, h.kind) refl in
+    ap (alone text) h.reads ∙ ap (λ (o : Option ℕ). unless_more o h.front) said ∙ ap Err same
 
 pub first_fault_decides_alone : FirstFaultDecidesAlone
 first_fault_decides_alone text fault = (

@@ -1,5 +1,5 @@
 -- A grid says what lines of cells and of moves say.
-use Rattle.std.proofs.Common.{◌≡◌, ℕ, ◌+◌, ◌*◌, ◌<◌, ◌≤◌, Bool, true, false, cond, List, [], ◌∷◌, ◌++◌, map, length, set, replicate, Option, Some, None, Result, Ok, Err, refl, sym, ap, ◌∙◌, subst, arith, inl, inr, ◌⊎◌}
+use Rattle.std.proofs.Common.{◌≡◌, ℕ, ◌+◌, ◌*◌, ◌<◌, ◌≤◌, Bool, true, false, cond, List, [], ◌∷◌, map, length, set, replicate, Option, Some, None, Result, Ok, Err, refl, sym, ap, ◌∙◌, subst, arith, inl, inr, ◌⊎◌}
 use Rattle.std.specs.Prelude.{codes, not, ◌||◌, nat_lt}
 use Rattle.std.specs.Fmt.{decimal}
 use Rattle.std.specs.List.{range_with_len, list_all}
@@ -25,7 +25,7 @@ use Rattle.text_rows.proofs.Results.{err_ok, same_ok}
 use Rattle.scenario_text.specs.Fields.{entries_in, says_nothing, cell_named}
 use Rattle.search_model.specs.Grids.{grid_name, grid_names}
 use Rattle.scenario_text.specs.State.{State, by_version}
-use Rattle.scenario_text.specs.Reading.{line_at}
+use Rattle.scenario_text.specs.Reading.{line_at, scenario_lines}
 use Rattle.scenario_text.specs.KindTable.{line_due, tests}
 use Rattle.scenario_text.specs.Grammar.{position_of, with_name, with_cells, adds, added, unless_any, row_at, fields_at}
 use Rattle.scenario_text.specs.declared.line.Line.{Line}
@@ -37,7 +37,8 @@ use Rattle.scenario_text.specs.Order.{IsPlace}
 use Rattle.scenario_text.specs.declared.draft.TextVersion.{TextVersion}
 use Rattle.scenario_text.specs.declared.draft.TextVersion.TheVariants.{One, Two}
 use Rattle.scenario_text.specs.Sound.{IsSound}
-use Rattle.scenario_text.specs.Faults.{AreTaken}
+use Rattle.text_rows.specs.LineMachine.{AreTaken}
+use Rattle.text_rows.proofs.LineMachine.{taken_behind}
 use Rattle.scenario_text.specs.InRows.{line_text, for_each, GridInRows, GridReadsOn}
 use Rattle.scenario_text.specs.RowFields.{cell_row, moves_of}
 use Rattle.scenario_text.proofs.FieldTexts.{IsField-name, AreFields-named}
@@ -52,11 +53,6 @@ use Rattle.scenario_text.proofs.SoundHeads.{no_grid}
 use Rattle.scenario_text.proofs.SoundNames.{IsName-grid, grid_count, All-grid_names, grid_differ}
 use Rattle.scenario_text.proofs.Soundness.{reached_sound}
 use Rattle.scenario_text.proofs.RowsBack.{moves_begins}
-
--- lines behind others
-taken_behind : (lines more : List (List ℕ)) (s t u : State) → AreTaken s lines t → AreTaken t more u → AreTaken s (lines ++ more) u
-taken_behind [] more s t u taken behind = subst (λ (x : State). AreTaken x more u) (sym taken) behind
-taken_behind (line ∷ lines) more s t u taken behind = (taken.0, taken.1, taken.2, taken_behind lines more taken.0 t u taken.3 behind)
 
 no_elements : {X : Type 0} (xs : List X) (n : ℕ) → length xs ≡ n → n ≡ 0 → xs ≡ []
 no_elements [] n long none = refl
@@ -116,12 +112,12 @@ all_named : (s : State) (rows cols : ℕ) → after_names s cols (rows * cols) �
 all_named s rows cols =
     rw (same_to {X = List ℕ} [] (rows * cols), same_to {X = List CellPart} [] (rows * cols), same_to {X = Option ℕ} None (rows * cols)) refl
 
-cells_read : (s : State) (rows cols : ℕ) → IsSound s → s.version ≡ One → s.stage ≡ due.Cells → s.names ≡ [] → 1 ≤ cols → rows * cols ≤ 200 → AreTaken s (for_each (rows * cols) (λ c. cell_row (grid_name cols c))) (plain (with_cells s rows cols) (replicate (rows * cols) []))
+cells_read : (s : State) (rows cols : ℕ) → IsSound s → s.version ≡ One → s.stage ≡ due.Cells → s.names ≡ [] → 1 ≤ cols → rows * cols ≤ 200 → AreTaken scenario_lines s (for_each (rows * cols) (λ c. cell_row (grid_name cols c))) (plain (with_cells s rows cols) (replicate (rows * cols) []))
 cells_read s rows cols h one at none some few =
     let lines = for_each (rows * cols) (λ c. cell_row (grid_name cols c)) in
-    subst (λ (u : State). AreTaken u lines (plain (with_cells s rows cols) (replicate (rows * cols) []))) (sym (none_yet s cols h one at none))
-    (subst (AreTaken (after_names s cols 0) lines) (all_named s rows cols)
-    (taken_range (rows * cols) 0 (rows * cols) (λ c. cell_row (grid_name cols c)) (after_names s cols) (omega arith) (λ k lt. Takes-grid_name s cols k one some (omega (arith, lt, few))) (λ k e. let bad : ⊥ = cc in bad)))
+    subst (λ (u : State). AreTaken scenario_lines u lines (plain (with_cells s rows cols) (replicate (rows * cols) []))) (sym (none_yet s cols h one at none))
+    (subst (AreTaken scenario_lines (after_names s cols 0) lines) (all_named s rows cols)
+    (taken_range (rows * cols) 0 (rows * cols) (λ c. cell_row (grid_name cols c)) (after_names s cols) (omega arith) (λ k lt. Takes-grid_name s cols k one some (omega (arith, lt, few))) (λ k. refl)))
 
 -- The lines of the start and of the first parts.
 
@@ -209,7 +205,7 @@ rows_due s rows cols moves = record s { stage = due.Rows; names = grid_names row
 abbrev move_lines : ℕ → ℕ → List (List ℕ)
 move_lines rows cols = for_each (rows * cols) (λ c. moves_of (grid_names rows cols) c (moves_beside rows cols c))
 
-moves_read : (s : State) (rows cols : ℕ) → s.version ≡ One → 1 ≤ rows → 1 ≤ cols → rows * cols ≤ 200 → AreTaken (rows_due s rows cols (replicate (rows * cols) [])) (move_lines rows cols) (rows_due s rows cols (side_moves rows cols))
+moves_read : (s : State) (rows cols : ℕ) → s.version ≡ One → 1 ≤ rows → 1 ≤ cols → rows * cols ≤ 200 → AreTaken scenario_lines (rows_due s rows cols (replicate (rows * cols) [])) (move_lines rows cols) (rows_due s rows cols (side_moves rows cols))
 unfolding side_moves
 moves_read s rows cols one some_row some_col few =
     let n = rows * cols in
@@ -238,8 +234,8 @@ moves_read s rows cols one some_row some_col few =
           ∙ sym (moves_by_cells (after k) (name_in names k) (map (name_in names) (of k))) ∙ rw (room, places, own, known) (with_moves-taken (after k) k n (of k) moves (filled-open of [] n k lt)
           ∙ ap (λ (xs : List (List ℕ)). Ok (rows_due s rows cols xs)) (filled-next of [] n k lt));
     } in
-    subst (λ (u : State). AreTaken u (move_lines rows cols) (rows_due s rows cols (side_moves rows cols))) (sym first)
-    (subst (AreTaken (after 0) (move_lines rows cols)) last (taken_range n 0 n row after (omega arith) takes (λ k. unended_rows due.Rows refl)))
+    subst (λ (u : State). AreTaken scenario_lines u (move_lines rows cols) (rows_due s rows cols (side_moves rows cols))) (sym first)
+    (subst (AreTaken scenario_lines (after 0) (move_lines rows cols)) last (taken_range n 0 n row after (omega arith) takes (λ k. unended_rows due.Rows refl)))
 
 -- The grid.
 
@@ -269,8 +265,8 @@ grid_read s t rows cols one at none few_rows few_cols e =
     }
 
 -- the first parts and the moves, behind the start
-behind_start : (s t : State) (rows cols n : ℕ) (first : List ℕ) → s.version ≡ One → 1 ≤ rows → 1 ≤ cols → rows * cols ≤ 200 → AreTaken (record (with_cells s rows cols) { stage = due.First; start = n }) (first ∷ []) t → t.stage ≡ due.Rows →
-    AreTaken (record (plain (with_cells s rows cols) (replicate (rows * cols) [])) { stage = due.First; start = n }) (first ∷ move_lines rows cols) (record t { gridded = false })
+behind_start : (s t : State) (rows cols n : ℕ) (first : List ℕ) → s.version ≡ One → 1 ≤ rows → 1 ≤ cols → rows * cols ≤ 200 → AreTaken scenario_lines (record (with_cells s rows cols) { stage = due.First; start = n }) (first ∷ []) t → t.stage ≡ due.Rows →
+    AreTaken scenario_lines (record (plain (with_cells s rows cols) (replicate (rows * cols) [])) { stage = due.First; start = n }) (first ∷ move_lines rows cols) (record t { gridded = false })
 behind_start s t rows cols n first one some_row some_col few taken done =
     let b = record (with_cells s rows cols) { stage = due.First; start = n } in
     let none : List (List ℕ) = replicate (rows * cols) [] in
@@ -282,13 +278,13 @@ behind_start s t rows cols n first one some_row some_col few taken done =
           let moves = moves_read plain_end rows cols one some_row some_col few in (
             record plain_end { moves = none },
             said.2,
-            unended_rows due.Rows refl,
-            subst (λ (x : State). AreTaken (record plain_end { moves = none }) (move_lines rows cols) (record x { gridded = false })) reached moves,
+            refl,
+            subst (λ (x : State). AreTaken scenario_lines (record plain_end { moves = none }) (move_lines rows cols) (record x { gridded = false })) reached moves,
           )
     ]
 
-behind_cells : (s t : State) (rows cols : ℕ) (start first : List ℕ) → s.version ≡ One → 1 ≤ rows → 1 ≤ cols → rows * cols ≤ 200 → AreTaken (with_cells s rows cols) (start ∷ first ∷ []) t → t.stage ≡ due.Rows →
-    AreTaken (plain (with_cells s rows cols) (replicate (rows * cols) [])) (start ∷ first ∷ move_lines rows cols) (record t { gridded = false })
+behind_cells : (s t : State) (rows cols : ℕ) (start first : List ℕ) → s.version ≡ One → 1 ≤ rows → 1 ≤ cols → rows * cols ≤ 200 → AreTaken scenario_lines (with_cells s rows cols) (start ∷ first ∷ []) t → t.stage ≡ due.Rows →
+    AreTaken scenario_lines (plain (with_cells s rows cols) (replicate (rows * cols) [])) (start ∷ first ∷ move_lines rows cols) (record t { gridded = false })
 behind_cells s t rows cols start first one some_row some_col few taken done =
     let a = with_cells s rows cols in
     let none : List (List ℕ) = replicate (rows * cols) [] in
@@ -303,10 +299,10 @@ behind_cells s t rows cols start first one some_row some_col few taken done =
             | inr set ↦ absurd (let bad : due.First ≡ due.Rows = ap (λ (x : State). x.stage) (sym set.1 ∙ taken.3.3) ∙ done in let false_end : ⊥ = cc in false_end)
           ]
       | inr set ↦
-          let rest : AreTaken (record a { stage = due.First; start = set.0 }) (first ∷ []) t = subst (λ (x : State). AreTaken x (first ∷ []) t) set.1 taken.3 in (
+          let rest : AreTaken scenario_lines (record a { stage = due.First; start = set.0 }) (first ∷ []) t = subst (λ (x : State). AreTaken scenario_lines x (first ∷ []) t) set.1 taken.3 in (
             record (plain a none) { stage = due.First; start = set.0 },
             set.2,
-            λ e. let bad : ⊥ = cc in bad,
+            refl,
             behind_start s t rows cols set.0 first one some_row some_col few rest done,
           )
     ]
@@ -326,8 +322,8 @@ grid_in_rows s t rows cols start first came at none few_rows few_cols taken done
     let one = plain_grid s.version s taken.0 rows cols refl at none few_rows few_cols taken.1 in
     let g = grid_read s taken.0 rows cols one at none few_rows few_cols taken.1 in
     let n = rows * cols in
-    let behind : AreTaken (with_cells s rows cols) (start ∷ first ∷ []) t = subst (λ (x : State). AreTaken x (start ∷ first ∷ []) t) g.made taken.3 in
-    taken_behind (for_each n (λ c. cell_row (grid_name cols c))) (start ∷ first ∷ move_lines rows cols) s (plain (with_cells s rows cols) (replicate n [])) (record t { gridded = false })
+    let behind : AreTaken scenario_lines (with_cells s rows cols) (start ∷ first ∷ []) t = subst (λ (x : State). AreTaken scenario_lines x (start ∷ first ∷ []) t) g.made taken.3 in
+    taken_behind scenario_lines (for_each n (λ c. cell_row (grid_name cols c))) (start ∷ first ∷ move_lines rows cols) s (plain (with_cells s rows cols) (replicate n [])) (record t { gridded = false })
     (cells_read s rows cols h one at none g.some_col g.few) (behind_cells s t rows cols start first one g.some_row g.some_col g.few behind done)
 
 -- Behind the moves the mark of a grid only lets `spread` in.

@@ -21,6 +21,7 @@ use Rattle.scenario_text.specs.declared.draft.TextVersion.TheVariants.{One, Two}
 use Rattle.scenario_text.specs.declared.line.Line.TheVariants.{Cell, Position, Start, First}
 use Rattle.scenario_text.specs.Fields.{cell_named}
 use Rattle.scenario_text.specs.State.{State, blank_state, by_version, positions_in}
+use Rattle.scenario_text.specs.Reading.{is_ended}
 use Rattle.scenario_text.specs.KindTable.{line_due}
 use Rattle.scenario_text.specs.Grammar.{with_name, with_position, row_at}
 use Rattle.scenario_text.specs.Sound.{AreEntries, IsSound}
@@ -118,7 +119,7 @@ module _ (s : State) (h : IsSound s) (ended : s.stage ≡ due.Ended) (ungridded 
 
   Reads-start : (stage : Stage) → line_due s.version stage (nat_lt 0 (length s.names)) (codes "start") ≡ Some Start → Reads (before_start stage) (start_rows s) s
   Reads-start stage here =
-      Reads-row (before_start stage) before_first s _ _ (Takes-start stage here) (λ e. cc) (Reads-row before_first (before_rows s h ended) s _ _ Takes-first (λ e. cc) (Reads-moves s h ended))
+      Reads-row (before_start stage) before_first s _ _ (Takes-start stage here) refl (Reads-row before_first (before_rows s h ended) s _ _ Takes-first refl (Reads-moves s h ended))
 
   -- The names.
   abbrev head_at : Stage → TextVersion → List (List ℕ) → List (List ℕ) → List (List ℕ) → List (List CellPart) → List (Option ℕ) → List (Option (List CellPart)) → State
@@ -172,7 +173,7 @@ module _ (s : State) (h : IsSound s) (ended : s.stage ≡ due.Ended) (ungridded 
       let last : Reads (cells_one n) (start_rows s) s = subst (λ (t : State). Reads t (start_rows s) s) whole (Reads-start due.Cells here) in
       let behind : Reads (cells_one n) (map position_row s.positions ++ start_rows s) s = subst (λ (ps : List (List ℕ)). Reads (cells_one n) (map position_row ps ++ start_rows s) s) (sym unplaced) last in
       subst (λ (rows : List (List (List ℕ))). Reads (cells_one 0) (rows ++ (map position_row s.positions ++ start_rows s)) s) (sym (by_places cell_row s.names []))
-      (Reads-range n 0 n (λ k. cell_row (name_in s.names k)) cells_one (map position_row s.positions ++ start_rows s) s (omega arith) Takes-cell_one (λ k e. cc) behind)
+      (Reads-range n 0 n (λ k. cell_row (name_in s.names k)) cells_one (map position_row s.positions ++ start_rows s) s (omega arith) Takes-cell_one (λ k. refl) behind)
 
   -- in version 2
   abbrev cells_two : ℕ → State
@@ -205,9 +206,9 @@ module _ (s : State) (h : IsSound s) (ended : s.stage ≡ due.Ended) (ungridded 
         taken = begins (placed j) (codes "position") (name_in s.positions j ∷ []) Position here ∙ position_line-taken (placed j) (name_in s.positions j) name (omega (arith, long, lt, h.positions.few)) (next_new s.positions h.positions.differ j lt) ∙ ap Ok next;
       }
 
-  no_end : (first : Bool) → cond first due.Cells due.Positions ≡ due.Ended → ⊥
-  no_end true e = let bad : ⊥ = cc in bad
-  no_end false e = let bad : ⊥ = cc in bad
+  goes_on : (first : Bool) → is_ended (cond first due.Cells due.Positions) ≡ false
+  goes_on true = refl
+  goes_on false = refl
 
   Reads-two : s.version ≡ Two → Reads (cells_two 0) (name_rows s) s
   Reads-two two =
@@ -225,10 +226,10 @@ module _ (s : State) (h : IsSound s) (ended : s.stage ≡ due.Ended) (ungridded 
       let last : Reads (placed m) (start_rows s) s = subst (λ (t : State). Reads t (start_rows s) s) whole (Reads-start due.Positions here) in
       let positions : Reads (placed 0) (map position_row s.positions ++ start_rows s) s =
       subst (λ (rows : List (List (List ℕ))). Reads (placed 0) (rows ++ start_rows s) s) (sym (by_places position_row s.positions []))
-      (Reads-range m 0 m (λ j. position_row (name_in s.positions j)) placed (start_rows s) s (omega arith) (Takes-position two) (λ j e. no_end (j == 0) e) last) in
+      (Reads-range m 0 m (λ j. position_row (name_in s.positions j)) placed (start_rows s) s (omega arith) (Takes-position two) (λ j. goes_on (j == 0)) last) in
       let named : cells_two n ≡ placed 0 = rw named_all refl in
       subst (λ (rows : List (List (List ℕ))). Reads (cells_two 0) (rows ++ (map position_row s.positions ++ start_rows s)) s) (sym (by_places cell_row s.names []))
-      (Reads-range n 0 n (λ k. cell_row (name_in s.names k)) cells_two (map position_row s.positions ++ start_rows s) s (omega arith) Takes-cell_two (λ k e. cc) (subst (λ (t : State). Reads t (map position_row s.positions ++ start_rows s) s) (sym named) positions))
+      (Reads-range n 0 n (λ k. cell_row (name_in s.names k)) cells_two (map position_row s.positions ++ start_rows s) s (omega arith) Takes-cell_two (λ k. refl) (subst (λ (t : State). Reads t (map position_row s.positions ++ start_rows s) s) (sym named) positions))
 
   -- The first three lines.
   abbrev begun_at : TextVersion → State
@@ -275,5 +276,5 @@ module _ (s : State) (h : IsSound s) (ended : s.stage ≡ due.Ended) (ungridded 
   -- all lines behind that of the version
   pub Reads-begun : Reads (begun_at s.version) ((codes "horizon" ∷ decimal s.horizon ∷ []) ∷ (codes "parts" ∷ decimal s.total ∷ decimal s.drift ∷ decimal s.look ∷ []) ∷ name_rows s) s
   Reads-begun =
-      Reads-row (begun_at s.version) (dated_at s.version) s _ _ (Takes-horizon s.version) (λ e. cc)
-      (Reads-row (dated_at s.version) (head_at due.Cells s.version [] [] [] [] [] []) s _ _ (Takes-parts s.version) (λ e. cc) (Reads-names s.version refl))
+      Reads-row (begun_at s.version) (dated_at s.version) s _ _ (Takes-horizon s.version) refl
+      (Reads-row (dated_at s.version) (head_at due.Cells s.version [] [] [] [] [] []) s _ _ (Takes-parts s.version) refl (Reads-names s.version refl))

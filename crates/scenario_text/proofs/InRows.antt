@@ -25,7 +25,8 @@ use Rattle.scenario_text.proofs.EntryRows.{drift_said}
 use Rattle.scenario_text.specs.declared.draft.TextVersion.{TextVersion}
 use Rattle.scenario_text.specs.declared.draft.TextVersion.TheVariants.{One, Two}
 use Rattle.scenario_text.specs.Sound.{AreEntries, AreMoves, IsSound}
-use Rattle.scenario_text.specs.Faults.{AreTaken}
+use Rattle.text_rows.specs.LineMachine.{AreTaken}
+use Rattle.scenario_text.specs.Reading.{is_ended, scenario_lines}
 use Rattle.scenario_text.specs.InRows.{line_text, for_each, RateInRows, SpreadInRows}
 use Rattle.scenario_text.specs.RowFields.{entry_fields, drift_of, overlook_of}
 use Rattle.text_rows.proofs.RowTexts.{IsField, AreFields, IsField-decimal, word}
@@ -63,13 +64,13 @@ module _ {X : Type 0} (f : ℕ → X) (empty : X) (n : ℕ) where
   filled-all = map-range-same n 0 (λ c. cond (nat_lt c n) (f c) empty) f (λ c low high. rw (lt-ltb c n (omega arith)) refl)
 
 -- One line for each number.
-pub taken_range : (n a b : ℕ) (row : ℕ → List (List ℕ)) (s : ℕ → State) → a + n ≡ b → ((k : ℕ) → k < b → Takes (s k) (row k) (s (k + 1))) → ((k : ℕ) → (s k).stage ≡ due.Ended → ⊥) → AreTaken (s a) (map (λ c. line_text (row c)) (range_with_len a n)) (s b)
+pub taken_range : (n a b : ℕ) (row : ℕ → List (List ℕ)) (s : ℕ → State) → a + n ≡ b → ((k : ℕ) → k < b → Takes (s k) (row k) (s (k + 1))) → ((k : ℕ) → is_ended (s k).stage ≡ false) → AreTaken scenario_lines (s a) (map (λ c. line_text (row c)) (range_with_len a n)) (s b)
 taken_range zero a b row s e takes unended = let here : a ≡ b = omega arith in ap s here
 taken_range (suc n) a b row s e takes unended =
-    (s (a + 1), line_at-row (s a) (s (a + 1)) (row a) (takes a (omega arith)), unended (a + 1), taken_range n (a + 1) b row s (omega arith) takes unended)
+    (s (a + 1), line_at-row (s a) (s (a + 1)) (row a) (takes a (omega arith)), unended a, taken_range n (a + 1) b row s (omega arith) takes unended)
 
-pub unended_rows : (stage : Stage) → stage ≡ due.Rows → stage ≡ due.Ended → ⊥
-unended_rows stage at e = let bad : due.Rows ≡ due.Ended = sym at ∙ e in let none : ⊥ = cc in none
+pub unended_rows : (stage : Stage) → stage ≡ due.Rows → is_ended stage ≡ false
+unended_rows stage at = ap is_ended at
 
 -- what holds of the cells of what was read
 field_in : (s : State) → IsSound s → (c : ℕ) → c < length s.names → IsField (name_in s.names c)
@@ -128,8 +129,8 @@ rate_in_rows s t part came at few e =
           ∙ overlook-taken (after k) (name_in s.names k) k part found few le (filled-open (λ c. Some part) None n k lt)
           ∙ ap (λ (xs : List (Option ℕ)). Ok (record s { overlook = xs })) (filled-next (λ c. Some part) None n k lt);
     } in
-    subst (λ (u : State). AreTaken u (for_each n row) t) (sym first)
-    (subst (AreTaken (after 0) (for_each n row)) last (taken_range n 0 n row after (omega arith) takes (λ k. unended_rows s.stage at)))
+    subst (λ (u : State). AreTaken scenario_lines u (for_each n row) t) (sym first)
+    (subst (AreTaken scenario_lines (after 0) (for_each n row)) last (taken_range n 0 n row after (omega arith) takes (λ k. unended_rows s.stage at)))
 
 -- `spread PART`
 
@@ -217,5 +218,5 @@ spread_in_rows s t part came at few e =
           ∙ drift_said (after k) (name_in s.names k) k (entry_fields s.names (of k)) (of k) found even (AreSaid-named s.names n (named_at s.names h.differ) 1 (of k) are.within small are.positive differ) are.total (filled-open of [] n k lt)
           ∙ ap (λ (xs : List (List CellPart)). Ok (record s { parts = xs })) (filled-next of [] n k lt);
     } in
-    subst (λ (u : State). AreTaken u (for_each n row) t) (sym first)
-    (subst (AreTaken (after 0) (for_each n row)) last (taken_range n 0 n row after (omega arith) takes (λ k. unended_rows s.stage at)))
+    subst (λ (u : State). AreTaken scenario_lines u (for_each n row) t) (sym first)
+    (subst (AreTaken scenario_lines (after 0) (for_each n row)) last (taken_range n 0 n row after (omega arith) takes (λ k. unended_rows s.stage at)))

@@ -1,5 +1,5 @@
 -- A text that reads spells one scenario.
-use Rattle.std.proofs.Common.{◌≡◌, ℕ, zero, suc, add-one, ◌+◌, ◌<◌, ◌≤◌, List, [], ◌∷◌, map, length, get_or, set, replicate, Result, Ok, Err, refl, sym, ap, ◌∙◌, subst, arith}
+use Rattle.std.proofs.Common.{◌≡◌, ℕ, zero, suc, add-one, ◌<◌, ◌≤◌, List, [], map, length, get_or, set, replicate, Ok, refl, sym, ap, ◌∙◌, subst, arith}
 use Rattle.std.specs.Prelude.{◌-◌, sum_by, unwrap_or}
 use Rattle.std.specs.List.{range_with_len, AllZip}
 use Rattle.std.specs.List.Sorted.{IsPermutation}
@@ -18,16 +18,13 @@ use Rattle.sweep_table.specs.LookParts.{LookParts, looks_over, parts_over, IsSwe
 use Rattle.sweep_table.specs.Changes.{with_changes}
 use Rattle.sweep_table.proofs.Changed.{IsSweep-with_changes, ascending_from_right}
 use Rattle.search_model.specs.Problem.{Problem}
-use Rattle.scenario_text.specs.declared.draft.Stage.{Stage}
 use Rattle.scenario_text.specs.declared.draft.Stage.TheVariants as due
 use Rattle.scenario_text.specs.declared.draft.TextVersion.{TextVersion}
 use Rattle.scenario_text.specs.declared.draft.TextVersion.TheVariants.{One, Two}
-use Rattle.scenario_text.specs.declared.kind.TextKind.{TextKind}
-use Rattle.scenario_text.specs.declared.kind.TextFault.{TextFault}
 use Rattle.text_rows.specs.Lines.{lines_of}
-use Rattle.text_rows.proofs.Results.{err_ok}
+use Rattle.text_rows.proofs.LineMachine.{read_told}
 use Rattle.scenario_text.specs.State.{State, blank_state, positions_in}
-use Rattle.scenario_text.specs.Reading.{Front, line_at, lines_at, go_on, unless_ended}
+use Rattle.scenario_text.specs.Reading.{Front, scenario_lines, front_of}
 use Rattle.scenario_text.specs.Scenarios.{Says, SaysLooks, AreLooksOf, drift_change_of}
 use Rattle.scenario_text.specs.Sound.{AreEntries, AreMoves, IsSound}
 use Rattle.scenario_text.specs.Laws.{EveryTextSpellsOne}
@@ -39,32 +36,13 @@ use Rattle.scenario_text.proofs.PeriodDrifts as drifts
 use Rattle.scenario_text.proofs.PeriodLooks as looks
 use Rattle.scenario_text.proofs.Places.{Placed, Placed-none, Placed-more}
 use Rattle.scenario_text.proofs.RowsInOrder.{cells_in_order, moves_in_order, entries_in_order}
-use Rattle.scenario_text.proofs.Soundness.{blank_sound, line_sound}
+use Rattle.scenario_text.proofs.Soundness.{blank_sound, taken_sound}
 
--- What is read up to the end is sound.
-sound_at : (stage : Stage) (t : State) (number : ℕ) (more : Result Front TextFault) (front : Front) → IsSound t → (more ≡ Ok front → IsSound front.state) → unless_ended stage t number more ≡ Ok front → IsSound front.state
-sound_at due.Version t number more front h further is = further is
-sound_at due.Horizon t number more front h further is = further is
-sound_at due.Parts t number more front h further is = further is
-sound_at due.Cells t number more front h further is = further is
-sound_at due.Positions t number more front h further is = further is
-sound_at due.Start t number more front h further is = further is
-sound_at due.First t number more front h further is = further is
-sound_at due.Rows t number more front h further is = further is
-sound_at due.Ended t number more front h further is =
-    let here : Front = record { state = t; line = number } in
-    let same : here ≡ front = cc in
-    subst (λ (f : Front). IsSound f.state) same h
-
-sound_on : (r : Result State TextKind) (number : ℕ) (more : State → Result Front TextFault) (front : Front) → ((t : State) → r ≡ Ok t → IsSound t) → ((t : State) → IsSound t → more t ≡ Ok front → IsSound front.state) → go_on r number more ≡ Ok front → IsSound front.state
-sound_on (Err kind) number more front here further is = absurd (err_ok _ front is)
-sound_on (Ok t) number more front here further is = sound_at t.stage t number (more t) front (here t refl) (further t (here t refl)) is
-
-lines_sound : (lines : List (List ℕ)) (s : State) (number : ℕ) (front : Front) → IsSound s → lines_at s number lines ≡ Ok front → IsSound front.state
-unfolding lines_at
-lines_sound [] s number front h is = absurd (err_ok _ front is)
-lines_sound (line ∷ lines) s number front h is =
-    sound_on (line_at s line) number (λ t. lines_at t (number + 1) lines) front (λ t e. line_sound s t line h e) (λ t sound e. lines_sound lines t (number + 1) front sound e) is
+-- what is read up to the end is sound
+front_sound : (text : List ℕ) (front : Front) → front_of text ≡ Ok front → IsSound front.state
+front_sound text front reads =
+    let read = read_told scenario_lines blank_state 1 (lines_of text) front refl reads in
+    taken_sound read.read blank_state front.state blank_sound read.right
 
 -- The rows in ascending order.
 module _ (s : State) (h : IsSound s) (ended : s.stage ≡ due.Ended) where
@@ -247,6 +225,6 @@ module _ (s : State) (h : IsSound s) (ended : s.stage ≡ due.Ended) where
 
 pub every_text_spells_one : EveryTextSpellsOne
 every_text_spells_one text front reads =
-    let sound = lines_sound (lines_of text) blank_state 1 front blank_sound reads in
+    let sound = front_sound text front reads in
     let said = said_once front.state sound (front_ended text front reads) in
     (said.0, said.1, λ q says. one_problem front.state q said.0 says said.1)

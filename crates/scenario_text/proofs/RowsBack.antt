@@ -21,6 +21,7 @@ use Rattle.scenario_text.specs.declared.line.Line.TheVariants.{Moves, Drift, Dri
 use Rattle.scenario_text.specs.ByCells.{has_double}
 use Rattle.scenario_text.specs.Fields.{cell_named, are_even}
 use Rattle.scenario_text.specs.State.{State, PeriodRow, by_version, positions_in}
+use Rattle.scenario_text.specs.Reading.{is_ended}
 use Rattle.scenario_text.specs.KindTable.{line_due, has_period_row, is_narrow}
 use Rattle.scenario_text.specs.Grammar.{row_at}
 use Rattle.scenario_text.specs.Sound.{AreEntries, AreLooks, AreMoves, IsPart, IsLook, IsSound}
@@ -348,22 +349,22 @@ module _ (s : State) (h : IsSound s) (ended : s.stage ≡ due.Ended) where
       let n = length s.look_rows in
       let whole : take n s.look_rows ≡ s.look_rows = take_all n s.look_rows (omega arith) in
       let last : Reads (rows_at s.moves s.parts s.drift_rows s.overlook s.looks (take n s.look_rows)) ((codes "end" ∷ []) ∷ []) s =
-      subst (λ (rs : List PeriodRow). Reads (rows_at s.moves s.parts s.drift_rows s.overlook s.looks rs) ((codes "end" ∷ []) ∷ []) s) (sym whole) (Reads-end (record s { stage = due.Rows }) s (codes "end" ∷ []) Takes-end ended) in
+      subst (λ (rs : List PeriodRow). Reads (rows_at s.moves s.parts s.drift_rows s.overlook s.looks rs) ((codes "end" ∷ []) ∷ []) s) (sym whole) (Reads-end (record s { stage = due.Rows }) s (codes "end" ∷ []) Takes-end (ap is_ended ended)) in
       subst (λ (rows : List (List (List ℕ))). Reads (rows_at s.moves s.parts s.drift_rows s.overlook s.looks []) (rows ++ ((codes "end" ∷ []) ∷ [])) s) (sym (by_places (look_in_of s.names (positions_in s)) s.look_rows nothing))
-      (Reads-range n 0 n (λ k. look_in_of s.names (positions_in s) (get_or s.look_rows k nothing)) (λ k. rows_at s.moves s.parts s.drift_rows s.overlook s.looks (take k s.look_rows)) ((codes "end" ∷ []) ∷ []) s (omega arith) Takes-look_in (λ k e. cc) last)
+      (Reads-range n 0 n (λ k. look_in_of s.names (positions_in s) (get_or s.look_rows k nothing)) (λ k. rows_at s.moves s.parts s.drift_rows s.overlook s.looks (take k s.look_rows)) ((codes "end" ∷ []) ∷ []) s (omega arith) Takes-look_in (λ k. refl) last)
 
   Reads-look : Reads (rows_at s.moves s.parts s.drift_rows s.overlook (looks_so_far 0) []) (look_rows s) s
   Reads-look =
       let n = length s.looks in
       let whole = full (λ q. Some (unwrap_or (slice_index_or s.looks q None) [])) None s.looks n refl has_look_row in
-      Reads-range n 0 n (λ q. look_of s.names (positions_in s) q (unwrap_or (slice_index_or s.looks q None) [])) (λ k. rows_at s.moves s.parts s.drift_rows s.overlook (looks_so_far k) []) (look_in_rows s) s (omega arith) Takes-look (λ k e. cc)
+      Reads-range n 0 n (λ q. look_of s.names (positions_in s) q (unwrap_or (slice_index_or s.looks q None) [])) (λ k. rows_at s.moves s.parts s.drift_rows s.overlook (looks_so_far k) []) (look_in_rows s) s (omega arith) Takes-look (λ k. refl)
       (subst (λ (ls : List (Option (List CellPart))). Reads (rows_at s.moves s.parts s.drift_rows s.overlook ls []) (look_in_rows s) s) (sym whole) Reads-look_in)
 
   Reads-overlook : Reads (rows_at s.moves s.parts s.drift_rows (overlook_so_far 0) (looks_so_far 0) []) (overlook_rows s) s
   Reads-overlook =
       let n = length s.overlook in
       let whole = full (λ c. Some (unwrap_or (slice_index_or s.overlook c None) 0)) None s.overlook n refl has_overlook_part in
-      Reads-range n 0 n (λ c. overlook_of s.names c (unwrap_or (slice_index_or s.overlook c None) 0)) (λ k. rows_at s.moves s.parts s.drift_rows (overlook_so_far k) (looks_so_far 0) []) (look_rows s) s (omega arith) Takes-overlook (λ k e. cc)
+      Reads-range n 0 n (λ c. overlook_of s.names c (unwrap_or (slice_index_or s.overlook c None) 0)) (λ k. rows_at s.moves s.parts s.drift_rows (overlook_so_far k) (looks_so_far 0) []) (look_rows s) s (omega arith) Takes-overlook (λ k. refl)
       (subst (λ (os : List (Option ℕ)). Reads (rows_at s.moves s.parts s.drift_rows os (looks_so_far 0) []) (look_rows s) s) (sym whole) Reads-look)
 
   Reads-drift_in : Reads (rows_at s.moves s.parts [] (overlook_so_far 0) (looks_so_far 0) []) (drift_in_rows s) s
@@ -373,13 +374,13 @@ module _ (s : State) (h : IsSound s) (ended : s.stage ≡ due.Ended) where
       let last : Reads (rows_at s.moves s.parts (take n s.drift_rows) (overlook_so_far 0) (looks_so_far 0) []) (overlook_rows s) s =
       subst (λ (rs : List PeriodRow). Reads (rows_at s.moves s.parts rs (overlook_so_far 0) (looks_so_far 0) []) (overlook_rows s) s) (sym whole) Reads-overlook in
       subst (λ (rows : List (List (List ℕ))). Reads (rows_at s.moves s.parts [] (overlook_so_far 0) (looks_so_far 0) []) (rows ++ overlook_rows s) s) (sym (by_places (drift_in_of s.names) s.drift_rows nothing))
-      (Reads-range n 0 n (λ k. drift_in_of s.names (get_or s.drift_rows k nothing)) (λ k. rows_at s.moves s.parts (take k s.drift_rows) (overlook_so_far 0) (looks_so_far 0) []) (overlook_rows s) s (omega arith) Takes-drift_in (λ k e. cc) last)
+      (Reads-range n 0 n (λ k. drift_in_of s.names (get_or s.drift_rows k nothing)) (λ k. rows_at s.moves s.parts (take k s.drift_rows) (overlook_so_far 0) (looks_so_far 0) []) (overlook_rows s) s (omega arith) Takes-drift_in (λ k. refl) last)
 
   Reads-drift : Reads (rows_at s.moves (parts_so_far 0) [] (overlook_so_far 0) (looks_so_far 0) []) (drift_rows s) s
   Reads-drift =
       let n = length s.parts in
       let whole = full (λ c. slice_index_or s.parts c []) [] s.parts n refl (λ k lt. refl) in
-      Reads-range n 0 n (λ c. drift_of s.names c (slice_index_or s.parts c [])) (λ k. rows_at s.moves (parts_so_far k) [] (overlook_so_far 0) (looks_so_far 0) []) (drift_in_rows s) s (omega arith) Takes-drift (λ k e. cc)
+      Reads-range n 0 n (λ c. drift_of s.names c (slice_index_or s.parts c [])) (λ k. rows_at s.moves (parts_so_far k) [] (overlook_so_far 0) (looks_so_far 0) []) (drift_in_rows s) s (omega arith) Takes-drift (λ k. refl)
       (subst (λ (xs : List (List CellPart)). Reads (rows_at s.moves xs [] (overlook_so_far 0) (looks_so_far 0) []) (drift_in_rows s) s) (sym whole) Reads-drift_in)
 
   -- no row was read yet
@@ -391,5 +392,5 @@ module _ (s : State) (h : IsSound s) (ended : s.stage ≡ due.Ended) where
   Reads-moves =
       let n = length s.moves in
       let whole = full (moves_from s.moves) [] s.moves n refl (λ k lt. refl) in
-      Reads-range n 0 n (λ q. moves_of (positions_in s) q (moves_from s.moves q)) (λ k. rows_at (moves_so_far k) (parts_so_far 0) [] (overlook_so_far 0) (looks_so_far 0) []) (drift_rows s) s (omega arith) Takes-moves (λ k e. cc)
+      Reads-range n 0 n (λ q. moves_of (positions_in s) q (moves_from s.moves q)) (λ k. rows_at (moves_so_far k) (parts_so_far 0) [] (overlook_so_far 0) (looks_so_far 0) []) (drift_rows s) s (omega arith) Takes-moves (λ k. refl)
       (subst (λ (xs : List (List ℕ)). Reads (rows_at xs (parts_so_far 0) [] (overlook_so_far 0) (looks_so_far 0) []) (drift_rows s) s) (sym whole) Reads-drift)

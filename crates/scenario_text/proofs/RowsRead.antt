@@ -1,16 +1,16 @@
 -- Rows that are taken one after the other.
-use Rattle.std.proofs.Common.{◌≡◌, ℕ, zero, suc, ◌+◌, ◌<◌, false, List, [], ◌∷◌, ◌++◌, length, map, Ok, refl, sym, ap, ◌∙◌, subst, arith, append_assoc}
+use Rattle.std.proofs.Common.{◌≡◌, ℕ, zero, suc, ◌+◌, ◌<◌, true, false, List, [], ◌∷◌, ◌++◌, length, map, Ok, refl, sym, ap, ◌∙◌, subst, arith, append_assoc}
 use Rattle.std.specs.List.{range_with_len, join_with_byte}
 use Rattle.text_rows.specs.Rows.{text_of}
 use Rattle.text_rows.specs.Lines.{lines_of, after_lines}
 use Rattle.text_rows.proofs.RowTexts.{AreFields, fields_of-join, row_is_text, lines_of-row, after_lines-row}
 use Rattle.text_rows.proofs.LineCuts.{after_none}
-use Rattle.scenario_text.specs.declared.draft.Stage.TheVariants.{Ended}
+use Rattle.text_rows.specs.LineMachine.{read_from}
+use Rattle.text_rows.proofs.LineMachine.{at_line, at_last}
 use Rattle.scenario_text.specs.State.{State}
 use Rattle.scenario_text.specs.Fields.{says_nothing}
-use Rattle.scenario_text.specs.Reading.{line_at, lines_at}
+use Rattle.scenario_text.specs.Reading.{line_at, is_ended, scenario_lines}
 use Rattle.scenario_text.specs.Grammar.{fields_at}
-use Rattle.scenario_text.proofs.Loop.{at_line, at_last}
 
 -- a state takes a row of fields and becomes another
 pub record Takes (s : State) (row : List (List ℕ)) (t : State) : Type 0 where
@@ -20,7 +20,7 @@ pub record Takes (s : State) (row : List (List ℕ)) (t : State) : Type 0 where
 
 -- from this state on the rows are read up to their end, which is the last line, and cut off, whatever follows them
 pub record Reads (s : State) (rows : List (List (List ℕ))) (t : State) : Type 0 where
-  pub lines : (number last : ℕ) (rest : List ℕ) → number + length rows ≡ last + 1 → lines_at s number (lines_of (text_of rows ++ rest)) ≡ Ok (record { state = t; line = last })
+  pub lines : (number last : ℕ) (rest : List ℕ) → number + length rows ≡ last + 1 → read_from scenario_lines s number (lines_of (text_of rows ++ rest)) ≡ Ok (record { state = t; line = last })
   pub cut : (rest : List ℕ) → after_lines (length rows) (text_of rows ++ rest) ≡ rest
 
 -- a row is read as its fields
@@ -40,23 +40,23 @@ after_first : (n : ℕ) (row : List (List ℕ)) (rows : List (List (List ℕ))) 
 after_first n row rows rest h = ap (after_lines (suc n)) (append_assoc (join_with_byte 32 row) (10 ∷ text_of rows) rest) ∙ after_lines-row n row (text_of rows ++ rest) h
 
 -- one row more at the front
-pub Reads-row : (s t u : State) (row : List (List ℕ)) (rows : List (List (List ℕ))) → Takes s row t → (t.stage ≡ Ended → ⊥) → Reads t rows u → Reads s (row ∷ rows) u
+pub Reads-row : (s t u : State) (row : List (List ℕ)) (rows : List (List (List ℕ))) → Takes s row t → is_ended t.stage ≡ false → Reads t rows u → Reads s (row ∷ rows) u
 Reads-row s t u row rows h unended more = record {
-  lines = λ number last rest long. at_line s t number (join_with_byte 32 row) (lines_of (text_of rows ++ rest)) _ (lines_of-first row rows rest h.fields) (line_at-row s t row h) unended ∙ more.lines (number + 1) last rest (omega arith);
+  lines = λ number last rest long. at_line scenario_lines s t number (join_with_byte 32 row) (lines_of (text_of rows ++ rest)) _ (lines_of-first row rows rest h.fields) (line_at-row s t row h) unended ∙ more.lines (number + 1) last rest (omega arith);
   cut = λ rest. after_first (length rows) row rows rest h.fields ∙ more.cut rest;
 }
 
 -- the last row
-pub Reads-end : (s t : State) (row : List (List ℕ)) → Takes s row t → t.stage ≡ Ended → Reads s (row ∷ []) t
+pub Reads-end : (s t : State) (row : List (List ℕ)) → Takes s row t → is_ended t.stage ≡ true → Reads s (row ∷ []) t
 Reads-end s t row h ended = record {
   lines = λ number last rest long.
       let here : last ≡ number = omega arith in
-      rw here (at_last s t number (join_with_byte 32 row) (lines_of rest) _ (lines_of-first row [] rest h.fields) (line_at-row s t row h) ended);
+      rw here (at_last scenario_lines s t number (join_with_byte 32 row) (lines_of rest) _ (lines_of-first row [] rest h.fields) (line_at-row s t row h) ended);
   cut = λ rest. after_first 0 row [] rest h.fields ∙ sym (after_none rest);
 }
 
 -- one row for each number from a up to b
-pub Reads-range : (n a b : ℕ) (row : ℕ → List (List ℕ)) (s : ℕ → State) (rows : List (List (List ℕ))) (u : State) → a + n ≡ b → ((k : ℕ) → k < b → Takes (s k) (row k) (s (k + 1))) → ((k : ℕ) → (s k).stage ≡ Ended → ⊥) → Reads (s b) rows u → Reads (s a) (map row (range_with_len a n) ++ rows) u
+pub Reads-range : (n a b : ℕ) (row : ℕ → List (List ℕ)) (s : ℕ → State) (rows : List (List (List ℕ))) (u : State) → a + n ≡ b → ((k : ℕ) → k < b → Takes (s k) (row k) (s (k + 1))) → ((k : ℕ) → is_ended (s k).stage ≡ false) → Reads (s b) rows u → Reads (s a) (map row (range_with_len a n) ++ rows) u
 Reads-range zero a b row s rows u e takes unended rest =
     let here : b ≡ a = omega arith in
     subst (λ (k : ℕ). Reads (s k) rows u) here rest

@@ -11,7 +11,7 @@ use Rattle.text_rows.proofs.FieldCuts.{fields_some}
 use Rattle.text_rows.proofs.Results.{err_ok}
 use Rattle.scenario_text.specs.Fields.{says_nothing}
 use Rattle.scenario_text.specs.State.{State, blank_state}
-use Rattle.scenario_text.specs.Reading.{line_at}
+use Rattle.scenario_text.specs.Reading.{line_at, scenario_lines}
 use Rattle.scenario_text.specs.declared.line.Line.{Line}
 use Rattle.scenario_text.specs.declared.line.Line.TheVariants.{Scenario, Horizon, Parts, Cell, Position, Grid, Start, First, Moves, Drift, DriftIn, Overlook, Spread, Rate, Look, LookIn, End}
 use Rattle.scenario_text.specs.declared.kind.TextKind.{TextKind}
@@ -20,7 +20,7 @@ use Rattle.scenario_text.specs.Grammar.{added, unless_any, row_at, fields_at}
 use Rattle.scenario_text.proofs.Due.{place_due}
 use Rattle.scenario_text.specs.Order.{IsPlace}
 use Rattle.scenario_text.specs.Sound.{AreEntries, AreLooks, AreMoves, IsPart, IsLook, IsSound}
-use Rattle.scenario_text.specs.Faults.{AreTaken}
+use Rattle.text_rows.specs.LineMachine.{AreTaken}
 use Rattle.scenario_text.specs.InRows.{IsReached}
 use Rattle.scenario_text.proofs.SoundFields.{not_refused}
 use Rattle.scenario_text.proofs.SoundHeads.{sound_ok, version_sound, horizon_sound, parts_sound, none_period, cell_sound, position_sound, grid_sound, start_sound, first_sound}
@@ -95,7 +95,7 @@ line_sound s t line h e =
     (λ _ e'. fields_sound s (fields_of line) t h (fields_some line) (not_refused (not (list_all is_text_byte line)) NotText (fields_at s (fields_of line)) t e').1) e
 
 -- and so what some right lines say
-pub taken_sound : (lines : List (List ℕ)) (s t : State) → IsSound s → AreTaken s lines t → IsSound t
+pub taken_sound : (lines : List (List ℕ)) (s t : State) → IsSound s → AreTaken scenario_lines s lines t → IsSound t
 taken_sound [] s t h taken = subst IsSound taken h
 taken_sound (line ∷ lines) s t h taken = taken_sound lines taken.0 t (line_sound s taken.0 line h taken.1) taken.3
 

@@ -3,6 +3,7 @@ use Rattle.std.proofs.Common.{refl}
 use Rattle.scenario_text.specs.Worked.{WorkedTexts}
 use Rattle.scenario_text.specs.WorkedTwo.{WorkedTwo}
 use Rattle.text_rows.specs.Fields.{fields_of}
+use Rattle.text_rows.specs.LineMachine.{read_from}
 use Rattle.exact_parts.specs.Decimal.{is_plain, number_at}
 use Rattle.std.specs.Fmt.{digits}
 use Rattle.search_model.specs.Grids.{spread_row}
@@ -10,10 +11,10 @@ use Rattle.search_grid.specs.Moves.{moves_from}
 use Rattle.search_grid.specs.Sides.{side_moves}
 use Rattle.scenario_text.specs.Fields.{entries_in}
 use Rattle.scenario_text.specs.KindTable.{pair_names, pair_parts, stands_twice}
-use Rattle.scenario_text.specs.Reading.{line_at, lines_at}
+use Rattle.scenario_text.specs.Reading.{line_at}
 
 pub worked_texts : WorkedTexts
-unfolding fields_of is_plain number_at digits moves_from side_moves spread_row entries_in pair_names pair_parts stands_twice line_at lines_at
+unfolding fields_of is_plain number_at digits moves_from side_moves spread_row entries_in pair_names pair_parts stands_twice line_at read_from
 worked_texts = record {
   rows = refl;
   grid = refl;
@@ -36,7 +37,7 @@ worked_texts = record {
 }
 
 pub worked_two : WorkedTwo
-unfolding fields_of is_plain number_at digits moves_from side_moves spread_row entries_in pair_names pair_parts stands_twice line_at lines_at
+unfolding fields_of is_plain number_at digits moves_from side_moves spread_row entries_in pair_names pair_parts stands_twice line_at read_from
 worked_two = record {
   positions = refl;
   periods = refl;

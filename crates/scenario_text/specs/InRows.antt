@@ -7,8 +7,8 @@ use Rattle.search_grid.specs.Sides.{moves_beside}
 use Rattle.scenario_text.specs.declared.draft.Stage.TheVariants as due
 use Rattle.search_model.specs.Grids.{grid_name, grid_names, spread_row}
 use Rattle.scenario_text.specs.State.{State, blank_state}
-use Rattle.scenario_text.specs.Reading.{line_at}
-use Rattle.scenario_text.specs.Faults.{AreTaken}
+use Rattle.text_rows.specs.LineMachine.{AreTaken}
+use Rattle.scenario_text.specs.Reading.{line_at, scenario_lines}
 use Rattle.scenario_text.specs.RowFields.{cell_row, moves_of, drift_of, overlook_of}
 
 -- fields with one blank between
@@ -21,14 +21,14 @@ for_each cells row = map (λ c. line_text (row c)) (range_with_len 0 cells)
 
 -- some right lines say this
 abbrev pub IsReached : State → Type 0
-IsReached s = (lines : List (List ℕ)) × AreTaken blank_state lines s
+IsReached s = (lines : List (List ℕ)) × AreTaken scenario_lines blank_state lines s
 
 -- `grid R C` says what a `cell` line for each of its cells says and, behind the lines of the start and of the first parts, a
 -- `moves` line for each, with the cell itself and those at its sides; but `spread` is for grids alone
 abbrev pub GridInRows : Type 0
 GridInRows = (s t : State) (rows cols : ℕ) (start first : List ℕ) → IsReached s → s.stage ≡ due.Cells → s.names ≡ [] → rows ≤ 200 → cols ≤ 200 →
-    AreTaken s (line_text (codes "grid" ∷ decimal rows ∷ decimal cols ∷ []) ∷ start ∷ first ∷ []) t → t.stage ≡ due.Rows →
-    AreTaken s (for_each (rows * cols) (λ c. cell_row (grid_name cols c)) ++ start ∷ first ∷ for_each (rows * cols) (λ c. moves_of (grid_names rows cols) c (moves_beside rows cols c)))
+    AreTaken scenario_lines s (line_text (codes "grid" ∷ decimal rows ∷ decimal cols ∷ []) ∷ start ∷ first ∷ []) t → t.stage ≡ due.Rows →
+    AreTaken scenario_lines s (for_each (rows * cols) (λ c. cell_row (grid_name cols c)) ++ start ∷ first ∷ for_each (rows * cols) (λ c. moves_of (grid_names rows cols) c (moves_beside rows cols c)))
     (record t { gridded = false })
 
 -- behind the moves of its cells a line that is right without the grid's mark is right with it, too, and adds the same
@@ -39,10 +39,10 @@ GridReadsOn = (s t : State) (line : List ℕ) → s.stage ≡ due.Rows → s.gri
 abbrev pub RateInRows : Type 0
 RateInRows = (s t : State) (part : ℕ) → IsReached s → s.stage ≡ due.Rows → part ≤ 1000000 →
     line_at s (line_text (codes "rate" ∷ decimal part ∷ [])) ≡ Ok t →
-    AreTaken s (for_each (length s.names) (λ c. overlook_of s.names c part)) t
+    AreTaken scenario_lines s (for_each (length s.names) (λ c. overlook_of s.names c part)) t
 
 -- `spread PART` says what a `drift` line for each cell says: the part to each of its moves but the stay, and the rest to itself
 abbrev pub SpreadInRows : Type 0
 SpreadInRows = (s t : State) (part : ℕ) → IsReached s → s.stage ≡ due.Rows → part ≤ 1000000 →
     line_at s (line_text (codes "spread" ∷ decimal part ∷ [])) ≡ Ok t →
-    AreTaken s (for_each (length s.names) (λ c. drift_of s.names c (spread_row s.drift part c (moves_from s.moves c)))) t
+    AreTaken scenario_lines s (for_each (length s.names) (λ c. drift_of s.names c (spread_row s.drift part c (moves_from s.moves c)))) t

@@ -7,11 +7,12 @@ use Rattle.scenario_text.specs.declared.kind.TextKind.{TextKind}
 use Rattle.scenario_text.specs.declared.kind.TextKind.TheVariants.{NotText, BadLine, BadNumber, OverLimit, UnknownName, DoubleName, MissingRow, DoubleRow, WrongSum, PartOver, NoMove, TooWide, EarlyEnd}
 use Rattle.scenario_text.specs.declared.kind.TextFault.{TextFault}
 use Rattle.scenario_text.specs.State.{State, blank_state}
-use Rattle.scenario_text.specs.Reading.{Front, lines_at}
+use Rattle.text_rows.specs.LineMachine.{read_from}
+use Rattle.scenario_text.specs.Reading.{Front, scenario_lines}
 
 -- what some lines say, the first of a text
 abbrev pub said : List (List ℕ) → Result Front TextFault
-said lines = lines_at blank_state 1 lines
+said lines = read_from scenario_lines blank_state 1 lines
 
 abbrev pub entry : ℕ → ℕ → CellPart
 entry cell part = record { cell = cell; part = part }

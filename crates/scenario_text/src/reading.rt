@@ -1,10 +1,10 @@
 //! The lines of a text, one after the other.
 
-ghost use Rattle.std.specs.Prelude.{◌≡◌, ◌<◌, ◌+◌, ◌^◌, ◌↔◌, length, IsTrue};
+ghost use Rattle.std.specs.Prelude.{◌≡◌, ◌<◌, ◌+◌, ◌^◌, length};
 ghost use Rattle.std.specs.List.{list_all};
 ghost use Rattle.text_rows.specs.Lines.{lines_of};
 ghost use Rattle.text_rows.specs.Fields.{is_blank as is_blank_lem};
-ghost use Rattle.scenario_text.specs.Reading.{first_said as first_said_lem};
+ghost use Rattle.scenario_text.specs.Reading.{is_ended as is_ended_lem, first_said as first_said_lem};
 ghost use Rattle.scenario_text.specs.State.{state_of, blank_state};
 ghost use Rattle.scenario_text.specs.Gives.{ReadsDraft, stop_at};
 
@@ -34,7 +34,7 @@ fn at_number(number: u64, stop: LineStop) -> TextStop
 }
 
 fn is_ended(stage: Stage) -> bool
-    ensures { IsTrue result ↔ (stage ≡ Stage.Ended) }
+    ensures { result ≡ is_ended_lem stage }
 {
     matches!(stage, Stage::Ended)
 }

@@ -5,3 +5,5 @@ pub mod LineCuts
 pub mod FieldCuts
 pub mod RowTexts
 pub mod Results
+pub mod LineMachine
+pub mod WholeLines

@@ -74,7 +74,7 @@ field_free : (at : ℕ) (f : List ℕ) → at < 33 → IsField f → HasNo at f
 field_free at f low h =
     All-weaker (λ (c : ℕ). is_field_byte c ≡ true) (λ (c : ℕ). c ≡ at → ⊥) (λ c is e. omega (arith, field_byte-low c is)) f (AllPass-from_list_all is_field_byte f h.bytes)
 
-row_free : (fs : List (List ℕ)) → AreFields fs → HasNoFeed (join_with_byte 32 fs)
+pub row_free : (fs : List (List ℕ)) → AreFields fs → HasNoFeed (join_with_byte 32 fs)
 row_free [] h = All-nil (λ (c : ℕ). c ≡ 10 → ⊥)
 row_free (f ∷ []) h = field_free 10 f (omega arith) h.0
 row_free (f ∷ g ∷ fs) h =
@@ -144,13 +144,10 @@ exact_fields-row (f ∷ []) h = split_whole 32 f (field_free 32 f (omega arith) 
 exact_fields-row (f ∷ g ∷ fs) h =
     split_piece 32 f (join_with_byte 32 (g ∷ fs)) (field_free 32 f (omega arith) h.0) ∙ ap (λ (x : List (List ℕ)). f ∷ x) (exact_fields-row (g ∷ fs) h.1)
 
--- A row is the first line of a text that begins with it, and its first piece.
+-- A row is the first line of a text that begins with it.
 
 pub lines_of-row : (fs : List (List ℕ)) (rest : List ℕ) → AreFields fs → lines_of (join_with_byte 32 fs ++ 10 ∷ rest) ≡ join_with_byte 32 fs ∷ lines_of rest
 lines_of-row fs rest h = lines_of-line (join_with_byte 32 fs) rest (row_free fs h)
 
 pub after_lines-row : (n : ℕ) (fs : List (List ℕ)) (rest : List ℕ) → AreFields fs → after_lines (suc n) (join_with_byte 32 fs ++ 10 ∷ rest) ≡ after_lines n rest
 after_lines-row n fs rest h = after_lines-line n (join_with_byte 32 fs) rest (row_free fs h)
-
-pub pieces_of-row : (fs : List (List ℕ)) (rest : List ℕ) → AreFields fs → pieces_of (join_with_byte 32 fs ++ 10 ∷ rest) ≡ join_with_byte 32 fs ∷ pieces_of rest
-pieces_of-row fs rest h = split_piece 10 (join_with_byte 32 fs) rest (row_free fs h)

@@ -1,5 +1,5 @@
 -- The pieces of a text.
-use Rattle.std.proofs.Common.{◌≡◌, ℕ, Bool, true, false, cond, eqb, eq-eqb, List, [], ◌∷◌, ◌++◌, length, refl, sym, subst, arith, ◌⊎◌, inl, inr}
+use Rattle.std.proofs.Common.{◌≡◌, ℕ, false, eqb, eq-eqb, List, [], ◌∷◌, ◌++◌, length, refl, sym, subst, arith, inl, inr}
 use Rattle.std.specs.Prelude.{All}
 use Rattle.std.specs.List.{slice_split, onto_first, join_with_byte}
 use Rattle.std.proofs.lemmas.Bool.{ne_eqb, cases_eq}
@@ -37,15 +37,6 @@ split_whole at piece free = slice_split_none (λ c. eqb c at) piece (none_stops 
 pub some_piece : (at : ℕ) (text : List ℕ) → eqb (length (split_at at text)) 0 ≡ false
 unfolding split_at
 some_piece at text = let long = length-slice_split (λ c. eqb c at) text in ne_eqb (length (slice_split (λ c. eqb c at) text)) 0 (λ e. omega (arith, long))
-
-by_test : (here : Bool) (c : ℕ) (pieces : List (List ℕ)) → (cond here ([] ∷ pieces) (onto_first c pieces) ≡ [] ∷ pieces) ⊎ (cond here ([] ∷ pieces) (onto_first c pieces) ≡ onto_first c pieces)
-by_test true c pieces = inl refl
-by_test false c pieces = inr refl
-
--- and one that isn't empty has more than an empty piece
-pub some_left : (at c : ℕ) (cs : List ℕ) → (split_at at (c ∷ cs) ≡ [] ∷ split_at at cs) ⊎ (split_at at (c ∷ cs) ≡ onto_first c (split_at at cs))
-unfolding split_at
-some_left at c cs = by_test (eqb c at) c (split_at at cs)
 
 -- where a piece ends is told by a byte that it doesn't hold
 pub split_once : (at : ℕ) (xs ys us vs : List ℕ) → HasNo at xs → HasNo at ys → xs ++ at ∷ us ≡ ys ++ at ∷ vs → (xs ≡ ys) × (us ≡ vs)

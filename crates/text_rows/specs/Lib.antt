@@ -3,3 +3,5 @@ pub mod Fields
 pub mod Kinds
 pub mod Lines
 pub mod Rows
+pub mod LineMachine
+pub mod WholeLines

@@ -1,71 +1,74 @@
 -- What a line makes of reading, or the end of the bytes in its place.
-use Rattle.std.proofs.Common.{◌≡◌, ℕ, ◌+◌, Bool, false, List, [], ◌∷◌, length, Result, Ok, Err, refl, sym, ◌∙◌, arith, ap, inl, inr}
-use Rattle.std.specs.Prelude.{IsTrue}
+use Rattle.std.proofs.Common.{◌≡◌, ℕ, ◌+◌, Bool, true, false, List, ◌∷◌, ◌++◌, length, Ok, Err, refl, arith, ap, subst, ◌∙◌, inl, inr}
+use Rattle.std.specs.Prelude.{All, IsTrue}
+use Rattle.std.proofs.lemmas.Bool.{false_from_ne_true}
 use Rattle.std.proofs.lemmas.Grind.{common_steps}
-use Rattle.std.specs.List.{onto_first}
-use Rattle.std.proofs.lemmas.Bool.{ne_eqb}
 use Rattle.search_model.specs.Problem.{Problem}
-use Rattle.bound_tree.specs.declared.gap.GapPlan.{GapPlan}
-use Rattle.tree_format.specs.declared.due.Due.{Due}
+use Rattle.tree_format.specs.declared.plan_line.Family.{Family}
 use Rattle.tree_format.specs.declared.plan_line.Stage.{Stage}
 use Rattle.tree_format.specs.declared.plan_line.Stage.TheVariants as due
-use Rattle.tree_format.specs.declared.plan_line.PlanLine.{PlanLine}
 use Rattle.tree_format.specs.declared.kind.PlanKind.{PlanKind}
-use Rattle.tree_format.specs.declared.kind.PlanKind.TheVariants.{EarlyEnd, Rest}
-use Rattle.tree_format.specs.declared.kind.PlanFault.{PlanFault}
-use Rattle.text_rows.specs.Lines.{pieces_of}
+use Rattle.tree_format.specs.declared.kind.PlanKind.TheVariants.{EarlyEnd}
+use Rattle.text_rows.specs.Lines.{HasNoFeed, lines_text, after_lines}
 use Rattle.text_rows.specs.Fields.{exact_fields}
-use Rattle.text_rows.proofs.Splits.{some_piece, split_nothing, some_left}
-use Rattle.tree_format.specs.Reading.{line_at, pieces_at, is_ended, next, taken, at_line_number}
+use Rattle.text_rows.specs.LineMachine.{read_from, AreTaken, HasFault}
+use Rattle.text_rows.specs.WholeLines.{whole_lines}
+use Rattle.text_rows.proofs.LineMachine as machine
+use Rattle.text_rows.proofs.WholeLines.{whole_line, no_whole_line, lines_before, after_before}
+use Rattle.tree_format.specs.Reading.{line_at, is_ended, at_line_number, Progress, unread, behind, plan_lines, unless_more, alone, front_of, text_at}
 
-unended : (stage : Stage) → (stage ≡ due.Ended → ⊥) → is_ended stage ≡ false
-unended (due.Version family) h = refl
-unended due.Path h = refl
-unended due.Chance h = refl
-unended due.Ceiling h = refl
-unended due.Count h = refl
-unended (due.Records left) h = refl
-unended due.Ended h = absurd (h refl)
+-- the end was read, or it wasn't
+pub ended_stage : (stage : Stage) → is_ended stage ≡ true → stage ≡ due.Ended
+ended_stage (due.Version family) e = absurd (let bad : ⊥ = cc in bad)
+ended_stage due.Path e = absurd (let bad : ⊥ = cc in bad)
+ended_stage due.Chance e = absurd (let bad : ⊥ = cc in bad)
+ended_stage due.Ceiling e = absurd (let bad : ⊥ = cc in bad)
+ended_stage due.Count e = absurd (let bad : ⊥ = cc in bad)
+ended_stage (due.Records left) e = absurd (let bad : ⊥ = cc in bad)
+ended_stage due.Ended e = refl
 
-module _ (p : Problem) (number : ℕ) (d : Due) (plan : GapPlan) where
-  -- a line that is taken
-  pub at_line : (said : PlanLine) (rest line after : List ℕ) (all : Result GapPlan PlanFault) → (d.stage ≡ due.Ended → ⊥) → pieces_of rest ≡ line ∷ pieces_of after → line_at p d (exact_fields line) ≡ Ok said → pieces_at p number d plan (pieces_of rest) ≡ all → pieces_at p (number + 1) (next p d said) (taken plan said) (pieces_of after) ≡ all
-  unfolding pieces_at
-  at_line said rest line after all goes e f so_far = sym (rw (e, unended d.stage goes, some_piece 10 after, f) refl) ∙ so_far
+pub unended_stage : (stage : Stage) → is_ended stage ≡ false → stage ≡ due.Ended → ⊥
+unended_stage stage unended ended = let bad : true ≡ false = subst (λ (s : Stage). is_ended s ≡ false) ended unended in cc
+
+pub unended : (stage : Stage) → (stage ≡ due.Ended → ⊥) → is_ended stage ≡ false
+unended stage goes = false_from_ne_true (is_ended stage) (λ e. goes (ended_stage stage e))
+
+-- Behind right lines.
+module _ (family : Family) (p : Problem) (before : List (List ℕ)) (s : Progress) (feeds : All HasNoFeed before) (right : AreTaken (plan_lines p) (unread family) before s) where
+  fault_behind : (kind : PlanKind) (rest : List ℕ) → (s.due.stage ≡ due.Ended → ⊥) → HasFault (plan_lines p) s (whole_lines rest) kind → text_at family p (lines_text before ++ rest) ≡ Err (at_line_number (1 + length before) kind)
+  fault_behind kind rest goes here =
+      let text = lines_text before ++ rest in
+      ap (alone text) ((machine.first_fault_decides (plan_lines p) (unread family) 1 (whole_lines text) (at_line_number (1 + length before) kind) refl).1 (record {
+        before = before;
+        left = whole_lines rest;
+        reached = s;
+        kind = kind;
+        whole = lines_before before rest feeds;
+        right = right;
+        goes = unended s.due.stage goes;
+        here = here;
+        is = refl;
+      }))
 
   -- a line with a fault
-  pub at_fault : (kind : PlanKind) (rest line after : List ℕ) (all : Result GapPlan PlanFault) → (d.stage ≡ due.Ended → ⊥) → pieces_of rest ≡ line ∷ pieces_of after → line_at p d (exact_fields line) ≡ Err kind → pieces_at p number d plan (pieces_of rest) ≡ all → all ≡ Err (at_line_number number kind)
-  unfolding pieces_at
-  at_fault kind rest line after all goes e f so_far = sym so_far ∙ rw (e, unended d.stage goes, some_piece 10 after, f) refl
+  pub at_fault : (kind : PlanKind) (line after : List ℕ) → (s.due.stage ≡ due.Ended → ⊥) → HasNoFeed line → line_at p s.due (exact_fields line) ≡ Err kind → text_at family p (lines_text before ++ (line ++ 10 ∷ after)) ≡ Err (at_line_number (1 + length before) kind)
+  at_fault kind line after goes free e =
+      fault_behind kind (line ++ 10 ∷ after) goes (inr (record { line = line; more = whole_lines after; whole = whole_line _ line after refl free; wrong = ap (behind p s) e }))
 
   -- a line without its line feed
-  pub at_early : (rest : List ℕ) (all : Result GapPlan PlanFault) → (d.stage ≡ due.Ended → ⊥) → pieces_of rest ≡ rest ∷ [] → pieces_at p number d plan (pieces_of rest) ≡ all → all ≡ Err (at_line_number number EarlyEnd)
-  unfolding pieces_at
-  at_early rest all goes e so_far = sym so_far ∙ rw (e, unended d.stage goes) refl
+  pub at_early : (rest : List ℕ) → (s.due.stage ≡ due.Ended → ⊥) → HasNoFeed rest → text_at family p (lines_text before ++ rest) ≡ Err (at_line_number (1 + length before) EarlyEnd)
+  at_early rest goes free = fault_behind EarlyEnd rest goes (inl (refl, no_whole_line rest free))
 
-  -- nothing behind the end
-  pub at_end : (rest : List ℕ) (all : Result GapPlan PlanFault) → d.stage ≡ due.Ended → length rest ≡ 0 → pieces_at p number d plan (pieces_of rest) ≡ all → all ≡ Ok plan
-  unfolding pieces_at
-  at_end [] all ended none so_far = sym so_far ∙ rw (split_nothing 10, ended) refl
-  at_end (c ∷ cs) all ended none so_far = absurd (omega arith)
-
-  onto_left : (pieces : List (List ℕ)) (c : ℕ) → d.stage ≡ due.Ended → pieces_at p number d plan (onto_first c pieces) ≡ Err (at_line_number number Rest)
-  unfolding pieces_at
-  onto_left [] c ended = rw ended refl
-  onto_left (piece ∷ pieces) c ended = rw (ended, ne_eqb (length (c ∷ piece)) 0 (λ e. omega arith)) refl
-
-  feed_left : (cs : List ℕ) → d.stage ≡ due.Ended → pieces_at p number d plan ([] ∷ pieces_of cs) ≡ Err (at_line_number number Rest)
-  unfolding pieces_at
-  feed_left cs ended = rw (ended, some_piece 10 cs) refl
-
-  -- a byte behind the end
-  pub at_rest : (rest : List ℕ) (all : Result GapPlan PlanFault) → d.stage ≡ due.Ended → (length rest ≡ 0 → ⊥) → pieces_at p number d plan (pieces_of rest) ≡ all → all ≡ Err (at_line_number number Rest)
-  at_rest [] all ended some so_far = absurd (some refl)
-  at_rest (c ∷ cs) all ended some so_far =
-      elim (some_left 10 c cs) [
-        | inl e ↦ sym so_far ∙ ap (pieces_at p number d plan) e ∙ feed_left cs ended
-        | inr e ↦ sym so_far ∙ ap (pieces_at p number d plan) e ∙ onto_left (pieces_of cs) c ended
-      ]
+  -- the end
+  pub at_end : (rest : List ℕ) → s.due.stage ≡ due.Ended → text_at family p (lines_text before ++ rest) ≡ unless_more (1 + length before) rest s.plan
+  at_end rest ended =
+      let text = lines_text before ++ rest in
+      let number : length before + 1 ≡ 1 + length before = omega arith in
+      let read : front_of family p text ≡ Ok (record { state = s; line = length before }) =
+      ap (read_from (plan_lines p) (unread family) 1) (lines_before before rest feeds) ∙ machine.reads_to (plan_lines p) before (whole_lines rest) (unread family) s 1 (length before) right refl (ap is_ended ended) number in
+      ap (alone text) read
+      ∙ ap (λ (n : ℕ). unless_more n (after_lines (length before) text) s.plan) number
+      ∙ ap (λ (t : List ℕ). unless_more (1 + length before) t s.plan) (after_before before rest feeds)
 
 -- a test that the end was read failed
 pub goes_on : (ended : Bool) (stage : Stage) → (stage ≡ due.Ended → IsTrue ended) → ended ≡ false → stage ≡ due.Ended → ⊥

@@ -27,19 +27,17 @@ use Rattle.tree_format.specs.declared.plan_item.Step.{Step}
 use Rattle.tree_format.specs.declared.plan_item.Step.TheVariants.{More, Item, Fault}
 use Rattle.text_rows.specs.Fields.{exact_fields}
 use Rattle.text_rows.specs.Lines.{HasNoFeed, lines_text}
-use Rattle.text_rows.proofs.Splits.{split_piece}
+use Rattle.text_rows.proofs.LineMachine.{taken_last}
 use Rattle.text_rows.proofs.Results.{err_ok}
-use Rattle.tree_format.specs.Faults.{due_behind}
-use Rattle.tree_format.specs.Reading.{line_at, stage_line, at_start, blank_plan, behind_chance, next, taken, is_ended, at_line_number}
+use Rattle.tree_format.specs.Reading.{line_at, stage_line, behind_chance, next, taken, is_ended, at_line_number, unread, behind, plan_lines, unless_more, text_at}
 use Rattle.tree_format.specs.Gathering.{Gathered, nothing_gathered, gathered}
 use Rattle.tree_format.specs.FeedSteps.{Stand, Moved, stand_at, moved, step_of, line_ended, line_begun, byte_fed}
-use Rattle.tree_format.specs.Feeding.{told, plan_behind, HasRead, IsDecided, IsKindOf, IsItem, GoesOn}
-use Rattle.tree_format.proofs.AtLines.{at_fault, at_rest}
-use Rattle.tree_format.proofs.FirstFaults.{unended_stage}
+use Rattle.tree_format.specs.Feeding.{told, HasRead, IsDecided, IsKindOf, IsItem, GoesOn}
+use Rattle.tree_format.proofs.AtLines.{ended_stage, unended_stage, unended, at_fault, at_end}
 use Rattle.tree_format.proofs.SpelledLines.{IsLettered, version_told, path_told, chance_told, ceiling_told, count_told, record_told, IsRecordLine, record_printable, IsEndLine}
-use Rattle.tree_format.proofs.Spelled.{IsReadAt, IsRead, family_due, expected_legal, ended_stage}
+use Rattle.tree_format.proofs.Spelled.{IsReadAt, IsRead, family_due, expected_legal, lines_on}
 use Rattle.tree_format.proofs.Gatherings.{gathered_more, gathered_judged}
-use Rattle.tree_format.proofs.Feedings.{lines_more, due_more, plan_more, said_more, read_behind, text_behind, family_behind}
+use Rattle.tree_format.proofs.Feedings.{lines_more, text_more}
 
 -- the items with a step more
 abbrev StepTells : Family → Problem → List PlanItem → Step → List PlanItem → Type 0
@@ -135,10 +133,10 @@ goes_on family p fed items new (Fault fault) feed tells read = absurd tells
 
 module _ (family : Family) (p : Problem) (h : IsProblem p) (fed : List ℕ) (items : List PlanItem) (s : Stand) (read : HasRead family p fed items s) where
   abbrev d : Due
-  d = due_behind p (at_start family) read.said
+  d = read.reached.due
 
   abbrev plan : GapPlan
-  plan = plan_behind blank_plan read.said
+  plan = read.reached.plan
 
   abbrev number : ℕ
   number = 1 + length read.before
@@ -149,50 +147,44 @@ module _ (family : Family) (p : Problem) (h : IsProblem p) (fed : List ℕ) (ite
   -- a byte behind the end
   byte_behind : (c : ℕ) → d.stage ≡ due.Ended → IsDecided family p (fed ++ c ∷ []) (at_line_number number Rest)
   byte_behind c ended = λ more.
-      let long = length-append read.begun (c ∷ more) in
-      at_rest p number d plan (read.begun ++ c ∷ more) _ ended (λ none. omega (arith, none, long)) (text_behind family p fed items s read c more)
+      ap (text_at family p) (text_more fed read.begun read.before c more read.whole)
+      ∙ at_end family p read.before read.reached read.feeds read.right (read.begun ++ c ∷ more) ended
+      ∙ ap (λ (b : List ℕ). unless_more number (b ++ c ∷ more) plan) (read.behind_end ended)
 
   -- a line that says something
-  line_read : (said : PlanLine) → line_at p d (exact_fields read.begun) ≡ Ok said → HasRead family p (fed ++ 10 ∷ []) (told (next p d said).stage (taken plan said)) (moved p here said)
-  line_read said e =
+  line_read : (said : PlanLine) → (d.stage ≡ due.Ended → ⊥) → line_at p d (exact_fields read.begun) ≡ Ok said → HasRead family p (fed ++ 10 ∷ []) (told (next p d said).stage (taken plan said)) (moved p here said)
+  line_read said goes e =
       let lines = read.before ++ read.begun ∷ [] in
-      let all = read.said ++ said ∷ [] in
       let later : number + 1 ≡ 1 + length lines = omega (arith, length-append read.before (read.begun ∷ [])) in
-      let stages = due_more p (at_start family) read.said said in
-      let plans = plan_more blank_plan read.said said in
       record {
         before = lines;
-        said = all;
+        reached = record { due = next p d said; plan = taken plan said };
         begun = [];
         whole = ap (λ (t : List ℕ). t ++ 10 ∷ []) read.whole ∙ append_assoc (lines_text read.before) read.begun (10 ∷ []) ∙ sym (lines_more read.before read.begun []);
         feeds = All-push HasNoFeed read.before read.begun read.feeds read.open_line;
         open_line = All-nil (λ (b : ℕ). b ≡ 10 → ⊥);
-        right = said_more p (at_start family) read.before read.said read.begun said read.right e;
+        right = taken_last (plan_lines p) read.before (unread family) read.reached _ read.begun read.right (ap (behind p read.reached) e) (unended d.stage goes);
         behind_end = λ _. refl;
-        tell = sym (ap (λ (t : Due). told t.stage (plan_behind blank_plan all)) stages ∙ ap (told (next p d said).stage) plans);
-        stand = moved_at p number d plan read.begun said
-            ∙ ap (λ (n : ℕ). stand_at n (next p d said) (taken plan said) []) later
-            ∙ ap (λ (t : Due). stand_at (1 + length lines) t (taken plan said) []) (sym stages)
-            ∙ ap (λ (q : GapPlan). stand_at (1 + length lines) (due_behind p (at_start family) all) q []) (sym plans);
+        tell = refl;
+        stand = moved_at p number d plan read.begun said ∙ ap (λ (n : ℕ). stand_at n (next p d said) (taken plan said) []) later;
       }
 
   line_end : (r : Result PlanLine PlanKind) → (d.stage ≡ due.Ended → ⊥) → line_at p d (exact_fields read.begun) ≡ r → GoesOn family p (fed ++ 10 ∷ []) items (line_ended p here r).step (line_ended p here r).stand
   line_end (Err kind) goes e = λ more.
-      at_fault p number d plan kind (read.begun ++ 10 ∷ more) read.begun more _ goes (split_piece 10 read.begun more read.open_line) e (text_behind family p fed items s read 10 more)
+      ap (text_at family p) (text_more fed read.begun read.before 10 more read.whole) ∙ at_fault family p read.before read.reached read.feeds read.right kind read.begun more goes read.open_line e
   line_end (Ok said) goes e =
-      let settled = read_behind p h (at_start family) blank_plan read.before read.said read.right (refl, refl) in
-      let here_is : family_due d ≡ family = family_behind p h (at_start family) blank_plan read.before read.said read.right (refl, refl) in
+      let on = lines_on p h read.before (unread family) read.reached (refl, refl) read.right in
       let ends = told (next p d said).stage (taken plan said) in
       let tells : StepTells family p items (step_of here said) ends =
       subst (λ (xs : List PlanItem). StepTells family p xs (step_of here said) ends) (sym read.tell)
-      (subst (λ (f : Family). StepTells f p (told d.stage plan) (step_of here said) ends) here_is (line_tells p h number plan read.begun d (exact_fields read.begun) said settled e)) in
-      goes_on family p (fed ++ 10 ∷ []) items (told (next p d said).stage (taken plan said)) (step_of here said) (moved p here said) tells (line_read said e)
+      (subst (λ (f : Family). StepTells f p (told d.stage plan) (step_of here said) ends) on.family (line_tells p h number plan read.begun d (exact_fields read.begun) said on.read e)) in
+      goes_on family p (fed ++ 10 ∷ []) items ends (step_of here said) (moved p here said) tells (line_read said goes e)
 
   -- a byte of the line that is due
   byte_begun : (c : ℕ) → (d.stage ≡ due.Ended → ⊥) → (c ≡ 10 → ⊥) → HasRead family p (fed ++ c ∷ []) items (line_begun c here).stand
   byte_begun c goes other = record {
     before = read.before;
-    said = read.said;
+    reached = read.reached;
     begun = read.begun ++ c ∷ [];
     whole = ap (λ (t : List ℕ). t ++ c ∷ []) read.whole ∙ append_assoc (lines_text read.before) read.begun (c ∷ []);
     feeds = read.feeds;
@@ -220,6 +212,5 @@ module _ (family : Family) (p : Problem) (h : IsProblem p) (fed : List ℕ) (ite
 -- what is expected where bytes were read is legal
 pub fed_legal : (family : Family) (p : Problem) → IsProblem p → (fed : List ℕ) (items : List PlanItem) (s : Stand) → HasRead family p fed items s → All (IsLegal p) s.due.expected
 fed_legal family p h fed items s read =
-    let settled = read_behind p h (at_start family) blank_plan read.before read.said read.right (refl, refl) in
-    let legal = expected_legal p (due_behind p (at_start family) read.said) (plan_behind blank_plan read.said) settled in
-    subst (λ (t : Stand). All (IsLegal p) t.due.expected) (sym read.stand) legal
+    let on = lines_on p h read.before (unread family) read.reached (refl, refl) read.right in
+    subst (λ (t : Stand). All (IsLegal p) t.due.expected) (sym read.stand) (expected_legal p read.reached.due read.reached.plan on.read)

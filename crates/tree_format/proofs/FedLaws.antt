@@ -2,7 +2,7 @@
 use Rattle.std.proofs.Common.{◌≡◌, ℕ, suc, ◌≤◌, ◌+◌, Bool, true, false, List, [], ◌∷◌, ◌++◌, length, take, drop, Some, Result, Ok, Err, refl, sym, ap, subst, ◌∙◌, arith, append_assoc, length-append, ◌⊎◌, inl, inr}
 use Rattle.std.specs.Prelude.{All}
 use Rattle.std.proofs.lemmas.List.{append-nil, take-append-drop}
-use Rattle.std.proofs.lemmas.List.Elements.{All-head, All-tail}
+use Rattle.std.proofs.lemmas.List.Elements.{All-nil, All-push, All-head, All-tail}
 use Rattle.search_model.specs.Problem.{Problem, IsProblem}
 use Rattle.bound_tree.specs.declared.gap.GapPlan.{GapPlan}
 use Rattle.tree_format.specs.declared.plan_line.Family.{Family}
@@ -20,20 +20,19 @@ use Rattle.tree_format.specs.declared.plan_item.Step.{Step}
 use Rattle.tree_format.specs.declared.plan_item.Step.TheVariants.{More, Item, Fault}
 use Rattle.text_rows.specs.Lines.{pieces_of, HasNoFeed, lines_text}
 use Rattle.text_rows.specs.Fields.{exact_fields}
-use Rattle.text_rows.proofs.Splits.{split_piece, split_whole, split_nothing}
-use Rattle.text_rows.proofs.Results.{same_ok}
-use Rattle.tree_format.specs.Faults.{AreSaid, due_behind}
-use Rattle.tree_format.specs.Reading.{line_at, at_start, blank_plan, next, taken, is_ended, at_line_number, pieces_at, text_at}
+use Rattle.text_rows.specs.LineMachine.{AreTaken}
+use Rattle.text_rows.proofs.LineMachine.{taken_once, taken_last}
+use Rattle.text_rows.proofs.Splits.{split_piece, split_whole}
+use Rattle.tree_format.specs.Reading.{line_at, at_start, next, taken, is_ended, at_line_number, Progress, unread, behind, plan_lines, text_at}
 use Rattle.text_rows.specs.Kinds.{first_kind, fault_of}
 use Rattle.tree_format.specs.FeedSteps.{Stand, stand_at, byte_fed}
-use Rattle.tree_format.specs.Feeding.{items_of, told, plan_behind, HasRead, Tells, IsDecided, IsWhole, IsCutOff, GoesOn}
+use Rattle.tree_format.specs.Feeding.{items_of, told, HasRead, Tells, IsDecided, IsWhole, IsCutOff, GoesOn}
 use Rattle.tree_format.specs.FeedLaws.{CutAnywhere, ItemsOfThePlan, EachFaultIsMet, FaultIsLast, AreInOrder, ItemsInOrder, GatheredIsSummary}
-use Rattle.tree_format.proofs.AtLines.{at_line, at_fault, at_early, at_end}
-use Rattle.tree_format.proofs.FirstFaults.{unended_stage}
-use Rattle.tree_format.proofs.Spelled.{IsReadAt, family_at, ended_stage}
+use Rattle.tree_format.proofs.AtLines.{ended_stage, unended_stage, unended, at_fault, at_early, at_end}
+use Rattle.tree_format.proofs.Spelled.{IsReadAt, family_at, lines_on}
 use Rattle.tree_format.proofs.Tables.{kinds_by_table}
 use Rattle.tree_format.proofs.Gatherings.{gathered_summary}
-use Rattle.tree_format.proofs.Feedings.{read_behind, family_behind, text_behind}
+use Rattle.tree_format.proofs.Feedings.{lines_more, text_more}
 use Rattle.tree_format.proofs.BytesFed.{byte_read}
 use Rattle.tree_format.proofs.FedPieces.{nothing_read, read_whole, read_early}
 
@@ -60,27 +59,16 @@ ends_same {X = X} (a ∷ xs) (b ∷ ys) x y e =
     let rest = ends_same xs ys x y heads.1 in
     (ap (λ (c : X). c ∷ xs) heads.0 ∙ ap (λ (cs : List X). b ∷ cs) rest.0, rest.1)
 
-said_same : (p : Problem) (d : Due) (before : List (List ℕ)) (said other : List PlanLine) → AreSaid p d before said → AreSaid p d before other → said ≡ other
-said_same p d [] [] [] right right' = refl
-said_same p d [] [] (y ∷ ys) right right' = absurd right'
-said_same p d [] (x ∷ xs) other right right' = absurd right
-said_same p d (line ∷ before) [] other right right' = absurd right
-said_same p d (line ∷ before) (x ∷ xs) [] right right' = absurd right'
-said_same p d (line ∷ before) (x ∷ xs) (y ∷ ys) right right' =
-    let same : x ≡ y = same_ok x y (sym right.0 ∙ right'.0) in
-    let later : AreSaid p (next p d x) before ys = subst (λ (z : PlanLine). AreSaid p (next p d z) before ys) (sym same) right'.1 in
-    ap (λ (z : PlanLine). z ∷ xs) same ∙ ap (λ (zs : List PlanLine). y ∷ zs) (said_same p (next p d x) before xs ys right.1 later)
-
 pub cut_anywhere : CutAnywhere
 cut_anywhere family p fed items others feed other a b =
     let text : lines_text a.before ++ a.begun ≡ lines_text b.before ++ b.begun = sym a.whole ∙ b.whole in
     let pieces = ends_same a.before b.before a.begun b.begun (sym (pieces_lines a.before a.begun a.feeds a.open_line) ∙ ap pieces_of text ∙ pieces_lines b.before b.begun b.feeds b.open_line) in
-    let said = said_same p (at_start family) b.before a.said b.said (subst (λ (lines : List (List ℕ)). AreSaid p (at_start family) lines a.said) pieces.0 a.right) b.right in (
-      a.tell ∙ ap (λ (ls : List PlanLine). told (due_behind p (at_start family) ls).stage (plan_behind blank_plan ls)) said ∙ sym b.tell,
+    let same = taken_once (plan_lines p) b.before (unread family) a.reached b.reached (subst (λ (lines : List (List ℕ)). AreTaken (plan_lines p) (unread family) lines a.reached) pieces.0 a.right) b.right in (
+      a.tell ∙ ap (λ (s : Progress). told s.due.stage s.plan) same ∙ sym b.tell,
       a.stand
-          ∙ ap (λ (lines : List (List ℕ)). stand_at (1 + length lines) (due_behind p (at_start family) a.said) (plan_behind blank_plan a.said) a.begun) pieces.0
-          ∙ ap (λ (line : List ℕ). stand_at (1 + length b.before) (due_behind p (at_start family) a.said) (plan_behind blank_plan a.said) line) pieces.1
-          ∙ ap (λ (ls : List PlanLine). stand_at (1 + length b.before) (due_behind p (at_start family) ls) (plan_behind blank_plan ls) b.begun) said
+          ∙ ap (λ (lines : List (List ℕ)). stand_at (1 + length lines) a.reached.due a.reached.plan a.begun) pieces.0
+          ∙ ap (λ (line : List ℕ). stand_at (1 + length b.before) a.reached.due a.reached.plan line) pieces.1
+          ∙ ap (λ (s : Progress). stand_at (1 + length b.before) s.due s.plan b.begun) same
           ∙ sym b.stand,
     )
 
@@ -110,43 +98,43 @@ same_fault f g e = cc
 no_both : (plan : GapPlan) (f : PlanFault) → ◌≡◌ {A = Result GapPlan PlanFault} (Err f) (Ok plan) → ⊥
 no_both plan f e = let bad : ⊥ = cc in bad
 
-module _ (p : Problem) (number : ℕ) (d : Due) (plan : GapPlan) (begun : List ℕ) (goes : d.stage ≡ due.Ended → ⊥) (free : HasNoFeed begun) where
-  abbrev ends : Result GapPlan PlanFault
-  ends = pieces_at p number d plan (pieces_of (begun ++ 10 ∷ []))
+module _ (family : Family) (p : Problem) (fed : List ℕ) (items : List PlanItem) (feed : Stand) (read : HasRead family p fed items feed) (goes : read.reached.due.stage ≡ due.Ended → ⊥) where
+  abbrev number : ℕ
+  number = 1 + length read.before
 
   -- with its line feed the line has another fault, or none
-  fed_said : (said : PlanLine) → line_at p d (exact_fields begun) ≡ Ok said → ends ≡ Err (at_line_number number EarlyEnd) → ⊥
+  fed_said : (said : PlanLine) → line_at p read.reached.due (exact_fields read.begun) ≡ Ok said → text_at family p (lines_text read.before ++ (read.begun ++ 10 ∷ [])) ≡ Err (at_line_number number EarlyEnd) → ⊥
   fed_said said e early =
-      let later = at_line p number d plan said (begun ++ 10 ∷ []) begun [] ends goes (split_piece 10 begun [] free) e refl in
-      by_test (is_ended (next p d said).stage)
-      (λ ended. no_both _ _ (sym early ∙ at_end p (number + 1) (next p d said) (taken plan said) [] ends (ended_stage _ ended) refl later))
+      let lines = read.before ++ read.begun ∷ [] in
+      let t : Progress = record { due = next p read.reached.due said; plan = taken read.reached.plan said } in
+      let feeds = All-push HasNoFeed read.before read.begun read.feeds read.open_line in
+      let right = taken_last (plan_lines p) read.before (unread family) read.reached t read.begun read.right (ap (behind p read.reached) e) (unended read.reached.due.stage goes) in
+      let text = ap (text_at family p) (lines_more read.before read.begun []) ∙ early in
+      by_test (is_ended t.due.stage)
+      (λ ended. no_both t.plan (at_line_number number EarlyEnd) (sym text ∙ at_end family p lines t feeds right [] (ended_stage t.due.stage ended)))
       (λ unended.
-      let again = same_fault _ _ (sym early ∙ at_early p (number + 1) (next p d said) (taken plan said) [] ends (unended_stage _ unended) (split_nothing 10) later) in
+      let again = same_fault _ _ (sym text ∙ at_early family p lines t feeds right [] (unended_stage t.due.stage unended) (All-nil (λ (b : ℕ). b ≡ 10 → ⊥))) in
       let same = ap (λ (f : PlanFault). f.line) again in
-      omega (arith, same))
+      omega (arith, same, length-append read.before (read.begun ∷ [])))
 
-  line_fed : (r : Result PlanLine PlanKind) → line_at p d (exact_fields begun) ≡ r → ends ≡ Err (at_line_number number EarlyEnd) → ⊥
+  line_fed : (r : Result PlanLine PlanKind) → line_at p read.reached.due (exact_fields read.begun) ≡ r → text_at family p (lines_text read.before ++ (read.begun ++ 10 ∷ [])) ≡ Err (at_line_number number EarlyEnd) → ⊥
   line_fed (Ok said) e early = fed_said said e early
   line_fed (Err kind) e early =
-      let wrong = at_fault p number d plan kind (begun ++ 10 ∷ []) begun [] ends goes (split_piece 10 begun [] free) e refl in
+      let wrong = at_fault family p read.before read.reached read.feeds read.right kind read.begun [] goes read.open_line e in
       let same = ap (λ (f : PlanFault). f.kind) (same_fault _ _ (sym wrong ∙ early)) in
-      never_early p d (exact_fields begun) (e ∙ ap Err same)
+      never_early p read.reached.due (exact_fields read.begun) (e ∙ ap Err same)
 
 pub fault_is_last : FaultIsLast
 fault_is_last family p fed items fault (feed, read) decided =
     let at_once : text_at family p fed ≡ Err fault = ap (text_at family p) (sym (append-nil fed)) ∙ decided [] in
-    let d = due_behind p (at_start family) read.said in
-    let number = 1 + length read.before in
-    let due_is : feed.due.stage ≡ d.stage = ap (λ (s : Stand). s.due.stage) read.stand in
-    by_test (is_ended d.stage)
-    (λ ended. let whole = read_whole family p fed items feed read (due_is ∙ ended_stage d.stage ended) in no_both whole.plan fault (sym at_once ∙ whole.spelled))
+    let due_is : feed.due.stage ≡ read.reached.due.stage = ap (λ (s : Stand). s.due.stage) read.stand in
+    by_test (is_ended read.reached.due.stage)
+    (λ ended. let whole = read_whole family p fed items feed read (due_is ∙ ended_stage read.reached.due.stage ended) in no_both whole.plan fault (sym at_once ∙ whole.spelled))
     (λ unended.
-    let goes = unended_stage d.stage unended in
+    let goes = unended_stage read.reached.due.stage unended in
     let early = read_early family p fed items feed read (λ over. goes (sym due_is ∙ over)) in
-    let same : fault ≡ at_line_number number EarlyEnd = same_fault _ _ (sym at_once ∙ early.first) ∙ ap (λ (s : Stand). at_line_number s.number EarlyEnd) read.stand in
-    let with_feed : text_at family p (fed ++ 10 ∷ []) ≡ Err fault = ap (λ (t : List ℕ). text_at family p t) (sym (append-nil (fed ++ 10 ∷ []))) ∙ ap (text_at family p) (append_assoc fed (10 ∷ []) []) ∙ decided (10 ∷ []) in
-    let ends = text_behind family p fed items feed read 10 [] ∙ ap (text_at family p) (append-nil (fed ++ 10 ∷ [])) ∙ with_feed ∙ ap Err same in
-    line_fed p number d (plan_behind blank_plan read.said) read.begun goes read.open_line _ refl ends)
+    let same : fault ≡ at_line_number (1 + length read.before) EarlyEnd = same_fault _ _ (sym at_once ∙ early.first) ∙ ap (λ (s : Stand). at_line_number s.number EarlyEnd) read.stand in
+    line_fed family p fed items feed read goes _ refl (ap (text_at family p) (sym (text_more fed read.begun read.before 10 [] read.whole) ∙ append_assoc fed (10 ∷ []) []) ∙ decided (10 ∷ []) ∙ ap Err same))
 
 -- A step is what the bytes decide.
 
@@ -284,7 +272,6 @@ in_order family p v expected due.Ended plan e read = inr (record {
 
 pub items_in_order : ItemsInOrder
 items_in_order family p fed items h (feed, read) =
-    let start = at_start family in
-    let d = due_behind p start read.said in
-    subst (λ (xs : List PlanItem). (xs ≡ []) ⊎ AreInOrder family xs) (sym read.tell)
-    (in_order family p d.dialect d.expected d.stage (plan_behind blank_plan read.said) (family_behind p h start blank_plan read.before read.said read.right (refl, refl)) (read_behind p h start blank_plan read.before read.said read.right (refl, refl)))
+    let on = lines_on p h read.before (unread family) read.reached (refl, refl) read.right in
+    let d = read.reached.due in
+    subst (λ (xs : List PlanItem). (xs ≡ []) ⊎ AreInOrder family xs) (sym read.tell) (in_order family p d.dialect d.expected d.stage read.reached.plan on.family on.read)

@@ -4,7 +4,6 @@ use Rattle.std.proofs.lemmas.Bool.{cases_lt}
 use Rattle.std.proofs.lemmas.List.{take_all, take_more}
 use Rattle.std.proofs.lemmas.List.Elements.{All-nil}
 use Rattle.search_model.specs.Problem.{Problem}
-use Rattle.bound_tree.specs.declared.gap.GapPlan.{GapPlan}
 use Rattle.tree_format.specs.declared.plan_line.Family.{Family}
 use Rattle.tree_format.specs.declared.kind.PlanKind.TheVariants.{EarlyEnd}
 use Rattle.tree_format.specs.declared.due.Due.{Due}
@@ -13,27 +12,24 @@ use Rattle.tree_format.specs.declared.plan_line.Stage.TheVariants as due
 use Rattle.tree_format.specs.declared.plan_item.PlanItem.{PlanItem}
 use Rattle.tree_format.specs.declared.plan_item.Step.{Step}
 use Rattle.tree_format.specs.declared.plan_item.Step.TheVariants.{More}
-use Rattle.text_rows.specs.Lines.{pieces_of, HasNoFeed}
-use Rattle.text_rows.proofs.Splits.{split_whole}
-use Rattle.tree_format.specs.Faults.{due_behind}
-use Rattle.tree_format.specs.Reading.{at_start, blank_plan, at_line_number, pieces_at, text_at}
+use Rattle.text_rows.specs.Lines.{HasNoFeed}
+use Rattle.tree_format.specs.Reading.{at_start, at_line_number, unread, unless_more, text_at}
 use Rattle.tree_format.specs.Gathering.{Gathered, nothing_gathered}
 use Rattle.tree_format.specs.FeedSteps.{Stand}
-use Rattle.tree_format.specs.Feeding.{told, plan_behind, HasRead, IfRead, Tells, IsWhole, IsCutOff, GoesOn}
+use Rattle.tree_format.specs.Feeding.{told, HasRead, IfRead, Tells, IsWhole, IsCutOff, GoesOn}
 use Rattle.tree_format.proofs.AtLines.{at_early, at_end}
 use Rattle.tree_format.proofs.Gatherings.{gathered_nothing}
-use Rattle.tree_format.proofs.Feedings.{reads_on}
 
 -- a feed that was fed nothing
 pub nothing_read : (family : Family) (p : Problem) (d : Due) (path : List ℕ) (line : Gathered) → d ≡ at_start family → path ≡ [] → line ≡ nothing_gathered → HasRead family p [] [] (record { number = 1; due = d; standing = record { path = path; value = 0 }; weight = 0; ceiling = 0; line = line })
 nothing_read family p d path line first none nothing = record {
   before = [];
-  said = [];
+  reached = unread family;
   begun = [];
   whole = refl;
   feeds = All-nil HasNoFeed;
   open_line = All-nil (λ (b : ℕ). b ≡ 10 → ⊥);
-  right = tt;
+  right = refl;
   behind_end = λ _. refl;
   tell = refl;
   stand = ap (λ (x : Due). record { number = 1; due = x; standing = record { path = path; value = 0 }; weight = 0; ceiling = 0; line = line }) first
@@ -70,36 +66,23 @@ fed_more family p fed items piece i old new to read = record { here = read; earl
 
 -- The end of the bytes.
 module _ (family : Family) (p : Problem) (fed : List ℕ) (items : List PlanItem) (feed : Stand) (read : HasRead family p fed items feed) where
-  abbrev d : Due
-  d = due_behind p (at_start family) read.said
-
-  abbrev plan : GapPlan
-  plan = plan_behind blank_plan read.said
-
-  abbrev number : ℕ
-  number = 1 + length read.before
-
-  line_left : pieces_at p number d plan (pieces_of read.begun) ≡ text_at family p fed
-  line_left = sym (ap (text_at family p) read.whole ∙ reads_on p read.before read.said (at_start family) blank_plan 1 read.begun read.feeds read.right)
-
-  is_due : feed.due ≡ d
-  is_due = ap (λ (s : Stand). s.due) read.stand
-
   -- behind the end they are the text of a plan
   pub read_whole : feed.due.stage ≡ due.Ended → IsWhole family p fed items
   read_whole over =
-      let ended : d.stage ≡ due.Ended = sym (ap (λ (x : Due). x.stage) is_due) ∙ over in
+      let ended : read.reached.due.stage ≡ due.Ended = sym (ap (λ (s : Stand). s.due.stage) read.stand) ∙ over in
       record {
-        plan = plan;
-        spelled = at_end p number d plan read.begun _ ended (ap length (read.behind_end ended)) line_left;
-        tell = read.tell ∙ ap (λ (t : Stage). told t plan) ended;
+        plan = read.reached.plan;
+        spelled = ap (text_at family p) read.whole
+            ∙ at_end family p read.before read.reached read.feeds read.right read.begun ended
+            ∙ ap (λ (t : List ℕ). unless_more (1 + length read.before) t read.reached.plan) (read.behind_end ended);
+        tell = read.tell ∙ ap (λ (t : Stage). told t read.reached.plan) ended;
       }
 
   -- before it a line feed is missing
   pub read_early : (feed.due.stage ≡ due.Ended → ⊥) → IsCutOff family p fed (at_line_number feed.number EarlyEnd)
-  read_early goes =
-      let early = at_early p number d plan read.begun _ (λ ended. goes (ap (λ (x : Due). x.stage) is_due ∙ ended)) (split_whole 10 read.begun read.open_line) line_left in
-      record {
-        first = early ∙ ap (λ (s : Stand). Err (at_line_number s.number EarlyEnd)) (sym read.stand);
-        early = refl;
-      }
+  read_early goes = record {
+    first = ap (text_at family p) read.whole
+        ∙ at_early family p read.before read.reached read.feeds read.right read.begun (λ ended. goes (ap (λ (s : Stand). s.due.stage) read.stand ∙ ended)) read.open_line
+        ∙ ap (λ (s : Stand). Err (at_line_number s.number EarlyEnd)) (sym read.stand);
+    early = refl;
+  }

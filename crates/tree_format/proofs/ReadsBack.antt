@@ -8,9 +8,10 @@ use Rattle.std.proofs.lemmas.Bool.{le-leb, ne_eqb}
 use Rattle.std.proofs.lemmas.List.{append-nil, length-map}
 use Rattle.std.proofs.lemmas.List.Elements.{All-nil, All-cons, All-get_or, All-head, All-tail, All-append, All-map, All-weaker}
 use Rattle.text_rows.specs.Rows.{text_of}
-use Rattle.text_rows.specs.Lines.{pieces_of}
+use Rattle.text_rows.specs.Lines.{HasNoFeed, lines_text}
+use Rattle.text_rows.specs.LineMachine.{AreTaken}
 use Rattle.text_rows.specs.Fields.{is_word}
-use Rattle.text_rows.proofs.RowTexts.{IsField, AreFields, IsRow, exact_fields-row, pieces_of-row, row_fields, none_empty, word, field_by, IsField-decimal, AreFields-map, AreFields-append}
+use Rattle.text_rows.proofs.RowTexts.{IsField, AreFields, IsRow, exact_fields-row, row_free, row_fields, none_empty, word, field_by, IsField-decimal, AreFields-map, AreFields-append}
 use Rattle.search_model.specs.Problem.{Problem, IsProblem, position_name}
 use Rattle.bound_tree.specs.declared.node.Kind.TheVariants.{Branch, Whole, Mean, Tangent, Edge}
 use Rattle.bound_tree.specs.declared.node.TreeNode.{TreeNode}
@@ -40,9 +41,9 @@ use Rattle.tree_format.specs.declared.plan_line.Stage.TheVariants as due
 use Rattle.tree_format.specs.declared.plan_line.PlanLine.{PlanLine}
 use Rattle.tree_format.specs.declared.plan_line.PlanLine.TheVariants.{Version, Path, Chance, Ceiling, Count, Node, End}
 use Rattle.tree_format.specs.ReadingLaws.{PlanTextReadsBack, PlanText2ReadsBack, GapTextReadsBack, OnePlanAText, OneGapAText}
-use Rattle.tree_format.specs.Reading.{is_end, ending, all_of, place_in, position_named, most_positions, node_line, placed, stage_line, line_at, at_start, blank_plan, places_behind, next, taken, pieces_at, text_at, as_plan, plan_at, gap_at}
+use Rattle.tree_format.specs.Reading.{is_end, ending, all_of, place_in, position_named, most_positions, node_line, placed, stage_line, line_at, at_start, blank_plan, places_behind, next, taken, Progress, behind, plan_lines, text_at, as_plan, plan_at, gap_at}
 use Rattle.tree_format.proofs.Said.{amount_in-decimal, place_in-decimal, position_named-name, all_of-map}
-use Rattle.tree_format.proofs.AtLines.{at_line, at_end}
+use Rattle.tree_format.proofs.AtLines.{unended, at_end}
 use Rattle.tree_format.proofs.SpelledLines.{IsLettered, HasPlace}
 use Rattle.tree_format.proofs.Spelled.{IsPathOf, IsCeiling, IsChanceOf, IsHeadOf, empty_legal}
 use Rattle.tree_format.proofs.LineNumbers.{few_records}
@@ -55,9 +56,17 @@ pub record Takes (p : Problem) (d : Due) (row : List (List ℕ)) (said : PlanLin
   pub goes : d.stage ≡ due.Ended → ⊥
   pub says : stage_line p d.dialect d.stage d.expected row ≡ Ok said
 
--- from here on the text of the rows is read to its end as this plan, whatever the number of its first line
-abbrev pub Reads : Problem → Due → GapPlan → List (List (List ℕ)) → GapPlan → Type 0
-Reads p d plan rows whole = (number : ℕ) → pieces_at p number d plan (pieces_of (text_of rows)) ≡ Ok whole
+-- the lines of rows
+abbrev lines_of_rows : List (List (List ℕ)) → List (List ℕ)
+lines_of_rows rows = map (λ row. join_with_byte 32 row) rows
+
+-- from here on these are right lines, of which the last is the end, and then this plan was read
+pub record Reads (p : Problem) (d : Due) (plan : GapPlan) (rows : List (List (List ℕ))) (whole : GapPlan) : Type 0 where
+  pub last : Progress
+  pub right : AreTaken (plan_lines p) (record { due = d; plan = plan }) (lines_of_rows rows) last
+  pub feeds : All HasNoFeed (lines_of_rows rows)
+  pub ends : last.due.stage ≡ due.Ended
+  pub plan_is : last.plan ≡ whole
 
 line_at-row : (p : Problem) (d : Due) (said : PlanLine) (row : List (List ℕ)) → Takes p d row said → line_at p d row ≡ Ok said
 unfolding line_at
@@ -65,10 +74,25 @@ line_at-row p d said row h = rw (none_empty row (row_fields row h.fields)) h.say
 
 -- one row more at the front
 Reads-row : (p : Problem) (d : Due) (plan whole : GapPlan) (said : PlanLine) (row : List (List ℕ)) (rows : List (List (List ℕ))) → Takes p d row said → Reads p (next p d said) (taken plan said) rows whole → Reads p d plan (row ∷ rows) whole
-Reads-row p d plan whole said row rows h rest = λ number.
-    let line = join_with_byte 32 row in
+Reads-row p d plan whole said row rows h rest =
     let read = ap (line_at p d) (exact_fields-row row h.fields) ∙ line_at-row p d said row h in
-    sym (at_line p number d plan said (line ++ 10 ∷ text_of rows) line (text_of rows) _ h.goes (pieces_of-row row (text_of rows) (row_fields row h.fields)) read refl) ∙ rest (number + 1)
+    let s : Progress = record { due = d; plan = plan } in
+    record {
+      last = rest.last;
+      right = (record { due = next p d said; plan = taken plan said }, ap (behind p s) read, unended d.stage h.goes, rest.right);
+      feeds = All-cons HasNoFeed (join_with_byte 32 row) (lines_of_rows rows) (row_free row (row_fields row h.fields)) rest.feeds;
+      ends = rest.ends;
+      plan_is = rest.plan_is;
+    }
+
+-- behind the end
+Reads-none : (p : Problem) (d : Due) (plan : GapPlan) → d.stage ≡ due.Ended → Reads p d plan [] plan
+Reads-none p d plan ended = record { last = record { due = d; plan = plan }; right = refl; feeds = All-nil HasNoFeed; ends = ended; plan_is = refl }
+
+-- the text of rows is that of their lines
+rows_text : (rows : List (List (List ℕ))) → text_of rows ≡ lines_text (lines_of_rows rows)
+rows_text [] = refl
+rows_text (row ∷ rows) = ap (λ (t : List ℕ). join_with_byte 32 row ++ 10 ∷ t) (rows_text rows) ∙ sym (append_assoc (join_with_byte 32 row) (10 ∷ []) (lines_text (lines_of_rows rows)))
 
 abbrev at_stage : Dialect → List (List ℕ) → Stage → Due
 at_stage v expected stage = record { dialect = v; stage = stage; expected = expected }
@@ -278,12 +302,15 @@ text_reads_back p v plan h k =
     let chance_rows = chance_row plan.standing.value plan.weight ∷ ((ceiling_rows v plan.ceiling ++ count_row (length plan.nodes) ∷ []) ++ record_rows) in
     let path_rows = (codes "path" ∷ map (position_name p) plan.standing.path) ∷ chance_rows in
     let last : ReadsEnd p v (with_nodes plan plan.nodes) end plan = λ expected closed.
-    Reads-row p (at_stage v expected (due.Records 0)) plan plan End (codes "end" ∷ []) [] (Takes-end p v expected closed) (λ number. at_end p number (at_stage v expected due.Ended) plan [] _ refl refl refl) in
+    Reads-row p (at_stage v expected (due.Records 0)) plan plan End (codes "end" ∷ []) [] (Takes-end p v expected closed) (Reads-none p (at_stage v expected due.Ended) plan refl) in
     let records = Reads-records p h v plan plan empty [] plan.nodes end k.printable k.narrow k.known k.places last in
     let count = Reads-row p (at_stage v empty due.Count) (with_nodes plan []) plan (Count (length plan.nodes)) _ record_rows (Takes-count p v empty (length plan.nodes) k.few) records in
     let chance = Reads-chance p v plan plan record_rows k.head count in
     let path = Reads-row p (at_stage v empty due.Path) blank_plan plan (Path plan.standing.path) _ chance_rows (Takes-path p h v empty plan.standing.path k.head.chance.path) chance in
-    Reads-row p (at_start (family_of v)) blank_plan plan (Version v) _ path_rows (Takes-version p v) path 1
+    let read = Reads-row p (at_start (family_of v)) blank_plan plan (Version v) (version_row v) path_rows (Takes-version p v) path in
+    let lines = lines_of_rows (version_row v ∷ path_rows) in
+    let text : text_in v p plan ≡ lines_text lines ++ [] = rows_text (version_row v ∷ path_rows) ∙ sym (append-nil (lines_text lines)) in
+    ap (text_at (family_of v) p) text ∙ at_end (family_of v) p lines read.last read.feeds read.right [] read.ends ∙ ap Ok read.plan_is
 
 -- A plan is the plan of its gap plan.
 

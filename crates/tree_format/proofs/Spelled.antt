@@ -1,13 +1,16 @@
 -- What is read as a plan is the text of that plan.
-use Rattle.std.proofs.Common.{◌≡◌, ℕ, ◌<◌, ◌≤◌, ◌+◌, ◌-◌, ◌^◌, true, false, List, [], ◌∷◌, ◌++◌, map, length, Result, Ok, Err, refl, sym, ap, subst, ◌∙◌, arith, append_assoc, length-append, inl, inr}
-use Rattle.std.specs.Prelude.{All, codes, ◌&&◌, ◌==◌}
-use Rattle.std.specs.List.{join_with_byte}
-use Rattle.std.proofs.lemmas.Bool.{cond_both, and_parts, eqb-true}
+use Rattle.std.proofs.Common.{◌≡◌, ℕ, ◌<◌, ◌≤◌, ◌+◌, ◌-◌, ◌^◌, List, [], ◌∷◌, ◌++◌, map, length, Result, Ok, Err, refl, sym, ap, subst, ◌∙◌, arith, append_assoc, length-append, inl, inr}
+use Rattle.std.specs.Prelude.{All, codes}
+use Rattle.std.proofs.lemmas.Bool.{cond_both}
 use Rattle.std.proofs.lemmas.List.{append-nil, map-append, length-map}
 use Rattle.std.proofs.lemmas.List.Elements.{All-nil, All-cons, All-head, All-tail, All-append, All-push, All-map, All-weaker}
 use Rattle.text_rows.specs.Rows.{text_of}
 use Rattle.text_rows.proofs.RowLemmas.{text_of-append}
-use Rattle.text_rows.specs.Lines.{pieces_of}
+use Rattle.text_rows.specs.Lines.{lines_text, after_lines}
+use Rattle.text_rows.specs.LineMachine.{Reached, AreTaken}
+use Rattle.text_rows.specs.WholeLines.{whole_lines}
+use Rattle.text_rows.proofs.LineMachine.{read_told}
+use Rattle.text_rows.proofs.WholeLines.{lines_first}
 use Rattle.text_rows.specs.Fields.{exact_fields}
 use Rattle.text_rows.proofs.Results.{err_ok, same_ok}
 use Rattle.search_model.specs.Problem.{Problem, IsProblem}
@@ -24,7 +27,7 @@ use Rattle.bound_tree.specs.declared.gap.GapPlan.{GapPlan}
 use Rattle.bound_tree.specs.Gaps.{shape_of_kind, shape_of, closed_node, gap_of, plan_of}
 use Rattle.bound_tree.specs.declared.plan.Plan.{Plan}
 use Rattle.tree_format.specs.declared.kind.PlanKind.{PlanKind}
-use Rattle.tree_format.specs.declared.kind.PlanKind.TheVariants.{BadLine, EarlyEnd, Rest}
+use Rattle.tree_format.specs.declared.kind.PlanKind.TheVariants.{BadLine, Rest}
 use Rattle.tree_format.specs.declared.kind.PlanFault.{PlanFault}
 use Rattle.tree_format.specs.declared.due.Due.{Due}
 use Rattle.tree_format.specs.declared.plan_line.Dialect.{Dialect}
@@ -39,8 +42,9 @@ use Rattle.tree_format.specs.declared.plan_line.Stage.TheVariants as due
 use Rattle.tree_format.specs.declared.plan_line.PlanLine.{PlanLine}
 use Rattle.tree_format.specs.declared.plan_line.PlanLine.TheVariants.{Chance}
 use Rattle.tree_format.specs.PlanText.{node_row, path_rows, chance_row, ceiling_rows, head_rows, plan_rows, text_in, ArePositions, IsPrintableKind, IsPrintableRecord, IsPrintable, IsNarrowKind, IsNarrow, IsNoEdge, IsTextOfPlan, IsNarrowNode, IsGapText}
-use Rattle.tree_format.specs.Reading.{line_at, stage_line, at_start, with_stage, blank_plan, places_behind, behind_chance, next, taken, is_ended, at_line_number, go_on, pieces_at, text_at, as_plan}
+use Rattle.tree_format.specs.Reading.{line_at, stage_line, places_behind, behind_chance, next, taken, at_line_number, Progress, unread, behind, plan_lines, front_of, unless_more, alone, text_at, as_plan}
 use Rattle.tree_format.specs.ReadingLaws.{OneTextAPlan, OneTextAGap}
+use Rattle.tree_format.proofs.AtLines.{ended_stage}
 use Rattle.tree_format.proofs.SpelledLines.{IsVersionLine, version_told, IsPathLine, path_told, IsChanceLine, chance_told, IsCeilingLine, ceiling_told, IsCountLine, count_told, IsLettered, HasPlace, IsRecordLine, record_printable, IsEndLine, record_told}
 use Rattle.text_rows.proofs.Splits.{split_joined}
 
@@ -301,72 +305,70 @@ unfolding line_at
 line_on p h d plan fields said read e =
     cond_both _ _ _ (λ (x : Result PlanLine PlanKind). x ≡ Ok said → IsReadOn p d plan fields said) (λ _ e'. absurd (err_ok BadLine said e')) (λ _ e'. stage_on p h d.dialect d.expected plan fields said d.stage read e') e
 
--- the pieces that are left, behind the rows that were read, are the text
-record IsWhole (p : Problem) (d : Due) (plan whole : GapPlan) (pieces : List (List ℕ)) : Type 0 where
+-- a text that was read up to its line `end`, and nothing behind it
+record IsWhole (p : Problem) (family : Family) (text : List ℕ) (whole : GapPlan) : Type 0 where
   version : Dialect
-  family : family_of version ≡ family_due d
+  family_is : family_of version ≡ family
   expected : List (List ℕ)
-  text : text_of (rows_read p d.dialect d.stage plan) ++ join_with_byte 10 pieces ≡ text_of (plan_rows version p whole)
+  spelled : text ≡ text_of (plan_rows version p whole)
   read : IsReadAt p version expected due.Ended whole
 
-pub ended_stage : (stage : Stage) → is_ended stage ≡ true → stage ≡ due.Ended
-ended_stage (due.Version family) e = absurd (let bad : ⊥ = cc in bad)
-ended_stage due.Path e = absurd (let bad : ⊥ = cc in bad)
-ended_stage due.Chance e = absurd (let bad : ⊥ = cc in bad)
-ended_stage due.Ceiling e = absurd (let bad : ⊥ = cc in bad)
-ended_stage due.Count e = absurd (let bad : ⊥ = cc in bad)
-ended_stage (due.Records left) e = absurd (let bad : ⊥ = cc in bad)
-ended_stage due.Ended e = refl
+-- lines more were read
+pub record AreReadOn (p : Problem) (s t : Progress) (lines : List (List ℕ)) : Type 0 where
+  pub rows : text_of (rows_read p t.due.dialect t.due.stage t.plan) ≡ text_of (rows_read p s.due.dialect s.due.stage s.plan) ++ lines_text lines
+  pub read : IsRead p t.due t.plan
+  pub family : family_due t.due ≡ family_due s.due
 
-no_bytes : {X : Type 0} (xs : List X) → (length xs == 0) ≡ true → xs ≡ []
-no_bytes [] e = refl
-no_bytes (x ∷ xs) e = absurd (let none = eqb-true (length (x ∷ xs)) 0 e in omega (arith, none))
+-- one of them
+step_on : (p : Problem) → IsProblem p → (s t : Progress) (line : List ℕ) (r : Result PlanLine PlanKind) → IsRead p s.due s.plan → line_at p s.due (exact_fields line) ≡ r → behind p s r ≡ Ok t → AreReadOn p s t (line ∷ [])
+step_on p h s t line (Err kind) read e f = absurd (err_ok kind t f)
+step_on p h s t line (Ok said) read e f =
+    let on = line_on p h s.due s.plan (exact_fields line) said read e in
+    let rows = rows_read p s.due.dialect s.due.stage s.plan in
+    subst (λ (u : Progress). AreReadOn p s u (line ∷ [])) (same_ok (record { due = next p s.due said; plan = taken s.plan said }) t f) (record {
+      rows = ap text_of on.rows ∙ text_of-append rows (exact_fields line ∷ []) ∙ ap (λ (x : List ℕ). text_of rows ++ (x ++ 10 ∷ [])) (split_joined 32 line) ∙ ap (λ (x : List ℕ). text_of rows ++ x) (sym (append-nil (line ++ 10 ∷ [])));
+      read = on.read;
+      family = on.family;
+    })
 
-whole_read : (p : Problem) (d : Due) (plan whole : GapPlan) (line : List ℕ) (rest : List (List ℕ)) → d.stage ≡ due.Ended → IsRead p d plan → line ≡ [] → rest ≡ [] → plan ≡ whole → IsWhole p d plan whole (line ∷ rest)
-whole_read p d plan whole line rest ended read none nothing same =
-    let end : IsReadAt p d.dialect d.expected due.Ended plan = subst (λ (s : Stage). IsReadAt p d.dialect d.expected s plan) ended read in
-    let here : IsWhole p (with_stage due.Ended d) plan plan ([] ∷ []) = record { version = d.dialect; family = refl; expected = d.expected; text = append-nil (text_of (plan_rows d.dialect p plan)); read = end } in
-    let there : IsWhole p d plan plan ([] ∷ []) = subst (λ (s : Stage). IsWhole p (with_stage s d) plan plan ([] ∷ [])) (sym ended) here in
-    rw (none, nothing) (subst (λ (w : GapPlan). IsWhole p d plan w ([] ∷ [])) same there)
-
--- a line and what follows its line feed
-pub feed_join : (line : List ℕ) (rest : List (List ℕ)) → (length rest == 0) ≡ false → join_with_byte 10 (line ∷ rest) ≡ line ++ 10 ∷ join_with_byte 10 rest
-feed_join line [] e = absurd (let bad : ⊥ = cc in bad)
-feed_join line (piece ∷ pieces) e = refl
-
-line_added : (p : Problem) (d : Due) (plan whole : GapPlan) (line : List ℕ) (rest : List (List ℕ)) (said : PlanLine) → (length rest == 0) ≡ false → IsReadOn p d plan (exact_fields line) said → IsWhole p (next p d said) (taken plan said) whole rest → IsWhole p d plan whole (line ∷ rest)
-line_added p d plan whole line rest said some on more =
-    let rows = rows_read p d.dialect d.stage plan in
-    let joined : text_of (rows_read p (next p d said).dialect (next p d said).stage (taken plan said)) ≡ text_of rows ++ (line ++ 10 ∷ []) =
-    ap text_of on.rows ∙ text_of-append rows (exact_fields line ∷ []) ∙ ap (λ (x : List ℕ). text_of rows ++ (x ++ 10 ∷ [])) (split_joined 32 line) in
+pub lines_on : (p : Problem) → IsProblem p → (lines : List (List ℕ)) (s t : Progress) → IsRead p s.due s.plan → AreTaken (plan_lines p) s lines t → AreReadOn p s t lines
+lines_on p h [] s t read right =
+    subst (λ (u : Progress). AreReadOn p s u []) right (record { rows = sym (append-nil (text_of (rows_read p s.due.dialect s.due.stage s.plan))); read = read; family = refl })
+lines_on p h (line ∷ lines) s t read right =
+    let here = step_on p h s right.0 line _ read refl right.1 in
+    let more = lines_on p h lines right.0 t here.read right.3 in
     record {
-      version = more.version;
-      family = more.family ∙ on.family;
-      expected = more.expected;
-      text = ap (λ (x : List ℕ). text_of rows ++ x) (feed_join line rest some) ∙ sym (simp append_assoc) ∙ ap (λ (x : List ℕ). x ++ join_with_byte 10 rest) (sym joined) ∙ more.text;
+      rows = more.rows ∙ ap (λ (x : List ℕ). x ++ lines_text lines) here.rows ∙ simp append_assoc;
       read = more.read;
+      family = more.family ∙ here.family;
     }
 
-went_on : (number : ℕ) (r : Result PlanLine PlanKind) (more : PlanLine → Result GapPlan PlanFault) (whole : GapPlan) → go_on number r more ≡ Ok whole → (said : PlanLine) × (r ≡ Ok said) × (more said ≡ Ok whole)
-went_on number (Err kind) more whole e = absurd (err_ok (at_line_number number kind) whole e)
-went_on number (Ok said) more whole e = (said, refl, e)
+-- the rows that were read, where the end was
+whole_read : (p : Problem) (family : Family) (text : List ℕ) (t : Progress) → t.due.stage ≡ due.Ended → IsRead p t.due t.plan → family_due t.due ≡ family → text ≡ text_of (rows_read p t.due.dialect t.due.stage t.plan) → IsWhole p family text t.plan
+whole_read p family text t ended read same spelled =
+    record {
+      version = t.due.dialect;
+      family_is = ap (family_at t.due.dialect) (sym ended) ∙ same;
+      expected = t.due.expected;
+      spelled = spelled ∙ ap (λ (s : Stage). text_of (rows_read p t.due.dialect s t.plan)) ended;
+      read = subst (λ (s : Stage). IsReadAt p t.due.dialect t.due.expected s t.plan) ended read;
+    }
 
-pieces_told : (p : Problem) → IsProblem p → (pieces : List (List ℕ)) (number : ℕ) (d : Due) (plan whole : GapPlan) → IsRead p d plan → pieces_at p number d plan pieces ≡ Ok whole → IsWhole p d plan whole pieces
-unfolding pieces_at
-pieces_told p h [] number d plan whole read e = absurd (err_ok (at_line_number number EarlyEnd) whole e)
-pieces_told p h (line ∷ rest) number d plan whole read e =
-    let G : Result GapPlan PlanFault → Type 0 = λ x. x ≡ Ok whole → IsWhole p d plan whole (line ∷ rest) in
-    cond_both (is_ended d.stage) _ _ G
-    (λ ended. cond_both (length line == 0 && length rest == 0) (Ok plan) (Err (at_line_number number Rest)) G
-    (λ both e'.
-    let none = and_parts (length line == 0) (length rest == 0) both in
-    whole_read p d plan whole line rest (ended_stage d.stage ended) read (no_bytes line none.0) (no_bytes rest none.1) (same_ok plan whole e'))
-    (λ _ e'. absurd (err_ok (at_line_number number Rest) whole e')))
-    (λ _. cond_both (length rest == 0) (Err (at_line_number number EarlyEnd)) _ G (λ _ e'. absurd (err_ok (at_line_number number EarlyEnd) whole e'))
-    (λ some e'.
-    let on = went_on number (line_at p d (exact_fields line)) (λ said. pieces_at p (number + 1) (next p d said) (taken plan said) rest) whole e' in
-    let here = line_on p h d plan (exact_fields line) on.0 read on.1 in
-    line_added p d plan whole line rest on.0 some here (pieces_told p h rest (number + 1) (next p d on.0) (taken plan on.0) whole here.read on.2))) e
+-- what was read up to the line `end`, and nothing behind it
+nothing_more : (number : ℕ) (rest : List ℕ) (plan whole : GapPlan) → unless_more number rest plan ≡ Ok whole → (rest ≡ []) × (plan ≡ whole)
+nothing_more number [] plan whole e = (refl, same_ok plan whole e)
+nothing_more number (c ∷ cs) plan whole e = absurd (err_ok (at_line_number number Rest) whole e)
+
+front_told : (family : Family) (p : Problem) → IsProblem p → (text : List ℕ) (whole : GapPlan) (r : Result (Reached Progress) PlanFault) → front_of family p text ≡ r → alone text r ≡ Ok whole → IsWhole p family text whole
+front_told family p h text whole (Err fault) e alone_is = absurd (err_ok fault whole alone_is)
+front_told family p h text whole (Ok front) e alone_is =
+    let read = read_told (plan_lines p) (unread family) 1 (whole_lines text) front refl e in
+    let none = nothing_more (front.line + 1) (after_lines front.line text) front.state.plan whole alone_is in
+    let on = lines_on p h read.read (unread family) front.state (refl, refl) read.right in
+    let count : front.line ≡ length read.read = omega (arith, read.line) in
+    let nothing : after_lines (length read.read) text ≡ [] = ap (λ (n : ℕ). after_lines n text) (sym count) ∙ none.0 in
+    let spelled : text ≡ lines_text read.read = lines_first read.read read.behind text read.whole ∙ ap (λ (t : List ℕ). lines_text read.read ++ t) nothing ∙ append-nil (lines_text read.read) in
+    subst (IsWhole p family text) none.1 (whole_read p family text front.state (ended_stage front.state.due.stage read.ends) on.read on.family (spelled ∙ sym on.rows))
 
 -- what was read as a text of plans is the gap plan of a plan
 kind_back : (v : Dialect) (kind : GapKind) → family_of v ≡ Plans → IsLettered v kind → Closed (shape_of_kind kind) ≡ kind
@@ -458,8 +460,8 @@ plan_told (Err fault) plan e = absurd (err_ok fault plan e)
 pub one_text_a_plan : OneTextAPlan
 one_text_a_plan p plan text h e =
     let read = plan_told (text_at Plans p text) plan e in
-    let whole = pieces_told p h (pieces_of text) 1 (at_start Plans) blank_plan read.0 (refl, refl) read.1 in
-    subst (λ (x : Plan). IsTextOfPlan p x text) read.2 (text_told p whole.version whole.expected read.0 text whole.family whole.read (sym (split_joined 10 text) ∙ whole.text))
+    let whole = front_told Plans p h text read.0 (front_of Plans p text) refl read.1 in
+    subst (λ (x : Plan). IsTextOfPlan p x text) read.2 (text_told p whole.version whole.expected read.0 text whole.family_is whole.read whole.spelled)
 
 -- the text of the gap plan that was read
 gap_told : (p : Problem) (v : Dialect) (expected : List (List ℕ)) (plan : GapPlan) (text : List ℕ) → family_of v ≡ Gaps → IsReadAt p v expected due.Ended plan → text ≡ text_in v p plan → IsGapText p plan text
@@ -484,5 +486,5 @@ gap_told p Gap expected plan text e read spelled =
 
 pub one_text_a_gap : OneTextAGap
 one_text_a_gap p plan text h e =
-    let whole = pieces_told p h (pieces_of text) 1 (at_start Gaps) blank_plan plan (refl, refl) e in
-    gap_told p whole.version whole.expected plan text whole.family whole.read (sym (split_joined 10 text) ∙ whole.text)
+    let whole = front_told Gaps p h text plan (front_of Gaps p text) refl e in
+    gap_told p whole.version whole.expected plan text whole.family_is whole.read whole.spelled

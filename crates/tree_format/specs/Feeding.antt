@@ -12,15 +12,14 @@ use Rattle.tree_format.specs.declared.plan_line.Family.{Family}
 use Rattle.tree_format.specs.declared.plan_line.Family.TheVariants.{Plans, Gaps}
 use Rattle.tree_format.specs.declared.plan_line.Stage.{Stage}
 use Rattle.tree_format.specs.declared.plan_line.Stage.TheVariants as due
-use Rattle.tree_format.specs.declared.plan_line.PlanLine.{PlanLine}
 use Rattle.tree_format.specs.declared.plan_item.PlanItem.{PlanItem}
 use Rattle.tree_format.specs.declared.plan_item.PlanItem.TheVariants.{Head, Node, End}
 use Rattle.tree_format.specs.declared.plan_item.Step.{Step}
 use Rattle.tree_format.specs.declared.plan_item.Step.TheVariants.{More, Item, Fault}
 use Rattle.tree_format.specs.PlanText.{ArePositions, IsPrintableRecord}
-use Rattle.tree_format.specs.Faults.{AreSaid, due_behind}
+use Rattle.text_rows.specs.LineMachine.{AreTaken}
 use Rattle.text_rows.specs.Lines.{HasNoFeed, lines_text}
-use Rattle.tree_format.specs.Reading.{at_start, blank_plan, taken, text_at}
+use Rattle.tree_format.specs.Reading.{Progress, unread, plan_lines, text_at}
 use Rattle.tree_format.specs.FeedSteps.{Stand, stand_at}
 use Rattle.tree_format.specs.Dialects.{most_records}
 
@@ -38,24 +37,19 @@ told due.Count plan = []
 told (due.Records left) plan = Head plan.standing plan.weight plan.ceiling (length plan.nodes + left) ∷ map (λ r. Node r) plan.nodes
 told due.Ended plan = items_of plan
 
--- what lines have said of a plan
-abbrev pub plan_behind : GapPlan → List PlanLine → GapPlan
-plan_behind plan [] = plan
-plan_behind plan (said ∷ more) = plan_behind (taken plan said) more
-
 -- These bytes are right lines and the beginning of the next, and nothing stands behind the end. The lines tell these items,
 -- each of them once, and this is what a feed keeps.
 pub record HasRead (family : Family) (p : Problem) (fed : List ℕ) (items : List PlanItem) (feed : Stand) : Type 0 where
   pub before : List (List ℕ)
-  pub said : List PlanLine
+  pub reached : Progress
   pub begun : List ℕ
   pub whole : fed ≡ lines_text before ++ begun
   pub feeds : All HasNoFeed before
   pub open_line : HasNoFeed begun
-  pub right : AreSaid p (at_start family) before said
-  pub behind_end : (due_behind p (at_start family) said).stage ≡ due.Ended → begun ≡ []
-  pub tell : items ≡ told (due_behind p (at_start family) said).stage (plan_behind blank_plan said)
-  pub stand : feed ≡ stand_at (1 + length before) (due_behind p (at_start family) said) (plan_behind blank_plan said) begun
+  pub right : AreTaken (plan_lines p) (unread family) before reached
+  pub behind_end : reached.due.stage ≡ due.Ended → begun ≡ []
+  pub tell : items ≡ told reached.due.stage reached.plan
+  pub stand : feed ≡ stand_at (1 + length before) reached.due reached.plan begun
 
 -- this holds of any family, bytes and items that a feed has read
 abbrev pub IfRead : Problem → Stand → (Family → List ℕ → List PlanItem → Type 0) → Type 0

@@ -30,8 +30,10 @@ use Rattle.tree_format.specs.declared.kind.PlanKind.{PlanKind}
 use Rattle.tree_format.specs.declared.kind.PlanKind.TheVariants.{BadLine, BadNumber, UnknownName, TooManyNodes, WrongCount, EarlyEnd, Rest, NoPlace, StillOpen}
 use Rattle.tree_format.specs.declared.kind.PlanFault.{PlanFault}
 use Rattle.tree_format.specs.declared.record_lines.Bounded.{Bounded}
-use Rattle.text_rows.specs.Lines.{pieces_of}
+use Rattle.text_rows.specs.Lines.{after_lines}
 use Rattle.text_rows.specs.Fields.{exact_fields, is_word}
+use Rattle.text_rows.specs.LineMachine.{LineMachine, Reached, read_from}
+use Rattle.text_rows.specs.WholeLines.{whole_lines}
 
 -- Numbers and names.
 
@@ -294,23 +296,40 @@ is_ended _ = false
 abbrev pub at_line_number : ℕ → PlanKind → PlanFault
 at_line_number number kind = record { line = number; kind = kind }
 
--- a fault of a line, or what follows the line
-abbrev pub go_on : ℕ → Result PlanLine PlanKind → (PlanLine → Result GapPlan PlanFault) → Result GapPlan PlanFault
-go_on number (Err kind) more = Err (at_line_number number kind)
-go_on number (Ok line) more = more line
+-- what is due, and what was read
+pub record Progress : Type 0 where
+  pub due : Due
+  pub plan : GapPlan
 
--- what the pieces of a text say, the first of them having this number: the lines up to `end`, and then nothing; the first
--- line with a fault decides, and a line that is due and has no line feed has that fault before all others
-unfoldable pub pieces_at : Problem → ℕ → Due → GapPlan → List (List ℕ) → Result GapPlan PlanFault
-pieces_at p number d plan [] = Err (at_line_number number EarlyEnd)
-pieces_at p number d plan (line ∷ rest) =
-    if is_ended d.stage then (if length line == 0 && length rest == 0 then Ok plan else Err (at_line_number number Rest)) else
-    (if length rest == 0 then Err (at_line_number number EarlyEnd) else
-    go_on number (line_at p d (exact_fields line)) (λ said. pieces_at p (number + 1) (next p d said) (taken plan said) rest))
+-- nothing was read
+abbrev pub unread : Family → Progress
+unread family = record { due = at_start family; plan = blank_plan }
+
+-- behind a line that says this, or its fault
+abbrev pub behind : Problem → Progress → Result PlanLine PlanKind → Result Progress PlanKind
+behind p s (Err kind) = Err kind
+behind p s (Ok said) = Ok (record { due = next p s.due said; plan = taken s.plan said })
+
+-- how the lines of a plan are read
+abbrev pub plan_lines : Problem → LineMachine Progress PlanKind PlanFault
+plan_lines p = record { step = λ s line. behind p s (line_at p s.due (exact_fields line)); ended = λ s. is_ended s.due.stage; early = EarlyEnd; fault = at_line_number }
+
+-- what a text of the family says up to its line `end`, which has its line feed as all before it
+abbrev pub front_of : Family → Problem → List ℕ → Result (Reached Progress) PlanFault
+front_of family p text = read_from (plan_lines p) (unread family) 1 (whole_lines text)
+
+-- behind the line `end` nothing may stand
+abbrev pub unless_more : ℕ → List ℕ → GapPlan → Result GapPlan PlanFault
+unless_more number [] plan = Ok plan
+unless_more number (c ∷ cs) plan = Err (at_line_number number Rest)
+
+abbrev pub alone : List ℕ → Result (Reached Progress) PlanFault → Result GapPlan PlanFault
+alone text (Err fault) = Err fault
+alone text (Ok front) = unless_more (front.line + 1) (after_lines front.line text) front.state.plan
 
 -- the gap plan that a text of the family spells, or its first fault
 abbrev pub text_at : Family → Problem → List ℕ → Result GapPlan PlanFault
-text_at family p text = pieces_at p 1 (at_start family) blank_plan (pieces_of text)
+text_at family p text = alone text (front_of family p text)
 
 -- without what waits
 abbrev pub as_plan : Result GapPlan PlanFault → Result Plan PlanFault
