@@ -1,15 +1,13 @@
 -- Bounds of longer prefixes: the tangents at one path, and what a standing doesn't cut.
-use Rattle.std.proofs.Common.{ℕ, suc, ◌+◌, ◌*◌, ◌-◌, ◌<◌, ◌≤◌, ◌≡◌, true, List, [], ◌∷◌, ◌++◌, map, length, drop, take, inl, inr, refl, sym, ap, ◌∙◌, subst, arith, Contains, append_assoc, length-append, ltb-true, lt-ltb, eqb-true, eq-eqb}
+use Rattle.std.proofs.Common.{ℕ, suc, ◌+◌, ◌*◌, ◌-◌, ◌<◌, ◌≤◌, ◌≡◌, List, [], ◌∷◌, ◌++◌, map, length, inl, inr, refl, sym, ap, ◌∙◌, subst, arith, append_assoc, length-append, ltb-true, lt-ltb, eqb-true, eq-eqb}
 use Rattle.std.proofs.Math.Seq.{drop-append_seam}
 use Rattle.std.proofs.lemmas.Bool.{or_cases, or_left, or_right, and_from, and_parts, true≢false, false_from_ne_true, cases_order}
 use Rattle.std.proofs.lemmas.List.{length-map, take_at}
 use Rattle.list_laws.proofs.Members.{Contains-map_cases}
-use Rattle.search_model.specs.declared.standing.Standing.{Standing}
 use Rattle.search_model.specs.Problem.{Problem, IsProblem}
-use Rattle.search_model.specs.Legal.{IsPath, last_of, walks, continuations}
+use Rattle.search_model.specs.Legal.{IsPath, last_of, continuations}
 use Rattle.search_model.specs.Tracks.{value_of}
 use Rattle.search_model.specs.Bounds.{sum_along, greatest, gain_of}
-use Rattle.search_model.specs.Order.{smaller}
 use Rattle.search_model.proofs.Greatest.{greatest_reached}
 use Rattle.search_model.proofs.LegalLemmas.{last_within}
 use Rattle.search_model.proofs.WalkLemmas.{continuations_are, some_walks}

@@ -11,3 +11,4 @@ pub mod DriftCopies
 pub mod Searched
 pub mod GivenRows
 pub mod LookTables
+pub mod OneTarget
