@@ -13,6 +13,7 @@ pub mod EdgeBound
 pub mod Rooms
 pub mod Placing
 pub mod SamePlans
+pub mod SameLive
 pub mod Ceilings
 pub mod ExampleGreedy
 pub mod ExampleGaps

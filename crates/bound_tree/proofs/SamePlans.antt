@@ -12,7 +12,7 @@ use Rattle.bound_tree.specs.Accepts.{IsGoodKind, expected_by, AreEaten}
 use Rattle.bound_tree.proofs.Rooms.{legal_expected}
 use Rattle.bound_tree.specs.Places.{opened_by, AreInPlace}
 use Rattle.bound_tree.specs.SameLaws.{SameIsAlike, SameAccepts}
-use Rattle.search_model.proofs.SameSearch.{AreSame-sym, legal_same, best_same, path_same, whole_same, rate_same, value_same_legal, mean_same, edge_same, tangent_same, path_legal}
+use Rattle.search_model.proofs.SameSearch.{AreSame-sym, legal_same, best_same, path_same, whole_same, rate_same, value_same_legal, mean_same, edge_same, reference_same, tangent_same, opening_same, path_legal}
 
 module _ (p o : Problem) (same : AreSame p o) where
   -- a record makes the same prefixes expected
@@ -79,5 +79,7 @@ same_is_alike p o sound same =
       means = mean_same p o same sound;
       edges = edge_same p o same sound;
       rates = λ rate. (rate_same p o same rate, rate_same o p back rate);
+      references = reference_same p o same sound;
       tangents = tangent_same p o same sound;
+      openings = opening_same p o same sound;
     }

@@ -6,7 +6,7 @@ ghost use Rattle.bound_tree.specs.Eat.{EatenByEither};
 ghost use Rattle.bound_tree.specs.EdgeLaws.{EdgeIsAbove, EdgeIsWithinMean};
 ghost use Rattle.bound_tree.specs.Laws.{AcceptedIsBest};
 ghost use Rattle.bound_tree.specs.Places.{EatenIsPlacedAndGood, EatenAreInPlace};
-ghost use Rattle.bound_tree.specs.SameLaws.{SameEitherWay, SameIsAlike, SameAccepts};
+ghost use Rattle.bound_tree.specs.SameLaws.{SameEitherWay, SameIsAlike, SameAccepts, SameCloses, SameLive, SameHasMoreLive};
 
 /// Record by record, or by the list of expected prefixes: the same records are eaten whole.
 #[tactic(auto, using(crate::proofs::EatLemmas::eaten_either_way))]
@@ -97,10 +97,17 @@ pub fn edge_is_between()
     ensures within { EdgeIsWithinMean }
 {}
 
-/// Scenarios that are the same search have the same values, bounds and best path, and a plan that is accepted for one is
-/// accepted for the other.
+/// Scenarios that are the same search have the same values, bounds, opening and best path, and a plan that is accepted for
+/// one is accepted for the other.
 pub fn same_search_same_plans()
     ensures either_way { SameEitherWay }
     ensures alike { SameIsAlike }
     ensures accepted { SameAccepts }
+{}
+
+/// Under a standing they close the same prefixes in the same way, so they have as many live ones.
+pub fn same_search_same_live()
+    ensures closed { SameCloses }
+    ensures live { SameLive }
+    ensures more { SameHasMoreLive }
 {}

@@ -2,6 +2,7 @@ pub mod Counted
 pub mod Examples
 pub mod Made
 pub mod Numbers
+pub mod OneProduct
 pub mod PairLooks
 pub mod PairMoves
 pub mod PairNames

@@ -1,6 +1,7 @@
 -- What the product problem says of pairs of paths.
 use Rattle.std.specs.Prelude.{ℕ, ◌<◌, [], ◌∷◌}
 use Rattle.search_model.specs.Problem.{Problem, IsProblem}
+use Rattle.search_model.specs.Same.{AreSame}
 use Rattle.searcher_maps.specs.Stands.{StandsFor}
 use Rattle.duo_search.specs.Product.{first_at, second_at, IsProduct}
 use Rattle.duo_search.specs.Pairs.{AreOneToOne, FindsAsPair, IsBestOfPairs}
@@ -26,3 +27,11 @@ abbrev pub NoPairFindsMore : Type 0
 NoPairFindsMore =
     (p q : Problem) (second : ℕ) → IsProblem p → IsProblem q → IsProduct p second q → second < p.positions →
     IsBestOfPairs p second q
+
+-- all product problems for a second start are the same search
+abbrev pub ProductIsOne : Type 0
+ProductIsOne = (p q r : Problem) (second : ℕ) → IsProblem q → IsProblem r → IsProduct p second q → IsProduct p second r → AreSame q r
+
+-- and what is the same search as one of them is one of them
+abbrev pub SameIsProduct : Type 0
+SameIsProduct = (p q r : Problem) (second : ℕ) → IsProduct p second q → AreSame q r → IsProduct p second r

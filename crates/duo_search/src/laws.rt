@@ -1,6 +1,6 @@
 //! Laws of the product problem.
 
-ghost use Rattle.duo_search.specs.Laws.{ProductStandsFor, PathsArePairs, PairIsValue, NoPairFindsMore};
+ghost use Rattle.duo_search.specs.Laws.{ProductStandsFor, PathsArePairs, PairIsValue, NoPairFindsMore, ProductIsOne, SameIsProduct};
 
 /// The product problem stands for both: each of its positions says where they are.
 pub fn product_stands_for()
@@ -20,6 +20,12 @@ pub fn pair_is_value()
 /// No pair of paths finds more together than that of the product problem's best path.
 pub fn no_pair_finds_more()
     ensures { NoPairFindsMore }
+{}
+
+/// The product problem for a second start is one search, however it is written down.
+pub fn product_is_one()
+    ensures one { ProductIsOne }
+    ensures same { SameIsProduct }
 {}
 
 ghost use Rattle.duo_search.specs.Worked.{WorkedPairs};

@@ -12,7 +12,8 @@ mod paths;
 
 pub use faults::DuoFault;
 pub use laws::{
-    no_pair_finds_more, pair_is_value, paths_are_pairs, product_stands_for, worked_pairs,
+    no_pair_finds_more, pair_is_value, paths_are_pairs, product_is_one, product_stands_for,
+    worked_pairs,
 };
 pub use making::product;
 pub use paths::{first_of, second_of};

@@ -1,12 +1,12 @@
 -- The best path of the scenario that forces a prefix, and which problems force it.
-use Rattle.std.proofs.Common.{ℕ, ◌<◌, ◌≡◌, List, map, refl, sym, ap, ◌∙◌, subst, arith}
-use Rattle.std.specs.Prelude.{max}
+use Rattle.std.proofs.Common.{ℕ, ◌<◌, ◌≡◌, List, map, refl, sym, ap, ◌∙◌, arith}
 use Rattle.search_model.specs.Problem.{Problem, IsProblem}
 use Rattle.search_model.specs.Legal.{IsLegal}
 use Rattle.search_model.specs.Order.{Starts}
 use Rattle.searcher_maps.specs.Carried.{IsCarried}
 use Rattle.searcher_maps.proofs.Carrying.{best_is_carried}
 use Rattle.searcher_maps.proofs.Finding.{one_finds_the_same}
+use Rattle.searcher_maps.proofs.OneTarget.{same_by_target, target_same}
 use Rattle.residual_plan.specs.Forced.{source_of, forced_path, IsForced}
 use Rattle.residual_plan.specs.Laws.{ForcedValueStays, ForcedBest, ForcedIsOne, SameIsForced}
 use Rattle.residual_plan.proofs.Places.{source_after}
@@ -37,45 +37,24 @@ forced_best p q flown z sound other legal forced best =
 
 pub forced_is_one : ForcedIsOne
 forced_is_one p q r flown one two =
-    let same = one.target in
-    let also = two.target in
-    record {
-      names = same.names ∙ sym also.names;
+    let target = one.target in
+    same_by_target p q r target two.target (record {
       position_names = one.position_names ∙ sym two.position_names;
-      cells = same.cells ∙ sym also.cells;
       positions = one.positions ∙ sym two.positions;
-      horizon = same.horizon ∙ sym also.horizon;
       start = one.start ∙ sym two.start;
-      total = same.total ∙ sym also.total;
-      first = same.first ∙ sym also.first;
       moves = one.moves ∙ sym two.moves;
-      drift_denominator = same.drift_denominator ∙ sym also.drift_denominator;
-      rows = λ t c from to cell.
-          let before : t < max 2 p.horizon = subst (λ n. t < max 2 n) same.horizon to in
-          let here : c < p.cells = omega (arith, cell, same.cells) in
-          same.rows t c from before here ∙ sym (also.rows t c from before here);
       look_denominator = one.look_denominator ∙ sym two.look_denominator;
       factors = λ t a c from to position cell.
-          let here : c < p.cells = omega (arith, cell, same.cells) in
-          one.looks t a c from (omega (arith, to, same.horizon)) position here
-          ∙ sym (two.looks t a c from (omega (arith, to, same.horizon)) (omega (arith, position, one.positions, two.positions)) here);
-    }
+          let here : c < p.cells = omega (arith, cell, target.cells) in
+          one.looks t a c from (omega (arith, to, target.horizon)) position here
+          ∙ sym (two.looks t a c from (omega (arith, to, target.horizon)) (omega (arith, position, one.positions, two.positions)) here);
+    })
 
 pub same_is_forced : SameIsForced
 same_is_forced p q r flown one same =
     let target = one.target in
     record {
-      target = record {
-        names = sym same.names ∙ target.names;
-        cells = sym same.cells ∙ target.cells;
-        horizon = sym same.horizon ∙ target.horizon;
-        total = sym same.total ∙ target.total;
-        first = sym same.first ∙ target.first;
-        drift_denominator = sym same.drift_denominator ∙ target.drift_denominator;
-        rows = λ t c from to cell.
-            let before : t < max 2 q.horizon = subst (λ n. t < max 2 n) (sym target.horizon) to in
-            sym (same.rows t c from before (omega (arith, cell, target.cells))) ∙ target.rows t c from to cell;
-      };
+      target = target_same p q r target same;
       position_names = sym same.position_names ∙ one.position_names;
       positions = sym same.positions ∙ one.positions;
       start = sym same.start ∙ one.start;

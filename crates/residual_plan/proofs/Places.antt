@@ -1,13 +1,12 @@
 -- What the positions of the scenario that forces a prefix stand for.
-use Rattle.std.proofs.Common.{ℕ, zero, suc, ◌+◌, ◌-◌, ◌<◌, ◌≤◌, ◌≡◌, true, false, min, List, [], ◌∷◌, ◌++◌, length, map, take, drop, inl, inr, refl, sym, ap, ◌∙◌, subst, arith, lt-ltb, le-ltb, le-leb, Contains}
+use Rattle.std.proofs.Common.{ℕ, zero, suc, ◌+◌, ◌-◌, ◌<◌, ◌≤◌, ◌≡◌, true, false, min, List, [], ◌∷◌, length, map, take, inl, inr, refl, sym, ap, ◌∙◌, arith, lt-ltb, le-ltb, le-leb, Contains}
 use Rattle.std.proofs.lemmas.Bool.{cases_lt, lt-leb}
-use Rattle.std.proofs.lemmas.List.{take-append-drop}
 use Rattle.std.proofs.Math.Seq.{take-length}
 use Rattle.search_grid.specs.Moves.{moves_from}
 use Rattle.search_model.specs.Problem.{Problem, IsProblem}
 use Rattle.search_model.specs.Legal.{last_of, Follows, IsLegal}
 use Rattle.search_model.proofs.LegalLemmas.{last_within}
-use Rattle.search_model.proofs.WalkLemmas.{follows-append}
+use Rattle.search_model.proofs.WalkLemmas.{follows-take}
 use Rattle.residual_plan.specs.Forced.{source_of, goes_on, forced_row}
 
 -- a position of p stands for itself
@@ -47,12 +46,6 @@ take-min n xs =
 -- what was done to a front as long as the list was done to the list
 pub whole_front : (f : ℕ → ℕ) (made xs : List ℕ) (n : ℕ) → made ≡ map f (take n xs) → n ≡ length xs → made ≡ map f xs
 whole_front f made xs n front all = front ∙ ap (λ k. map f (take k xs)) all ∙ ap (map f) (take-length xs)
-
--- a front of what follows the moves follows them
-pub follows-take : (rows : List (List ℕ)) (a n : ℕ) (q : List ℕ) → Follows rows a q → Follows rows a (take n q)
-follows-take rows a n q follows =
-    let parts : Follows rows a (take n q ++ drop n q) = subst (Follows rows a) (sym (take-append-drop n q)) follows in
-    ((follows-append rows a (take n q) (drop n q)).0 parts).0
 
 -- each step of what follows the moves is a move
 pub follows_step : (rows : List (List ℕ)) (a i : ℕ) (q : List ℕ) → Follows rows a q → i < length q → Contains (moves_from rows (last_of a (take i q))) (last_of a (take (suc i) q))

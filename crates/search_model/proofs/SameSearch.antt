@@ -1,20 +1,23 @@
 -- Problems that are the same search have the same prefixes, weights, values and bounds.
-use Rattle.std.proofs.Common.{ℕ, ◌+◌, ◌*◌, ◌-◌, ◌<◌, ◌≤◌, ◌≡◌, ◌↔◌, ◌∙◌, Bool, if◌then◌else◌, List, [], ◌∷◌, map, length, nat_lt, drop, refl, sym, ap, arith, sum_by, All, Contains}
+use Rattle.std.proofs.Common.{ℕ, ◌+◌, ◌*◌, ◌-◌, ◌<◌, ◌≤◌, ◌≡◌, ◌↔◌, ◌∙◌, Bool, if◌then◌else◌, List, [], ◌∷◌, ◌++◌, map, length, nat_lt, take, drop, refl, sym, ap, subst, arith, sum_by, All, Contains}
 use Rattle.std.proofs.Math.Nat.{le-max_right}
 use Rattle.std.proofs.lemmas.List.Elements.{All-head, All-tail, All-weaker, All-contains_itself, All-drop}
-use Rattle.std.proofs.lemmas.List.{length-drop}
+use Rattle.std.proofs.lemmas.List.{length-drop, length-take-le}
 use Rattle.drift_chain.specs.DriftRows.{row_of}
 use Rattle.sweep_table.specs.LookParts.{factor_of}
 use Rattle.search_model.specs.Problem.{Problem, IsProblem}
 use Rattle.search_model.specs.Same.{AreSame}
-use Rattle.search_model.specs.Legal.{IsLegal, IsPath, last_of, continuations}
+use Rattle.search_model.specs.Legal.{IsLegal, IsPath, last_of, moves_after, walks, continuations}
+use Rattle.search_model.specs.Opening.{TakesLeastBest, IsOpening}
+use Rattle.search_model.specs.Reference.{greatest_sum, IsLeastBest, IsReference}
 use Rattle.search_model.specs.Tracks.{tracks, steps_product, weight_of, miss_from, miss_of, whole_weight, missed_weight, value_of}
 use Rattle.search_model.specs.Order.{IsBest}
 use Rattle.search_model.specs.Bounds.{factors_along, cell_in, reward_of, sum_along, greatest, mean_of, IsRate, gain_of, tangent_of}
 use Rattle.search_model.specs.Edge.{edge_reward_of, sum_moves, edge_sum, edge_of}
 use Rattle.search_model.proofs.LegalLemmas.{last_within}
+use Rattle.search_model.proofs.Children.{child_is_legal}
 use Rattle.search_model.proofs.PlainSteps.{positions_follow}
-use Rattle.search_model.proofs.WalkLemmas.{listed_walk}
+use Rattle.search_model.proofs.WalkLemmas.{listed_walk, front_is_legal}
 use Rattle.list_laws.proofs.Agreeing.{map_agree}
 use Rattle.list_laws.proofs.Sums.{sum_by-same_all, sum_by-filter}
 use Rattle.search_model.proofs.TrackMembers.{IsTrack, track_is}
@@ -60,6 +63,32 @@ sum_moves-same positions last r w t a (b ∷ y) each short at within =
     let here = each t a b (omega arith) (omega (arith, short)) at next in
     let rest = sum_moves-same positions last r w (t + 1) b y (λ u c d from to place. each u c d (omega (arith, from)) to place) (omega (arith, short)) next (All-tail (λ a. a < positions) b y within) in
     rw (here, rest) refl
+
+-- the greatest of numbers that are the same for each walk
+greatest_over-same : (f g : List ℕ → ℕ) (all : List (List ℕ)) → ((y : List ℕ) → Contains all y → f y ≡ g y) → greatest (map f all) ≡ greatest (map g all)
+greatest_over-same f g all each = ap greatest (map_agree f g all (All-weaker (Contains all) (λ y. f y ≡ g y) each all (All-contains_itself all)))
+
+-- the least walk of the greatest sum is the same one where the sums over all walks are the same
+least_best-same : (rows : List (List ℕ)) (r w : ℕ → ℕ → ℕ) (n t a : ℕ) (y : List ℕ) → ((z : List ℕ) → Contains (walks rows n a) z → sum_along r t z ≡ sum_along w t z) →
+    IsLeastBest rows r n t a y → IsLeastBest rows w n t a y
+least_best-same rows r w n t a y each is =
+    let most : greatest_sum rows r n t a ≡ greatest_sum rows w n t a = greatest_over-same (sum_along r t) (sum_along w t) (walks rows n a) each in
+    record {
+      walk = is.walk;
+      best = sym (each y is.walk) ∙ is.best ∙ most;
+      least = λ z listed best. is.least z listed (each z listed ∙ best ∙ sym most);
+    }
+
+-- the least walk of the greatest sum is the same one for the same moves, as many positions and the same place
+least_best-moved : (rows ways : List (List ℕ)) (r : ℕ → ℕ → ℕ) (n m t a b : ℕ) (y : List ℕ) → rows ≡ ways → n ≡ m → a ≡ b → IsLeastBest rows r n t a y → IsLeastBest ways r m t b y
+least_best-moved rows ways r n m t a b y moves many from is = rw (← moves, ← many, ← from) is
+
+-- a path takes the same move as a greedy searcher where the moves and the values of longer prefixes are the same
+takes_least-same : (p o : Problem) (q : List ℕ) (k : ℕ) → moves_after p (take k q) ≡ moves_after o (take k q) → value_of p (take (k + 1) q) ≡ value_of o (take (k + 1) q) →
+    ((b : ℕ) → Contains (moves_after p (take k q)) b → value_of p (take k q ++ b ∷ []) ≡ value_of o (take k q ++ b ∷ [])) → TakesLeastBest p q k → TakesLeastBest o q k
+takes_least-same p o q k moves next each takes b there =
+    let here : Contains (moves_after p (take k q)) b = subst (λ ms. Contains ms b) (sym moves) there in
+    rw (← next, ← each b here) (takes b here)
 
 module _ (p o : Problem) (same : AreSame p o) where
   -- the same prefixes are legal
@@ -187,23 +216,71 @@ module _ (p o : Problem) (same : AreSame p o) (sound : IsProblem p) where
   pub value_same_legal : (q : List ℕ) → IsLegal p q → value_of p q ≡ value_of o q
   value_same_legal q legal = value_same p o same q (legal_within q legal)
 
+  -- the same moves come after a prefix
+  moves_same : (q : List ℕ) → moves_after p q ≡ moves_after o q
+  moves_same q = rw (same.moves, same.start) refl
+
+  -- the same path is the greedy searcher's
+  pub opening_same : (q : List ℕ) → IsOpening p q ↔ IsOpening o q
+  opening_same q =
+      let back = path_same o p (AreSame-sym p o same) q in
+      let front : IsPath p q → (k : ℕ) → IsLegal p (take k q) = λ path k. front_is_legal p q k (path_legal q path) in
+      let next : IsPath p q → (k : ℕ) → value_of p (take (k + 1) q) ≡ value_of o (take (k + 1) q) = λ path k. value_same_legal (take (k + 1) q) (front path (k + 1)) in
+      let each : IsPath p q → (k : ℕ) → k < p.horizon → (b : ℕ) → Contains (moves_after p (take k q)) b → value_of p (take k q ++ b ∷ []) ≡ value_of o (take k q ++ b ∷ []) = λ path k inside b there.
+      value_same_legal (take k q ++ b ∷ []) (child_is_legal p (take k q) b (front path k) (omega (arith, length-take-le k q (omega (arith, inside, path.whole)), inside)) there) in (
+        (λ is. record {
+          path = path_same p o same q is.path;
+          steps = λ k inside.
+              let before : k < p.horizon = rw same.horizon inside in
+              takes_least-same p o q k (moves_same (take k q)) (next is.path k) (each is.path k before) (is.steps k before);
+        }),
+        (λ is. record {
+          path = back is.path;
+          steps = λ k inside.
+              let path = back is.path in
+              let moves = moves_same (take k q) in
+              takes_least-same o p q k (sym moves) (sym (next path k)) (λ b there. sym (each path k inside b (subst (λ ms. Contains ms b) (sym moves) there))) (is.steps k (rw (← same.horizon) inside));
+        }),
+      )
+
+  -- continuations to a path have the horizon's length, and hold positions
+  continuation_within : (q y : List ℕ) → IsLegal p q → Contains (continuations p q) y → (length q + length y ≤ p.horizon) × All (λ a. a < p.positions) y
+  continuation_within q y legal listed =
+      let from = last_of p.start q in
+      let walk = listed_walk p.moves (p.horizon - length q) from y listed in
+      (omega (arith, walk.1, legal.short), positions_follow p sound from (last_within p.moves sound.grid p.start start_within q legal.follows) y walk.0)
+
+  -- the rewards of a legal prefix have the same sums
+  reward_sum_same : (q y : List ℕ) → IsLegal p q → length q + length y ≤ p.horizon → All (λ a. a < p.positions) y →
+      sum_along (reward_of p q) (length q + 1) y ≡ sum_along (reward_of o q) (length q + 1) y
+  reward_sum_same q y legal short within =
+      sum_along-same p.positions p.horizon (reward_of p q) (reward_of o q) (length q + 1) y (λ t a from to place. reward_same p o same q (legal_within q legal) t a (omega (arith, from)) to place) (omega (arith, short)) within
+
+  -- the same path is a prefix's reference
+  pub reference_same : (q whole : List ℕ) → IsLegal p q → IsReference p q whole ↔ IsReference o q whole
+  reference_same q whole legal =
+      let n = p.horizon - length q in
+      let t = length q + 1 in
+      let a = last_of p.start q in
+      let many : n ≡ o.horizon - length q = ap (λ h. h - length q) same.horizon in
+      let from : a ≡ last_of o.start q = ap (λ s. last_of s q) same.start in
+      let each : (y : List ℕ) → Contains (continuations p q) y → sum_along (reward_of p q) t y ≡ sum_along (reward_of o q) t y = λ y listed.
+      let inside = continuation_within q y legal listed in
+      reward_sum_same q y legal inside.0 inside.1 in (
+        (λ (y, is, best). (y, is, least_best-moved p.moves o.moves (reward_of o q) n _ t a _ y same.moves many from (least_best-same p.moves (reward_of p q) (reward_of o q) n t a y each best))),
+        (λ (y, is, best). (y, is, least_best-same p.moves (reward_of o q) (reward_of p q) n t a y (λ z listed. sym (each z listed)) (least_best-moved o.moves p.moves (reward_of o q) _ n t _ a y (sym same.moves) (sym many) (sym from) best))),
+      )
+
   -- the greatest of numbers that are the same for each continuation
   greatest_same : (q : List ℕ) → IsLegal p q → (f g : List ℕ → ℕ) → ((y : List ℕ) → length q + length y ≤ p.horizon → All (λ a. a < p.positions) y → f y ≡ g y) →
       greatest (map f (continuations p q)) ≡ greatest (map g (continuations o q))
   greatest_same q legal f g each =
-      let all = continuations p q in
-      let from = last_of p.start q in
-      let last : from < length p.moves = last_within p.moves sound.grid p.start start_within q legal.follows in
-      let every : All (λ y. f y ≡ g y) all = All-weaker (Contains all) (λ y. f y ≡ g y) (λ y listed.
-      let walk = listed_walk p.moves (p.horizon - length q) from y listed in
-      each y (omega (arith, walk.1, legal.short)) (positions_follow p sound from last y walk.0)) all (All-contains_itself all) in
-      rw (← same.moves, ← same.horizon, ← same.start) (ap greatest (map_agree f g all every))
+      let every : (y : List ℕ) → Contains (continuations p q) y → f y ≡ g y = λ y listed. let inside = continuation_within q y legal listed in each y inside.0 inside.1 in
+      rw (← same.moves, ← same.horizon, ← same.start) (greatest_over-same f g (continuations p q) every)
 
   pub mean_same : (q : List ℕ) → IsLegal p q → mean_of p q ≡ mean_of o q
   mean_same q legal =
-      let places = legal_within q legal in
-      let most = greatest_same q legal (sum_along (reward_of p q) (length q + 1)) (sum_along (reward_of o q) (length q + 1)) (λ y short within.
-      sum_along-same p.positions p.horizon (reward_of p q) (reward_of o q) (length q + 1) y (λ t a from to place. reward_same p o same q places t a (omega (arith, from)) to place) (omega (arith, short)) within) in
+      let most = greatest_same q legal (sum_along (reward_of p q) (length q + 1)) (sum_along (reward_of o q) (length q + 1)) (λ y short within. reward_sum_same q y legal short within) in
       cc (value_same_legal q legal, most)
 
   edge_sum-same : (q : List ℕ) → All (λ a. a < p.positions) q → (y : List ℕ) → length q + length y ≤ p.horizon → All (λ a. a < p.positions) y → edge_sum p q y ≡ edge_sum o q y

@@ -1,8 +1,9 @@
 -- The walks from a position.
-use Rattle.std.proofs.Common.{ℕ, zero, suc, ◌-◌, ◌<◌, ◌≡◌, ◌↔◌, List, [], ◌∷◌, ◌++◌, map, length, get_or, inl, inr, refl, ap, subst, arith, Contains, length-append}
+use Rattle.std.proofs.Common.{ℕ, zero, suc, ◌-◌, ◌<◌, ◌≡◌, ◌↔◌, List, [], ◌∷◌, ◌++◌, map, length, take, drop, get_or, inl, inr, refl, sym, ap, subst, arith, Contains, length-append}
+use Rattle.std.proofs.lemmas.List.{length-take, take-append-drop}
 use Rattle.search_grid.specs.Moves.{moves_from, IsGrid}
 use Rattle.search_model.specs.Problem.{Problem}
-use Rattle.search_model.specs.Legal.{last_of, Follows, IsPath, walks}
+use Rattle.search_model.specs.Legal.{last_of, Follows, IsLegal, IsPath, walks}
 use Rattle.search_model.specs.Laws.{WalksFollow, ContinuationsAre}
 use Rattle.search_model.proofs.LegalLemmas.{move_within}
 use Rattle.list_laws.proofs.Members.{Contains-nil, Contains-head, Contains-some, Contains-cons_cases, Contains-map, Contains-map_cases, Contains-flat_map, Contains-flat_map_cases}
@@ -61,6 +62,16 @@ follows-append rows a [] y = ((λ f. (tt, f)), λ f. f.1)
 follows-append rows a (b ∷ q) y =
     let rest = follows-append rows b q y in
     ((λ f. ((f.0, (rest.0 f.1).0), (rest.0 f.1).1)), λ f. (f.0.0, rest.1 (f.0.1, f.1)))
+
+-- a front of what follows the moves follows them
+pub follows-take : (rows : List (List ℕ)) (a n : ℕ) (q : List ℕ) → Follows rows a q → Follows rows a (take n q)
+follows-take rows a n q follows =
+    let parts : Follows rows a (take n q ++ drop n q) = subst (Follows rows a) (sym (take-append-drop n q)) follows in
+    ((follows-append rows a (take n q) (drop n q)).0 parts).0
+
+-- so a front of a legal prefix is legal
+pub front_is_legal : (p : Problem) (q : List ℕ) (k : ℕ) → IsLegal p q → IsLegal p (take k q)
+front_is_legal p q k legal = record { follows = follows-take p.moves p.start k q legal.follows; short = omega (arith, length-take k q, legal.short) }
 
 pub continuations_are : ContinuationsAre
 continuations_are p q y legal =

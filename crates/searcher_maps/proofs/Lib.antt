@@ -10,3 +10,4 @@ pub mod DriftCopies
 pub mod Searched
 pub mod GivenRows
 pub mod LookTables
+pub mod OneTarget
