@@ -1,14 +1,19 @@
 //! Beliefs of the periods after a prefix, and after each shorter front of it.
 
-ghost use Rattle.std.specs.Prelude.{◌≡◌, ◌<◌, ◌≤◌, ◌+◌, ◌∷◌, [], ℕ, length, IfOk, All};
+ghost use Rattle.std.specs.Prelude.{◌≡◌, ◌<◌, ◌≤◌, ◌+◌, [], ℕ, List, length, take, IfOk, All};
 ghost use Rattle.search_model.specs.Problem.{Problem};
 ghost use Rattle.search_model.specs.Legal.{IsLegal};
+ghost use Rattle.search_model.specs.Tracks.{value_of};
+ghost use Rattle.belief_update.specs.Trails.{IsAhead};
 ghost use Rattle.belief_update.specs.Onward.{IsMadeFor, IsOnward};
-ghost use Rattle.belief_update.specs.Levels.{AreLevels, AreLevelsOf, level_at};
+ghost use Rattle.belief_update.specs.Levels.{AreLevels, AreLevelsOf};
 
+use crate::along::look_along;
+use crate::belief::Belief;
 use crate::onward::Onward;
 use crate::taken::Taken;
 use crate::trail::in_common;
+use crate::values::value_by;
 use exact_parts::NoMemory;
 use search_model::{Path, Scenario};
 use std::alloc::Global;
@@ -23,6 +28,8 @@ pub struct Levels {
     levels: Vec<Onward>,
     // What the last look took.
     taken: Taken,
+    // The belief that goes on from a level where only a value is asked for.
+    belief: Belief,
 }
 
 impl Model for Levels {
@@ -31,7 +38,7 @@ impl Model for Levels {
 
     ghost Value = { LevelsState };
 
-    ghost view = { λ l. record { prefix = l.prefix; levels = l.levels.items; taken = l.taken } };
+    ghost view = { λ l. record { prefix = l.prefix; levels = l.levels.items; taken = l.taken; belief = l.belief } };
 
     ghost invariant = { λ l. length l.prefix < length l.levels.items };
 }
@@ -87,6 +94,31 @@ fn go_on(levels: &mut [Onward], taken: &mut Taken, sc: &Scenario, looks: &[u8], 
     }
 }
 
+// The belief ahead of look `k`.
+fn ahead_at<'a>(levels: &'a [Onward], sc: &Scenario, k: usize) -> &'a Belief
+    requires inside { k < sc.now.horizon }
+    requires levels { (q : List ℕ) × AreLevels sc.now q k levels.now }
+    ensures { (q : List ℕ) → AreLevels sc.now q k levels.now → k ≤ length q → IsAhead sc.now (take k q) result.now }
+{
+    sc.recall_sound();
+    levels[k].at(k as u32 + 1)
+}
+
+// The value of a prefix, by the belief ahead of its look `k`.
+fn value_from(belief: &mut Belief, sc: &Scenario, ahead: &Belief, prefix: &Path, k: usize) -> u128
+    requires cells { length belief.old.masses ≡ sc.now.cells }
+    requires legal { IsLegal sc.now prefix.now }
+    requires inside { k ≤ length prefix.now }
+    requires ahead { IsAhead sc.now (take k prefix.now) ahead.now }
+    ensures value { result ≡ value_of sc.now prefix.now }
+    ensures cells { length belief.new.masses ≡ sc.now.cells }
+{
+    sc.recall_sound();
+    belief.copy_from(ahead);
+    look_along(sc, belief, prefix, k as u32, prefix.len() as u32);
+    value_by(sc, belief, prefix)
+}
+
 impl Levels {
     /// The levels of the empty prefix. Only this call takes memory.
     pub fn tables(alloc: Global, sc: &Scenario) -> Result<Levels, NoMemory>
@@ -100,6 +132,7 @@ impl Levels {
             prefix: Path::empty(),
             levels,
             taken: Taken::tables(alloc, sc)?,
+            belief: Belief::start(alloc, sc)?,
         })
     }
 
@@ -115,6 +148,20 @@ impl Levels {
         let same = in_common(self.prefix.cells(), prefix.cells());
         go_on(&mut self.levels, &mut self.taken, sc, prefix.cells(), same);
         self.prefix = *prefix;
+    }
+
+    /// The value of a legal prefix, in parts of the whole weight, by the level of what it has in common with the levels'
+    /// own, which stays.
+    pub fn value(&mut self, sc: &Scenario, prefix: &Path) -> u128
+        requires made { AreLevelsOf sc.now self.old }
+        requires legal { IsLegal sc.now prefix.now }
+        ensures value { result ≡ value_of sc.now prefix.now }
+        ensures made { AreLevelsOf sc.now self.new }
+        ensures prefix { self.new.prefix ≡ self.old.prefix }
+    {
+        let same = in_common(self.prefix.cells(), prefix.cells());
+        let ahead = ahead_at(&self.levels, sc, same);
+        value_from(&mut self.belief, sc, ahead, prefix, same)
     }
 
     /// The beliefs of the periods after the prefix.

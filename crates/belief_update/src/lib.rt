@@ -1,6 +1,7 @@
 //! Beliefs: where the target may be in a period, as far as the looks so far missed it (Eagle 1984), in whole numbers.
 #![tactic(auto)]
 
+mod along;
 mod belief;
 mod count;
 mod laws;
@@ -11,6 +12,7 @@ mod taken;
 mod trail;
 mod values;
 
+pub use along::{look_along, look_on};
 pub use belief::Belief;
 pub use count::Steps;
 pub use laws::{masses_follow, missed_by_masses, one_look_more, rewards_by_masses, worked_masses};

@@ -9,7 +9,7 @@ ghost use Rattle.longest_walk.specs.Near.{AreNear};
 ghost use Rattle.tangent_bound.specs.Room.{IsMadeFor};
 
 use crate::gains::{fill_after, sum_after};
-use crate::steps::{look_along, one_rate};
+use crate::steps::one_rate;
 use backward_mass::Backward;
 use belief_update::{Belief, follow, value_by};
 use exact_parts::NoMemory;
