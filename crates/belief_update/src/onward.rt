@@ -156,12 +156,23 @@ impl Onward {
         &self.rows[t as usize - 1]
     }
 
+    /// The belief before the look that comes after the prefix, in the period of that look.
+    pub fn ahead(&self, sc: &Scenario, prefix: &Path) -> &Belief
+        requires short { length prefix.now < sc.now.horizon }
+        requires onward { IsOnward sc.now prefix.now self.now }
+        ensures past { IsPast sc.now prefix.now result.now }
+        ensures near { result.now.period ≤ length prefix.now + 1 }
+    {
+        let _after = sc;
+        self.at(prefix.len() as u32 + 1)
+    }
+
     /// The value of the prefix, in parts of the whole weight.
     pub fn value(&self, sc: &Scenario, prefix: &Path) -> u128
         requires short { length prefix.now < sc.now.horizon }
         requires onward { IsOnward sc.now prefix.now self.now }
         ensures { result ≡ value_of sc.now prefix.now }
     {
-        value_by(sc, self.at(prefix.len() as u32 + 1), prefix)
+        value_by(sc, self.ahead(sc, prefix), prefix)
     }
 }
