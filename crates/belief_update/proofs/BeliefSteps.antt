@@ -24,7 +24,7 @@ pub mass_at : (p : Problem) (looks : List (Option ℕ)) (b : BeliefState) → Is
 mass_at p looks b belief c here = rw belief.masses (get_or-map-range_with_len (mass_of p looks) 0 p.cells c c 0 here (omega arith))
 
 -- a list that has each mass
-masses_are : (p : Problem) (looks : List (Option ℕ)) (xs : List ℕ) → length xs ≡ p.cells → ((c : ℕ) → c < p.cells → slice_index xs c ≡ mass_of p looks c) → xs ≡ masses_of p looks
+pub masses_are : (p : Problem) (looks : List (Option ℕ)) (xs : List ℕ) → length xs ≡ p.cells → ((c : ℕ) → c < p.cells → slice_index xs c ≡ mass_of p looks c) → xs ≡ masses_of p looks
 masses_are p looks xs size each = fill_by_all (mass_of p looks) xs p.cells 0 size each
 
 -- no look

@@ -11,3 +11,6 @@ pub mod Looks
 pub mod PrefixValues
 pub mod TrailSteps
 pub mod OnwardRows
+pub mod LevelSteps
+pub mod OneMore
+pub mod TakenSteps

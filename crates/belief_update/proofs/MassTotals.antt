@@ -64,7 +64,7 @@ total_after-any-le p sound n looks (Some a) h =
     rw (pow-suc p.sweep.denominator n) (omega (arith, look, more))
 
 -- with no look in the last of n + 1 periods
-total_after-none-le : (p : Problem) → IsProblem p → (n : ℕ) (looks : List (Option ℕ)) → length looks ≡ n →
+pub total_after-none-le : (p : Problem) → IsProblem p → (n : ℕ) (looks : List (Option ℕ)) → length looks ≡ n →
     total_after p (looks ++ None ∷ []) ≤ p.total * p.drift.denominator ^ n * p.sweep.denominator ^ n
 unfolding total_after
 total_after-none-le p sound zero [] e =

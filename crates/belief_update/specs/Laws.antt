@@ -7,6 +7,7 @@ use Rattle.search_model.specs.Problem.{Problem, IsProblem}
 use Rattle.search_model.specs.Tracks.{missed_weight}
 use Rattle.search_model.specs.Bounds.{reward_of}
 use Rattle.belief_update.specs.Masses.{mass_of, masses_of, looks_to}
+use Rattle.belief_update.specs.Taken.{and_then, taken_of}
 
 -- a look scales each mass by its factor
 abbrev pub LooksScale : Type 0
@@ -34,3 +35,9 @@ RewardsByMasses =
     reward_of p q t a
     ≡ sum_by (λ c. mass_of p (looks_to t q) c * (p.sweep.denominator - factor_of p.sweep t a c)) (range_with_len 0 p.cells)
     * p.drift.denominator ^ (p.horizon - t) * p.sweep.denominator ^ (p.horizon - length q - 1)
+
+-- the masses with a look more and what it took are the masses without it, times the denominator
+abbrev pub OneLookMore : Type 0
+OneLookMore =
+    (p : Problem) → IsProblem p → (looks : List (Option ℕ)) (a n c : ℕ) →
+    mass_of p (and_then looks (Some a) n) c + taken_of p looks a n c ≡ mass_of p (and_then looks None n) c * p.sweep.denominator

@@ -24,3 +24,7 @@ AreOnwardTo p q last rows = (t : ℕ) → length q < t → t ≤ last → IsBeli
 pub record IsOnward (p : Problem) (q : List ℕ) (o : OnwardState) : Type 0 where
   pub size : length o.rows ≡ p.horizon
   pub each : AreOnwardTo p q p.horizon o.rows
+
+-- the beliefs of all periods after some prefix of so many positions
+abbrev pub IsOnwardBehind : Problem → ℕ → OnwardState → Type 0
+IsOnwardBehind p k o = (q : List ℕ) × (length q ≡ k) × IsOnward p q o

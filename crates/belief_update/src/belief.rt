@@ -1,11 +1,13 @@
 //! Beliefs.
 
-ghost use Rattle.std.specs.Prelude.{◌≡◌, ◌<◌, ◌+◌, ◌++◌, ◌∷◌, [], ℕ, List, Option, Some, None, length, slice_index, sum, IfOk, IsTrue};
+ghost use Rattle.std.specs.Prelude.{◌≡◌, ◌<◌, ◌≤◌, ◌+◌, ◌++◌, ◌∷◌, [], ℕ, List, Option, Some, None, length, slice_index, sum, IfOk, IsTrue};
 ghost use Rattle.search_model.specs.Problem.{IsProblem, first_of};
 ghost use Rattle.belief_update.specs.Belief.{IsBelief, IsReached, IsUnlooked, awaiting};
+ghost use Rattle.belief_update.specs.Taken.{IsTaken, IsLater, and_then};
 
 use crate::count::Steps;
 use crate::steps;
+use crate::taken::Taken;
 use exact_parts::NoMemory;
 use search_model::Scenario;
 use std::alloc::Global;
@@ -170,6 +172,21 @@ impl Belief {
         self.advance_from(sc, before);
         self.look(sc, position);
         steps.tick();
+    }
+
+    /// Becomes the belief with one look more, in a period after that look: by the belief without it, and by what the look
+    /// took, drifted on to this period.
+    pub(crate) fn leave_from(&mut self, sc: &Scenario, before: &Belief, taken: &Taken)
+        requires cells { length self.old.masses ≡ sc.now.cells }
+        requires later { IsLater sc.now before.now taken.now }
+        ensures { (looks : List (Option ℕ)) (a n : ℕ) → 1 ≤ n → IsBelief sc.now (and_then looks None n) before.now →
+            IsTaken sc.now looks a n taken.now → IsBelief sc.now (and_then looks (Some a) n) self.new }
+    {
+        sc.recall_sound();
+        let whole = sc.sweep().denominator();
+        steps::leave(&mut self.masses, &before.masses, whole, taken.masses());
+        self.period = before.period;
+        self.looked = false;
     }
 
     /// Takes over what another belief of the scenario holds.

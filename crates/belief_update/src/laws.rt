@@ -1,12 +1,18 @@
 //! What looks and drift make of masses, and what masses say of values and of bounds.
 
-ghost use Rattle.belief_update.specs.Laws.{LooksScale, DriftSpreads, MissedByMasses, RewardsByMasses};
+ghost use Rattle.belief_update.specs.Laws.{LooksScale, DriftSpreads, OneLookMore, MissedByMasses, RewardsByMasses};
 ghost use Rattle.belief_update.specs.Worked.{WorkedMasses};
 
 /// A look scales each mass by its factor, and the drift sends each mass on by the parts of its row.
 pub fn masses_follow()
     ensures look { LooksScale }
     ensures drift { DriftSpreads }
+{}
+
+/// The masses with one look more and what that look took, in its period or drifted on, are the masses without it times the
+/// denominator.
+pub fn one_look_more()
+    ensures { OneLookMore }
 {}
 
 /// What a prefix misses is the sum of the masses after it, times the parts of the steps and of the looks to come.

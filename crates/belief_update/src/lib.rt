@@ -1,17 +1,22 @@
 //! Beliefs: where the target may be in a period, as far as the looks so far missed it (Eagle 1984), in whole numbers.
 #![tactic(auto)]
 
+mod along;
 mod belief;
 mod count;
 mod laws;
+mod levels;
 mod onward;
 mod steps;
+mod taken;
 mod trail;
 mod values;
 
+pub use along::{look_along, look_on};
 pub use belief::Belief;
 pub use count::Steps;
-pub use laws::{masses_follow, missed_by_masses, rewards_by_masses, worked_masses};
+pub use laws::{masses_follow, missed_by_masses, one_look_more, rewards_by_masses, worked_masses};
+pub use levels::Levels;
 pub use onward::Onward;
 pub use trail::Trail;
 pub use values::{follow, later_parts, prefix_value, value_by};

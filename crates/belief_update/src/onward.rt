@@ -1,12 +1,13 @@
 //! Beliefs after a prefix, period by period.
 
-ghost use Rattle.std.specs.Prelude.{◌≡◌, ◌<◌, ◌≤◌, ◌+◌, ◌-◌, length, IfOk};
+ghost use Rattle.std.specs.Prelude.{◌≡◌, ◌<◌, ◌≤◌, ◌+◌, ◌-◌, ◌++◌, ◌∷◌, [], ℕ, List, length, IfOk};
 ghost use Rattle.search_model.specs.Legal.{IsLegal};
 ghost use Rattle.search_model.specs.Tracks.{value_of};
 ghost use Rattle.belief_update.specs.Trails.{IsPast, IsAhead, HaveAllCells, row_at};
-ghost use Rattle.belief_update.specs.Onward.{AreOnwardTo};
+ghost use Rattle.belief_update.specs.Onward.{AreOnwardTo, IsOnward, IsOnwardBehind};
 
 use crate::belief::Belief;
+use crate::taken::Taken;
 use crate::trail::first_beliefs;
 use crate::values::{follow, value_by};
 use exact_parts::NoMemory;
@@ -49,8 +50,37 @@ fn fill_rows(rows: &mut [Belief], belief: &mut Belief, sc: &Scenario, prefix: &P
     }
 }
 
+// Writes the beliefs of the periods after the first `k + 1` looks, by those after the first `k` and by what look `k` takes of
+// them from position `a`.
+fn leave_rows(
+    rows: &mut [Belief],
+    taken: &mut Taken,
+    sc: &Scenario,
+    before: &Onward,
+    k: usize,
+    a: u8,
+)
+    requires short { k + 1 < sc.now.horizon }
+    requires position { a < sc.now.positions }
+    requires size { length rows.old ≡ sc.now.horizon }
+    requires cells { HaveAllCells sc.now rows.old }
+    requires room { length taken.old.masses ≡ sc.now.cells }
+    requires before { IsOnwardBehind sc.now k before.now }
+    ensures rows { (q : List ℕ) → length q ≡ k → IsOnward sc.now q before.now →
+        AreOnwardTo sc.now (q ++ a ∷ []) sc.now.horizon rows.new }
+    ensures cells { HaveAllCells sc.now rows.new }
+    ensures room { length taken.new.masses ≡ sc.now.cells }
+{
+    sc.recall_sound();
+    taken.start(sc, before.at(k as u32 + 1), a);
+    for t in k + 1..rows.len() {
+        taken.drift(sc);
+        rows[t].leave_from(sc, before.at(t as u32 + 1), taken);
+    }
+}
+
 impl Onward {
-    ghost use Rattle.belief_update.specs.Onward.{IsMadeFor, IsOnward};
+    ghost use Rattle.belief_update.specs.Onward.{IsMadeFor, IsOnward, IsOnwardBehind};
 
     /// Room for the periods of a scenario. Only this call takes memory.
     pub fn tables(alloc: Global, sc: &Scenario) -> Result<Onward, NoMemory>
@@ -101,6 +131,22 @@ impl Onward {
         self.go_on(sc, prefix);
     }
 
+    /// Goes to a prefix with one position more, by the beliefs after the prefix of `k` positions. Each mass is left as it
+    /// was, times the denominator, but for what the look takes.
+    pub fn look_from(&mut self, sc: &Scenario, before: &Onward, k: usize, a: u8, taken: &mut Taken)
+        requires made { IsMadeFor sc.now self.old }
+        requires short { k + 1 < sc.now.horizon }
+        requires position { a < sc.now.positions }
+        requires room { length taken.old.masses ≡ sc.now.cells }
+        requires before { IsOnwardBehind sc.now k before.now }
+        ensures made { IsMadeFor sc.now self.new }
+        ensures onward { (q : List ℕ) → length q ≡ k → IsOnward sc.now q before.now →
+            IsOnward sc.now (q ++ a ∷ []) self.new }
+        ensures room { length taken.new.masses ≡ sc.now.cells }
+    {
+        leave_rows(&mut self.rows, taken, sc, before, k, a);
+    }
+
     /// The belief in a period after the prefix.
     pub fn at(&self, t: u32) -> &Belief
         requires first { 1 ≤ t }
@@ -110,12 +156,23 @@ impl Onward {
         &self.rows[t as usize - 1]
     }
 
+    /// The belief before the look that comes after the prefix, in the period of that look.
+    pub fn ahead(&self, sc: &Scenario, prefix: &Path) -> &Belief
+        requires short { length prefix.now < sc.now.horizon }
+        requires onward { IsOnward sc.now prefix.now self.now }
+        ensures past { IsPast sc.now prefix.now result.now }
+        ensures near { result.now.period ≤ length prefix.now + 1 }
+    {
+        let _after = sc;
+        self.at(prefix.len() as u32 + 1)
+    }
+
     /// The value of the prefix, in parts of the whole weight.
     pub fn value(&self, sc: &Scenario, prefix: &Path) -> u128
         requires short { length prefix.now < sc.now.horizon }
         requires onward { IsOnward sc.now prefix.now self.now }
         ensures { result ≡ value_of sc.now prefix.now }
     {
-        value_by(sc, self.at(prefix.len() as u32 + 1), prefix)
+        value_by(sc, self.ahead(sc, prefix), prefix)
     }
 }

@@ -1,6 +1,6 @@
 //! A look and a step of the drift, over plain lists of masses.
 
-ghost use Rattle.std.specs.Prelude.{◌≡◌, ◌<◌, ◌≤◌, ◌+◌, ◌*◌, ◌^◌, ◌∷◌, [], ℕ, length, slice_index, sum_by, All};
+ghost use Rattle.std.specs.Prelude.{◌≡◌, ◌<◌, ◌≤◌, ◌+◌, ◌-◌, ◌*◌, ◌^◌, ◌∷◌, [], ℕ, length, slice_index, sum_by, All};
 ghost use Rattle.std.specs.List.{range_with_len};
 ghost use Rattle.drift_chain.specs.DriftRows.{part_in, part_of, drift_cells};
 ghost use Rattle.sweep_table.specs.LookParts.{factor_in, factor_of, misses, positions_of, cells_of};
@@ -101,5 +101,20 @@ pub fn move_on(next: &mut [u128], masses: &[u128], drift: &Drift, t: u32)
     next.fill(0);
     for c in 0..drift.cells() {
         spread_from(next, drift, t, c, masses[c as usize]);
+    }
+}
+
+/// Writes into `left` what is left of masses without a look: each times the denominator, less what the look took of it.
+pub fn leave(left: &mut [u128], masses: &[u128], whole: u32, taken: &[u128])
+    requires width { length left.old ≡ length masses.now }
+    requires taken { length taken.now ≡ length masses.now }
+    requires fits { (c : ℕ) → c < length masses.now → slice_index masses.now c * whole < 2 ^ 127 }
+    requires part { (c : ℕ) → c < length masses.now → slice_index taken.now c ≤ slice_index masses.now c * whole }
+    ensures each { (c : ℕ) → c < length masses.now →
+        slice_index left.new c ≡ slice_index masses.now c * whole - slice_index taken.now c }
+{
+    let whole = u128::from(whole);
+    for c in 0..masses.len() {
+        left[c] = masses[c] * whole - taken[c];
     }
 }

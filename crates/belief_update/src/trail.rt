@@ -51,8 +51,8 @@ pub(crate) fn first_beliefs(
     Ok(beliefs)
 }
 
-// How many positions two prefixes have in common, from the first on.
-fn in_common(left: &[u8], right: &[u8]) -> usize
+/// How many positions two prefixes have in common, from the first on.
+pub(crate) fn in_common(left: &[u8], right: &[u8]) -> usize
     ensures { result ≡ common_of left.now right.now }
 {
     let most = left.len().min(right.len());

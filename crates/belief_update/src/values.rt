@@ -24,7 +24,7 @@ fn follow_on(sc: &Scenario, belief: &mut Belief, later: &[u8])
 }
 
 // Starts again, looks at the first of some positions, and at each later one a period later.
-fn look_along(sc: &Scenario, belief: &mut Belief, looks: &[u8])
+fn look_through(sc: &Scenario, belief: &mut Belief, looks: &[u8])
     requires cells { length belief.old.masses ≡ sc.now.cells }
     requires positions { All (λ a. a < sc.now.positions) looks.now }
     requires short { length looks.now ≤ sc.now.horizon }
@@ -45,7 +45,7 @@ pub fn follow(sc: &Scenario, belief: &mut Belief, prefix: &Path)
     ensures { IsAfter sc.now prefix.now belief.new }
 {
     sc.recall_sound();
-    look_along(sc, belief, prefix.cells());
+    look_through(sc, belief, prefix.cells());
 }
 
 /// The parts of the steps after period `t` and of the looks after the first `k`, up to the horizon.

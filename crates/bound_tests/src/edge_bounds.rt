@@ -1,8 +1,8 @@
-ghost use Rattle.belief_update.specs.Trails.{IsTrailOf};
+ghost use Rattle.belief_update.specs.Levels.{AreLevelsOf};
 ghost use Rattle.edge_bound.specs.Edges.{IsMadeFor};
 
 use crate::scenarios::{crosses_threads, scenario_of};
-use belief_update::Trail;
+use belief_update::Levels;
 use edge_bound::Edge;
 use search_model::{Path, Scenario};
 use std::alloc::Global;
@@ -73,17 +73,23 @@ lookin 3 d
 end
 ";
 
-// Whether a prefix may be bounded, and has this bound by the beliefs along it and by one from the start.
-fn has_bound(sc: &Scenario, edge: &mut Edge, trail: &mut Trail, cells: &[u8], bound: u128) -> bool
+// Whether a prefix may be bounded, and has this bound by the beliefs that are kept along it and by one from the start.
+fn has_bound(
+    sc: &Scenario,
+    edge: &mut Edge,
+    levels: &mut Levels,
+    cells: &[u8],
+    bound: u128,
+) -> bool
     requires edge { IsMadeFor sc.now edge.old }
-    requires trail { IsTrailOf sc.now trail.old }
+    requires levels { AreLevelsOf sc.now levels.old }
     ensures edge { IsMadeFor sc.now edge.new }
-    ensures trail { IsTrailOf sc.now trail.new }
+    ensures levels { AreLevelsOf sc.now levels.new }
 {
     match Path::of(cells) {
         Some(prefix) if sc.is_legal(&prefix) && cells.len() < sc.horizon() as usize => {
-            trail.go_to(sc, &prefix);
-            let after = edge.bound_after(sc, trail.ahead(prefix.len()), &prefix);
+            levels.go_to(sc, &prefix);
+            let after = edge.bound_by(sc, levels.last(), &prefix);
             after == bound && edge.bound(sc, &prefix) == bound
         }
         _ => false,
@@ -94,12 +100,12 @@ fn has_bound(sc: &Scenario, edge: &mut Edge, trail: &mut Trail, cells: &[u8], bo
 type Bound = (&'static [u8], u128);
 
 // Whether prefixes have their bounds, one asked after the other.
-fn have_bounds(sc: &Scenario, edge: &mut Edge, trail: &mut Trail, cases: &[Bound]) -> bool
+fn have_bounds(sc: &Scenario, edge: &mut Edge, levels: &mut Levels, cases: &[Bound]) -> bool
     requires edge { IsMadeFor sc.now edge.old }
-    requires trail { IsTrailOf sc.now trail.old }
+    requires levels { AreLevelsOf sc.now levels.old }
 {
     for (cells, bound) in cases {
-        if !has_bound(sc, edge, trail, cells, *bound) {
+        if !has_bound(sc, edge, levels, cells, *bound) {
             return false;
         }
     }
@@ -109,8 +115,8 @@ fn have_bounds(sc: &Scenario, edge: &mut Edge, trail: &mut Trail, cases: &[Bound
 // Whether the prefixes of a scenario have these bounds.
 fn are_bounded_over(alloc: Global, sc: &Scenario, bounds: &[Bound]) -> Result<bool, Fail> {
     let mut edge = Edge::tables(alloc, sc)?;
-    let mut trail = Trail::tables(alloc, sc)?;
-    Ok(have_bounds(sc, &mut edge, &mut trail, bounds))
+    let mut levels = Levels::tables(alloc, sc)?;
+    Ok(have_bounds(sc, &mut edge, &mut levels, bounds))
 }
 
 fn are_bounded(alloc: Global, text: &str, bounds: &[Bound]) -> Result<bool, Fail> {

@@ -5,14 +5,13 @@ ghost use Rattle.search_model.specs.Legal.{IsLegal, IsPath};
 ghost use Rattle.search_model.specs.Edge.{edge_of};
 ghost use Rattle.search_model.specs.Tracks.{value_of};
 ghost use Rattle.longest_walk.specs.Near.{AreNear};
-ghost use Rattle.belief_update.specs.Trails.{IsPast};
 ghost use Rattle.belief_update.specs.Onward.{IsOnward};
 ghost use Rattle.edge_bound.specs.Units.{HasUnits};
 
 use crate::along::sum_after;
 use crate::rows::{best_first, fill_sums};
 use crate::units::Units;
-use belief_update::{Belief, Onward};
+use belief_update::Onward;
 use exact_parts::NoMemory;
 use longest_walk::Near;
 use search_model::{Path, Scenario};
@@ -27,12 +26,12 @@ use std::marker::Model;
 /// more than all that come before do, so the bound is no less than the value of each path that begins with the prefix;
 /// and it is no more than the mean bound.
 ///
-/// `bound_or_enough` is for who keeps the beliefs of the periods after the prefix, and `bound_after` for who keeps those
-/// along the prefix; `bound` goes along the prefix from the start.
+/// `bound_by` and `bound_or_enough` are for who keeps the beliefs of the periods after the prefix; `bound` goes along the
+/// prefix from the start.
 #[derive(Drop)]
 pub struct Edge {
     near: Near,
-    // The beliefs of the periods after the last prefix that `bound` or `bound_after` was asked.
+    // The beliefs of the periods after the last prefix that `bound` was asked.
     onward: Onward,
     // What looks find of units of mass, made once.
     units: Units,
@@ -147,20 +146,18 @@ impl Edge {
         )
     }
 
-    /// The same bound by a belief after the prefix, in the period of its last look or in the next one. Takes no memory.
-    pub fn bound_after(&mut self, sc: &Scenario, ahead: &Belief, prefix: &Path) -> u128
+    /// The same bound by the beliefs of the periods after the prefix. Takes no memory.
+    pub fn bound_by(&mut self, sc: &Scenario, onward: &Onward, prefix: &Path) -> u128
         requires made { IsMadeFor sc.now self.old }
         requires legal { IsLegal sc.now prefix.now }
         requires short { length prefix.now < sc.now.horizon }
-        requires ahead { IsPast sc.now prefix.now ahead.now }
-        requires near { ahead.now.period ≤ length prefix.now + 1 }
+        requires onward { IsOnward sc.now prefix.now onward.now }
         ensures bound { result ≡ edge_of sc.now prefix.now }
         ensures made { IsMadeFor sc.now self.new }
     {
-        self.onward.go_by(sc, ahead, prefix);
         bound_from(
-            self.onward.value(sc, prefix),
-            &self.onward,
+            onward.value(sc, prefix),
+            onward,
             &self.units,
             &mut self.sums,
             &mut self.earlier,

@@ -1,17 +1,18 @@
 //! The tables of the mean bound.
 
 ghost use Rattle.std.specs.Prelude.{◌≡◌, ◌<◌, ◌≤◌, ◌+◌, ◌*◌, ℕ, List, length, IfOk};
+ghost use Rattle.search_model.specs.Problem.{Problem};
 ghost use Rattle.search_model.specs.Legal.{IsLegal, last_of};
 ghost use Rattle.search_model.specs.Tracks.{value_of};
 ghost use Rattle.search_model.specs.Bounds.{mean_of, reward_of};
 ghost use Rattle.longest_walk.specs.Near.{AreNear};
 ghost use Rattle.longest_walk.specs.Tables.{IsFilledNear};
 ghost use Rattle.belief_update.specs.Trails.{IsPast};
-ghost use Rattle.belief_update.specs.Onward.{IsOnward, IsMadeFor as IsOnwardFor};
+ghost use Rattle.belief_update.specs.Onward.{IsOnward};
 ghost use Rattle.mean_bound.specs.Rewards.{HasRewards};
 
 use crate::rewards::fill_rewards;
-use belief_update::{Belief, Onward, Trail, value_by};
+use belief_update::{Belief, Levels, Onward};
 use exact_parts::NoMemory;
 use longest_walk::{Near, Walk};
 use search_model::{Path, Scenario};
@@ -24,14 +25,13 @@ use std::marker::Model;
 /// what it finds after the looks of the prefix and no others. So it is no less than the value of each path that begins
 /// with the prefix (Martins 1993).
 ///
-/// For `bound` and `value` the tables keep the beliefs along the last prefix, and the next one uses those of the part
-/// that it has in common with it: prefixes are best asked in order, as a search in depth meets them. `bound_after` is for
-/// who keeps these beliefs already.
+/// The tables keep the beliefs of all periods after the last prefix that was bounded and after each shorter front of it,
+/// and the next one uses those of the part that it has in common with it: prefixes are best asked in order, as a search in
+/// depth meets them.
 #[derive(Drop)]
 pub struct Mean {
     near: Near,
-    trail: Trail,
-    onward: Onward,
+    levels: Levels,
     rewards: Vec<u128>,
     walk: Walk,
 }
@@ -41,38 +41,32 @@ impl Model for Mean {
 
     ghost Value = { MeanState };
 
-    ghost view = { λ m. record { near = m.near; trail = m.trail; onward = m.onward; rewards = m.rewards.items; walk = m.walk } };
+    ghost view = { λ m. record { near = m.near; levels = m.levels; rewards = m.rewards.items; walk = m.walk } };
 }
 
-// The mean bound of a prefix, by a belief after it. Fills in the beliefs and the rewards after the prefix, and their walks.
+// The mean bound of a prefix, by the beliefs after it. Fills in the rewards after the prefix, and their walks.
 fn bound_by(
     near: &Near,
-    onward: &mut Onward,
     rewards: &mut [u128],
     walk: &mut Walk,
     sc: &Scenario,
-    row: &Belief,
+    onward: &Onward,
     prefix: &Path,
 ) -> u128
     requires within { AreNear sc.now.moves sc.now.horizon near.now }
-    requires onward { IsOnwardFor sc.now onward.old }
     requires size { length rewards.old ≡ sc.now.horizon * sc.now.positions }
     requires positions { walk.old.positions ≡ sc.now.positions }
     requires horizon { walk.old.horizon ≡ sc.now.horizon }
     requires legal { IsLegal sc.now prefix.now }
     requires short { length prefix.now < sc.now.horizon }
-    requires row { IsPast sc.now prefix.now row.now }
-    requires near { row.now.period ≤ length prefix.now + 1 }
+    requires onward { IsOnward sc.now prefix.now onward.now }
     ensures bound { result ≡ mean_of sc.now prefix.now }
-    ensures made { IsOnwardFor sc.now onward.new }
-    ensures onward { IsOnward sc.now prefix.now onward.new }
     ensures rewards { HasRewards sc.now prefix.now rewards.new }
     ensures walked { IsFilledNear walk.new sc.now.moves (reward_of sc.now prefix.now)
         (last_of sc.now.start prefix.now) (length prefix.now) }
     ensures positions { walk.new.positions ≡ sc.now.positions }
     ensures horizon { walk.new.horizon ≡ sc.now.horizon }
 {
-    onward.go_by(sc, row, prefix);
     let value = onward.value(sc, prefix);
     fill_rewards(rewards, sc, near, onward, prefix);
     let from = sc.last_after(prefix);
@@ -81,7 +75,7 @@ fn bound_by(
 }
 
 impl Mean {
-    ghost use Rattle.mean_bound.specs.Means.{IsMadeFor, IsFilledFor};
+    ghost use Rattle.mean_bound.specs.Means.{IsMadeFor, IsAlong, IsFilledFor};
     ghost use Rattle.search_model.specs.Reference.{IsReference};
 
     /// Tables for a scenario. Only this call takes memory.
@@ -92,11 +86,23 @@ impl Mean {
         let horizon = sc.horizon();
         Ok(Mean {
             near: Near::tables(alloc, sc.grid(), horizon)?,
-            trail: Trail::tables(alloc, sc)?,
-            onward: Onward::tables(alloc, sc)?,
+            levels: Levels::tables(alloc, sc)?,
             rewards: vec![in alloc; 0; horizon as usize * usize::from(positions)]?,
             walk: Walk::tables(alloc, positions, horizon)?,
         })
+    }
+
+    /// Goes to a legal prefix shorter than the horizon: `onward` then has the beliefs after it. The rewards stay those of
+    /// the last prefix that was bounded.
+    pub fn go_to(&mut self, sc: &Scenario, prefix: &Path)
+        requires made { IsMadeFor sc.now self.old }
+        requires legal { IsLegal sc.now prefix.now }
+        requires short { length prefix.now < sc.now.horizon }
+        ensures made { IsMadeFor sc.now self.new }
+        ensures there { IsAlong prefix.now self.new }
+        ensures filled { (q : List ℕ) → IsFilledFor sc.now q self.old → IsFilledFor sc.now q self.new }
+    {
+        self.levels.go_to(sc, prefix);
     }
 
     /// The mean bound of a legal prefix shorter than the horizon, in parts of the whole weight. The tables then hold the
@@ -107,21 +113,22 @@ impl Mean {
         requires short { length prefix.now < sc.now.horizon }
         ensures bound { result ≡ mean_of sc.now prefix.now }
         ensures made { IsMadeFor sc.now self.new }
+        ensures there { IsAlong prefix.now self.new }
         ensures filled { IsFilledFor sc.now prefix.now self.new }
     {
-        self.trail.go_to(sc, prefix);
+        self.levels.go_to(sc, prefix);
         bound_by(
             &self.near,
-            &mut self.onward,
             &mut self.rewards,
             &mut self.walk,
             sc,
-            self.trail.ahead(prefix.len()),
+            self.levels.last(),
             prefix,
         )
     }
 
-    /// The same bound by a belief after the prefix, in the period of its last look or in the next one. Takes no memory.
+    /// The same bound, for who has a belief after the prefix, in the period of its last look or in the next one. The tables
+    /// keep such beliefs themselves, so that it takes no time less.
     pub fn bound_after(&mut self, sc: &Scenario, row: &Belief, prefix: &Path) -> u128
         requires made { IsMadeFor sc.now self.old }
         requires legal { IsLegal sc.now prefix.now }
@@ -130,37 +137,31 @@ impl Mean {
         requires near { row.now.period ≤ length prefix.now + 1 }
         ensures bound { result ≡ mean_of sc.now prefix.now }
         ensures made { IsMadeFor sc.now self.new }
+        ensures there { IsAlong prefix.now self.new }
         ensures filled { IsFilledFor sc.now prefix.now self.new }
     {
-        bound_by(
-            &self.near,
-            &mut self.onward,
-            &mut self.rewards,
-            &mut self.walk,
-            sc,
-            row,
-            prefix,
-        )
+        let _known = row;
+        self.bound(sc, prefix)
     }
 
     /// The value of a legal prefix, in parts of the whole weight. The rewards stay those of the last prefix that was
-    /// bounded.
+    /// bounded, and so do the beliefs of `onward`.
     pub fn value(&mut self, sc: &Scenario, prefix: &Path) -> u128
         requires made { IsMadeFor sc.now self.old }
         requires legal { IsLegal sc.now prefix.now }
         ensures value { result ≡ value_of sc.now prefix.now }
         ensures made { IsMadeFor sc.now self.new }
+        ensures there { (q : List ℕ) → IsAlong q self.old → IsAlong q self.new }
         ensures filled { (q : List ℕ) → IsFilledFor sc.now q self.old → IsFilledFor sc.now q self.new }
     {
-        self.trail.go_to(sc, prefix);
-        value_by(sc, self.trail.row(prefix.len()), prefix)
+        self.levels.value(sc, prefix)
     }
 
-    /// The beliefs of the periods after the last prefix that was bounded, with no look after it.
+    /// The beliefs of the periods after the prefix that the tables are along, with no look after it.
     pub fn onward(&self) -> &Onward
-        ensures { result.now ≡ self.now.onward }
+        ensures { (p : Problem) (q : List ℕ) → IsMadeFor p self.now → IsAlong q self.now → IsOnward p q result.now }
     {
-        &self.onward
+        self.levels.last()
     }
 
     /// Adds to the last prefix that was bounded the least of its continuations that reach the greatest sum of rewards.

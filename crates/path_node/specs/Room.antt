@@ -2,14 +2,12 @@
 use Rattle.std.specs.Prelude.{ℕ, Bool, true, false}
 use Rattle.search_model.specs.Problem.{Problem}
 use Rattle.search_model.specs.Bounds.{IsRate}
-use Rattle.belief_update.specs.Trails.{TrailState, IsTrailOf}
 use Rattle.mean_bound.specs.Means.{MeanState, IsMadeFor as IsMeanFor}
 use Rattle.tangent_bound.specs.Room.{TangentRoom, IsMadeFor as IsTangentFor}
 use Rattle.edge_bound.specs.Edges.{EdgeState, IsMadeFor as IsEdgeFor}
 
--- the beliefs along the prefix that was closed last, and the tables of the bounds
+-- the tables of the bounds
 pub record NodeTables : Type 0 where
-  pub trail : TrailState
   pub mean : MeanState
   pub tangent : TangentRoom
   pub edge : EdgeState
@@ -21,7 +19,6 @@ TellsRate p false = (rate : ℕ) → ¬ IsRate p rate
 
 -- the tables are for this scenario, and the beliefs that they keep are right in it
 pub record IsMadeFor (p : Problem) (s : NodeTables) : Type 0 where
-  pub trail : IsTrailOf p s.trail
   pub mean : IsMeanFor p s.mean
   pub tangent : IsTangentFor p s.tangent
   pub edge : IsEdgeFor p s.edge

@@ -5,14 +5,14 @@ ghost use Rattle.search_model.specs.Problem.{Problem};
 ghost use Rattle.search_model.specs.Legal.{IsLegal, moves_after};
 ghost use Rattle.search_model.specs.Bounds.{IsRate, mean_of, tangent_of};
 ghost use Rattle.search_model.specs.Reference.{IsReference};
-ghost use Rattle.belief_update.specs.Trails.{IsPast, IsTrailOf};
+ghost use Rattle.belief_update.specs.Trails.{IsPast};
 ghost use Rattle.bound_tree.specs.Close.{IsClosed, IsExact, IsAtLeast, IsLeftOpen};
 ghost use Rattle.bound_tree.specs.Cut.{is_cut};
-ghost use Rattle.mean_bound.specs.Means.{IsMadeFor as IsMeanFor, IsFilledFor};
+ghost use Rattle.mean_bound.specs.Means.{IsMadeFor as IsMeanFor, IsAlong, IsFilledFor};
 ghost use Rattle.tangent_bound.specs.Room.{IsMadeFor as IsTangentFor};
 ghost use Rattle.path_node.specs.Room.{IsMadeFor, TellsRate};
 
-use belief_update::{Belief, Trail, value_by};
+use belief_update::Belief;
 use bound_tree::{Kind, TreeNode, cuts, in_parts};
 use edge_bound::Edge;
 use exact_parts::NoMemory;
@@ -23,11 +23,10 @@ use std::alloc::Global;
 use std::marker::Model;
 use tangent_bound::Tangent;
 
-/// Tables with which prefixes of one scenario are closed: the beliefs along the prefix that is closed, by which all
-/// bounds and values go, and the tables of the bounds.
+/// Tables with which prefixes of one scenario are closed: those of the bounds. All bounds and values go by the beliefs that
+/// the mean bound keeps, after the prefix that is closed and after each shorter front of it.
 #[derive(Drop)]
 pub struct Scratch {
-    trail: Trail,
     mean: Mean,
     tangent: Tangent,
     edge: Edge,
@@ -38,7 +37,7 @@ impl Model for Scratch {
 
     ghost Value = { NodeTables };
 
-    ghost view = { λ s. record { trail = s.trail; mean = s.mean; tangent = s.tangent; edge = s.edge } };
+    ghost view = { λ s. record { mean = s.mean; tangent = s.tangent; edge = s.edge } };
 }
 
 // Whether the looks of the scenario that the tables of a tangent bound were made for have one rate, which they keep.
@@ -54,7 +53,6 @@ impl Scratch {
         ensures { IfOk result (IsMadeFor sc.now) }
     {
         Ok(Scratch {
-            trail: Trail::tables(alloc, sc)?,
             mean: Mean::tables(alloc, sc)?,
             tangent: Tangent::tables(alloc, sc)?,
             edge: Edge::tables(alloc, sc)?,
@@ -74,16 +72,15 @@ impl Scratch {
     }
 }
 
-// The belief ahead of the look that comes after a prefix, where the trail is along it.
-fn ahead_of<'a>(trail: &'a Trail, sc: &Scenario, prefix: &Path) -> &'a Belief
-    requires trail { IsTrailOf sc.now trail.now }
-    requires there { trail.now.prefix ≡ prefix.now }
+// The belief ahead of the look that comes after a prefix, where the tables are along it.
+fn ahead_of<'a>(mean: &'a Mean, sc: &Scenario, prefix: &Path) -> &'a Belief
+    requires made { IsMeanFor sc.now mean.now }
+    requires there { IsAlong prefix.now mean.now }
     requires shorter { length prefix.now < sc.now.horizon }
     ensures past { IsPast sc.now prefix.now result.now }
     ensures near { result.now.period ≤ length prefix.now + 1 }
 {
-    let _along = sc;
-    trail.ahead(prefix.len())
+    mean.onward().ahead(sc, prefix)
 }
 
 // The least path of the greatest sum of rewards after a prefix, by the rewards that its mean bound took.
@@ -107,7 +104,7 @@ fn close_by_edge(
     standing: &Standing,
 ) -> Kind
     requires made { IsMadeFor sc.now scratch.old }
-    requires filled { IsFilledFor sc.now prefix.now scratch.old.mean }
+    requires there { IsAlong prefix.now scratch.old.mean }
     requires legal { IsLegal sc.now prefix.now }
     requires shorter { length prefix.now < sc.now.horizon }
     requires reference { IsReference sc.now prefix.now reference.now }
@@ -171,7 +168,7 @@ fn close_by_tangent(
     standing: &Standing,
 ) -> Kind
     requires made { IsMadeFor sc.now scratch.old }
-    requires there { scratch.old.trail.prefix ≡ prefix.now }
+    requires there { IsAlong prefix.now scratch.old.mean }
     requires filled { IsFilledFor sc.now prefix.now scratch.old.mean }
     requires rate { (rate : ℕ) × IsRate sc.now rate }
     requires legal { IsLegal sc.now prefix.now }
@@ -184,7 +181,7 @@ fn close_by_tangent(
 {
     let whole = sc.sweep().denominator();
     let finer = in_parts(standing, whole);
-    let ahead = ahead_of(&scratch.trail, sc, prefix);
+    let ahead = ahead_of(&scratch.mean, sc, prefix);
     if is_seen_open(&mut scratch.tangent, sc, ahead, prefix, reference, &finer) {
         return close_by_edge(scratch, sc, prefix, reference, standing);
     }
@@ -196,18 +193,16 @@ fn close_by_tangent(
     }
 }
 
-// Closes a prefix that is shorter than the horizon, where the trail is along it.
+// Closes a prefix that is shorter than the horizon.
 fn close_shorter(scratch: &mut Scratch, sc: &Scenario, prefix: &Path, standing: &Standing) -> Kind
     requires made { IsMadeFor sc.now scratch.old }
-    requires there { scratch.old.trail.prefix ≡ prefix.now }
     requires legal { IsLegal sc.now prefix.now }
     requires shorter { length prefix.now < sc.now.horizon }
     requires exact { IsExact sc.now standing.now }
     ensures closed { IsClosed sc.now standing.now prefix.now result }
     ensures made { IsMadeFor sc.now scratch.new }
 {
-    let ahead = ahead_of(&scratch.trail, sc, prefix);
-    let mean = scratch.mean.bound_after(sc, ahead, prefix);
+    let mean = scratch.mean.bound(sc, prefix);
     if cuts(standing, mean, prefix) {
         return Kind::Mean(mean);
     }
@@ -231,9 +226,8 @@ pub fn close(scratch: &mut Scratch, sc: &Scenario, prefix: &Path, standing: &Sta
     ensures closed { IsClosed sc.now standing.now prefix.now result.kind }
     ensures made { IsMadeFor sc.now scratch.new }
 {
-    scratch.trail.go_to(sc, prefix);
     let kind = if prefix.len() == sc.horizon() as usize {
-        Kind::Whole(value_by(sc, scratch.trail.row(prefix.len()), prefix))
+        Kind::Whole(scratch.mean.value(sc, prefix))
     } else {
         close_shorter(scratch, sc, prefix, standing)
     };

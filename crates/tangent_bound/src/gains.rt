@@ -9,9 +9,8 @@ ghost use Rattle.longest_walk.specs.Near.{AreNear};
 ghost use Rattle.longest_walk.specs.Sums.{entry_at};
 ghost use Rattle.tangent_bound.specs.Gains.{IsMet, IsGainRow, AreGains, missed_at, missed_by_look};
 
-use crate::steps::look_on;
 use backward_mass::Backward;
-use belief_update::Belief;
+use belief_update::{Belief, look_on};
 use longest_walk::Near;
 use search_model::{Path, Scenario};
 use sweep_table::LookPart;

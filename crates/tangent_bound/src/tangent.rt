@@ -9,9 +9,9 @@ ghost use Rattle.longest_walk.specs.Near.{AreNear};
 ghost use Rattle.tangent_bound.specs.Room.{IsMadeFor};
 
 use crate::gains::{fill_after, sum_after};
-use crate::steps::{look_along, one_rate};
+use crate::steps::one_rate;
 use backward_mass::Backward;
-use belief_update::{Belief, follow, value_by};
+use belief_update::{Belief, follow, look_along, value_by};
 use exact_parts::NoMemory;
 use longest_walk::{Near, Walk};
 use search_model::{Path, Scenario};

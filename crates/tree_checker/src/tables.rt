@@ -10,7 +10,6 @@ ghost use Rattle.bound_tree.specs.Gaps.{ceiling_of};
 ghost use Rattle.tree_checker.specs.Rate.{one_rate_of};
 ghost use Rattle.tree_checker.specs.Tables.{AreMadeFor};
 
-use belief_update::{Trail, value_by};
 use edge_bound::Edge;
 use exact_parts::NoMemory;
 use mean_bound::Mean;
@@ -18,11 +17,10 @@ use search_model::{Path, Scenario};
 use std::alloc::Global;
 use tangent_bound::Tangent;
 
-/// The beliefs along the last prefix, by which all values and bounds go, and the tables of the bounds. A prefix uses the
-/// beliefs of the part that it has in common with the one before it.
+/// The tables of the bounds. All values and bounds go by the beliefs that the mean bound keeps, and a prefix uses those of
+/// the part that it has in common with the one before it.
 #[derive(Drop)]
 pub(crate) struct BoundTables {
-    pub(crate) trail: Trail,
     pub(crate) mean: Mean,
     pub(crate) tangent: Tangent,
     pub(crate) edge: Edge,
@@ -34,7 +32,6 @@ impl BoundTables {
         ensures { IfOk result (AreMadeFor sc.now) }
     {
         Ok(BoundTables {
-            trail: Trail::tables(alloc, sc)?,
             mean: Mean::tables(alloc, sc)?,
             tangent: Tangent::tables(alloc, sc)?,
             edge: Edge::tables(alloc, sc)?,
@@ -48,8 +45,7 @@ impl BoundTables {
         ensures value { result ≡ value_of sc.now prefix.now }
         ensures made { AreMadeFor sc.now self.new }
     {
-        self.trail.go_to(sc, prefix);
-        value_by(sc, self.trail.row(prefix.len()), prefix)
+        self.mean.value(sc, prefix)
     }
 
     /// The mean bound of a legal prefix that is shorter than the horizon.
@@ -60,9 +56,7 @@ impl BoundTables {
         ensures value { result ≡ mean_of sc.now prefix.now }
         ensures made { AreMadeFor sc.now self.new }
     {
-        self.trail.go_to(sc, prefix);
-        let ahead = self.trail.ahead(prefix.len());
-        self.mean.bound_after(sc, ahead, prefix)
+        self.mean.bound(sc, prefix)
     }
 
     /// What no path below a legal prefix exceeds: the value of a path, the mean bound of a shorter prefix.
@@ -106,8 +100,8 @@ impl BoundTables {
         ensures made { AreMadeFor sc.now self.new }
     {
         let _known = rate;
-        self.trail.go_to(sc, prefix);
-        let ahead = self.trail.ahead(prefix.len());
+        self.mean.go_to(sc, prefix);
+        let ahead = self.mean.onward().ahead(sc, prefix);
         self.tangent.bound_after(sc, ahead, prefix, reference)
     }
 
@@ -119,8 +113,7 @@ impl BoundTables {
         ensures value { result ≡ edge_of sc.now prefix.now }
         ensures made { AreMadeFor sc.now self.new }
     {
-        self.trail.go_to(sc, prefix);
-        let ahead = self.trail.ahead(prefix.len());
-        self.edge.bound_after(sc, ahead, prefix)
+        self.mean.go_to(sc, prefix);
+        self.edge.bound_by(sc, self.mean.onward(), prefix)
     }
 }

@@ -10,7 +10,7 @@ close_by_edge-requires-clause-open c =
     let q = c.args.prefix.now in
     let none = subst (TellsRate p) c.if-has_rate.false (c.has_rate.ensures p (rw (ap (λ (s : NodeTables). s.tangent) c.scratch.view_is) c.requires.made.tangent)) in
     record {
-      mean = rw c.bound_after-mean.ensures.bound at (sym c.cuts.ensures ∙ c.if-cuts.false);
+      mean = rw c.bound-mean.ensures.bound at (sym c.cuts.ensures ∙ c.if-cuts.false);
       tangent = λ b whole tangent. absurd (tangent_needs_rate p q b whole none tangent);
     }
 

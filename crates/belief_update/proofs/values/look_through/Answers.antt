@@ -1,6 +1,6 @@
 use Rattle.std.proofs.Common.{◌<◌, [], Some, map, ap}
 use Rattle.belief_update.proofs.Looks.{first_and_later, later_all, looks_to-some}
-use Rattle.belief_update.proofs.values.look_along.Goals as goal
+use Rattle.belief_update.proofs.values.look_through.Goals as goal
 
 pub follow_on-requires-clause-belief : goal.follow_on-requires-clause-belief
 follow_on-requires-clause-belief c = (_, c.look.ensures.belief [] c.reset.ensures)

@@ -1,7 +1,7 @@
 use Rattle.std.proofs.Common.{◌+◌, take, arith}
 use Rattle.std.proofs.lemmas.List.{length-take-le}
 use Rattle.belief_update.proofs.PrefixValues.{past_after, near_after}
-use Rattle.tangent_bound.proofs.steps.look_along.Goals as goal
+use Rattle.belief_update.proofs.along.look_along.Goals as goal
 
 pub loop-n-preserved : goal.loop-n-preserved
 loop-n-preserved c =

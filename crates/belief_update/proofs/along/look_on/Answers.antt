@@ -2,11 +2,14 @@ use Rattle.std.proofs.Common.{◌≡◌, length, take, arith}
 use Rattle.std.proofs.lemmas.List.{length-take-le}
 use Rattle.belief_update.specs.Trails.{IsAhead}
 use Rattle.belief_update.proofs.TrailSteps.{ready_ahead, unlooked_ahead, after_look}
-use Rattle.tangent_bound.proofs.WholePath.{position_within}
-use Rattle.tangent_bound.proofs.steps.look_on.Goals as goal
+use Rattle.search_model.proofs.PlainSteps.{positions_follow}
+use Rattle.belief_update.proofs.along.look_on.Goals as goal
 
 pub look-requires-clause-position : goal.look-requires-clause-position
-look-requires-clause-position c = rw c.cells.ensures.value (position_within c.args.sc.now c.recall_sound.ensures c.args.path.now c.requires.path.follows c.args.looks 0 c.requires.more)
+look-requires-clause-position c =
+    let p = c.args.sc.now in
+    let sound = c.recall_sound.ensures in
+    rw c.cells.ensures.value (positions_follow p sound p.start (omega (arith, sound.start, sound.grid_positions)) c.args.path.now c.requires.path.follows c.args.looks 0 c.requires.more)
 
 pub returns : goal.returns
 returns c =

@@ -1,6 +1,6 @@
 use Rattle.std.proofs.Common.{◌≤◌, ◌+◌, take}
 use Rattle.belief_update.specs.Trails.{IsPast}
-use Rattle.tangent_bound.proofs.steps.look_along.Given as goal
+use Rattle.belief_update.proofs.along.look_along.Given as goal
 
 -- the belief after the looks so far
 abbrev pub invariant-loop-n : goal.invariant-loop-n

@@ -1,0 +1,45 @@
+-- The levels of a prefix, one look more.
+use Rattle.std.proofs.Common.{ℕ, ◌+◌, ◌-◌, ◌<◌, ◌≤◌, ◌≡◌, false, List, [], ◌∷◌, ◌++◌, length, take, set, slice_index, slice_index_or, arith, inl, inr, sym, ap, ◌∙◌, subst, refl, All, get_or-set_same, get_or-set_other, length-set}
+use Rattle.std.proofs.lemmas.Bool.{cases_lt}
+use Rattle.std.proofs.lemmas.List.{set-append_right, get_or_append_left, get_or_default}
+use Rattle.std.proofs.lemmas.List.Elements.{All-set}
+use Rattle.search_model.specs.Problem.{Problem}
+use Rattle.belief_update.specs.Onward.{OnwardState, IsMadeFor, IsOnward}
+use Rattle.belief_update.specs.Levels.{AreLevels, level_at}
+use Rattle.belief_update.proofs.TrailSteps.{front_more, shorter_front}
+
+-- no level
+abbrev none : OnwardState
+none = record { belief = record { period = 0; looked = false; masses = [] }; rows = [] }
+
+-- the level after look i, behind those before it
+pub level_more : (p : Problem) (looks : List ℕ) (i : ℕ) (levels front back : List OnwardState) (new : OnwardState) → levels ≡ front ++ back → length front ≡ i + 1 → i < length looks → length looks < p.horizon →
+    AreLevels p looks i levels → IsMadeFor p new → IsOnward p (take i looks ++ slice_index looks i ∷ []) new → AreLevels p looks (i + 1) (front ++ set back 0 new)
+level_more p looks i levels front back new parts size inside short are made onward =
+    let place : i + 1 - (i + 1) ≡ 0 = omega arith in
+    let whole : set levels (i + 1) new ≡ front ++ set back 0 new =
+    ap (λ (xs : List OnwardState). set xs (i + 1) new) parts ∙ set-append_right front back (i + 1) (i + 1) new size (omega arith) ∙ ap (λ (k : ℕ). front ++ set back k new) place in
+    let there : i + 1 < length levels = omega (arith, are.size, inside, short) in
+    subst (AreLevels p looks (i + 1)) whole (record {
+      size = length-set levels (i + 1) new ∙ are.size;
+      made = All-set (IsMadeFor p) levels (i + 1) new made are.made;
+      after = λ k few below. elim (cases_lt i k) [
+        | inl past ↦
+            let same : k ≡ i + 1 = omega (arith, past, few) in
+            rw (same, get_or-set_same levels (i + 1) new none there, front_more looks i inside) onward
+        | inr before ↦ rw (get_or-set_other levels (i + 1) k new none (λ e. omega (arith, e, before))) (are.after k before below)
+      ];
+    })
+
+-- the levels of a prefix up to some looks are those of any prefix that begins with them
+pub levels_shared : (p : Problem) (q r : List ℕ) (n m : ℕ) (levels : List OnwardState) → n ≤ m → take n q ≡ take n r → AreLevels p q m levels → AreLevels p r n levels
+levels_shared p q r n m levels le same are = record {
+  size = are.size;
+  made = are.made;
+  after = λ k few below. rw (← shorter_front q r k n few same) (are.after k (omega (arith, few, le)) below);
+}
+
+-- a level is read in the front of a cut
+pub level_in_front : (p : Problem) (q : List ℕ) (i : ℕ) (levels front back : List OnwardState) (d : OnwardState) → levels ≡ front ++ back → i < length front → IsOnward p q (level_at levels i) → IsOnward p q (slice_index_or front i d)
+level_in_front p q i levels front back d parts inside on =
+    subst (IsOnward p q) (ap (λ (xs : List OnwardState). level_at xs i) parts ∙ get_or_append_left front back none i inside ∙ get_or_default front i none d inside) on

@@ -1,0 +1,19 @@
+use Rattle.std.proofs.Common.{◌≡◌, ◌<◌, ℕ, false, [], length, set, arith, subst, ◌∙◌, get_or-set_same, length-set}
+use Rattle.std.proofs.lemmas.List.Elements.{All-set}
+use Rattle.belief_update.specs.Onward.{IsMadeFor, IsOnward}
+use Rattle.belief_update.proofs.levels.begin.Goals as goal
+
+pub returns : goal.returns
+returns c =
+    let p = c.args.sc.now in
+    let levels = c.args.levels.now in
+    let new = c.go_to.new.self in
+    let there : 0 < length levels = omega (arith, c.requires.size, c.recall_sound.ensures.horizon) in
+    let onward : IsOnward p [] new = rw c.empty.ensures at c.go_to.ensures.onward in
+    record {
+      size = length-set levels 0 new ∙ c.requires.size;
+      made = All-set (IsMadeFor p) levels 0 new c.go_to.ensures.made c.requires.made;
+      after = λ k few below.
+          let none : k ≡ 0 = omega (arith, few) in
+          rw (none, get_or-set_same levels 0 new (record { belief = record { period = 0; looked = false; masses = [] }; rows = [] }) there) onward;
+    }

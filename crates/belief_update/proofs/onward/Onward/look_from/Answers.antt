@@ -1,0 +1,11 @@
+use Rattle.std.proofs.Common.{◌≡◌, ap, length, ◌∙◌}
+use Rattle.std.proofs.lemmas.List.{with_items_is}
+use Rattle.belief_update.proofs.onward.Onward.look_from.Goals as goal
+
+pub returns-clause-onward : goal.returns-clause-onward
+returns-clause-onward c q size on =
+    let p = c.args.sc.now in
+    let new = c.leave_rows.new.rows in
+    let many : length new ≡ p.horizon = c.leave_rows.auto.rows ∙ ap length c.deref_mut.ensures.value ∙ ap (λ o. length o.rows) c.self.view_is ∙ c.requires.made.size in
+    let stored = with_items_is c.self.inside.rows new (c.leave_rows.auto.rows ∙ c.deref_mut.ensures.len) in
+    rw stored (record { size = many; each = c.leave_rows.ensures.rows q size on })

@@ -1,0 +1,14 @@
+use Rattle.std.proofs.Common.{◌≡◌, ◌≤◌, ◌+◌, ◌-◌, ◌++◌, ◌∷◌, [], ℕ, List, Some, map, length}
+use Rattle.belief_update.specs.Trails.{HaveAllCells}
+use Rattle.belief_update.specs.Taken.{IsTaken}
+use Rattle.belief_update.specs.Onward.{AreOnwardTo, IsOnward}
+use Rattle.belief_update.proofs.onward.leave_rows.Given as goal
+
+-- what the look takes in period t, and the beliefs up to that period
+abbrev pub invariant-loop-t : goal.invariant-loop-t
+invariant-loop-t l = record {
+  cells : HaveAllCells l.sc l.rows;
+  room : length l.taken.masses ≡ l.sc.cells;
+  taken : (q : List ℕ) → length q ≡ l.k → IsOnward l.sc q l.before → IsTaken l.sc (map Some q) l.a (l.t - (l.k + 1)) l.taken;
+  rows : (q : List ℕ) → length q ≡ l.k → IsOnward l.sc q l.before → AreOnwardTo l.sc (q ++ l.a ∷ []) l.t l.rows;
+}

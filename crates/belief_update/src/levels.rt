@@ -1,0 +1,173 @@
+//! Beliefs of the periods after a prefix, and after each shorter front of it.
+
+ghost use Rattle.std.specs.Prelude.{◌≡◌, ◌<◌, ◌≤◌, ◌+◌, [], ℕ, List, length, take, IfOk, All};
+ghost use Rattle.search_model.specs.Problem.{Problem};
+ghost use Rattle.search_model.specs.Legal.{IsLegal};
+ghost use Rattle.search_model.specs.Tracks.{value_of};
+ghost use Rattle.belief_update.specs.Trails.{IsAhead};
+ghost use Rattle.belief_update.specs.Onward.{IsMadeFor, IsOnward};
+ghost use Rattle.belief_update.specs.Levels.{AreLevels, AreLevelsOf};
+
+use crate::along::look_along;
+use crate::belief::Belief;
+use crate::onward::Onward;
+use crate::taken::Taken;
+use crate::trail::in_common;
+use crate::values::value_by;
+use exact_parts::NoMemory;
+use search_model::{Path, Scenario};
+use std::alloc::Global;
+use std::marker::Model;
+
+/// The beliefs of the periods after a prefix with no look after it, and those after each shorter front of it. A prefix that
+/// comes next keeps those of the fronts that both have, and each further one is made of the one before it.
+#[derive(Drop)]
+pub struct Levels {
+    prefix: Path,
+    // Per number of looks, the beliefs after so many looks of the prefix.
+    levels: Vec<Onward>,
+    // What the last look took.
+    taken: Taken,
+    // The belief that goes on from a level where only a value is asked for.
+    belief: Belief,
+}
+
+impl Model for Levels {
+    ghost use Rattle.std.specs.Prelude.{◌<◌, length};
+    ghost use Rattle.belief_update.specs.Levels.{LevelsState};
+
+    ghost Value = { LevelsState };
+
+    ghost view = { λ l. record { prefix = l.prefix; levels = l.levels.items; taken = l.taken; belief = l.belief } };
+
+    ghost invariant = { λ l. length l.prefix < length l.levels.items };
+}
+
+// Room for one level a period.
+fn rooms(alloc: Global, sc: &Scenario) -> Result<Vec<Onward>, NoMemory>
+    ensures size { IfOk result (λ levels. length levels.items ≡ sc.now.horizon) }
+    ensures made { IfOk result (λ levels. All (IsMadeFor sc.now) levels.items) }
+{
+    let mut levels = Vec::new(alloc);
+    for _ in 0..sc.horizon() {
+        levels.push(Onward::tables(alloc, sc)?)?;
+    }
+    Ok(levels)
+}
+
+// Makes the level before all looks.
+fn begin(levels: &mut [Onward], sc: &Scenario)
+    requires size { length levels.old ≡ sc.now.horizon }
+    requires made { All (IsMadeFor sc.now) levels.old }
+    ensures { AreLevels sc.now [] 0 levels.new }
+{
+    sc.recall_sound();
+    levels[0].go_to(sc, &Path::empty());
+}
+
+// Makes the level after look `i` by the one before it.
+fn open(levels: &mut [Onward], taken: &mut Taken, sc: &Scenario, looks: &[u8], i: usize)
+    requires inside { i < length looks.now }
+    requires short { length looks.now < sc.now.horizon }
+    requires positions { All (λ a. a < sc.now.positions) looks.now }
+    requires room { length taken.old.masses ≡ sc.now.cells }
+    requires levels { AreLevels sc.now looks.now i levels.old }
+    ensures levels { AreLevels sc.now looks.now (i + 1) levels.new }
+    ensures room { length taken.new.masses ≡ sc.now.cells }
+{
+    let (before, after) = levels.split_at_mut(i + 1);
+    after[0].look_from(sc, &before[i], i, looks[i], taken);
+}
+
+// Makes the levels after all looks from the first `same` on.
+fn go_on(levels: &mut [Onward], taken: &mut Taken, sc: &Scenario, looks: &[u8], same: usize)
+    requires same { same ≤ length looks.now }
+    requires short { length looks.now < sc.now.horizon }
+    requires positions { All (λ a. a < sc.now.positions) looks.now }
+    requires room { length taken.old.masses ≡ sc.now.cells }
+    requires levels { AreLevels sc.now looks.now same levels.old }
+    ensures levels { AreLevels sc.now looks.now (length looks.now) levels.new }
+    ensures room { length taken.new.masses ≡ sc.now.cells }
+{
+    for i in same..looks.len() {
+        open(levels, taken, sc, looks, i);
+    }
+}
+
+// The belief ahead of look `k`.
+fn ahead_at<'a>(levels: &'a [Onward], sc: &Scenario, k: usize) -> &'a Belief
+    requires inside { k < sc.now.horizon }
+    requires levels { (q : List ℕ) × AreLevels sc.now q k levels.now }
+    ensures { (q : List ℕ) → AreLevels sc.now q k levels.now → k ≤ length q → IsAhead sc.now (take k q) result.now }
+{
+    sc.recall_sound();
+    levels[k].at(k as u32 + 1)
+}
+
+// The value of a prefix, by the belief ahead of its look `k`.
+fn value_from(belief: &mut Belief, sc: &Scenario, ahead: &Belief, prefix: &Path, k: usize) -> u128
+    requires cells { length belief.old.masses ≡ sc.now.cells }
+    requires legal { IsLegal sc.now prefix.now }
+    requires inside { k ≤ length prefix.now }
+    requires ahead { IsAhead sc.now (take k prefix.now) ahead.now }
+    ensures value { result ≡ value_of sc.now prefix.now }
+    ensures cells { length belief.new.masses ≡ sc.now.cells }
+{
+    sc.recall_sound();
+    belief.copy_from(ahead);
+    look_along(sc, belief, prefix, k as u32, prefix.len() as u32);
+    value_by(sc, belief, prefix)
+}
+
+impl Levels {
+    /// The levels of the empty prefix. Only this call takes memory.
+    pub fn tables(alloc: Global, sc: &Scenario) -> Result<Levels, NoMemory>
+        ensures made { IfOk result (AreLevelsOf sc.now) }
+        ensures prefix { IfOk result (λ l. l.prefix ≡ []) }
+    {
+        sc.recall_sound();
+        let mut levels = rooms(alloc, sc)?;
+        begin(&mut levels, sc);
+        Ok(Levels {
+            prefix: Path::empty(),
+            levels,
+            taken: Taken::tables(alloc, sc)?,
+            belief: Belief::start(alloc, sc)?,
+        })
+    }
+
+    /// Goes to a legal prefix that is shorter than the horizon.
+    pub fn go_to(&mut self, sc: &Scenario, prefix: &Path)
+        requires made { AreLevelsOf sc.now self.old }
+        requires legal { IsLegal sc.now prefix.now }
+        requires short { length prefix.now < sc.now.horizon }
+        ensures made { AreLevelsOf sc.now self.new }
+        ensures prefix { self.new.prefix ≡ prefix.now }
+    {
+        sc.recall_sound();
+        let same = in_common(self.prefix.cells(), prefix.cells());
+        go_on(&mut self.levels, &mut self.taken, sc, prefix.cells(), same);
+        self.prefix = *prefix;
+    }
+
+    /// The value of a legal prefix, in parts of the whole weight, by the level of what it has in common with the levels'
+    /// own, which stays.
+    pub fn value(&mut self, sc: &Scenario, prefix: &Path) -> u128
+        requires made { AreLevelsOf sc.now self.old }
+        requires legal { IsLegal sc.now prefix.now }
+        ensures value { result ≡ value_of sc.now prefix.now }
+        ensures made { AreLevelsOf sc.now self.new }
+        ensures prefix { self.new.prefix ≡ self.old.prefix }
+    {
+        let same = in_common(self.prefix.cells(), prefix.cells());
+        let ahead = ahead_at(&self.levels, sc, same);
+        value_from(&mut self.belief, sc, ahead, prefix, same)
+    }
+
+    /// The beliefs of the periods after the prefix.
+    pub fn last(&self) -> &Onward
+        ensures { (p : Problem) → AreLevelsOf p self.now → IsOnward p self.now.prefix result.now }
+    {
+        &self.levels[self.prefix.len()]
+    }
+}
