@@ -22,7 +22,7 @@ abbrev pub drift_of : List (List ℕ) → ℕ → List CellPart → List (List �
 drift_of names c entries = codes "drift" ∷ name_in names c ∷ entry_fields names entries
 
 -- `first NAME PART ..`
-abbrev pub first_row : List (List ℕ) → List DriftPart → List (List ℕ)
+abbrev pub first_row : List (List ℕ) → List CellPart → List (List ℕ)
 first_row names entries = codes "first" ∷ entry_fields names entries
 
 -- `overlook NAME PART` of a cell
