@@ -10,7 +10,7 @@ begins_same old new e = record { more = []; is = e ∙ sym (append-nil old) }
 pub begins_more : (old new text : List ℕ) → new ≡ old ++ text → Begins old new
 begins_more old new text e = record { more = text; is = e }
 
-pub begins_then : (old mid new : List ℕ) → Begins old mid → Begins mid new → Begins old new
+begins_then : (old mid new : List ℕ) → Begins old mid → Begins mid new → Begins old new
 begins_then old mid new a b = record {
   more = a.more ++ b.more;
   is = b.is ∙ ap (λ (xs : List ℕ). xs ++ b.more) a.is ∙ append_assoc old a.more b.more;

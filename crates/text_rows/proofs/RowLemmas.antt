@@ -1,11 +1,9 @@
 -- The text of rows of fields.
-use Rattle.std.proofs.Common.{◌≡◌, List, [], ◌∷◌, ◌++◌, map, sym, refl, ◌∙◌, ap, append_assoc, ℕ, ◌<◌, ◌+◌, length, get_or, take, drop, add-one, drop-cons, ◌≤◌, ◌*◌, arith, length-append, All}
+use Rattle.std.proofs.Common.{◌≡◌, List, [], ◌∷◌, ◌++◌, map, sym, refl, ◌∙◌, ap, append_assoc, ℕ, ◌<◌, ◌+◌, length, get_or, take, add-one, ◌≤◌, ◌*◌, arith, length-append, All}
 use Rattle.std.specs.List.{join_with_byte, flat_map}
-use Rattle.std.proofs.lemmas.List.{append-nil, map-append, take-append-drop}
+use Rattle.std.proofs.lemmas.List.{append-nil, map-append}
 use Rattle.std.proofs.Math.Seq.{take-suc}
-use Rattle.std.proofs.lemmas.List.Concat.{flat_map-append}
 use Rattle.std.proofs.lemmas.List.Elements.{All-head, All-tail}
-use Rattle.exact_parts.proofs.AppendLemmas.{Stands}
 use Rattle.text_rows.specs.Rows.{text_of, spaced}
 
 -- a row begins with its first field, and each other field has a blank before it
@@ -22,28 +20,9 @@ pub text_of-map : {X : Type 0} (f : X → List (List ℕ)) (xs : List X) → tex
 text_of-map f [] = refl
 text_of-map f (x ∷ xs) = ap (λ (t : List ℕ). join_with_byte 32 (f x) ++ 10 ∷ t) (text_of-map f xs) ∙ sym (append_assoc (join_with_byte 32 (f x)) (10 ∷ []) _)
 
--- a list at one of its places
-cut_at : {X : Type 0} (xs : List X) (i : ℕ) (d : X) → i < length xs → xs ≡ take i xs ++ get_or xs i d ∷ drop (i + 1) xs
-cut_at xs i d lt = sym (take-append-drop i xs) ∙ ap (λ ys. take i xs ++ ys) (rw (add-one, drop-cons xs i d) refl)
-
+-- one element more
 pub take_one_more : {X : Type 0} (xs : List X) (i : ℕ) (d : X) → i < length xs → take (i + 1) xs ≡ take i xs ++ get_or xs i d ∷ []
 take_one_more xs i d lt = rw add-one (take-suc xs i d lt)
-
--- the fields up to a place stand, and then come the one there and those behind it
-pub stands_at_field : {X : Type 0} (f : X → List ℕ) (xs : List X) (i : ℕ) (d : X) {old now : List ℕ} → i < length xs → now ≡ old ++ spaced (map f (take i xs)) → Stands old now ((32 ∷ f (get_or xs i d)) ++ spaced (map f (drop (i + 1) xs))) (spaced (map f xs))
-stands_at_field f xs i d lt e = record {
-  done = spaced (map f (take i xs));
-  appended = e;
-  whole = ap (λ ys. spaced (map f ys)) (cut_at xs i d lt) ∙ ap spaced (map-append f (take i xs) _) ∙ flat_map-append (λ (field : List ℕ). 32 ∷ field) (map f (take i xs)) _;
-}
-
--- the rows up to a place stand, and then come the one there and those behind it
-pub stands_at_row : {X : Type 0} (f : X → List (List ℕ)) (xs : List X) (i : ℕ) (d : X) {old now : List ℕ} → i < length xs → now ≡ old ++ text_of (map f (take i xs)) → Stands old now (text_of (f (get_or xs i d) ∷ []) ++ text_of (map f (drop (i + 1) xs))) (text_of (map f xs))
-stands_at_row f xs i d lt e = record {
-  done = text_of (map f (take i xs));
-  appended = e;
-  whole = ap (λ ys. text_of (map f ys)) (cut_at xs i d lt) ∙ ap text_of (map-append f (take i xs) _) ∙ text_of-append (map f (take i xs)) _ ∙ ap (λ (x : List ℕ). text_of (map f (take i xs)) ++ x) (text_of-append (f (get_or xs i d) ∷ []) _);
-}
 
 -- one row more
 pub text_of-more : {X : Type 0} (f : X → List (List ℕ)) (xs : List X) (i : ℕ) (d : X) → i < length xs → text_of (map f (take (i + 1) xs)) ≡ text_of (map f (take i xs)) ++ text_of (f (get_or xs i d) ∷ [])
