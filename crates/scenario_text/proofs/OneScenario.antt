@@ -96,7 +96,7 @@ module _ (s : State) (h : IsSound s) (ended : s.stage ≡ due.Ended) where
   }
 
   same_parts : AllZip IsPermutation s.parts all_parts
-  unfolding all_parts row_at
+  unfolding all_parts row_at cells drift_row
   same_parts = AllZip-from_places IsPermutation s.parts all_parts (long_parts ∙ sym h.parts_length) (λ c d lt.
       let there : c < length all_parts = omega (arith, lt, h.parts_length, long_parts) in
       rw (get_or_default s.parts c d [] lt, get_or_default all_parts c d [] there)

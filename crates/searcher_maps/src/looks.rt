@@ -2,7 +2,7 @@
 
 ghost use Rattle.std.specs.Prelude.{◌≡◌, ℕ, ◌+◌, ◌<◌, ◌≤◌, [], ◌++◌, length, map, IfOk, OnOk, All};
 ghost use Rattle.period_rows.specs.declared.part.CellPart.{CellPart as LookPart};
-ghost use Rattle.sweep_table.specs.LookParts.{look_row, looks_over, positions_of, cells_of, IsLookRow, IsSweep};
+ghost use Rattle.sweep_table.specs.LookParts.{look_row, looks_over, positions_of, cells_of, IsSweep};
 ghost use Rattle.period_rows.specs.Changes.{HaveRows};
 ghost use Rattle.period_rows.specs.Rows.{IsAscending};
 ghost use Rattle.sweep_table.specs.Changes.{change_of, with_changes, HasChangeFault};
