@@ -1,5 +1,5 @@
 -- The levels of a prefix, one look more.
-use Rattle.std.proofs.Common.{ℕ, ◌+◌, ◌-◌, ◌<◌, ◌≤◌, ◌≡◌, false, List, [], ◌∷◌, ◌++◌, length, take, set, slice_index, slice_index_or, arith, inl, inr, sym, ap, ◌∙◌, subst, refl, All, get_or-set_same, get_or-set_other, length-set}
+use Rattle.std.proofs.Common.{ℕ, ◌+◌, ◌-◌, ◌<◌, ◌≤◌, ◌≡◌, false, List, [], ◌∷◌, ◌++◌, length, take, set, slice_index, slice_index_or, arith, inl, inr, ap, ◌∙◌, subst, get_or-set_same, get_or-set_other, length-set}
 use Rattle.std.proofs.lemmas.Bool.{cases_lt}
 use Rattle.std.proofs.lemmas.List.{set-append_right, get_or_append_left, get_or_default}
 use Rattle.std.proofs.lemmas.List.Elements.{All-set}

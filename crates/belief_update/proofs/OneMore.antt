@@ -1,11 +1,10 @@
 -- One look more: what it leaves of the masses and what it takes of them.
-use Rattle.std.proofs.Common.{ℕ, zero, suc, ◌+◌, ◌*◌, ◌-◌, ◌^◌, ◌<◌, ◌≤◌, ◌≡◌, List, [], ◌∷◌, ◌++◌, Option, Some, None, length, replicate, refl, sym, ap, ◌∙◌, arith, sum_by, length-append, append_assoc}
+use Rattle.std.proofs.Common.{ℕ, zero, suc, ◌+◌, ◌*◌, ◌-◌, ◌≤◌, ◌≡◌, List, [], ◌∷◌, ◌++◌, Option, Some, None, length, replicate, sym, ap, ◌∙◌, arith, sum_by, length-append, append_assoc}
 use Rattle.std.specs.List.{range_with_len}
 use Rattle.std.proofs.lemmas.List.{length-replicate, replicate-append-replicate}
 use Rattle.drift_chain.specs.DriftRows.{part_of}
 use Rattle.sweep_table.specs.LookParts.{factor_of}
 use Rattle.sweep_table.proofs.Factors.{factor_of-le}
-use Rattle.search_model.specs.Problem.{Problem, IsProblem}
 use Rattle.list_laws.proofs.Sums.{sum_by-same, sum_by-times, sum_by-plus}
 use Rattle.belief_update.specs.Masses.{mass_of}
 use Rattle.belief_update.specs.Taken.{and_then, taken_of}

@@ -11,7 +11,7 @@ use Rattle.std.proofs.lemmas.List.Elements.{All-nil, All-cons, All-append, All-w
 use Rattle.std.proofs.lemmas.List.Folds.{list_all-append}
 use Rattle.std.proofs.lemmas.List.Sums.{AllPass-from_list_all, list_all-from_AllPass}
 use Rattle.exact_parts.proofs.Decimals.{some-decimal, All-decimal}
-use Rattle.text_rows.specs.Lines.{HasNo, HasNoFeed, pieces_of, lines_of, after_lines}
+use Rattle.text_rows.specs.Lines.{HasNo, HasNoFeed, lines_of, after_lines}
 use Rattle.text_rows.specs.Fields.{is_text_byte, is_field_byte, exact_fields, is_blank, ends_field, fields_of}
 use Rattle.text_rows.proofs.Splits.{split_piece, split_whole}
 use Rattle.text_rows.proofs.LineCuts.{lines_of-line, after_lines-line}

@@ -1,12 +1,11 @@
 -- The lines that have their line feed, and what follows them.
-use Rattle.std.proofs.Common.{◌≡◌, ℕ, suc, ◌-◌, ◌≤◌, false, List, [], ◌∷◌, ◌++◌, length, take, refl, sym, ap, subst, ◌∙◌, arith, append_assoc, ◌⊎◌, inl, inr}
-use Rattle.std.specs.Prelude.{All, ◌==◌}
-use Rattle.std.specs.List.{join_with_byte}
+use Rattle.std.proofs.Common.{◌≡◌, ℕ, suc, ◌-◌, ◌≤◌, List, [], ◌∷◌, ◌++◌, length, take, refl, sym, ap, ◌∙◌, arith, append_assoc, ◌⊎◌, inl, inr}
+use Rattle.std.specs.Prelude.{All}
 use Rattle.std.proofs.lemmas.Bool.{cases_eq, eqb-false}
 use Rattle.std.proofs.lemmas.List.Elements.{All-nil, All-cons, All-head, All-tail}
 use Rattle.text_rows.specs.Lines.{HasNoFeed, lines_text, pieces_of, after_lines}
 use Rattle.text_rows.specs.WholeLines.{whole_lines}
-use Rattle.text_rows.proofs.Splits.{split_piece, split_whole, some_piece, split_joined, split_free}
+use Rattle.text_rows.proofs.Splits.{split_piece, split_whole, some_piece}
 use Rattle.text_rows.proofs.LineCuts.{after_none, after_lines-line}
 
 -- the first line of a text, where it has its line feed

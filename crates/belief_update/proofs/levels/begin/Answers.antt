@@ -1,4 +1,4 @@
-use Rattle.std.proofs.Common.{◌≡◌, ◌<◌, ℕ, false, [], length, set, arith, subst, ◌∙◌, get_or-set_same, length-set}
+use Rattle.std.proofs.Common.{◌≡◌, ◌<◌, false, [], length, arith, ◌∙◌, get_or-set_same, length-set}
 use Rattle.std.proofs.lemmas.List.Elements.{All-set}
 use Rattle.belief_update.specs.Onward.{IsMadeFor, IsOnward}
 use Rattle.belief_update.proofs.levels.begin.Goals as goal

@@ -1,10 +1,10 @@
-use Rattle.std.proofs.Common.{◌≡◌, ◌<◌, ◌≤◌, ◌+◌, ◌-◌, ◌++◌, ◌∷◌, [], ℕ, List, Option, Some, None, map, length, arith, refl, sym, subst, length-append}
+use Rattle.std.proofs.Common.{◌≡◌, ◌<◌, ◌≤◌, ◌+◌, ◌-◌, ◌++◌, ◌∷◌, [], ℕ, List, Option, Some, None, map, length, arith, subst, length-append}
 use Rattle.std.proofs.lemmas.List.Elements.{All-set}
 use Rattle.search_model.specs.Problem.{Problem}
 use Rattle.belief_update.specs.Masses.{looks_to}
 use Rattle.belief_update.specs.Belief.{BeliefState, IsBelief}
-use Rattle.belief_update.specs.Taken.{TakenState, IsTaken, and_then}
-use Rattle.belief_update.specs.Onward.{AreOnwardTo, IsOnward, OnwardState}
+use Rattle.belief_update.specs.Taken.{IsTaken, and_then}
+use Rattle.belief_update.specs.Onward.{IsOnward, OnwardState}
 use Rattle.belief_update.specs.Trails.{row_at}
 use Rattle.belief_update.proofs.OnwardRows.{row_more, belief_at}
 use Rattle.belief_update.proofs.TakenSteps.{looks_without, looks_with}

@@ -1,4 +1,4 @@
-use Rattle.std.proofs.Common.{◌≡◌, ◌≤◌, ◌+◌, ◌-◌, ◌++◌, ◌∷◌, [], ℕ, List, Some, map, length}
+use Rattle.std.proofs.Common.{◌≡◌, ◌+◌, ◌-◌, ◌++◌, ◌∷◌, [], ℕ, List, Some, map, length}
 use Rattle.belief_update.specs.Trails.{HaveAllCells}
 use Rattle.belief_update.specs.Taken.{IsTaken}
 use Rattle.belief_update.specs.Onward.{AreOnwardTo, IsOnward}

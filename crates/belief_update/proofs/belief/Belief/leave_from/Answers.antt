@@ -1,4 +1,4 @@
-use Rattle.std.proofs.Common.{ℕ, ◌+◌, ◌*◌, ◌-◌, ◌<◌, ◌≤◌, ◌≡◌, false, List, Option, Some, None, length, slice_index, sym, ap, ◌∙◌, arith}
+use Rattle.std.proofs.Common.{ℕ, ◌*◌, ◌-◌, ◌<◌, ◌≤◌, ◌≡◌, false, List, Option, Some, None, length, slice_index, sym, ap, ◌∙◌, arith}
 use Rattle.std.proofs.lemmas.List.{with_items_is}
 use Rattle.belief_update.specs.Belief.{IsBelief}
 use Rattle.belief_update.specs.Taken.{IsTaken, and_then}

@@ -1,6 +1,5 @@
-use Rattle.std.proofs.Common.{◌≡◌, ◌<◌, [], length, arith, ap, ◌∙◌}
+use Rattle.std.proofs.Common.{arith, ◌∙◌}
 use Rattle.std.proofs.lemmas.List.{with_items_is}
-use Rattle.belief_update.specs.Levels.{AreLevels}
 use Rattle.belief_update.proofs.levels.Levels.tables.Goals as goal
 
 pub invariant_of-result : goal.invariant_of-result

@@ -1,4 +1,4 @@
-use Rattle.std.proofs.Common.{◌==◌, ◌<◌, ◌≤◌, length, ap, arith, ◌∙◌}
+use Rattle.std.proofs.Common.{◌==◌, ◌≤◌, length, ap, arith}
 use Rattle.std.proofs.lemmas.List.Sums.{common_prefix_len-le}
 use Rattle.belief_update.specs.Levels.{AreLevels, AreLevelsOf}
 use Rattle.belief_update.specs.Trails.{common_of}
