@@ -1,9 +1,7 @@
 -- The table of what looks find of units: its rows, and which periods one block of it serves.
-use Rattle.std.proofs.Common.{ℕ, ◌+◌, ◌*◌, ◌-◌, ◌<◌, ◌≤◌, ◌≡◌, true, List, slice_index, refl, sym, ap, ◌∙◌, arith, inl, inr, sum_by, mul-le-mul_left}
-use Rattle.std.specs.Prelude.{◌==◌, ◌&&◌}
-use Rattle.std.specs.Cmp.Lexicographic.{pointwise, pointwise_decides}
+use Rattle.std.proofs.Common.{ℕ, ◌+◌, ◌*◌, ◌-◌, ◌<◌, ◌≤◌, ◌≡◌, List, slice_index, sym, ap, ◌∙◌, arith, inl, inr, sum_by, mul-le-mul_left}
 use Rattle.std.specs.List.{range_with_len}
-use Rattle.std.proofs.lemmas.Bool.{cases_eq, eq-eqb, eqb-true, and_parts}
+use Rattle.std.proofs.lemmas.Bool.{cases_eq}
 use Rattle.std.proofs.lemmas.Nat.{mul-le}
 use Rattle.std.proofs.Math.Nat.{mul-le-mul_right}
 use Rattle.period_rows.specs.declared.part.CellPart.{CellPart}
@@ -15,34 +13,6 @@ use Rattle.search_model.proofs.LookRows.{found_in_cells}
 use Rattle.list_laws.proofs.Sums.{sum_by-range-le, sum_by-times}
 use Rattle.edge_bound.specs.Found.{found_in, one_of}
 use Rattle.edge_bound.specs.Units.{HasUnits, HasBlock, HasBlocks, IsSteady}
-
--- Rows that are the same.
-
-step_decides : (x y : CellPart) → (((x.cell == y.cell) && (x.part == y.part)) ≡ true → x ≡ y) × (x ≡ y → ((x.cell == y.cell) && (x.part == y.part)) ≡ true)
-step_decides x y = (
-  λ both.
-      let parts = and_parts (x.cell == y.cell) (x.part == y.part) both in
-      let cell = eqb-true x.cell y.cell parts.0 in
-      let part = eqb-true x.part y.part parts.1 in
-      λ i. record { cell = cell i; part = part i },
-  λ same. rw (eq-eqb x.cell y.cell (ap (λ (e : CellPart). e.cell) same), eq-eqb x.part y.part (ap (λ (e : CellPart). e.part) same)) refl,
-)
-
-pub same_steps : (xs ys : List CellPart) → pointwise (λ x y. (x.cell == y.cell) && (x.part == y.part)) xs ys ≡ true → xs ≡ ys
-same_steps xs ys = (pointwise_decides step_decides xs ys).0
-
-look_decides : (x y : CellPart) → (((x.cell == y.cell) && (x.part == y.part)) ≡ true → x ≡ y) × (x ≡ y → ((x.cell == y.cell) && (x.part == y.part)) ≡ true)
-look_decides x y = (
-  λ both.
-      let parts = and_parts (x.cell == y.cell) (x.part == y.part) both in
-      let cell = eqb-true x.cell y.cell parts.0 in
-      let part = eqb-true x.part y.part parts.1 in
-      λ i. record { cell = cell i; part = part i },
-  λ same. rw (eq-eqb x.cell y.cell (ap (λ (e : CellPart). e.cell) same), eq-eqb x.part y.part (ap (λ (e : CellPart). e.part) same)) refl,
-)
-
-pub same_looks : (xs ys : List CellPart) → pointwise (λ x y. (x.cell == y.cell) && (x.part == y.part)) xs ys ≡ true → xs ≡ ys
-same_looks xs ys = (pointwise_decides look_decides xs ys).0
 
 -- What a look finds of a unit.
 

@@ -1,14 +1,17 @@
 -- Rows and changes with the same entries.
-use Rattle.std.proofs.Common.{ℕ, ◌<◌, ◌≡◌, ◌==◌, ◌∙◌, List, [], length, get_or, map, arith, sym}
+use Rattle.std.proofs.Common.{ℕ, ◌<◌, ◌≡◌, ◌==◌, ◌∙◌, List, [], length, get_or, map, arith, sym, true, refl, ap}
+use Rattle.std.specs.Prelude.{◌&&◌}
 use Rattle.std.specs.List.{AllZip}
 use Rattle.std.specs.List.Sorted.{IsPermutation}
+use Rattle.std.specs.Cmp.Lexicographic.{pointwise_decides}
+use Rattle.std.proofs.lemmas.Bool.{eqb-true, eq-eqb, and_parts}
 use Rattle.std.proofs.lemmas.List.{same_lists, get_or_default, get_or-map}
 use Rattle.std.proofs.lemmas.List.Elements.{length_all_zip, AllZip-get_or}
 use Rattle.std.proofs.lemmas.List.Sorted.{Contains-permutation, IsPermutation-sym}
 use Rattle.list_laws.proofs.Ascending.{Ascends-from_keys, count_at-le, same_ascending}
 use Rattle.list_laws.proofs.Reordered.{count_by-permutation}
 use Rattle.period_rows.specs.declared.part.CellPart.{CellPart}
-use Rattle.period_rows.specs.Rows.{row_at, HasDouble, IsAscending}
+use Rattle.period_rows.specs.Rows.{row_at, HasDouble, IsAscending, is_same_row}
 use Rattle.period_rows.specs.Changes.{RowChange, IsSameChange, HaveRows}
 
 -- a cell with two entries has them in any order
@@ -55,3 +58,21 @@ same_changes given made same up up' =
     let here = AllZip-get_or IsSameChange given made k d d same there in
     let row = same_row (get_or given k d).row (get_or made k d).row (up k d there) (up' k d inside) here.2 in
     λ i. record { period = here.0 i; owner = here.1 i; row = row i })
+
+-- entries are the same where their cells and their parts are
+part_decides : (x y : CellPart) → (((x.cell == y.cell) && (x.part == y.part)) ≡ true → x ≡ y) × (x ≡ y → ((x.cell == y.cell) && (x.part == y.part)) ≡ true)
+part_decides x y = (
+  λ both.
+      let parts = and_parts (x.cell == y.cell) (x.part == y.part) both in
+      let cell = eqb-true x.cell y.cell parts.0 in
+      let part = eqb-true x.part y.part parts.1 in
+      λ i. record { cell = cell i; part = part i },
+  λ same. rw (eq-eqb x.cell y.cell (ap (λ (e : CellPart). e.cell) same), eq-eqb x.part y.part (ap (λ (e : CellPart). e.part) same)) refl,
+)
+
+-- and rows where their entries are
+pub same_entries : (xs ys : List CellPart) → is_same_row xs ys ≡ true → xs ≡ ys
+same_entries xs ys = (pointwise_decides part_decides xs ys).0
+
+pub entries_same : (xs ys : List CellPart) → xs ≡ ys → is_same_row xs ys ≡ true
+entries_same xs ys = (pointwise_decides part_decides xs ys).1

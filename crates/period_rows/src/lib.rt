@@ -9,4 +9,4 @@ mod rows;
 pub use changes::{GivenChange, RowChanges, RowTest};
 pub use fault::RowFault;
 pub use part::CellPart;
-pub use rows::{has_double, sort_rows};
+pub use rows::{has_double, is_same_row, sort_rows};

@@ -1,9 +1,9 @@
 //! The order of a row's entries.
 
-ghost use Rattle.std.specs.Prelude.{ℕ, ◌<◌, length, map, MatchBool};
+ghost use Rattle.std.specs.Prelude.{◌≡◌, ℕ, ◌<◌, length, map, MatchBool};
 ghost use Rattle.std.specs.List.{AllZip};
 ghost use Rattle.std.specs.List.Sorted.{IsPermutation};
-ghost use Rattle.period_rows.specs.Rows.{row_at, HasDouble, IsInOrder, IsAscending};
+ghost use Rattle.period_rows.specs.Rows.{row_at, HasDouble, IsInOrder, IsAscending, is_same_row as is_same_row_lem};
 
 use crate::part::CellPart;
 
@@ -23,4 +23,11 @@ pub fn has_double(row: &[CellPart]) -> bool
     ensures { MatchBool result (HasDouble row.now) (IsAscending row.now) }
 {
     !row.is_sorted_by(|a, b| a.cell < b.cell)
+}
+
+/// Whether two rows have the same entries in the same order.
+pub fn is_same_row(xs: &[CellPart], ys: &[CellPart]) -> bool
+    ensures { result ≡ is_same_row_lem xs.now ys.now }
+{
+    xs == ys
 }

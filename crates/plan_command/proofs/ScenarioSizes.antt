@@ -15,6 +15,7 @@ use Rattle.list_laws.proofs.Ranges.{All-range}
 use Rattle.list_laws.proofs.Rising.{increasing_from_ascends}
 use Rattle.search_grid.specs.Moves.{moves_from}
 use Rattle.period_rows.specs.declared.part.CellPart.{CellPart}
+use Rattle.period_rows.specs.Rows.{is_same_row}
 use Rattle.drift_chain.specs.DriftRows.{row_of, IsDriftRow}
 use Rattle.drift_chain.proofs.Parts.{length-le_cells}
 use Rattle.sweep_table.specs.LookParts.{look_row, factor_of}
@@ -27,7 +28,7 @@ use Rattle.scenario_text.specs.declared.draft.TextVersion.TheVariants.{One, Two}
 use Rattle.scenario_text.specs.State.{State, PeriodRow, by_version, positions_in}
 use Rattle.scenario_text.specs.RowFields.{entry_fields, cell_row, moves_of, drift_of, overlook_of}
 use Rattle.scenario_text.specs.StateRows.{version_row, position_row, drift_in_of, look_of, look_in_of, look_in_rows, look_rows, overlook_rows, drift_in_rows, drift_rows, moves_rows, start_rows, name_rows, state_rows}
-use Rattle.scenario_text.specs.Canonical.{covered, first_entries, is_same_row, other_rows, later_rows, drift_changes, look_changes, is_plain, plain_state, full_state, state_of_problem, canonical_text}
+use Rattle.scenario_text.specs.Canonical.{covered, first_entries, other_rows, later_rows, drift_changes, look_changes, is_plain, plain_state, full_state, state_of_problem, canonical_text}
 use Rattle.scenario_text.proofs.CanonicalState.{look_of_row}
 use Rattle.scenario_text.proofs.FirstParts.{IsDriftRow-first}
 use Rattle.scenario_text.proofs.LaterRows.{all_later}

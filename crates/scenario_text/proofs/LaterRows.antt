@@ -5,10 +5,11 @@ use Rattle.std.specs.List.{find}
 use Rattle.std.specs.Option.{option_map_or}
 use Rattle.std.proofs.lemmas.Bool.{cases_lt, eq-eqb, ne_eqb, and_left, and_right}
 use Rattle.period_rows.specs.declared.part.CellPart.{CellPart}
+use Rattle.period_rows.specs.Rows.{is_same_row}
+use Rattle.period_rows.proofs.SameRows.{same_entries}
 use Rattle.scenario_text.specs.State.{PeriodRow}
-use Rattle.scenario_text.specs.Canonical.{is_same_row, other_rows, later_rows}
+use Rattle.scenario_text.specs.Canonical.{other_rows, later_rows}
 use Rattle.scenario_text.specs.Sound.{ArePeriodRows}
-use Rattle.scenario_text.proofs.SameRows.{same_row}
 use Rattle.list_laws.proofs.Joined.{find_none, find_at, count_none, count_at, all_joined, find_hit, find_miss, count_miss, count_one, all_one}
 
 -- a row of that period and owner
@@ -53,7 +54,7 @@ module _ (row : ℕ → ℕ → List CellPart) (owners last : ℕ) where
       find_none (entries u) (is_row_of t c) owners 0 (λ d from inside. find_miss (entry u d) (is_row_of t c) (is_same_row (row u d) (row 1 d)) (other_owner t c u d (λ e. omega (arith, e, inside, past)))))
 
   told : (t c : ℕ) (same : Bool) → is_same_row (row t c) (row 1 c) ≡ same → option_map_or (λ (r : PeriodRow). r.row) (cond same None (Some (entry t c))) (row 1 c) ≡ row t c
-  told t c true same = sym (same_row (row t c) (row 1 c) same)
+  told t c true same = sym (same_entries (row t c) (row 1 c) same)
   told t c false same = refl
 
   -- the row in force up to the last period

@@ -5,16 +5,18 @@ use Rattle.std.specs.Cmp.Lexicographic.{pointwise}
 use Rattle.std.specs.Str.{bytes_eq}
 use Rattle.std.proofs.lemmas.Bool.{cases_Bool, cases_eq, and_parts, and_from}
 use Rattle.period_rows.specs.declared.part.CellPart.{CellPart}
+use Rattle.period_rows.specs.Rows.{is_same_row}
+use Rattle.period_rows.proofs.SameRows.{same_entries, entries_same}
 use Rattle.drift_chain.specs.DriftRows.{row_of}
 use Rattle.search_model.specs.Problem.{Problem, IsProblem}
 use Rattle.scenario_text.specs.declared.draft.TextVersion.TheVariants.{One, Two}
 use Rattle.scenario_text.specs.State.{State}
-use Rattle.scenario_text.specs.Canonical.{covered, is_same_row, is_as_first, is_steady, covers_itself, is_plain, plain_state, full_state, state_of_problem, canonical_text}
+use Rattle.scenario_text.specs.Canonical.{covered, is_as_first, is_steady, covers_itself, is_plain, plain_state, full_state, state_of_problem, canonical_text}
 use Rattle.scenario_text.specs.Printing.{chosen_rows}
 use Rattle.text_rows.specs.Rows.{text_of}
 use Rattle.scenario_text.specs.Laws.{IsPlain, CanonicalVersion}
 use Rattle.scenario_text.proofs.Printed.{plain_state_rows, full_state_rows}
-use Rattle.scenario_text.proofs.SameRows.{all_from, all_each, same_row, row_same, same_names, names_same, factors_same, covered_same, covers_itself-from, covers_itself-each}
+use Rattle.scenario_text.proofs.SameRows.{all_from, all_each, same_names, names_same, factors_same, covered_same, covers_itself-from, covers_itself-each}
 
 -- the state by the test
 pub state_plain : (p : Problem) → is_plain p ≡ true → state_of_problem p ≡ plain_state p
@@ -32,13 +34,13 @@ steady_each row owners last t c all low high inside =
       | inl first ↦ ap (λ (k : ℕ). row k c) first
       | inr later ↦
           let period = all_each (is_as_first row owners) (last - 1) 2 t all (omega (arith, low, later)) (omega (arith, high, low, later)) in
-          same_row (row t c) (row 1 c) (all_each (λ c. is_same_row (row t c) (row 1 c)) owners 0 c period (omega arith) (omega (arith, inside)))
+          same_entries (row t c) (row 1 c) (all_each (λ c. is_same_row (row t c) (row 1 c)) owners 0 c period (omega arith) (omega (arith, inside)))
     ]
 
 steady_from : (row : ℕ → ℕ → List CellPart) (owners last : ℕ) → ((t c : ℕ) → 1 ≤ t → t ≤ last → c < owners → row t c ≡ row 1 c) → is_steady row owners last ≡ true
 steady_from row owners last each =
     all_from (is_as_first row owners) (last - 1) 2 (λ t low high.
-    all_from (λ c. is_same_row (row t c) (row 1 c)) owners 0 (λ c from inside. row_same (row t c) (row 1 c) (each t c (omega (arith, low)) (omega (arith, low, high)) (omega (arith, inside)))))
+    all_from (λ c. is_same_row (row t c) (row 1 c)) owners 0 (λ c from inside. entries_same (row t c) (row 1 c) (each t c (omega (arith, low)) (omega (arith, low, high)) (omega (arith, inside)))))
 
 pub plain_names : (p : Problem) → is_plain p ≡ true → p.position_names ≡ p.names
 unfolding is_plain

@@ -1,6 +1,6 @@
 -- Rows that are the same, and what looks of the same factors cover.
 use Rattle.std.proofs.Common.{◌≡◌, ◌≢◌, ℕ, zero, suc, ◌+◌, ◌<◌, ◌≤◌, Bool, true, false, List, [], ◌∷◌, map, filter, length, refl, sym, ap, ◌∙◌, subst, arith, inl, inr, All}
-use Rattle.std.specs.Prelude.{◌==◌, ◌&&◌, not}
+use Rattle.std.specs.Prelude.{◌==◌, not}
 use Rattle.std.specs.Cmp.Lexicographic.{pointwise, pointwise_decides}
 use Rattle.std.specs.List.{list_all, range_with_len}
 use Rattle.std.specs.Str.{bytes_eq}
@@ -14,7 +14,7 @@ use Rattle.sweep_table.specs.LookParts.{look_row, cells_of, factor_in, factor_of
 use Rattle.sweep_table.proofs.Factors.{factor_in-none}
 use Rattle.search_model.specs.Names.{name_in}
 use Rattle.search_model.specs.Problem.{Problem, IsProblem}
-use Rattle.scenario_text.specs.Canonical.{is_same_row, covered}
+use Rattle.scenario_text.specs.Canonical.{covered}
 use Rattle.scenario_text.specs.Scenarios.{look_parts}
 use Rattle.scenario_text.proofs.Printed.{factor_of-beyond}
 
@@ -35,24 +35,6 @@ all_each P (suc n) a t all low high =
 
 pub all_but_one : (P : ℕ → Bool) (n a t : ℕ) → a ≤ t → t < a + n → P t ≡ false → list_all P (range_with_len a n) ≡ false
 all_but_one P n a t low high fails = false_from_ne_true _ (λ all. true≢false (sym (all_each P n a t all low high) ∙ fails))
-
--- The same entries.
-
-part_decides : (x y : CellPart) → (((x.cell == y.cell) && (x.part == y.part)) ≡ true → x ≡ y) × (x ≡ y → ((x.cell == y.cell) && (x.part == y.part)) ≡ true)
-part_decides x y = (
-  λ both.
-      let parts = and_parts (x.cell == y.cell) (x.part == y.part) both in
-      let cell = eqb-true x.cell y.cell parts.0 in
-      let part = eqb-true x.part y.part parts.1 in
-      λ i. record { cell = cell i; part = part i },
-  λ same. rw (eq-eqb x.cell y.cell (ap (λ (e : CellPart). e.cell) same), eq-eqb x.part y.part (ap (λ (e : CellPart). e.part) same)) refl,
-)
-
-pub same_row : (xs ys : List CellPart) → is_same_row xs ys ≡ true → xs ≡ ys
-same_row xs ys = (pointwise_decides part_decides xs ys).0
-
-pub row_same : (xs ys : List CellPart) → xs ≡ ys → is_same_row xs ys ≡ true
-row_same xs ys = (pointwise_decides part_decides xs ys).1
 
 -- The same names.
 

@@ -5,6 +5,7 @@ use Rattle.std.specs.Cmp.Lexicographic.{pointwise}
 use Rattle.std.specs.List.{flat_map, list_all, range_with_len}
 use Rattle.text_rows.specs.Rows.{text_of}
 use Rattle.period_rows.specs.declared.part.CellPart.{CellPart}
+use Rattle.period_rows.specs.Rows.{is_same_row}
 use Rattle.drift_chain.specs.DriftRows.{row_of}
 use Rattle.sweep_table.specs.LookParts.{look_row, factor_of}
 use Rattle.search_model.specs.Problem.{Problem, first_of}
@@ -21,10 +22,6 @@ first_entries p = flat_map (λ c. if first_of p c == 0 then [] else record { cel
 -- the cells that a look from position a in period t covers, ascending: those of which it doesn't miss all
 abbrev pub covered : Problem → ℕ → ℕ → List CellPart
 covered p t a = map (λ e. record { cell = e.cell; part = e.part }) (filter (λ e. not (e.part == p.sweep.denominator)) (look_row p.sweep t a))
-
--- the same entries in the same order
-abbrev pub is_same_row : List CellPart → List CellPart → Bool
-is_same_row xs ys = pointwise (λ x y. (x.cell == y.cell) && (x.part == y.part)) xs ys
 
 -- the rows of period t that aren't those of period 1, by their owners
 abbrev pub other_rows : (ℕ → ℕ → List CellPart) → ℕ → ℕ → List PeriodRow

@@ -3,6 +3,7 @@ use Rattle.std.specs.Prelude.{ℕ, ◌-◌, ◌==◌, if◌then◌else◌, List,
 use Rattle.std.specs.List.{range_with_len}
 use Rattle.std.specs.Fmt.{decimal}
 use Rattle.period_rows.specs.declared.part.CellPart.{CellPart}
+use Rattle.period_rows.specs.Rows.{is_same_row}
 use Rattle.drift_chain.specs.DriftRows.{row_of}
 use Rattle.search_grid.specs.Moves.{moves_from}
 use Rattle.sweep_table.specs.LookParts.{factor_of}
@@ -14,7 +15,7 @@ use Rattle.scenario_text.specs.declared.row_sorts.RowSort.TheVariants.{Cells, Po
 use Rattle.scenario_text.specs.declared.row_sorts.ChangeSort.{ChangeSort}
 use Rattle.scenario_text.specs.declared.row_sorts.ChangeSort.TheVariants.{DriftIn, LookIn}
 use Rattle.scenario_text.specs.State.{PeriodRow}
-use Rattle.scenario_text.specs.Canonical.{first_entries, covered, is_same_row, later_rows, is_plain}
+use Rattle.scenario_text.specs.Canonical.{first_entries, covered, later_rows, is_plain}
 use Rattle.scenario_text.specs.RowFields.{cell_row, first_row, moves_of, drift_of, overlook_of}
 use Rattle.scenario_text.specs.StateRows.{version_row, position_row, drift_in_of, look_of, look_in_of}
 

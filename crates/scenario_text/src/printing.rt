@@ -5,7 +5,8 @@ ghost use Rattle.std.specs.Prelude.{◌≡◌, ◌<◌, ◌≤◌, ◌++◌, ◌
 ghost use Rattle.text_rows.specs.Rows.{text_of};
 ghost use Rattle.exact_parts.specs.Appending.{Begins};
 ghost use Rattle.search_model.specs.Problem.{IsProblem};
-ghost use Rattle.scenario_text.specs.Canonical.{canonical_text, is_same_row, other_rows};
+ghost use Rattle.period_rows.specs.Rows.{is_same_row};
+ghost use Rattle.scenario_text.specs.Canonical.{canonical_text, other_rows};
 ghost use Rattle.scenario_text.specs.StateRows.{version_row};
 ghost use Rattle.scenario_text.specs.Printing.{sort_owners, sort_rows, in_force, change_owners, change_last, change_limit, change_row, change_at, change_rows, head_rows, front_rows, start_rows, body_rows, later_change_rows, plain_rows, full_rows, chosen_rows};
 

@@ -6,7 +6,8 @@ ghost use Rattle.std.specs.List.{list_all, range_with_len};
 ghost use Rattle.std.specs.Str.{bytes_eq};
 ghost use Rattle.drift_chain.specs.DriftRows.{row_of};
 ghost use Rattle.search_model.specs.Problem.{IsProblem, cell_name, position_name};
-ghost use Rattle.scenario_text.specs.Canonical.{covered, is_same_row as is_same_row_lem, is_as_first, is_steady, covers_itself as covers_itself_lem, is_plain as is_plain_lem};
+ghost use Rattle.period_rows.specs.Rows.{is_same_row as is_same_row_lem};
+ghost use Rattle.scenario_text.specs.Canonical.{covered, is_as_first, is_steady, covers_itself as covers_itself_lem, is_plain as is_plain_lem};
 
 use drift_chain::DriftPart;
 use search_model::Scenario;

@@ -10,21 +10,21 @@ use Rattle.list_laws.proofs.Firsts.{found_or_none}
 use Rattle.period_rows.specs.declared.part.CellPart.{CellPart}
 use Rattle.period_rows.specs.Changes.{RowChange, is_for, IsSameKey, AreChanges}
 use Rattle.drift_chain.specs.DriftRows.{DriftRows, drift_cells, drift_over, drift_with, row_of, IsDriftRow, IsDrift}
-use Rattle.period_rows.specs.Rows.{row_at}
+use Rattle.period_rows.specs.Rows.{row_at, is_same_row}
 use Rattle.drift_chain.proofs.Drifts.{IsDrift-from_rows}
 use Rattle.drift_chain.proofs.DriftChanges.{row_of-changed, row_of-base}
-use Rattle.searcher_maps.specs.Differing.{is_same_drift, drift_change, drift_changes}
-use Rattle.searcher_maps.proofs.SameRows.{same_drift}
+use Rattle.searcher_maps.specs.Differing.{change_to, later_changes}
+use Rattle.period_rows.proofs.SameRows.{same_entries}
 use Rattle.searcher_maps.proofs.Changed.{all_changes, pairs_of_changes, in_force}
 
-own : (t c : ℕ) (row : List CellPart) → is_for t c (drift_change t c row) ≡ true
+own : (t c : ℕ) (row : List CellPart) → is_for t c (change_to t c row) ≡ true
 own t c row = and_from (t == t) (c == c) (eq-eqb t t refl) (eq-eqb c c refl)
 
-other : (t c u d : ℕ) (row : List CellPart) → (u ≢ t) ⊎ (d ≢ c) → is_for t c (drift_change u d row) ≡ false
+other : (t c u d : ℕ) (row : List CellPart) → (u ≢ t) ⊎ (d ≢ c) → is_for t c (change_to u d row) ≡ false
 other t c u d row (inl apart) = and_left (u == t) (d == c) (ne_eqb u t apart)
 other t c u d row (inr apart) = and_right (u == t) (d == c) (ne_eqb d c apart)
 
-apart : (t c u d : ℕ) (row other_row : List CellPart) → (t ≢ u) ⊎ (c ≢ d) → ¬ IsSameKey (drift_change t c row) (drift_change u d other_row)
+apart : (t c u d : ℕ) (row other_row : List CellPart) → (t ≢ u) ⊎ (c ≢ d) → ¬ IsSameKey (change_to t c row) (change_to u d other_row)
 apart t c u d row other_row (inl periods) same = periods same.0
 apart t c u d row other_row (inr cells) same = cells same.1
 
@@ -45,13 +45,13 @@ module _ (drift : DriftRows) (h : IsDrift drift) where
 
   module _ (end : ℕ) (few : end ≤ 32) where
     abbrev pub changes : List RowChange
-    changes = drift_changes (row_of drift) (drift_cells drift) end
+    changes = later_changes (row_of drift) (drift_cells drift) end
 
     abbrev pub copied : DriftRows
     copied = record { denominator = drift.denominator; rows = first_rows; changes = changes }
 
     right_rows : All (λ change. IsDriftRow drift.denominator (drift_cells drift) change.row) changes
-    right_rows = all_changes is_same_drift drift_change (row_of drift) (λ change. IsDriftRow drift.denominator (drift_cells drift) change.row) (drift_cells drift) end (λ t c low high inside. h.each t c inside)
+    right_rows = all_changes is_same_row change_to (row_of drift) (λ change. IsDriftRow drift.denominator (drift_cells drift) change.row) (drift_cells drift) end (λ t c low high inside. h.each t c inside)
 
     row_right : (t c : ℕ) → c < drift_cells drift → IsDriftRow drift.denominator (drift_cells drift) (row_of copied t c)
     row_right t c inside = elim (found_or_none (is_for t c) changes) [
@@ -63,10 +63,10 @@ module _ (drift : DriftRows) (h : IsDrift drift) where
     changes_right : AreChanges 31 (drift_cells drift) changes
     changes_right = record {
       within =
-          all_changes is_same_drift drift_change (row_of drift) (λ change. (1 ≤ change.period) × (change.period ≤ 31) × (change.owner < drift_cells drift)) (drift_cells drift) end
+          all_changes is_same_row change_to (row_of drift) (λ change. (1 ≤ change.period) × (change.period ≤ 31) × (change.owner < drift_cells drift)) (drift_cells drift) end
           (λ t c low high inside. (omega (arith, low), omega (arith, high, few), inside));
       differ =
-          pairs_of_changes is_same_drift drift_change (row_of drift) (λ change later. ¬ IsSameKey change later) (drift_cells drift) end
+          pairs_of_changes is_same_row change_to (row_of drift) (λ change later. ¬ IsSameKey change later) (drift_cells drift) end
           (λ t c u d keys. apart t c u d (row_of drift t c) (row_of drift u d) keys);
     }
 
@@ -89,4 +89,4 @@ module _ (drift : DriftRows) (h : IsDrift drift) where
     unfolding row_of
     same_rows t c some before inside =
         ap (option_map_or (λ (change : RowChange). change.row) (find (is_for t c) changes)) (first_at c inside)
-        ∙ in_force is_same_drift drift_change (row_of drift) is_for (λ (change : RowChange). change.row) same_drift own other (λ u d row. refl) (drift_cells drift) end t c some before inside
+        ∙ in_force is_same_row change_to (row_of drift) is_for (λ (change : RowChange). change.row) same_entries own other (λ u d row. refl) (drift_cells drift) end t c some before inside

@@ -5,7 +5,6 @@ pub mod Carrying
 pub mod Behind
 pub mod Examples
 pub mod Changed
-pub mod SameRows
 pub mod DriftCopies
 pub mod Searched
 pub mod GivenRows

@@ -7,26 +7,26 @@ use Rattle.period_rows.specs.declared.part.CellPart.{CellPart}
 use Rattle.sweep_table.specs.declared.changes.LookChangeFault.{LookChangeFault}
 use Rattle.period_rows.specs.Changes.{RowChange, is_for, IsSameKey, AreChanges, HaveRows}
 use Rattle.sweep_table.specs.LookParts.{LookParts, positions_of, cells_of, look_row, looks_over, IsLookRow, IsSweep}
-use Rattle.period_rows.specs.Rows.{row_at, IsAscending}
+use Rattle.period_rows.specs.Rows.{row_at, IsAscending, is_same_row}
 use Rattle.period_rows.proofs.ChangeFaults.{no_row_fault}
 use Rattle.sweep_table.specs.Changes.{with_changes, row_fault_of, IsBadRow, HasChangeFault}
 use Rattle.sweep_table.proofs.Changed.{ascending_from_right}
 use Rattle.sweep_table.proofs.NamedFaults.{none_bad}
 use Rattle.sweep_table.proofs.Rows.{IsSweep-from_rows}
 use Rattle.searcher_maps.specs.Periods.{rows_by_period, positions_given, row_given, AreLookRows}
-use Rattle.searcher_maps.specs.Differing.{is_same_look, look_change, look_changes}
-use Rattle.searcher_maps.proofs.SameRows.{same_look}
+use Rattle.searcher_maps.specs.Differing.{change_to, later_changes}
+use Rattle.period_rows.proofs.SameRows.{same_entries}
 use Rattle.searcher_maps.proofs.Changed.{all_changes, pairs_of_changes, in_force}
 use Rattle.searcher_maps.proofs.GivenRows.{rows_in, period_at}
 
-own : (t a : ℕ) (row : List CellPart) → is_for t a (look_change t a row) ≡ true
+own : (t a : ℕ) (row : List CellPart) → is_for t a (change_to t a row) ≡ true
 own t a row = and_from (t == t) (a == a) (eq-eqb t t refl) (eq-eqb a a refl)
 
-other : (t a u b : ℕ) (row : List CellPart) → (u ≢ t) ⊎ (b ≢ a) → is_for t a (look_change u b row) ≡ false
+other : (t a u b : ℕ) (row : List CellPart) → (u ≢ t) ⊎ (b ≢ a) → is_for t a (change_to u b row) ≡ false
 other t a u b row (inl apart) = and_left (u == t) (b == a) (ne_eqb u t apart)
 other t a u b row (inr apart) = and_right (u == t) (b == a) (ne_eqb b a apart)
 
-apart : (t a u b : ℕ) (row other_row : List CellPart) → (t ≢ u) ⊎ (a ≢ b) → ¬ IsSameKey (look_change t a row) (look_change u b other_row)
+apart : (t a u b : ℕ) (row other_row : List CellPart) → (t ≢ u) ⊎ (a ≢ b) → ¬ IsSameKey (change_to t a row) (change_to u b other_row)
 apart t a u b row other_row (inl periods) same = periods same.0
 apart t a u b row other_row (inr positions) same = positions same.1
 
@@ -51,11 +51,11 @@ module _ (g cells : ℕ) (given : List (List (List CellPart))) (h : AreGiven g c
   IsSweep-base = IsSweep-from_rows g cells base_rows h.denominator h.rows.positions h.count (λ a inside. row_right 1 a (omega arith) (omega (arith, h.rows.periods)) inside)
 
   abbrev pub changes : List RowChange
-  changes = look_changes (row_given given) (positions_given given) (length given + 1)
+  changes = later_changes (row_given given) (positions_given given) (length given + 1)
 
   right_rows : HaveRows (IsLookRow g cells) changes
   right_rows =
-      all_changes is_same_look look_change (row_given given) (λ change. IsLookRow g cells change.row) (positions_given given) (length given + 1)
+      all_changes is_same_row change_to (row_given given) (λ change. IsLookRow g cells change.row) (positions_given given) (length given + 1)
       (λ t a low high inside. row_right t a (omega (arith, low)) (omega (arith, high)) inside)
 
   pub ascending : HaveRows IsAscending changes
@@ -64,10 +64,10 @@ module _ (g cells : ℕ) (given : List (List (List CellPart))) (h : AreGiven g c
   changes_right : AreChanges 32 (positions_given given) changes
   changes_right = record {
     within =
-        all_changes is_same_look look_change (row_given given) (λ change. (1 ≤ change.period) × (change.period ≤ 32) × (change.owner < positions_given given)) (positions_given given) (length given + 1)
+        all_changes is_same_row change_to (row_given given) (λ change. (1 ≤ change.period) × (change.period ≤ 32) × (change.owner < positions_given given)) (positions_given given) (length given + 1)
         (λ t a low high inside. (omega (arith, low), omega (arith, high, h.rows.periods), inside));
     differ =
-        pairs_of_changes is_same_look look_change (row_given given) (λ change later. ¬ IsSameKey change later) (positions_given given) (length given + 1)
+        pairs_of_changes is_same_row change_to (row_given given) (λ change later. ¬ IsSameKey change later) (positions_given given) (length given + 1)
         (λ t a u b keys. apart t a u b (row_given given t a) (row_given given u b) keys);
   }
 
@@ -82,14 +82,14 @@ module _ (g cells : ℕ) (given : List (List (List CellPart))) (h : AreGiven g c
 
   -- those that the code makes of the rows
   pub made_changes : (periods slice : List (Vec (Vec CellPart Global) Global)) (first : Vec (Vec CellPart Global) Global) (positions : ℕ) (changed : List RowChange) → rows_by_period periods ≡ given →
-      slice ≡ periods → first ≡ get_or periods 0 first → positions ≡ length first.items → changed ≡ look_changes (row_given (rows_by_period slice)) positions (length slice + 1) → changed ≡ changes
+      slice ≡ periods → first ≡ get_or periods 0 first → positions ≡ length first.items → changed ≡ later_changes (row_given (rows_by_period slice)) positions (length slice + 1) → changed ≡ changes
   made_changes periods slice first positions changed view same there as_many is =
       let size : length given ≡ length periods = sym (ap length view) ∙ length-map periods rows_in in
       let inside : 0 < length periods = omega (arith, size, h.rows.periods) in
       let all : length first.items ≡ positions_given given = sym (length-map first.items (λ (row : Vec CellPart Global). row.items)) ∙ ap length (sym (period_at periods 0 first inside there) ∙ ap (λ (rows : List (List (List CellPart))). slice_index_or rows 0 []) view) in
       let long : length slice + 1 ≡ length given + 1 = omega (arith, size, ap length same) in
-      is ∙ ap (λ (rows : List (List (List CellPart))). look_changes (row_given rows) positions (length slice + 1)) (ap rows_by_period same ∙ view)
-      ∙ ap (λ n. look_changes (row_given given) n (length slice + 1)) (as_many ∙ all) ∙ ap (λ n. look_changes (row_given given) (positions_given given) n) long
+      is ∙ ap (λ (rows : List (List (List CellPart))). later_changes (row_given rows) positions (length slice + 1)) (ap rows_by_period same ∙ view)
+      ∙ ap (λ n. later_changes (row_given given) n (length slice + 1)) (as_many ∙ all) ∙ ap (λ n. later_changes (row_given given) (positions_given given) n) long
 
   abbrev pub looked : LookParts
   looked = record { denominator = g; cells = cells; rows = base_rows; changes = changes }
@@ -102,5 +102,5 @@ module _ (g cells : ℕ) (given : List (List (List CellPart))) (h : AreGiven g c
   pub same_rows : (t a : ℕ) → 1 ≤ t → t ≤ length given → a < positions_given given → look_row looked t a ≡ row_given given t a
   unfolding look_row
   same_rows t a some last inside =
-      in_force is_same_look look_change (row_given given) is_for (λ (change : RowChange). change.row) same_look own other (λ u b row. refl) (positions_given given) (length given + 1) t a some
+      in_force is_same_row change_to (row_given given) is_for (λ (change : RowChange). change.row) same_entries own other (λ u b row. refl) (positions_given given) (length given + 1) t a some
       (omega (arith, some, last)) inside

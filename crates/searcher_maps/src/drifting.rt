@@ -4,18 +4,12 @@ ghost use Rattle.std.specs.Prelude.{◌≡◌, ℕ, ◌<◌, ◌≤◌, ◌++◌
 ghost use Rattle.std.specs.List.{range_with_len};
 ghost use Rattle.drift_chain.specs.DriftRows.{row_of, drift_cells, drift_over, drift_with, IsDrift};
 ghost use Rattle.drift_chain.specs.ChangeFaults.{row_change};
-ghost use Rattle.searcher_maps.specs.Differing.{is_same_drift, drift_changes_at, drift_changes_in, drift_changes};
+ghost use Rattle.searcher_maps.specs.Differing.{changes_at, changes_in, later_changes};
 
 use drift_chain::{ChangeFault, Drift, DriftChange, DriftPart};
 use exact_parts::NoMemory;
+use period_rows::is_same_row;
 use std::alloc::Global;
-
-// Whether two rows have the same entries in the same order.
-fn is_same_row(xs: &[DriftPart], ys: &[DriftPart]) -> bool
-    ensures { result ≡ is_same_drift xs.now ys.now }
-{
-    xs == ys
-}
 
 // Adds the change of a cell in one period, if its row isn't that of period 1.
 fn add_change(
@@ -29,7 +23,7 @@ fn add_change(
     requires last { t ≤ 31 }
     requires cell { c < drift_cells drift.now }
     ensures { OnOk result (map row_change changes.new.items ≡
-        map row_change changes.old.items ++ drift_changes_at (row_of drift.now) t c) }
+        map row_change changes.old.items ++ changes_at (row_of drift.now) t c) }
 {
     let row = drift.row(t, c);
     if is_same_row(row, drift.row(1, c)) {
@@ -53,7 +47,7 @@ fn add_period(
     requires first { 1 ≤ t }
     requires last { t ≤ 31 }
     ensures { OnOk result (map row_change changes.new.items ≡
-        map row_change changes.old.items ++ drift_changes_in (row_of drift.now) t (drift_cells drift.now)) }
+        map row_change changes.old.items ++ changes_in (row_of drift.now) t (drift_cells drift.now)) }
 {
     for c in 0..drift.cells() {
         add_change(alloc, changes, drift, t, c)?;
@@ -65,7 +59,7 @@ fn add_period(
 fn later_rows(alloc: Global, drift: &Drift, end: u32) -> Result<Vec<DriftChange>, NoMemory>
     requires { end ≤ 32 }
     ensures { IfOk result (λ changes.
-        map row_change changes.items ≡ drift_changes (row_of drift.now) (drift_cells drift.now) end) }
+        map row_change changes.items ≡ later_changes (row_of drift.now) (drift_cells drift.now) end) }
 {
     let mut changes = Vec::new(alloc);
     for t in 2..end {

@@ -8,18 +8,12 @@ ghost use Rattle.period_rows.specs.Rows.{IsAscending};
 ghost use Rattle.sweep_table.specs.Changes.{change_of, with_changes, HasChangeFault};
 ghost use Rattle.sweep_table.specs.declared.changes.LookChangeFault.{LookChangeFault as LookChangeFaultLem};
 ghost use Rattle.searcher_maps.specs.Periods.{rows_by_period, positions_given, row_given, AreLookRows};
-ghost use Rattle.searcher_maps.specs.Differing.{is_same_look, look_changes_at, look_changes_in, look_changes};
+ghost use Rattle.searcher_maps.specs.Differing.{changes_at, changes_in, later_changes};
 
 use exact_parts::NoMemory;
+use period_rows::is_same_row;
 use std::alloc::{AllocError, Global};
 use sweep_table::{LookChange, LookChangeFault, LookPart, Sweep};
-
-// Whether two rows have the same entries in the same order.
-fn is_same_row(xs: &[LookPart], ys: &[LookPart]) -> bool
-    ensures { result ≡ is_same_look xs.now ys.now }
-{
-    xs == ys
-}
 
 // The row from position `a` in period `t`.
 fn row_at(periods: &[Vec<Vec<LookPart>>], t: u32, a: u8) -> &[LookPart]
@@ -45,7 +39,7 @@ fn add_change(
     requires same { let given = rows_by_period periods.now in All (λ rows. length rows ≡ positions_given given) given }
     requires position { a < positions_given (rows_by_period periods.now) }
     ensures { OnOk result (map change_of changes.new.items ≡
-        map change_of changes.old.items ++ look_changes_at (row_given (rows_by_period periods.now)) t a) }
+        map change_of changes.old.items ++ changes_at (row_given (rows_by_period periods.now)) t a) }
 {
     let row = row_at(periods, t, a);
     if is_same_row(row, row_at(periods, 1, a)) {
@@ -72,7 +66,7 @@ fn add_period(
     requires same { let given = rows_by_period periods.now in All (λ rows. length rows ≡ positions_given given) given }
     requires positions { positions ≡ positions_given (rows_by_period periods.now) }
     ensures { OnOk result (map change_of changes.new.items ≡
-        map change_of changes.old.items ++ look_changes_in (row_given (rows_by_period periods.now)) t positions) }
+        map change_of changes.old.items ++ changes_in (row_given (rows_by_period periods.now)) t positions) }
 {
     for a in 0..positions {
         add_change(alloc, changes, periods, t, a)?;
@@ -90,7 +84,7 @@ fn later_rows(
     requires same { let given = rows_by_period periods.now in All (λ rows. length rows ≡ positions_given given) given }
     requires positions { positions ≡ positions_given (rows_by_period periods.now) }
     ensures { IfOk result (λ changes. map change_of changes.items ≡
-        look_changes (row_given (rows_by_period periods.now)) positions (length periods.now + 1)) }
+        later_changes (row_given (rows_by_period periods.now)) positions (length periods.now + 1)) }
 {
     let mut changes = Vec::new(alloc);
     for t in 2..periods.len() as u32 + 1 {

@@ -1,5 +1,6 @@
 use Rattle.std.proofs.Common.{◌≡◌, false, sym, arith, rules}
-use Rattle.scenario_text.specs.Canonical.{is_same_row, covered}
+use Rattle.period_rows.specs.Rows.{is_same_row}
+use Rattle.scenario_text.specs.Canonical.{covered}
 use Rattle.scenario_text.proofs.SameRows.{all_from, all_but_one}
 use Rattle.scenario_text.proofs.steady.looks_as_first.Goals as goal
 

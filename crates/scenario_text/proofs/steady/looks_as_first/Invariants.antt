@@ -1,5 +1,6 @@
 use Rattle.std.proofs.Common.{◌≡◌, ◌<◌, ℕ, true}
-use Rattle.scenario_text.specs.Canonical.{is_same_row, covered}
+use Rattle.period_rows.specs.Rows.{is_same_row}
+use Rattle.scenario_text.specs.Canonical.{covered}
 use Rattle.scenario_text.proofs.steady.looks_as_first.Given as goal
 
 abbrev pub invariant-loop-q : goal.invariant-loop-q
