@@ -23,6 +23,7 @@ use Rattle.tree_checker.specs.Reasons.{first_reason}
 use Rattle.tree_checker.specs.GapReasons.{gap_reason}
 use Rattle.plan_command.proofs.Apart.{same_scenario}
 use Rattle.plan_command.proofs.OneReason.{flown_isnt_refused}
+use Rattle.plan_command.proofs.OneMade.{forced_by_names_is_one, paired_by_name_is_one, few_live_stays}
 use Rattle.plan_command.proofs.Unmade.{why_unplanned, why_unreplanned, why_unmapped, why_unpaired, forces_or_not, pairs_or_not}
 use Rattle.plan_command.proofs.Exclusive.{read_or_not, read_alike, gap_alike, no_front_fault, no_plan_fault, not_rejected, FaultsAlone, faults_alone, FaultsBoth, faults_both, faults_gap, gap_or_not}
 
@@ -43,17 +44,21 @@ few_or_many p limit sound (opening, opens, few) (start, is, more) =
 makable_or_not : (words : List (List ℕ)) (request : Request) (p : Problem) (refusal : Refusal) → IsProblem p → IsMakable words request p → IsUnmade words request p refusal → ⊥
 makable_or_not words (Plan workers nodes) p refusal sound few unmade = few_or_many p nodes sound few (why_unplanned nodes p refusal unmade).2.1
 makable_or_not words (Gap workers nodes) p refusal sound makable unmade = unmade
-makable_or_not words (Replan workers nodes flown) p refusal sound ((q, forces), few) unmade =
+makable_or_not words (Replan workers nodes flown) p refusal sound (q, forces, few) unmade =
     elim (why_unreplanned nodes p (names_behind flown words) refusal unmade) [
       | inl (why, same, bad) ↦ forces_or_not p q (names_behind flown words) why sound forces bad
-      | inr (limit, same, (r, also, (at, many))) ↦ few_or_many r nodes also.0 (few r also) many
+      | inr (limit, same, (r, also, (at, many))) ↦
+          let one = forced_by_names_is_one p q r (names_behind flown words) sound forces also in
+          few_or_many r nodes also.0 (few_live_stays q r nodes forces.0 also.0 one few) many
     ]
 makable_or_not words (Map flown) p refusal sound (prefix, is) unmade =
     let why = why_unmapped p (names_behind flown words) refusal unmade in flown_isnt_refused p (names_behind flown words) prefix why.0 sound is why.2
-makable_or_not words (Duo workers nodes second) p refusal sound ((q, pairs), few) unmade =
+makable_or_not words (Duo workers nodes second) p refusal sound (q, pairs, few) unmade =
     elim (why_unpaired nodes p second refusal unmade) [
       | inl (why, same, bad) ↦ pairs_or_not p q second why sound pairs bad
-      | inr (limit, same, (r, also, (at, many))) ↦ few_or_many r nodes also.0 (few r also) many
+      | inr (limit, same, (r, also, (at, many))) ↦
+          let one = paired_by_name_is_one p q r second sound pairs also in
+          few_or_many r nodes also.0 (few_live_stays q r nodes pairs.0 also.0 one few) many
     ]
 makable_or_not words Check p refusal sound makable unmade = makable
 makable_or_not words CheckGap p refusal sound makable unmade = makable

@@ -44,16 +44,15 @@ pub record IsUndisturbed (c : Call) (request : Request) (input : List ℕ) : Typ
   pub within : IsWithin request input
   pub write : Rose c.before.write_faults c.after.write_faults → ⊥
 
--- what the request plans has no more live prefixes under its opening than its limit: the scenario; each that forces the
--- prefix of its names, where one does; or each product for its second start, where there is one (all of them are the same
--- search). A map has to be of a prefix that is flown, and of a gap plan nothing is asked
+-- what the request plans has no more live prefixes under its opening than its limit: the scenario; one that forces the
+-- prefix of its names; or a product for its second start. One is enough, since all of them are the same search. A map has to
+-- be of a prefix that is flown, and of a gap plan nothing is asked
 abbrev pub IsMakable : List (List ℕ) → Request → Problem → Type 0
 IsMakable words (Plan workers nodes) p = HasFewLive p nodes
 IsMakable words (Gap workers nodes) p = Unit {0}
-IsMakable words (Replan workers nodes flown) p =
-    ((q : Problem) × ForcesNames p (names_behind flown words) q) × ((q : Problem) → ForcesNames p (names_behind flown words) q → HasFewLive q nodes)
+IsMakable words (Replan workers nodes flown) p = (q : Problem) × ForcesNames p (names_behind flown words) q × HasFewLive q nodes
 IsMakable words (Map flown) p = (prefix : List ℕ) × IsFlown p (names_behind flown words) prefix
-IsMakable words (Duo workers nodes second) p = ((q : Problem) × PairsNamed p second q) × ((q : Problem) → PairsNamed p second q → HasFewLive q nodes)
+IsMakable words (Duo workers nodes second) p = (q : Problem) × PairsNamed p second q × HasFewLive q nodes
 IsMakable words _ p = ⊥
 
 -- the input is the text of such a scenario

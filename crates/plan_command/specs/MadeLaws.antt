@@ -11,12 +11,13 @@ use Rattle.duo_search.specs.Pairs.{IsPathFrom, firsts_of, seconds_of}
 use Rattle.bound_tree.specs.declared.plan.Plan.{Plan}
 use Rattle.bound_tree.specs.Accepts.{Accepts}
 use Rattle.plan_command.specs.declared.request.Request.TheVariants.{Check}
-use Rattle.plan_command.specs.Plans.{IsCertified}
+use Rattle.plan_command.specs.Plans.{IsCertified, HasFewLive}
 use Rattle.plan_command.specs.Commands.{IsInput}
 use Rattle.plan_command.specs.declared.flown.FlownWhy.{FlownWhy}
 use Rattle.plan_command.specs.declared.pairing.DuoWhy.{DuoWhy}
 use Rattle.plan_command.specs.Flown.{AreNamed, IsFlown, IsUnflown, IsBadFlown}
-use Rattle.plan_command.specs.Duos.{Names, IsBadDuo}
+use Rattle.plan_command.specs.Replans.{ForcesNames}
+use Rattle.plan_command.specs.Duos.{Names, PairsNamed, IsBadDuo}
 use Rattle.plan_command.specs.MadePlans.{IsMadeAndPlanned}
 use Rattle.plan_command.specs.Complete.{IsWithin}
 
@@ -41,6 +42,18 @@ MadeIsAccepted = (q : Problem) (nodes : ℕ) (text : List ℕ) → IsProblem q �
 -- and it isn't too long for a check
 abbrev pub MadeIsWithin : Type 0
 MadeIsWithin = (q : Problem) (nodes : ℕ) (text : List ℕ) → IsProblem q → IsMadeAndPlanned nodes q text → IsWithin Check text
+
+-- all scenarios that force the prefix of the same names are one search
+abbrev pub ForcedByNamesIsOne : Type 0
+ForcedByNamesIsOne = (p q r : Problem) (names : List (List ℕ)) → IsProblem p → ForcesNames p names q → ForcesNames p names r → AreSame q r
+
+-- and so are all product scenarios for the second start of one name
+abbrev pub PairedByNameIsOne : Type 0
+PairedByNameIsOne = (p q r : Problem) (name : List ℕ) → IsProblem p → PairsNamed p name q → PairsNamed p name r → AreSame q r
+
+-- where one has no more live prefixes under its opening than a limit, no scenario that is the same search has more
+abbrev pub FewLiveStays : Type 0
+FewLiveStays = (q r : Problem) (limit : ℕ) → IsProblem q → IsProblem r → AreSame q r → HasFewLive q limit → HasFewLive r limit
 
 -- names are those of one prefix
 abbrev pub OnePrefixIsNamed : Type 0

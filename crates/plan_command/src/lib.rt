@@ -33,8 +33,8 @@ pub use bound_tree::MOST_NODES;
 pub use flown::FlownWhy;
 pub use laws::{what_is_gapped_is_accepted, what_is_planned_is_accepted};
 pub use made_laws::{
-    made_is_accepted, pair_refused_for_one_reason, paired_is_best, refused_for_one_reason,
-    replanned_is_best,
+    made_is_accepted, made_is_one_search, pair_refused_for_one_reason, paired_is_best,
+    refused_for_one_reason, replanned_is_best,
 };
 pub use mapping::map_flown;
 pub use pairing::{DuoWhy, pair};

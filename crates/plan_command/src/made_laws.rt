@@ -1,6 +1,6 @@
 //! What the plan of a scenario that is made says of the scenario that it is made of.
 
-ghost use Rattle.plan_command.specs.MadeLaws.{ReplannedIsBest, PairedIsBest, MadeIsAccepted, MadeIsWithin, OnePrefixIsNamed, FlownIsntRefused, ForcedIsntRefused, OneWhyIsntForced, ProductIsntRefused, OneWhyIsntPaired};
+ghost use Rattle.plan_command.specs.MadeLaws.{ReplannedIsBest, PairedIsBest, MadeIsAccepted, MadeIsWithin, ForcedByNamesIsOne, PairedByNameIsOne, FewLiveStays, OnePrefixIsNamed, FlownIsntRefused, ForcedIsntRefused, OneWhyIsntForced, ProductIsntRefused, OneWhyIsntPaired};
 
 /// The planned path of a scenario that forces a prefix, taken back, is the best of those that begin with the prefix.
 pub fn replanned_is_best()
@@ -18,6 +18,14 @@ pub fn paired_is_best()
 pub fn made_is_accepted()
     ensures accepted { MadeIsAccepted }
     ensures within { MadeIsWithin }
+{}
+
+/// Scenarios that force the prefix of the same names are one search, and so are the product scenarios for a second
+/// start of one name; and where one of them has few live prefixes under its opening, each of them does.
+pub fn made_is_one_search()
+    ensures forced { ForcedByNamesIsOne }
+    ensures paired { PairedByNameIsOne }
+    ensures few { FewLiveStays }
 {}
 
 /// Names are those of one prefix. They are refused for one reason, and aren't where the prefix is flown, or forced.
