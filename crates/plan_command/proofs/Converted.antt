@@ -1,10 +1,10 @@
 -- What is written of a plan that is accepted and kept.
-use Rattle.std.proofs.Common.{ℕ, ◌≡◌, List, [], ◌∷◌, Ok, inl, inr, sym, subst}
-use Rattle.search_model.specs.Problem.{Problem}
+use Rattle.std.proofs.Common.{ℕ, ◌≡◌, List, [], ◌∷◌, Ok, sym, subst}
 use Rattle.bound_tree.specs.declared.plan.Plan.{Plan}
 use Rattle.bound_tree.specs.Gaps.{plan_of}
 use Rattle.bound_tree.specs.Places.{AreInPlace}
-use Rattle.tree_format.specs.PlanText.{IsPrintable, IsPlanText2, IsTextOfPlan}
+use Rattle.tree_format.specs.PlanText.{IsPrintable, IsPlanText2}
+use Rattle.tree_format.proofs.Answered.{printable_read}
 use Rattle.tree_checker.specs.declared.gap_verdict.GapVerdict.TheVariants.{Accepted}
 use Rattle.plan_command.specs.declared.intake.Judgement.{Judgement}
 use Rattle.plan_command.specs.declared.request.Request.TheVariants.{Convert}
@@ -14,18 +14,11 @@ use Rattle.plan_command.specs.Commands.{Answers}
 use Rattle.plan_command.specs.Intakes.{JudgesAs, keeping_plans}
 use Rattle.plan_command.proofs.Printing.{accepted_in_place}
 
--- what has a text can be written
-text_printable : (p : Problem) (plan : Plan) (text : List ℕ) → IsTextOfPlan p plan text → IsPrintable p plan
-text_printable p plan text spelled = elim spelled [
-  | inl one ↦ one.printable
-  | inr two ↦ two.printable
-]
-
 module _ (input : List ℕ) (judged : Judgement) (judges : JudgesAs keeping_plans input (Ok judged)) where
   pub kept_printable : IsPrintable judged.sc judged.plan
   kept_printable =
       let (plan, (rest, begins, behind), on, kept) = judges in
-      subst (IsPrintable judged.sc) (sym kept) (text_printable judged.sc (plan_of plan) behind.text behind.spelled)
+      subst (IsPrintable judged.sc) (sym kept) (printable_read judged.sc (plan_of plan) behind.text behind.spelled)
 
   pub kept_in_place : judged.verdict ≡ Accepted → AreInPlace judged.sc ([] ∷ []) judged.plan.tree
   kept_in_place accepted =

@@ -1,6 +1,6 @@
 -- What is kept of an input that holds a scenario and a plan or gap plan, while it is read in pieces. The task says which of
 -- the two is read, by its family, and whether the records are kept.
-use Rattle.std.specs.Prelude.{◌≡◌, ◌↔◌, ◌+◌, ◌<◌, ◌≤◌, ◌++◌, ◌∷◌, [], ℕ, Bool, List, Option, Some, None, true, false, map, length, take, Result, Ok, Err}
+use Rattle.std.specs.Prelude.{◌≡◌, ◌↔◌, ◌+◌, ◌<◌, ◌≤◌, ◌++◌, ◌∷◌, [], ℕ, Bool, List, Option, Some, None, true, false, map, length, take, Result, Ok, Err, IsTrue}
 use Rattle.search_model.specs.Problem.{Problem}
 use Rattle.scenario_text.specs.declared.kind.TextFault.{TextFault}
 use Rattle.scenario_text.specs.Reading.{front_of}
@@ -13,6 +13,8 @@ use Rattle.bound_tree.specs.Gaps.{shape_of}
 use Rattle.tree_format.specs.declared.kind.PlanFault.{PlanFault}
 use Rattle.tree_format.specs.declared.plan_item.PlanItem.{PlanItem}
 use Rattle.tree_format.specs.declared.plan_item.PlanItem.TheVariants as items
+use Rattle.tree_format.specs.declared.stop.PlanStop.{PlanStop}
+use Rattle.tree_format.specs.declared.stop.PlanStop.TheVariants as halts
 use Rattle.tree_format.specs.Feeding.{HasRead}
 use Rattle.tree_format.specs.declared.plan_line.Family.{Family}
 use Rattle.tree_format.specs.declared.plan_line.Family.TheVariants.{Plans, Gaps}
@@ -125,6 +127,11 @@ pub record HasTakenRest (task : Task) (rest : List ℕ) (judge : Judge) : Type 0
   pub none : judge.begun ≡ false → text ≡ []
   pub some : judge.begun ≡ true → 0 < length text
   pub taken : HasTakenText task text judge
+
+-- memory ran out only where records are kept
+abbrev pub KeepsWhereShort : Bool → PlanStop → Type 0
+KeepsWhereShort keeps (halts.Fault fault) = Unit {0}
+KeepsWhereShort keeps halts.NoMemory = IsTrue keeps
 
 -- the verdict on a plan, as one on a gap plan
 abbrev pub plain_verdict : Verdict → GapVerdict

@@ -1,13 +1,13 @@
 //! The judge of a plan or of a gap plan whose text comes in pieces.
 
-ghost use Rattle.std.specs.Prelude.{◌≡◌, ◌<◌, ◌≤◌, ◌^◌, ◌++◌, ◌∷◌, [], ℕ, List, length, take, IfOk, OnOk};
+ghost use Rattle.std.specs.Prelude.{◌≡◌, ◌<◌, ◌≤◌, ◌^◌, ◌++◌, ◌∷◌, [], ℕ, List, length, take, IsTrue, IfOk, IfErr, OnOk};
 ghost use Rattle.tree_format.specs.Feeding.{IsDecided};
 ghost use Rattle.tree_format.specs.declared.plan_item.PlanItem.{PlanItem as ItemLem};
 ghost use Rattle.tree_format.specs.Gives.{IfFault};
 ghost use Rattle.tree_checker.specs.Progress.{IsUnderWay, IsMadeFor};
 ghost use Rattle.plan_command.specs.Plans.{HasFaultIn};
 ghost use Rattle.plan_command.specs.declared.judge.Task.{Task as TaskLem};
-ghost use Rattle.plan_command.specs.Intakes.{records_kept, kept_by, nodes_in, IsNextItem, HasHeard, HasTakenText, HasTakenRest, TellsRest};
+ghost use Rattle.plan_command.specs.Intakes.{records_kept, kept_by, nodes_in, IsNextItem, HasHeard, HasTakenText, HasTakenRest, KeepsWhereShort, TellsRest};
 
 use crate::hearing::{Head, hear_head, hear_node, verdict_at_end};
 use crate::spaces::{rest_from, skip_spaces};
@@ -43,7 +43,8 @@ pub struct Judge {
 
 // Adds a record to those that are kept, where they are.
 fn keep(records: &mut Vec<TreeNode>, keeps: bool, node: &GapNode) -> Result<(), NoMemory>
-    ensures { OnOk result (records.new.items ≡ records.old.items ++ records_kept keeps (node.now ∷ [])) }
+    ensures kept { OnOk result (records.new.items ≡ records.old.items ++ records_kept keeps (node.now ∷ [])) }
+    ensures free { IfErr result (λ refused. IsTrue keeps) }
 {
     if keeps {
         let record = record_of(node);
@@ -95,6 +96,7 @@ impl Judge {
             → HasHeard self.old.task.family self.old.sc (told ++ item ∷ []) self.new.head self.new.checker) }
         ensures kept { OnOk result (self.new.records.items ≡
             self.old.records.items ++ records_kept self.old.task.keeps (nodes_in (item ∷ []))) }
+        ensures free { IfErr result (λ refused. IsTrue self.old.task.keeps) }
     {
         match item {
             PlanItem::Head(standing, weight, ceiling, _) => {
@@ -120,6 +122,7 @@ impl Judge {
         requires some { 1 ≤ length text.now }
         requires begun { (task : TaskLem) × (before : List ℕ) × HasTakenText task before self.old }
         ensures scenario { self.new.sc ≡ self.old.sc }
+        ensures task { self.new.task ≡ self.old.task }
         ensures begun { self.new.begun ≡ self.old.begun }
         ensures used { IfOk result (λ used. (1 ≤ used) × (used ≤ length text.now)) }
         ensures taken { IfOk result (λ used.
@@ -128,6 +131,7 @@ impl Judge {
         ensures fault { IfFault result (λ fault.
             (task : TaskLem) (before : List ℕ) → HasTakenText task before self.old →
             IsDecided task.family self.old.sc (before ++ text.now) fault) }
+        ensures free { IfErr result (λ stop. KeepsWhereShort self.old.task.keeps stop) }
     {
         self.sc.recall_sound();
         let Fed { used, step } = self.feed.feed(&self.sc, text);
@@ -151,6 +155,7 @@ impl Judge {
         ensures fault { IfFault result (λ fault.
             (task : TaskLem) (before : List ℕ) → HasTakenText task before self.old →
             IsDecided task.family self.old.sc (before ++ text.now) fault) }
+        ensures free { IfErr result (λ stop. KeepsWhereShort self.old.task.keeps stop) }
     {
         let mut done = 0;
         while done < text.len() {
@@ -166,7 +171,7 @@ impl Judge {
     ///
     /// # Errors
     ///
-    /// The first fault of the text, which no more bytes mend; or `NoMemory`.
+    /// The first fault of the text, which no more bytes mend; or, where records are kept, `NoMemory`.
     pub fn take(&mut self, piece: &[u8]) -> Result<(), PlanStop>
         requires { (task : TaskLem) × (before : List ℕ) × HasTakenRest task before self.old }
         ensures scenario { self.new.sc ≡ self.old.sc }
@@ -175,6 +180,7 @@ impl Judge {
         ensures fault { IfFault result (λ fault. (task : TaskLem) (before more : List ℕ)
             → HasTakenRest task before self.old
             → HasFaultIn task.family self.old.sc (before ++ piece.now ++ more) fault) }
+        ensures free { IfErr result (λ stop. KeepsWhereShort self.old.task.keeps stop) }
     {
         if self.begun {
             return self.take_text(piece);

@@ -29,7 +29,7 @@ returns-in_ok-keep-in-Node-clause-heard c = λ told next heard.
 pub returns-in_ok-keep-in-Node-clause-kept : goal.returns-in_ok-keep-in-Node-clause-kept
 returns-in_ok-keep-in-Node-clause-kept c =
     let self = c.args.self.now in
-    subst (λ (item : PlanItem). c.keep.new.records.items ≡ self.records.items ++ records_kept self.task.keeps (nodes_in (item ∷ []))) (sym c.in-Node.is) c.in_ok-keep-in-Node.ensures
+    subst (λ (item : PlanItem). c.keep.new.records.items ≡ self.records.items ++ records_kept self.task.keeps (nodes_in (item ∷ []))) (sym c.in-Node.is) c.in_ok-keep-in-Node.ensures.kept
 
 pub returns-in-End-clause-heard : goal.returns-in-End-clause-heard
 returns-in-End-clause-heard c = λ told next heard.

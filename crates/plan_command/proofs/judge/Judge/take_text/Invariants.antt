@@ -7,6 +7,7 @@ abbrev pub invariant-loop-done : goal.invariant-loop-done
 invariant-loop-done l = record {
   within : l.done ≤ length l.text;
   scenario : l.self.sc ≡ l.fn.self.sc;
+  task : l.self.task ≡ l.fn.self.task;
   begun : l.self.begun ≡ l.fn.self.begun;
   taken : (task : Task) (before : List ℕ) → HasTakenText task before l.fn.self → HasTakenText task (before ++ take l.done l.text) l.self;
 }
