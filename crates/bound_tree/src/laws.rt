@@ -97,8 +97,8 @@ pub fn edge_is_between()
     ensures within { EdgeIsWithinMean }
 {}
 
-/// Scenarios that are the same search have the same values, bounds, opening and best path, and a plan that is accepted for
-/// one is accepted for the other.
+/// Scenarios that are the same search have the same values, bounds, opening and best path, and a plan that is accepted
+/// for one is accepted for the other.
 pub fn same_search_same_plans()
     ensures either_way { SameEitherWay }
     ensures alike { SameIsAlike }
