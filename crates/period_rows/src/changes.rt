@@ -1,6 +1,6 @@
 //! Rows of single periods, in place of the rows that hold else.
 
-ghost use Rattle.std.specs.Prelude.{◌≡◌, ◌↔◌, ℕ, List, [], ◌∷◌, ◌++◌, map, All, Contains, IsTrue, IsOk, IfOk, IfErr, IfSome, IfNone, OnOk, MatchBool};
+ghost use Rattle.std.specs.Prelude.{◌≡◌, ◌↔◌, List, [], ◌∷◌, ◌++◌, map, Contains, IsTrue, IsOk, IfOk, IfErr, IfSome, IfNone, OnOk, MatchBool};
 ghost use Rattle.std.specs.List.{AllZip};
 ghost use Rattle.std.specs.List.Sorted.{IsPermutation};
 ghost use Rattle.period_rows.specs.Rows.{IsInOrder};

@@ -15,8 +15,8 @@ ghost use Rattle.scenario_text.specs.Grammar.{row_at, fields_at};
 use crate::draft::{Draft, Stage};
 use crate::kind::TextKind;
 use crate::line::{Line, line_due};
-use crate::rows_in_period::{take_drift_in, take_look_in};
 use crate::rows::{take_drift, take_look, take_moves, take_overlook};
+use crate::rows_in_period::{take_drift_in, take_look_in};
 use crate::shorthands::{take_grid, take_rate, take_spread};
 use crate::stop::LineStop;
 use crate::taking::{
