@@ -19,7 +19,7 @@ use Rattle.duo_search.proofs.Numbers.{first_within, second_within, first_is, sec
 
 module _ (P : ℕ) (seconds : List ℕ) where
   -- there are as many pairs as there are of the first, times as there are of the second
-  length-pairs : (firsts : List ℕ) → length (all_pairs P firsts seconds) ≡ length firsts * length seconds
+  pub length-pairs : (firsts : List ℕ) → length (all_pairs P firsts seconds) ≡ length firsts * length seconds
   length-pairs [] = omega arith
   length-pairs (i ∷ firsts) = omega (arith, length-append (map (both_at P i) seconds) (all_pairs P firsts seconds), length-map seconds (both_at P i), length-pairs firsts)
 

@@ -1,8 +1,8 @@
 -- A prefix that is forced, and a product that is made, isn't refused; and there is one reason where one is.
-use Rattle.std.proofs.Common.{ℕ, ◌≡◌, ◌+◌, ◌*◌, ◌<◌, ◌≤◌, List, [], ◌∷◌, ◌++◌, map, length, take, ◌⊎◌, Some, inl, inr, refl, sym, ap, ◌∙◌, subst, arith, Contains, length-append}
+use Rattle.std.proofs.Common.{ℕ, ◌≡◌, ◌+◌, ◌*◌, ◌<◌, ◌≤◌, List, [], ◌++◌, length, take, ◌⊎◌, Some, inl, inr, refl, sym, ap, ◌∙◌, subst, arith, Contains, length-append}
 use Rattle.std.proofs.Math.Nat.{mul-le-mul}
 use Rattle.std.proofs.Math.Seq.{take-append-add}
-use Rattle.std.proofs.lemmas.List.{length-map, get_or-append-add}
+use Rattle.std.proofs.lemmas.List.{get_or-append-add}
 use Rattle.std.proofs.lemmas.List.Elements.{Contains-get_or, Contains-append_left, All-contains}
 use Rattle.std.proofs.lemmas.List.FromFn.{get_or-map-range_with_len}
 use Rattle.list_laws.proofs.Members.{Contains-map_cases}
@@ -15,9 +15,10 @@ use Rattle.tree_format.specs.Reading.{all_of, position_named}
 use Rattle.tree_format.proofs.Said.{all_of-map, position_named-name}
 use Rattle.residual_plan.specs.Forced.{forced_count, forced_name, forced_names, IsForced, IsNameTaken}
 use Rattle.residual_plan.proofs.NewNames.{count_names}
-use Rattle.duo_search.specs.Product.{both_at, first_at, second_at, all_pairs, product_moves, IsProduct}
+use Rattle.duo_search.specs.Product.{both_at, first_at, second_at, product_moves, IsProduct}
 use Rattle.duo_search.specs.Refusals.{HasManyMoves, FitsTwo}
 use Rattle.duo_search.proofs.Numbers.{first_is, second_is, both_within}
+use Rattle.duo_search.proofs.PairMoves.{length-pairs}
 use Rattle.plan_command.specs.declared.flown.FlownWhy.{FlownWhy}
 use Rattle.plan_command.specs.declared.flown.FlownWhy.TheVariants.{UnknownName, NotLegal, TooManyPositions, NameTaken}
 use Rattle.plan_command.specs.declared.pairing.DuoWhy.{DuoWhy}
@@ -112,18 +113,13 @@ one_why_isnt_forced p names NameTaken NotLegal sound (flown, is, taken) b = absu
 one_why_isnt_forced p names NameTaken TooManyPositions sound (flown, is, taken) (other, also, many) = absurd (many_or_few p names other flown sound also is many taken)
 one_why_isnt_forced p names NameTaken NameTaken sound a b = refl
 
--- there are as many pairs as there are of the first, times as there are of the second
-count_pairs : (P : ℕ) (seconds firsts : List ℕ) → length (all_pairs P firsts seconds) ≡ length firsts * length seconds
-count_pairs P seconds [] = omega arith
-count_pairs P seconds (i ∷ firsts) = omega (arith, length-append (map (both_at P i) seconds) (all_pairs P firsts seconds), length-map seconds (both_at P i), count_pairs P seconds firsts)
-
 -- both together have as many moves as one has, times as the other has
 count_moves : (p : Problem) (i j : ℕ) → j < p.positions → length (product_moves p (both_at p.positions i j)) ≡ length (moves_from p.moves i) * length (moves_from p.moves j)
 unfolding product_moves
 count_moves p i j below =
     let n = both_at p.positions i j in
     let moves : ℕ → ℕ = λ a. length (moves_from p.moves a) in
-    count_pairs p.positions (moves_from p.moves (second_at p.positions n)) (moves_from p.moves (first_at p.positions n))
+    length-pairs p.positions (moves_from p.moves (second_at p.positions n)) (moves_from p.moves (first_at p.positions n))
     ∙ ap (λ a. moves a * moves (second_at p.positions n)) (first_is p.positions i j below) ∙ ap (λ b. moves i * moves b) (second_is p.positions i j below)
 
 module _ (p q : Problem) (second : ℕ) (made : IsProblem q) (product : IsProduct p second q) where
