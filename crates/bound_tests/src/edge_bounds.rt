@@ -74,13 +74,7 @@ end
 ";
 
 // Whether a prefix may be bounded, and has this bound by the beliefs that are kept along it and by one from the start.
-fn has_bound(
-    sc: &Scenario,
-    edge: &mut Edge,
-    levels: &mut Levels,
-    cells: &[u8],
-    bound: u128,
-) -> bool
+fn has_bound(sc: &Scenario, edge: &mut Edge, levels: &mut Levels, cells: &[u8], bound: u128) -> bool
     requires edge { IsMadeFor sc.now edge.old }
     requires levels { AreLevelsOf sc.now levels.old }
     ensures edge { IsMadeFor sc.now edge.new }

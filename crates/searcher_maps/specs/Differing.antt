@@ -1,7 +1,6 @@
 -- The changes that make a table out of the rows of period 1: one for each row of a later period that differs from them.
 -- The owner of a row is a position for looks, and a cell for a drift.
-use Rattle.std.specs.Prelude.{ℕ, ◌-◌, ◌==◌, ◌&&◌, if◌then◌else◌, Bool, List, [], ◌∷◌}
-use Rattle.std.specs.Cmp.Lexicographic.{pointwise}
+use Rattle.std.specs.Prelude.{ℕ, ◌-◌, if◌then◌else◌, Bool, List, [], ◌∷◌}
 use Rattle.std.specs.List.{flat_map, range_with_len}
 use Rattle.period_rows.specs.declared.part.CellPart.{CellPart}
 use Rattle.period_rows.specs.Changes.{RowChange}
