@@ -35,14 +35,15 @@ GridInRows = (s t : State) (rows cols : ℕ) (start first : List ℕ) → IsReac
 abbrev pub GridReadsOn : Type 0
 GridReadsOn = (s t : State) (line : List ℕ) → s.stage ≡ due.Rows → s.gridded ≡ false → line_at s line ≡ Ok t → line_at (record s { gridded = true }) line ≡ Ok (record t { gridded = true })
 
--- `rate PART` says what an `overlook` line for each cell says
+-- `rate PART` says what an `overlook` line for each cell says, and other rows may follow
 abbrev pub RateInRows : Type 0
 RateInRows = (s t : State) (part : ℕ) → IsReached s → s.stage ≡ due.Rows → part ≤ 1000000 →
     line_at s (line_text (codes "rate" ∷ decimal part ∷ [])) ≡ Ok t →
-    AreTaken scenario_lines s (for_each (length s.names) (λ c. overlook_of s.names c part)) t
+    AreTaken scenario_lines s (for_each (length s.names) (λ c. overlook_of s.names c part)) t × (t.stage ≡ due.Rows)
 
--- `spread PART` says what a `drift` line for each cell says: the part to each of its moves but the stay, and the rest to itself
+-- `spread PART` says what a `drift` line for each cell says: the part to each of its moves but the stay, and the rest to itself;
+-- and other rows may follow
 abbrev pub SpreadInRows : Type 0
 SpreadInRows = (s t : State) (part : ℕ) → IsReached s → s.stage ≡ due.Rows → part ≤ 1000000 →
     line_at s (line_text (codes "spread" ∷ decimal part ∷ [])) ≡ Ok t →
-    AreTaken scenario_lines s (for_each (length s.names) (λ c. drift_of s.names c (spread_row s.drift part c (moves_from s.moves c)))) t
+    AreTaken scenario_lines s (for_each (length s.names) (λ c. drift_of s.names c (spread_row s.drift part c (moves_from s.moves c)))) t × (t.stage ≡ due.Rows)
