@@ -128,10 +128,11 @@ rate_in_rows s t part came at few e =
       taken = begins (after k) (codes "overlook") _ Overlook (row_begins (after k) (codes "overlook") Overlook one at refl)
           ∙ overlook-taken (after k) (name_in s.names k) k part found few le (filled-open (λ c. Some part) None n k lt)
           ∙ ap (λ (xs : List (Option ℕ)). Ok (record s { overlook = xs })) (filled-next (λ c. Some part) None n k lt);
-    } in
-    (subst (λ (u : State). AreTaken scenario_lines u (for_each n row) t) (sym first)
-    (subst (AreTaken scenario_lines (after 0) (for_each n row)) last (taken_range n 0 n row after (omega arith) takes (λ k. unended_rows s.stage at))),
-    ap (λ (u : State). u.stage) (sym last) ∙ at)
+    } in (
+      subst (λ (u : State). AreTaken scenario_lines u (for_each n row) t) (sym first)
+          (subst (AreTaken scenario_lines (after 0) (for_each n row)) last (taken_range n 0 n row after (omega arith) takes (λ k. unended_rows s.stage at))),
+      ap (λ (u : State). u.stage) (sym last) ∙ at,
+    )
 
 -- `spread PART`
 
@@ -218,7 +219,8 @@ spread_in_rows s t part came at few e =
       taken = begins (after k) (codes "drift") _ Drift (row_begins (after k) (codes "drift") Drift one at refl)
           ∙ drift_said (after k) (name_in s.names k) k (entry_fields s.names (of k)) (of k) found even (AreSaid-named s.names n (named_at s.names h.differ) 1 (of k) are.within small are.positive differ) are.total (filled-open of [] n k lt)
           ∙ ap (λ (xs : List (List CellPart)). Ok (record s { parts = xs })) (filled-next of [] n k lt);
-    } in
-    (subst (λ (u : State). AreTaken scenario_lines u (for_each n row) t) (sym first)
-    (subst (AreTaken scenario_lines (after 0) (for_each n row)) last (taken_range n 0 n row after (omega arith) takes (λ k. unended_rows s.stage at))),
-    ap (λ (u : State). u.stage) (sym last) ∙ at)
+    } in (
+      subst (λ (u : State). AreTaken scenario_lines u (for_each n row) t) (sym first)
+          (subst (AreTaken scenario_lines (after 0) (for_each n row)) last (taken_range n 0 n row after (omega arith) takes (λ k. unended_rows s.stage at))),
+      ap (λ (u : State). u.stage) (sym last) ∙ at,
+    )
