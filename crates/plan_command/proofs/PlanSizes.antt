@@ -6,7 +6,7 @@ use Rattle.std.proofs.lemmas.List.{length-map}
 use Rattle.std.proofs.lemmas.List.Elements.{All-nil, All-cons, All-head, All-tail, All-map, All-weaker, All-get_or}
 use Rattle.exact_parts.proofs.Written.{digits_fit}
 use Rattle.text_rows.specs.Rows.{text_of, spaced}
-use Rattle.text_rows.proofs.RowLemmas.{text_of-append}
+use Rattle.text_rows.proofs.RowLemmas.{text_of-append, spaced_short}
 use Rattle.search_model.specs.Names.{IsName}
 use Rattle.search_model.specs.Problem.{Problem, IsProblem, position_name}
 use Rattle.search_model.specs.declared.standing.Standing.{Standing}
@@ -24,7 +24,7 @@ use Rattle.tree_format.specs.Dialects.{version_row}
 use Rattle.tree_format.specs.PlanText.{numbers, node_fields, chance_row, ceiling_row, count_row, head_rows, ArePositions, IsPrintableKind, IsPrintableRecord, IsNarrowKind, IsNarrowNode, IsPlanText2, IsGapText}
 use Rattle.tree_format.specs.declared.dialects.TheConstants.{MOST_GAP_NODES}
 use Rattle.tree_format.proofs.LineTexts.{gap_parts}
-use Rattle.plan_command.proofs.TextSizes.{IsShortRow, IsShortLine, fields_fit, line_size, rows_fit}
+use Rattle.plan_command.proofs.TextSizes.{IsShortRow, IsShortLine, line_size, rows_fit}
 use Rattle.plan_command.proofs.Gapped.{closed_again}
 
 -- a row before the records: at most 33 words, names, or numbers of at most 39 digits
@@ -34,14 +34,14 @@ IsHeadRow row = IsShortRow 33 39 row
 -- the line of a letter and a number
 numbered_line : (f : List ℕ) (n : ℕ) → length f ≤ 1 → n < 2 ^ 128 → IsShortLine 42 (f ∷ decimal n ∷ [])
 numbered_line f n letter narrow =
-    let number = fields_fit 39 (decimal n ∷ []) (All-cons (λ g. length g ≤ 39) (decimal n) [] (digits_fit n narrow) (All-nil (λ g. length g ≤ 39))) in
+    let number = spaced_short 39 (decimal n ∷ []) (All-cons (λ g. length g ≤ 39) (decimal n) [] (digits_fit n narrow) (All-nil (λ g. length g ≤ 39))) in
     omega (arith, line_size f (decimal n ∷ []), letter, number)
 
 -- that of a letter, a number, and at most 32 numbers below 200
 tangent_line : (n : ℕ) (q : List ℕ) → n < 2 ^ 128 → All (λ a. a < 200) q → length q ≤ 32 → IsShortLine 170 (codes "T" ∷ decimal n ∷ numbers q)
 tangent_line n q narrow low short =
     let each = All-map (λ f. length f ≤ 3) decimal q (All-weaker (λ a. a < 200) (λ a. length (decimal a) ≤ 3) (λ a lt. length-decimal-le_wide 3 a (omega arith) (omega (arith, lt)) (omega (arith, lt))) q low) in
-    let places = fields_fit 3 (numbers q) each in
+    let places = spaced_short 3 (numbers q) each in
     let number = digits_fit n narrow in
     omega (arith, line_size (codes "T") (decimal n ∷ numbers q), length-append (decimal n) (spaced (numbers q)), number, places, length-map {A = ℕ} {B = List ℕ}, short)
 
