@@ -13,4 +13,5 @@ pub mod TrailSteps
 pub mod OnwardRows
 pub mod LevelSteps
 pub mod OneMore
+pub mod OwnLooks
 pub mod TakenSteps

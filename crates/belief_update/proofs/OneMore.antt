@@ -13,7 +13,7 @@ use Rattle.belief_update.proofs.MassSteps.{mass_of-look}
 use Rattle.belief_update.proofs.BeliefSteps.{drift_mass_at}
 
 -- a mass, of which a look with factor f leaves a part and finds the rest
-left_and_found : (g f m : ℕ) → f ≤ g → m * f + m * (g - f) ≡ m * g
+pub left_and_found : (g f m : ℕ) → f ≤ g → m * f + m * (g - f) ≡ m * g
 left_and_found g f m within =
     let both : f + (g - f) ≡ g = omega (arith, within) in
     let whole : m * (f + (g - f)) ≡ m * g = ap (λ (s : ℕ). m * s) both in

@@ -18,6 +18,9 @@ IsAfter p q b = IsBelief p (looks_to (max 1 (length q)) q) b
 abbrev pub IsAhead : Problem → List ℕ → BeliefState → Type 0
 IsAhead p q b = IsBelief p (looks_to (length q + 1) q) b
 
+abbrev pub IsAheadOfSome : Problem → BeliefState → Type 0
+IsAheadOfSome p b = (q : List ℕ) × IsAhead p q b
+
 -- what contracts see of a trail: its prefix, and after each number of its looks the belief after them and the one ahead
 pub record TrailState : Type 0 where
   pub prefix : List ℕ

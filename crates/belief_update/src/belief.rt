@@ -3,7 +3,8 @@
 ghost use Rattle.std.specs.Prelude.{◌≡◌, ◌<◌, ◌≤◌, ◌+◌, ◌++◌, ◌∷◌, [], ℕ, List, Option, Some, None, length, slice_index, sum, IfOk, IsTrue};
 ghost use Rattle.search_model.specs.Problem.{IsProblem, first_of};
 ghost use Rattle.belief_update.specs.Belief.{IsBelief, IsReached, IsUnlooked, awaiting};
-ghost use Rattle.belief_update.specs.Taken.{IsTaken, IsLater, and_then};
+ghost use Rattle.belief_update.specs.Masses.{looks_to};
+ghost use Rattle.belief_update.specs.Taken.{IsLater, IsLaterSome};
 
 use crate::count::Steps;
 use crate::steps;
@@ -174,13 +175,13 @@ impl Belief {
         steps.tick();
     }
 
-    /// Becomes the belief with one look more, in a period after that look: by the belief without it, and by what the look
-    /// took, drifted on to this period.
+    /// Becomes the belief with one look more, in a period after that look, by the belief without it and by what the look
+    /// took.
     pub(crate) fn leave_from(&mut self, sc: &Scenario, before: &Belief, taken: &Taken)
         requires cells { length self.old.masses ≡ sc.now.cells }
-        requires later { IsLater sc.now before.now taken.now }
-        ensures { (looks : List (Option ℕ)) (a n : ℕ) → 1 ≤ n → IsBelief sc.now (and_then looks None n) before.now →
-            IsTaken sc.now looks a n taken.now → IsBelief sc.now (and_then looks (Some a) n) self.new }
+        requires later { IsLaterSome sc.now before.now taken.now }
+        ensures { (q r : List ℕ) → IsLater sc.now q r before.now taken.now →
+            IsBelief sc.now (looks_to taken.now.period r) self.new }
     {
         sc.recall_sound();
         let whole = sc.sweep().denominator();

@@ -12,11 +12,12 @@ mod taken;
 mod trail;
 mod values;
 
-pub use along::{look_along, look_on};
+pub use along::{look_along, look_on, take_along, take_on};
 pub use belief::Belief;
 pub use count::Steps;
 pub use laws::{masses_follow, missed_by_masses, one_look_more, rewards_by_masses, worked_masses};
 pub use levels::Levels;
 pub use onward::Onward;
+pub use taken::Taken;
 pub use trail::Trail;
 pub use values::{follow, later_parts, prefix_value, value_by};

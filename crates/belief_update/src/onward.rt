@@ -105,20 +105,6 @@ impl Onward {
         fill_rows(&mut self.rows, &mut self.belief, sc, prefix);
     }
 
-    /// Goes to a legal prefix that is shorter than the horizon, by a belief after it, in the period of its last look or in
-    /// the next one.
-    pub fn go_by(&mut self, sc: &Scenario, after: &Belief, prefix: &Path)
-        requires made { IsMadeFor sc.now self.old }
-        requires short { length prefix.now < sc.now.horizon }
-        requires after { IsPast sc.now prefix.now after.now }
-        requires near { after.now.period ≤ length prefix.now + 1 }
-        ensures made { IsMadeFor sc.now self.new }
-        ensures onward { IsOnward sc.now prefix.now self.new }
-    {
-        self.belief.copy_from(after);
-        self.go_on(sc, prefix);
-    }
-
     /// Goes to a legal prefix that is shorter than the horizon, along it from the start.
     pub fn go_to(&mut self, sc: &Scenario, prefix: &Path)
         requires made { IsMadeFor sc.now self.old }

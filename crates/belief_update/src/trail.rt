@@ -218,13 +218,4 @@ impl Trail {
     {
         &self.rows[k]
     }
-
-    /// The belief ahead of the look that comes after the first `k` of the prefix, where there is a period for it.
-    pub fn ahead(&self, k: usize) -> &Belief
-        requires prefix { k ≤ length self.now.prefix }
-        requires period { k < length self.now.ahead }
-        ensures { (p : Problem) → IsTrailOf p self.now → IsAhead p (take k self.now.prefix) result.now }
-    {
-        &self.ahead[k]
-    }
 }

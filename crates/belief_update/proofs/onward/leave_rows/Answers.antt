@@ -1,71 +1,95 @@
-use Rattle.std.proofs.Common.{◌≡◌, ◌<◌, ◌≤◌, ◌+◌, ◌-◌, ◌++◌, ◌∷◌, [], ℕ, List, Option, Some, None, map, length, arith, subst, length-append}
+use Rattle.std.proofs.Common.{◌≡◌, ◌<◌, ◌+◌, ◌-◌, ◌++◌, ◌∷◌, [], ℕ, List, length, subst, ◌∙◌, arith, length-append}
 use Rattle.std.proofs.lemmas.List.Elements.{All-set}
 use Rattle.search_model.specs.Problem.{Problem}
 use Rattle.belief_update.specs.Masses.{looks_to}
 use Rattle.belief_update.specs.Belief.{BeliefState, IsBelief}
-use Rattle.belief_update.specs.Taken.{IsTaken, and_then}
+use Rattle.belief_update.specs.Taken.{TakenState, IsTaken, IsLater}
 use Rattle.belief_update.specs.Onward.{IsOnward, OnwardState}
-use Rattle.belief_update.specs.Trails.{row_at}
+use Rattle.belief_update.specs.Trails.{row_at, IsAhead}
+use Rattle.belief_update.proofs.Looks.{length-looks_to}
 use Rattle.belief_update.proofs.OnwardRows.{row_more, belief_at}
-use Rattle.belief_update.proofs.TakenSteps.{looks_without, looks_with}
 use Rattle.belief_update.proofs.onward.leave_rows.Goals as goal
 
--- the belief of a later period without the look
-without : (p : Problem) (q : List ℕ) (o : OnwardState) (t n : ℕ) (b : BeliefState) → IsOnward p q o → t ≡ length q + 1 + n → t ≤ p.horizon → b ≡ row_at o.rows (t - 1) → IsBelief p (and_then (map Some q) None n) b
-without p q o t n b on e last same = subst (λ (looks : List (Option ℕ)). IsBelief p looks b) (looks_without q t n e) (belief_at p q o t b on (omega (arith, e)) last same)
+-- the belief ahead of the look
+ahead : (p : Problem) (q : List ℕ) (k : ℕ) (o : OnwardState) (b : BeliefState) → length q ≡ k → k + 1 < p.horizon → IsOnward p q o → b ≡ row_at o.rows (k + 1 - 1) → IsAhead p q b
+ahead p q k o b size short on same =
+    let next : k + 1 ≡ length q + 1 = omega (arith, size) in
+    subst (λ (t : ℕ). IsBelief p (looks_to t q) b) next (belief_at p q o (k + 1) b on (omega (arith, size)) (omega (arith, short)) same)
+
+-- it is in the look's period
+period_of : (p : Problem) (q : List ℕ) (k : ℕ) (b : BeliefState) → length q ≡ k → IsAhead p q b → b.period ≡ k + 1
+period_of p q k b size ahead = omega (arith, length-looks_to (length q + 1) q (omega arith), ahead.periods, size)
+
+-- the belief of a later period, and what the look took
+beside : (p : Problem) (q : List ℕ) (a t : ℕ) (o : OnwardState) (b : BeliefState) (s : TakenState) → IsOnward p q o → length q < t → t < p.horizon → s.period ≡ t + 1 → b ≡ row_at o.rows (t + 1 - 1) → IsTaken p q (q ++ a ∷ []) s → IsLater p q (q ++ a ∷ []) b s
+beside p q a t o b s on later short period same taken = record {
+  one = length-append q (a ∷ []);
+  later = omega (arith, length-append q (a ∷ []), later, period);
+  beside = record {
+    belief = rw period (belief_at p q o (t + 1) b on (omega (arith, later)) (omega (arith, short)) same);
+    taken = taken;
+  };
+}
+
+pub start-requires-clause-ahead : goal.start-requires-clause-ahead
+start-requires-clause-ahead c =
+    let (q, size, on) = c.requires.before in
+    (q, ahead c.args.sc.now q c.args.k c.args.before.now c.at.result.now size c.requires.short on c.at.ensures)
 
 pub loop-t-init : goal.loop-t-init
 loop-t-init c =
     let p = c.args.sc.now in
     let k = c.args.k in
-    let zero : k + 1 - (k + 1) ≡ 0 = omega arith in
-    let first : (q : List ℕ) → length q ≡ k → IsOnward p q c.args.before.now → IsTaken p (map Some q) c.args.a 0 c.start.new.self = λ q size on.
-    c.start.ensures (map Some q) (without p q c.args.before.now (k + 1) 0 c.at.result.now on (omega (arith, size)) (omega (arith, c.requires.short)) c.at.ensures) in
     let (some, some_size, some_on) = c.requires.before in
+    let first = ahead p some k c.args.before.now c.at.result.now some_size c.requires.short some_on c.at.ensures in
     record {
       cells = c.requires.cells;
-      room = (first some some_size some_on).cells;
-      taken = λ q size on. rw zero (first q size on);
+      period = c.start.ensures.period ∙ period_of p some k c.at.result.now some_size first;
+      taken = λ q size on. c.start.ensures.taken q (ahead p q k c.args.before.now c.at.result.now size c.requires.short on c.at.ensures);
       rows = λ q size on t later last. absurd (omega (arith, size, later, last, length-append q (c.args.a ∷ [])));
     }
+
+pub drift-requires-clause-taken : goal.drift-requires-clause-taken
+drift-requires-clause-taken c =
+    let (q, size, on) = c.requires.before in
+    (q, q ++ c.args.a ∷ [], c.loop-t.invariant.taken q size on)
 
 pub leave_from-requires-clause-later : goal.leave_from-requires-clause-later
 leave_from-requires-clause-later c =
     let p = c.args.sc.now in
-    let n = c.loop-t.t - (c.args.k + 1) in
+    let a = c.args.a in
+    let t = c.loop-t.t in
     let (q, size, on) = c.requires.before in
-    let last : c.loop-t.t + 1 ≤ p.horizon = omega (arith, c.loop-t-test.true, c.loop-t.auto.rows, c.requires.size) in (
-      map Some q,
-      c.args.a,
-      n + 1,
-      omega arith,
-      without p q c.args.before.now (c.loop-t.t + 1) (n + 1) c.at-in-loop-t.result.now on (omega (arith, size, c.loop-t.auto.t)) last c.at-in-loop-t.ensures,
-      c.drift.ensures (map Some q) c.args.a n (c.loop-t.invariant.taken q size on),
-    )
+    let short : t < p.horizon = omega (arith, c.loop-t-test.true, c.loop-t.auto.rows, c.requires.size) in
+    let period : c.drift.new.self.period ≡ t + 1 = omega (arith, c.drift.ensures.period, c.loop-t.invariant.period) in
+    (q, q ++ a ∷ [], beside p q a t c.args.before.now c.at-in-loop-t.result.now c.drift.new.self on (omega (arith, size, c.loop-t.auto.t)) short period c.at-in-loop-t.ensures (c.drift.ensures.taken q (q ++ a ∷ []) (c.loop-t.invariant.taken q size on)))
 
 pub loop-t-preserved : goal.loop-t-preserved
 loop-t-preserved c =
     let p = c.args.sc.now in
     let a = c.args.a in
     let t = c.loop-t.t in
-    let n = t - (c.args.k + 1) in
-    let more : t + 1 - (c.args.k + 1) ≡ n + 1 = omega (arith, c.loop-t.auto.t) in
-    let last : t + 1 ≤ p.horizon = omega (arith, c.loop-t-test.true, c.loop-t.auto.rows, c.requires.size) in
+    let short : t < p.horizon = omega (arith, c.loop-t-test.true, c.loop-t.auto.rows, c.requires.size) in
     let here : t < length c.loop-t.rows = omega (arith, c.loop-t-test.true, c.loop-t.auto.rows) in
-    let taken : (q : List ℕ) → length q ≡ c.args.k → IsOnward p q c.args.before.now → IsTaken p (map Some q) a (n + 1) c.drift.new.self = λ q size on.
-    c.drift.ensures (map Some q) a n (c.loop-t.invariant.taken q size on) in
+    let period : c.drift.new.self.period ≡ t + 1 = omega (arith, c.drift.ensures.period, c.loop-t.invariant.period) in
+    let taken : (q : List ℕ) → length q ≡ c.args.k → IsOnward p q c.args.before.now → IsTaken p q (q ++ a ∷ []) c.drift.new.self = λ q size on.
+    c.drift.ensures.taken q (q ++ a ∷ []) (c.loop-t.invariant.taken q size on) in
     let left : (q : List ℕ) → length q ≡ c.args.k → IsOnward p q c.args.before.now → IsBelief p (looks_to (t + 1) (q ++ a ∷ [])) c.leave_from.new.self = λ q size on.
-    let e : t + 1 ≡ length q + 1 + (n + 1) = omega (arith, size, c.loop-t.auto.t) in
-    let before = without p q c.args.before.now (t + 1) (n + 1) c.at-in-loop-t.result.now on e last c.at-in-loop-t.ensures in
-    rw (looks_with q a (t + 1) (n + 1) e) (c.leave_from.ensures (map Some q) a (n + 1) (omega arith) before (taken q size on)) in
+    let later = beside p q a t c.args.before.now c.at-in-loop-t.result.now c.drift.new.self on (omega (arith, size, c.loop-t.auto.t)) short period c.at-in-loop-t.ensures (taken q size on) in
+    rw period at (c.leave_from.ensures q (q ++ a ∷ []) later) in
     let HasCells : BeliefState → Type 0 = λ b. length b.masses ≡ p.cells in
     let (some, some_size, some_on) = c.requires.before in
     record {
       cells = All-set HasCells c.loop-t.rows t c.leave_from.new.self (left some some_size some_on).cells c.loop-t.invariant.cells;
-      room = (taken some some_size some_on).cells;
-      taken = λ q size on. rw more (taken q size on);
+      period = period;
+      taken = taken;
       rows = λ q size on. row_more p (q ++ a ∷ []) t c.loop-t.rows c.leave_from.new.self here (c.loop-t.invariant.rows q size on) (left q size on);
     }
 
 pub returns-clause-rows : goal.returns-clause-rows
 returns-clause-rows c q size on u later last = c.loop-t.invariant.rows q size on u later (omega (arith, last, c.loop-t-test.false, c.loop-t.auto.rows, c.requires.size))
+
+pub returns-clause-room : goal.returns-clause-room
+returns-clause-room c =
+    let (q, size, on) = c.requires.before in
+    (c.loop-t.invariant.taken q size on).cells

@@ -1,4 +1,4 @@
-use Rattle.std.proofs.Common.{◌≡◌, ◌+◌, ◌-◌, ◌++◌, ◌∷◌, [], ℕ, List, Some, map, length}
+use Rattle.std.proofs.Common.{◌≡◌, ◌++◌, ◌∷◌, [], ℕ, List, length}
 use Rattle.belief_update.specs.Trails.{HaveAllCells}
 use Rattle.belief_update.specs.Taken.{IsTaken}
 use Rattle.belief_update.specs.Onward.{AreOnwardTo, IsOnward}
@@ -8,7 +8,7 @@ use Rattle.belief_update.proofs.onward.leave_rows.Given as goal
 abbrev pub invariant-loop-t : goal.invariant-loop-t
 invariant-loop-t l = record {
   cells : HaveAllCells l.sc l.rows;
-  room : length l.taken.masses ≡ l.sc.cells;
-  taken : (q : List ℕ) → length q ≡ l.k → IsOnward l.sc q l.before → IsTaken l.sc (map Some q) l.a (l.t - (l.k + 1)) l.taken;
+  period : l.taken.period ≡ l.t;
+  taken : (q : List ℕ) → length q ≡ l.k → IsOnward l.sc q l.before → IsTaken l.sc q (q ++ l.a ∷ []) l.taken;
   rows : (q : List ℕ) → length q ≡ l.k → IsOnward l.sc q l.before → AreOnwardTo l.sc (q ++ l.a ∷ []) l.t l.rows;
 }
