@@ -1,8 +1,7 @@
 -- What one more look finds of what a reference misses, by the masses of the cells that it covers.
-use Rattle.std.proofs.Common.{ℕ, ◌*◌, ◌-◌, ◌<◌, ◌≤◌, ◌≡◌, List, length, slice_index, take, ap, ◌∙◌, arith, nat_lt, filter, sum_by}
+use Rattle.std.proofs.Common.{ℕ, ◌*◌, ◌-◌, ◌<◌, ◌≤◌, ◌≡◌, List, length, ap, ◌∙◌, arith, nat_lt, filter, sum_by}
 use Rattle.std.specs.List.{range_with_len}
 use Rattle.std.proofs.lemmas.Nat.{mul-le}
-use Rattle.std.proofs.lemmas.List.{length-take-le}
 use Rattle.sweep_table.specs.LookParts.{factor_of}
 use Rattle.search_model.specs.Problem.{Problem, IsProblem}
 use Rattle.search_model.specs.Legal.{IsPath}
@@ -10,21 +9,10 @@ use Rattle.search_model.specs.Tracks.{whole_weight}
 use Rattle.search_model.specs.Bounds.{gain_of}
 use Rattle.list_laws.proofs.Sums.{sum_by-range-part}
 use Rattle.search_model.proofs.Totals.{nothing_is_cut_off}
-use Rattle.belief_update.specs.Belief.{BeliefState}
-use Rattle.backward_mass.specs.Masses.{forward_of}
 use Rattle.backward_mass.proofs.Meeting.{missed_in_each_period, gain_by_cell}
-use Rattle.belief_update.specs.Trails.{IsAfter}
 use Rattle.tangent_bound.specs.Gains.{missed_in, missed_by_look}
-use Rattle.tangent_bound.proofs.ForwardMasses.{mass_after}
 use Rattle.tangent_bound.proofs.Covered.{sum_covered, sum_covered-le}
 use Rattle.tangent_bound.proofs.Sizes.{most_of}
-
--- after the looks of a path the masses of a belief are forward masses
-pub forward_is : (p : Problem) (x : List ℕ) (t : ℕ) (b : BeliefState) → IsPath p x → IsAfter p (take t x) b → 1 ≤ t → t ≤ p.horizon → (c : ℕ) → c < p.cells →
-    slice_index b.masses c ≡ forward_of p (take t x) t c
-forward_is p x t b path belief some last c here =
-    let front : length (take t x) ≡ t = length-take-le t x (omega (arith, path.whole, last)) in
-    rw front at (mass_after p (take t x) b belief (omega (arith, front, some)) c here)
 
 module _ (p : Problem) (sound : IsProblem p) (x : List ℕ) (path : IsPath p x) (t : ℕ) (some : 1 ≤ t) (last : t ≤ p.horizon) where
   long : t ≤ length x

@@ -6,16 +6,18 @@ use Rattle.search_model.specs.Problem.{Problem}
 use Rattle.search_model.specs.Legal.{IsPath}
 use Rattle.search_model.specs.Bounds.{gain_of}
 use Rattle.belief_update.specs.Belief.{BeliefState}
-use Rattle.belief_update.specs.Trails.{IsAfter}
+use Rattle.belief_update.specs.Taken.{TakenState, IsBeside}
 use Rattle.backward_mass.specs.Masses.{forward_of, backward_of}
 use Rattle.backward_mass.specs.Table.{BackwardTable, IsFilledFrom}
 use Rattle.longest_walk.specs.Sums.{entry_at}
 use Rattle.longest_walk.specs.Tables.{HasNear}
 
--- the belief after the looks of a path up to period t, and the backward masses of the same path from then on
-pub record IsMet (p : Problem) (x : List ℕ) (t : ℕ) (b : BeliefState) (w : BackwardTable) : Type 0 where
+-- what the looks of a path up to period t took, with the belief of that period without those looks, and the backward masses of the
+-- same path from then on
+pub record IsMet (p : Problem) (x : List ℕ) (t : ℕ) (b : BeliefState) (s : TakenState) (w : BackwardTable) : Type 0 where
   pub path : IsPath p x
-  pub belief : IsAfter p (take t x) b
+  pub period : s.period ≡ t
+  pub taken : (q : List ℕ) × IsBeside p q (take t x) b s
   pub backward : IsFilledFrom p x t w
 
 -- what a path misses of the tracks that are in cell c in period t

@@ -3,6 +3,8 @@
 
 mod gains;
 mod steps;
+mod tables;
 mod tangent;
 
+pub use tables::TangentTables;
 pub use tangent::Tangent;

@@ -7,7 +7,7 @@ use Rattle.tangent_bound.proofs.gains.gain.Goals.{After-covered}
 use Rattle.tangent_bound.proofs.gains.gain.Goals as goal
 
 -- what is missed, and the share of it that is found, make the gain
-found : (c : After-covered) (path : List ℕ) → IsMet c.args.sc.now path c.args.t c.args.belief.now c.args.backward.now →
+found : (c : After-covered) (path : List ℕ) → IsMet c.args.sc.now path c.args.t c.args.without.now c.args.taken.now c.args.backward.now →
     c.from.result * c.covered.result ≡ gain_of c.args.sc.now c.args.rate path c.args.t c.args.a
 found c path met =
     rw (c.covered.ensures path met, c.from.ensures, c.denominator.ensures.value, c.sweep.ensures.value)
