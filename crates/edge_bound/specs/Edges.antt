@@ -5,21 +5,28 @@ use Rattle.belief_update.specs.Onward.{OnwardState, IsMadeFor as IsOnwardFor}
 use Rattle.longest_walk.specs.Near.{NearRow, AreNear}
 use Rattle.edge_bound.specs.Units.{UnitTable, HasUnits}
 
--- for each position what is within reach of it, the beliefs of the periods after the last prefix, what looks find of units, two rows of sums, of one period and of the one
--- before it, and what looks in that one find
-pub record EdgeState : Type 0 where
-  pub near : List NearRow
-  pub onward : OnwardState
+-- what looks find of units, two rows of sums, of one period and of the one before it, and what looks in that one find
+pub record EdgeRoom : Type 0 where
   pub units : UnitTable
   pub sums : List ℕ
   pub earlier : List ℕ
   pub finds : List ℕ
 
--- the tables were made for this scenario
-pub record IsMadeFor (p : Problem) (e : EdgeState) : Type 0 where
-  pub near : AreNear p.moves p.horizon e.near
-  pub onward : IsOnwardFor p e.onward
+-- these tables were made for this scenario
+pub record AreTablesFor (p : Problem) (e : EdgeRoom) : Type 0 where
   pub units : HasUnits p e.units
   pub sums : length e.sums ≡ p.positions
   pub earlier : length e.earlier ≡ p.positions
   pub finds : length e.finds ≡ p.positions
+
+-- for each position what is within reach of it, the beliefs of the periods after the last prefix, and the tables
+pub record EdgeState : Type 0 where
+  pub near : List NearRow
+  pub onward : OnwardState
+  pub tables : EdgeRoom
+
+-- all of them were made for this scenario
+pub record IsMadeFor (p : Problem) (e : EdgeState) : Type 0 where
+  pub near : AreNear p.moves p.horizon e.near
+  pub onward : IsOnwardFor p e.onward
+  pub tables : AreTablesFor p e.tables

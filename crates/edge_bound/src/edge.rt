@@ -1,16 +1,10 @@
-//! The tables of the edge bound.
+//! The edge bound of single prefixes.
 
-ghost use Rattle.std.specs.Prelude.{◌≡◌, ◌<◌, ◌≤◌, ◌+◌, length, take, IfOk};
-ghost use Rattle.search_model.specs.Legal.{IsLegal, IsPath};
+ghost use Rattle.std.specs.Prelude.{◌≡◌, ◌<◌, length, IfOk};
+ghost use Rattle.search_model.specs.Legal.{IsLegal};
 ghost use Rattle.search_model.specs.Edge.{edge_of};
-ghost use Rattle.search_model.specs.Tracks.{value_of};
-ghost use Rattle.longest_walk.specs.Near.{AreNear};
-ghost use Rattle.belief_update.specs.Onward.{IsOnward};
-ghost use Rattle.edge_bound.specs.Units.{HasUnits};
 
-use crate::along::sum_after;
-use crate::rows::{best_first, fill_sums};
-use crate::units::Units;
+use crate::tables::EdgeTables;
 use belief_update::Onward;
 use exact_parts::NoMemory;
 use longest_walk::Near;
@@ -18,7 +12,7 @@ use search_model::{Path, Scenario};
 use std::alloc::Global;
 use std::marker::Model;
 
-/// Tables for the edge bound of prefixes, made for one scenario and filled anew for each bound.
+/// The edge bound of prefixes of one scenario, filled anew for each bound.
 ///
 /// The bound is the value of the prefix, and the greatest sum of rewards over its continuations, where the reward of a
 /// look is what it finds after the looks of the prefix and the look just before it. It is the mean bound (Martins 1993)
@@ -26,20 +20,14 @@ use std::marker::Model;
 /// more than all that come before do, so the bound is no less than the value of each path that begins with the prefix;
 /// and it is no more than the mean bound.
 ///
-/// `bound_by` and `bound_or_enough` are for who keeps the beliefs of the periods after the prefix; `bound` goes along the
-/// prefix from the start.
+/// Who keeps the beliefs of the periods after the prefix and the positions within reach asks `EdgeTables`; here both are
+/// kept, and `bound` goes along the prefix from the start.
 #[derive(Drop)]
 pub struct Edge {
     near: Near,
     // The beliefs of the periods after the last prefix that `bound` was asked.
     onward: Onward,
-    // What looks find of units of mass, made once.
-    units: Units,
-    // Per position, the greatest sum over the walks that go on from it.
-    sums: Vec<u128>,
-    earlier: Vec<u128>,
-    // Per position, what a look from it finds without the look before.
-    finds: Vec<u128>,
+    tables: EdgeTables,
 }
 
 impl Model for Edge {
@@ -47,63 +35,7 @@ impl Model for Edge {
 
     ghost Value = { EdgeState };
 
-    ghost view = { λ e. record {
-      near = e.near;
-      onward = e.onward;
-      units = e.units;
-      sums = e.sums.items;
-      earlier = e.earlier.items;
-      finds = e.finds.items;
-    } };
-}
-
-// The greatest of a prefix's value with the rewards of its continuations, by the beliefs after it.
-fn bound_from(
-    value: u128,
-    onward: &Onward,
-    units: &Units,
-    sums: &mut [u128],
-    earlier: &mut [u128],
-    finds: &mut [u128],
-    sc: &Scenario,
-    near: &Near,
-    prefix: &Path,
-) -> u128
-    requires near { AreNear sc.now.moves sc.now.horizon near.now }
-    requires value { value ≡ value_of sc.now prefix.now }
-    requires onward { IsOnward sc.now prefix.now onward.now }
-    requires units { HasUnits sc.now units.now }
-    requires width { length sums.old ≡ sc.now.positions }
-    requires room { length earlier.old ≡ sc.now.positions }
-    requires finds { length finds.old ≡ sc.now.positions }
-    requires legal { IsLegal sc.now prefix.now }
-    requires short { length prefix.now < sc.now.horizon }
-    ensures { result ≡ edge_of sc.now prefix.now }
-{
-    sc.recall_sound();
-    fill_sums(sums, earlier, finds, sc, near, prefix, onward, units);
-    value + best_first(sc, prefix, onward, sums)
-}
-
-// A prefix's value with the rewards of one path that extends it, by the beliefs after it.
-fn sum_from(
-    value: u128,
-    onward: &Onward,
-    units: &Units,
-    sc: &Scenario,
-    prefix: &Path,
-    path: &Path,
-) -> u128
-    requires value { value ≡ value_of sc.now prefix.now }
-    requires onward { IsOnward sc.now prefix.now onward.now }
-    requires units { HasUnits sc.now units.now }
-    requires short { length prefix.now < sc.now.horizon }
-    requires path { IsPath sc.now path.now }
-    requires begins { take (length prefix.now) path.now ≡ prefix.now }
-    ensures { result ≤ edge_of sc.now prefix.now }
-{
-    sc.recall_sound();
-    value + sum_after(sc, prefix, onward, units, path.cells())
+    ghost view = { λ e. record { near = e.near; onward = e.onward; tables = e.tables } };
 }
 
 impl Edge {
@@ -113,14 +45,10 @@ impl Edge {
     pub fn tables(alloc: Global, sc: &Scenario) -> Result<Edge, NoMemory>
         ensures { IfOk result (IsMadeFor sc.now) }
     {
-        let positions = usize::from(sc.positions());
         Ok(Edge {
             near: Near::tables(alloc, sc.grid(), sc.horizon())?,
             onward: Onward::tables(alloc, sc)?,
-            units: Units::tables(alloc, sc)?,
-            sums: vec![in alloc; 0; positions]?,
-            earlier: vec![in alloc; 0; positions]?,
-            finds: vec![in alloc; 0; positions]?,
+            tables: EdgeTables::tables(alloc, sc)?,
         })
     }
 
@@ -133,77 +61,6 @@ impl Edge {
         ensures made { IsMadeFor sc.now self.new }
     {
         self.onward.go_to(sc, prefix);
-        bound_from(
-            self.onward.value(sc, prefix),
-            &self.onward,
-            &self.units,
-            &mut self.sums,
-            &mut self.earlier,
-            &mut self.finds,
-            sc,
-            &self.near,
-            prefix,
-        )
-    }
-
-    /// The same bound by the beliefs of the periods after the prefix. Takes no memory.
-    pub fn bound_by(&mut self, sc: &Scenario, onward: &Onward, prefix: &Path) -> u128
-        requires made { IsMadeFor sc.now self.old }
-        requires legal { IsLegal sc.now prefix.now }
-        requires short { length prefix.now < sc.now.horizon }
-        requires onward { IsOnward sc.now prefix.now onward.now }
-        ensures bound { result ≡ edge_of sc.now prefix.now }
-        ensures made { IsMadeFor sc.now self.new }
-    {
-        bound_from(
-            onward.value(sc, prefix),
-            onward,
-            &self.units,
-            &mut self.sums,
-            &mut self.earlier,
-            &mut self.finds,
-            sc,
-            &self.near,
-            prefix,
-        )
-    }
-
-    /// The same bound by the beliefs of the periods after the prefix; or else, where a path that extends the prefix shows
-    /// that the bound is at least `enough`, a number from that up to the bound, which takes less time. Takes no memory.
-    pub fn bound_or_enough(
-        &mut self,
-        sc: &Scenario,
-        onward: &Onward,
-        prefix: &Path,
-        path: &Path,
-        enough: u128,
-    ) -> u128
-        requires made { IsMadeFor sc.now self.old }
-        requires legal { IsLegal sc.now prefix.now }
-        requires short { length prefix.now < sc.now.horizon }
-        requires onward { IsOnward sc.now prefix.now onward.now }
-        requires path { IsPath sc.now path.now }
-        requires begins { take (length prefix.now) path.now ≡ prefix.now }
-        ensures bound { result < enough → result ≡ edge_of sc.now prefix.now }
-        ensures enough { enough ≤ result → enough ≤ edge_of sc.now prefix.now }
-        ensures made { IsMadeFor sc.now self.new }
-    {
-        let value = onward.value(sc, prefix);
-        let shown = sum_from(value, onward, &self.units, sc, prefix, path);
-        if shown < enough {
-            bound_from(
-                value,
-                onward,
-                &self.units,
-                &mut self.sums,
-                &mut self.earlier,
-                &mut self.finds,
-                sc,
-                &self.near,
-                prefix,
-            )
-        } else {
-            shown
-        }
+        self.tables.bound_by(sc, &self.near, &self.onward, prefix)
     }
 }

@@ -7,7 +7,9 @@ mod edge;
 mod laws;
 mod moves;
 mod rows;
+mod tables;
 mod units;
 
 pub use edge::Edge;
 pub use laws::worked_edges;
+pub use tables::EdgeTables;

@@ -1,7 +1,7 @@
 use Rattle.std.proofs.Common.{◌-◌, length, arith}
 use Rattle.search_model.proofs.EdgeRewards.{weights-fit}
 use Rattle.edge_bound.proofs.Fitting.{edge_sums-within}
-use Rattle.edge_bound.proofs.edge.bound_from.Goals as goal
+use Rattle.edge_bound.proofs.tables.bound_from.Goals as goal
 
 pub overflow_add-result : goal.overflow_add-result
 overflow_add-result c =

@@ -3,7 +3,7 @@ use Rattle.search_model.proofs.EdgeRewards.{weights-fit}
 use Rattle.search_model.proofs.LegalLemmas.{follows_within}
 use Rattle.edge_bound.proofs.Fitting.{edge_sums-within}
 use Rattle.edge_bound.proofs.PathSums.{rest-within}
-use Rattle.edge_bound.proofs.edge.sum_from.Goals as goal
+use Rattle.edge_bound.proofs.tables.sum_from.Goals as goal
 
 pub sum_after-requires-clause-within : goal.sum_after-requires-clause-within
 sum_after-requires-clause-within c =

@@ -1,0 +1,176 @@
+//! The tables of the edge bound for who keeps the rest.
+
+ghost use Rattle.std.specs.Prelude.{◌≡◌, ◌<◌, ◌≤◌, ◌+◌, length, take, IfOk};
+ghost use Rattle.search_model.specs.Legal.{IsLegal, IsPath};
+ghost use Rattle.search_model.specs.Edge.{edge_of};
+ghost use Rattle.search_model.specs.Tracks.{value_of};
+ghost use Rattle.longest_walk.specs.Near.{AreNear};
+ghost use Rattle.belief_update.specs.Onward.{IsOnward};
+ghost use Rattle.edge_bound.specs.Units.{HasUnits};
+
+use crate::along::sum_after;
+use crate::rows::{best_first, fill_sums};
+use crate::units::Units;
+use belief_update::Onward;
+use exact_parts::NoMemory;
+use longest_walk::Near;
+use search_model::{Path, Scenario};
+use std::alloc::Global;
+use std::marker::Model;
+
+/// The tables of `Edge` for who keeps the beliefs of the periods after the prefix and the positions within reach, which
+/// other bounds of the same scenario may read, too. Made for one scenario and filled anew for each bound.
+#[derive(Drop)]
+pub struct EdgeTables {
+    // What looks find of units of mass, made once.
+    units: Units,
+    // Per position, the greatest sum over the walks that go on from it.
+    sums: Vec<u128>,
+    earlier: Vec<u128>,
+    // Per position, what a look from it finds without the look before.
+    finds: Vec<u128>,
+}
+
+impl Model for EdgeTables {
+    ghost use Rattle.edge_bound.specs.Edges.{EdgeRoom};
+
+    ghost Value = { EdgeRoom };
+
+    ghost view = { λ e. record {
+      units = e.units;
+      sums = e.sums.items;
+      earlier = e.earlier.items;
+      finds = e.finds.items;
+    } };
+}
+
+// The greatest of a prefix's value with the rewards of its continuations, by the beliefs after it.
+fn bound_from(
+    value: u128,
+    onward: &Onward,
+    units: &Units,
+    sums: &mut [u128],
+    earlier: &mut [u128],
+    finds: &mut [u128],
+    sc: &Scenario,
+    near: &Near,
+    prefix: &Path,
+) -> u128
+    requires near { AreNear sc.now.moves sc.now.horizon near.now }
+    requires value { value ≡ value_of sc.now prefix.now }
+    requires onward { IsOnward sc.now prefix.now onward.now }
+    requires units { HasUnits sc.now units.now }
+    requires width { length sums.old ≡ sc.now.positions }
+    requires room { length earlier.old ≡ sc.now.positions }
+    requires finds { length finds.old ≡ sc.now.positions }
+    requires legal { IsLegal sc.now prefix.now }
+    requires short { length prefix.now < sc.now.horizon }
+    ensures { result ≡ edge_of sc.now prefix.now }
+{
+    sc.recall_sound();
+    fill_sums(sums, earlier, finds, sc, near, prefix, onward, units);
+    value + best_first(sc, prefix, onward, sums)
+}
+
+// A prefix's value with the rewards of one path that extends it, by the beliefs after it.
+fn sum_from(
+    value: u128,
+    onward: &Onward,
+    units: &Units,
+    sc: &Scenario,
+    prefix: &Path,
+    path: &Path,
+) -> u128
+    requires value { value ≡ value_of sc.now prefix.now }
+    requires onward { IsOnward sc.now prefix.now onward.now }
+    requires units { HasUnits sc.now units.now }
+    requires short { length prefix.now < sc.now.horizon }
+    requires path { IsPath sc.now path.now }
+    requires begins { take (length prefix.now) path.now ≡ prefix.now }
+    ensures { result ≤ edge_of sc.now prefix.now }
+{
+    sc.recall_sound();
+    value + sum_after(sc, prefix, onward, units, path.cells())
+}
+
+impl EdgeTables {
+    ghost use Rattle.edge_bound.specs.Edges.{AreTablesFor};
+
+    /// Tables for a scenario. Only this call takes memory.
+    pub fn tables(alloc: Global, sc: &Scenario) -> Result<EdgeTables, NoMemory>
+        ensures { IfOk result (AreTablesFor sc.now) }
+    {
+        let positions = usize::from(sc.positions());
+        Ok(EdgeTables {
+            units: Units::tables(alloc, sc)?,
+            sums: vec![in alloc; 0; positions]?,
+            earlier: vec![in alloc; 0; positions]?,
+            finds: vec![in alloc; 0; positions]?,
+        })
+    }
+
+    /// The edge bound of a legal prefix shorter than the horizon, in parts of the whole weight, by the positions within
+    /// reach and the beliefs of the periods after the prefix. Takes no memory.
+    pub fn bound_by(&mut self, sc: &Scenario, near: &Near, onward: &Onward, prefix: &Path) -> u128
+        requires made { AreTablesFor sc.now self.old }
+        requires near { AreNear sc.now.moves sc.now.horizon near.now }
+        requires legal { IsLegal sc.now prefix.now }
+        requires short { length prefix.now < sc.now.horizon }
+        requires onward { IsOnward sc.now prefix.now onward.now }
+        ensures bound { result ≡ edge_of sc.now prefix.now }
+        ensures made { AreTablesFor sc.now self.new }
+    {
+        bound_from(
+            onward.value(sc, prefix),
+            onward,
+            &self.units,
+            &mut self.sums,
+            &mut self.earlier,
+            &mut self.finds,
+            sc,
+            near,
+            prefix,
+        )
+    }
+
+    /// The same bound; or else, where a path that extends the prefix shows that the bound is at least `enough`, a number
+    /// from that up to the bound, which takes less time. Takes no memory.
+    pub fn bound_or_enough(
+        &mut self,
+        sc: &Scenario,
+        near: &Near,
+        onward: &Onward,
+        prefix: &Path,
+        path: &Path,
+        enough: u128,
+    ) -> u128
+        requires made { AreTablesFor sc.now self.old }
+        requires near { AreNear sc.now.moves sc.now.horizon near.now }
+        requires legal { IsLegal sc.now prefix.now }
+        requires short { length prefix.now < sc.now.horizon }
+        requires onward { IsOnward sc.now prefix.now onward.now }
+        requires path { IsPath sc.now path.now }
+        requires begins { take (length prefix.now) path.now ≡ prefix.now }
+        ensures bound { result < enough → result ≡ edge_of sc.now prefix.now }
+        ensures enough { enough ≤ result → enough ≤ edge_of sc.now prefix.now }
+        ensures made { AreTablesFor sc.now self.new }
+    {
+        let value = onward.value(sc, prefix);
+        let shown = sum_from(value, onward, &self.units, sc, prefix, path);
+        if shown < enough {
+            bound_from(
+                value,
+                onward,
+                &self.units,
+                &mut self.sums,
+                &mut self.earlier,
+                &mut self.finds,
+                sc,
+                near,
+                prefix,
+            )
+        } else {
+            shown
+        }
+    }
+}
