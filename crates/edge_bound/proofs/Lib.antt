@@ -6,3 +6,4 @@ pub mod PathSums
 pub mod UnitTable
 pub mod Walking
 mod Reached
+mod CellShares

@@ -1,6 +1,6 @@
 -- The greatest sums of edge rewards, by way of a first move.
-use Rattle.std.proofs.Common.{ℕ, suc, ◌+◌, ◌-◌, ◌<◌, ◌≤◌, ◌≡◌, List, ◌∷◌, map, length, slice_index, inr, refl, sym, ap, ◌∙◌, arith, Contains}
-use Rattle.std.proofs.lemmas.List.Elements.{All-get_or, All-weaker, All-contains_itself}
+use Rattle.std.proofs.Common.{ℕ, suc, ◌+◌, ◌-◌, ◌<◌, ◌≤◌, ◌≡◌, List, ◌∷◌, map, length, slice_index, inr, refl, sym, ap, ◌∙◌, subst, arith, Contains}
+use Rattle.std.proofs.lemmas.List.Elements.{All-get_or, All-weaker, All-contains_itself, Contains-get_or}
 use Rattle.search_grid.specs.Moves.{moves_from}
 use Rattle.search_model.specs.Problem.{Problem, IsProblem}
 use Rattle.search_model.specs.Legal.{IsLegal, walks, continuations, last_of, moves_after}
@@ -87,3 +87,7 @@ module _ (p : Problem) (sound : IsProblem p) (q sums : List ℕ) where
   pub move_there : (a i : ℕ) → a < length p.moves → i < length (moves_from p.moves a) → slice_index (moves_from p.moves a) i < p.positions
   move_there a i here short =
       All-get_or (λ b. b < p.positions) (moves_from p.moves a) i 0 short (All-moves p.moves sound.grid (λ b. b < p.positions) (λ b there. omega (arith, there, sound.grid_positions)) a here)
+
+-- and one of the moves
+pub listed_move : (p : Problem) (a i : ℕ) (moves : List ℕ) → moves ≡ moves_from p.moves a → i < length moves → Contains (moves_from p.moves a) (slice_index moves i)
+listed_move p a i moves is inside = subst (λ xs. Contains xs (slice_index moves i)) is (Contains-get_or moves i 0 inside)

@@ -5,12 +5,14 @@ use Rattle.belief_update.specs.Onward.{OnwardState, IsMadeFor as IsOnwardFor}
 use Rattle.longest_walk.specs.Near.{NearRow, AreNear}
 use Rattle.edge_bound.specs.Units.{UnitTable, HasUnits}
 
--- what looks find of units, two rows of sums, of one period and of the one before it, and what looks in that one find
+-- what looks find of units, two rows of sums, of one period and of the one before it, what looks in that one find, and what
+-- one look before finds in each of its cells
 pub record EdgeRoom : Type 0 where
   pub units : UnitTable
   pub sums : List ℕ
   pub earlier : List ℕ
   pub finds : List ℕ
+  pub shares : List ℕ
 
 -- these tables were made for this scenario
 pub record AreTablesFor (p : Problem) (e : EdgeRoom) : Type 0 where
@@ -18,6 +20,7 @@ pub record AreTablesFor (p : Problem) (e : EdgeRoom) : Type 0 where
   pub sums : length e.sums ≡ p.positions
   pub earlier : length e.earlier ≡ p.positions
   pub finds : length e.finds ≡ p.positions
+  pub shares : length e.shares ≡ p.cells
 
 -- for each position what is within reach of it, the beliefs of the periods after the last prefix, and the tables
 pub record EdgeState : Type 0 where

@@ -1,12 +1,13 @@
 -- The greatest sums of edge rewards, whose rewards stand on moves.
-use Rattle.std.specs.Prelude.{ℕ, ◌≡◌, ◌+◌, ◌-◌, ◌≤◌, List, map, length, slice_index}
+use Rattle.std.specs.Prelude.{ℕ, ◌≡◌, ◌+◌, ◌-◌, ◌<◌, ◌≤◌, List, [], ◌∷◌, map, length, slice_index, slice_index_or}
+use Rattle.sweep_table.specs.LookParts.{look_row, misses}
 use Rattle.search_model.specs.Problem.{Problem}
 use Rattle.search_model.specs.Legal.{walks, last_of}
 use Rattle.search_model.specs.Bounds.{greatest}
 use Rattle.search_model.specs.Edge.{edge_reward_of, sum_moves}
 use Rattle.longest_walk.specs.Near.{IsNear}
 use Rattle.belief_update.specs.Masses.{mass_of, looks_to}
-use Rattle.edge_bound.specs.Found.{found_of}
+use Rattle.edge_bound.specs.Found.{found_in, found_of}
 
 -- the greatest sum of rewards on moves over the walks of n cells from a, the first of them in period t
 abbrev pub greatest_moves : List (List ℕ) → (ℕ → ℕ → ℕ → ℕ) → ℕ → ℕ → ℕ → ℕ
@@ -23,6 +24,16 @@ HasSums p q t sums =
 abbrev pub HasFinds : Problem → List ℕ → ℕ → List ℕ → Type 0
 HasFinds p q t finds =
     (b n : ℕ) → length q + n ≡ t → IsNear p.moves n (last_of p.start q) b → slice_index finds b ≡ found_of p t b (mass_of p (looks_to t q))
+
+-- for each entry of the row of a look from position a in period t, what the look finds in its cell with no look between it
+-- and the prefix
+abbrev pub HasShares : Problem → List ℕ → ℕ → ℕ → List ℕ → Type 0
+HasShares p q t a shares =
+    (i : ℕ) → i < length (look_row p.sweep t a) → slice_index shares i ≡ found_in p (mass_of p (looks_to t q)) (slice_index_or (look_row p.sweep t a) i (misses 0 0))
+
+-- looks from position a cover the cell of its number alone, in all periods
+abbrev pub IsOwn : Problem → ℕ → Type 0
+IsOwn p a = (part : ℕ) × ((t : ℕ) → look_row p.sweep t a ≡ misses a part ∷ [])
 
 -- a period after the prefix, the first one left out: its looks have another look just before them that isn't the prefix's
 pub record IsLater (p : Problem) (q : List ℕ) (t : ℕ) : Type 0 where

@@ -3,10 +3,12 @@
 #![tactic(auto)]
 
 mod along;
+mod best;
 mod edge;
 mod laws;
 mod moves;
 mod rows;
+mod shares;
 mod tables;
 mod units;
 

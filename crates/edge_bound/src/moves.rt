@@ -16,8 +16,8 @@ use belief_update::Onward;
 use search_model::{Path, Scenario};
 use sweep_table::Look;
 
-// The mass of cell `c` in period `t`, with no look after the prefix.
-fn mass_at(sc: &Scenario, prefix: &Path, onward: &Onward, t: u32, c: u8) -> u128
+/// The mass of cell `c` in period `t`, with no look after the prefix.
+pub(crate) fn mass_at(sc: &Scenario, prefix: &Path, onward: &Onward, t: u32, c: u8) -> u128
     requires later { length prefix.now < t }
     requires last { t ≤ sc.now.horizon }
     requires cell { c < sc.now.cells }
@@ -146,8 +146,31 @@ fn taken(sc: &Scenario, prefix: &Path, onward: &Onward, units: &Units, t: u32, a
     }
 }
 
-/// What a look from `b` in period `t` finds after a look from `a` in the period before, by what it finds without that look;
-/// times the parts of what is to come it is the edge reward.
+/// What a look from `b` in period `t` finds after a look from `a` in the period before, by what it finds without that look
+/// and what that look takes of it; times the parts of what is to come it is the edge reward.
+pub(crate) fn found_less(
+    sc: &Scenario,
+    prefix: &Path,
+    found: u128,
+    less: u128,
+    t: u32,
+    a: u8,
+    b: u8,
+) -> u128
+    requires period { IsLater sc.now prefix.now t }
+    requires found { found ≡ found_of sc.now t b (mass_of sc.now (looks_to t prefix.now)) }
+    requires less { less ≡ found_of sc.now (t - 1) a (through sc.now prefix.now t b) }
+    ensures { result * (sc.now.drift.denominator ^ (sc.now.horizon - t) * sc.now.sweep.denominator ^
+        (sc.now.horizon - (length prefix.now + 2)))
+        ≡ edge_reward_of sc.now prefix.now t a b }
+{
+    let _after = prefix;
+    let _looks = (t, a, b);
+    let whole = sc.sweep().denominator();
+    found * u128::from(whole) - less
+}
+
+/// The same, by what it finds without that look.
 pub(crate) fn found_after(
     sc: &Scenario,
     prefix: &Path,
@@ -168,9 +191,9 @@ pub(crate) fn found_after(
         (sc.now.horizon - (length prefix.now + 2)))
         ≡ edge_reward_of sc.now prefix.now t a b }
 {
-    let whole = sc.sweep().denominator();
+    sc.recall_sound();
     let less = taken(sc, prefix, onward, units, t, a, b);
-    found * u128::from(whole) - less
+    found_less(sc, prefix, found, less, t, a, b)
 }
 
 /// What the first look after a prefix finds from `b`, in all cells that it covers; times the parts of what is to come it

@@ -11,7 +11,8 @@ ghost use Rattle.edge_bound.specs.Found.{found_of};
 ghost use Rattle.edge_bound.specs.Moves.{IsLater, HasFinds, HasSums, greatest_moves};
 ghost use Rattle.edge_bound.specs.Units.{HasUnits};
 
-use crate::moves::{found_after, found_by, found_first};
+use crate::best::best_move;
+use crate::moves::{found_by, found_first};
 use crate::units::Units;
 use belief_update::{Onward, later_parts};
 use longest_walk::Near;
@@ -40,43 +41,6 @@ fn fill_finds(
     }
 }
 
-// The greatest sum over the walks that go on from position `a` in period `t`, by what looks in that period find, the sums of
-// the period after it and the parts of what is to come.
-fn best_move(
-    sc: &Scenario,
-    prefix: &Path,
-    onward: &Onward,
-    units: &Units,
-    finds: &[u128],
-    sums: &[u128],
-    parts: u128,
-    t: u32,
-    a: u8,
-) -> u128
-    requires parts { parts ≡
-        sc.now.drift.denominator ^ (sc.now.horizon - t) * sc.now.sweep.denominator ^
-        (sc.now.horizon - (length prefix.now + 2)) }
-    requires period { IsLater sc.now prefix.now t }
-    requires from { a < sc.now.positions }
-    requires near { IsNear sc.now.moves (t - 1 - length prefix.now) (last_of sc.now.start prefix.now) a }
-    requires onward { IsOnward sc.now prefix.now onward.now }
-    requires units { HasUnits sc.now units.now }
-    requires found { length finds.now ≡ sc.now.positions }
-    requires finds { HasFinds sc.now prefix.now t finds.now }
-    requires width { length sums.now ≡ sc.now.positions }
-    requires sums { HasSums sc.now prefix.now (t + 1) sums.now }
-    ensures { result ≡ greatest_moves sc.now.moves (edge_reward_of sc.now prefix.now) (sc.now.horizon + 1 - t) t a }
-{
-    let moves = sc.grid().moves(a);
-    let mut best = 0;
-    for b in moves {
-        let found = finds[usize::from(*b)];
-        let reward = found_after(sc, prefix, onward, units, found, t, a, *b) * parts;
-        best = (reward + sums[usize::from(*b)]).max(best);
-    }
-    best
-}
-
 // The row of period `t` for some positions that the searcher can be on before it, by what looks in that period find and the
 // sums of the period after it.
 fn fill_row(
@@ -85,6 +49,7 @@ fn fill_row(
     prefix: &Path,
     onward: &Onward,
     units: &Units,
+    shares: &mut [u128],
     finds: &[u128],
     sums: &[u128],
     some: &[u8],
@@ -94,6 +59,7 @@ fn fill_row(
     requires near { (a : ℕ) → Contains some.now a →
         IsNear sc.now.moves (t - 1 - length prefix.now) (last_of sc.now.start prefix.now) a }
     requires size { length row.old ≡ sc.now.positions }
+    requires shares { length shares.old ≡ sc.now.cells }
     requires period { IsLater sc.now prefix.now t }
     requires onward { IsOnward sc.now prefix.now onward.now }
     requires units { HasUnits sc.now units.now }
@@ -104,19 +70,23 @@ fn fill_row(
     ensures row { (a : ℕ) → Contains some.now a → slice_index row.new a ≡
         greatest_moves sc.now.moves (edge_reward_of sc.now prefix.now) (sc.now.horizon + 1 - t) t a }
     ensures size { length row.new ≡ length row.old }
+    ensures shares { length shares.new ≡ length shares.old }
 {
     let parts = later_parts(sc, t, prefix.len() as u32 + 2);
     for a in some {
-        row[usize::from(*a)] = best_move(sc, prefix, onward, units, finds, sums, parts, t, *a);
+        row[usize::from(*a)] = best_move(
+            sc, prefix, onward, units, shares, finds, sums, parts, t, *a,
+        );
     }
 }
 
-/// The sums of the second period after a prefix, by those of the last period and back; `earlier` and `finds` are room for
-/// one row each.
+/// The sums of the second period after a prefix, by those of the last period and back; `earlier`, `finds` and `shares` are room
+/// for one row each.
 pub(crate) fn fill_sums(
     sums: &mut [u128],
     earlier: &mut [u128],
     finds: &mut [u128],
+    shares: &mut [u128],
     sc: &Scenario,
     near: &Near,
     prefix: &Path,
@@ -129,6 +99,7 @@ pub(crate) fn fill_sums(
     requires width { length sums.old ≡ sc.now.positions }
     requires room { length earlier.old ≡ sc.now.positions }
     requires finds { length finds.old ≡ sc.now.positions }
+    requires shares { length shares.old ≡ sc.now.cells }
     requires onward { IsOnward sc.now prefix.now onward.now }
     requires units { HasUnits sc.now units.now }
     ensures { HasSums sc.now prefix.now (length prefix.now + 2) sums.new }
@@ -145,6 +116,7 @@ pub(crate) fn fill_sums(
             prefix,
             onward,
             units,
+            shares,
             finds,
             sums,
             before,

@@ -29,6 +29,8 @@ pub struct EdgeTables {
     earlier: Vec<u128>,
     // Per position, what a look from it finds without the look before.
     finds: Vec<u128>,
+    // What the look before finds, cell by cell of its row.
+    shares: Vec<u128>,
 }
 
 impl Model for EdgeTables {
@@ -41,6 +43,7 @@ impl Model for EdgeTables {
       sums = e.sums.items;
       earlier = e.earlier.items;
       finds = e.finds.items;
+      shares = e.shares.items;
     } };
 }
 
@@ -52,6 +55,7 @@ fn bound_from(
     sums: &mut [u128],
     earlier: &mut [u128],
     finds: &mut [u128],
+    shares: &mut [u128],
     sc: &Scenario,
     near: &Near,
     prefix: &Path,
@@ -63,12 +67,15 @@ fn bound_from(
     requires width { length sums.old ≡ sc.now.positions }
     requires room { length earlier.old ≡ sc.now.positions }
     requires finds { length finds.old ≡ sc.now.positions }
+    requires shares { length shares.old ≡ sc.now.cells }
     requires legal { IsLegal sc.now prefix.now }
     requires short { length prefix.now < sc.now.horizon }
     ensures { result ≡ edge_of sc.now prefix.now }
 {
     sc.recall_sound();
-    fill_sums(sums, earlier, finds, sc, near, prefix, onward, units);
+    fill_sums(
+        sums, earlier, finds, shares, sc, near, prefix, onward, units,
+    );
     value + best_first(sc, prefix, onward, sums)
 }
 
@@ -106,6 +113,7 @@ impl EdgeTables {
             sums: vec![in alloc; 0; positions]?,
             earlier: vec![in alloc; 0; positions]?,
             finds: vec![in alloc; 0; positions]?,
+            shares: vec![in alloc; 0; usize::from(sc.cells())]?,
         })
     }
 
@@ -127,6 +135,7 @@ impl EdgeTables {
             &mut self.sums,
             &mut self.earlier,
             &mut self.finds,
+            &mut self.shares,
             sc,
             near,
             prefix,
@@ -165,6 +174,7 @@ impl EdgeTables {
                 &mut self.sums,
                 &mut self.earlier,
                 &mut self.finds,
+                &mut self.shares,
                 sc,
                 near,
                 prefix,

@@ -209,4 +209,21 @@ impl Units {
     {
         self.units[(t as usize - 2) * self.step + usize::from(c) * self.positions + usize::from(b)]
     }
+
+    /// Where the numbers of cell `c` in period `t` begin.
+    pub(crate) fn place(&self, t: u32, c: u8) -> usize
+        requires first { 2 ≤ t }
+        requires inside { place_of self.now t c 0 < length self.now.units }
+        ensures { result ≡ place_of self.now t c 0 }
+    {
+        (t as usize - 2) * self.step + usize::from(c) * self.positions
+    }
+
+    /// The number of position `b`, where those of its cell and period begin at a place.
+    pub(crate) fn at(&self, place: usize, b: u8) -> u64
+        requires { place + b < length self.now.units }
+        ensures { result ≡ slice_index self.now.units (place + b) }
+    {
+        self.units[place + usize::from(b)]
+    }
 }

@@ -1,7 +1,7 @@
 use Rattle.std.proofs.Common.{◌≡◌, ◌+◌, ℕ, map, max, drop, slice_index}
 use Rattle.search_model.specs.Bounds.{greatest}
 use Rattle.search_model.specs.Edge.{edge_reward_of}
-use Rattle.edge_bound.proofs.rows.best_move.Given as goal
+use Rattle.edge_bound.proofs.best.best_by_row.Given as goal
 
 -- the best so far, or the greatest of what is left
 abbrev pub invariant-loop-b : goal.invariant-loop-b

@@ -1,0 +1,198 @@
+//! The greatest sum of edge rewards from one position, by the sums of the period after it.
+
+ghost use Rattle.std.specs.Prelude.{◌≡◌, ◌<◌, ◌≤◌, ◌+◌, ◌-◌, ◌*◌, ◌^◌, ℕ, length, slice_index, Contains};
+ghost use Rattle.sweep_table.specs.LookParts.{look_row};
+ghost use Rattle.search_grid.specs.Moves.{moves_from};
+ghost use Rattle.search_model.specs.Legal.{last_of};
+ghost use Rattle.search_model.specs.Edge.{edge_reward_of};
+ghost use Rattle.longest_walk.specs.Near.{IsNear};
+ghost use Rattle.belief_update.specs.Masses.{mass_of, looks_to};
+ghost use Rattle.belief_update.specs.Onward.{IsOnward};
+ghost use Rattle.edge_bound.specs.After.{through};
+ghost use Rattle.edge_bound.specs.Found.{found_of};
+ghost use Rattle.edge_bound.specs.Moves.{IsLater, IsOwn, HasFinds, HasShares, HasSums, greatest_moves};
+ghost use Rattle.edge_bound.specs.Units.{HasUnits, place_of};
+
+use crate::moves::{found_by, found_less, look_from};
+use crate::shares::{fill_shares, taken_by_shares};
+use crate::units::Units;
+use belief_update::Onward;
+use search_model::{Path, Scenario};
+
+// The reward of a look at `b` in period `t` after one at `a`, and the greatest sum from there on, by what the look finds
+// without that one and what that one takes of it.
+fn sum_through(
+    sc: &Scenario,
+    prefix: &Path,
+    finds: &[u128],
+    sums: &[u128],
+    parts: u128,
+    less: u128,
+    t: u32,
+    a: u8,
+    b: u8,
+) -> u128
+    requires parts { parts ≡
+        sc.now.drift.denominator ^ (sc.now.horizon - t) * sc.now.sweep.denominator ^
+        (sc.now.horizon - (length prefix.now + 2)) }
+    requires period { IsLater sc.now prefix.now t }
+    requires near { IsNear sc.now.moves (t - 1 - length prefix.now) (last_of sc.now.start prefix.now) a }
+    requires to { b < sc.now.positions }
+    requires step { Contains (moves_from sc.now.moves a) b }
+    requires found { length finds.now ≡ sc.now.positions }
+    requires finds { HasFinds sc.now prefix.now t finds.now }
+    requires width { length sums.now ≡ sc.now.positions }
+    requires sums { HasSums sc.now prefix.now (t + 1) sums.now }
+    requires less { less ≡ found_of sc.now (t - 1) a (through sc.now prefix.now t b) }
+    ensures { result ≡ edge_reward_of sc.now prefix.now t a b + slice_index sums.now b }
+{
+    sc.recall_sound();
+    let found = finds[usize::from(b)];
+    let reward = found_less(sc, prefix, found, less, t, a, b) * parts;
+    reward + sums[usize::from(b)]
+}
+
+// What a look from position `a` in the period before takes of what a look from `b` in period `t` finds, where looks from
+// `a` cover its own cell alone: by what it finds there, and where the numbers of that cell begin.
+fn taken_own(
+    sc: &Scenario,
+    prefix: &Path,
+    units: &Units,
+    share: u128,
+    place: usize,
+    t: u32,
+    a: u8,
+    b: u8,
+) -> u128
+    requires period { IsLater sc.now prefix.now t }
+    requires own { IsOwn sc.now a }
+    requires to { b < sc.now.positions }
+    requires units { HasUnits sc.now units.now }
+    requires share { share ≡ found_of sc.now (t - 1) a (mass_of sc.now (looks_to (t - 1) prefix.now)) }
+    requires place { place ≡ place_of units.now t a 0 }
+    ensures { result ≡ found_of sc.now (t - 1) a (through sc.now prefix.now t b) }
+{
+    let _after = prefix;
+    let _look = (t, a);
+    sc.recall_sound();
+    let unit = units.at(place, b);
+    share * u128::from(unit)
+}
+
+// The greatest sum over the walks that go on from position `a` in period `t`, where looks from there cover its own cell
+// alone.
+fn best_own(
+    sc: &Scenario,
+    prefix: &Path,
+    onward: &Onward,
+    units: &Units,
+    finds: &[u128],
+    sums: &[u128],
+    parts: u128,
+    t: u32,
+    a: u8,
+) -> u128
+    requires own { IsOwn sc.now a }
+    requires parts { parts ≡
+        sc.now.drift.denominator ^ (sc.now.horizon - t) * sc.now.sweep.denominator ^
+        (sc.now.horizon - (length prefix.now + 2)) }
+    requires period { IsLater sc.now prefix.now t }
+    requires from { a < sc.now.positions }
+    requires near { IsNear sc.now.moves (t - 1 - length prefix.now) (last_of sc.now.start prefix.now) a }
+    requires onward { IsOnward sc.now prefix.now onward.now }
+    requires units { HasUnits sc.now units.now }
+    requires found { length finds.now ≡ sc.now.positions }
+    requires finds { HasFinds sc.now prefix.now t finds.now }
+    requires width { length sums.now ≡ sc.now.positions }
+    requires sums { HasSums sc.now prefix.now (t + 1) sums.now }
+    ensures { result ≡ greatest_moves sc.now.moves (edge_reward_of sc.now prefix.now) (sc.now.horizon + 1 - t) t a }
+{
+    let moves = sc.grid().moves(a);
+    let share = found_by(sc, prefix, onward, t - 1, a);
+    let place = units.place(t, a);
+    let mut best = 0;
+    for b in moves {
+        let less = taken_own(sc, prefix, units, share, place, t, a, *b);
+        let sum = sum_through(sc, prefix, finds, sums, parts, less, t, a, *b);
+        best = sum.max(best);
+    }
+    best
+}
+
+// The same where a look from there covers a row of cells; `shares` is room for what it finds in each of them.
+#[inline(never)]
+fn best_by_row(
+    sc: &Scenario,
+    prefix: &Path,
+    onward: &Onward,
+    units: &Units,
+    shares: &mut [u128],
+    finds: &[u128],
+    sums: &[u128],
+    parts: u128,
+    t: u32,
+    a: u8,
+) -> u128
+    requires shares { length shares.old ≡ sc.now.cells }
+    requires parts { parts ≡
+        sc.now.drift.denominator ^ (sc.now.horizon - t) * sc.now.sweep.denominator ^
+        (sc.now.horizon - (length prefix.now + 2)) }
+    requires period { IsLater sc.now prefix.now t }
+    requires from { a < sc.now.positions }
+    requires near { IsNear sc.now.moves (t - 1 - length prefix.now) (last_of sc.now.start prefix.now) a }
+    requires onward { IsOnward sc.now prefix.now onward.now }
+    requires units { HasUnits sc.now units.now }
+    requires found { length finds.now ≡ sc.now.positions }
+    requires finds { HasFinds sc.now prefix.now t finds.now }
+    requires width { length sums.now ≡ sc.now.positions }
+    requires sums { HasSums sc.now prefix.now (t + 1) sums.now }
+    ensures best { result ≡ greatest_moves sc.now.moves (edge_reward_of sc.now prefix.now) (sc.now.horizon + 1 - t) t a }
+    ensures shares { length shares.new ≡ length shares.old }
+{
+    let moves = sc.grid().moves(a);
+    let look = look_from(sc, t - 1, a);
+    fill_shares(shares, sc, prefix, onward, look.parts(), t - 1, a);
+    let mut best = 0;
+    for b in moves {
+        let less = taken_by_shares(sc, prefix, units, shares, look.parts(), t, a, *b);
+        let through = sum_through(sc, prefix, finds, sums, parts, less, t, a, *b);
+        best = through.max(best);
+    }
+    best
+}
+
+/// The greatest sum over the walks that go on from position `a` in period `t`, by what looks in that period find, the sums of
+/// the period after it and the parts of what is to come; `shares` is room for a row of cells.
+pub(crate) fn best_move(
+    sc: &Scenario,
+    prefix: &Path,
+    onward: &Onward,
+    units: &Units,
+    shares: &mut [u128],
+    finds: &[u128],
+    sums: &[u128],
+    parts: u128,
+    t: u32,
+    a: u8,
+) -> u128
+    requires shares { length shares.old ≡ sc.now.cells }
+    requires parts { parts ≡
+        sc.now.drift.denominator ^ (sc.now.horizon - t) * sc.now.sweep.denominator ^
+        (sc.now.horizon - (length prefix.now + 2)) }
+    requires period { IsLater sc.now prefix.now t }
+    requires from { a < sc.now.positions }
+    requires near { IsNear sc.now.moves (t - 1 - length prefix.now) (last_of sc.now.start prefix.now) a }
+    requires onward { IsOnward sc.now prefix.now onward.now }
+    requires units { HasUnits sc.now units.now }
+    requires found { length finds.now ≡ sc.now.positions }
+    requires finds { HasFinds sc.now prefix.now t finds.now }
+    requires width { length sums.now ≡ sc.now.positions }
+    requires sums { HasSums sc.now prefix.now (t + 1) sums.now }
+    ensures best { result ≡ greatest_moves sc.now.moves (edge_reward_of sc.now prefix.now) (sc.now.horizon + 1 - t) t a }
+    ensures shares { length shares.new ≡ length shares.old }
+{
+    match sc.sweep().own_part(a) {
+        Some(_) => best_own(sc, prefix, onward, units, finds, sums, parts, t, a),
+        None => best_by_row(sc, prefix, onward, units, shares, finds, sums, parts, t, a),
+    }
+}
