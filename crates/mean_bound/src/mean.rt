@@ -164,6 +164,13 @@ impl Mean {
         self.levels.last()
     }
 
+    /// For each position the positions within reach of it, up to the horizon.
+    pub fn near(&self) -> &Near
+        ensures { (p : Problem) → IsMadeFor p self.now → AreNear p.moves p.horizon result.now }
+    {
+        &self.near
+    }
+
     /// Adds to the last prefix that was bounded the least of its continuations that reach the greatest sum of rewards.
     pub fn reference(&self, sc: &Scenario, to: &mut Path)
         requires made { IsMadeFor sc.now self.now }

@@ -3,14 +3,14 @@ use Rattle.std.specs.Prelude.{ℕ, Bool, true, false}
 use Rattle.search_model.specs.Problem.{Problem}
 use Rattle.search_model.specs.Bounds.{IsRate}
 use Rattle.mean_bound.specs.Means.{MeanState, IsMadeFor as IsMeanFor}
-use Rattle.tangent_bound.specs.Room.{TangentRoom, IsMadeFor as IsTangentFor}
-use Rattle.edge_bound.specs.Edges.{EdgeState, IsMadeFor as IsEdgeFor}
+use Rattle.tangent_bound.specs.Room.{TangentRoom, AreTablesFor as AreTangentTablesFor}
+use Rattle.edge_bound.specs.Edges.{EdgeRoom, AreTablesFor as AreEdgeTablesFor}
 
 -- the tables of the bounds
 pub record NodeTables : Type 0 where
   pub mean : MeanState
   pub tangent : TangentRoom
-  pub edge : EdgeState
+  pub edge : EdgeRoom
 
 -- whether a problem has one rate
 abbrev pub TellsRate : Problem → Bool → Type 0
@@ -20,5 +20,5 @@ TellsRate p false = (rate : ℕ) → ¬ IsRate p rate
 -- the tables are for this scenario, and the beliefs that they keep are right in it
 pub record IsMadeFor (p : Problem) (s : NodeTables) : Type 0 where
   pub mean : IsMeanFor p s.mean
-  pub tangent : IsTangentFor p s.tangent
-  pub edge : IsEdgeFor p s.edge
+  pub tangent : AreTangentTablesFor p s.tangent
+  pub edge : AreEdgeTablesFor p s.edge

@@ -5,31 +5,29 @@ ghost use Rattle.search_model.specs.Problem.{Problem};
 ghost use Rattle.search_model.specs.Legal.{IsLegal, moves_after};
 ghost use Rattle.search_model.specs.Bounds.{IsRate, mean_of, tangent_of};
 ghost use Rattle.search_model.specs.Reference.{IsReference};
-ghost use Rattle.belief_update.specs.Trails.{IsPast};
 ghost use Rattle.bound_tree.specs.Close.{IsClosed, IsExact, IsAtLeast, IsLeftOpen};
 ghost use Rattle.bound_tree.specs.Cut.{is_cut};
 ghost use Rattle.mean_bound.specs.Means.{IsMadeFor as IsMeanFor, IsAlong, IsFilledFor};
-ghost use Rattle.tangent_bound.specs.Room.{IsMadeFor as IsTangentFor};
+ghost use Rattle.tangent_bound.specs.Room.{AreTablesFor as AreTangentTablesFor};
 ghost use Rattle.path_node.specs.Room.{IsMadeFor, TellsRate};
 
-use belief_update::Belief;
 use bound_tree::{Kind, TreeNode, cuts, in_parts};
-use edge_bound::Edge;
+use edge_bound::EdgeTables;
 use exact_parts::NoMemory;
 use mean_bound::Mean;
 use scout_path::scout;
 use search_model::{Path, Scenario, Standing};
 use std::alloc::Global;
 use std::marker::Model;
-use tangent_bound::Tangent;
+use tangent_bound::TangentTables;
 
-/// Tables with which prefixes of one scenario are closed: those of the bounds. All bounds and values go by the beliefs that
-/// the mean bound keeps, after the prefix that is closed and after each shorter front of it.
+/// Tables with which prefixes of one scenario are closed: those of the bounds. All bounds and values go by what the mean bound
+/// keeps: the positions within reach, and the beliefs after the prefix that is closed and after each shorter front of it.
 #[derive(Drop)]
 pub struct Scratch {
     mean: Mean,
-    tangent: Tangent,
-    edge: Edge,
+    tangent: TangentTables,
+    edge: EdgeTables,
 }
 
 impl Model for Scratch {
@@ -41,8 +39,8 @@ impl Model for Scratch {
 }
 
 // Whether the looks of the scenario that the tables of a tangent bound were made for have one rate, which they keep.
-fn has_rate(tangent: &Tangent) -> bool
-    ensures { (p : Problem) → IsTangentFor p tangent.now → TellsRate p result }
+fn has_rate(tangent: &TangentTables) -> bool
+    ensures { (p : Problem) → AreTangentTablesFor p tangent.now → TellsRate p result }
 {
     tangent.rate().is_some()
 }
@@ -54,8 +52,8 @@ impl Scratch {
     {
         Ok(Scratch {
             mean: Mean::tables(alloc, sc)?,
-            tangent: Tangent::tables(alloc, sc)?,
-            edge: Edge::tables(alloc, sc)?,
+            tangent: TangentTables::tables(alloc, sc)?,
+            edge: EdgeTables::tables(alloc, sc)?,
         })
     }
 
@@ -70,17 +68,6 @@ impl Scratch {
     {
         scout(&mut self.mean, sc, first)
     }
-}
-
-// The belief ahead of the look that comes after a prefix, where the tables are along it.
-fn ahead_of<'a>(mean: &'a Mean, sc: &Scenario, prefix: &Path) -> &'a Belief
-    requires made { IsMeanFor sc.now mean.now }
-    requires there { IsAlong prefix.now mean.now }
-    requires shorter { length prefix.now < sc.now.horizon }
-    ensures past { IsPast sc.now prefix.now result.now }
-    ensures near { result.now.period ≤ length prefix.now + 1 }
-{
-    mean.onward().ahead(sc, prefix)
 }
 
 // The least path of the greatest sum of rewards after a prefix, by the rewards that its mean bound took.
@@ -114,11 +101,12 @@ fn close_by_edge(
     ensures made { IsMadeFor sc.now scratch.new }
 {
     sc.recall_sound();
+    let near = scratch.mean.near();
     let onward = scratch.mean.onward();
     let enough = standing.value + 1;
     let edge = scratch
         .edge
-        .bound_or_enough(sc, onward, prefix, reference, enough);
+        .bound_or_enough(sc, near, onward, prefix, reference, enough);
     if cuts(standing, edge, prefix) {
         Kind::Edge(edge)
     } else {
@@ -126,19 +114,51 @@ fn close_by_edge(
     }
 }
 
-// Whether the reference without its last look shows that the standing doesn't cut the prefix's tangent bound: the tangent
-// bound of a longer prefix of the reference is no more than that, and takes less time.
-fn is_seen_open(
-    tangent: &mut Tangent,
+// Whether the first `j` positions of the reference show that the standing doesn't cut the prefix's tangent bound: theirs is
+// no more than that, and takes the less time the more positions they are. Where they aren't longer than the prefix, nothing
+// is asked.
+fn is_shown_open(
+    tangent: &mut TangentTables,
     sc: &Scenario,
-    ahead: &Belief,
+    mean: &Mean,
+    prefix: &Path,
+    reference: &Path,
+    finer: &Standing,
+    j: u32,
+) -> bool
+    requires made { AreTangentTablesFor sc.now tangent.old }
+    requires mean { IsMeanFor sc.now mean.now }
+    requires there { IsAlong prefix.now mean.now }
+    requires rate { (rate : ℕ) × IsRate sc.now rate }
+    requires legal { IsLegal sc.now prefix.now }
+    requires reference { IsReference sc.now prefix.now reference.now }
+    requires long { length finer.now.path ≡ sc.now.horizon }
+    requires front { j < sc.now.horizon }
+    ensures open { IsTrue result → (rate : ℕ) → IsRate sc.now rate →
+        IsFalse (is_cut (tangent_of sc.now rate prefix.now reference.now) prefix.now finer.now) }
+    ensures made { AreTangentTablesFor sc.now tangent.new }
+{
+    sc.recall_sound();
+    if j as usize <= prefix.len() {
+        return false;
+    }
+    let shown = tangent.bound_by(sc, mean.near(), mean.onward(), prefix, reference, j);
+    !cuts(finer, shown, prefix)
+}
+
+// Whether the reference without its last look, or without its last two, shows that the standing doesn't cut the prefix's
+// tangent bound. Mostly one of them does.
+fn is_seen_open(
+    tangent: &mut TangentTables,
+    sc: &Scenario,
+    mean: &Mean,
     prefix: &Path,
     reference: &Path,
     finer: &Standing,
 ) -> bool
-    requires made { IsTangentFor sc.now tangent.old }
-    requires ahead { IsPast sc.now prefix.now ahead.now }
-    requires near { ahead.now.period ≤ length prefix.now + 1 }
+    requires made { AreTangentTablesFor sc.now tangent.old }
+    requires mean { IsMeanFor sc.now mean.now }
+    requires there { IsAlong prefix.now mean.now }
     requires rate { (rate : ℕ) × IsRate sc.now rate }
     requires legal { IsLegal sc.now prefix.now }
     requires shorter { length prefix.now < sc.now.horizon }
@@ -146,16 +166,19 @@ fn is_seen_open(
     requires long { length finer.now.path ≡ sc.now.horizon }
     ensures open { IsTrue result → (rate : ℕ) → IsRate sc.now rate →
         IsFalse (is_cut (tangent_of sc.now rate prefix.now reference.now) prefix.now finer.now) }
-    ensures made { IsTangentFor sc.now tangent.new }
+    ensures made { AreTangentTablesFor sc.now tangent.new }
 {
-    sc.recall_sound();
     let most = sc.horizon() - 1;
-    // Where no look is left out, that is the tangent bound itself.
-    if most as usize == prefix.len() {
-        return false;
-    }
-    let shown = tangent.bound_beyond(sc, ahead, prefix, reference, most);
-    !cuts(finer, shown, prefix)
+    is_shown_open(tangent, sc, mean, prefix, reference, finer, most)
+        || is_shown_open(
+            tangent,
+            sc,
+            mean,
+            prefix,
+            reference,
+            finer,
+            most.saturating_sub(1),
+        )
 }
 
 // Closes a prefix whose mean bound isn't cut, where the looks have one rate: by its tangent bound at the reference, if
@@ -181,11 +204,15 @@ fn close_by_tangent(
 {
     let whole = sc.sweep().denominator();
     let finer = in_parts(standing, whole);
-    let ahead = ahead_of(&scratch.mean, sc, prefix);
-    if is_seen_open(&mut scratch.tangent, sc, ahead, prefix, reference, &finer) {
+    let mean = &scratch.mean;
+    if is_seen_open(&mut scratch.tangent, sc, mean, prefix, reference, &finer) {
         return close_by_edge(scratch, sc, prefix, reference, standing);
     }
-    let tangent = scratch.tangent.bound_after(sc, ahead, prefix, reference);
+    let (near, onward) = (mean.near(), mean.onward());
+    let k = prefix.len() as u32;
+    let tangent = scratch
+        .tangent
+        .bound_by(sc, near, onward, prefix, reference, k);
     if cuts(&finer, tangent, prefix) {
         Kind::Tangent(tangent, *reference)
     } else {

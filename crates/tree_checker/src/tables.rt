@@ -10,20 +10,20 @@ ghost use Rattle.bound_tree.specs.Gaps.{ceiling_of};
 ghost use Rattle.tree_checker.specs.Rate.{one_rate_of};
 ghost use Rattle.tree_checker.specs.Tables.{AreMadeFor};
 
-use edge_bound::Edge;
+use edge_bound::EdgeTables;
 use exact_parts::NoMemory;
 use mean_bound::Mean;
 use search_model::{Path, Scenario};
 use std::alloc::Global;
-use tangent_bound::Tangent;
+use tangent_bound::TangentTables;
 
-/// The tables of the bounds. All values and bounds go by the beliefs that the mean bound keeps, and a prefix uses those of
-/// the part that it has in common with the one before it.
+/// The tables of the bounds. All values and bounds go by what the mean bound keeps: the positions within reach, and the
+/// beliefs, of which a prefix uses those of the part that it has in common with the one before it.
 #[derive(Drop)]
 pub(crate) struct BoundTables {
     pub(crate) mean: Mean,
-    pub(crate) tangent: Tangent,
-    pub(crate) edge: Edge,
+    pub(crate) tangent: TangentTables,
+    pub(crate) edge: EdgeTables,
 }
 
 impl BoundTables {
@@ -33,8 +33,8 @@ impl BoundTables {
     {
         Ok(BoundTables {
             mean: Mean::tables(alloc, sc)?,
-            tangent: Tangent::tables(alloc, sc)?,
-            edge: Edge::tables(alloc, sc)?,
+            tangent: TangentTables::tables(alloc, sc)?,
+            edge: EdgeTables::tables(alloc, sc)?,
         })
     }
 
@@ -101,8 +101,10 @@ impl BoundTables {
     {
         let _known = rate;
         self.mean.go_to(sc, prefix);
-        let ahead = self.mean.onward().ahead(sc, prefix);
-        self.tangent.bound_after(sc, ahead, prefix, reference)
+        let (near, onward) = (self.mean.near(), self.mean.onward());
+        let k = prefix.len() as u32;
+        self.tangent
+            .bound_by(sc, near, onward, prefix, reference, k)
     }
 
     /// The edge bound of a legal prefix that is shorter than the horizon.
@@ -114,6 +116,7 @@ impl BoundTables {
         ensures made { AreMadeFor sc.now self.new }
     {
         self.mean.go_to(sc, prefix);
-        self.edge.bound_by(sc, self.mean.onward(), prefix)
+        self.edge
+            .bound_by(sc, self.mean.near(), self.mean.onward(), prefix)
     }
 }

@@ -5,6 +5,8 @@ use Rattle.search_model.proofs.Totals.{whole_weight-fits}
 use Rattle.bound_tree.specs.Cut.{is_cut}
 use Rattle.bound_tree.proofs.Tangents.{reference_extends}
 use Rattle.path_node.proofs.Cutting.{cut-within, above-open}
+use Rattle.mean_bound.specs.Means.{IsMadeFor as IsMeanFor, IsAlong}
+use Rattle.path_node.specs.Room.{NodeTables}
 use Rattle.path_node.proofs.node.close_by_edge.Goals as goal
 use Rattle.path_node.proofs.node.close_by_edge.Goals.{then-cuts, else-cuts}
 
@@ -33,3 +35,10 @@ returns-clause-closed c =
           ] in
           rw w.result-is (c.requires.shorter, c.requires.open, left)
     ]
+
+pub bound_or_enough-edge-requires-clause-onward : goal.bound_or_enough-edge-requires-clause-onward
+bound_or_enough-edge-requires-clause-onward c =
+    let p = c.args.sc.now in
+    let made : IsMeanFor p c.scratch.inside.mean = rw (ap (λ (s : NodeTables). s.mean) c.scratch.view_is) c.requires.made.mean in
+    let there : IsAlong c.args.prefix.now c.scratch.inside.mean = rw (ap (λ (s : NodeTables). s.mean) c.scratch.view_is) c.requires.there in
+    c.onward-onward.ensures p c.args.prefix.now made there
