@@ -1,17 +1,19 @@
 -- The table of what looks find of units: its rows, and which periods one block of it serves.
-use Rattle.std.proofs.Common.{ℕ, ◌+◌, ◌*◌, ◌-◌, ◌<◌, ◌≤◌, ◌≡◌, List, slice_index, sym, ap, ◌∙◌, arith, inl, inr, sum_by, mul-le-mul_left}
+use Rattle.std.proofs.Common.{ℕ, ◌+◌, ◌*◌, ◌-◌, ◌<◌, ◌≤◌, ◌≡◌, List, [], ◌∷◌, length, slice_index, get_or, set, take, refl, sym, ap, ◌∙◌, arith, inl, inr, sum_by, mul-le-mul_left, get_or-set_same, get_or-set_other}
 use Rattle.std.specs.List.{range_with_len}
-use Rattle.std.proofs.lemmas.Bool.{cases_eq}
+use Rattle.std.proofs.lemmas.Bool.{cases_eq, eq-eqb}
 use Rattle.std.proofs.lemmas.Nat.{mul-le}
 use Rattle.std.proofs.Math.Nat.{mul-le-mul_right}
 use Rattle.period_rows.specs.declared.part.CellPart.{CellPart}
-use Rattle.drift_chain.specs.DriftRows.{part_of, part_in}
-use Rattle.sweep_table.specs.LookParts.{look_row, factor_of}
+use Rattle.drift_chain.specs.DriftRows.{row_of, part_of, part_in}
+use Rattle.sweep_table.specs.LookParts.{look_row, factor_in, factor_of, misses}
 use Rattle.search_model.specs.Problem.{Problem, IsProblem}
 use Rattle.search_model.proofs.DriftSums.{steps_total}
-use Rattle.search_model.proofs.LookRows.{found_in_cells}
+use Rattle.search_model.proofs.LookRows.{found_in_cells, sum_own}
+use Rattle.belief_update.proofs.RowSteps.{part_in_more_same, part_in_more_other, part_in_more_le}
 use Rattle.list_laws.proofs.Sums.{sum_by-range-le, sum_by-times}
 use Rattle.edge_bound.specs.Found.{found_in, one_of}
+use Rattle.edge_bound.specs.Moves.{IsOwn}
 use Rattle.edge_bound.specs.Units.{HasUnits, HasBlock, HasBlocks, IsSteady}
 
 -- What a look finds of a unit.
@@ -27,6 +29,20 @@ one-within p sound t c b here =
     let most = mul-le _ _ _ _ sound.drift.denominator.1 sound.sweep.denominator.1 in
     omega (arith, found_in_cells p sound t b part, each, whole, most)
 
+-- the factor of a look in its own cell, where it covers that one alone
+own_factor : (p : Problem) (t b part : ℕ) → look_row p.sweep t b ≡ misses b part ∷ [] → factor_of p.sweep t b b ≡ part
+unfolding factor_of factor_in
+own_factor p t b part own = rw (own, eq-eqb b b refl) refl
+
+-- and what it then finds is found there
+one_own : (p : Problem) → IsProblem p → (t c b : ℕ) → IsOwn p b → one_of p t c b ≡ part_of p.drift (t - 1) c b * (p.sweep.denominator - factor_of p.sweep t b b)
+one_own p sound t c b (part, own) = rw (sum_own p sound t b p.sweep refl part own (found_in p (part_of p.drift (t - 1) c)), own_factor p t b part (own t)) refl
+
+-- by the drift's row of the cell
+pub entries_give : (p : Problem) → IsProblem p → (t c b : ℕ) → IsOwn p b → (row : List CellPart) → row ≡ row_of p.drift (t - 1) c →
+    part_in row b * (p.sweep.denominator - factor_of p.sweep t b b) ≡ one_of p t c b
+entries_give p sound t c b own row is = rw is (sym (one_own p sound t c b own))
+
 -- in a steady problem it is the same in all periods
 steady_one : (p : Problem) → IsSteady p → (t c b : ℕ) → 2 ≤ t → t ≤ p.horizon → c < p.cells → b < p.positions → one_of p t c b ≡ one_of p 2 c b
 steady_one p steady t c b first last here there =
@@ -40,6 +56,33 @@ pub row_inside : (cells positions c : ℕ) → c < cells → c * positions + pos
 row_inside cells positions c here =
     let rows : (c + 1) * positions ≤ cells * positions = mul-le-mul_right positions (omega (arith, here)) in
     omega (arith, rows)
+
+-- an entry more of the drift's row of a cell: its number counts at its own cell alone, if that is a position
+module _ (here positions : ℕ) (left : ℕ → ℕ) (old : List ℕ) (row : List CellPart) (i : ℕ) (e : CellPart) (inside : i < length row)
+    (filled : (b : ℕ) → b < positions → slice_index old (here + b) ≡ part_in (take i row) b * left b) where
+  pub entry_added : here + positions ≤ length old → (get_or row i e).cell < positions →
+      (v : ℕ) → v ≡ get_or old (here + (get_or row i e).cell) 0 + (get_or row i e).part * left (get_or row i e).cell →
+      (b : ℕ) → b < positions → slice_index (set old (here + (get_or row i e).cell) v) (here + b) ≡ part_in (take (i + 1) row) b * left b
+  entry_added room there v is b short =
+      let d = (get_or row i e).cell in
+      elim (cases_eq d b) [
+        | inl same ↦
+            let place : here + d < length old = omega (arith, room, there) in
+            rw (← same, get_or-set_same old (here + d) v 0 place, part_in_more_same row i e d inside refl) (omega (arith, is, filled d there))
+        | inr apart ↦
+            rw (get_or-set_other old (here + d) (here + b) v 0 (λ s. apart (omega (arith, s))), part_in_more_other row i e b inside apart) (filled b short)
+      ]
+
+  pub entry_left_out : positions ≤ (get_or row i e).cell → (b : ℕ) → b < positions → slice_index old (here + b) ≡ part_in (take (i + 1) row) b * left b
+  entry_left_out past b short = rw (part_in_more_other row i e b inside (λ same. omega (arith, same, past, short))) (filled b short)
+
+  -- what is there with an entry more is within what all entries give
+  pub entry-within : (get_or row i e).cell < positions →
+      get_or old (here + (get_or row i e).cell) 0 + (get_or row i e).part * left (get_or row i e).cell ≤ part_in row (get_or row i e).cell * left (get_or row i e).cell
+  entry-within there =
+      let d = (get_or row i e).cell in
+      let more = mul-le-mul_right (left d) (part_in_more_le row i e inside) in
+      omega (arith, filled d there, more)
 
 -- a row more of a block
 pub block_more : (p : Problem) (t here c : ℕ) (old new : List ℕ) →

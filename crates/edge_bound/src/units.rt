@@ -2,8 +2,9 @@
 
 ghost use Rattle.std.specs.Prelude.{◌≡◌, ◌<◌, ◌≤◌, ◌+◌, ◌-◌, ◌*◌, ℕ, length, slice_index, IsTrue, IfOk};
 ghost use Rattle.drift_chain.specs.DriftRows.{row_of};
-ghost use Rattle.sweep_table.specs.LookParts.{look_row};
+ghost use Rattle.sweep_table.specs.LookParts.{look_row, factor_of};
 ghost use Rattle.edge_bound.specs.Found.{one_of};
+ghost use Rattle.edge_bound.specs.Moves.{IsOwn};
 ghost use Rattle.edge_bound.specs.Units.{HasBlock, HasBlocks, IsSteady};
 
 use crate::moves::look_from;
@@ -93,6 +94,41 @@ fn is_steady(sc: &Scenario) -> bool
     true
 }
 
+// Whether looks from `b` cover the cell of its number alone.
+fn is_own(sc: &Scenario, b: u8) -> bool
+    requires { b < sc.now.positions }
+    ensures { IsTrue result → IsOwn sc.now b }
+{
+    match sc.sweep().own_part(b) {
+        Some(_) => true,
+        None => false,
+    }
+}
+
+// Whether looks from each position cover the cell of its number alone.
+fn has_own_looks(sc: &Scenario) -> bool
+    ensures { IsTrue result → (b : ℕ) → b < sc.now.positions → IsOwn sc.now b }
+{
+    for b in 0..sc.positions() {
+        if !is_own(sc, b) {
+            return false;
+        }
+    }
+    true
+}
+
+// How much of a target in its own cell a look from `b` finds, where it covers that cell alone.
+fn left_own(sc: &Scenario, t: u32, b: u8) -> u32
+    requires own { IsOwn sc.now b }
+    requires first { 1 ≤ t }
+    requires last { t ≤ sc.now.horizon }
+    requires position { b < sc.now.positions }
+    ensures { result ≡ sc.now.sweep.denominator - factor_of sc.now.sweep t b b }
+{
+    sc.recall_sound();
+    sc.sweep().denominator() - sc.sweep().factor(t, b, b)
+}
+
 // What a look from `b` in period `t` finds of a unit that was in cell `c` a period before.
 fn found_of_one(sc: &Scenario, t: u32, c: u8, b: u8) -> u64
     requires first { 2 ≤ t }
@@ -112,7 +148,7 @@ fn found_of_one(sc: &Scenario, t: u32, c: u8, b: u8) -> u64
 }
 
 // Writes the numbers of one cell in a period, position by position, from `here` on.
-fn fill_cell(units: &mut [u64], sc: &Scenario, here: usize, t: u32, c: u8)
+fn fill_cell_by_looks(units: &mut [u64], sc: &Scenario, here: usize, t: u32, c: u8)
     requires first { 2 ≤ t }
     requires last { t ≤ sc.now.horizon }
     requires cell { c < sc.now.cells }
@@ -126,6 +162,73 @@ fn fill_cell(units: &mut [u64], sc: &Scenario, here: usize, t: u32, c: u8)
     }
 }
 
+// Writes zeros for all positions from `here` on.
+fn clear_cell(units: &mut [u64], sc: &Scenario, here: usize)
+    requires room { here + sc.now.positions ≤ length units.old }
+    ensures size { length units.new ≡ length units.old }
+    ensures each { (b : ℕ) → b < sc.now.positions → slice_index units.new (here + b) ≡ 0 }
+    ensures earlier { (i : ℕ) → i < here → slice_index units.new i ≡ slice_index units.old i }
+{
+    for b in 0..usize::from(sc.positions()) {
+        units[here + b] = 0;
+    }
+}
+
+// Adds to the numbers of one cell what the entries of its row give, where all looks cover their own cells alone.
+fn add_entries(units: &mut [u64], sc: &Scenario, here: usize, t: u32, c: u8)
+    requires own { (b : ℕ) → b < sc.now.positions → IsOwn sc.now b }
+    requires first { 2 ≤ t }
+    requires last { t ≤ sc.now.horizon }
+    requires cell { c < sc.now.cells }
+    requires room { here + sc.now.positions ≤ length units.old }
+    requires zeros { (b : ℕ) → b < sc.now.positions → slice_index units.old (here + b) ≡ 0 }
+    ensures size { length units.new ≡ length units.old }
+    ensures each { (b : ℕ) → b < sc.now.positions → slice_index units.new (here + b) ≡ one_of sc.now t c b }
+    ensures earlier { (i : ℕ) → i < here → slice_index units.new i ≡ slice_index units.old i }
+{
+    let row = sc.drift().row(t - 1, c);
+    for entry in row {
+        if entry.cell < sc.positions() {
+            let left = left_own(sc, t, entry.cell);
+            units[here + usize::from(entry.cell)] += u64::from(entry.part) * u64::from(left);
+        }
+    }
+}
+
+// Writes the numbers of one cell in a period, from `here` on, where all looks cover their own cells alone: those of the
+// entries of its row, and zeros.
+fn fill_cell_by_entries(units: &mut [u64], sc: &Scenario, here: usize, t: u32, c: u8)
+    requires own { (b : ℕ) → b < sc.now.positions → IsOwn sc.now b }
+    requires first { 2 ≤ t }
+    requires last { t ≤ sc.now.horizon }
+    requires cell { c < sc.now.cells }
+    requires room { here + sc.now.positions ≤ length units.old }
+    ensures size { length units.new ≡ length units.old }
+    ensures each { (b : ℕ) → b < sc.now.positions → slice_index units.new (here + b) ≡ one_of sc.now t c b }
+    ensures earlier { (i : ℕ) → i < here → slice_index units.new i ≡ slice_index units.old i }
+{
+    clear_cell(units, sc, here);
+    add_entries(units, sc, here, t, c);
+}
+
+// Writes the numbers of one cell in a period from `here` on; `own` may say that all looks cover their own cells alone.
+fn fill_cell(units: &mut [u64], sc: &Scenario, own: bool, here: usize, t: u32, c: u8)
+    requires own { IsTrue own → (b : ℕ) → b < sc.now.positions → IsOwn sc.now b }
+    requires first { 2 ≤ t }
+    requires last { t ≤ sc.now.horizon }
+    requires cell { c < sc.now.cells }
+    requires room { here + sc.now.positions ≤ length units.old }
+    ensures size { length units.new ≡ length units.old }
+    ensures each { (b : ℕ) → b < sc.now.positions → slice_index units.new (here + b) ≡ one_of sc.now t c b }
+    ensures earlier { (i : ℕ) → i < here → slice_index units.new i ≡ slice_index units.old i }
+{
+    if own {
+        fill_cell_by_entries(units, sc, here, t, c)
+    } else {
+        fill_cell_by_looks(units, sc, here, t, c)
+    }
+}
+
 // Writes the numbers of a period, cell by cell, from `here` on.
 fn fill_block(units: &mut [u64], sc: &Scenario, here: usize, t: u32)
     requires first { 2 ≤ t }
@@ -136,8 +239,9 @@ fn fill_block(units: &mut [u64], sc: &Scenario, here: usize, t: u32)
     ensures earlier { (i : ℕ) → i < here → slice_index units.new i ≡ slice_index units.old i }
 {
     let positions = usize::from(sc.positions());
+    let own = has_own_looks(sc);
     for c in 0..sc.cells() {
-        fill_cell(units, sc, here + usize::from(c) * positions, t, c);
+        fill_cell(units, sc, own, here + usize::from(c) * positions, t, c);
     }
 }
 

@@ -1,0 +1,7 @@
+use Rattle.std.proofs.Common.{◌<◌, ℕ}
+use Rattle.edge_bound.specs.Moves.{IsOwn}
+use Rattle.edge_bound.proofs.units.has_own_looks.Given as goal
+
+-- the positions so far
+abbrev pub invariant-loop-b : goal.invariant-loop-b
+invariant-loop-b l = (b : ℕ) → b < l.b → IsOwn l.sc b
