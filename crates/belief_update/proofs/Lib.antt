@@ -5,6 +5,7 @@ pub mod LaterTracks
 pub mod Missed
 pub mod Rewards
 pub mod Examples
+pub mod SparseSums
 pub mod RowSteps
 pub mod BeliefSteps
 pub mod Looks

@@ -71,23 +71,30 @@ fn spread(next: &mut [u128], row: &[DriftPart], mass: u128)
     }
 }
 
-// Adds what the drift sends on of the mass of cell `c` in the step after period `t`; where there is none, no row is looked
-// for.
-fn spread_from(next: &mut [u128], drift: &Drift, t: u32, c: u8, mass: u128)
-    requires cells { length next.old ≡ drift_cells drift.now }
-    requires first { 1 ≤ t }
-    requires last { t ≤ 31 }
-    requires cell { c < drift_cells drift.now }
-    requires fits { (d : ℕ) → d < length next.old → slice_index next.old d + mass * part_of drift.now t c d < 2 ^ 127 }
-    ensures each { (d : ℕ) → d < length next.old →
-        slice_index next.new d ≡ slice_index next.old d + mass * part_of drift.now t c d }
+/// Writes zeros.
+pub fn clear(masses: &mut [u128])
+    ensures { (c : ℕ) → c < length masses.old → slice_index masses.new c ≡ 0 }
 {
-    if mass > 0 {
-        spread(next, drift.row(t, c), mass);
-    }
+    masses.fill(0);
 }
 
-/// Writes into `next` what the drift makes of the masses in the step after period `t`.
+// The first cell from `from` on that has a mass, or the number of cells, where none has.
+fn next_mass(masses: &[u128], from: usize) -> usize
+    requires { from ≤ length masses.now }
+    ensures order { from ≤ result }
+    ensures inside { result ≤ length masses.now }
+    ensures none { (c : ℕ) → from ≤ c → c < result → slice_index masses.now c ≡ 0 }
+{
+    for c in from..masses.len() {
+        if masses[c] > 0 {
+            return c;
+        }
+    }
+    masses.len()
+}
+
+/// Writes into `next` what the drift makes of the masses in the step after period `t`. No row is looked for where there is no
+/// mass.
 pub fn move_on(next: &mut [u128], masses: &[u128], drift: &Drift, t: u32)
     requires cells { length next.old ≡ length masses.now }
     requires rows { length masses.now ≡ drift_cells drift.now }
@@ -98,9 +105,12 @@ pub fn move_on(next: &mut [u128], masses: &[u128], drift: &Drift, t: u32)
     ensures each { (d : ℕ) → d < length masses.now → slice_index next.new d ≡ sum_by (λ c.
         slice_index masses.now c * part_of drift.now t c d) (range_with_len 0 (length masses.now)) }
 {
-    next.fill(0);
-    for c in 0..drift.cells() {
-        spread_from(next, drift, t, c, masses[c as usize]);
+    let _cells = drift.cells();
+    clear(next);
+    let mut c = next_mass(masses, 0);
+    while c < masses.len() {
+        spread(next, drift.row(t, c as u8), masses[c]);
+        c = next_mass(masses, c + 1);
     }
 }
 
