@@ -10,7 +10,7 @@ use Rattle.belief_update.proofs.TrailSteps.{front_more, shorter_front}
 
 -- no level
 abbrev none : OnwardState
-none = record { belief = record { period = 0; looked = false; masses = [] }; rows = [] }
+none = record { belief = record { period = 0; looked = false; masses = [] }; rows = []; value = 0 }
 
 -- the level after look i, behind those before it
 pub level_more : (p : Problem) (looks : List ℕ) (i : ℕ) (levels front back : List OnwardState) (new : OnwardState) → levels ≡ front ++ back → length front ≡ i + 1 → i < length looks → length looks < p.horizon →

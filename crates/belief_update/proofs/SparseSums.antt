@@ -1,5 +1,5 @@
 -- Sums of which many terms are 0.
-use Rattle.std.proofs.Common.{ℕ, zero, suc, ◌+◌, ◌-◌, ◌<◌, ◌≤◌, ◌≡◌, sum_by, subst, refl, sym, ◌∙◌, arith, add-zero}
+use Rattle.std.proofs.Common.{ℕ, zero, suc, ◌+◌, ◌-◌, ◌<◌, ◌≤◌, ◌≡◌, sum_by, subst, refl, ◌∙◌, arith, add-zero}
 use Rattle.std.specs.List.{range_with_len}
 use Rattle.list_laws.proofs.Sums.{sum_by-range-suc, sum_by-range_more}
 

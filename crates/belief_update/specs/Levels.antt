@@ -1,21 +1,18 @@
 -- Beliefs of the periods after a prefix, and after each shorter front of it.
 use Rattle.std.specs.Prelude.{ℕ, ◌≡◌, ◌<◌, ◌≤◌, false, List, [], length, take, slice_index_or, All}
 use Rattle.search_model.specs.Problem.{Problem}
-use Rattle.belief_update.specs.Belief.{BeliefState}
 use Rattle.belief_update.specs.Taken.{TakenState}
 use Rattle.belief_update.specs.Onward.{OnwardState, IsMadeFor, IsOnward}
 
--- what contracts see: the prefix, per number of its looks the beliefs after so many, what the last look took, and a belief
--- that goes on from one of them
+-- what contracts see: the prefix, per number of its looks the beliefs after so many, and what the last looks took
 pub record LevelsState : Type 0 where
   pub prefix : List ℕ
   pub levels : List OnwardState
   pub taken : TakenState
-  pub belief : BeliefState
 
 -- the beliefs that are kept after so many looks
 abbrev pub level_at : List OnwardState → ℕ → OnwardState
-level_at levels k = slice_index_or levels k (record { belief = record { period = 0; looked = false; masses = [] }; rows = [] })
+level_at levels k = slice_index_or levels k (record { belief = record { period = 0; looked = false; masses = [] }; rows = []; value = 0 })
 
 -- one level for each number of looks below the horizon; up to n looks they are those of a list of positions
 pub record AreLevels (p : Problem) (q : List ℕ) (n : ℕ) (levels : List OnwardState) : Type 0 where
@@ -27,5 +24,4 @@ pub record AreLevels (p : Problem) (q : List ℕ) (n : ℕ) (levels : List Onwar
 pub record AreLevelsOf (p : Problem) (l : LevelsState) : Type 0 where
   pub short : length l.prefix < p.horizon
   pub cells : length l.taken.masses ≡ p.cells
-  pub belief : length l.belief.masses ≡ p.cells
   pub levels : AreLevels p l.prefix (length l.prefix) l.levels

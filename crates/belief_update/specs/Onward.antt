@@ -1,14 +1,16 @@
 -- Beliefs after a prefix, period by period.
 use Rattle.std.specs.Prelude.{ℕ, ◌≡◌, ◌-◌, ◌<◌, ◌≤◌, List, length}
 use Rattle.search_model.specs.Problem.{Problem}
+use Rattle.search_model.specs.Tracks.{value_of}
 use Rattle.belief_update.specs.Masses.{looks_to}
 use Rattle.belief_update.specs.Belief.{BeliefState, IsBelief}
 use Rattle.belief_update.specs.Trails.{row_at, HaveAllCells}
 
--- what contracts see: the belief that goes on, and one for each period
+-- what contracts see: the belief that goes on, one for each period, and a value
 pub record OnwardState : Type 0 where
   pub belief : BeliefState
   pub rows : List BeliefState
+  pub value : ℕ
 
 -- made for this scenario
 pub record IsMadeFor (p : Problem) (o : OnwardState) : Type 0 where
@@ -20,10 +22,11 @@ pub record IsMadeFor (p : Problem) (o : OnwardState) : Type 0 where
 abbrev pub AreOnwardTo : Problem → List ℕ → ℕ → List BeliefState → Type 0
 AreOnwardTo p q last rows = (t : ℕ) → length q < t → t ≤ last → IsBelief p (looks_to t q) (row_at rows (t - 1))
 
--- the beliefs of all periods after a prefix
+-- the beliefs of all periods after a prefix, and its value
 pub record IsOnward (p : Problem) (q : List ℕ) (o : OnwardState) : Type 0 where
   pub size : length o.rows ≡ p.horizon
   pub each : AreOnwardTo p q p.horizon o.rows
+  pub value : o.value ≡ value_of p q
 
 -- the beliefs of all periods after some prefix of so many positions
 abbrev pub IsOnwardBehind : Problem → ℕ → OnwardState → Type 0

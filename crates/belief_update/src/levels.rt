@@ -4,16 +4,13 @@ ghost use Rattle.std.specs.Prelude.{◌≡◌, ◌<◌, ◌≤◌, ◌+◌, [], 
 ghost use Rattle.search_model.specs.Problem.{Problem};
 ghost use Rattle.search_model.specs.Legal.{IsLegal};
 ghost use Rattle.search_model.specs.Tracks.{value_of};
-ghost use Rattle.belief_update.specs.Trails.{IsAhead};
 ghost use Rattle.belief_update.specs.Onward.{IsMadeFor, IsOnward};
 ghost use Rattle.belief_update.specs.Levels.{AreLevels, AreLevelsOf};
 
-use crate::along::look_along;
-use crate::belief::Belief;
+use crate::along::take_along;
 use crate::onward::Onward;
 use crate::taken::Taken;
 use crate::trail::in_common;
-use crate::values::value_by;
 use exact_parts::NoMemory;
 use search_model::{Path, Scenario};
 use std::alloc::Global;
@@ -26,10 +23,8 @@ pub struct Levels {
     prefix: Path,
     // Per number of looks, the beliefs after so many looks of the prefix.
     levels: Vec<Onward>,
-    // What the last look took.
+    // What the last look took, or the looks of the last prefix whose value was asked for.
     taken: Taken,
-    // The belief that goes on from a level where only a value is asked for.
-    belief: Belief,
 }
 
 impl Model for Levels {
@@ -38,7 +33,7 @@ impl Model for Levels {
 
     ghost Value = { LevelsState };
 
-    ghost view = { λ l. record { prefix = l.prefix; levels = l.levels.items; taken = l.taken; belief = l.belief } };
+    ghost view = { λ l. record { prefix = l.prefix; levels = l.levels.items; taken = l.taken } };
 
     ghost invariant = { λ l. length l.prefix < length l.levels.items };
 }
@@ -94,29 +89,21 @@ fn go_on(levels: &mut [Onward], taken: &mut Taken, sc: &Scenario, looks: &[u8], 
     }
 }
 
-// The belief ahead of look `k`.
-fn ahead_at<'a>(levels: &'a [Onward], sc: &Scenario, k: usize) -> &'a Belief
-    requires inside { k < sc.now.horizon }
-    requires levels { (q : List ℕ) × AreLevels sc.now q k levels.now }
-    ensures { (q : List ℕ) → AreLevels sc.now q k levels.now → k ≤ length q → IsAhead sc.now (take k q) result.now }
-{
-    sc.recall_sound();
-    levels[k].at(k as u32 + 1)
-}
-
-// The value of a prefix, by the belief ahead of its look `k`.
-fn value_from(belief: &mut Belief, sc: &Scenario, ahead: &Belief, prefix: &Path, k: usize) -> u128
-    requires cells { length belief.old.masses ≡ sc.now.cells }
+// The value of a prefix, by what its looks after the first `k` take of the level of so many.
+fn value_from(taken: &mut Taken, sc: &Scenario, onward: &Onward, prefix: &Path, k: u32) -> u128
+    requires room { length taken.old.masses ≡ sc.now.cells }
     requires legal { IsLegal sc.now prefix.now }
     requires inside { k ≤ length prefix.now }
-    requires ahead { IsAhead sc.now (take k prefix.now) ahead.now }
+    requires onward { IsOnward sc.now (take k prefix.now) onward.now }
     ensures value { result ≡ value_of sc.now prefix.now }
-    ensures cells { length belief.new.masses ≡ sc.now.cells }
+    ensures room { length taken.new.masses ≡ sc.now.cells }
 {
-    sc.recall_sound();
-    belief.copy_from(ahead);
-    look_along(sc, belief, prefix, k as u32, prefix.len() as u32);
-    value_by(sc, belief, prefix)
+    let looks = prefix.len() as u32;
+    if k == looks {
+        return onward.value();
+    }
+    take_along(sc, taken, onward, prefix, k, looks);
+    taken.value(sc, onward.value(), looks)
 }
 
 impl Levels {
@@ -132,7 +119,6 @@ impl Levels {
             prefix: Path::empty(),
             levels,
             taken: Taken::tables(alloc, sc)?,
-            belief: Belief::start(alloc, sc)?,
         })
     }
 
@@ -160,8 +146,8 @@ impl Levels {
         ensures prefix { self.new.prefix ≡ self.old.prefix }
     {
         let same = in_common(self.prefix.cells(), prefix.cells());
-        let ahead = ahead_at(&self.levels, sc, same);
-        value_from(&mut self.belief, sc, ahead, prefix, same)
+        let onward = &self.levels[same];
+        value_from(&mut self.taken, sc, onward, prefix, same as u32)
     }
 
     /// The beliefs of the periods after the prefix.

@@ -5,6 +5,7 @@ ghost use Rattle.search_model.specs.Legal.{IsLegal};
 ghost use Rattle.search_model.specs.Tracks.{value_of};
 ghost use Rattle.belief_update.specs.Trails.{IsPast, IsAhead, HaveAllCells, row_at};
 ghost use Rattle.belief_update.specs.Onward.{AreOnwardTo, IsOnward, IsOnwardBehind};
+ghost use Rattle.belief_update.specs.Taken.{IsTaken};
 
 use crate::belief::Belief;
 use crate::taken::Taken;
@@ -23,6 +24,8 @@ pub struct Onward {
     belief: Belief,
     // Per period, the belief in it. Only those of the periods after the prefix are right.
     rows: Vec<Belief>,
+    // The value of the prefix.
+    value: u128,
 }
 
 impl Model for Onward {
@@ -30,7 +33,7 @@ impl Model for Onward {
 
     ghost Value = { OnwardState };
 
-    ghost view = { λ o. record { belief = o.belief; rows = o.rows.items } };
+    ghost view = { λ o. record { belief = o.belief; rows = o.rows.items; value = o.value } };
 }
 
 // Writes the beliefs of all periods after a prefix, by the belief ahead of its next look, which drifts on without looks.
@@ -50,8 +53,8 @@ fn fill_rows(rows: &mut [Belief], belief: &mut Belief, sc: &Scenario, prefix: &P
     }
 }
 
-// Writes the beliefs of the periods after the first `k + 1` looks, by those after the first `k` and by what look `k` takes of
-// them from position `a`.
+// Writes the beliefs of the periods after the first `k + 1` looks, by those after the first `k` and by what look `k` took of
+// them from position `a` in its own period.
 fn leave_rows(
     rows: &mut [Belief],
     taken: &mut Taken,
@@ -64,15 +67,17 @@ fn leave_rows(
     requires position { a < sc.now.positions }
     requires size { length rows.old ≡ sc.now.horizon }
     requires cells { HaveAllCells sc.now rows.old }
-    requires room { length taken.old.masses ≡ sc.now.cells }
     requires before { IsOnwardBehind sc.now k before.now }
+    requires taken { (q : List ℕ) → length q ≡ k → IsOnward sc.now q before.now →
+        IsTaken sc.now q (q ++ a ∷ []) taken.old }
+    requires period { taken.old.period ≡ k + 1 }
     ensures rows { (q : List ℕ) → length q ≡ k → IsOnward sc.now q before.now →
         AreOnwardTo sc.now (q ++ a ∷ []) sc.now.horizon rows.new }
     ensures cells { HaveAllCells sc.now rows.new }
     ensures room { length taken.new.masses ≡ sc.now.cells }
 {
     sc.recall_sound();
-    taken.start(sc, before.at(k as u32 + 1), a);
+    let _position = a;
     for t in k + 1..rows.len() {
         taken.drift(sc);
         rows[t].leave_from(sc, before.at(t as u32 + 1), taken);
@@ -80,6 +85,7 @@ fn leave_rows(
 }
 
 impl Onward {
+    ghost use Rattle.search_model.specs.Problem.{Problem};
     ghost use Rattle.belief_update.specs.Onward.{IsMadeFor, IsOnward, IsOnwardBehind};
 
     /// Room for the periods of a scenario. Only this call takes memory.
@@ -89,6 +95,7 @@ impl Onward {
         Ok(Onward {
             belief: Belief::start(alloc, sc)?,
             rows: first_beliefs(alloc, sc, sc.horizon())?,
+            value: 0,
         })
     }
 
@@ -101,6 +108,7 @@ impl Onward {
         ensures made { IsMadeFor sc.now self.new }
         ensures onward { IsOnward sc.now prefix.now self.new }
     {
+        self.value = value_by(sc, &self.belief, prefix);
         self.belief.advance(sc);
         fill_rows(&mut self.rows, &mut self.belief, sc, prefix);
     }
@@ -130,6 +138,10 @@ impl Onward {
             IsOnward sc.now (q ++ a ∷ []) self.new }
         ensures room { length taken.new.masses ≡ sc.now.cells }
     {
+        sc.recall_sound();
+        let looks = k as u32 + 1;
+        taken.start(sc, before.at(looks), a);
+        self.value = taken.value(sc, before.value(), looks);
         leave_rows(&mut self.rows, taken, sc, before, k, a);
     }
 
@@ -142,23 +154,10 @@ impl Onward {
         &self.rows[t as usize - 1]
     }
 
-    /// The belief before the look that comes after the prefix, in the period of that look.
-    pub fn ahead(&self, sc: &Scenario, prefix: &Path) -> &Belief
-        requires short { length prefix.now < sc.now.horizon }
-        requires onward { IsOnward sc.now prefix.now self.now }
-        ensures past { IsPast sc.now prefix.now result.now }
-        ensures near { result.now.period ≤ length prefix.now + 1 }
-    {
-        let _after = sc;
-        self.at(prefix.len() as u32 + 1)
-    }
-
     /// The value of the prefix, in parts of the whole weight.
-    pub fn value(&self, sc: &Scenario, prefix: &Path) -> u128
-        requires short { length prefix.now < sc.now.horizon }
-        requires onward { IsOnward sc.now prefix.now self.now }
-        ensures { result ≡ value_of sc.now prefix.now }
+    pub fn value(&self) -> u128
+        ensures { (p : Problem) (q : List ℕ) → IsOnward p q self.now → result ≡ value_of p q }
     {
-        value_by(sc, self.ahead(sc, prefix), prefix)
+        self.value
     }
 }

@@ -129,7 +129,7 @@ impl EdgeTables {
         ensures made { AreTablesFor sc.now self.new }
     {
         bound_from(
-            onward.value(sc, prefix),
+            onward.value(),
             onward,
             &self.units,
             &mut self.sums,
@@ -164,7 +164,7 @@ impl EdgeTables {
         ensures enough { enough ≤ result → enough ≤ edge_of sc.now prefix.now }
         ensures made { AreTablesFor sc.now self.new }
     {
-        let value = onward.value(sc, prefix);
+        let value = onward.value();
         let shown = sum_from(value, onward, &self.units, sc, prefix, path);
         if shown < enough {
             bound_from(

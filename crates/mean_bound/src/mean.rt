@@ -67,7 +67,7 @@ fn bound_by(
     ensures positions { walk.new.positions ≡ sc.now.positions }
     ensures horizon { walk.new.horizon ≡ sc.now.horizon }
 {
-    let value = onward.value(sc, prefix);
+    let value = onward.value();
     fill_rewards(rewards, sc, near, onward, prefix);
     let from = sc.last_after(prefix);
     walk.fill_near(sc.grid(), near, rewards, from, prefix.len() as u32);

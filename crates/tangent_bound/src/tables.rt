@@ -149,7 +149,7 @@ impl TangentTables {
     {
         let rate = self.rate.unwrap();
         bound_from(
-            onward.value(sc, prefix),
+            onward.value(),
             onward,
             &mut self.taken,
             &mut self.backward,

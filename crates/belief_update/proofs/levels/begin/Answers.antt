@@ -15,5 +15,5 @@ returns c =
       made = All-set (IsMadeFor p) levels 0 new c.go_to.ensures.made c.requires.made;
       after = λ k few below.
           let none : k ≡ 0 = omega (arith, few) in
-          rw (none, get_or-set_same levels 0 new (record { belief = record { period = 0; looked = false; masses = [] }; rows = [] }) there) onward;
+          rw (none, get_or-set_same levels 0 new (record { belief = record { period = 0; looked = false; masses = [] }; rows = []; value = 0 }) there) onward;
     }

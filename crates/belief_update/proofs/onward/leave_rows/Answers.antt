@@ -1,24 +1,13 @@
-use Rattle.std.proofs.Common.{◌≡◌, ◌<◌, ◌+◌, ◌-◌, ◌++◌, ◌∷◌, [], ℕ, List, length, subst, ◌∙◌, arith, length-append}
+use Rattle.std.proofs.Common.{◌≡◌, ◌<◌, ◌+◌, ◌-◌, ◌++◌, ◌∷◌, [], ℕ, List, length, arith, length-append}
 use Rattle.std.proofs.lemmas.List.Elements.{All-set}
 use Rattle.search_model.specs.Problem.{Problem}
 use Rattle.belief_update.specs.Masses.{looks_to}
 use Rattle.belief_update.specs.Belief.{BeliefState, IsBelief}
 use Rattle.belief_update.specs.Taken.{TakenState, IsTaken, IsLater}
 use Rattle.belief_update.specs.Onward.{IsOnward, OnwardState}
-use Rattle.belief_update.specs.Trails.{row_at, IsAhead}
-use Rattle.belief_update.proofs.Looks.{length-looks_to}
+use Rattle.belief_update.specs.Trails.{row_at}
 use Rattle.belief_update.proofs.OnwardRows.{row_more, belief_at}
 use Rattle.belief_update.proofs.onward.leave_rows.Goals as goal
-
--- the belief ahead of the look
-ahead : (p : Problem) (q : List ℕ) (k : ℕ) (o : OnwardState) (b : BeliefState) → length q ≡ k → k + 1 < p.horizon → IsOnward p q o → b ≡ row_at o.rows (k + 1 - 1) → IsAhead p q b
-ahead p q k o b size short on same =
-    let next : k + 1 ≡ length q + 1 = omega (arith, size) in
-    subst (λ (t : ℕ). IsBelief p (looks_to t q) b) next (belief_at p q o (k + 1) b on (omega (arith, size)) (omega (arith, short)) same)
-
--- it is in the look's period
-period_of : (p : Problem) (q : List ℕ) (k : ℕ) (b : BeliefState) → length q ≡ k → IsAhead p q b → b.period ≡ k + 1
-period_of p q k b size ahead = omega (arith, length-looks_to (length q + 1) q (omega arith), ahead.periods, size)
 
 -- the belief of a later period, and what the look took
 beside : (p : Problem) (q : List ℕ) (a t : ℕ) (o : OnwardState) (b : BeliefState) (s : TakenState) → IsOnward p q o → length q < t → t < p.horizon → s.period ≡ t + 1 → b ≡ row_at o.rows (t + 1 - 1) → IsTaken p q (q ++ a ∷ []) s → IsLater p q (q ++ a ∷ []) b s
@@ -31,23 +20,13 @@ beside p q a t o b s on later short period same taken = record {
   };
 }
 
-pub start-requires-clause-ahead : goal.start-requires-clause-ahead
-start-requires-clause-ahead c =
-    let (q, size, on) = c.requires.before in
-    (q, ahead c.args.sc.now q c.args.k c.args.before.now c.at.result.now size c.requires.short on c.at.ensures)
-
 pub loop-t-init : goal.loop-t-init
-loop-t-init c =
-    let p = c.args.sc.now in
-    let k = c.args.k in
-    let (some, some_size, some_on) = c.requires.before in
-    let first = ahead p some k c.args.before.now c.at.result.now some_size c.requires.short some_on c.at.ensures in
-    record {
-      cells = c.requires.cells;
-      period = c.start.ensures.period ∙ period_of p some k c.at.result.now some_size first;
-      taken = λ q size on. c.start.ensures.taken q (ahead p q k c.args.before.now c.at.result.now size c.requires.short on c.at.ensures);
-      rows = λ q size on t later last. absurd (omega (arith, size, later, last, length-append q (c.args.a ∷ [])));
-    }
+loop-t-init c = record {
+  cells = c.requires.cells;
+  period = c.requires.period;
+  taken = c.requires.taken;
+  rows = λ q size on t later last. absurd (omega (arith, size, later, last, length-append q (c.args.a ∷ [])));
+}
 
 pub drift-requires-clause-taken : goal.drift-requires-clause-taken
 drift-requires-clause-taken c =
@@ -62,7 +41,7 @@ leave_from-requires-clause-later c =
     let (q, size, on) = c.requires.before in
     let short : t < p.horizon = omega (arith, c.loop-t-test.true, c.loop-t.auto.rows, c.requires.size) in
     let period : c.drift.new.self.period ≡ t + 1 = omega (arith, c.drift.ensures.period, c.loop-t.invariant.period) in
-    (q, q ++ a ∷ [], beside p q a t c.args.before.now c.at-in-loop-t.result.now c.drift.new.self on (omega (arith, size, c.loop-t.auto.t)) short period c.at-in-loop-t.ensures (c.drift.ensures.taken q (q ++ a ∷ []) (c.loop-t.invariant.taken q size on)))
+    (q, q ++ a ∷ [], beside p q a t c.args.before.now c.at.result.now c.drift.new.self on (omega (arith, size, c.loop-t.auto.t)) short period c.at.ensures (c.drift.ensures.taken q (q ++ a ∷ []) (c.loop-t.invariant.taken q size on)))
 
 pub loop-t-preserved : goal.loop-t-preserved
 loop-t-preserved c =
@@ -75,7 +54,7 @@ loop-t-preserved c =
     let taken : (q : List ℕ) → length q ≡ c.args.k → IsOnward p q c.args.before.now → IsTaken p q (q ++ a ∷ []) c.drift.new.self = λ q size on.
     c.drift.ensures.taken q (q ++ a ∷ []) (c.loop-t.invariant.taken q size on) in
     let left : (q : List ℕ) → length q ≡ c.args.k → IsOnward p q c.args.before.now → IsBelief p (looks_to (t + 1) (q ++ a ∷ [])) c.leave_from.new.self = λ q size on.
-    let later = beside p q a t c.args.before.now c.at-in-loop-t.result.now c.drift.new.self on (omega (arith, size, c.loop-t.auto.t)) short period c.at-in-loop-t.ensures (taken q size on) in
+    let later = beside p q a t c.args.before.now c.at.result.now c.drift.new.self on (omega (arith, size, c.loop-t.auto.t)) short period c.at.ensures (taken q size on) in
     rw period at (c.leave_from.ensures q (q ++ a ∷ []) later) in
     let HasCells : BeliefState → Type 0 = λ b. length b.masses ≡ p.cells in
     let (some, some_size, some_on) = c.requires.before in

@@ -1,5 +1,4 @@
-use Rattle.std.proofs.Common.{ℕ, ◌*◌, ◌<◌, ◌≤◌, ◌+◌, ◌≡◌, length, slice_index, sum_by, sym, ap, ◌∙◌, arith, refl}
-use Rattle.std.specs.List.{range_with_len}
+use Rattle.std.proofs.Common.{ℕ, ◌*◌, ◌<◌, ◌≡◌, length, slice_index, sym, ◌∙◌, arith}
 use Rattle.drift_chain.specs.DriftRows.{part_of}
 use Rattle.list_laws.proofs.Sums.{sum_by-range-part}
 use Rattle.belief_update.proofs.SparseSums.{sum_by-none_to, sum_by-next}

@@ -14,6 +14,5 @@ returns-clause-made c =
     rw (stored, c.empty.ensures) (record {
       short = omega (arith, c.recall_sound.ensures.horizon);
       cells = c.in_ok-tables.ensures;
-      belief = c.in_ok-start.ensures.cells;
       levels = c.begin.ensures;
     })
