@@ -50,7 +50,7 @@ overflow_add-result c =
     let here = last_within p.moves sound.grid p.start (omega (arith, sound.start, sound.grid_positions)) q c.requires.legal.follows in
     let most = greatest-le p sound q (last_of p.start q) c.requires.short here in
     let fits = weights_fit p sound q (p.horizon - length q) (omega arith) in
-    rw (greatest_now c, c.value-value.ensures) (omega (arith, most, fits))
+    rw (greatest_now c, c.value-value.ensures p q c.requires.onward) (omega (arith, most, fits))
 
 pub returns-clause-bound : goal.returns-clause-bound
-returns-clause-bound c = rw (c.value-value.ensures, greatest_now c) refl
+returns-clause-bound c = rw (c.value-value.ensures c.args.sc.now c.args.prefix.now c.requires.onward, greatest_now c) refl

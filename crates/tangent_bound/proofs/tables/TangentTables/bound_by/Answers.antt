@@ -21,7 +21,7 @@ long : (p : Problem) (x : List ℕ) (j : ℕ) → IsPath p x → j < p.horizon �
 long p x j path short = length-take-le j x (omega (arith, short, path.whole))
 
 pub bound_from-requires-clause-value : goal.bound_from-requires-clause-value
-bound_from-requires-clause-value c = rw (c.len.ensures.value, c.requires.begins) c.value.ensures
+bound_from-requires-clause-value c = rw (c.len.ensures.value, c.requires.begins) (c.value.ensures c.args.sc.now c.args.prefix.now c.requires.onward)
 
 pub bound_from-requires-clause-onward : goal.bound_from-requires-clause-onward
 bound_from-requires-clause-onward c = rw (c.len.ensures.value, c.requires.begins) c.requires.onward
