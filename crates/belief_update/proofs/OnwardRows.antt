@@ -4,9 +4,8 @@ use Rattle.std.proofs.lemmas.Bool.{cases_lt}
 use Rattle.search_model.specs.Problem.{Problem}
 use Rattle.belief_update.specs.Masses.{looks_to}
 use Rattle.belief_update.specs.Belief.{BeliefState, IsBelief}
-use Rattle.belief_update.specs.Trails.{IsPast, row_at}
+use Rattle.belief_update.specs.Trails.{row_at}
 use Rattle.belief_update.specs.Onward.{OnwardState, AreOnwardTo, IsOnward}
-use Rattle.belief_update.proofs.PrefixValues.{past_ahead}
 
 -- the beliefs up to period t, and that of the next one behind them
 pub row_more : (p : Problem) (q : List ℕ) (t : ℕ) (rows : List BeliefState) (b : BeliefState) → t < length rows → AreOnwardTo p q t rows → IsBelief p (looks_to (t + 1) q) b → AreOnwardTo p q (t + 1) (set rows t b)
@@ -22,8 +21,3 @@ row_more p q t rows b here each belief u later last = elim (cases_lt t u) [
 -- what is read of them is the belief of its period
 pub belief_at : (p : Problem) (q : List ℕ) (o : OnwardState) (t : ℕ) (b : BeliefState) → IsOnward p q o → length q < t → t ≤ p.horizon → b ≡ row_at o.rows (t - 1) → IsBelief p (looks_to t q) b
 belief_at p q o t b onward later last same = rw same (onward.each t later last)
-
--- that of the first period after a prefix
-pub first_past : (p : Problem) (q : List ℕ) (o : OnwardState) (t : ℕ) (b : BeliefState) → IsOnward p q o → length q < p.horizon → t ≡ length q + 1 → b ≡ row_at o.rows (t - 1) → IsPast p q b
-first_past p q o t b onward short next same =
-    past_ahead p q b (rw (← next) (belief_at p q o t b onward (omega (arith, next)) (omega (arith, next, short)) same))

@@ -1,12 +1,12 @@
 -- The value of a prefix, by a belief after it.
-use Rattle.std.proofs.Common.{ℕ, ◌*◌, ◌-◌, ◌^◌, ◌+◌, ◌≤◌, ◌≡◌, List, Some, map, length, max, sym, subst, ◌∙◌, arith, sum}
+use Rattle.std.proofs.Common.{ℕ, ◌*◌, ◌-◌, ◌^◌, ◌≤◌, ◌≡◌, List, Some, map, length, max, sym, subst, ◌∙◌, arith, sum}
 use Rattle.std.proofs.Math.Nat.{le-max_right}
 use Rattle.std.proofs.lemmas.List.{length-map}
 use Rattle.search_model.specs.Problem.{Problem, IsProblem}
 use Rattle.search_model.specs.Tracks.{missed_weight}
 use Rattle.belief_update.specs.Masses.{looks_to}
 use Rattle.belief_update.specs.Belief.{BeliefState, IsBelief}
-use Rattle.belief_update.specs.Trails.{IsPast, IsAfter, IsAhead}
+use Rattle.belief_update.specs.Trails.{IsPast, IsAfter}
 use Rattle.belief_update.proofs.Looks.{length-looks_to, looks_to-whole}
 use Rattle.belief_update.proofs.Missed.{missed_by_masses_hold}
 
@@ -27,15 +27,8 @@ past_in p q t b late belief =
 pub past_after : (p : Problem) (q : List ℕ) (b : BeliefState) → IsAfter p q b → IsPast p q b
 past_after p q b after = past_in p q (max 1 (length q)) b (le-max_right 1 (length q)) after
 
-pub past_ahead : (p : Problem) (q : List ℕ) (b : BeliefState) → IsAhead p q b → IsPast p q b
-past_ahead p q b ahead = past_in p q (length q + 1) b (omega arith) ahead
-
 -- a belief with a look in each period
 pub past_whole : (p : Problem) (q : List ℕ) (b : BeliefState) → IsBelief p (map Some q) b → IsPast p q b
 past_whole p q b belief =
     let period : b.period ≡ length q = omega (arith, belief.periods, length-map q Some) in
     record { late = omega (arith, period); belief = rw (looks_to-whole b.period q period) belief }
-
--- after a prefix a belief is in no later period than that of the next look
-pub near_after : (p : Problem) (q : List ℕ) (b : BeliefState) → IsAfter p q b → b.period ≤ length q + 1
-near_after p q b after = omega (arith, after.periods, length-looks_to (max 1 (length q)) q (le-max_right 1 (length q)))

@@ -72,11 +72,7 @@ module _ (p : Problem) (sound : IsProblem p) where
       omega (arith, rw whole at law, all, nothing_is_cut_off p q sound)
 
   module _ (q r : List ℕ) (s : TakenState) (taken : IsTaken p q r s) where
-    -- no looks take more than there is
-    pub taken-le : (c : ℕ) → c < p.cells → slice_index s.masses c ≤ mass_of p (looks_to s.period q) c * s.scale
-    taken-le c here = omega (arith, taken.each c here)
-
-    -- and that is within the whole weight
+    -- masses without the looks, scaled, are within the whole weight
     pub without-le : (c : ℕ) → c < p.cells → mass_of p (looks_to s.period q) c * s.scale ≤ whole_weight p
     without-le c here = rw taken.scale (scaled-le q s.period (length r - length q) c taken.first (omega (arith, taken.order, taken.late)) taken.last (omega (arith, taken.order, taken.late, taken.last)) here)
 

@@ -12,7 +12,7 @@ mod taken;
 mod trail;
 mod values;
 
-pub use along::{look_along, look_on, take_along, take_on};
+pub use along::{take_along, take_on};
 pub use belief::Belief;
 pub use count::Steps;
 pub use laws::{masses_follow, missed_by_masses, one_look_more, rewards_by_masses, worked_masses};
