@@ -23,7 +23,7 @@ past_in p q t b late belief =
     let period : t ≡ b.period = sym (length-looks_to t q late) ∙ belief.periods in
     record { late = omega (arith, period, late); belief = subst (λ (n : ℕ). IsBelief p (looks_to n q) b) period belief }
 
--- in the period of its last look, and in the next one
+-- in the period of its last look
 pub past_after : (p : Problem) (q : List ℕ) (b : BeliefState) → IsAfter p q b → IsPast p q b
 past_after p q b after = past_in p q (max 1 (length q)) b (le-max_right 1 (length q)) after
 
