@@ -15,4 +15,5 @@ pub mod OnwardRows
 pub mod LevelSteps
 pub mod OneMore
 pub mod OwnLooks
+pub mod LookSteps
 pub mod TakenSteps

@@ -1,7 +1,7 @@
 //! What looks take of masses.
 
 ghost use Rattle.std.specs.Prelude.{◌≡◌, ◌<◌, ◌≤◌, ◌+◌, ◌-◌, ◌*◌, ◌^◌, ◌++◌, ◌∷◌, [], ℕ, List, length, slice_index, sum, IfOk};
-ghost use Rattle.sweep_table.specs.LookParts.{factor_in, factor_of, misses};
+ghost use Rattle.sweep_table.specs.LookParts.{factor_in, factor_of, misses, IsLookRow};
 ghost use Rattle.search_model.specs.Tracks.{value_of};
 ghost use Rattle.belief_update.specs.Masses.{mass_of, looks_to};
 ghost use Rattle.belief_update.specs.Belief.{IsReached};
@@ -15,6 +15,7 @@ use exact_parts::NoMemory;
 use search_model::Scenario;
 use std::alloc::Global;
 use std::marker::Model;
+use sweep_table::Look;
 
 /// What looks take of the masses of a prefix: what the first of them finds, which drifts on, and what each later one finds
 /// beside it. The masses with the looks are those without them, times the denominator for each look, less what was taken.
@@ -38,20 +39,25 @@ impl Model for Taken {
     ghost invariant = { λ s. length s.next.items ≡ length s.masses.items };
 }
 
-// How much of a target in cell `c` a look from position `a` in period `t` finds, out of the denominator.
-fn found_part(sc: &Scenario, t: u32, a: u8, c: u8) -> u32
+// The cells that a look from position `a` in period `t` covers, with the parts that it misses.
+fn look_from(sc: &Scenario, t: u32, a: u8) -> Look<'_>
     requires first { 1 ≤ t }
     requires last { t ≤ sc.now.horizon }
     requires position { a < sc.now.positions }
-    requires cell { c < sc.now.cells }
-    ensures { result ≡ sc.now.sweep.denominator - factor_of sc.now.sweep t a c }
+    ensures row { IsLookRow sc.now.sweep.denominator sc.now.cells result }
+    ensures factors { (c : ℕ) → factor_in sc.now.sweep.denominator result c ≡ factor_of sc.now.sweep t a c }
 {
-    sc.recall_sound();
-    let sweep = sc.sweep();
-    sweep.denominator() - sweep.factor(t, a, c)
+    sc.sweep().look(t, a)
 }
 
-// Writes into `found` what a look from position `a` finds in the period of a belief, cell by cell.
+// Writes zeros.
+fn clear(found: &mut [u128])
+    ensures { (c : ℕ) → c < length found.old → slice_index found.new c ≡ 0 }
+{
+    found.fill(0);
+}
+
+// Writes into `found` what a look from position `a` finds in the period of a belief, entry by entry of its row.
 #[inline(never)]
 fn find_by_row(found: &mut [u128], sc: &Scenario, ahead: &Belief, a: u8)
     requires width { length found.old ≡ sc.now.cells }
@@ -61,16 +67,12 @@ fn find_by_row(found: &mut [u128], sc: &Scenario, ahead: &Belief, a: u8)
         slice_index ahead.now.masses c * (sc.now.sweep.denominator - factor_of sc.now.sweep ahead.now.period a c) }
 {
     sc.recall_sound();
-    for c in 0..sc.cells() {
-        found[c as usize] = ahead.at(c) * u128::from(found_part(sc, ahead.period(), a, c));
+    clear(found);
+    let whole = sc.sweep().denominator();
+    let look = look_from(sc, ahead.period(), a);
+    for entry in look.parts() {
+        found[usize::from(entry.cell)] = ahead.at(entry.cell) * u128::from(whole - entry.part);
     }
-}
-
-// Writes zeros.
-fn clear(found: &mut [u128])
-    ensures { (c : ℕ) → c < length found.old → slice_index found.new c ≡ 0 }
-{
-    found.fill(0);
 }
 
 // The same where the look covers cell `a` alone, and misses a part of the whole there.
@@ -100,7 +102,8 @@ fn find(found: &mut [u128], sc: &Scenario, ahead: &Belief, a: u8)
     }
 }
 
-// Adds to `taken` what a look from position `a` finds in the period of a belief, cell by cell, where masses are scaled.
+// Adds to `taken` what a look from position `a` finds in the period of a belief, entry by entry of its row, where masses
+// are scaled.
 #[inline(never)]
 fn add_by_row(taken: &mut [u128], sc: &Scenario, belief: &Belief, scale: u128, a: u8)
     requires width { length taken.old ≡ sc.now.cells }
@@ -115,9 +118,11 @@ fn add_by_row(taken: &mut [u128], sc: &Scenario, belief: &Belief, scale: u128, a
         * (sc.now.sweep.denominator - factor_of sc.now.sweep belief.now.period a c) }
 {
     sc.recall_sound();
-    for c in 0..sc.cells() {
-        let part = found_part(sc, belief.period(), a, c);
-        taken[c as usize] += belief.at(c) * scale * u128::from(part);
+    let whole = sc.sweep().denominator();
+    let look = look_from(sc, belief.period(), a);
+    for entry in look.parts() {
+        let found = u128::from(whole - entry.part);
+        taken[usize::from(entry.cell)] += belief.at(entry.cell) * scale * found;
     }
 }
 

@@ -1,6 +1,7 @@
-use Rattle.std.proofs.Common.{◌≡◌, ◌<◌, ◌*◌, ◌-◌, ℕ, slice_index}
-use Rattle.sweep_table.specs.LookParts.{factor_of}
+use Rattle.std.proofs.Common.{◌≡◌, ◌<◌, ◌*◌, ◌-◌, ℕ, slice_index, take}
+use Rattle.sweep_table.specs.LookParts.{factor_in}
 use Rattle.belief_update.proofs.taken.find_by_row.Given as goal
 
-abbrev pub invariant-loop-c : goal.invariant-loop-c
-invariant-loop-c l = (k : ℕ) → k < l.c → slice_index l.found k ≡ slice_index l.ahead.masses k * (l.sc.sweep.denominator - factor_of l.sc.sweep l.ahead.period l.a k)
+-- what is found by the entries so far
+abbrev pub invariant-loop-entry : goal.invariant-loop-entry
+invariant-loop-entry l = (k : ℕ) → k < l.sc.cells → slice_index l.found k ≡ slice_index l.ahead.masses k * (l.sc.sweep.denominator - factor_in l.sc.sweep.denominator (take l.entry-index l.entry-items) k)
