@@ -1,11 +1,14 @@
 -- The factors of a look's row, entry by entry.
-use Rattle.std.proofs.Common.{ℕ, zero, suc, ◌+◌, ◌*◌, ◌-◌, ◌^◌, ◌<◌, ◌≡◌, ◌≢◌, ◌==◌, if◌then◌else◌, List, [], ◌∷◌, ◌++◌, length, get_or, slice_index, set, take, refl, sym, ap, ◌∙◌, arith, inl, inr, add-one, get_or-set_same, get_or-set_other}
+use Rattle.std.proofs.Common.{ℕ, zero, suc, ◌+◌, ◌*◌, ◌-◌, ◌^◌, ◌<◌, ◌≡◌, ◌≢◌, ◌==◌, if◌then◌else◌, List, [], ◌∷◌, ◌++◌, length, get_or, slice_index, set, take, refl, sym, ap, ◌∙◌, arith, All, inl, inr, add-one, get_or-set_same, get_or-set_other}
 use Rattle.std.proofs.Math.Seq.{take-suc}
-use Rattle.std.proofs.lemmas.Bool.{cases_eq, eq-eqb, ne_eqb}
+use Rattle.std.proofs.lemmas.Bool.{cases_lt, cases_eq, eq-eqb, ne_eqb}
+use Rattle.std.proofs.lemmas.List.{get_or_default}
+use Rattle.std.proofs.Math.Nat.{le_refl}
 use Rattle.list_laws.proofs.Ascending.{Ascends, Ascends-from_keys, Ascends-head, Ascends-tail}
 use Rattle.period_rows.specs.declared.part.CellPart.{CellPart}
 use Rattle.sweep_table.specs.LookParts.{factor_in, IsLookRow}
-use Rattle.sweep_table.proofs.Factors.{factor_in-entry}
+use Rattle.belief_update.specs.Places.{IsPlaceOf}
+use Rattle.sweep_table.proofs.Factors.{factor_in-none, factor_in-entry}
 
 -- a row that covers nothing misses all
 pub factor_none : (g c : ℕ) → factor_in g [] c ≡ g
@@ -86,3 +89,59 @@ module _ (g cells : ℕ) (row : List CellPart) (i : ℕ) (e : CellPart) (right :
         slice_index (set now (get_or row i e).cell (get_or now (get_or row i e).cell 0 + mass (get_or row i e).cell * (g - (get_or row i e).part))) c
         ≡ slice_index olds c + mass c * (g - factor_in g (take (i + 1) row) c)
     found-adds size = factor-step (λ c part. slice_index olds c + mass c * (g - part)) now size each _ (ap (λ (n : ℕ). n + mass (get_or row i e).cell * (g - (get_or row i e).part)) untouched)
+
+-- the place of a cell in a row in ascending order
+module _ (row : List CellPart) (c i : ℕ) (place : IsPlaceOf c row i) (e : CellPart) where
+  rises : Ascends (λ entry. entry.cell) row
+  rises = Ascends-from_keys (λ entry. entry.cell) row place.ascending
+
+  -- the entries behind it are of cells above, too
+  above : (k : ℕ) (d : CellPart) → i < k → k < length row → c < (get_or row k d).cell
+  above k d after inside =
+      let first = place.others i d (le_refl i) (omega arith) in
+      let next = rises i k d after inside in
+      omega arith
+
+  -- where it has the cell's entry, that has the factor
+  pub factor-at_place : (g : ℕ) → i < length row → (get_or row i e).cell ≡ c → (get_or row i e).part ≡ factor_in g row c
+  factor-at_place g inside same = rw (← same) (sym (factor_in-entry g row i e rises inside))
+
+  -- and the next cell stands behind it
+  pub place-more : i < length row → (get_or row i e).cell ≡ c → IsPlaceOf (c + 1) row (i + 1)
+  place-more inside same =
+      record {
+        ascending = place.ascending;
+        below = λ k d before. elim (cases_eq k i) [
+          | inl last ↦ rw (last, get_or_default row i d e inside) (omega (arith, same))
+          | inr apart ↦ omega (arith, place.below k d (omega (arith, before, apart)))
+        ];
+        others = λ k d after short. omega (arith, above k d (omega arith) short);
+      }
+
+  module _ (off : i < length row → (get_or row i e).cell ≢ c) where
+    none : All (λ entry. entry.cell ≢ c) row
+    none k d inside same =
+        elim (cases_lt k i) [
+          | inl before ↦ let less = place.below k d before in omega (arith, less, same)
+          | inr after ↦
+              elim (cases_eq k i) [
+                | inl first ↦
+                    let here : i < length row = omega arith in
+                    let own : (get_or row i d).cell ≡ c = rw (← first) same in
+                    off here (rw (get_or_default row i e d here) own)
+                | inr apart ↦ let more = above k d (omega (arith, after, apart)) inside in omega (arith, more, same)
+              ]
+        ]
+
+    -- else the cell has no entry
+    pub factor-off_place : (g : ℕ) → g ≡ factor_in g row c
+    factor-off_place g = sym (factor_in-none g row c none)
+
+    -- and the next cell stands there, too
+    pub place-same : IsPlaceOf (c + 1) row i
+    place-same =
+        record {
+          ascending = place.ascending;
+          below = λ k d before. omega (arith, place.below k d before);
+          others = λ k d after inside. let apart = none k d inside in omega (arith, place.others k d after inside, apart);
+        }

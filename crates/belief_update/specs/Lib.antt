@@ -6,3 +6,4 @@ pub mod Taken
 pub mod Levels
 pub mod Laws
 pub mod Worked
+pub mod Places

@@ -4,11 +4,36 @@ ghost use Rattle.std.specs.Prelude.{◌≡◌, ◌<◌, ◌≤◌, ◌+◌, ◌-
 ghost use Rattle.std.specs.List.{range_with_len};
 ghost use Rattle.drift_chain.specs.DriftRows.{part_in, part_of, drift_cells};
 ghost use Rattle.sweep_table.specs.LookParts.{factor_in, factor_of, misses, positions_of, cells_of};
+ghost use Rattle.belief_update.specs.Places.{IsPlaceOf};
 
 use drift_chain::{Drift, DriftPart};
-use sweep_table::Sweep;
+use sweep_table::{LookPart, Sweep};
 
-// Multiplies each mass by the factor of a look from position `a` in period `t`, which is looked for in its row.
+// The factor in cell `c` of a look over a row, by the place of the cell there.
+fn factor_at(row: &[LookPart], i: usize, c: u8, whole: u32) -> u32
+    requires { IsPlaceOf c row.now i }
+    ensures { result ≡ factor_in whole row.now c }
+{
+    if i < row.len() && row[i].cell == c {
+        row[i].part
+    } else {
+        whole
+    }
+}
+
+// The place in a row of the cell after cell `c`, by that of cell `c`.
+fn place_after(row: &[LookPart], i: usize, c: u8) -> usize
+    requires { IsPlaceOf c row.now i }
+    ensures { IsPlaceOf (c + 1) row.now result }
+{
+    if i < row.len() && row[i].cell == c {
+        i + 1
+    } else {
+        i
+    }
+}
+
+// Multiplies each mass by the factor of a look from position `a` in period `t`, going along its row.
 #[inline(never)]
 fn weaken_by_row(masses: &mut [u128], sweep: &Sweep, t: u32, a: u8)
     requires cells { length masses.old ≡ cells_of sweep.now }
@@ -19,8 +44,14 @@ fn weaken_by_row(masses: &mut [u128], sweep: &Sweep, t: u32, a: u8)
     ensures each { (c : ℕ) → c < length masses.old →
         slice_index masses.new c ≡ slice_index masses.old c * factor_of sweep.now t a c }
 {
+    let whole = sweep.denominator();
+    let look = sweep.look(t, a);
+    let row = look.parts();
+    let mut next = 0;
     for c in 0..sweep.cells() {
-        masses[c as usize] *= u128::from(sweep.factor(t, a, c));
+        let factor = factor_at(row, next, c, whole);
+        next = place_after(row, next, c);
+        masses[c as usize] *= u128::from(factor);
     }
 }
 
