@@ -50,13 +50,6 @@ fn look_from(sc: &Scenario, t: u32, a: u8) -> Look<'_>
     sc.sweep().look(t, a)
 }
 
-// Writes zeros.
-fn clear(found: &mut [u128])
-    ensures { (c : ℕ) → c < length found.old → slice_index found.new c ≡ 0 }
-{
-    found.fill(0);
-}
-
 // Writes into `found` what a look from position `a` finds in the period of a belief, entry by entry of its row.
 #[inline(never)]
 fn find_by_row(found: &mut [u128], sc: &Scenario, ahead: &Belief, a: u8)
@@ -67,7 +60,7 @@ fn find_by_row(found: &mut [u128], sc: &Scenario, ahead: &Belief, a: u8)
         slice_index ahead.now.masses c * (sc.now.sweep.denominator - factor_of sc.now.sweep ahead.now.period a c) }
 {
     sc.recall_sound();
-    clear(found);
+    steps::clear(found);
     let whole = sc.sweep().denominator();
     let look = look_from(sc, ahead.period(), a);
     for entry in look.parts() {
@@ -84,7 +77,7 @@ fn find_own(found: &mut [u128], sc: &Scenario, ahead: &Belief, a: u8, part: u32)
     ensures each { (c : ℕ) → c < sc.now.cells → slice_index found.new c ≡
         slice_index ahead.now.masses c * (sc.now.sweep.denominator - factor_in sc.now.sweep.denominator (misses a part ∷ []) c) }
 {
-    clear(found);
+    steps::clear(found);
     found[usize::from(a)] = ahead.at(a) * u128::from(sc.sweep().denominator() - part);
 }
 

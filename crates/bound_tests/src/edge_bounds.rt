@@ -1,9 +1,9 @@
-ghost use Rattle.belief_update.specs.Levels.{AreLevelsOf};
-ghost use Rattle.edge_bound.specs.Edges.{IsMadeFor};
+ghost use Rattle.mean_bound.specs.Means.{IsMadeFor as IsMeanFor};
+ghost use Rattle.edge_bound.specs.Edges.{IsMadeFor, AreTablesFor};
 
 use crate::scenarios::{crosses_threads, scenario_of};
-use belief_update::Levels;
-use edge_bound::Edge;
+use edge_bound::{Edge, EdgeTables};
+use mean_bound::Mean;
 use search_model::{Path, Scenario};
 use std::alloc::Global;
 use std::test::Fail;
@@ -73,17 +73,26 @@ lookin 3 d
 end
 ";
 
-// Whether a prefix may be bounded, and has this bound by the beliefs that are kept along it and by one from the start.
-fn has_bound(sc: &Scenario, edge: &mut Edge, levels: &mut Levels, cells: &[u8], bound: u128) -> bool
+// Whether a prefix may be bounded, and has this bound by what the mean bound keeps along it and by going from the start.
+fn has_bound(
+    sc: &Scenario,
+    edge: &mut Edge,
+    tables: &mut EdgeTables,
+    mean: &mut Mean,
+    cells: &[u8],
+    bound: u128,
+) -> bool
     requires edge { IsMadeFor sc.now edge.old }
-    requires levels { AreLevelsOf sc.now levels.old }
+    requires tables { AreTablesFor sc.now tables.old }
+    requires mean { IsMeanFor sc.now mean.old }
     ensures edge { IsMadeFor sc.now edge.new }
-    ensures levels { AreLevelsOf sc.now levels.new }
+    ensures tables { AreTablesFor sc.now tables.new }
+    ensures mean { IsMeanFor sc.now mean.new }
 {
     match Path::of(cells) {
         Some(prefix) if sc.is_legal(&prefix) && cells.len() < sc.horizon() as usize => {
-            levels.go_to(sc, &prefix);
-            let after = edge.bound_by(sc, levels.last(), &prefix);
+            mean.go_to(sc, &prefix);
+            let after = tables.bound_by(sc, mean.near(), mean.onward(), &prefix);
             after == bound && edge.bound(sc, &prefix) == bound
         }
         _ => false,
@@ -94,12 +103,19 @@ fn has_bound(sc: &Scenario, edge: &mut Edge, levels: &mut Levels, cells: &[u8], 
 type Bound = (&'static [u8], u128);
 
 // Whether prefixes have their bounds, one asked after the other.
-fn have_bounds(sc: &Scenario, edge: &mut Edge, levels: &mut Levels, cases: &[Bound]) -> bool
+fn have_bounds(
+    sc: &Scenario,
+    edge: &mut Edge,
+    tables: &mut EdgeTables,
+    mean: &mut Mean,
+    cases: &[Bound],
+) -> bool
     requires edge { IsMadeFor sc.now edge.old }
-    requires levels { AreLevelsOf sc.now levels.old }
+    requires tables { AreTablesFor sc.now tables.old }
+    requires mean { IsMeanFor sc.now mean.old }
 {
     for (cells, bound) in cases {
-        if !has_bound(sc, edge, levels, cells, *bound) {
+        if !has_bound(sc, edge, tables, mean, cells, *bound) {
             return false;
         }
     }
@@ -109,8 +125,9 @@ fn have_bounds(sc: &Scenario, edge: &mut Edge, levels: &mut Levels, cases: &[Bou
 // Whether the prefixes of a scenario have these bounds.
 fn are_bounded_over(alloc: Global, sc: &Scenario, bounds: &[Bound]) -> Result<bool, Fail> {
     let mut edge = Edge::tables(alloc, sc)?;
-    let mut levels = Levels::tables(alloc, sc)?;
-    Ok(have_bounds(sc, &mut edge, &mut levels, bounds))
+    let mut tables = EdgeTables::tables(alloc, sc)?;
+    let mut mean = Mean::tables(alloc, sc)?;
+    Ok(have_bounds(sc, &mut edge, &mut tables, &mut mean, bounds))
 }
 
 fn are_bounded(alloc: Global, text: &str, bounds: &[Bound]) -> Result<bool, Fail> {

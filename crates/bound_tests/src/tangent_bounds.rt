@@ -1,41 +1,81 @@
-ghost use Rattle.tangent_bound.specs.Room.{IsMadeFor};
+ghost use Rattle.std.specs.Prelude.{◌≡◌, ◌<◌, length, take, IsTrue};
+ghost use Rattle.search_model.specs.Legal.{IsLegal, IsPath};
+ghost use Rattle.mean_bound.specs.Means.{IsMadeFor as IsMeanFor};
+ghost use Rattle.tangent_bound.specs.Room.{IsMadeFor, AreTablesFor};
 
 use crate::scenarios::{WIDE_LOOKS, crosses_threads, scenario_of};
+use mean_bound::Mean;
 use search_model::{Path, Scenario};
 use std::alloc::Global;
 use std::test::Fail;
-use tangent_bound::Tangent;
+use tangent_bound::{Tangent, TangentTables};
 use worked_scenarios::{TWO_CELLS, WAITING_LONGER};
 
 // A prefix, the reference at which it is bounded, and the bound.
 type Bound = (&'static [u8], &'static [u8], u128);
 
-// The bound of a prefix at a reference, where they are within its conditions.
-fn bound_of(sc: &Scenario, tangent: &mut Tangent, prefix: &[u8], reference: &[u8]) -> Option<u128>
-    requires { IsMadeFor sc.now tangent.old }
-    ensures { IsMadeFor sc.now tangent.new }
+// Whether a prefix and a reference are within the conditions of a bound.
+fn may_be_bounded(sc: &Scenario, prefix: &Path, reference: &Path) -> bool
+    ensures legal { IsTrue result → IsLegal sc.now prefix.now }
+    ensures shorter { IsTrue result → length prefix.now < sc.now.horizon }
+    ensures path { IsTrue result → IsPath sc.now reference.now }
+    ensures begins { IsTrue result → take (length prefix.now) reference.now ≡ prefix.now }
 {
-    let prefix = Path::of(prefix)?;
-    let reference = Path::of(reference)?;
-    let _rate = tangent.rate()?;
-    if prefix.len() < sc.horizon() as usize
+    prefix.len() < sc.horizon() as usize
         && reference.len() == sc.horizon() as usize
-        && sc.is_legal(&prefix)
-        && sc.is_legal(&reference)
+        && sc.is_legal(prefix)
+        && sc.is_legal(reference)
         && reference.first(prefix.len()).cells() == prefix.cells()
+}
+
+// Whether a prefix has this bound at a reference: by going from the start, by what the mean bound keeps along it, and, as a
+// front of the reference, by what that keeps along no prefix at all.
+fn has_bound(
+    sc: &Scenario,
+    tangent: &mut Tangent,
+    tables: &mut TangentTables,
+    mean: &mut Mean,
+    case: &Bound,
+) -> bool
+    requires tangent { IsMadeFor sc.now tangent.old }
+    requires tables { AreTablesFor sc.now tables.old }
+    requires mean { IsMeanFor sc.now mean.old }
+    ensures tangent { IsMadeFor sc.now tangent.new }
+    ensures tables { AreTablesFor sc.now tables.new }
+    ensures mean { IsMeanFor sc.now mean.new }
+{
+    let (Some(prefix), Some(reference)) = (Path::of(case.0), Path::of(case.1)) else {
+        return false;
+    };
+    if tangent.rate().is_none()
+        || tables.rate().is_none()
+        || !may_be_bounded(sc, &prefix, &reference)
     {
-        Some(tangent.bound(sc, &prefix, &reference))
-    } else {
-        None
+        return false;
     }
+    let k = prefix.len() as u32;
+    mean.go_to(sc, &prefix);
+    let along = tables.bound_by(sc, mean.near(), mean.onward(), &prefix, &reference, k);
+    let none = Path::empty();
+    mean.go_to(sc, &none);
+    let front = tables.bound_by(sc, mean.near(), mean.onward(), &none, &reference, k);
+    along == case.2 && front == case.2 && tangent.bound(sc, &prefix, &reference) == case.2
 }
 
 // Whether prefixes have their bounds, each at its reference.
-fn have_bounds(sc: &Scenario, tangent: &mut Tangent, cases: &[Bound]) -> bool
-    requires { IsMadeFor sc.now tangent.old }
+fn have_bounds(
+    sc: &Scenario,
+    tangent: &mut Tangent,
+    tables: &mut TangentTables,
+    mean: &mut Mean,
+    cases: &[Bound],
+) -> bool
+    requires tangent { IsMadeFor sc.now tangent.old }
+    requires tables { AreTablesFor sc.now tables.old }
+    requires mean { IsMeanFor sc.now mean.old }
 {
-    for (prefix, reference, bound) in cases {
-        if bound_of(sc, tangent, prefix, reference) != Some(*bound) {
+    for case in cases {
+        if !has_bound(sc, tangent, tables, mean, case) {
             return false;
         }
     }
@@ -45,7 +85,9 @@ fn have_bounds(sc: &Scenario, tangent: &mut Tangent, cases: &[Bound]) -> bool
 // Whether the prefixes of a scenario have these bounds.
 fn are_bounded_over(alloc: Global, sc: &Scenario, bounds: &[Bound]) -> Result<bool, Fail> {
     let mut tangent = Tangent::tables(alloc, sc)?;
-    Ok(have_bounds(sc, &mut tangent, bounds))
+    let mut tables = TangentTables::tables(alloc, sc)?;
+    let mut mean = Mean::tables(alloc, sc)?;
+    Ok(have_bounds(sc, &mut tangent, &mut tables, &mut mean, bounds))
 }
 
 fn are_bounded(alloc: Global, text: &str, bounds: &[Bound]) -> Result<bool, Fail> {

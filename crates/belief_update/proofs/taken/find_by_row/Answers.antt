@@ -31,7 +31,7 @@ loop-entry-preserved c =
     let right : IsLookRow g p.cells row = rw c.parts-entry-items.ensures c.look_from-look.ensures.row in
     let whole : c.denominator-whole.result ≡ g = rw c.denominator-whole.ensures.value (ap (λ (s : LookParts). s.denominator) c.sweep.ensures.value) in
     let part : c.from.result ≡ g - (slice_index_or row c.loop-entry.entry-index (misses 0 0)).part = omega (arith, c.from.ensures, whole) in
-    let size : p.cells ≡ length c.loop-entry.found = omega (arith, c.loop-entry.auto.found, c.clear.auto.found, c.requires.width) in
+    let size : p.cells ≡ length c.loop-entry.found = omega (arith, c.loop-entry.auto.found, c.clear.auto.masses, c.requires.width) in
     rw c.from-in-loop-entry.ensures (
     factor-step g p.cells row c.loop-entry.entry-index (misses 0 0) right c.loop-entry-test.true (λ x y. slice_index c.args.ahead.now.masses x * (g - y)) c.loop-entry.found size
     c.loop-entry.invariant _ (rw (c.at.ensures, part) refl)

@@ -19,10 +19,10 @@ returns c =
     let g = p.sweep.denominator in
     let a = c.args.a in
     let part = c.args.part in
-    let zeros = c.clear.new.found in
+    let zeros = c.clear.new.masses in
     let here = c.from-2.result in
     let value : c.at.result * c.from.result ≡ slice_index c.args.ahead.now.masses a * (g - part) = rw (c.at.ensures, c.from.ensures, c.denominator.ensures.value, c.sweep.ensures.value) refl in
-    let there : here < length zeros = omega (arith, c.from-2.ensures, c.clear.auto.found, c.requires.width, c.requires.cell) in
+    let there : here < length zeros = omega (arith, c.from-2.ensures, c.clear.auto.masses, c.requires.width, c.requires.cell) in
     record {
       each = λ x lt. elim (cases_eq a x) [
         | inl same ↦
