@@ -2,6 +2,7 @@
 use Rattle.std.proofs.Common.{ℕ, zero, suc, ◌+◌, ◌*◌, ◌-◌, ◌<◌, ◌≤◌, ◌≡◌, List, map, length, slice_index, slice_index_or, set, inl, inr, refl, arith, get_or-set_same, get_or-set_other}
 use Rattle.std.specs.List.Sorted.{IsStrictlyIncreasing}
 use Rattle.std.proofs.Math.ListN.{length-map, get_or-map}
+use Rattle.std.proofs.Math.Nat.{mul-le-mul_right}
 use Rattle.std.proofs.lemmas.Bool.{cases_lt, cases_eq}
 use Rattle.std.proofs.lemmas.List.Kept.{AllPairs-from_increasing}
 use Rattle.std.proofs.lemmas.List.Sums.{sum_by_more_le}
@@ -12,9 +13,9 @@ use Rattle.search_model.specs.Tracks.{whole_weight}
 use Rattle.search_model.proofs.LookRows.{covered_cell, own_cell, sum_own}
 use Rattle.belief_update.specs.Masses.{mass_of, looks_to}
 use Rattle.edge_bound.specs.Found.{found_in, found_of, one_of}
-use Rattle.edge_bound.specs.After.{through}
+use Rattle.edge_bound.specs.After.{through, parts_after, taken_of}
 use Rattle.edge_bound.specs.Moves.{IsOwn}
-use Rattle.edge_bound.proofs.Fitting.{found-within}
+use Rattle.edge_bound.proofs.Fitting.{found-within, found_parts-within}
 
 -- each number of a list that ascends is no less than its place
 rises : (xs : List ℕ) → IsStrictlyIncreasing xs → (i : ℕ) → i < length xs → i ≤ slice_index xs i
@@ -52,13 +53,20 @@ module _ (p : Problem) (sound : IsProblem p) (t a : ℕ) where
   share-within q i later last inside =
       omega (arith, sum_by_more_le (found_in p (mass_of p (looks_to t q))) (look_row p.sweep t a) i (misses 0 0) inside, found-within p sound q t a later last)
 
+-- nor in the parts of what is to come, where a look follows it
+pub share_parts-within : (p : Problem) → IsProblem p → (q : List ℕ) (t a i : ℕ) → length q + 2 ≤ t → t ≤ p.horizon → i < length (look_row p.sweep (t - 1) a) →
+    found_in p (mass_of p (looks_to (t - 1) q)) (slice_index_or (look_row p.sweep (t - 1) a) i (misses 0 0)) * parts_after p q t ≤ whole_weight p
+share_parts-within p sound q t a i later last inside =
+    let more = sum_by_more_le (found_in p (mass_of p (looks_to (t - 1) q))) (look_row p.sweep (t - 1) a) i (misses 0 0) inside in
+    omega (arith, mul-le-mul_right (parts_after p q t) more, found_parts-within p sound q t a later last)
+
 module _ (p : Problem) (q : List ℕ) (t b : ℕ) where
   -- by what it finds in a cell, what it takes there of the next look
-  pub share_taken : (e : CellPart) → found_in p (mass_of p (looks_to (t - 1) q)) e * one_of p t e.cell b ≡ found_in p (through p q t b) e
+  pub share_taken : (e : CellPart) → found_in p (mass_of p (looks_to (t - 1) q)) e * parts_after p q t * one_of p t e.cell b ≡ found_in p (through p q t b) e * parts_after p q t
   share_taken e = omega arith
 
   -- where it covers its own cell alone
-  pub own_taken : (a : ℕ) → IsProblem p → IsOwn p a → found_of p (t - 1) a (mass_of p (looks_to (t - 1) q)) * one_of p t a b ≡ found_of p (t - 1) a (through p q t b)
+  pub own_taken : (a : ℕ) → IsProblem p → IsOwn p a → found_of p (t - 1) a (mass_of p (looks_to (t - 1) q)) * parts_after p q t * one_of p t a b ≡ taken_of p q t a b
   own_taken a sound (part, own) =
       rw (
         sum_own p sound (t - 1) a p.sweep refl part own (found_in p (mass_of p (looks_to (t - 1) q))),

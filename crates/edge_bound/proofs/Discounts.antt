@@ -1,5 +1,6 @@
 -- Edge rewards, by masses: what the look just before takes of a reward.
 use Rattle.std.proofs.Common.{ℕ, suc, ◌+◌, ◌*◌, ◌-◌, ◌^◌, ◌<◌, ◌≤◌, ◌≡◌, List, [], ◌∷◌, ◌++◌, Option, Some, None, map, length, slice_index, refl, ap, ◌∙◌, arith, sum_by, add-zero, length-append}
+use Rattle.std.proofs.Math.Nat.{pow-suc}
 use Rattle.std.specs.List.{range_with_len}
 use Rattle.drift_chain.specs.DriftRows.{part_of}
 use Rattle.sweep_table.specs.LookParts.{factor_of}
@@ -17,7 +18,7 @@ use Rattle.belief_update.proofs.MassSteps.{mass_of-look, mass_of-drift}
 use Rattle.belief_update.proofs.Looks.{length-looks_to, looks_to-drift}
 use Rattle.belief_update.proofs.Rewards.{factors_along-looked, found_by_masses, rewards_by_masses_hold}
 use Rattle.edge_bound.specs.Found.{found_of}
-use Rattle.edge_bound.specs.After.{mass_after_look, going_on}
+use Rattle.edge_bound.specs.After.{mass_after_look, going_on, parts_after}
 
 -- one more look along a track that goes on
 looked_along-at : (p : Problem) (t : ℕ) (looks : List (Option ℕ)) (a : ℕ) (x : List ℕ) → length looks < length x →
@@ -38,6 +39,19 @@ pub reward_is : (p : Problem) → IsProblem p → (q : List ℕ) (t b : ℕ) →
 reward_is p sound q t b later last =
     let same : p.horizon - (length q + 1) ≡ p.horizon - length q - 1 = omega arith in
     rw (same, rewards_by_masses_hold p sound q t b later last, found_in_cells p sound t b (mass_of p (looks_to t q))) (omega arith)
+
+-- one look part of them is that of the look before, where there is one
+pub reward_parts : (p : Problem) → IsProblem p → (q : List ℕ) (t b : ℕ) → length q + 2 ≤ t → t ≤ p.horizon →
+    found_of p t b (mass_of p (looks_to t q)) * p.sweep.denominator * parts_after p q t ≡ reward_of p q t b
+reward_parts p sound q t b later last =
+    let g = p.sweep.denominator in
+    let n = p.horizon - (length q + 2) in
+    let found = found_of p t b (mass_of p (looks_to t q)) in
+    let drifts = p.drift.denominator ^ (p.horizon - t) in
+    let more : g ^ (p.horizon - (length q + 1)) ≡ g ^ n * g =
+    ap (λ (m : ℕ). g ^ m) (let e : p.horizon - (length q + 1) ≡ suc n = omega (arith, later, last) in e) ∙ pow-suc g n in
+    let whole : found * g * (drifts * g ^ n) ≡ found * (drifts * g ^ (p.horizon - (length q + 1))) = rw more (omega arith) in
+    omega (arith, whole, reward_is p sound q t b (omega (arith, later)) last)
 
 -- the looks of a prefix, one from position a in the period before t, and none in period t
 abbrev looks_before : List ℕ → ℕ → ℕ → List (Option ℕ)

@@ -2,7 +2,7 @@
 use Rattle.std.proofs.Common.{ℕ, suc, ◌+◌, ◌*◌, ◌-◌, ◌^◌, ◌<◌, ◌≤◌, ◌≡◌, List, [], ◌∷◌, map, length, inl, inr, ap, ◌∙◌, arith, Contains}
 use Rattle.std.proofs.lemmas.Bool.{cases_lt}
 use Rattle.std.proofs.lemmas.List.Elements.{All-map, All-weaker, All-contains_itself}
-use Rattle.std.proofs.Math.Nat.{pow-suc}
+use Rattle.std.proofs.Math.Nat.{pow-suc, one-le-mul}
 use Rattle.exact_parts.proofs.Widths.{le-times}
 use Rattle.search_model.specs.Problem.{Problem, IsProblem}
 use Rattle.search_model.specs.Legal.{walks, continuations, last_of}
@@ -16,10 +16,10 @@ use Rattle.list_laws.proofs.Sums.{sum_by-range-part}
 use Rattle.search_model.proofs.Greatest.{greatest_below}
 use Rattle.belief_update.specs.Masses.{mass_of, looks_to}
 use Rattle.edge_bound.specs.Found.{found_of}
-use Rattle.edge_bound.specs.After.{through}
+use Rattle.edge_bound.specs.After.{through, parts_after, taken_of}
 use Rattle.edge_bound.specs.Moves.{greatest_moves}
-use Rattle.edge_bound.proofs.Discounts.{reward_is}
-use Rattle.edge_bound.proofs.Through.{through_comes, taken_of_found}
+use Rattle.edge_bound.proofs.Discounts.{reward_is, reward_parts}
+use Rattle.edge_bound.proofs.Through.{through_comes, taken_of_found, taken_of_reward}
 use Rattle.edge_bound.proofs.Walking.{greatest_moves-zero}
 
 -- what bounds each sum of a walk bounds the greatest
@@ -37,15 +37,26 @@ module _ (p : Problem) (sound : IsProblem p) (q : List ℕ) where
   -- and so it is in the parts of one look more, where there is one before it
   pub found_times-within : (t b : ℕ) → length q + 2 ≤ t → t ≤ p.horizon → found_of p t b (mass_of p (looks_to t q)) * p.sweep.denominator ≤ whole_weight p
   found_times-within t b later last =
-      let g = p.sweep.denominator in
-      let n = p.horizon - (length q + 2) in
       let found = found_of p t b (mass_of p (looks_to t q)) in
-      let drifts = p.drift.denominator ^ (p.horizon - t) in
-      let more : g ^ (p.horizon - (length q + 1)) ≡ g ^ n * g =
-      ap (λ (m : ℕ). g ^ m) (let e : p.horizon - (length q + 1) ≡ suc n = omega (arith, later, last) in e) ∙ pow-suc g n in
-      let times = le-times (found * g) (drifts * g ^ n) (some_parts p sound (p.horizon - t) n) in
-      let whole : found * g * (drifts * g ^ n) ≡ found * (drifts * g ^ (p.horizon - (length q + 1))) = rw more (omega arith) in
-      omega (arith, times, whole, reward_is p sound q t b (omega (arith, later)) last, reward-within p sound q t b (omega (arith, later, last)))
+      let times = le-times (found * p.sweep.denominator) (parts_after p q t) (some_parts p sound (p.horizon - t) (p.horizon - (length q + 2))) in
+      omega (arith, times, reward_parts p sound q t b later last, reward-within p sound q t b (omega (arith, later, last)))
+
+  -- and what the look before finds in the parts of what is to come
+  pub found_parts-within : (t a : ℕ) → length q + 2 ≤ t → t ≤ p.horizon → found_of p (t - 1) a (mass_of p (looks_to (t - 1) q)) * parts_after p q t ≤ whole_weight p
+  found_parts-within t a later last =
+      let d = p.drift.denominator in
+      let g = p.sweep.denominator in
+      let m = p.horizon - t in
+      let n = p.horizon - (length q + 2) in
+      let found = found_of p (t - 1) a (mass_of p (looks_to (t - 1) q)) in
+      let drifts : d ^ (p.horizon - (t - 1)) ≡ d ^ m * d =
+      ap (λ (k : ℕ). d ^ k) (let e : p.horizon - (t - 1) ≡ suc m = omega (arith, later, last) in e) ∙ pow-suc d m in
+      let looks : g ^ (p.horizon - (length q + 1)) ≡ g ^ n * g =
+      ap (λ (k : ℕ). g ^ k) (let e : p.horizon - (length q + 1) ≡ suc n = omega (arith, later, last) in e) ∙ pow-suc g n in
+      let some : 1 ≤ d * g = one-le-mul (omega (arith, sound.drift.denominator)) (omega (arith, sound.sweep.denominator)) in
+      let times = le-times (found * (d ^ m * g ^ n)) (d * g) some in
+      let whole : found * (d ^ m * g ^ n) * (d * g) ≡ found * (d ^ (p.horizon - (t - 1)) * g ^ (p.horizon - (length q + 1))) = rw (drifts, looks) (omega arith) in
+      omega (arith, times, whole, reward_is p sound q (t - 1) a (omega (arith, later)) (omega (arith, last)), reward-within p sound q (t - 1) a (omega (arith, later, last)))
 
   -- and what it finds of the mass of one cell a period before
   pub through-within : (t b c : ℕ) → length q + 2 ≤ t → t ≤ p.horizon → c < p.cells → through p q t b c ≤ whole_weight p
@@ -55,6 +66,10 @@ module _ (p : Problem) (sound : IsProblem p) (q : List ℕ) where
   -- and what a look before it takes of it
   pub through_taken-within : (t a b : ℕ) → length q + 2 ≤ t → t ≤ p.horizon → found_of p (t - 1) a (through p q t b) ≤ whole_weight p
   through_taken-within t a b later last = omega (arith, taken_of_found p q t b sound later a, found_times-within t b later last)
+
+  -- and in the parts of what is to come
+  pub taken-within : (t a b : ℕ) → length q + 2 ≤ t → t ≤ p.horizon → taken_of p q t a b ≤ whole_weight p
+  taken-within t a b later last = omega (arith, taken_of_reward p q t b sound later last a, reward-within p sound q t b (omega (arith, later, last)))
 
   -- no edge reward is above the whole weight
   pub edge_reward-within : (t a b : ℕ) → 2 ≤ p.horizon - length q → edge_reward_of p q t a b ≤ whole_weight p

@@ -4,12 +4,14 @@ use Rattle.std.specs.List.{range_with_len}
 use Rattle.period_rows.specs.declared.part.CellPart.{CellPart}
 use Rattle.sweep_table.specs.LookParts.{look_row}
 use Rattle.search_model.specs.Problem.{Problem, IsProblem}
+use Rattle.search_model.specs.Bounds.{reward_of}
+use Rattle.search_model.specs.Edge.{edge_reward_of}
 use Rattle.list_laws.proofs.Sums.{sum_by-same, sum_by-times, sum_by-plus, sum_by-exchange}
 use Rattle.drift_chain.specs.DriftRows.{part_of}
 use Rattle.belief_update.specs.Masses.{mass_of, looks_to}
 use Rattle.edge_bound.specs.Found.{found_in, found_of}
-use Rattle.edge_bound.specs.After.{mass_after_look, going_on, through}
-use Rattle.edge_bound.proofs.Discounts.{mass_comes, taken_of_mass}
+use Rattle.edge_bound.specs.After.{mass_after_look, going_on, through, parts_after, taken_of}
+use Rattle.edge_bound.proofs.Discounts.{mass_comes, taken_of_mass, reward_parts, edge_reward_is}
 
 module _ (p : Problem) (t b : ℕ) where
   -- of equal masses a look finds the same
@@ -74,3 +76,10 @@ module _ (p : Problem) (q : List ℕ) (t b : ℕ) where
       let both = found-plus p t b left taken in
       let each = found-same p t b (λ d. left d + taken d) (λ d. mass d * g) (λ d. taken_of_mass p q t later sound a d) in
       omega (arith, both, each, found-times p t b mass g, found_taken a)
+
+  -- so are its reward after that one and what that one takes of it
+  pub taken_of_reward : IsProblem p → length q + 2 ≤ t → t ≤ p.horizon → (a : ℕ) → edge_reward_of p q t a b + taken_of p q t a b ≡ reward_of p q t b
+  taken_of_reward sound later last a =
+      let parts = parts_after p q t in
+      let both = ap (λ (s : ℕ). s * parts) (taken_of_found sound later a) in
+      omega (arith, both, edge_reward_is p sound q t a b later last, reward_parts p sound q t b later last)

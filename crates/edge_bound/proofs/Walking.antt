@@ -12,8 +12,6 @@ use Rattle.list_laws.proofs.Agreeing.{map_agree}
 use Rattle.longest_walk.proofs.Steps.{greatest_walks-suc, All-moves}
 use Rattle.longest_walk.specs.Near.{IsNear}
 use Rattle.longest_walk.proofs.NearSteps.{near_within}
-use Rattle.belief_update.specs.Masses.{mass_of, looks_to}
-use Rattle.edge_bound.specs.Found.{found_of}
 use Rattle.edge_bound.specs.Moves.{greatest_moves, HasSums, HasFinds}
 
 pub sum_moves-cons : (r : ℕ → ℕ → ℕ → ℕ) (t a b : ℕ) (y : List ℕ) → sum_moves r t a (b ∷ y) ≡ r t a b + sum_moves r (t + 1) b y
@@ -50,7 +48,7 @@ module _ (p : Problem) (sound : IsProblem p) (q sums : List ℕ) where
   sum_there t a b later near move filled = filled b (suc (t - 1 - length q)) (omega (arith, later)) (inr (a, near, move))
 
   pub find_there : (finds : List ℕ) (t a b : ℕ) → length q + 2 ≤ t → IsNear p.moves (t - 1 - length q) (last_of p.start q) a → Contains (moves_from p.moves a) b → HasFinds p q t finds →
-      slice_index finds b ≡ found_of p t b (mass_of p (looks_to t q))
+      slice_index finds b ≡ reward_of p q t b
   find_there finds t a b later near move filled = filled b (suc (t - 1 - length q)) (omega (arith, later)) (inr (a, near, move))
 
   -- in a period by the sums of the next one

@@ -5,8 +5,8 @@ use Rattle.belief_update.specs.Onward.{OnwardState, IsMadeFor as IsOnwardFor}
 use Rattle.longest_walk.specs.Near.{NearRow, AreNear}
 use Rattle.edge_bound.specs.Units.{UnitTable, HasUnits}
 
--- what looks find of units, two rows of sums, of one period and of the one before it, what looks in that one find, and what
--- one look before finds in each of its cells
+-- what looks find of units, two rows of sums, of one period and of the one before it, the rewards of looks in that one with
+-- none just before them, and what one look before finds in each of its cells
 pub record EdgeRoom : Type 0 where
   pub units : UnitTable
   pub sums : List ℕ

@@ -1,13 +1,14 @@
 -- The greatest sums of edge rewards, whose rewards stand on moves.
-use Rattle.std.specs.Prelude.{ℕ, ◌≡◌, ◌+◌, ◌-◌, ◌<◌, ◌≤◌, List, [], ◌∷◌, map, length, slice_index, slice_index_or}
+use Rattle.std.specs.Prelude.{ℕ, ◌≡◌, ◌+◌, ◌-◌, ◌*◌, ◌<◌, ◌≤◌, List, [], ◌∷◌, map, length, slice_index, slice_index_or}
 use Rattle.sweep_table.specs.LookParts.{look_row, misses}
 use Rattle.search_model.specs.Problem.{Problem}
 use Rattle.search_model.specs.Legal.{walks, last_of}
-use Rattle.search_model.specs.Bounds.{greatest}
+use Rattle.search_model.specs.Bounds.{reward_of, greatest}
 use Rattle.search_model.specs.Edge.{edge_reward_of, sum_moves}
 use Rattle.longest_walk.specs.Near.{IsNear}
 use Rattle.belief_update.specs.Masses.{mass_of, looks_to}
-use Rattle.edge_bound.specs.Found.{found_in, found_of}
+use Rattle.edge_bound.specs.Found.{found_in}
+use Rattle.edge_bound.specs.After.{parts_after}
 
 -- the greatest sum of rewards on moves over the walks of n cells from a, the first of them in period t
 abbrev pub greatest_moves : List (List ℕ) → (ℕ → ℕ → ℕ → ℕ) → ℕ → ℕ → ℕ → ℕ
@@ -19,17 +20,17 @@ abbrev pub HasSums : Problem → List ℕ → ℕ → List ℕ → Type 0
 HasSums p q t sums =
     (a n : ℕ) → length q + n + 1 ≡ t → IsNear p.moves n (last_of p.start q) a → slice_index sums a ≡ greatest_moves p.moves (edge_reward_of p q) (p.horizon + 1 - t) t a
 
--- for each position that the searcher can be on in period t, n periods after the prefix, what a look from there finds with
+-- for each position that the searcher can be on in period t, n periods after the prefix, the reward of a look from there with
 -- no look between it and the prefix
 abbrev pub HasFinds : Problem → List ℕ → ℕ → List ℕ → Type 0
 HasFinds p q t finds =
-    (b n : ℕ) → length q + n ≡ t → IsNear p.moves n (last_of p.start q) b → slice_index finds b ≡ found_of p t b (mass_of p (looks_to t q))
+    (b n : ℕ) → length q + n ≡ t → IsNear p.moves n (last_of p.start q) b → slice_index finds b ≡ reward_of p q t b
 
--- for each entry of the row of a look from position a in period t, what the look finds in its cell with no look between it
--- and the prefix
+-- for each entry of the row of a look from position a in the period before t, what the look finds in its cell with no look
+-- between it and the prefix, in the parts of what is to come after period t
 abbrev pub HasShares : Problem → List ℕ → ℕ → ℕ → List ℕ → Type 0
 HasShares p q t a shares =
-    (i : ℕ) → i < length (look_row p.sweep t a) → slice_index shares i ≡ found_in p (mass_of p (looks_to t q)) (slice_index_or (look_row p.sweep t a) i (misses 0 0))
+    (i : ℕ) → i < length (look_row p.sweep (t - 1) a) → slice_index shares i ≡ found_in p (mass_of p (looks_to (t - 1) q)) (slice_index_or (look_row p.sweep (t - 1) a) i (misses 0 0)) * parts_after p q t
 
 -- looks from position a cover the cell of its number alone, in all periods
 abbrev pub IsOwn : Problem → ℕ → Type 0

@@ -1,40 +1,50 @@
 //! The greatest sum of edge rewards from one position, by the sums of the period after it.
 
-ghost use Rattle.std.specs.Prelude.{◌≡◌, ◌<◌, ◌≤◌, ◌+◌, ◌-◌, ◌*◌, ◌^◌, ℕ, length, slice_index, Contains};
+ghost use Rattle.std.specs.Prelude.{◌≡◌, ◌<◌, ◌≤◌, ◌+◌, ◌-◌, ◌*◌, ℕ, length, slice_index, Contains};
 ghost use Rattle.sweep_table.specs.LookParts.{look_row};
 ghost use Rattle.search_grid.specs.Moves.{moves_from};
 ghost use Rattle.search_model.specs.Legal.{last_of};
+ghost use Rattle.search_model.specs.Bounds.{reward_of};
 ghost use Rattle.search_model.specs.Edge.{edge_reward_of};
 ghost use Rattle.longest_walk.specs.Near.{IsNear};
 ghost use Rattle.belief_update.specs.Masses.{mass_of, looks_to};
 ghost use Rattle.belief_update.specs.Onward.{IsOnward};
-ghost use Rattle.edge_bound.specs.After.{through};
+ghost use Rattle.edge_bound.specs.After.{parts_after, taken_of};
 ghost use Rattle.edge_bound.specs.Found.{found_of};
 ghost use Rattle.edge_bound.specs.Moves.{IsLater, IsOwn, HasFinds, HasShares, HasSums, greatest_moves};
 ghost use Rattle.edge_bound.specs.Units.{HasUnits, place_of};
 
-use crate::moves::{found_by, found_less, look_from};
+use crate::moves::{found_by, look_from};
 use crate::shares::{fill_shares, taken_by_shares};
 use crate::units::Units;
 use belief_update::Onward;
 use search_model::{Path, Scenario};
 
-// The reward of a look at `b` in period `t` after one at `a`, and the greatest sum from there on, by what the look finds
-// without that one and what that one takes of it.
+// The reward of a look at `b` in period `t` after one at `a`, by the reward without that one and what that one takes of it.
+fn reward_less(sc: &Scenario, prefix: &Path, reward: u128, less: u128, t: u32, a: u8, b: u8) -> u128
+    requires period { IsLater sc.now prefix.now t }
+    requires reward { reward ≡ reward_of sc.now prefix.now t b }
+    requires less { less ≡ taken_of sc.now prefix.now t a b }
+    ensures { result ≡ edge_reward_of sc.now prefix.now t a b }
+{
+    let _after = prefix;
+    let _looks = (t, a, b);
+    sc.recall_sound();
+    reward - less
+}
+
+// The reward of a look at `b` in period `t` after one at `a`, and the greatest sum from there on, by the reward without that
+// one and what that one takes of it.
 fn sum_through(
     sc: &Scenario,
     prefix: &Path,
     finds: &[u128],
     sums: &[u128],
-    parts: u128,
     less: u128,
     t: u32,
     a: u8,
     b: u8,
 ) -> u128
-    requires parts { parts ≡
-        sc.now.drift.denominator ^ (sc.now.horizon - t) * sc.now.sweep.denominator ^
-        (sc.now.horizon - (length prefix.now + 2)) }
     requires period { IsLater sc.now prefix.now t }
     requires near { IsNear sc.now.moves (t - 1 - length prefix.now) (last_of sc.now.start prefix.now) a }
     requires to { b < sc.now.positions }
@@ -43,17 +53,18 @@ fn sum_through(
     requires finds { HasFinds sc.now prefix.now t finds.now }
     requires width { length sums.now ≡ sc.now.positions }
     requires sums { HasSums sc.now prefix.now (t + 1) sums.now }
-    requires less { less ≡ found_of sc.now (t - 1) a (through sc.now prefix.now t b) }
+    requires less { less ≡ taken_of sc.now prefix.now t a b }
     ensures { result ≡ edge_reward_of sc.now prefix.now t a b + slice_index sums.now b }
 {
     sc.recall_sound();
-    let found = finds[usize::from(b)];
-    let reward = found_less(sc, prefix, found, less, t, a, b) * parts;
+    let without = finds[usize::from(b)];
+    let reward = reward_less(sc, prefix, without, less, t, a, b);
     reward + sums[usize::from(b)]
 }
 
-// What a look from position `a` in the period before takes of what a look from `b` in period `t` finds, where looks from
-// `a` cover its own cell alone: by what it finds there, and where the numbers of that cell begin.
+// What a look from position `a` in the period before takes of the reward of a look from `b` in period `t`, where looks from
+// `a` cover its own cell alone: by what it finds there, in the parts of what is to come, and where the numbers of that cell
+// begin.
 fn taken_own(
     sc: &Scenario,
     prefix: &Path,
@@ -68,9 +79,10 @@ fn taken_own(
     requires own { IsOwn sc.now a }
     requires to { b < sc.now.positions }
     requires units { HasUnits sc.now units.now }
-    requires share { share ≡ found_of sc.now (t - 1) a (mass_of sc.now (looks_to (t - 1) prefix.now)) }
+    requires share { share ≡
+        found_of sc.now (t - 1) a (mass_of sc.now (looks_to (t - 1) prefix.now)) * parts_after sc.now prefix.now t }
     requires place { place ≡ place_of units.now t a 0 }
-    ensures { result ≡ found_of sc.now (t - 1) a (through sc.now prefix.now t b) }
+    ensures { result ≡ taken_of sc.now prefix.now t a b }
 {
     let _after = prefix;
     let _look = (t, a);
@@ -93,9 +105,7 @@ fn best_own(
     a: u8,
 ) -> u128
     requires own { IsOwn sc.now a }
-    requires parts { parts ≡
-        sc.now.drift.denominator ^ (sc.now.horizon - t) * sc.now.sweep.denominator ^
-        (sc.now.horizon - (length prefix.now + 2)) }
+    requires parts { parts ≡ parts_after sc.now prefix.now t }
     requires period { IsLater sc.now prefix.now t }
     requires from { a < sc.now.positions }
     requires near { IsNear sc.now.moves (t - 1 - length prefix.now) (last_of sc.now.start prefix.now) a }
@@ -108,12 +118,12 @@ fn best_own(
     ensures { result ≡ greatest_moves sc.now.moves (edge_reward_of sc.now prefix.now) (sc.now.horizon + 1 - t) t a }
 {
     let moves = sc.grid().moves(a);
-    let share = found_by(sc, prefix, onward, t - 1, a);
+    let share = found_by(sc, prefix, onward, t - 1, a) * parts;
     let place = units.place(t, a);
     let mut best = 0;
     for b in moves {
         let less = taken_own(sc, prefix, units, share, place, t, a, *b);
-        let sum = sum_through(sc, prefix, finds, sums, parts, less, t, a, *b);
+        let sum = sum_through(sc, prefix, finds, sums, less, t, a, *b);
         best = sum.max(best);
     }
     best
@@ -134,9 +144,7 @@ fn best_by_row(
     a: u8,
 ) -> u128
     requires shares { length shares.old ≡ sc.now.cells }
-    requires parts { parts ≡
-        sc.now.drift.denominator ^ (sc.now.horizon - t) * sc.now.sweep.denominator ^
-        (sc.now.horizon - (length prefix.now + 2)) }
+    requires parts { parts ≡ parts_after sc.now prefix.now t }
     requires period { IsLater sc.now prefix.now t }
     requires from { a < sc.now.positions }
     requires near { IsNear sc.now.moves (t - 1 - length prefix.now) (last_of sc.now.start prefix.now) a }
@@ -151,18 +159,18 @@ fn best_by_row(
 {
     let moves = sc.grid().moves(a);
     let look = look_from(sc, t - 1, a);
-    fill_shares(shares, sc, prefix, onward, look.parts(), t - 1, a);
+    fill_shares(shares, sc, prefix, onward, look.parts(), parts, t, a);
     let mut best = 0;
     for b in moves {
         let less = taken_by_shares(sc, prefix, units, shares, look.parts(), t, a, *b);
-        let through = sum_through(sc, prefix, finds, sums, parts, less, t, a, *b);
+        let through = sum_through(sc, prefix, finds, sums, less, t, a, *b);
         best = through.max(best);
     }
     best
 }
 
-/// The greatest sum over the walks that go on from position `a` in period `t`, by what looks in that period find, the sums of
-/// the period after it and the parts of what is to come; `shares` is room for a row of cells.
+/// The greatest sum over the walks that go on from position `a` in period `t`, by the rewards of looks in that period, the sums
+/// of the period after it and the parts of what is to come; `shares` is room for a row of cells.
 pub(crate) fn best_move(
     sc: &Scenario,
     prefix: &Path,
@@ -176,9 +184,7 @@ pub(crate) fn best_move(
     a: u8,
 ) -> u128
     requires shares { length shares.old ≡ sc.now.cells }
-    requires parts { parts ≡
-        sc.now.drift.denominator ^ (sc.now.horizon - t) * sc.now.sweep.denominator ^
-        (sc.now.horizon - (length prefix.now + 2)) }
+    requires parts { parts ≡ parts_after sc.now prefix.now t }
     requires period { IsLater sc.now prefix.now t }
     requires from { a < sc.now.positions }
     requires near { IsNear sc.now.moves (t - 1 - length prefix.now) (last_of sc.now.start prefix.now) a }

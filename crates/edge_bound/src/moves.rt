@@ -146,17 +146,9 @@ fn taken(sc: &Scenario, prefix: &Path, onward: &Onward, units: &Units, t: u32, a
     }
 }
 
-/// What a look from `b` in period `t` finds after a look from `a` in the period before, by what it finds without that look
-/// and what that look takes of it; times the parts of what is to come it is the edge reward.
-pub(crate) fn found_less(
-    sc: &Scenario,
-    prefix: &Path,
-    found: u128,
-    less: u128,
-    t: u32,
-    a: u8,
-    b: u8,
-) -> u128
+// What a look from `b` in period `t` finds after a look from `a` in the period before, by what it finds without that look
+// and what that look takes of it; times the parts of what is to come it is the edge reward.
+fn found_less(sc: &Scenario, prefix: &Path, found: u128, less: u128, t: u32, a: u8, b: u8) -> u128
     requires period { IsLater sc.now prefix.now t }
     requires found { found ≡ found_of sc.now t b (mass_of sc.now (looks_to t prefix.now)) }
     requires less { less ≡ found_of sc.now (t - 1) a (through sc.now prefix.now t b) }
@@ -170,7 +162,8 @@ pub(crate) fn found_less(
     found * u128::from(whole) - less
 }
 
-/// The same, by what it finds without that look.
+/// What a look from `b` in period `t` finds after a look from `a` in the period before, by what it finds without that look;
+/// times the parts of what is to come it is the edge reward.
 pub(crate) fn found_after(
     sc: &Scenario,
     prefix: &Path,

@@ -2,12 +2,10 @@
 
 ghost use Rattle.std.specs.Prelude.{◌≡◌, ◌<◌, ◌≤◌, ◌+◌, ◌-◌, ◌*◌, ◌^◌, ℕ, length, map, slice_index, All, Contains};
 ghost use Rattle.search_model.specs.Legal.{IsLegal, continuations, last_of};
-ghost use Rattle.search_model.specs.Bounds.{greatest};
+ghost use Rattle.search_model.specs.Bounds.{reward_of, greatest};
 ghost use Rattle.search_model.specs.Edge.{edge_reward_of, edge_sum};
 ghost use Rattle.longest_walk.specs.Near.{IsNear, AreNear};
-ghost use Rattle.belief_update.specs.Masses.{mass_of, looks_to};
 ghost use Rattle.belief_update.specs.Onward.{IsOnward};
-ghost use Rattle.edge_bound.specs.Found.{found_of};
 ghost use Rattle.edge_bound.specs.Moves.{IsLater, HasFinds, HasSums, greatest_moves};
 ghost use Rattle.edge_bound.specs.Units.{HasUnits};
 
@@ -18,7 +16,22 @@ use belief_update::{Onward, later_parts};
 use longest_walk::Near;
 use search_model::{Path, Scenario};
 
-// Writes what looks from some positions in period `t` find with no look between them and the prefix.
+// The reward of a look from `b` in period `t` with no look between it and the prefix, by the parts of what is to come.
+fn reward_by(sc: &Scenario, prefix: &Path, onward: &Onward, parts: u128, t: u32, b: u8) -> u128
+    requires parts { parts ≡
+        sc.now.drift.denominator ^ (sc.now.horizon - t) * sc.now.sweep.denominator ^
+        (sc.now.horizon - (length prefix.now + 1)) }
+    requires later { length prefix.now < t }
+    requires last { t ≤ sc.now.horizon }
+    requires position { b < sc.now.positions }
+    requires onward { IsOnward sc.now prefix.now onward.now }
+    ensures { result ≡ reward_of sc.now prefix.now t b }
+{
+    sc.recall_sound();
+    found_by(sc, prefix, onward, t, b) * parts
+}
+
+// Writes the rewards of looks from some positions in period `t` with no look between them and the prefix.
 fn fill_finds(
     finds: &mut [u128],
     sc: &Scenario,
@@ -33,16 +46,17 @@ fn fill_finds(
     requires last { t ≤ sc.now.horizon }
     requires onward { IsOnward sc.now prefix.now onward.now }
     ensures found { (b : ℕ) → Contains some.now b →
-        slice_index finds.new b ≡ found_of sc.now t b (mass_of sc.now (looks_to t prefix.now)) }
+        slice_index finds.new b ≡ reward_of sc.now prefix.now t b }
     ensures size { length finds.new ≡ length finds.old }
 {
+    let parts = later_parts(sc, t, prefix.len() as u32 + 1);
     for b in some {
-        finds[usize::from(*b)] = found_by(sc, prefix, onward, t, *b);
+        finds[usize::from(*b)] = reward_by(sc, prefix, onward, parts, t, *b);
     }
 }
 
-// The row of period `t` for some positions that the searcher can be on before it, by what looks in that period find and the
-// sums of the period after it.
+// The row of period `t` for some positions that the searcher can be on before it, by the rewards of looks in that period and
+// the sums of the period after it.
 fn fill_row(
     row: &mut [u128],
     sc: &Scenario,

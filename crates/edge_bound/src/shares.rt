@@ -1,10 +1,9 @@
 //! What one look finds in each cell that it covers, for all the looks that may come next.
 
-ghost use Rattle.std.specs.Prelude.{◌≡◌, ◌<◌, ◌≤◌, ◌-◌, length};
+ghost use Rattle.std.specs.Prelude.{◌≡◌, ◌<◌, ◌-◌, length};
 ghost use Rattle.sweep_table.specs.LookParts.{look_row};
 ghost use Rattle.belief_update.specs.Onward.{IsOnward};
-ghost use Rattle.edge_bound.specs.After.{through};
-ghost use Rattle.edge_bound.specs.Found.{found_of};
+ghost use Rattle.edge_bound.specs.After.{parts_after, taken_of};
 ghost use Rattle.edge_bound.specs.Moves.{IsLater, HasShares};
 ghost use Rattle.edge_bound.specs.Units.{HasUnits};
 
@@ -14,19 +13,21 @@ use belief_update::Onward;
 use search_model::{Path, Scenario};
 use sweep_table::LookPart;
 
-/// Writes what a look from position `a` in period `t` finds in each cell of its row, with no look between it and the prefix.
+/// Writes what a look from position `a` in the period before `t` finds in each cell of its row, with no look between it and the
+/// prefix, in the parts of what is to come after period `t`.
 pub(crate) fn fill_shares(
     shares: &mut [u128],
     sc: &Scenario,
     prefix: &Path,
     onward: &Onward,
     row: &[LookPart],
+    parts: u128,
     t: u32,
     a: u8,
 )
-    requires row { row.now ≡ look_row sc.now.sweep t a }
-    requires later { length prefix.now < t }
-    requires last { t ≤ sc.now.horizon }
+    requires row { row.now ≡ look_row sc.now.sweep (t - 1) a }
+    requires parts { parts ≡ parts_after sc.now prefix.now t }
+    requires period { IsLater sc.now prefix.now t }
     requires onward { IsOnward sc.now prefix.now onward.now }
     requires room { length shares.old ≡ sc.now.cells }
     ensures each { HasShares sc.now prefix.now t a shares.new }
@@ -35,13 +36,14 @@ pub(crate) fn fill_shares(
     let _from = a;
     let whole = sc.sweep().denominator();
     for i in 0..row.len() {
-        let mass = mass_at(sc, prefix, onward, t, row[i].cell);
-        shares[i] = mass * u128::from(whole - row[i].part);
+        let mass = mass_at(sc, prefix, onward, t - 1, row[i].cell);
+        let found = mass * u128::from(whole - row[i].part);
+        shares[i] = found * parts;
     }
 }
 
-/// What a look from position `a` in the period before takes of what a look from `b` in period `t` finds, by what it finds in
-/// each cell of its row.
+/// What a look from position `a` in the period before takes of the reward of a look from `b` in period `t`, by what it finds in
+/// each cell of its row, in the parts of what is to come.
 pub(crate) fn taken_by_shares(
     sc: &Scenario,
     prefix: &Path,
@@ -56,9 +58,9 @@ pub(crate) fn taken_by_shares(
     requires to { b < sc.now.positions }
     requires units { HasUnits sc.now units.now }
     requires row { row.now ≡ look_row sc.now.sweep (t - 1) a }
-    requires shares { HasShares sc.now prefix.now (t - 1) a shares.now }
+    requires shares { HasShares sc.now prefix.now t a shares.now }
     requires room { length shares.now ≡ sc.now.cells }
-    ensures { result ≡ found_of sc.now (t - 1) a (through sc.now prefix.now t b) }
+    ensures { result ≡ taken_of sc.now prefix.now t a b }
 {
     let _after = prefix;
     let _from = a;

@@ -27,9 +27,9 @@ pub struct EdgeTables {
     // Per position, the greatest sum over the walks that go on from it.
     sums: Vec<u128>,
     earlier: Vec<u128>,
-    // Per position, what a look from it finds without the look before.
+    // Per position, the reward of a look from it without the look before.
     finds: Vec<u128>,
-    // What the look before finds, cell by cell of its row.
+    // What the look before finds, cell by cell of its row, in the parts of what is to come.
     shares: Vec<u128>,
 }
 

@@ -1,10 +1,19 @@
 use Rattle.std.proofs.Common.{◌≡◌, ◌+◌, ℕ, slice_index, sym, ◌∙◌, arith}
 use Rattle.search_grid.specs.Moves.{moves_from}
 use Rattle.search_model.specs.Edge.{edge_reward_of}
+use Rattle.search_model.proofs.Totals.{whole_weight-fits}
 use Rattle.longest_walk.proofs.RowSteps.{best_more, best_all}
+use Rattle.edge_bound.proofs.Fitting.{found_parts-within}
 use Rattle.edge_bound.proofs.CellShares.{own_inside}
 use Rattle.edge_bound.proofs.Walking.{sums_before, listed_move}
 use Rattle.edge_bound.proofs.best.best_own.Goals as goal
+
+pub overflow_mul-share : goal.overflow_mul-share
+overflow_mul-share c =
+    let p = c.args.sc.now in
+    let sound = c.grid.ensures.sound in
+    let most = found_parts-within p sound c.args.prefix.now c.args.t c.args.a c.requires.period.later c.requires.period.last in
+    rw (c.found_by.ensures, c.requires.parts) (omega (arith, most, whole_weight-fits p sound))
 
 pub place-place-requires-clause-inside : goal.place-place-requires-clause-inside
 place-place-requires-clause-inside c =

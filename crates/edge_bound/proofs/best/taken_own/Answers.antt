@@ -2,7 +2,7 @@ use Rattle.std.proofs.Common.{◌≡◌, ◌+◌, ◌*◌, refl, arith}
 use Rattle.search_model.proofs.Totals.{whole_weight-fits}
 use Rattle.edge_bound.specs.Found.{one_of}
 use Rattle.edge_bound.specs.Units.{place_of}
-use Rattle.edge_bound.proofs.Fitting.{through_taken-within}
+use Rattle.edge_bound.proofs.Fitting.{taken-within}
 use Rattle.edge_bound.proofs.CellShares.{own_taken, own_inside}
 use Rattle.edge_bound.proofs.best.taken_own.Goals as goal
 
@@ -27,7 +27,7 @@ pub overflow_mul-result : goal.overflow_mul-result
 overflow_mul-result c =
     let p = c.args.sc.now in
     let sound = c.recall_sound.ensures in
-    let most = through_taken-within p sound c.args.prefix.now c.args.t c.args.a c.args.b c.requires.period.later c.requires.period.last in
+    let most = taken-within p sound c.args.prefix.now c.args.t c.args.a c.args.b c.requires.period.later c.requires.period.last in
     let all = own_taken p c.args.prefix.now c.args.t c.args.b c.args.a sound c.requires.own in
     rw (taken_is c, c.requires.share) (omega (arith, all, most, whole_weight-fits p sound))
 

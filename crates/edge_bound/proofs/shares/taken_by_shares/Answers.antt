@@ -1,12 +1,13 @@
-use Rattle.std.proofs.Common.{◌≡◌, ◌+◌, ◌*◌, ◌-◌, ◌≤◌, slice_index, slice_index_or, arith}
+use Rattle.std.proofs.Common.{ℕ, ◌≡◌, ◌+◌, ◌*◌, ◌-◌, ◌≤◌, slice_index, slice_index_or, ap, arith}
+use Rattle.std.proofs.Math.Nat.{mul-le-mul_right}
 use Rattle.std.proofs.lemmas.List.Sums.{sum_by_more, sum_by_more_le}
 use Rattle.sweep_table.specs.LookParts.{misses}
 use Rattle.search_model.specs.Tracks.{whole_weight}
 use Rattle.search_model.proofs.LookRows.{covered_cell}
 use Rattle.search_model.proofs.Totals.{whole_weight-fits}
 use Rattle.edge_bound.specs.Found.{found_in}
-use Rattle.edge_bound.specs.After.{through}
-use Rattle.edge_bound.proofs.Fitting.{through_taken-within}
+use Rattle.edge_bound.specs.After.{through, parts_after}
+use Rattle.edge_bound.proofs.Fitting.{taken-within}
 use Rattle.edge_bound.proofs.CellShares.{row_short, share_taken}
 use Rattle.edge_bound.proofs.shares.taken_by_shares.Goals as goal
 
@@ -22,7 +23,7 @@ bounds-shares-i c =
 
 -- what is taken in the cell
 taken_is : (c : goal.After-from) → let p = c.args.sc.now in
-    slice_index c.args.shares.now c.loop-i.i * c.from.result ≡ found_in p (through p c.args.prefix.now c.args.t c.args.b) (slice_index_or c.args.row.now c.loop-i.i (misses 0 0))
+    slice_index c.args.shares.now c.loop-i.i * c.from.result ≡ found_in p (through p c.args.prefix.now c.args.t c.args.b) (slice_index_or c.args.row.now c.loop-i.i (misses 0 0)) * parts_after p c.args.prefix.now c.args.t
 taken_is c =
     let p = c.args.sc.now in
     let q = c.args.prefix.now in
@@ -38,9 +39,9 @@ within : (c : goal.After-from) → c.loop-i.sum + slice_index c.args.shares.now 
 within c =
     let p = c.args.sc.now in
     let q = c.args.prefix.now in
-    let most = through_taken-within p c.recall_sound.ensures q c.args.t c.args.a c.args.b c.requires.period.later c.requires.period.last in
+    let most = taken-within p c.recall_sound.ensures q c.args.t c.args.a c.args.b c.requires.period.later c.requires.period.last in
     let more = sum_by_more_le (found_in p (through p q c.args.t c.args.b)) c.args.row.now c.loop-i.i (misses 0 0) c.loop-i-test.true in
-    omega (arith, taken_is c, c.loop-i.invariant, more, rw (← c.requires.row) at most)
+    omega (arith, taken_is c, c.loop-i.invariant, mul-le-mul_right (parts_after p q c.args.t) more, rw (← c.requires.row) at most)
 
 pub overflow_mul-sum : goal.overflow_mul-sum
 overflow_mul-sum c = omega (arith, within c, whole_weight-fits c.args.sc.now c.recall_sound.ensures)
@@ -51,5 +52,6 @@ overflow_add-sum c = omega (arith, within c, whole_weight-fits c.args.sc.now c.r
 pub loop-i-preserved : goal.loop-i-preserved
 loop-i-preserved c =
     let p = c.args.sc.now in
-    let more = sum_by_more (found_in p (through p c.args.prefix.now c.args.t c.args.b)) c.args.row.now c.loop-i.i (misses 0 0) c.loop-i-test.true in
-    omega (arith, taken_is c, c.loop-i.invariant, more)
+    let q = c.args.prefix.now in
+    let more = sum_by_more (found_in p (through p q c.args.t c.args.b)) c.args.row.now c.loop-i.i (misses 0 0) c.loop-i-test.true in
+    omega (arith, taken_is c, c.loop-i.invariant, ap (λ (s : ℕ). s * parts_after p q c.args.t) more)
