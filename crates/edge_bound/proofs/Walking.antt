@@ -12,7 +12,7 @@ use Rattle.list_laws.proofs.Agreeing.{map_agree}
 use Rattle.longest_walk.proofs.Steps.{greatest_walks-suc, All-moves}
 use Rattle.longest_walk.specs.Near.{IsNear}
 use Rattle.longest_walk.proofs.NearSteps.{near_within}
-use Rattle.edge_bound.specs.Moves.{greatest_moves, HasSums, HasFinds}
+use Rattle.edge_bound.specs.Moves.{greatest_moves, HasSums, HasGains}
 
 pub sum_moves-cons : (r : ℕ → ℕ → ℕ → ℕ) (t a b : ℕ) (y : List ℕ) → sum_moves r t a (b ∷ y) ≡ r t a b + sum_moves r (t + 1) b y
 unfolding sum_moves
@@ -22,6 +22,29 @@ sum_moves-cons r t a b y = refl
 pub greatest_moves-zero : (rows : List (List ℕ)) (r : ℕ → ℕ → ℕ → ℕ) (t a : ℕ) → greatest_moves rows r 0 t a ≡ 0
 unfolding walks sum_moves
 greatest_moves-zero rows r t a = greatest-one 0
+
+module _ (p : Problem) (q : List ℕ) where
+  -- a move of a position that the searcher can be on is one that it can be on a period later
+  pub gain_there : (gains : List ℕ) (t a b : ℕ) → length q + 2 ≤ t → IsNear p.moves (t - 1 - length q) (last_of p.start q) a → Contains (moves_from p.moves a) b → HasGains p q t gains →
+      slice_index gains b ≡ reward_of p q t b + greatest_moves p.moves (edge_reward_of p q) (p.horizon - t) (t + 1) b
+  gain_there gains t a b later near move filled = filled b (suc (t - 1 - length q)) (omega (arith, later)) (inr (a, near, move))
+
+  -- the sum from a position that the searcher can be on in period t
+  pub sum_there : (sums : List ℕ) (t b : ℕ) → length q ≤ t → IsNear p.moves (t - length q) (last_of p.start q) b → HasSums p q (t + 1) sums →
+      slice_index sums b ≡ greatest_moves p.moves (edge_reward_of p q) (p.horizon - t) (t + 1) b
+  sum_there sums t b later near filled =
+      let left : p.horizon - t ≡ p.horizon + 1 - (t + 1) = omega arith in
+      rw left (filled b (t - length q) (omega (arith, later)) near)
+
+  -- in a period by the sums of the next one
+  pub sums_before : (t a : ℕ) → IsProblem p → t ≤ p.horizon → a < p.positions →
+      greatest_moves p.moves (edge_reward_of p q) (p.horizon + 1 - t) t a ≡
+      greatest (map (λ b. edge_reward_of p q t a b + greatest_moves p.moves (edge_reward_of p q) (p.horizon - t) (t + 1) b) (moves_from p.moves a))
+  sums_before t a sound last here =
+      let r = edge_reward_of p q in
+      let at : a < length p.moves = omega (arith, here, sound.grid_positions) in
+      let long : p.horizon + 1 - t ≡ suc (p.horizon - t) = omega (arith, last) in
+      rw long (greatest_walks-suc p.moves sound.grid (sum_moves r t a) (r t a) (λ b. sum_moves r (t + 1) b) (λ b y. sum_moves-cons r t a b y) (p.horizon - t) a at)
 
 module _ (p : Problem) (sound : IsProblem p) (q sums : List ℕ) where
   -- past the horizon the sums are 0
@@ -41,28 +64,6 @@ module _ (p : Problem) (sound : IsProblem p) (q sums : List ℕ) where
       let g : ℕ → ℕ = λ b. part b + slice_index sums b in
       ap greatest (map_agree f g (moves_from p.moves a)
       (All-weaker (Contains (moves_from p.moves a)) (λ b. f b ≡ g b) (λ b move. rw (filled b move, left) refl) (moves_from p.moves a) (All-contains_itself (moves_from p.moves a))))
-
-  -- a move of a position that the searcher can be on is one that it can be on a period later
-  pub sum_there : (t a b : ℕ) → length q + 2 ≤ t → IsNear p.moves (t - 1 - length q) (last_of p.start q) a → Contains (moves_from p.moves a) b → HasSums p q (t + 1) sums →
-      slice_index sums b ≡ greatest_moves p.moves (edge_reward_of p q) (p.horizon + 1 - (t + 1)) (t + 1) b
-  sum_there t a b later near move filled = filled b (suc (t - 1 - length q)) (omega (arith, later)) (inr (a, near, move))
-
-  pub find_there : (finds : List ℕ) (t a b : ℕ) → length q + 2 ≤ t → IsNear p.moves (t - 1 - length q) (last_of p.start q) a → Contains (moves_from p.moves a) b → HasFinds p q t finds →
-      slice_index finds b ≡ reward_of p q t b
-  find_there finds t a b later near move filled = filled b (suc (t - 1 - length q)) (omega (arith, later)) (inr (a, near, move))
-
-  -- in a period by the sums of the next one
-  pub sums_before : (t a : ℕ) → length q + 2 ≤ t → t ≤ p.horizon → a < p.positions → IsNear p.moves (t - 1 - length q) (last_of p.start q) a → HasSums p q (t + 1) sums →
-      greatest_moves p.moves (edge_reward_of p q) (p.horizon + 1 - t) t a ≡ greatest (map (λ b. edge_reward_of p q t a b + slice_index sums b) (moves_from p.moves a))
-  sums_before t a later last here near filled =
-      let n = p.horizon - t in
-      let r = edge_reward_of p q in
-      let at : a < length p.moves = omega (arith, here, sound.grid_positions) in
-      let long : p.horizon + 1 - t ≡ suc n = omega (arith, last) in
-      let left : n ≡ p.horizon + 1 - (t + 1) = omega (arith, last) in
-      rw long
-      (greatest_walks-suc p.moves sound.grid (sum_moves r t a) (r t a) (λ b. sum_moves r (t + 1) b) (λ b y. sum_moves-cons r t a b y) n a at
-      ∙ with_sums (t + 1) n (r t a) a left (λ b move. sum_there t a b later near move filled))
 
   -- the sums of the moves after the prefix
   pub sum_first : (b : ℕ) → Contains (moves_after p q) b → HasSums p q (length q + 2) sums → slice_index sums b ≡ greatest_moves p.moves (edge_reward_of p q) (p.horizon + 1 - (length q + 2)) (length q + 2) b

@@ -21,10 +21,10 @@ HasSums p q t sums =
     (a n : ℕ) → length q + n + 1 ≡ t → IsNear p.moves n (last_of p.start q) a → slice_index sums a ≡ greatest_moves p.moves (edge_reward_of p q) (p.horizon + 1 - t) t a
 
 -- for each position that the searcher can be on in period t, n periods after the prefix, the reward of a look from there with
--- no look between it and the prefix
-abbrev pub HasFinds : Problem → List ℕ → ℕ → List ℕ → Type 0
-HasFinds p q t finds =
-    (b n : ℕ) → length q + n ≡ t → IsNear p.moves n (last_of p.start q) b → slice_index finds b ≡ reward_of p q t b
+-- no look between it and the prefix, and the greatest sum of edge rewards over the walks that go on from there
+abbrev pub HasGains : Problem → List ℕ → ℕ → List ℕ → Type 0
+HasGains p q t gains =
+    (b n : ℕ) → length q + n ≡ t → IsNear p.moves n (last_of p.start q) b → slice_index gains b ≡ reward_of p q t b + greatest_moves p.moves (edge_reward_of p q) (p.horizon - t) (t + 1) b
 
 -- for each entry of the row of a look from position a in the period before t, what the look finds in its cell with no look
 -- between it and the prefix, in the parts of what is to come after period t

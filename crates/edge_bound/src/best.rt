@@ -1,4 +1,4 @@
-//! The greatest sum of edge rewards from one position, by the sums of the period after it.
+//! The greatest sum of edge rewards from one position, by those from its moves.
 
 ghost use Rattle.std.specs.Prelude.{◌≡◌, ◌<◌, ◌≤◌, ◌+◌, ◌-◌, ◌*◌, ℕ, length, slice_index, Contains};
 ghost use Rattle.sweep_table.specs.LookParts.{look_row};
@@ -11,7 +11,7 @@ ghost use Rattle.belief_update.specs.Masses.{mass_of, looks_to};
 ghost use Rattle.belief_update.specs.Onward.{IsOnward};
 ghost use Rattle.edge_bound.specs.After.{parts_after, taken_of};
 ghost use Rattle.edge_bound.specs.Found.{found_of};
-ghost use Rattle.edge_bound.specs.Moves.{IsLater, IsOwn, HasFinds, HasShares, HasSums, greatest_moves};
+ghost use Rattle.edge_bound.specs.Moves.{IsLater, IsOwn, HasGains, HasShares, greatest_moves};
 ghost use Rattle.edge_bound.specs.Units.{HasUnits, place_of};
 
 use crate::moves::{found_by, look_from};
@@ -20,26 +20,27 @@ use crate::units::Units;
 use belief_update::Onward;
 use search_model::{Path, Scenario};
 
-// The reward of a look at `b` in period `t` after one at `a`, by the reward without that one and what that one takes of it.
-fn reward_less(sc: &Scenario, prefix: &Path, reward: u128, less: u128, t: u32, a: u8, b: u8) -> u128
+// The reward of a look at `b` in period `t` after one at `a`, and the greatest sum from there on, by both without the look at
+// `a` and what that one takes of the reward.
+fn gain_less(sc: &Scenario, prefix: &Path, gain: u128, less: u128, t: u32, a: u8, b: u8) -> u128
     requires period { IsLater sc.now prefix.now t }
-    requires reward { reward ≡ reward_of sc.now prefix.now t b }
+    requires gain { gain ≡ reward_of sc.now prefix.now t b +
+        greatest_moves sc.now.moves (edge_reward_of sc.now prefix.now) (sc.now.horizon - t) (t + 1) b }
     requires less { less ≡ taken_of sc.now prefix.now t a b }
-    ensures { result ≡ edge_reward_of sc.now prefix.now t a b }
+    ensures { result ≡ edge_reward_of sc.now prefix.now t a b +
+        greatest_moves sc.now.moves (edge_reward_of sc.now prefix.now) (sc.now.horizon - t) (t + 1) b }
 {
     let _after = prefix;
     let _looks = (t, a, b);
     sc.recall_sound();
-    reward - less
+    gain - less
 }
 
-// The reward of a look at `b` in period `t` after one at `a`, and the greatest sum from there on, by the reward without that
-// one and what that one takes of it.
+// The same, where the searcher can be on `a` before period `t`, and `b` is one of its moves.
 fn sum_through(
     sc: &Scenario,
     prefix: &Path,
-    finds: &[u128],
-    sums: &[u128],
+    gains: &[u128],
     less: u128,
     t: u32,
     a: u8,
@@ -49,17 +50,14 @@ fn sum_through(
     requires near { IsNear sc.now.moves (t - 1 - length prefix.now) (last_of sc.now.start prefix.now) a }
     requires to { b < sc.now.positions }
     requires step { Contains (moves_from sc.now.moves a) b }
-    requires found { length finds.now ≡ sc.now.positions }
-    requires finds { HasFinds sc.now prefix.now t finds.now }
-    requires width { length sums.now ≡ sc.now.positions }
-    requires sums { HasSums sc.now prefix.now (t + 1) sums.now }
+    requires width { length gains.now ≡ sc.now.positions }
+    requires gains { HasGains sc.now prefix.now t gains.now }
     requires less { less ≡ taken_of sc.now prefix.now t a b }
-    ensures { result ≡ edge_reward_of sc.now prefix.now t a b + slice_index sums.now b }
+    ensures { result ≡ edge_reward_of sc.now prefix.now t a b +
+        greatest_moves sc.now.moves (edge_reward_of sc.now prefix.now) (sc.now.horizon - t) (t + 1) b }
 {
-    sc.recall_sound();
-    let without = finds[usize::from(b)];
-    let reward = reward_less(sc, prefix, without, less, t, a, b);
-    reward + sums[usize::from(b)]
+    let gain = gains[usize::from(b)];
+    gain_less(sc, prefix, gain, less, t, a, b)
 }
 
 // What a look from position `a` in the period before takes of the reward of a look from `b` in period `t`, where looks from
@@ -98,8 +96,7 @@ fn best_own(
     prefix: &Path,
     onward: &Onward,
     units: &Units,
-    finds: &[u128],
-    sums: &[u128],
+    gains: &[u128],
     parts: u128,
     t: u32,
     a: u8,
@@ -111,10 +108,8 @@ fn best_own(
     requires near { IsNear sc.now.moves (t - 1 - length prefix.now) (last_of sc.now.start prefix.now) a }
     requires onward { IsOnward sc.now prefix.now onward.now }
     requires units { HasUnits sc.now units.now }
-    requires found { length finds.now ≡ sc.now.positions }
-    requires finds { HasFinds sc.now prefix.now t finds.now }
-    requires width { length sums.now ≡ sc.now.positions }
-    requires sums { HasSums sc.now prefix.now (t + 1) sums.now }
+    requires width { length gains.now ≡ sc.now.positions }
+    requires gains { HasGains sc.now prefix.now t gains.now }
     ensures { result ≡ greatest_moves sc.now.moves (edge_reward_of sc.now prefix.now) (sc.now.horizon + 1 - t) t a }
 {
     let moves = sc.grid().moves(a);
@@ -123,7 +118,7 @@ fn best_own(
     let mut best = 0;
     for b in moves {
         let less = taken_own(sc, prefix, units, share, place, t, a, *b);
-        let sum = sum_through(sc, prefix, finds, sums, less, t, a, *b);
+        let sum = sum_through(sc, prefix, gains, less, t, a, *b);
         best = sum.max(best);
     }
     best
@@ -137,8 +132,7 @@ fn best_by_row(
     onward: &Onward,
     units: &Units,
     shares: &mut [u128],
-    finds: &[u128],
-    sums: &[u128],
+    gains: &[u128],
     parts: u128,
     t: u32,
     a: u8,
@@ -150,10 +144,8 @@ fn best_by_row(
     requires near { IsNear sc.now.moves (t - 1 - length prefix.now) (last_of sc.now.start prefix.now) a }
     requires onward { IsOnward sc.now prefix.now onward.now }
     requires units { HasUnits sc.now units.now }
-    requires found { length finds.now ≡ sc.now.positions }
-    requires finds { HasFinds sc.now prefix.now t finds.now }
-    requires width { length sums.now ≡ sc.now.positions }
-    requires sums { HasSums sc.now prefix.now (t + 1) sums.now }
+    requires width { length gains.now ≡ sc.now.positions }
+    requires gains { HasGains sc.now prefix.now t gains.now }
     ensures best { result ≡ greatest_moves sc.now.moves (edge_reward_of sc.now prefix.now) (sc.now.horizon + 1 - t) t a }
     ensures shares { length shares.new ≡ length shares.old }
 {
@@ -163,22 +155,21 @@ fn best_by_row(
     let mut best = 0;
     for b in moves {
         let less = taken_by_shares(sc, prefix, units, shares, look.parts(), t, a, *b);
-        let through = sum_through(sc, prefix, finds, sums, less, t, a, *b);
+        let through = sum_through(sc, prefix, gains, less, t, a, *b);
         best = through.max(best);
     }
     best
 }
 
-/// The greatest sum over the walks that go on from position `a` in period `t`, by the rewards of looks in that period, the sums
-/// of the period after it and the parts of what is to come; `shares` is room for a row of cells.
+/// The greatest sum over the walks that go on from position `a` in period `t`, by the rewards of looks in that period with the
+/// sums that follow them, and the parts of what is to come; `shares` is room for a row of cells.
 pub(crate) fn best_move(
     sc: &Scenario,
     prefix: &Path,
     onward: &Onward,
     units: &Units,
     shares: &mut [u128],
-    finds: &[u128],
-    sums: &[u128],
+    gains: &[u128],
     parts: u128,
     t: u32,
     a: u8,
@@ -190,15 +181,13 @@ pub(crate) fn best_move(
     requires near { IsNear sc.now.moves (t - 1 - length prefix.now) (last_of sc.now.start prefix.now) a }
     requires onward { IsOnward sc.now prefix.now onward.now }
     requires units { HasUnits sc.now units.now }
-    requires found { length finds.now ≡ sc.now.positions }
-    requires finds { HasFinds sc.now prefix.now t finds.now }
-    requires width { length sums.now ≡ sc.now.positions }
-    requires sums { HasSums sc.now prefix.now (t + 1) sums.now }
+    requires width { length gains.now ≡ sc.now.positions }
+    requires gains { HasGains sc.now prefix.now t gains.now }
     ensures best { result ≡ greatest_moves sc.now.moves (edge_reward_of sc.now prefix.now) (sc.now.horizon + 1 - t) t a }
     ensures shares { length shares.new ≡ length shares.old }
 {
     match sc.sweep().own_part(a) {
-        Some(_) => best_own(sc, prefix, onward, units, finds, sums, parts, t, a),
-        None => best_by_row(sc, prefix, onward, units, shares, finds, sums, parts, t, a),
+        Some(_) => best_own(sc, prefix, onward, units, gains, parts, t, a),
+        None => best_by_row(sc, prefix, onward, units, shares, gains, parts, t, a),
     }
 }

@@ -26,9 +26,8 @@ pub struct EdgeTables {
     units: Units,
     // Per position, the greatest sum over the walks that go on from it.
     sums: Vec<u128>,
-    earlier: Vec<u128>,
-    // Per position, the reward of a look from it without the look before.
-    finds: Vec<u128>,
+    // Per position, the reward of a look from it without the look before, and the greatest sum from there on.
+    gains: Vec<u128>,
     // What the look before finds, cell by cell of its row, in the parts of what is to come.
     shares: Vec<u128>,
 }
@@ -41,8 +40,7 @@ impl Model for EdgeTables {
     ghost view = { λ e. record {
       units = e.units;
       sums = e.sums.items;
-      earlier = e.earlier.items;
-      finds = e.finds.items;
+      gains = e.gains.items;
       shares = e.shares.items;
     } };
 }
@@ -53,8 +51,7 @@ fn bound_from(
     onward: &Onward,
     units: &Units,
     sums: &mut [u128],
-    earlier: &mut [u128],
-    finds: &mut [u128],
+    gains: &mut [u128],
     shares: &mut [u128],
     sc: &Scenario,
     near: &Near,
@@ -65,17 +62,14 @@ fn bound_from(
     requires onward { IsOnward sc.now prefix.now onward.now }
     requires units { HasUnits sc.now units.now }
     requires width { length sums.old ≡ sc.now.positions }
-    requires room { length earlier.old ≡ sc.now.positions }
-    requires finds { length finds.old ≡ sc.now.positions }
+    requires gains { length gains.old ≡ sc.now.positions }
     requires shares { length shares.old ≡ sc.now.cells }
     requires legal { IsLegal sc.now prefix.now }
     requires short { length prefix.now < sc.now.horizon }
     ensures { result ≡ edge_of sc.now prefix.now }
 {
     sc.recall_sound();
-    fill_sums(
-        sums, earlier, finds, shares, sc, near, prefix, onward, units,
-    );
+    fill_sums(sums, gains, shares, sc, near, prefix, onward, units);
     value + best_first(sc, prefix, onward, sums)
 }
 
@@ -111,8 +105,7 @@ impl EdgeTables {
         Ok(EdgeTables {
             units: Units::tables(alloc, sc)?,
             sums: vec![in alloc; 0; positions]?,
-            earlier: vec![in alloc; 0; positions]?,
-            finds: vec![in alloc; 0; positions]?,
+            gains: vec![in alloc; 0; positions]?,
             shares: vec![in alloc; 0; usize::from(sc.cells())]?,
         })
     }
@@ -133,8 +126,7 @@ impl EdgeTables {
             onward,
             &self.units,
             &mut self.sums,
-            &mut self.earlier,
-            &mut self.finds,
+            &mut self.gains,
             &mut self.shares,
             sc,
             near,
@@ -172,8 +164,7 @@ impl EdgeTables {
                 onward,
                 &self.units,
                 &mut self.sums,
-                &mut self.earlier,
-                &mut self.finds,
+                &mut self.gains,
                 &mut self.shares,
                 sc,
                 near,

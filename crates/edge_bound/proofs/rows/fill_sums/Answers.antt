@@ -25,8 +25,8 @@ pub within-then-requires-clause-position : goal.within-then-requires-clause-posi
 within-then-requires-clause-position c =
     rw (c.grid-in-loop-t.ensures.value, c.last_after-from.ensures.value) (last_inside c.args.sc.now c.last_after-from.ensures.sound c.args.prefix.now c.requires.legal)
 
-pub fill_finds-requires-clause-inside : goal.fill_finds-requires-clause-inside
-fill_finds-requires-clause-inside c =
+pub fill_gains-requires-clause-inside : goal.fill_gains-requires-clause-inside
+fill_gains-requires-clause-inside c =
     let p = c.args.sc.now in
     let q = c.args.prefix.now in
     let steps : c.loop-t.t - 1 + 1 - c.len-in-loop-t-2.result ≡ c.loop-t.t - 1 + 1 - length q = omega (arith, c.len-in-loop-t-2.ensures.value) in
@@ -42,14 +42,14 @@ fill_row-requires-clause-inside c =
     all_inside p c.last_after-from.ensures.sound q c.requires.legal c.within-before.result.now (c.loop-t.t - 1 - length q) listed
 
 -- what is looked at in the period of the row
-pub fill_row-requires-clause-finds : goal.fill_row-requires-clause-finds
-fill_row-requires-clause-finds c b n is near =
+pub fill_row-requires-clause-gains : goal.fill_row-requires-clause-gains
+fill_row-requires-clause-gains c b n is near =
     let p = c.args.sc.now in
     let q = c.args.prefix.now in
     let steps : c.loop-t.t - 1 + 1 - c.len-in-loop-t-2.result ≡ c.loop-t.t - 1 + 1 - length q = omega (arith, c.len-in-loop-t-2.ensures.value) in
     let listed = listed_near p.moves c.grid-in-loop-t.result.now c.within-then.result.now (last_of p.start q) c.last_after-from.result (c.loop-t.t - 1 + 1 - length q) _ c.grid-in-loop-t.ensures.value c.last_after-from.ensures.value steps c.within-then.ensures in
     let moves : n ≡ c.loop-t.t - 1 + 1 - length q = omega (arith, is) in
-    c.fill_finds.ensures.found b ((listed b).1 (subst (λ (m : ℕ). IsNear p.moves m (last_of p.start q) b) moves near))
+    c.fill_gains.ensures.gains b ((listed b).1 (subst (λ (m : ℕ). IsNear p.moves m (last_of p.start q) b) moves near))
 
 pub loop-t-preserved : goal.loop-t-preserved
 loop-t-preserved c =
@@ -61,7 +61,7 @@ loop-t-preserved c =
       start = omega (arith, c.loop-t-test.true, c.len.ensures.value);
       sums = λ a n is near.
           let moves : n ≡ c.loop-t.t - 1 - length q = omega (arith, is) in
-          rw c.copy_from_slice.ensures.after (c.fill_row.ensures.row a ((listed a).1 (subst (λ (m : ℕ). IsNear p.moves m (last_of p.start q) a) moves near)));
+          c.fill_row.ensures.row a ((listed a).1 (subst (λ (m : ℕ). IsNear p.moves m (last_of p.start q) a) moves near));
     }
 
 pub returns : goal.returns
