@@ -53,6 +53,22 @@ reward_parts p sound q t b later last =
     let whole : found * g * (drifts * g ^ n) ≡ found * (drifts * g ^ (p.horizon - (length q + 1))) = rw more (omega arith) in
     omega (arith, whole, reward_is p sound q t b (omega (arith, later)) last)
 
+-- so are one look part and one drift part of them for the look before
+pub reward_before : (p : Problem) → IsProblem p → (q : List ℕ) (t a : ℕ) → length q + 2 ≤ t → t ≤ p.horizon →
+    found_of p (t - 1) a (mass_of p (looks_to (t - 1) q)) * parts_after p q t * p.drift.denominator * p.sweep.denominator ≡ reward_of p q (t - 1) a
+reward_before p sound q t a later last =
+    let d = p.drift.denominator in
+    let g = p.sweep.denominator in
+    let m = p.horizon - t in
+    let n = p.horizon - (length q + 2) in
+    let found = found_of p (t - 1) a (mass_of p (looks_to (t - 1) q)) in
+    let drifts : d ^ (p.horizon - (t - 1)) ≡ d ^ m * d =
+    ap (λ (k : ℕ). d ^ k) (let e : p.horizon - (t - 1) ≡ suc m = omega (arith, later, last) in e) ∙ pow-suc d m in
+    let looks : g ^ (p.horizon - (length q + 1)) ≡ g ^ n * g =
+    ap (λ (k : ℕ). g ^ k) (let e : p.horizon - (length q + 1) ≡ suc n = omega (arith, later, last) in e) ∙ pow-suc g n in
+    let whole : found * (d ^ m * g ^ n) * d * g ≡ found * (d ^ (p.horizon - (t - 1)) * g ^ (p.horizon - (length q + 1))) = rw (drifts, looks) (omega arith) in
+    omega (arith, whole, reward_is p sound q (t - 1) a (omega (arith, later)) (omega (arith, last)))
+
 -- the looks of a prefix, one from position a in the period before t, and none in period t
 abbrev looks_before : List ℕ → ℕ → ℕ → List (Option ℕ)
 looks_before q t a = looks_to (t - 2) q ++ Some a ∷ [] ++ None ∷ []

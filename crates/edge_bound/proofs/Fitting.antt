@@ -1,8 +1,7 @@
 -- That the bound fits: what looks find, edge rewards, and sums of them.
-use Rattle.std.proofs.Common.{ℕ, suc, ◌+◌, ◌*◌, ◌-◌, ◌^◌, ◌<◌, ◌≤◌, ◌≡◌, List, [], ◌∷◌, map, length, inl, inr, ap, ◌∙◌, arith, Contains}
-use Rattle.std.proofs.lemmas.Bool.{cases_lt}
+use Rattle.std.proofs.Common.{ℕ, ◌+◌, ◌*◌, ◌-◌, ◌^◌, ◌<◌, ◌≤◌, ◌≡◌, List, [], ◌∷◌, map, length, arith, Contains}
 use Rattle.std.proofs.lemmas.List.Elements.{All-map, All-weaker, All-contains_itself}
-use Rattle.std.proofs.Math.Nat.{pow-suc, one-le-mul}
+use Rattle.std.proofs.Math.Nat.{one-le-mul}
 use Rattle.exact_parts.proofs.Widths.{le-times}
 use Rattle.search_model.specs.Problem.{Problem, IsProblem}
 use Rattle.search_model.specs.Legal.{walks, continuations, last_of}
@@ -18,9 +17,8 @@ use Rattle.belief_update.specs.Masses.{mass_of, looks_to}
 use Rattle.edge_bound.specs.Found.{found_of}
 use Rattle.edge_bound.specs.After.{through, parts_after, taken_of}
 use Rattle.edge_bound.specs.Moves.{greatest_moves}
-use Rattle.edge_bound.proofs.Discounts.{reward_is, reward_parts}
+use Rattle.edge_bound.proofs.Discounts.{reward_is, reward_parts, reward_before}
 use Rattle.edge_bound.proofs.Through.{through_comes, taken_of_found, taken_of_reward}
-use Rattle.edge_bound.proofs.Walking.{greatest_moves-zero}
 
 -- what bounds each sum of a walk bounds the greatest
 greatest-within : (f : List ℕ → ℕ) (most : ℕ) (ys : List (List ℕ)) → ((y : List ℕ) → Contains ys y → f y ≤ most) → greatest (map f ys) ≤ most
@@ -46,17 +44,9 @@ module _ (p : Problem) (sound : IsProblem p) (q : List ℕ) where
   found_parts-within t a later last =
       let d = p.drift.denominator in
       let g = p.sweep.denominator in
-      let m = p.horizon - t in
-      let n = p.horizon - (length q + 2) in
-      let found = found_of p (t - 1) a (mass_of p (looks_to (t - 1) q)) in
-      let drifts : d ^ (p.horizon - (t - 1)) ≡ d ^ m * d =
-      ap (λ (k : ℕ). d ^ k) (let e : p.horizon - (t - 1) ≡ suc m = omega (arith, later, last) in e) ∙ pow-suc d m in
-      let looks : g ^ (p.horizon - (length q + 1)) ≡ g ^ n * g =
-      ap (λ (k : ℕ). g ^ k) (let e : p.horizon - (length q + 1) ≡ suc n = omega (arith, later, last) in e) ∙ pow-suc g n in
       let some : 1 ≤ d * g = one-le-mul (omega (arith, sound.drift.denominator)) (omega (arith, sound.sweep.denominator)) in
-      let times = le-times (found * (d ^ m * g ^ n)) (d * g) some in
-      let whole : found * (d ^ m * g ^ n) * (d * g) ≡ found * (d ^ (p.horizon - (t - 1)) * g ^ (p.horizon - (length q + 1))) = rw (drifts, looks) (omega arith) in
-      omega (arith, times, whole, reward_is p sound q (t - 1) a (omega (arith, later)) (omega (arith, last)), reward-within p sound q (t - 1) a (omega (arith, later, last)))
+      let times = le-times (found_of p (t - 1) a (mass_of p (looks_to (t - 1) q)) * parts_after p q t) (d * g) some in
+      omega (arith, times, reward_before p sound q t a later last, reward-within p sound q (t - 1) a (omega (arith, later, last)))
 
   -- and what it finds of the mass of one cell a period before
   pub through-within : (t b c : ℕ) → length q + 2 ≤ t → t ≤ p.horizon → c < p.cells → through p q t b c ≤ whole_weight p
@@ -102,15 +92,3 @@ module _ (p : Problem) (sound : IsProblem p) (q : List ℕ) where
   edge_sums-within =
       greatest-within (edge_sum p q) ((p.horizon - length q) * whole_weight p) (continuations p q) (λ y listed.
       edge_sum-within y (listed_walk p.moves (p.horizon - length q) (last_of p.start q) y listed).1)
-
-  -- in the second period after the prefix, which may be past the horizon
-  pub sums_first-within : (a : ℕ) → length q < p.horizon → greatest_moves p.moves (edge_reward_of p q) (p.horizon + 1 - (length q + 2)) (length q + 2) a ≤ (p.horizon - length q - 1) * whole_weight p
-  sums_first-within a short =
-      elim (cases_lt (length q + 1) p.horizon) [
-        | inl more ↦
-            let left : p.horizon + 1 - (length q + 2) ≡ p.horizon - length q - 1 = omega (arith, short) in
-            rw left (greatest_moves-within (omega (arith, more)) (p.horizon - length q - 1) (length q + 2) a)
-        | inr last ↦
-            let none : p.horizon + 1 - (length q + 2) ≡ 0 = omega (arith, last) in
-            rw (none, greatest_moves-zero p.moves (edge_reward_of p q) (length q + 2) a) (omega arith)
-      ]

@@ -11,8 +11,7 @@ use Rattle.search_model.proofs.Greatest.{greatest-one}
 use Rattle.list_laws.proofs.Agreeing.{map_agree}
 use Rattle.longest_walk.proofs.Steps.{greatest_walks-suc, All-moves}
 use Rattle.longest_walk.specs.Near.{IsNear}
-use Rattle.longest_walk.proofs.NearSteps.{near_within}
-use Rattle.edge_bound.specs.Moves.{greatest_moves, HasSums, HasGains}
+use Rattle.edge_bound.specs.Moves.{greatest_moves, HasGains}
 
 pub sum_moves-cons : (r : ℕ → ℕ → ℕ → ℕ) (t a b : ℕ) (y : List ℕ) → sum_moves r t a (b ∷ y) ≡ r t a b + sum_moves r (t + 1) b y
 unfolding sum_moves
@@ -29,12 +28,20 @@ module _ (p : Problem) (q : List ℕ) where
       slice_index gains b ≡ reward_of p q t b + greatest_moves p.moves (edge_reward_of p q) (p.horizon - t) (t + 1) b
   gain_there gains t a b later near move filled = filled b (suc (t - 1 - length q)) (omega (arith, later)) (inr (a, near, move))
 
-  -- the sum from a position that the searcher can be on in period t
-  pub sum_there : (sums : List ℕ) (t b : ℕ) → length q ≤ t → IsNear p.moves (t - length q) (last_of p.start q) b → HasSums p q (t + 1) sums →
-      slice_index sums b ≡ greatest_moves p.moves (edge_reward_of p q) (p.horizon - t) (t + 1) b
-  sum_there sums t b later near filled =
-      let left : p.horizon - t ≡ p.horizon + 1 - (t + 1) = omega arith in
-      rw left (filled b (t - length q) (omega (arith, later)) near)
+  -- no sum follows a look in the last period
+  pub gain_last : (u t b v : ℕ) → u ≡ p.horizon → t ≡ p.horizon → v ≡ reward_of p q u b → v ≡ reward_of p q t b + greatest_moves p.moves (edge_reward_of p q) (p.horizon - t) (t + 1) b
+  gain_last u t b v at here is =
+      let none : p.horizon - t ≡ 0 = omega (arith, here) in
+      let same : u ≡ t = omega (arith, at, here) in
+      rw (none, greatest_moves-zero p.moves (edge_reward_of p q) (t + 1) b) (omega (arith, rw same at is))
+
+  -- and of the look before, by the same sum
+  pub gain_back : (n t a v : ℕ) → n + 1 ≡ t → v ≡ reward_of p q (t - 1) a + greatest_moves p.moves (edge_reward_of p q) (p.horizon + 1 - t) t a →
+      v ≡ reward_of p q n a + greatest_moves p.moves (edge_reward_of p q) (p.horizon - n) (n + 1) a
+  gain_back n t a v next is =
+      let before : t - 1 ≡ n = omega (arith, next) in
+      let left : p.horizon + 1 - t ≡ p.horizon - n = omega (arith, next) in
+      rw (next, ← left, ← before) is
 
   -- in a period by the sums of the next one
   pub sums_before : (t a : ℕ) → IsProblem p → t ≤ p.horizon → a < p.positions →
@@ -46,41 +53,24 @@ module _ (p : Problem) (q : List ℕ) where
       let long : p.horizon + 1 - t ≡ suc (p.horizon - t) = omega (arith, last) in
       rw long (greatest_walks-suc p.moves sound.grid (sum_moves r t a) (r t a) (λ b. sum_moves r (t + 1) b) (λ b y. sum_moves-cons r t a b y) (p.horizon - t) a at)
 
-module _ (p : Problem) (sound : IsProblem p) (q sums : List ℕ) where
-  -- past the horizon the sums are 0
-  pub sums_none : (t : ℕ) → IsLegal p q → p.horizon < t → ((a : ℕ) → a < p.positions → slice_index sums a ≡ 0) → HasSums p q t sums
-  sums_none t legal past zeros a m is near =
-      let start = last_within p.moves sound.grid p.start (omega (arith, sound.start, sound.grid_positions)) q legal.follows in
-      let here : a < p.positions = omega (arith, near_within p.moves sound.grid m (last_of p.start q) a start near, sound.grid_positions) in
-      let none : p.horizon + 1 - t ≡ 0 = omega (arith, past) in
-      rw none (zeros a here ∙ sym (greatest_moves-zero p.moves (edge_reward_of p q) t a))
-
-  -- the greatest of a move's parts and sums
-  with_sums : (t n : ℕ) (part : ℕ → ℕ) (a : ℕ) → n ≡ p.horizon + 1 - t →
-      ((b : ℕ) → Contains (moves_from p.moves a) b → slice_index sums b ≡ greatest_moves p.moves (edge_reward_of p q) (p.horizon + 1 - t) t b) →
-      greatest (map (λ b. part b + greatest_moves p.moves (edge_reward_of p q) n t b) (moves_from p.moves a)) ≡ greatest (map (λ b. part b + slice_index sums b) (moves_from p.moves a))
-  with_sums t n part a left filled =
-      let f : ℕ → ℕ = λ b. part b + greatest_moves p.moves (edge_reward_of p q) n t b in
-      let g : ℕ → ℕ = λ b. part b + slice_index sums b in
-      ap greatest (map_agree f g (moves_from p.moves a)
-      (All-weaker (Contains (moves_from p.moves a)) (λ b. f b ≡ g b) (λ b move. rw (filled b move, left) refl) (moves_from p.moves a) (All-contains_itself (moves_from p.moves a))))
-
-  -- the sums of the moves after the prefix
-  pub sum_first : (b : ℕ) → Contains (moves_after p q) b → HasSums p q (length q + 2) sums → slice_index sums b ≡ greatest_moves p.moves (edge_reward_of p q) (p.horizon + 1 - (length q + 2)) (length q + 2) b
-  sum_first b move filled = filled b 1 (omega arith) (inr (last_of p.start q, refl, move))
-
-  -- and over all continuations by the sums of the second period after the prefix
-  pub sums_first : IsLegal p q → length q < p.horizon → HasSums p q (length q + 2) sums →
-      greatest (map (edge_sum p q) (continuations p q)) ≡ greatest (map (λ b. reward_of p q (length q + 1) b + slice_index sums b) (moves_after p q))
-  sums_first legal short filled =
-      let n = p.horizon - length q - 1 in
+module _ (p : Problem) (sound : IsProblem p) (q gains : List ℕ) where
+  -- over all continuations by the gains of the moves after the prefix
+  pub gains_first : IsLegal p q → length q < p.horizon → HasGains p q (length q + 1) gains →
+      greatest (map (edge_sum p q) (continuations p q)) ≡ greatest (map (λ b. slice_index gains b) (moves_after p q))
+  gains_first legal short filled =
+      let r = edge_reward_of p q in
+      let n = p.horizon - (length q + 1) in
       let a = last_of p.start q in
       let at : a < length p.moves = last_within p.moves sound.grid p.start (omega (arith, sound.start, sound.grid_positions)) q legal.follows in
       let long : p.horizon - length q ≡ suc n = omega (arith, short) in
-      let left : n ≡ p.horizon + 1 - (length q + 2) = omega (arith, short) in
+      let f : ℕ → ℕ = λ b. reward_of p q (length q + 1) b + greatest_moves p.moves r n (length q + 2) b in
+      let g : ℕ → ℕ = λ b. slice_index gains b in
+      let moves = moves_after p q in
+      let two : length q + 1 + 1 ≡ length q + 2 = omega arith in
       rw long
-      (greatest_walks-suc p.moves sound.grid (edge_sum p q) (reward_of p q (length q + 1)) (λ b. sum_moves (edge_reward_of p q) (length q + 2) b) (λ b y. refl) n a at
-      ∙ with_sums (length q + 2) n (reward_of p q (length q + 1)) a left (λ b move. sum_first b move filled))
+      (greatest_walks-suc p.moves sound.grid (edge_sum p q) (reward_of p q (length q + 1)) (λ b. sum_moves r (length q + 2) b) (λ b y. refl) n a at
+      ∙ ap greatest (map_agree f g moves
+      (All-weaker (Contains moves) (λ b. f b ≡ g b) (λ b move. sym (rw two at (filled b 1 refl (inr (a, refl, move))))) moves (All-contains_itself moves))))
 
   -- each move is a position
   pub move_there : (a i : ℕ) → a < length p.moves → i < length (moves_from p.moves a) → slice_index (moves_from p.moves a) i < p.positions

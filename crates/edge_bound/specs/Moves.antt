@@ -14,12 +14,6 @@ use Rattle.edge_bound.specs.After.{parts_after}
 abbrev pub greatest_moves : List (List ℕ) → (ℕ → ℕ → ℕ → ℕ) → ℕ → ℕ → ℕ → ℕ
 greatest_moves rows r n t a = greatest (map (sum_moves r t a) (walks rows n a))
 
--- for each position that the searcher can be on before period t, n periods after the prefix, the greatest sum of edge
--- rewards over the walks that go on from it in period t
-abbrev pub HasSums : Problem → List ℕ → ℕ → List ℕ → Type 0
-HasSums p q t sums =
-    (a n : ℕ) → length q + n + 1 ≡ t → IsNear p.moves n (last_of p.start q) a → slice_index sums a ≡ greatest_moves p.moves (edge_reward_of p q) (p.horizon + 1 - t) t a
-
 -- for each position that the searcher can be on in period t, n periods after the prefix, the reward of a look from there with
 -- no look between it and the prefix, and the greatest sum of edge rewards over the walks that go on from there
 abbrev pub HasGains : Problem → List ℕ → ℕ → List ℕ → Type 0

@@ -1,4 +1,4 @@
-//! The greatest sum of edge rewards from one position, by those from its moves.
+//! The reward of one look and the greatest sum of edge rewards from there on, by those of its moves.
 
 ghost use Rattle.std.specs.Prelude.{◌≡◌, ◌<◌, ◌≤◌, ◌+◌, ◌-◌, ◌*◌, ℕ, length, slice_index, Contains};
 ghost use Rattle.sweep_table.specs.LookParts.{look_row};
@@ -60,6 +60,25 @@ fn sum_through(
     gain_less(sc, prefix, gain, less, t, a, b)
 }
 
+// The reward of a look from `a` in the period before `t` with no look between it and the prefix, and the greatest sum from
+// there on, by what the look finds, in the parts of what is to come after period `t`, and that sum.
+fn gain_before(sc: &Scenario, prefix: &Path, found: u128, best: u128, t: u32, a: u8) -> u128
+    requires period { IsLater sc.now prefix.now t }
+    requires found { found ≡
+        found_of sc.now (t - 1) a (mass_of sc.now (looks_to (t - 1) prefix.now)) * parts_after sc.now prefix.now t }
+    requires best { best ≡ greatest_moves sc.now.moves (edge_reward_of sc.now prefix.now) (sc.now.horizon + 1 - t) t a }
+    ensures { result ≡ reward_of sc.now prefix.now (t - 1) a +
+        greatest_moves sc.now.moves (edge_reward_of sc.now prefix.now) (sc.now.horizon + 1 - t) t a }
+{
+    let _after = prefix;
+    let _look = (t, a);
+    let steps = sc.drift().denominator();
+    let looks = sc.sweep().denominator();
+    let part = found * u128::from(steps);
+    let reward = part * u128::from(looks);
+    reward + best
+}
+
 // What a look from position `a` in the period before takes of the reward of a look from `b` in period `t`, where looks from
 // `a` cover its own cell alone: by what it finds there, in the parts of what is to come, and where the numbers of that cell
 // begin.
@@ -89,8 +108,8 @@ fn taken_own(
     share * u128::from(unit)
 }
 
-// The greatest sum over the walks that go on from position `a` in period `t`, where looks from there cover its own cell
-// alone.
+// The reward of a look from position `a` in the period before `t` with no look between it and the prefix, and the greatest
+// sum from there on, where looks from there cover its own cell alone.
 fn best_own(
     sc: &Scenario,
     prefix: &Path,
@@ -110,7 +129,8 @@ fn best_own(
     requires units { HasUnits sc.now units.now }
     requires width { length gains.now ≡ sc.now.positions }
     requires gains { HasGains sc.now prefix.now t gains.now }
-    ensures { result ≡ greatest_moves sc.now.moves (edge_reward_of sc.now prefix.now) (sc.now.horizon + 1 - t) t a }
+    ensures { result ≡ reward_of sc.now prefix.now (t - 1) a +
+        greatest_moves sc.now.moves (edge_reward_of sc.now prefix.now) (sc.now.horizon + 1 - t) t a }
 {
     let moves = sc.grid().moves(a);
     let share = found_by(sc, prefix, onward, t - 1, a) * parts;
@@ -121,7 +141,7 @@ fn best_own(
         let sum = sum_through(sc, prefix, gains, less, t, a, *b);
         best = sum.max(best);
     }
-    best
+    gain_before(sc, prefix, share, best, t, a)
 }
 
 // The same where a look from there covers a row of cells; `shares` is room for what it finds in each of them.
@@ -146,23 +166,25 @@ fn best_by_row(
     requires units { HasUnits sc.now units.now }
     requires width { length gains.now ≡ sc.now.positions }
     requires gains { HasGains sc.now prefix.now t gains.now }
-    ensures best { result ≡ greatest_moves sc.now.moves (edge_reward_of sc.now prefix.now) (sc.now.horizon + 1 - t) t a }
+    ensures gain { result ≡ reward_of sc.now prefix.now (t - 1) a +
+        greatest_moves sc.now.moves (edge_reward_of sc.now prefix.now) (sc.now.horizon + 1 - t) t a }
     ensures shares { length shares.new ≡ length shares.old }
 {
     let moves = sc.grid().moves(a);
     let look = look_from(sc, t - 1, a);
-    fill_shares(shares, sc, prefix, onward, look.parts(), parts, t, a);
+    let found = fill_shares(shares, sc, prefix, onward, look.parts(), parts, t, a);
     let mut best = 0;
     for b in moves {
         let less = taken_by_shares(sc, prefix, units, shares, look.parts(), t, a, *b);
         let through = sum_through(sc, prefix, gains, less, t, a, *b);
         best = through.max(best);
     }
-    best
+    gain_before(sc, prefix, found, best, t, a)
 }
 
-/// The greatest sum over the walks that go on from position `a` in period `t`, by the rewards of looks in that period with the
-/// sums that follow them, and the parts of what is to come; `shares` is room for a row of cells.
+/// The reward of a look from position `a` in the period before `t` with no look between it and the prefix, and the greatest sum
+/// from there on, by the rewards of looks in period `t` with the sums that follow them, and the parts of what is to come;
+/// `shares` is room for a row of cells.
 pub(crate) fn best_move(
     sc: &Scenario,
     prefix: &Path,
@@ -183,7 +205,8 @@ pub(crate) fn best_move(
     requires units { HasUnits sc.now units.now }
     requires width { length gains.now ≡ sc.now.positions }
     requires gains { HasGains sc.now prefix.now t gains.now }
-    ensures best { result ≡ greatest_moves sc.now.moves (edge_reward_of sc.now prefix.now) (sc.now.horizon + 1 - t) t a }
+    ensures gain { result ≡ reward_of sc.now prefix.now (t - 1) a +
+        greatest_moves sc.now.moves (edge_reward_of sc.now prefix.now) (sc.now.horizon + 1 - t) t a }
     ensures shares { length shares.new ≡ length shares.old }
 {
     match sc.sweep().own_part(a) {

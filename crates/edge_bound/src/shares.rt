@@ -1,9 +1,11 @@
 //! What one look finds in each cell that it covers, for all the looks that may come next.
 
-ghost use Rattle.std.specs.Prelude.{◌≡◌, ◌<◌, ◌-◌, length};
+ghost use Rattle.std.specs.Prelude.{◌≡◌, ◌<◌, ◌-◌, ◌*◌, length};
 ghost use Rattle.sweep_table.specs.LookParts.{look_row};
+ghost use Rattle.belief_update.specs.Masses.{mass_of, looks_to};
 ghost use Rattle.belief_update.specs.Onward.{IsOnward};
 ghost use Rattle.edge_bound.specs.After.{parts_after, taken_of};
+ghost use Rattle.edge_bound.specs.Found.{found_of};
 ghost use Rattle.edge_bound.specs.Moves.{IsLater, HasShares};
 ghost use Rattle.edge_bound.specs.Units.{HasUnits};
 
@@ -14,7 +16,7 @@ use search_model::{Path, Scenario};
 use sweep_table::LookPart;
 
 /// Writes what a look from position `a` in the period before `t` finds in each cell of its row, with no look between it and the
-/// prefix, in the parts of what is to come after period `t`.
+/// prefix, in the parts of what is to come after period `t`, and answers their sum.
 pub(crate) fn fill_shares(
     shares: &mut [u128],
     sc: &Scenario,
@@ -24,22 +26,28 @@ pub(crate) fn fill_shares(
     parts: u128,
     t: u32,
     a: u8,
-)
+) -> u128
     requires row { row.now ≡ look_row sc.now.sweep (t - 1) a }
     requires parts { parts ≡ parts_after sc.now prefix.now t }
     requires period { IsLater sc.now prefix.now t }
     requires onward { IsOnward sc.now prefix.now onward.now }
     requires room { length shares.old ≡ sc.now.cells }
+    ensures sum { result ≡
+        found_of sc.now (t - 1) a (mass_of sc.now (looks_to (t - 1) prefix.now)) * parts_after sc.now prefix.now t }
     ensures each { HasShares sc.now prefix.now t a shares.new }
     ensures room { length shares.new ≡ length shares.old }
 {
     let _from = a;
     let whole = sc.sweep().denominator();
+    let mut sum = 0;
     for i in 0..row.len() {
         let mass = mass_at(sc, prefix, onward, t - 1, row[i].cell);
         let found = mass * u128::from(whole - row[i].part);
-        shares[i] = found * parts;
+        let share = found * parts;
+        shares[i] = share;
+        sum += share;
     }
+    sum
 }
 
 /// What a look from position `a` in the period before takes of the reward of a look from `b` in period `t`, by what it finds in

@@ -9,7 +9,7 @@ ghost use Rattle.belief_update.specs.Onward.{IsOnward};
 ghost use Rattle.edge_bound.specs.Units.{HasUnits};
 
 use crate::along::sum_after;
-use crate::rows::{best_first, fill_sums};
+use crate::rows::{best_first, go_back};
 use crate::units::Units;
 use belief_update::Onward;
 use exact_parts::NoMemory;
@@ -24,10 +24,10 @@ use std::marker::Model;
 pub struct EdgeTables {
     // What looks find of units of mass, made once.
     units: Units,
-    // Per position, the greatest sum over the walks that go on from it.
-    sums: Vec<u128>,
     // Per position, the reward of a look from it without the look before, and the greatest sum from there on.
     gains: Vec<u128>,
+    // Room for those of the period before.
+    earlier: Vec<u128>,
     // What the look before finds, cell by cell of its row, in the parts of what is to come.
     shares: Vec<u128>,
 }
@@ -39,8 +39,8 @@ impl Model for EdgeTables {
 
     ghost view = { λ e. record {
       units = e.units;
-      sums = e.sums.items;
       gains = e.gains.items;
+      earlier = e.earlier.items;
       shares = e.shares.items;
     } };
 }
@@ -50,8 +50,8 @@ fn bound_from(
     value: u128,
     onward: &Onward,
     units: &Units,
-    sums: &mut [u128],
     gains: &mut [u128],
+    earlier: &mut [u128],
     shares: &mut [u128],
     sc: &Scenario,
     near: &Near,
@@ -61,16 +61,16 @@ fn bound_from(
     requires value { value ≡ value_of sc.now prefix.now }
     requires onward { IsOnward sc.now prefix.now onward.now }
     requires units { HasUnits sc.now units.now }
-    requires width { length sums.old ≡ sc.now.positions }
-    requires gains { length gains.old ≡ sc.now.positions }
+    requires width { length gains.old ≡ sc.now.positions }
+    requires room { length earlier.old ≡ sc.now.positions }
     requires shares { length shares.old ≡ sc.now.cells }
     requires legal { IsLegal sc.now prefix.now }
     requires short { length prefix.now < sc.now.horizon }
     ensures { result ≡ edge_of sc.now prefix.now }
 {
     sc.recall_sound();
-    fill_sums(sums, gains, shares, sc, near, prefix, onward, units);
-    value + best_first(sc, prefix, onward, sums)
+    go_back(gains, earlier, shares, sc, near, prefix, onward, units);
+    value + best_first(sc, prefix, gains)
 }
 
 // A prefix's value with the rewards of one path that extends it, by the beliefs after it.
@@ -104,8 +104,8 @@ impl EdgeTables {
         let positions = usize::from(sc.positions());
         Ok(EdgeTables {
             units: Units::tables(alloc, sc)?,
-            sums: vec![in alloc; 0; positions]?,
             gains: vec![in alloc; 0; positions]?,
+            earlier: vec![in alloc; 0; positions]?,
             shares: vec![in alloc; 0; usize::from(sc.cells())]?,
         })
     }
@@ -125,8 +125,8 @@ impl EdgeTables {
             onward.value(),
             onward,
             &self.units,
-            &mut self.sums,
             &mut self.gains,
+            &mut self.earlier,
             &mut self.shares,
             sc,
             near,
@@ -163,8 +163,8 @@ impl EdgeTables {
                 value,
                 onward,
                 &self.units,
-                &mut self.sums,
                 &mut self.gains,
+                &mut self.earlier,
                 &mut self.shares,
                 sc,
                 near,

@@ -33,8 +33,8 @@ loop-b-preserved c =
     rw (c.max-best.ensures, c.sum_through-sum.ensures)
     (best_more f c.moves-moves.result.now c.loop-b.b-index c.loop-b.best _ c.loop-b-test.true c.loop-b.invariant)
 
-pub returns : goal.returns
-returns c =
+pub gain_before-requires-clause-best : goal.gain_before-requires-clause-best
+gain_before-requires-clause-best c =
     let p = c.args.sc.now in
     let q = c.args.prefix.now in
     let f : ℕ → ℕ = λ b. edge_reward_of p q c.args.t c.args.a b + greatest_moves p.moves (edge_reward_of p q) (p.horizon - c.args.t) (c.args.t + 1) b in

@@ -1,9 +1,9 @@
-use Rattle.std.proofs.Common.{◌≡◌, ◌+◌, ℕ, map, max, drop, length, slice_index}
-use Rattle.search_model.specs.Bounds.{reward_of, greatest}
+use Rattle.std.proofs.Common.{◌≡◌, ℕ, map, max, drop, slice_index}
+use Rattle.search_model.specs.Bounds.{greatest}
 use Rattle.edge_bound.proofs.rows.best_first.Given as goal
 
 -- the best so far, or the greatest of what is left
 abbrev pub invariant-loop-b : goal.invariant-loop-b
 invariant-loop-b l =
-    let f : ℕ → ℕ = λ b. reward_of l.sc l.prefix (length l.prefix + 1) b + slice_index l.sums b in
+    let f : ℕ → ℕ = λ b. slice_index l.gains b in
     max l.best (greatest (map f (drop l.b-index l.moves))) ≡ greatest (map f l.moves)
