@@ -35,7 +35,7 @@ module _ (p : Problem) (q : List ℕ) where
       let same : u ≡ t = omega (arith, at, here) in
       rw (none, greatest_moves-zero p.moves (edge_reward_of p q) (t + 1) b) (omega (arith, rw same at is))
 
-  -- and of the look before, by the same sum
+  -- the reward of a look in the period before t and the sum that follows it, by the number of its own period
   pub gain_back : (n t a v : ℕ) → n + 1 ≡ t → v ≡ reward_of p q (t - 1) a + greatest_moves p.moves (edge_reward_of p q) (p.horizon + 1 - t) t a →
       v ≡ reward_of p q n a + greatest_moves p.moves (edge_reward_of p q) (p.horizon - n) (n + 1) a
   gain_back n t a v next is =
@@ -43,7 +43,7 @@ module _ (p : Problem) (q : List ℕ) where
       let left : p.horizon + 1 - t ≡ p.horizon - n = omega (arith, next) in
       rw (next, ← left, ← before) is
 
-  -- in a period by the sums of the next one
+  -- the sums of a period by those of the next one
   pub sums_before : (t a : ℕ) → IsProblem p → t ≤ p.horizon → a < p.positions →
       greatest_moves p.moves (edge_reward_of p q) (p.horizon + 1 - t) t a ≡
       greatest (map (λ b. edge_reward_of p q t a b + greatest_moves p.moves (edge_reward_of p q) (p.horizon - t) (t + 1) b) (moves_from p.moves a))
@@ -54,7 +54,7 @@ module _ (p : Problem) (q : List ℕ) where
       rw long (greatest_walks-suc p.moves sound.grid (sum_moves r t a) (r t a) (λ b. sum_moves r (t + 1) b) (λ b y. sum_moves-cons r t a b y) (p.horizon - t) a at)
 
 module _ (p : Problem) (sound : IsProblem p) (q gains : List ℕ) where
-  -- over all continuations by the gains of the moves after the prefix
+  -- the greatest sum over all continuations, by the rewards of the moves after the prefix with the sums that follow them
   pub gains_first : IsLegal p q → length q < p.horizon → HasGains p q (length q + 1) gains →
       greatest (map (edge_sum p q) (continuations p q)) ≡ greatest (map (λ b. slice_index gains b) (moves_after p q))
   gains_first legal short filled =
