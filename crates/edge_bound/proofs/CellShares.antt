@@ -13,7 +13,7 @@ use Rattle.search_model.specs.Tracks.{whole_weight}
 use Rattle.search_model.proofs.LookRows.{covered_cell, own_cell, sum_own}
 use Rattle.belief_update.specs.Masses.{mass_of, looks_to}
 use Rattle.edge_bound.specs.Found.{found_in, found_of, one_of}
-use Rattle.edge_bound.specs.After.{through, parts_after, taken_of}
+use Rattle.edge_bound.specs.After.{through, parts_after, loss_of}
 use Rattle.edge_bound.specs.Moves.{IsOwn}
 use Rattle.edge_bound.proofs.Fitting.{found-within, found_parts-within}
 
@@ -66,7 +66,7 @@ module _ (p : Problem) (q : List ℕ) (t b : ℕ) where
   share_taken e = omega arith
 
   -- where it covers its own cell alone
-  pub own_taken : (a : ℕ) → IsProblem p → IsOwn p a → found_of p (t - 1) a (mass_of p (looks_to (t - 1) q)) * parts_after p q t * one_of p t a b ≡ taken_of p q t a b
+  pub own_taken : (a : ℕ) → IsProblem p → IsOwn p a → found_of p (t - 1) a (mass_of p (looks_to (t - 1) q)) * parts_after p q t * one_of p t a b ≡ loss_of p q t a b
   own_taken a sound (part, own) =
       rw (
         sum_own p sound (t - 1) a p.sweep refl part own (found_in p (mass_of p (looks_to (t - 1) q))),

@@ -15,7 +15,7 @@ use Rattle.list_laws.proofs.Sums.{sum_by-range-part}
 use Rattle.search_model.proofs.Greatest.{greatest_below}
 use Rattle.belief_update.specs.Masses.{mass_of, looks_to}
 use Rattle.edge_bound.specs.Found.{found_of}
-use Rattle.edge_bound.specs.After.{through, parts_after, taken_of}
+use Rattle.edge_bound.specs.After.{through, parts_after, loss_of}
 use Rattle.edge_bound.specs.Moves.{greatest_moves}
 use Rattle.edge_bound.proofs.Discounts.{reward_is, reward_parts, reward_before}
 use Rattle.edge_bound.proofs.Through.{through_comes, taken_of_found, taken_of_reward}
@@ -58,7 +58,7 @@ module _ (p : Problem) (sound : IsProblem p) (q : List ℕ) where
   through_taken-within t a b later last = omega (arith, taken_of_found p q t b sound later a, found_times-within t b later last)
 
   -- and in the parts of what is to come
-  pub taken-within : (t a b : ℕ) → length q + 2 ≤ t → t ≤ p.horizon → taken_of p q t a b ≤ whole_weight p
+  pub taken-within : (t a b : ℕ) → length q + 2 ≤ t → t ≤ p.horizon → loss_of p q t a b ≤ whole_weight p
   taken-within t a b later last = omega (arith, taken_of_reward p q t b sound later last a, reward-within p sound q t b (omega (arith, later, last)))
 
   -- no edge reward is above the whole weight

@@ -10,7 +10,7 @@ use Rattle.list_laws.proofs.Sums.{sum_by-same, sum_by-times, sum_by-plus, sum_by
 use Rattle.drift_chain.specs.DriftRows.{part_of}
 use Rattle.belief_update.specs.Masses.{mass_of, looks_to}
 use Rattle.edge_bound.specs.Found.{found_in, found_of}
-use Rattle.edge_bound.specs.After.{mass_after_look, going_on, through, parts_after, taken_of}
+use Rattle.edge_bound.specs.After.{mass_after_look, going_on, through, parts_after, loss_of}
 use Rattle.edge_bound.proofs.Discounts.{mass_comes, taken_of_mass, reward_parts, edge_reward_is}
 
 module _ (p : Problem) (t b : ℕ) where
@@ -78,7 +78,7 @@ module _ (p : Problem) (q : List ℕ) (t b : ℕ) where
       omega (arith, both, each, found-times p t b mass g, found_taken a)
 
   -- so are its reward after that one and what that one takes of it
-  pub taken_of_reward : IsProblem p → length q + 2 ≤ t → t ≤ p.horizon → (a : ℕ) → edge_reward_of p q t a b + taken_of p q t a b ≡ reward_of p q t b
+  pub taken_of_reward : IsProblem p → length q + 2 ≤ t → t ≤ p.horizon → (a : ℕ) → edge_reward_of p q t a b + loss_of p q t a b ≡ reward_of p q t b
   taken_of_reward sound later last a =
       let parts = parts_after p q t in
       let both = ap (λ (s : ℕ). s * parts) (taken_of_found sound later a) in

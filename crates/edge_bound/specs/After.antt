@@ -24,5 +24,5 @@ abbrev pub parts_after : Problem → List ℕ → ℕ → ℕ
 parts_after p q t = p.drift.denominator ^ (p.horizon - t) * p.sweep.denominator ^ (p.horizon - (length q + 2))
 
 -- what a look from position a in the period before takes of the reward of a look from b in period t
-abbrev pub taken_of : Problem → List ℕ → ℕ → ℕ → ℕ → ℕ
-taken_of p q t a b = found_of p (t - 1) a (through p q t b) * parts_after p q t
+abbrev pub loss_of : Problem → List ℕ → ℕ → ℕ → ℕ → ℕ
+loss_of p q t a b = found_of p (t - 1) a (through p q t b) * parts_after p q t

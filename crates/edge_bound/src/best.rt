@@ -9,7 +9,7 @@ ghost use Rattle.search_model.specs.Edge.{edge_reward_of};
 ghost use Rattle.longest_walk.specs.Near.{IsNear};
 ghost use Rattle.belief_update.specs.Masses.{mass_of, looks_to};
 ghost use Rattle.belief_update.specs.Onward.{IsOnward};
-ghost use Rattle.edge_bound.specs.After.{parts_after, taken_of};
+ghost use Rattle.edge_bound.specs.After.{parts_after, loss_of};
 ghost use Rattle.edge_bound.specs.Found.{found_of};
 ghost use Rattle.edge_bound.specs.Moves.{IsLater, IsOwn, HasGains, HasShares, greatest_moves};
 ghost use Rattle.edge_bound.specs.Units.{HasUnits, place_of};
@@ -26,7 +26,7 @@ fn gain_less(sc: &Scenario, prefix: &Path, gain: u128, less: u128, t: u32, a: u8
     requires period { IsLater sc.now prefix.now t }
     requires gain { gain ≡ reward_of sc.now prefix.now t b +
         greatest_moves sc.now.moves (edge_reward_of sc.now prefix.now) (sc.now.horizon - t) (t + 1) b }
-    requires less { less ≡ taken_of sc.now prefix.now t a b }
+    requires less { less ≡ loss_of sc.now prefix.now t a b }
     ensures { result ≡ edge_reward_of sc.now prefix.now t a b +
         greatest_moves sc.now.moves (edge_reward_of sc.now prefix.now) (sc.now.horizon - t) (t + 1) b }
 {
@@ -52,7 +52,7 @@ fn sum_through(
     requires step { Contains (moves_from sc.now.moves a) b }
     requires width { length gains.now ≡ sc.now.positions }
     requires gains { HasGains sc.now prefix.now t gains.now }
-    requires less { less ≡ taken_of sc.now prefix.now t a b }
+    requires less { less ≡ loss_of sc.now prefix.now t a b }
     ensures { result ≡ edge_reward_of sc.now prefix.now t a b +
         greatest_moves sc.now.moves (edge_reward_of sc.now prefix.now) (sc.now.horizon - t) (t + 1) b }
 {
@@ -99,7 +99,7 @@ fn taken_own(
     requires share { share ≡
         found_of sc.now (t - 1) a (mass_of sc.now (looks_to (t - 1) prefix.now)) * parts_after sc.now prefix.now t }
     requires place { place ≡ place_of units.now t a 0 }
-    ensures { result ≡ taken_of sc.now prefix.now t a b }
+    ensures { result ≡ loss_of sc.now prefix.now t a b }
 {
     let _after = prefix;
     let _look = (t, a);

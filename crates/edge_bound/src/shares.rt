@@ -4,7 +4,7 @@ ghost use Rattle.std.specs.Prelude.{◌≡◌, ◌<◌, ◌-◌, ◌*◌, length
 ghost use Rattle.sweep_table.specs.LookParts.{look_row};
 ghost use Rattle.belief_update.specs.Masses.{mass_of, looks_to};
 ghost use Rattle.belief_update.specs.Onward.{IsOnward};
-ghost use Rattle.edge_bound.specs.After.{parts_after, taken_of};
+ghost use Rattle.edge_bound.specs.After.{parts_after, loss_of};
 ghost use Rattle.edge_bound.specs.Found.{found_of};
 ghost use Rattle.edge_bound.specs.Moves.{IsLater, HasShares};
 ghost use Rattle.edge_bound.specs.Units.{HasUnits};
@@ -68,7 +68,7 @@ pub(crate) fn taken_by_shares(
     requires row { row.now ≡ look_row sc.now.sweep (t - 1) a }
     requires shares { HasShares sc.now prefix.now t a shares.now }
     requires room { length shares.now ≡ sc.now.cells }
-    ensures { result ≡ taken_of sc.now prefix.now t a b }
+    ensures { result ≡ loss_of sc.now prefix.now t a b }
 {
     let _after = prefix;
     let _from = a;
