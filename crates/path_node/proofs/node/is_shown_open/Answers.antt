@@ -22,3 +22,6 @@ returns-clause-open c seen rate is =
     let free : IsFalse (is_cut c.bound_by-shown.result q c.args.finer.now) = sym c.cuts.ensures ∙ not-true c.cuts.result seen in
     open_by_front p q c.args.reference.now c.args.j path (omega (arith, c.if-j-len.false, c.len.ensures.value)) (omega (arith, c.requires.front))
     rate c.bound_by-shown.result c.args.finer.now sound (c.bound_by-shown.ensures.value rate is) free
+
+pub bound_by-shown-requires-clause-onward : goal.bound_by-shown-requires-clause-onward
+bound_by-shown-requires-clause-onward c = c.onward.ensures c.args.sc.now c.args.prefix.now c.requires.mean c.requires.there
