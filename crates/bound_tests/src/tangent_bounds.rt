@@ -28,15 +28,15 @@ fn may_be_bounded(sc: &Scenario, prefix: &Path, reference: &Path) -> bool
         && reference.first(prefix.len()).cells() == prefix.cells()
 }
 
-// Whether a prefix has this bound at a reference: by going from the start, by what the mean bound keeps along it, and, as a
-// front of the reference, by what that keeps along no prefix at all.
+// Whether a prefix has this bound at a reference, where both are within its conditions: by going from the start, by what the
+// mean bound keeps along it, and, as a front of the reference, by what that keeps along no prefix at all.
 fn has_bound(
     sc: &Scenario,
     tangent: &mut Tangent,
     tables: &mut TangentTables,
     mean: &mut Mean,
     case: &Bound,
-) -> bool
+) -> Option<bool>
     requires tangent { IsMadeFor sc.now tangent.old }
     requires tables { AreTablesFor sc.now tables.old }
     requires mean { IsMeanFor sc.now mean.old }
@@ -44,14 +44,12 @@ fn has_bound(
     ensures tables { AreTablesFor sc.now tables.new }
     ensures mean { IsMeanFor sc.now mean.new }
 {
-    let (Some(prefix), Some(reference)) = (Path::of(case.0), Path::of(case.1)) else {
-        return false;
-    };
-    if tangent.rate().is_none()
-        || tables.rate().is_none()
-        || !may_be_bounded(sc, &prefix, &reference)
-    {
-        return false;
+    let prefix = Path::of(case.0)?;
+    let reference = Path::of(case.1)?;
+    let _kept = tables.rate()?;
+    let _rate = tangent.rate()?;
+    if !may_be_bounded(sc, &prefix, &reference) {
+        return None;
     }
     let k = prefix.len() as u32;
     mean.go_to(sc, &prefix);
@@ -59,7 +57,8 @@ fn has_bound(
     let none = Path::empty();
     mean.go_to(sc, &none);
     let front = tables.bound_by(sc, mean.near(), mean.onward(), &none, &reference, k);
-    along == case.2 && front == case.2 && tangent.bound(sc, &prefix, &reference) == case.2
+    let bound = tangent.bound(sc, &prefix, &reference);
+    Some(along == case.2 && front == case.2 && bound == case.2)
 }
 
 // Whether prefixes have their bounds, each at its reference.
@@ -75,7 +74,7 @@ fn have_bounds(
     requires mean { IsMeanFor sc.now mean.old }
 {
     for case in cases {
-        if !has_bound(sc, tangent, tables, mean, case) {
+        if has_bound(sc, tangent, tables, mean, case) != Some(true) {
             return false;
         }
     }

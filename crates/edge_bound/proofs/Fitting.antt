@@ -11,14 +11,13 @@ use Rattle.search_model.specs.Edge.{edge_reward_of, sum_moves, edge_sum}
 use Rattle.search_model.proofs.Totals.{some_parts}
 use Rattle.search_model.proofs.EdgeRewards.{edge_reward-le, reward-within}
 use Rattle.search_model.proofs.WalkLemmas.{listed_walk}
-use Rattle.list_laws.proofs.Sums.{sum_by-range-part}
 use Rattle.search_model.proofs.Greatest.{greatest_below}
 use Rattle.belief_update.specs.Masses.{mass_of, looks_to}
 use Rattle.edge_bound.specs.Found.{found_of}
-use Rattle.edge_bound.specs.After.{through, parts_after, loss_of}
+use Rattle.edge_bound.specs.After.{parts_after, loss_of}
 use Rattle.edge_bound.specs.Moves.{greatest_moves}
 use Rattle.edge_bound.proofs.Discounts.{reward_is, reward_parts, reward_before}
-use Rattle.edge_bound.proofs.Through.{through_comes, taken_of_found, taken_of_reward}
+use Rattle.edge_bound.proofs.Through.{taken_of_reward}
 
 -- what bounds each sum of a walk bounds the greatest
 greatest-within : (f : List ℕ → ℕ) (most : ℕ) (ys : List (List ℕ)) → ((y : List ℕ) → Contains ys y → f y ≤ most) → greatest (map f ys) ≤ most
@@ -48,16 +47,7 @@ module _ (p : Problem) (sound : IsProblem p) (q : List ℕ) where
       let times = le-times (found_of p (t - 1) a (mass_of p (looks_to (t - 1) q)) * parts_after p q t) (d * g) some in
       omega (arith, times, reward_before p sound q t a later last, reward-within p sound q (t - 1) a (omega (arith, later, last)))
 
-  -- and what it finds of the mass of one cell a period before
-  pub through-within : (t b c : ℕ) → length q + 2 ≤ t → t ≤ p.horizon → c < p.cells → through p q t b c ≤ whole_weight p
-  through-within t b c later last from =
-      omega (arith, sum_by-range-part p.cells (through p q t b) c from, through_comes p q t b later, found-within t b (omega (arith, later)) last)
-
-  -- and what a look before it takes of it
-  pub through_taken-within : (t a b : ℕ) → length q + 2 ≤ t → t ≤ p.horizon → found_of p (t - 1) a (through p q t b) ≤ whole_weight p
-  through_taken-within t a b later last = omega (arith, taken_of_found p q t b sound later a, found_times-within t b later last)
-
-  -- and in the parts of what is to come
+  -- what a look before takes of a reward
   pub taken-within : (t a b : ℕ) → length q + 2 ≤ t → t ≤ p.horizon → loss_of p q t a b ≤ whole_weight p
   taken-within t a b later last = omega (arith, taken_of_reward p q t b sound later last a, reward-within p sound q t b (omega (arith, later, last)))
 

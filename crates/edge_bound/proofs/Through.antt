@@ -47,14 +47,6 @@ module _ (p : Problem) (q : List ℕ) (t b : ℕ) where
       let swapped = found-same p t b (λ d. m * part d) (λ d. part d * m) (λ d. omega arith) in
       omega (arith, swapped, found-times p t b part m)
 
-  -- what a look from b finds of all masses is what it finds of each a period before
-  pub through_comes : length q + 2 ≤ t → sum_by (through p q t b) (range_with_len 0 p.cells) ≡ found_of p t b (mass_of p (looks_to t q))
-  through_comes later =
-      let all = range_with_len 0 p.cells in
-      sym (found-same p t b (mass_of p (looks_to t q)) (λ d. sum_by (going_on p q t d) all) (λ d. mass_comes p q t later d)
-      ∙ found-sum p t b (λ c d. going_on p q t d c) all
-      ∙ sum_by-same (λ c. found_of p t b (λ d. going_on p q t d c)) (through p q t b) all through_is)
-
   -- and what it would find of what a look from a takes is what that look takes, cell by cell
   found_taken : (a : ℕ) → found_of p t b (λ d. found_of p (t - 1) a (going_on p q t d)) ≡ found_of p (t - 1) a (through p q t b)
   found_taken a =

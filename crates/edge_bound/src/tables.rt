@@ -78,6 +78,7 @@ fn sum_from(
     value: u128,
     onward: &Onward,
     units: &Units,
+    shares: &mut [u128],
     sc: &Scenario,
     prefix: &Path,
     path: &Path,
@@ -88,10 +89,12 @@ fn sum_from(
     requires short { length prefix.now < sc.now.horizon }
     requires path { IsPath sc.now path.now }
     requires begins { take (length prefix.now) path.now ≡ prefix.now }
-    ensures { result ≤ edge_of sc.now prefix.now }
+    requires shares { length shares.old ≡ sc.now.cells }
+    ensures shown { result ≤ edge_of sc.now prefix.now }
+    ensures shares { length shares.new ≡ length shares.old }
 {
     sc.recall_sound();
-    value + sum_after(sc, prefix, onward, units, path.cells())
+    value + sum_after(sc, prefix, onward, units, shares, path.cells())
 }
 
 impl EdgeTables {
@@ -157,7 +160,15 @@ impl EdgeTables {
         ensures made { AreTablesFor sc.now self.new }
     {
         let value = onward.value();
-        let shown = sum_from(value, onward, &self.units, sc, prefix, path);
+        let shown = sum_from(
+            value,
+            onward,
+            &self.units,
+            &mut self.shares,
+            sc,
+            prefix,
+            path,
+        );
         if shown < enough {
             bound_from(
                 value,

@@ -26,9 +26,9 @@ overflow_add-result c =
     let q = c.args.prefix.now in
     let sound = c.recall_sound.ensures in
     let rest = rest-within p q c.args.path.now c.requires.path c.requires.begins in
-    rw (c.requires.value, c.sum_after.ensures, c.cells.ensures.value) (omega (arith, rest, edge_sums-within p sound q, weights-fit p sound (p.horizon - length q) (omega arith)))
+    rw (c.requires.value, c.sum_after.ensures.sum, c.cells.ensures.value) (omega (arith, rest, edge_sums-within p sound q, weights-fit p sound (p.horizon - length q) (omega arith)))
 
-pub returns : goal.returns
-returns c =
+pub returns-clause-shown : goal.returns-clause-shown
+returns-clause-shown c =
     let rest = rest-within c.args.sc.now c.args.prefix.now c.args.path.now c.requires.path c.requires.begins in
-    rw (c.requires.value, c.sum_after.ensures, c.cells.ensures.value) (omega (arith, rest))
+    rw (c.requires.value, c.sum_after.ensures.sum, c.cells.ensures.value) (omega (arith, rest))

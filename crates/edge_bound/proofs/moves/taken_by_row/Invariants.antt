@@ -1,8 +1,0 @@
-use Rattle.std.proofs.Common.{◌≡◌, sum_by, take}
-use Rattle.edge_bound.specs.Found.{found_in}
-use Rattle.edge_bound.specs.After.{through}
-use Rattle.edge_bound.proofs.moves.taken_by_row.Given as goal
-
--- what is taken in the cells so far
-abbrev pub invariant-loop-entry : goal.invariant-loop-entry
-invariant-loop-entry l = l.sum ≡ sum_by (found_in l.sc (through l.sc l.prefix l.t l.b)) (take l.entry-index l.entry-items)
