@@ -1,6 +1,5 @@
 -- What the second of two looks finds of masses in the period of the first one, and what the first one takes of that.
 use Rattle.std.proofs.Common.{ℕ, ◌+◌, ◌*◌, ◌-◌, ◌≤◌, ◌≡◌, List, length, sym, ap, ◌∙◌, arith, sum_by}
-use Rattle.std.specs.List.{range_with_len}
 use Rattle.period_rows.specs.declared.part.CellPart.{CellPart}
 use Rattle.sweep_table.specs.LookParts.{look_row}
 use Rattle.search_model.specs.Problem.{Problem, IsProblem}
@@ -11,7 +10,7 @@ use Rattle.drift_chain.specs.DriftRows.{part_of}
 use Rattle.belief_update.specs.Masses.{mass_of, looks_to}
 use Rattle.edge_bound.specs.Found.{found_in, found_of}
 use Rattle.edge_bound.specs.After.{mass_after_look, going_on, through, parts_after, loss_of}
-use Rattle.edge_bound.proofs.Discounts.{mass_comes, taken_of_mass, reward_parts, edge_reward_is}
+use Rattle.edge_bound.proofs.Discounts.{taken_of_mass, reward_parts, edge_reward_is}
 
 module _ (p : Problem) (t b : ℕ) where
   -- of equal masses a look finds the same
