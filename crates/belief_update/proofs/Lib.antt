@@ -17,3 +17,7 @@ pub mod OneMore
 pub mod OwnLooks
 pub mod LookSteps
 pub mod TakenSteps
+pub mod Units
+pub mod FlowSteps
+pub mod TakeOff
+pub mod UnitSteps

@@ -1,17 +1,17 @@
 -- What looks take of masses, look by look and period by period, and what they leave.
-use Rattle.std.proofs.Common.{ℕ, suc, ◌+◌, ◌*◌, ◌-◌, ◌^◌, ◌<◌, ◌≤◌, ◌≡◌, false, List, [], ◌∷◌, ◌++◌, None, map, length, slice_index, refl, sym, ap, ◌∙◌, arith, sum, sum_by, zero, length-append}
+use Rattle.std.proofs.Common.{ℕ, suc, ◌+◌, ◌*◌, ◌-◌, ◌^◌, ◌<◌, ◌≤◌, ◌≡◌, false, List, [], ◌∷◌, ◌++◌, None, map, length, slice_index, refl, sym, ap, ◌∙◌, arith, sum, sum_by, length-append}
 use Rattle.std.specs.List.{range_with_len}
 use Rattle.std.proofs.lemmas.List.Sums.{sum-map}
 use Rattle.std.proofs.lemmas.List.FromFn.{fill_by_all}
 use Rattle.std.proofs.lemmas.Nat.{mul-le, pow-add}
-use Rattle.std.proofs.Math.Nat.{pow-zero, pow-suc, mul-le-mul_left, le_refl}
+use Rattle.std.proofs.Math.Nat.{pow-zero, pow-suc, one-le-pow, mul-le-mul_left, le_refl}
 use Rattle.drift_chain.specs.DriftRows.{part_of}
 use Rattle.sweep_table.specs.LookParts.{factor_of}
 use Rattle.sweep_table.proofs.Factors.{factor_of-le}
 use Rattle.exact_parts.proofs.Widths.{part_fits}
 use Rattle.search_model.specs.Problem.{Problem, IsProblem}
 use Rattle.search_model.specs.Tracks.{missed_weight, value_of, whole_weight}
-use Rattle.search_model.proofs.Totals.{nothing_is_cut_off, whole_weight-fits}
+use Rattle.search_model.proofs.Totals.{nothing_is_cut_off, whole_weight-fits, some_parts}
 use Rattle.list_laws.proofs.Sums.{sum_by-range-part, sum_by-range-same, sum_by-times, sum_by-plus}
 use Rattle.belief_update.specs.Masses.{mass_of, masses_of, looks_to}
 use Rattle.belief_update.specs.Belief.{BeliefState, IsBelief}
@@ -38,7 +38,7 @@ part_of_fits m g f fits =
     omega (arith, mul-le-mul_left m within, fits)
 
 -- a look in a period that has none scales the mass by its factor
-look_scales : (p : Problem) (r : List ℕ) (a c t : ℕ) → t ≡ length r + 1 → mass_of p (looks_to t (r ++ a ∷ [])) c ≡ mass_of p (looks_to t r) c * factor_of p.sweep t a c
+pub look_scales : (p : Problem) (r : List ℕ) (a c t : ℕ) → t ≡ length r + 1 → mass_of p (looks_to t (r ++ a ∷ [])) c ≡ mass_of p (looks_to t r) c * factor_of p.sweep t a c
 look_scales p r a c t next =
     let long : length (looks_to (length r) r) ≡ length r = length-looks_to (length r) r (le_refl (length r)) in
     let law = mass_of-look p (looks_to (length r) r) a c in
@@ -50,10 +50,6 @@ drift_sends : (p : Problem) (r : List ℕ) (t d : ℕ) → length r ≤ t → 1 
 drift_sends p r t d late some = rw (looks_to-drift t r late) (drift_mass_at p (looks_to t r) t d (length-looks_to t r late) some)
 
 module _ (p : Problem) (sound : IsProblem p) where
-  some_parts : (base n : ℕ) → 1 ≤ base → 1 ≤ base ^ n
-  some_parts base zero some = rw (pow-zero base) (omega arith)
-  some_parts base (suc n) some = rw (pow-suc base n) (mul-le 1 1 (base ^ n) base (some_parts base n some) some)
-
   -- masses after a prefix have room for looks up to the horizon
   pub scaled-le : (q : List ℕ) (t n c : ℕ) → 1 ≤ t → length q ≤ t → t ≤ p.horizon → length q + n ≤ p.horizon → c < p.cells →
       mass_of p (looks_to t q) c * p.sweep.denominator ^ n ≤ whole_weight p
@@ -66,8 +62,8 @@ module _ (p : Problem) (sound : IsProblem p) where
       let law : missed_weight p q ≡ sum masses * d ^ (p.horizon - t) * g ^ (p.horizon - length q) = missed_by_masses_hold p sound q t some late last in
       let part : m ≤ sum masses = omega (arith, sum-map (mass_of p (looks_to t q)) (range_with_len 0 p.cells), sum_by-range-part p.cells (mass_of p (looks_to t q)) c here) in
       let whole : g ^ (p.horizon - length q) ≡ g ^ n * g ^ left = ap (λ (k : ℕ). g ^ k) (omega (arith, few)) ∙ pow-add g n left in
-      let steps : m * 1 ≤ sum masses * d ^ (p.horizon - t) = mul-le m 1 (sum masses) (d ^ (p.horizon - t)) part (some_parts d (p.horizon - t) sound.drift.denominator.0) in
-      let looks : g ^ n * 1 ≤ g ^ n * g ^ left = mul-le (g ^ n) 1 (g ^ n) (g ^ left) (le_refl (g ^ n)) (some_parts g left sound.sweep.denominator.0) in
+      let steps : m * 1 ≤ sum masses * d ^ (p.horizon - t) = mul-le m 1 (sum masses) (d ^ (p.horizon - t)) part (one-le-pow (p.horizon - t) d (omega (arith, sound.drift.denominator))) in
+      let looks : g ^ n * 1 ≤ g ^ n * g ^ left = mul-le (g ^ n) 1 (g ^ n) (g ^ left) (le_refl (g ^ n)) (one-le-pow left g (omega (arith, sound.sweep.denominator))) in
       let all = mul-le (m * 1) (g ^ n * 1) (sum masses * d ^ (p.horizon - t)) (g ^ n * g ^ left) steps looks in
       omega (arith, rw whole at law, all, nothing_is_cut_off p q sound)
 
@@ -298,6 +294,6 @@ module _ (p : Problem) (sound : IsProblem p) where
     total-le =
         let d' = p.drift.denominator ^ (p.horizon - s.period) in
         let g' = p.sweep.denominator ^ (p.horizon - length r) in
-        let some : 1 * 1 ≤ d' * g' = mul-le 1 1 d' g' (some_parts p.drift.denominator (p.horizon - s.period) sound.drift.denominator.0) (some_parts p.sweep.denominator (p.horizon - length r) sound.sweep.denominator.0) in
+        let some : 1 ≤ d' * g' = some_parts p sound (p.horizon - s.period) (p.horizon - length r) in
         let more = mul-le-mul_left (sum s.masses) some in
         omega (arith, more)

@@ -2,13 +2,16 @@
 use Rattle.std.specs.Prelude.{ℕ, ◌≡◌, ◌<◌, ◌≤◌, false, List, [], length, take, slice_index_or, All}
 use Rattle.search_model.specs.Problem.{Problem}
 use Rattle.belief_update.specs.Taken.{TakenState}
+use Rattle.belief_update.specs.Flows.{FlowState, AreFlows}
 use Rattle.belief_update.specs.Onward.{OnwardState, IsMadeFor, IsOnward}
 
--- what contracts see: the prefix, per number of its looks the beliefs after so many, and what the last looks took
+-- what contracts see: the prefix, per number of its looks the beliefs after so many, what the last looks took, and where
+-- units of single cells go
 pub record LevelsState : Type 0 where
   pub prefix : List ℕ
   pub levels : List OnwardState
   pub taken : TakenState
+  pub flows : List FlowState
 
 -- the beliefs that are kept after so many looks
 abbrev pub level_at : List OnwardState → ℕ → OnwardState
@@ -25,3 +28,4 @@ pub record AreLevelsOf (p : Problem) (l : LevelsState) : Type 0 where
   pub short : length l.prefix < p.horizon
   pub cells : length l.taken.masses ≡ p.cells
   pub levels : AreLevels p l.prefix (length l.prefix) l.levels
+  pub flows : AreFlows p l.flows

@@ -7,3 +7,4 @@ pub mod Levels
 pub mod Laws
 pub mod Worked
 pub mod Places
+pub mod Flows

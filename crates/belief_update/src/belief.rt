@@ -4,9 +4,11 @@ ghost use Rattle.std.specs.Prelude.{◌≡◌, ◌<◌, ◌≤◌, ◌+◌, ◌+
 ghost use Rattle.search_model.specs.Problem.{IsProblem, first_of};
 ghost use Rattle.belief_update.specs.Belief.{IsBelief, IsReached, IsUnlooked, awaiting};
 ghost use Rattle.belief_update.specs.Masses.{looks_to};
-ghost use Rattle.belief_update.specs.Taken.{IsLater, IsLaterSome};
+ghost use Rattle.belief_update.specs.Taken.{TakenState, IsLater, IsLaterSome};
+ghost use Rattle.belief_update.specs.Flows.{IsUnits, IsUnitsOfSome};
 
 use crate::count::Steps;
+use crate::flows::UnitPart;
 use crate::steps;
 use crate::taken::Taken;
 use exact_parts::NoMemory;
@@ -186,6 +188,27 @@ impl Belief {
         sc.recall_sound();
         let whole = sc.sweep().denominator();
         steps::leave(&mut self.masses, &before.masses, whole, taken.masses());
+        self.period = before.period;
+        self.looked = false;
+    }
+
+    /// Becomes the belief with one look more, in a period after that look, by the belief without it: the look took so many
+    /// units, which are where entries have them by then.
+    pub(crate) fn leave_units(
+        &mut self,
+        sc: &Scenario,
+        before: &Belief,
+        units: u128,
+        entries: &[UnitPart],
+    )
+        requires cells { length self.old.masses ≡ sc.now.cells }
+        requires taken { IsUnitsOfSome sc.now before.now units entries.now }
+        ensures { (q r : List ℕ) (s : TakenState) → IsUnits sc.now q r before.now units entries.now s →
+            IsBelief sc.now (looks_to s.period r) self.new }
+    {
+        sc.recall_sound();
+        let whole = sc.sweep().denominator();
+        steps::leave_units(&mut self.masses, &before.masses, whole, units, entries);
         self.period = before.period;
         self.looked = false;
     }

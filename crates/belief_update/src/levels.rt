@@ -1,13 +1,15 @@
 //! Beliefs of the periods after a prefix, and after each shorter front of it.
 
-ghost use Rattle.std.specs.Prelude.{◌≡◌, ◌<◌, ◌≤◌, ◌+◌, [], ℕ, List, length, take, IfOk, All};
+ghost use Rattle.std.specs.Prelude.{◌≡◌, ◌<◌, ◌≤◌, ◌+◌, [], ℕ, List, length, take, IfOk, IsTrue, All};
 ghost use Rattle.search_model.specs.Problem.{Problem};
 ghost use Rattle.search_model.specs.Legal.{IsLegal};
 ghost use Rattle.search_model.specs.Tracks.{value_of};
 ghost use Rattle.belief_update.specs.Onward.{IsMadeFor, IsOnward};
 ghost use Rattle.belief_update.specs.Levels.{AreLevels, AreLevelsOf};
+ghost use Rattle.belief_update.specs.Flows.{AreFlows, HasOwnFlow};
 
 use crate::along::take_along;
+use crate::flows::{Flow, flows_over};
 use crate::onward::Onward;
 use crate::taken::Taken;
 use crate::trail::in_common;
@@ -25,6 +27,8 @@ pub struct Levels {
     levels: Vec<Onward>,
     // What the last look took, or the looks of the last prefix whose value was asked for.
     taken: Taken,
+    // Where units of single cells go, if all steps of the drift are alike.
+    flows: Vec<Flow>,
 }
 
 impl Model for Levels {
@@ -33,7 +37,7 @@ impl Model for Levels {
 
     ghost Value = { LevelsState };
 
-    ghost view = { λ l. record { prefix = l.prefix; levels = l.levels.items; taken = l.taken } };
+    ghost view = { λ l. record { prefix = l.prefix; levels = l.levels.items; taken = l.taken; flows = l.flows.items } };
 
     ghost invariant = { λ l. length l.prefix < length l.levels.items };
 }
@@ -60,32 +64,73 @@ fn begin(levels: &mut [Onward], sc: &Scenario)
     levels[0].go_to(sc, &Path::empty());
 }
 
+// Makes the flow of a position's own cell up to the `n`-th step, where its looks cover that cell alone. It says whether it is
+// there.
+fn reach_own(flows: &mut [Flow], sc: &Scenario, a: u8, n: usize) -> bool
+    requires position { a < sc.now.positions }
+    requires last { n < sc.now.horizon }
+    requires flows { AreFlows sc.now flows.old }
+    ensures flows { AreFlows sc.now flows.new }
+    ensures there { IsTrue result → HasOwnFlow sc.now flows.new a n }
+{
+    if flows.is_empty() {
+        return false;
+    }
+    match sc.sweep().own_part(a) {
+        Some(_) => flows[usize::from(a)].reach(sc, n),
+        None => false,
+    }
+}
+
 // Makes the level after look `i` by the one before it.
-fn open(levels: &mut [Onward], taken: &mut Taken, sc: &Scenario, looks: &[u8], i: usize)
+fn open(
+    levels: &mut [Onward],
+    taken: &mut Taken,
+    flows: &mut [Flow],
+    sc: &Scenario,
+    looks: &[u8],
+    i: usize,
+)
     requires inside { i < length looks.now }
     requires short { length looks.now < sc.now.horizon }
     requires positions { All (λ a. a < sc.now.positions) looks.now }
     requires room { length taken.old.masses ≡ sc.now.cells }
+    requires flows { AreFlows sc.now flows.old }
     requires levels { AreLevels sc.now looks.now i levels.old }
     ensures levels { AreLevels sc.now looks.now (i + 1) levels.new }
     ensures room { length taken.new.masses ≡ sc.now.cells }
+    ensures flows { AreFlows sc.now flows.new }
 {
     let (before, after) = levels.split_at_mut(i + 1);
-    after[0].look_from(sc, &before[i], i, looks[i], taken);
+    let a = looks[i];
+    if reach_own(flows, sc, a, after.len()) {
+        after[0].look_from_own(sc, &before[i], i, a, taken, &flows[usize::from(a)]);
+    } else {
+        after[0].look_from(sc, &before[i], i, a, taken);
+    }
 }
 
 // Makes the levels after all looks from the first `same` on.
-fn go_on(levels: &mut [Onward], taken: &mut Taken, sc: &Scenario, looks: &[u8], same: usize)
+fn go_on(
+    levels: &mut [Onward],
+    taken: &mut Taken,
+    flows: &mut [Flow],
+    sc: &Scenario,
+    looks: &[u8],
+    same: usize,
+)
     requires same { same ≤ length looks.now }
     requires short { length looks.now < sc.now.horizon }
     requires positions { All (λ a. a < sc.now.positions) looks.now }
     requires room { length taken.old.masses ≡ sc.now.cells }
+    requires flows { AreFlows sc.now flows.old }
     requires levels { AreLevels sc.now looks.now same levels.old }
     ensures levels { AreLevels sc.now looks.now (length looks.now) levels.new }
     ensures room { length taken.new.masses ≡ sc.now.cells }
+    ensures flows { AreFlows sc.now flows.new }
 {
     for i in same..looks.len() {
-        open(levels, taken, sc, looks, i);
+        open(levels, taken, flows, sc, looks, i);
     }
 }
 
@@ -119,6 +164,7 @@ impl Levels {
             prefix: Path::empty(),
             levels,
             taken: Taken::tables(alloc, sc)?,
+            flows: flows_over(alloc, sc)?,
         })
     }
 
@@ -132,7 +178,14 @@ impl Levels {
     {
         sc.recall_sound();
         let same = in_common(self.prefix.cells(), prefix.cells());
-        go_on(&mut self.levels, &mut self.taken, sc, prefix.cells(), same);
+        go_on(
+            &mut self.levels,
+            &mut self.taken,
+            &mut self.flows,
+            sc,
+            prefix.cells(),
+            same,
+        );
         self.prefix = *prefix;
     }
 

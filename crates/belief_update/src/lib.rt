@@ -4,6 +4,7 @@
 mod along;
 mod belief;
 mod count;
+mod flows;
 mod laws;
 mod levels;
 mod onward;
@@ -15,6 +16,7 @@ mod values;
 pub use along::{take_along, take_on};
 pub use belief::Belief;
 pub use count::Steps;
+pub use flows::has_first_steps;
 pub use laws::{masses_follow, missed_by_masses, one_look_more, rewards_by_masses, worked_masses};
 pub use levels::Levels;
 pub use onward::Onward;

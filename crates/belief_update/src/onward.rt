@@ -6,8 +6,10 @@ ghost use Rattle.search_model.specs.Tracks.{value_of};
 ghost use Rattle.belief_update.specs.Trails.{IsPast, IsAhead, HaveAllCells, row_at};
 ghost use Rattle.belief_update.specs.Onward.{AreOnwardTo, IsOnward, IsOnwardBehind};
 ghost use Rattle.belief_update.specs.Taken.{IsTaken};
+ghost use Rattle.belief_update.specs.Flows.{IsFlow, IsMadeUp};
 
 use crate::belief::Belief;
+use crate::flows::Flow;
 use crate::taken::Taken;
 use crate::trail::first_beliefs;
 use crate::values::{follow, value_by};
@@ -53,6 +55,24 @@ fn fill_rows(rows: &mut [Belief], belief: &mut Belief, sc: &Scenario, prefix: &P
     }
 }
 
+// The value of a prefix with a look more, from position `a`, by the beliefs after the prefix of `k` positions. What the look
+// took stays in `taken`.
+fn value_with(sc: &Scenario, before: &Onward, k: usize, a: u8, taken: &mut Taken) -> u128
+    requires short { k + 1 < sc.now.horizon }
+    requires position { a < sc.now.positions }
+    requires room { length taken.old.masses ≡ sc.now.cells }
+    requires before { IsOnwardBehind sc.now k before.now }
+    ensures value { (q : List ℕ) → length q ≡ k → IsOnward sc.now q before.now → result ≡ value_of sc.now (q ++ a ∷ []) }
+    ensures taken { (q : List ℕ) → length q ≡ k → IsOnward sc.now q before.now →
+        IsTaken sc.now q (q ++ a ∷ []) taken.new }
+    ensures period { taken.new.period ≡ k + 1 }
+{
+    sc.recall_sound();
+    let looks = k as u32 + 1;
+    taken.start(sc, before.at(looks), a);
+    taken.value(sc, before.value(), looks)
+}
+
 // Writes the beliefs of the periods after the first `k + 1` looks, by those after the first `k` and by what look `k` took of
 // them from position `a` in its own period.
 fn leave_rows(
@@ -84,9 +104,37 @@ fn leave_rows(
     }
 }
 
+// Writes the same beliefs where the look took units of cell `a` alone, which go where the cell's flow has them.
+fn leave_units(
+    rows: &mut [Belief],
+    sc: &Scenario,
+    before: &Onward,
+    k: usize,
+    a: u8,
+    units: u128,
+    flow: &Flow,
+)
+    requires short { k + 1 < sc.now.horizon }
+    requires size { length rows.old ≡ sc.now.horizon }
+    requires cells { HaveAllCells sc.now rows.old }
+    requires before { IsOnwardBehind sc.now k before.now }
+    requires flow { IsFlow sc.now a flow.now }
+    requires made { sc.now.horizon ≤ k + 1 + length flow.now.spans }
+    requires taken { (q : List ℕ) → length q ≡ k → IsOnward sc.now q before.now → IsMadeUp sc.now q a units }
+    ensures rows { (q : List ℕ) → length q ≡ k → IsOnward sc.now q before.now →
+        AreOnwardTo sc.now (q ++ a ∷ []) sc.now.horizon rows.new }
+    ensures cells { HaveAllCells sc.now rows.new }
+{
+    sc.recall_sound();
+    for t in k + 1..rows.len() {
+        rows[t].leave_units(sc, before.at(t as u32 + 1), units, flow.row(t - k));
+    }
+}
+
 impl Onward {
     ghost use Rattle.search_model.specs.Problem.{Problem};
     ghost use Rattle.belief_update.specs.Onward.{IsMadeFor, IsOnward, IsOnwardBehind};
+    ghost use Rattle.belief_update.specs.Flows.{DriftsAlike, IsOwn};
 
     /// Room for the periods of a scenario. Only this call takes memory.
     pub fn tables(alloc: Global, sc: &Scenario) -> Result<Onward, NoMemory>
@@ -138,11 +186,38 @@ impl Onward {
             IsOnward sc.now (q ++ a ∷ []) self.new }
         ensures room { length taken.new.masses ≡ sc.now.cells }
     {
-        sc.recall_sound();
-        let looks = k as u32 + 1;
-        taken.start(sc, before.at(looks), a);
-        self.value = taken.value(sc, before.value(), looks);
+        self.value = value_with(sc, before, k, a, taken);
         leave_rows(&mut self.rows, taken, sc, before, k, a);
+    }
+
+    /// Goes to the same prefix where looks from the position cover the cell of its number alone, by the flow of that cell.
+    pub(crate) fn look_from_own(
+        &mut self,
+        sc: &Scenario,
+        before: &Onward,
+        k: usize,
+        a: u8,
+        taken: &mut Taken,
+        flow: &Flow,
+    )
+        requires made { IsMadeFor sc.now self.old }
+        requires short { k + 1 < sc.now.horizon }
+        requires position { a < sc.now.positions }
+        requires own { IsOwn sc.now a }
+        requires alike { DriftsAlike sc.now }
+        requires flow { IsFlow sc.now a flow.now }
+        requires steps { sc.now.horizon ≤ k + 1 + length flow.now.spans }
+        requires room { length taken.old.masses ≡ sc.now.cells }
+        requires before { IsOnwardBehind sc.now k before.now }
+        ensures made { IsMadeFor sc.now self.new }
+        ensures onward { (q : List ℕ) → length q ≡ k → IsOnward sc.now q before.now →
+            IsOnward sc.now (q ++ a ∷ []) self.new }
+        ensures room { length taken.new.masses ≡ sc.now.cells }
+    {
+        sc.recall_sound();
+        self.value = value_with(sc, before, k, a, taken);
+        let units = taken.masses()[usize::from(a)];
+        leave_units(&mut self.rows, sc, before, k, a, units, flow);
     }
 
     /// The belief in a period after the prefix.

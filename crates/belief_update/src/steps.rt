@@ -5,7 +5,9 @@ ghost use Rattle.std.specs.List.{range_with_len};
 ghost use Rattle.drift_chain.specs.DriftRows.{part_in, part_of, drift_cells};
 ghost use Rattle.sweep_table.specs.LookParts.{factor_in, factor_of, misses, positions_of, cells_of};
 ghost use Rattle.belief_update.specs.Places.{IsPlaceOf};
+ghost use Rattle.belief_update.specs.Flows.{held_in};
 
+use crate::flows::UnitPart;
 use drift_chain::{Drift, DriftPart};
 use sweep_table::{LookPart, Sweep};
 
@@ -158,4 +160,49 @@ pub fn leave(left: &mut [u128], masses: &[u128], whole: u32, taken: &[u128])
     for c in 0..masses.len() {
         left[c] = masses[c] * whole - taken[c];
     }
+}
+
+// Writes into `scaled` the masses, each times the denominator.
+fn scale(scaled: &mut [u128], masses: &[u128], whole: u32)
+    requires width { length scaled.old ≡ length masses.now }
+    requires fits { (c : ℕ) → c < length masses.now → slice_index masses.now c * whole < 2 ^ 127 }
+    ensures each { (c : ℕ) → c < length masses.now → slice_index scaled.new c ≡ slice_index masses.now c * whole }
+{
+    let whole = u128::from(whole);
+    for c in 0..masses.len() {
+        scaled[c] = masses[c] * whole;
+    }
+}
+
+// Takes off masses, cell by cell, a number of units of which entries have so much.
+fn take_off(masses: &mut [u128], units: u128, entries: &[UnitPart])
+    requires cells { All (λ entry. entry.cell < length masses.old) entries.now }
+    requires part { (c : ℕ) → c < length masses.old → units * held_in entries.now c ≤ slice_index masses.old c }
+    requires fits { (c : ℕ) → c < length masses.old → slice_index masses.old c < 2 ^ 127 }
+    ensures each { (c : ℕ) → c < length masses.old →
+        slice_index masses.new c ≡ slice_index masses.old c - units * held_in entries.now c }
+{
+    for entry in entries {
+        masses[usize::from(entry.cell)] -= units * entry.part;
+    }
+}
+
+/// Writes into `left` what is left of masses without a look: each times the denominator, less what the look took of it, so
+/// many units, which are where entries have them.
+pub fn leave_units(
+    left: &mut [u128],
+    masses: &[u128],
+    whole: u32,
+    units: u128,
+    entries: &[UnitPart],
+)
+    requires width { length left.old ≡ length masses.now }
+    requires cells { All (λ entry. entry.cell < length masses.now) entries.now }
+    requires fits { (c : ℕ) → c < length masses.now → slice_index masses.now c * whole < 2 ^ 127 }
+    requires part { (c : ℕ) → c < length masses.now → units * held_in entries.now c ≤ slice_index masses.now c * whole }
+    ensures each { (c : ℕ) → c < length masses.now →
+        slice_index left.new c ≡ slice_index masses.now c * whole - units * held_in entries.now c }
+{
+    scale(left, masses, whole);
+    take_off(left, units, entries);
 }

@@ -23,6 +23,6 @@ go_on-requires-clause-levels c =
     let old = c.self.inside.prefix in
     let q = c.args.prefix.now in
     let le = (common_prefix_len-le (λ a b. a == b) old q).0 in
-    let made : AreLevelsOf p (record { prefix = old; levels = c.self.inside.levels.items; taken = c.self.inside.taken }) = rw c.self.view_is c.requires.made in
+    let made : AreLevelsOf p (record { prefix = old; levels = c.self.inside.levels.items; taken = c.self.inside.taken; flows = c.self.inside.flows.items }) = rw c.self.view_is c.requires.made in
     rw (c.in_common-same.ensures, c.cells.ensures.value, c.cells-2.ensures.value, c.cells-3.ensures.value, c.deref_mut.ensures.value)
     (levels_shared p old q _ (length old) c.self.inside.levels.items le (common_front old q) made.levels)

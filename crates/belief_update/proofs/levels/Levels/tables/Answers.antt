@@ -15,4 +15,5 @@ returns-clause-made c =
       short = omega (arith, c.recall_sound.ensures.horizon);
       cells = c.in_ok-tables.ensures;
       levels = c.begin.ensures;
+      flows = c.in_ok-flows_over.ensures;
     })

@@ -27,7 +27,7 @@ level p old q same levels o is short are read =
 
 pub index-onward-requires : goal.index-onward-requires
 index-onward-requires c =
-    let made : AreLevelsOf c.args.sc.now (record { prefix = c.self.inside.prefix; levels = c.self.inside.levels.items; taken = c.self.inside.taken }) = rw c.self.view_is c.requires.made in
+    let made : AreLevelsOf c.args.sc.now (record { prefix = c.self.inside.prefix; levels = c.self.inside.levels.items; taken = c.self.inside.taken; flows = c.self.inside.flows.items }) = rw c.self.view_is c.requires.made in
     let few = (within c.cells.result.now c.cells-2.result.now c.in_common-same.result c.in_common-same.ensures).0 in
     omega (arith, few, ap length c.cells.ensures.value, made.short, made.levels.size)
 
@@ -44,6 +44,6 @@ value_from-requires-clause-inside c =
 pub value_from-requires-clause-onward : goal.value_from-requires-clause-onward
 value_from-requires-clause-onward c =
     let p = c.args.sc.now in
-    let made : AreLevelsOf p (record { prefix = c.self.inside.prefix; levels = c.self.inside.levels.items; taken = c.self.inside.taken }) = rw c.self.view_is c.requires.made in
+    let made : AreLevelsOf p (record { prefix = c.self.inside.prefix; levels = c.self.inside.levels.items; taken = c.self.inside.taken; flows = c.self.inside.flows.items }) = rw c.self.view_is c.requires.made in
     let same : c.in_common-same.result ≡ common_of c.self.inside.prefix c.args.prefix.now = rw (← c.cells.ensures.value, ← c.cells-2.ensures.value) c.in_common-same.ensures in
     level p c.self.inside.prefix c.args.prefix.now c.in_common-same.result c.self.inside.levels.items c.index-onward.result.now same made.short made.levels c.index-onward.ensures
