@@ -1,5 +1,5 @@
 -- The greatest sums of edge rewards, whose rewards stand on moves.
-use Rattle.std.specs.Prelude.{ℕ, ◌≡◌, ◌+◌, ◌-◌, ◌*◌, ◌<◌, ◌≤◌, List, [], ◌∷◌, map, length, slice_index, slice_index_or}
+use Rattle.std.specs.Prelude.{ℕ, ◌≡◌, ◌+◌, ◌-◌, ◌*◌, ◌<◌, ◌≤◌, List, map, length, slice_index, slice_index_or}
 use Rattle.sweep_table.specs.LookParts.{look_row, misses}
 use Rattle.search_model.specs.Problem.{Problem}
 use Rattle.search_model.specs.Legal.{walks, last_of}
@@ -25,10 +25,6 @@ HasGains p q t gains =
 abbrev pub HasShares : Problem → List ℕ → ℕ → ℕ → List ℕ → Type 0
 HasShares p q t a shares =
     (i : ℕ) → i < length (look_row p.sweep (t - 1) a) → slice_index shares i ≡ found_in p (mass_of p (looks_to (t - 1) q)) (slice_index_or (look_row p.sweep (t - 1) a) i (misses 0 0)) * parts_after p q t
-
--- looks from position a cover the cell of its number alone, in all periods
-abbrev pub IsOwn : Problem → ℕ → Type 0
-IsOwn p a = (part : ℕ) × ((t : ℕ) → look_row p.sweep t a ≡ misses a part ∷ [])
 
 -- a period after the prefix, the first one left out: its looks have another look just before them that isn't the prefix's
 pub record IsLater (p : Problem) (q : List ℕ) (t : ℕ) : Type 0 where

@@ -4,8 +4,9 @@ ghost use Rattle.std.specs.Prelude.{◌≡◌, ◌<◌, ◌+◌, ◌^◌, length
 ghost use Rattle.search_model.specs.Bounds.{reward_of};
 ghost use Rattle.search_model.specs.Edge.{edge_reward_of, edge_sum};
 ghost use Rattle.belief_update.specs.Onward.{IsOnward};
+ghost use Rattle.belief_update.specs.Flows.{IsOwn};
 ghost use Rattle.edge_bound.specs.After.{parts_after, loss_of};
-ghost use Rattle.edge_bound.specs.Moves.{IsLater, IsOwn};
+ghost use Rattle.edge_bound.specs.Moves.{IsLater};
 ghost use Rattle.edge_bound.specs.Units.{HasUnits};
 
 use crate::best::taken_own;

@@ -9,9 +9,10 @@ ghost use Rattle.search_model.specs.Edge.{edge_reward_of};
 ghost use Rattle.longest_walk.specs.Near.{IsNear};
 ghost use Rattle.belief_update.specs.Masses.{mass_of, looks_to};
 ghost use Rattle.belief_update.specs.Onward.{IsOnward};
+ghost use Rattle.belief_update.specs.Flows.{IsOwn};
 ghost use Rattle.edge_bound.specs.After.{parts_after, loss_of};
 ghost use Rattle.edge_bound.specs.Found.{found_of};
-ghost use Rattle.edge_bound.specs.Moves.{IsLater, IsOwn, HasGains, HasShares, greatest_moves};
+ghost use Rattle.edge_bound.specs.Moves.{IsLater, HasGains, HasShares, greatest_moves};
 ghost use Rattle.edge_bound.specs.Units.{HasUnits, place_of};
 
 use crate::moves::{found_by, look_from};

@@ -1,13 +1,13 @@
 //! What looks find of units of mass, each of which was in one cell a period before.
 
 ghost use Rattle.std.specs.Prelude.{◌≡◌, ◌<◌, ◌≤◌, ◌+◌, ◌-◌, ◌*◌, ℕ, length, slice_index, IsTrue, IfOk};
-ghost use Rattle.drift_chain.specs.DriftRows.{row_of};
 ghost use Rattle.sweep_table.specs.LookParts.{look_row, factor_of};
 ghost use Rattle.edge_bound.specs.Found.{one_of};
-ghost use Rattle.edge_bound.specs.Moves.{IsOwn};
+ghost use Rattle.belief_update.specs.Flows.{IsOwn};
 ghost use Rattle.edge_bound.specs.Units.{HasBlock, HasBlocks, IsSteady};
 
 use crate::moves::look_from;
+use belief_update::has_first_steps;
 use exact_parts::NoMemory;
 use search_model::Scenario;
 use std::alloc::Global;
@@ -29,31 +29,6 @@ impl Model for Units {
     ghost Value = { UnitTable };
 
     ghost view = { λ u. record { positions = u.positions; step = u.step; units = u.units.items } };
-}
-
-// Whether the step from cell `c` after period `t` is that after period 1.
-fn is_same_step(sc: &Scenario, t: u32, c: u8) -> bool
-    requires first { 1 ≤ t }
-    requires last { t < sc.now.horizon }
-    requires cell { c < sc.now.cells }
-    ensures { IsTrue result → row_of sc.now.drift t c ≡ row_of sc.now.drift 1 c }
-{
-    sc.recall_sound();
-    sc.drift().row(t, c) == sc.drift().row(1, c)
-}
-
-// Whether each step after period `t` is that after period 1.
-fn has_first_steps(sc: &Scenario, t: u32) -> bool
-    requires first { 1 ≤ t }
-    requires last { t < sc.now.horizon }
-    ensures { IsTrue result → (c : ℕ) → c < sc.now.cells → row_of sc.now.drift t c ≡ row_of sc.now.drift 1 c }
-{
-    for c in 0..sc.cells() {
-        if !is_same_step(sc, t, c) {
-            return false;
-        }
-    }
-    true
 }
 
 // Whether a look from `b` covers in period `t` what it does in period 2.

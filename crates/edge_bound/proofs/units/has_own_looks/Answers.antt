@@ -1,6 +1,6 @@
 use Rattle.std.proofs.Common.{inl, inr, refl, sym, subst, arith}
 use Rattle.std.proofs.lemmas.Bool.{cases_eq}
-use Rattle.edge_bound.specs.Moves.{IsOwn}
+use Rattle.belief_update.specs.Flows.{IsOwn}
 use Rattle.edge_bound.proofs.units.has_own_looks.Goals as goal
 
 pub loop-b-preserved : goal.loop-b-preserved

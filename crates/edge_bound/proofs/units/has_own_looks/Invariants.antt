@@ -1,5 +1,5 @@
 use Rattle.std.proofs.Common.{◌<◌, ℕ}
-use Rattle.edge_bound.specs.Moves.{IsOwn}
+use Rattle.belief_update.specs.Flows.{IsOwn}
 use Rattle.edge_bound.proofs.units.has_own_looks.Given as goal
 
 -- the positions so far
