@@ -1,9 +1,9 @@
 -- What a byte more of a plan's text brings.
-use Rattle.std.proofs.Common.{◌≡◌, ℕ, ◌+◌, ◌-◌, List, [], ◌∷◌, ◌++◌, map, length, Result, Ok, Err, refl, sym, ap, subst, ◌∙◌, arith, append_assoc, length-append, inl, inr}
+use Rattle.std.proofs.Common.{◌≡◌, ℕ, ◌+◌, ◌-◌, List, [], ◌∷◌, ◌++◌, map, length, take, Result, Ok, Err, refl, sym, ap, subst, ◌∙◌, arith, append_assoc, length-append, inl, inr}
 use Rattle.std.specs.Prelude.{All, ◌==◌}
 use Rattle.std.proofs.lemmas.Bool.{cond_both, eqb-true, eqb-false}
 use Rattle.std.proofs.lemmas.List.{map-append}
-use Rattle.std.proofs.lemmas.List.Elements.{All-nil, All-push}
+use Rattle.std.proofs.lemmas.List.Elements.{All-nil, All-cons, All-push, All-append, All-take}
 use Rattle.search_model.specs.Problem.{Problem, IsProblem}
 use Rattle.bound_tree.specs.declared.gap.GapKind.{GapKind}
 use Rattle.bound_tree.specs.declared.gap.GapKind.TheVariants.{Closed, Waiting}
@@ -32,11 +32,11 @@ use Rattle.text_rows.proofs.Results.{err_ok}
 use Rattle.tree_format.specs.Reading.{line_at, stage_line, behind_chance, next, taken, is_ended, at_line_number, unread, behind, plan_lines, unless_more, text_at}
 use Rattle.tree_format.specs.Gathering.{Gathered, nothing_gathered, gathered}
 use Rattle.tree_format.specs.FeedSteps.{Stand, Moved, stand_at, moved, step_of, line_ended, line_begun, byte_fed}
-use Rattle.tree_format.specs.Feeding.{told, HasRead, IsDecided, IsKindOf, IsItem, GoesOn}
+use Rattle.tree_format.specs.Feeding.{told, HasRead, Tells, IsDecided, IsKindOf, IsItem, GoesOn}
 use Rattle.tree_format.proofs.AtLines.{ended_stage, unended_stage, unended, at_fault, at_end}
 use Rattle.tree_format.proofs.SpelledLines.{IsLettered, version_told, path_told, chance_told, ceiling_told, count_told, record_told, IsRecordLine, record_printable, IsEndLine}
 use Rattle.tree_format.proofs.Spelled.{IsReadAt, IsRead, family_due, expected_legal, lines_on}
-use Rattle.tree_format.proofs.Gatherings.{gathered_more, gathered_judged}
+use Rattle.tree_format.proofs.Gatherings.{gathered_append, gathered_judged}
 use Rattle.tree_format.proofs.Feedings.{lines_more, text_more}
 
 -- the items with a step more
@@ -131,6 +131,28 @@ goes_on family p fed items new More feed tells read = subst (λ (xs : List PlanI
 goes_on family p fed items new (Item told) feed tells read = (subst (λ (xs : List PlanItem). HasRead family p fed xs feed) tells.0 read, tells.1)
 goes_on family p fed items new (Fault fault) feed tells read = absurd tells
 
+-- whatever is kept of the line
+abbrev pub with_line : Gathered → Stand → Stand
+with_line g s = record { number = s.number; due = s.due; standing = s.standing; weight = s.weight; ceiling = s.ceiling; line = g }
+
+-- what a line tells isn't what is kept of it
+step_same : (s : Stand) (g : Gathered) (said : PlanLine) → step_of (with_line g s) said ≡ step_of s said
+step_same s g (Version v) = refl
+step_same s g (Path q) = refl
+step_same s g (Chance v w) = refl
+step_same s g (Ceiling n) = refl
+step_same s g (Count n) = refl
+step_same s g (Node r) = refl
+step_same s g End = refl
+
+-- what follows from a line feed
+abbrev IsEnded : Family → Problem → List ℕ → List PlanItem → Stand → Result PlanLine PlanKind → Type 0
+IsEnded family p fed items s r = GoesOn family p fed items (line_ended p s r).step (line_ended p s r).stand
+
+same_ended : (family : Family) (p : Problem) (fed : List ℕ) (items : List PlanItem) (s : Stand) (g : Gathered) (r : Result PlanLine PlanKind) → IsEnded family p fed items s r → IsEnded family p fed items (with_line g s) r
+same_ended family p fed items s g (Err kind) ended = ended
+same_ended family p fed items s g (Ok said) ended = subst (λ (step : Step). GoesOn family p fed items step (moved p s said)) (sym (step_same s g said)) ended
+
 module _ (family : Family) (p : Problem) (h : IsProblem p) (fed : List ℕ) (items : List PlanItem) (s : Stand) (read : HasRead family p fed items s) where
   abbrev d : Due
   d = read.reached.due
@@ -152,8 +174,8 @@ module _ (family : Family) (p : Problem) (h : IsProblem p) (fed : List ℕ) (ite
       ∙ ap (λ (b : List ℕ). unless_more number (b ++ c ∷ more) plan) (read.behind_end ended)
 
   -- a line that says something
-  line_read : (said : PlanLine) → (d.stage ≡ due.Ended → ⊥) → line_at p d (exact_fields read.begun) ≡ Ok said → HasRead family p (fed ++ 10 ∷ []) (told (next p d said).stage (taken plan said)) (moved p here said)
-  line_read said goes e =
+  line_said : (said : PlanLine) → (d.stage ≡ due.Ended → ⊥) → line_at p d (exact_fields read.begun) ≡ Ok said → HasRead family p (fed ++ 10 ∷ []) (told (next p d said).stage (taken plan said)) (moved p here said)
+  line_said said goes e =
       let lines = read.before ++ read.begun ∷ [] in
       let later : number + 1 ≡ 1 + length lines = omega (arith, length-append read.before (read.begun ∷ [])) in
       record {
@@ -178,22 +200,26 @@ module _ (family : Family) (p : Problem) (h : IsProblem p) (fed : List ℕ) (ite
       let tells : StepTells family p items (step_of here said) ends =
       subst (λ (xs : List PlanItem). StepTells family p xs (step_of here said) ends) (sym read.tell)
       (subst (λ (f : Family). StepTells f p (told d.stage plan) (step_of here said) ends) on.family (line_tells p h number plan read.begun d (exact_fields read.begun) said on.read e)) in
-      goes_on family p (fed ++ 10 ∷ []) items ends (step_of here said) (moved p here said) tells (line_read said goes e)
+      goes_on family p (fed ++ 10 ∷ []) items ends (step_of here said) (moved p here said) tells (line_said said goes e)
 
-  -- a byte of the line that is due
-  byte_begun : (c : ℕ) → (d.stage ≡ due.Ended → ⊥) → (c ≡ 10 → ⊥) → HasRead family p (fed ++ c ∷ []) items (line_begun c here).stand
-  byte_begun c goes other = record {
+  -- bytes of the line that is due
+  run_begun : (run : List ℕ) → (d.stage ≡ due.Ended → ⊥) → HasNoFeed run → HasRead family p (fed ++ run) items (with_line (gathered here.line run) here)
+  run_begun run goes free = record {
     before = read.before;
     reached = read.reached;
-    begun = read.begun ++ c ∷ [];
-    whole = ap (λ (t : List ℕ). t ++ c ∷ []) read.whole ∙ append_assoc (lines_text read.before) read.begun (c ∷ []);
+    begun = read.begun ++ run;
+    whole = ap (λ (t : List ℕ). t ++ run) read.whole ∙ append_assoc (lines_text read.before) read.begun run;
     feeds = read.feeds;
-    open_line = All-push (λ (b : ℕ). b ≡ 10 → ⊥) read.begun c read.open_line other;
+    open_line = All-append (λ (b : ℕ). b ≡ 10 → ⊥) read.begun run read.open_line free;
     right = read.right;
     behind_end = λ ended. absurd (goes ended);
     tell = read.tell;
-    stand = ap (λ (g : Gathered). record { number = number; due = d; standing = plan.standing; weight = plan.weight; ceiling = plan.ceiling; line = g }) (sym (gathered_more read.begun nothing_gathered c));
+    stand = ap (λ (g : Gathered). with_line g here) (sym (gathered_append read.begun run nothing_gathered));
   }
+
+  byte_begun : (c : ℕ) → (d.stage ≡ due.Ended → ⊥) → (c ≡ 10 → ⊥) → HasRead family p (fed ++ c ∷ []) items (line_begun c here).stand
+  unfolding gathered
+  byte_begun c goes other = run_begun (c ∷ []) goes (All-cons (λ (b : ℕ). b ≡ 10 → ⊥) c [] other (All-nil (λ (b : ℕ). b ≡ 10 → ⊥)))
 
   byte_here : (c : ℕ) → GoesOn family p (fed ++ c ∷ []) items (byte_fed p c here).step (byte_fed p c here).stand
   byte_here c =
@@ -208,6 +234,36 @@ module _ (family : Family) (p : Problem) (h : IsProblem p) (fed : List ℕ) (ite
 
   pub byte_read : (c : ℕ) → GoesOn family p (fed ++ c ∷ []) items (byte_fed p c s).step (byte_fed p c s).stand
   byte_read c = subst (λ (t : Stand). GoesOn family p (fed ++ c ∷ []) items (byte_fed p c t).step (byte_fed p c t).stand) (sym read.stand) (byte_here c)
+
+  stages : s.due.stage ≡ d.stage
+  stages = ap (λ (t : Stand). t.due.stage) read.stand
+
+  -- a byte behind the end
+  pub behind_read : (c : ℕ) → s.due.stage ≡ due.Ended → IsDecided family p (fed ++ c ∷ []) (at_line_number s.number Rest)
+  behind_read c ended = subst (λ (t : Stand). IsDecided family p (fed ++ c ∷ []) (at_line_number t.number Rest)) (sym read.stand) (byte_behind c (sym stages ∙ ended))
+
+  -- bytes of the line that is due
+  pub run_read : (run : List ℕ) → (s.due.stage ≡ due.Ended → ⊥) → HasNoFeed run → HasRead family p (fed ++ run) items (with_line (gathered s.line run) s)
+  run_read run goes free = subst (λ (t : Stand). HasRead family p (fed ++ run) items (with_line (gathered t.line run) t)) (sym read.stand) (run_begun run (λ ended. goes (stages ∙ ended)) free)
+
+  -- and each front of them
+  pub run_tells : (run : List ℕ) → (s.due.stage ≡ due.Ended → ⊥) → HasNoFeed run → (rest : List ℕ) (n : ℕ) → take n rest ≡ take n run → Tells family p (fed ++ take n rest) items
+  run_tells run goes free rest n same = subst (λ (bytes : List ℕ). Tells family p (fed ++ bytes) items) (sym same) (_, run_read (take n run) goes (All-take (λ (b : ℕ). b ≡ 10 → ⊥) n run free))
+
+  -- its line feed
+  feed_read : (r : Result PlanLine PlanKind) → (s.due.stage ≡ due.Ended → ⊥) → line_at p s.due (exact_fields s.line.text) ≡ r → IsEnded family p (fed ++ 10 ∷ []) items s r
+  feed_read r goes e =
+      let judged = gathered_judged p h d read.begun in
+      let same = ap (λ (t : Stand). line_at p t.due (exact_fields t.line.text)) read.stand in
+      subst (λ (t : Stand). IsEnded family p (fed ++ 10 ∷ []) items t r) (sym read.stand) (line_end r (λ ended. goes (stages ∙ ended)) (sym judged ∙ sym same ∙ e))
+
+-- the last bytes of a line and its line feed, whatever is kept of them
+pub line_read : (family : Family) (p : Problem) → IsProblem p → (fed : List ℕ) (items : List PlanItem) (s : Stand) → HasRead family p fed items s → (last : List ℕ) (g : Gathered) (r : Result PlanLine PlanKind) → (s.due.stage ≡ due.Ended → ⊥) → HasNoFeed last → line_at p s.due (exact_fields (gathered s.line last).text) ≡ r → IsEnded family p (fed ++ (last ++ 10 ∷ [])) items (with_line g s) r
+line_read family p h fed items s read last g r goes free e =
+    let t : Stand = with_line (gathered s.line last) s in
+    let run = run_read family p h fed items s read last goes free in
+    let ended = feed_read family p h (fed ++ last) items t run r goes e in
+    same_ended family p (fed ++ (last ++ 10 ∷ [])) items t g r (subst (λ (bytes : List ℕ). IsEnded family p bytes items t r) (append_assoc fed last (10 ∷ [])) ended)
 
 -- what is expected where bytes were read is legal
 pub fed_legal : (family : Family) (p : Problem) → IsProblem p → (fed : List ℕ) (items : List PlanItem) (s : Stand) → HasRead family p fed items s → All (IsLegal p) s.due.expected

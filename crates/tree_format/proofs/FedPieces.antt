@@ -1,7 +1,8 @@
 -- Pieces of a plan's text, and its end.
-use Rattle.std.proofs.Common.{◌≡◌, ℕ, ◌<◌, ◌≤◌, ◌+◌, List, [], ◌∷◌, ◌++◌, length, get_or, take, Err, refl, sym, ap, subst, ◌∙◌, arith, append_assoc, inl, inr}
+use Rattle.std.proofs.Common.{◌≡◌, ℕ, zero, suc, ◌<◌, ◌≤◌, ◌+◌, ◌-◌, List, [], ◌++◌, length, take, drop, Err, refl, sym, ap, subst, ◌∙◌, arith, append_assoc, inl, inr}
+use Rattle.std.proofs.Math.Seq.{take-add}
 use Rattle.std.proofs.lemmas.Bool.{cases_lt}
-use Rattle.std.proofs.lemmas.List.{take_all, take_more}
+use Rattle.std.proofs.lemmas.List.{append-nil, take_all, take_rest}
 use Rattle.std.proofs.lemmas.List.Elements.{All-nil}
 use Rattle.search_model.specs.Problem.{Problem}
 use Rattle.tree_format.specs.declared.plan_line.Family.{Family}
@@ -42,27 +43,39 @@ pub record IsFedTo (family : Family) (p : Problem) (fed : List ℕ) (items : Lis
   pub here : HasRead family p (fed ++ take i piece) items feed
   pub earlier : (n : ℕ) → n < i → Tells family p (fed ++ take n piece) items
 
+-- no byte more
+pub nothing_more : (family : Family) (p : Problem) (fed : List ℕ) (items : List PlanItem) (feed : Stand) → HasRead family p fed items feed → (rest : List ℕ) (n : ℕ) → n < 1 → Tells family p (fed ++ take n rest) items
+nothing_more family p fed items feed read rest zero lt = (feed, subst (λ (bytes : List ℕ). HasRead family p bytes items feed) (sym (append-nil fed)) read)
+nothing_more family p fed items feed read rest (suc n) lt = absurd (omega (arith, lt))
+
+-- the bytes of a piece from a place on, as a slice has them
+abbrev rest_of : List ℕ → ℕ → List ℕ
+rest_of piece i = take (length piece - i) (drop i piece)
+
+-- the first of these, so many
+next_bytes : (fed piece : List ℕ) (i k : ℕ) → (fed ++ take i piece) ++ take k (rest_of piece i) ≡ fed ++ take (i + k) piece
+next_bytes fed piece i k =
+    append_assoc fed (take i piece) (take k (rest_of piece i)) ∙ ap (λ (t : List ℕ). fed ++ (take i piece ++ take k t)) (take_rest piece i) ∙ ap (λ (t : List ℕ). fed ++ t) (sym (take-add i k piece))
+
 -- those before a place, where none before it did
-pub fed_before : (family : Family) (p : Problem) (fed : List ℕ) (items : List PlanItem) (piece : List ℕ) (i : ℕ) (feed : Stand) → IsFedTo family p fed items piece i feed → (n : ℕ) → n < i + 1 → Tells family p (fed ++ take n piece) items
-fed_before family p fed items piece i feed to n lt = elim (cases_lt n i) [
+pub fed_before : (family : Family) (p : Problem) (fed : List ℕ) (items : List PlanItem) (piece : List ℕ) (i k : ℕ) (feed : Stand) → IsFedTo family p fed items piece i feed → IfRead p feed (λ family bytes told. (n : ℕ) → n < k → Tells family p (bytes ++ take n (rest_of piece i)) told) → (n : ℕ) → n < i + k → Tells family p (fed ++ take n piece) items
+fed_before family p fed items piece i k feed to first n lt = elim (cases_lt n i) [
   | inl below ↦ to.earlier n below
-  | inr above ↦ let same : i ≡ n = omega (arith, lt, above) in subst (λ (k : ℕ). Tells family p (fed ++ take k piece) items) same (feed, to.here)
+  | inr above ↦
+      let same : i + (n - i) ≡ n = omega (arith, above) in
+      subst (λ (m : ℕ). Tells family p (fed ++ take m piece) items) same (subst (λ (bytes : List ℕ). Tells family p bytes items) (next_bytes fed piece i (n - i)) (first family (fed ++ take i piece) items to.here (n - i) (omega (arith, lt, above))))
 ]
 
--- a byte more of it, and what it brought
-pub fed_byte : (family : Family) (p : Problem) (fed : List ℕ) (items : List PlanItem) (piece : List ℕ) (i : ℕ) (step brought : Step) (old new : Stand) → i < length piece → IsFedTo family p fed items piece i old → IfRead p old (λ family bytes told. GoesOn family p (bytes ++ get_or piece i 0 ∷ []) told step new) → step ≡ brought → GoesOn family p (fed ++ take (i + 1) piece) items brought new
-fed_byte family p fed items piece i step brought old new lt to taken is =
-    let bytes : (fed ++ take i piece) ++ get_or piece i 0 ∷ [] ≡ fed ++ take (i + 1) piece = append_assoc fed (take i piece) (get_or piece i 0 ∷ []) ∙ ap (λ (t : List ℕ). fed ++ t) (sym (take_more piece i 0 lt)) in
-    subst (λ (s : Step). GoesOn family p (fed ++ take (i + 1) piece) items s new) is (subst (λ (t : List ℕ). GoesOn family p t items step new) bytes (taken family (fed ++ take i piece) items to.here))
+-- more bytes of it, and what they brought
+pub fed_on : (family : Family) (p : Problem) (fed : List ℕ) (items : List PlanItem) (piece : List ℕ) (i k : ℕ) (step brought : Step) (old new : Stand) → IsFedTo family p fed items piece i old → IfRead p old (λ family bytes told. GoesOn family p (bytes ++ take k (rest_of piece i)) told step new) → step ≡ brought → GoesOn family p (fed ++ take (i + k) piece) items brought new
+fed_on family p fed items piece i k step brought old new to taken is =
+    subst (λ (s : Step). GoesOn family p (fed ++ take (i + k) piece) items s new) is (subst (λ (bytes : List ℕ). GoesOn family p bytes items step new) (next_bytes fed piece i k) (taken family (fed ++ take i piece) items to.here))
 
 -- and its last byte
 pub fed_all : (family : Family) (p : Problem) (fed : List ℕ) (items : List PlanItem) (piece : List ℕ) (i : ℕ) (feed : Stand) → length piece ≤ i → IsFedTo family p fed items piece i feed → GoesOn family p (fed ++ take (length piece) piece) items More feed
 fed_all family p fed items piece i feed le to =
     let same : take i piece ≡ take (length piece) piece = take_all i piece le ∙ sym (take_all (length piece) piece (omega arith)) in
     subst (λ (t : List ℕ). HasRead family p (fed ++ t) items feed) same to.here
-
-pub fed_more : (family : Family) (p : Problem) (fed : List ℕ) (items : List PlanItem) (piece : List ℕ) (i : ℕ) (old new : Stand) → IsFedTo family p fed items piece i old → HasRead family p (fed ++ take (i + 1) piece) items new → IsFedTo family p fed items piece (i + 1) new
-fed_more family p fed items piece i old new to read = record { here = read; earlier = fed_before family p fed items piece i old to }
 
 -- The end of the bytes.
 module _ (family : Family) (p : Problem) (fed : List ℕ) (items : List PlanItem) (feed : Stand) (read : HasRead family p fed items feed) where

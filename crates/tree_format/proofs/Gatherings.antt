@@ -13,11 +13,16 @@ use Rattle.tree_format.specs.Gathering.{Gathered, nothing_gathered, with_blank, 
 use Rattle.tree_format.proofs.Summaries.{summary_decides}
 use Rattle.tree_format.proofs.FirstFields.{fronts}
 
--- one byte more at the end
+-- bytes more at the end
+pub gathered_append : (cs bytes : List ℕ) (g : Gathered) → gathered g (cs ++ bytes) ≡ gathered (gathered g cs) bytes
+unfolding gathered
+gathered_append [] bytes g = refl
+gathered_append (b ∷ cs) bytes g = gathered_append cs bytes (with_byte b g)
+
+-- one byte more
 pub gathered_more : (cs : List ℕ) (g : Gathered) (c : ℕ) → gathered g (cs ++ c ∷ []) ≡ with_byte c (gathered g cs)
 unfolding gathered
-gathered_more [] g c = refl
-gathered_more (b ∷ cs) g c = gathered_more cs (with_byte b g) c
+gathered_more cs g c = gathered_append cs (c ∷ []) g
 
 pub gathered_nothing : (g : Gathered) → gathered g [] ≡ g
 unfolding gathered

@@ -3,8 +3,10 @@
 ghost use Rattle.std.specs.Prelude.{◌≡◌, ◌<◌, ◌≤◌, ◌+◌, ◌∷◌, [], ◌++◌, ℕ, List, length, take, IfOk, IfErr, All};
 ghost use Rattle.search_model.specs.Legal.{IsLegal};
 ghost use Rattle.text_rows.specs.Fields.{exact_fields};
+ghost use Rattle.text_rows.specs.Lines.{HasNoFeed};
+ghost use Rattle.tree_format.specs.Gathering.{gathered};
 ghost use Rattle.tree_format.specs.Reading.{line_at, next};
-ghost use Rattle.tree_format.specs.FeedSteps.{moved, step_of, line_ended, byte_fed, IsNumbered};
+ghost use Rattle.tree_format.specs.FeedSteps.{moved, step_of, IsNumbered};
 ghost use Rattle.tree_format.specs.Feeding.{HasRead, IfRead, Tells, IsDecided, IsItem, IsWhole, IsCutOff, IfMore, IfItem, IfFaulty, GoesOn};
 ghost use Rattle.tree_format.specs.declared.plan_item.PlanItem.{PlanItem as ItemLem};
 ghost use Rattle.tree_format.specs.declared.plan_item.Step.TheVariants as step;
@@ -19,11 +21,12 @@ use crate::kind::{PlanFault, PlanKind};
 use crate::lines::read_line;
 use crate::pieces::first_fields;
 use crate::plan_item::{Fed, PlanItem, Step};
-use crate::plan_line::{Family, PlanLine};
+use crate::plan_line::{Family, PlanLine, Stage};
 use exact_parts::NoMemory;
 use search_model::{Path, Scenario, Standing};
 use std::alloc::Global;
 use std::marker::Model;
+use text_rows::cut;
 
 /// What was read of the text of a plan or of a gap plan, which comes in pieces: the head, and the front of the line that is due. Only the call
 /// that makes it takes memory, and a line of any length needs no more of it.
@@ -54,15 +57,34 @@ impl Model for PlanFeed {
     ghost invariant = { λ f. IsNumbered f.due.stage f.number };
 }
 
-// What the line that was gathered says where it is due, or its first fault.
-fn judge(line: &GatheredLine, sc: &Scenario, due: &Due) -> Result<PlanLine, PlanKind>
-    ensures said { result ≡ line_at sc.now due.now (exact_fields line.now.text) }
+// What a line says where it is due, or its first fault.
+fn judge_text(line: &[u8], sc: &Scenario, due: &Due) -> Result<PlanLine, PlanKind>
+    ensures said { result ≡ line_at sc.now due.now (exact_fields line.now) }
     ensures numbered { IfOk result (λ said.
         (number : ℕ) → IsNumbered due.now.stage number → IsNumbered (next sc.now due.now said).stage (number + 1)) }
 {
     sc.recall_sound();
-    let fields = first_fields(line.text());
+    let fields = first_fields(line);
     read_line(sc, due, &fields.items[..fields.len])
+}
+
+// What the line that ends with these bytes says where it is due, or its first fault. A line that stands whole in them is read there.
+fn judge(
+    front: &mut GatheredLine,
+    last: &[u8],
+    sc: &Scenario,
+    due: &Due,
+) -> Result<PlanLine, PlanKind>
+    ensures said { result ≡ line_at sc.now due.now (exact_fields (gathered front.old last.now).text) }
+    ensures numbered { IfOk result (λ said.
+        (number : ℕ) → IsNumbered due.now.stage number → IsNumbered (next sc.now due.now said).stage (number + 1)) }
+{
+    sc.recall_sound();
+    if front.is_empty() {
+        return judge_text(last, sc, due);
+    }
+    front.push_run(last);
+    judge_text(front.text(), sc, due)
 }
 
 impl PlanFeed {
@@ -102,15 +124,15 @@ impl PlanFeed {
         }
     }
 
-    // Takes the line feed of the line that is due.
-    fn end_line(&mut self, sc: &Scenario) -> Step
-        ensures step { result ≡
-            (line_ended sc.now self.old (line_at sc.now self.old.due (exact_fields self.old.line.text))).step }
-        ensures stand { All (IsLegal sc.now) self.old.due.expected →
-            self.new ≡ (line_ended sc.now self.old
-            (line_at sc.now self.old.due (exact_fields self.old.line.text))).stand }
+    // Takes the last bytes of the line that is due, and its line feed.
+    fn end_line(&mut self, sc: &Scenario, last: &[u8]) -> Step
+        requires due { self.old.due.stage ≡ Stage.Ended → ⊥ }
+        requires open { HasNoFeed last.now }
+        ensures { IfRead sc.now self.old (λ family fed items.
+            GoesOn family sc.now (fed ++ (last.now ++ 10 ∷ [])) items result self.new) }
     {
-        match judge(&self.line, sc, &self.due) {
+        sc.recall_sound();
+        match judge(&mut self.line, last, sc, &self.due) {
             Ok(said) => self.move_on(sc, said),
             Err(kind) => Step::Fault(PlanFault {
                 line: self.number,
@@ -119,30 +141,36 @@ impl PlanFeed {
         }
     }
 
-    // Takes a byte: how the state changes.
-    fn step(&mut self, sc: &Scenario, byte: u8) -> Step
-        ensures step { result ≡ (byte_fed sc.now byte self.old).step }
-        ensures stand { All (IsLegal sc.now) self.old.due.expected → self.new ≡ (byte_fed sc.now byte self.old).stand }
-    {
-        if is_ended(self.due.stage) {
-            return Step::Fault(PlanFault {
-                line: self.number,
-                kind: PlanKind::Rest,
-            });
-        }
-        if byte == b'\n' {
-            return self.end_line(sc);
-        }
-        self.line.push(byte);
-        Step::More
-    }
-
-    // Takes a byte: what follows from it.
-    fn take(&mut self, sc: &Scenario, byte: u8) -> Step
-        ensures { IfRead sc.now self.old (λ family fed items. GoesOn family sc.now (fed ++ byte ∷ []) items result self.new) }
+    // Takes the bytes up to the first line feed, or all of them where none has come.
+    fn advance(&mut self, sc: &Scenario, rest: &[u8]) -> Fed
+        requires some { 1 ≤ length rest.now }
+        ensures used { (1 ≤ result.used) × (result.used ≤ length rest.now) }
+        ensures goes { IfRead sc.now self.old (λ family fed items.
+            GoesOn family sc.now (fed ++ take result.used rest.now) items result.step self.new) }
+        ensures first { IfRead sc.now self.old (λ family fed items.
+            (n : ℕ) → n < result.used → Tells family sc.now (fed ++ take n rest.now) items) }
     {
         sc.recall_sound();
-        self.step(sc, byte)
+        if is_ended(self.due.stage) {
+            return Fed {
+                used: 1,
+                step: Step::Fault(PlanFault {
+                    line: self.number,
+                    kind: PlanKind::Rest,
+                }),
+            };
+        }
+        let Some((last, _)) = cut(rest, b'\n') else {
+            self.line.push_run(rest);
+            return Fed {
+                used: rest.len(),
+                step: Step::More,
+            };
+        };
+        Fed {
+            used: last.len() + 1,
+            step: self.end_line(sc, last),
+        }
     }
 
     /// Nothing was fed of a text of the family. It takes all the memory that the feed will ever need.
@@ -187,18 +215,21 @@ impl PlanFeed {
         ensures first { IfRead sc.now self.old (λ family fed items.
             (n : ℕ) → n < result.used → Tells family sc.now (fed ++ take n piece.now) items) }
     {
-        for (i, byte) in piece.iter().enumerate() {
-            match self.take(sc, *byte) {
+        let mut done = 0;
+        while done < piece.len() {
+            let Fed { used, step } = self.advance(sc, &piece[done..]);
+            done += used;
+            match step {
                 Step::More => {}
                 Step::Item(item) => {
                     return Fed {
-                        used: i + 1,
+                        used: done,
                         step: Step::Item(item),
                     };
                 }
                 Step::Fault(fault) => {
                     return Fed {
-                        used: i + 1,
+                        used: done,
                         step: Step::Fault(fault),
                     };
                 }

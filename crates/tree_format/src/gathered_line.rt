@@ -1,7 +1,7 @@
 //! A line that comes byte by byte.
 
-ghost use Rattle.std.specs.Prelude.{◌≡◌, IfOk};
-ghost use Rattle.tree_format.specs.Gathering.{nothing_gathered, with_blank, with_other, with_byte};
+ghost use Rattle.std.specs.Prelude.{◌≡◌, ◌↔◌, IfOk, IsTrue};
+ghost use Rattle.tree_format.specs.Gathering.{nothing_gathered, with_blank, with_other, with_byte, gathered};
 
 use crate::pieces::{MOST_BYTES, MOST_FIELDS};
 use exact_parts::NoMemory;
@@ -60,6 +60,13 @@ impl GatheredLine {
         &self.text[..self.len]
     }
 
+    /// Whether no byte came.
+    pub fn is_empty(&self) -> bool
+        ensures { IsTrue result ↔ (self.now ≡ nothing_gathered) }
+    {
+        self.blanks == 0 && self.width == 0
+    }
+
     /// Begins another line.
     pub fn clear(&mut self)
         ensures { self.new ≡ nothing_gathered }
@@ -102,6 +109,15 @@ impl GatheredLine {
             self.push_blank();
         } else {
             self.push_other(byte);
+        }
+    }
+
+    /// Bytes more of the line, one after the other. It takes no memory.
+    pub fn push_run(&mut self, bytes: &[u8])
+        ensures { self.new ≡ gathered self.old bytes.now }
+    {
+        for byte in bytes {
+            self.push(*byte);
         }
     }
 }

@@ -1,15 +1,19 @@
-use Rattle.std.proofs.Common.{ℕ, List, ap, ◌∙◌}
+use Rattle.std.proofs.Common.{ℕ, List, sym, ap, ◌∙◌}
 use Rattle.text_rows.specs.Fields.{exact_fields}
 use Rattle.tree_format.specs.Reading.{line_at}
-use Rattle.tree_format.proofs.LineNumbers.{said_numbered}
-use Rattle.tree_format.proofs.Summaries.{summary_decides}
+use Rattle.tree_format.specs.Gathering.{Gathered, gathered}
+use Rattle.tree_format.proofs.Gatherings.{gathered_judged}
 use Rattle.tree_format.proofs.feed.judge.Goals as goal
+
+pub returns-then-is_empty-clause-said : goal.returns-then-is_empty-clause-said
+returns-then-is_empty-clause-said c =
+    let p = c.args.sc.now in
+    let d = c.args.due.now in
+    let last = c.args.last.now in
+    let empty = c.is_empty.ensures.0 c.if-is_empty.true in
+    c.judge_text.ensures.said ∙ sym (gathered_judged p c.recall_sound.ensures d last) ∙ ap (λ (g : Gathered). line_at p d (exact_fields (gathered g last).text)) (sym empty)
 
 pub returns-clause-said : goal.returns-clause-said
 returns-clause-said c =
-    let sc = c.args.sc.now in
-    let d = c.args.due.now in
-    c.read_line.ensures ∙ ap (line_at sc d) c.first_fields-fields.ensures.value ∙ summary_decides sc d _ c.recall_sound.ensures ∙ ap (λ (t : List ℕ). line_at sc d (exact_fields t)) c.text.ensures
-
-pub returns-clause-numbered : goal.returns-clause-numbered
-returns-clause-numbered c = said_numbered c.args.sc.now c.recall_sound.ensures c.args.due.now _ c.read_line.result c.read_line.ensures
+    let kept = c.text.ensures ∙ ap (λ (g : Gathered). g.text) c.push_run.ensures in
+    c.judge_text-2.ensures.said ∙ ap (λ (t : List ℕ). line_at c.args.sc.now c.args.due.now (exact_fields t)) kept
