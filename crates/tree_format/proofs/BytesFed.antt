@@ -1,4 +1,4 @@
--- What a byte more of a plan's text brings.
+-- What a byte more of a plan's text brings, or bytes of a line and its line feed.
 use Rattle.std.proofs.Common.{◌≡◌, ℕ, ◌+◌, ◌-◌, List, [], ◌∷◌, ◌++◌, map, length, take, Result, Ok, Err, refl, sym, ap, subst, ◌∙◌, arith, append_assoc, length-append, inl, inr}
 use Rattle.std.specs.Prelude.{All, ◌==◌}
 use Rattle.std.proofs.lemmas.Bool.{cond_both, eqb-true, eqb-false}

@@ -19,7 +19,7 @@ use crate::due::{Due, first_due, is_ended};
 use crate::gathered_line::GatheredLine;
 use crate::kind::{PlanFault, PlanKind};
 use crate::lines::read_line;
-use crate::pieces::first_fields;
+use crate::pieces::{MOST_FIELDS, first_fields};
 use crate::plan_item::{Fed, PlanItem, Step};
 use crate::plan_line::{Family, PlanLine, Stage};
 use exact_parts::NoMemory;
@@ -64,8 +64,9 @@ fn judge_text(line: &[u8], sc: &Scenario, due: &Due) -> Result<PlanLine, PlanKin
         (number : ℕ) → IsNumbered due.now.stage number → IsNumbered (next sc.now due.now said).stage (number + 1)) }
 {
     sc.recall_sound();
-    let fields = first_fields(line);
-    read_line(sc, due, &fields.items[..fields.len])
+    let mut fields: [&[u8]; MOST_FIELDS] = [&[]; MOST_FIELDS];
+    let len = first_fields(line, &mut fields);
+    read_line(sc, due, &fields[..len])
 }
 
 // What the line that ends with these bytes says where it is due, or its first fault. A line that stands whole in them is read there.

@@ -1,6 +1,6 @@
 //! The first fields of a line.
 
-ghost use Rattle.std.specs.Prelude.{◌≡◌, ◌≤◌, take, map};
+ghost use Rattle.std.specs.Prelude.{◌≡◌, ◌≤◌, take, map, length};
 ghost use Rattle.text_rows.specs.Fields.{exact_fields};
 ghost use Rattle.tree_format.specs.Reading.{summary_of};
 
@@ -23,33 +23,23 @@ fn front(field: &[u8]) -> &[u8]
     }
 }
 
-/// The first fields of a line, in place.
-#[derive(Clone, Copy)]
-pub struct Fields<'a> {
-    pub items: [&'a [u8]; MOST_FIELDS],
-    pub len: usize,
-}
-
-/// The first bytes of each of the first fields of a line.
+/// The first bytes of each of the first fields of a line, in place: how many there are. They stand first in `items`.
 #[tactic(auto, using(crate::proofs::FirstFields::first_steps))]
-pub fn first_fields(line: &[u8]) -> Fields<'_>
-    ensures few { result.len ≤ 70 }
-    ensures value { map (λ f. f.now) (take result.len result.items) ≡ summary_of (exact_fields line.now) }
+pub fn first_fields<'a>(line: &'a [u8], items: &mut [&'a [u8]; MOST_FIELDS]) -> usize
+    ensures few { result ≤ 70 }
+    ensures room { length items.new ≡ 70 }
+    ensures value { map (λ f. f.now) (take result items.new) ≡ summary_of (exact_fields line.now) }
 {
-    let mut fields = Fields {
-        items: [&[]; MOST_FIELDS],
-        len: 0,
-    };
     let mut rest = line;
-    while fields.len < MOST_FIELDS {
+    let mut len = 0;
+    while len < MOST_FIELDS {
         let Some((field, after)) = cut(rest, b' ') else {
-            fields.items[fields.len] = front(rest);
-            fields.len += 1;
-            return fields;
+            items[len] = front(rest);
+            return len + 1;
         };
-        fields.items[fields.len] = front(field);
-        fields.len += 1;
+        items[len] = front(field);
+        len += 1;
         rest = after;
     }
-    fields
+    len
 }
