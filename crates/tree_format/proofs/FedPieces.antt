@@ -49,7 +49,7 @@ nothing_more family p fed items feed read rest zero lt = (feed, subst (λ (bytes
 nothing_more family p fed items feed read rest (suc n) lt = absurd (omega (arith, lt))
 
 -- the bytes of a piece from a place on, as a slice has them
-abbrev rest_of : List ℕ → ℕ → List ℕ
+abbrev pub rest_of : List ℕ → ℕ → List ℕ
 rest_of piece i = take (length piece - i) (drop i piece)
 
 -- the first of these, so many

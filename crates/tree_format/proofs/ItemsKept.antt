@@ -1,7 +1,7 @@
 -- What is kept of the items of a text is its plan.
-use Rattle.std.proofs.Common.{◌≡◌, ℕ, ◌+◌, ◌-◌, ◌≤◌, List, [], ◌∷◌, ◌++◌, map, length, take, drop, Ok, Err, refl, sym, ap, subst, ◌∙◌, arith, append_assoc, append-nil, length-drop}
+use Rattle.std.proofs.Common.{◌≡◌, ℕ, ◌+◌, ◌≤◌, List, [], ◌∷◌, ◌++◌, map, length, take, drop, Ok, Err, refl, sym, ap, subst, ◌∙◌, arith, append_assoc, append-nil}
 use Rattle.std.proofs.Math.Seq.{take-add}
-use Rattle.std.proofs.lemmas.List.{take-append-drop, take_all}
+use Rattle.std.proofs.lemmas.List.{take-append-drop, take_all, take_rest}
 use Rattle.search_model.specs.declared.standing.Standing.{Standing}
 use Rattle.search_model.specs.Problem.{Problem}
 use Rattle.bound_tree.specs.declared.gap.GapNode.{GapNode}
@@ -20,6 +20,7 @@ use Rattle.tree_format.specs.Reading.{blank_plan, text_at}
 use Rattle.tree_format.specs.FeedSteps.{Stand}
 use Rattle.tree_format.specs.Feeding.{items_of, HasRead, IfRead, IfMore, IfItem, IfFaulty, IsDecided, IsWhole}
 use Rattle.tree_format.specs.Collecting.{with_item, with_items, Keeps, HasCollected}
+use Rattle.tree_format.proofs.FedPieces.{rest_of}
 
 -- an item more
 item_more : (plan : GapPlan) (items : List PlanItem) (item : PlanItem) → with_items plan (items ++ item ∷ []) ≡ with_item (with_items plan items) item
@@ -63,24 +64,18 @@ module _ (family : Family) (p : Problem) (before text : List ℕ) (used : ℕ) (
       let whole : (before ++ take used text) ++ drop used text ≡ before ++ text = append_assoc before (take used text) (drop used text) ∙ ap (λ (t : List ℕ). before ++ t) (take-append-drop used text) in
       sym (ap (text_at family p) whole) ∙ decided (drop used text)
 
--- What is left of a text behind its first bytes, as a slice is cut.
-
-abbrev pub left_of : List ℕ → ℕ → List ℕ
-left_of text n = take (length text - n) (drop n text)
-
-left_is : (text : List ℕ) (n : ℕ) → left_of text n ≡ drop n text
-left_is text n = take_all (length text - n) (drop n text) (omega (arith, length-drop n text))
+-- What is left of a text behind its first bytes.
 
 -- first bytes of it are bytes more
-pub collected_on : (family : Family) (p : Problem) (text : List ℕ) (n m : ℕ) (feed : Stand) (kept : Collected) → HasCollected family p (take n text ++ take m (left_of text n)) feed kept → HasCollected family p (take (n + m) text) feed kept
+pub collected_on : (family : Family) (p : Problem) (text : List ℕ) (n m : ℕ) (feed : Stand) (kept : Collected) → HasCollected family p (take n text ++ take m (rest_of text n)) feed kept → HasCollected family p (take (n + m) text) feed kept
 collected_on family p text n m feed kept h =
-    subst (λ (t : List ℕ). HasCollected family p t feed kept) (ap (λ (left : List ℕ). take n text ++ take m left) (left_is text n) ∙ sym (take-add n m text)) h
+    subst (λ (t : List ℕ). HasCollected family p t feed kept) (ap (λ (left : List ℕ). take n text ++ take m left) (take_rest text n) ∙ sym (take-add n m text)) h
 
 -- reading stopped at it
 pub stop_collected : (family : Family) (p : Problem) (text : List ℕ) (n : ℕ) (feed : Stand) (kept : Collected) (stop : PlanStop) → HasCollected family p (take n text) feed kept →
-    IfFault {A = ℕ} (Err stop) (λ fault. (before : List ℕ) → HasCollected family p before feed kept → text_at family p (before ++ left_of text n) ≡ Err fault) → Gives family (Err stop) (text_at family p text)
+    IfFault {A = ℕ} (Err stop) (λ fault. (before : List ℕ) → HasCollected family p before feed kept → text_at family p (before ++ rest_of text n) ≡ Err fault) → Gives family (Err stop) (text_at family p text)
 stop_collected family p text n feed kept (Fault fault) h faulty =
-    let whole : take n text ++ left_of text n ≡ text = ap (λ (left : List ℕ). take n text ++ left) (left_is text n) ∙ take-append-drop n text in
+    let whole : take n text ++ rest_of text n ≡ text = ap (λ (left : List ℕ). take n text ++ left) (take_rest text n) ∙ take-append-drop n text in
     sym (ap (text_at family p) whole) ∙ faulty (take n text) h
 stop_collected family p text n feed kept NoMemory h faulty = tt
 

@@ -1,4 +1,4 @@
-//! A line that comes byte by byte.
+//! A line that comes in pieces, of any number of bytes each.
 
 ghost use Rattle.std.specs.Prelude.{◌≡◌, ◌↔◌, IfOk, IsTrue};
 ghost use Rattle.tree_format.specs.Gathering.{nothing_gathered, with_blank, with_other, with_byte, gathered};
