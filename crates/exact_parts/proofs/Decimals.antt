@@ -4,7 +4,7 @@ use Rattle.std.specs.Prelude.{All}
 use Rattle.std.specs.Fmt.{decimal}
 use Rattle.std.specs.Int.{IsInRange}
 use Rattle.std.specs.Str.Parse.{digits_value}
-use Rattle.std.proofs.lemmas.Fmt.{decimal_by_steps_wide}
+use Rattle.std.proofs.lemmas.Fmt.{decimal_by_steps_wide, length-decimal-le_wide}
 use Rattle.std.proofs.lemmas.List.Elements.{All-from_get_or}
 use Rattle.std.proofs.lemmas.Bool.Decides.{leb_tells}
 use Rattle.exact_parts.specs.Decimal.{is_plain, Spells, number_at}
@@ -69,3 +69,7 @@ decimal_spells most n le wide = (plain-decimal n (omega arith), sym (value-decim
 
 pub number_at-decimal : (most n : ℕ) → n ≤ most → most < 2 ^ 128 → number_at most (decimal n) ≡ Of n
 number_at-decimal most n le wide = spelled_once most (decimal n) (number_at most (decimal n)) (Of n) (spells-number_at most (decimal n)) (decimal_spells most n le wide)
+
+-- a number of 128 bits has 39 digits at most
+pub digits_fit : (n : ℕ) → n < 2 ^ 128 → length (decimal n) ≤ 39
+digits_fit n lt = length-decimal-le_wide 39 n (omega arith) (omega arith) (omega arith)

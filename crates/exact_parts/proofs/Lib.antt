@@ -1,6 +1,5 @@
 pub mod PlainDigits
 pub mod Canonical
-pub mod Written
 pub mod Widths
 pub mod Decimals
 pub mod AppendLemmas
