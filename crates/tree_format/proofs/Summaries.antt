@@ -11,8 +11,7 @@ use Rattle.std.proofs.lemmas.Slice.Eq.{bytes_eq-Decides}
 use Rattle.exact_parts.specs.declared.number.Number.{Number}
 use Rattle.exact_parts.specs.declared.number.Number.TheVariants.{NotPlain, Above, Of}
 use Rattle.exact_parts.specs.Decimal.{Spells, number_at}
-use Rattle.exact_parts.proofs.Decimals.{spells-number_at, spelled_text}
-use Rattle.exact_parts.proofs.Written.{digits_fit}
+use Rattle.exact_parts.proofs.Decimals.{digits_fit, spells-number_at, spelled_text}
 use Rattle.search_model.specs.Names.{IsName}
 use Rattle.search_model.specs.Problem.{Problem, IsProblem}
 use Rattle.bound_tree.specs.declared.gap.GapNode.{GapNode}

@@ -4,7 +4,7 @@ use Rattle.std.specs.Fmt.{decimal}
 use Rattle.std.proofs.lemmas.Fmt.{length-decimal-le_wide}
 use Rattle.std.proofs.lemmas.List.{length-map}
 use Rattle.std.proofs.lemmas.List.Elements.{All-nil, All-cons, All-head, All-tail, All-map, All-weaker, All-get_or}
-use Rattle.exact_parts.proofs.Written.{digits_fit}
+use Rattle.exact_parts.proofs.Decimals.{digits_fit}
 use Rattle.text_rows.specs.Rows.{text_of, spaced}
 use Rattle.text_rows.proofs.RowLemmas.{join-fields, text_of-append, spaced_short}
 use Rattle.search_model.specs.Names.{IsName}
