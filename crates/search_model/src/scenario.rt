@@ -1,9 +1,11 @@
 //! Scenarios.
 
 ghost use Rattle.std.specs.Prelude.{◌≡◌, ◌<◌, ◌≤◌, ◌↔◌, ℕ, length, sum, IsTrue, IfOk, IfErr, IfSome, IfNone, Contains, All};
-ghost use Rattle.search_model.specs.Faults.{WithinLimits, SizesAgree};
+ghost use Rattle.search_model.specs.Faults.{WithinLimits, SizesAgree, IsFirstFault};
 ghost use Rattle.search_model.specs.Legal.{last_of};
 ghost use Rattle.search_model.specs.Names.{IsName, IsRepeated, name_in};
+ghost use Rattle.search_model.specs.Parts.{problem_of};
+ghost use Rattle.search_model.specs.Problem.{IsProblem};
 
 use crate::name::Name;
 use crate::path::Path;
@@ -91,7 +93,9 @@ fn within_limits(parts: &Parts) -> bool
 
 // Whether all parts are of the same number of cells and of the same number of positions.
 fn sizes_agree(parts: &Parts) -> bool
-    ensures { IsTrue result ↔ SizesAgree parts.now }
+    ensures agree { IsTrue result ↔ SizesAgree parts.now }
+    ensures few { IsTrue result → let s = parts.now in
+        (length s.names.items ≤ 200) × (length s.first.items ≤ 200) × (length s.positions.items ≤ 200) }
 {
     let cells = parts.drift.cells();
     let positions = parts.grid.cells();
@@ -134,10 +138,40 @@ fn first_repeated(names: &[Name]) -> Option<u8>
     None
 }
 
+// The first fault of parts, where they have one.
+fn first_fault(parts: &Parts) -> Option<ModelFault>
+    ensures some { IfSome result (IsFirstFault parts.now) }
+    ensures none { IfNone result (IsProblem (problem_of parts.now)) }
+{
+    if !within_limits(parts) {
+        return Some(ModelFault::OutOfLimits);
+    }
+    if !sizes_agree(parts) {
+        return Some(ModelFault::SizesDiffer);
+    }
+    if parts.start >= parts.grid.cells() {
+        return Some(ModelFault::StartOutOfRange);
+    }
+    if sum_of(&parts.first) != u64::from(parts.total) {
+        return Some(ModelFault::WrongFirstSum);
+    }
+    if let Some(c) = first_repeated(&parts.names) {
+        return Some(ModelFault::DoubleName(c));
+    }
+    let d = parts.drift.denominator();
+    let g = parts.sweep.denominator();
+    if !fits(parts.total, d, g, parts.horizon) {
+        return Some(ModelFault::TooWide);
+    }
+    if let Some(p) = first_repeated(&parts.positions) {
+        return Some(ModelFault::DoublePosition(p));
+    }
+    None
+}
+
 impl Scenario {
     ghost use Rattle.search_model.specs.declared.scenario.ModelFault.{ModelFault};
-    ghost use Rattle.search_model.specs.Parts.{problem_of};
-    ghost use Rattle.search_model.specs.Faults.{HasFault, IsFirstFault};
+    ghost use Rattle.search_model.specs.Faults.{HasFault};
 
     /// The scenario of these parts, or the first fault.
     pub fn new(parts: Parts) -> Result<Scenario, ModelFault>
@@ -145,33 +179,13 @@ impl Scenario {
         ensures sound { IfOk result (λ _. (fault : ModelFault) → ¬ HasFault parts fault) }
         ensures fault { IfErr result (IsFirstFault parts) }
     {
-        if !within_limits(&parts) {
-            return Err(ModelFault::OutOfLimits);
+        match first_fault(&parts) {
+            Some(fault) => Err(fault),
+            None => Ok(Scenario { parts }),
         }
-        if !sizes_agree(&parts) {
-            return Err(ModelFault::SizesDiffer);
-        }
-        if parts.start >= parts.grid.cells() {
-            return Err(ModelFault::StartOutOfRange);
-        }
-        if sum_of(&parts.first) != u64::from(parts.total) {
-            return Err(ModelFault::WrongFirstSum);
-        }
-        if let Some(c) = first_repeated(&parts.names) {
-            return Err(ModelFault::DoubleName(c));
-        }
-        let d = parts.drift.denominator();
-        let g = parts.sweep.denominator();
-        if !fits(parts.total, d, g, parts.horizon) {
-            return Err(ModelFault::TooWide);
-        }
-        if let Some(p) = first_repeated(&parts.positions) {
-            return Err(ModelFault::DoublePosition(p));
-        }
-        Ok(Scenario { parts })
     }
 
-    ghost use Rattle.search_model.specs.Problem.{IsProblem, first_of, cell_name, position_name};
+    ghost use Rattle.search_model.specs.Problem.{first_of, cell_name, position_name};
     ghost use Rattle.search_model.specs.Legal.{IsLegal, moves_after};
     ghost use Rattle.search_model.specs.Tracks.{whole_weight};
 
