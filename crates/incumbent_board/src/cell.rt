@@ -1,11 +1,13 @@
 //! The cell of a board under its rule, and the kinds of step there.
 
-ghost use Rattle.std.specs.Prelude.{◌≡◌, ◌-◌, ◌<◌, [], ◌∷◌, length, IfOk, MatchResult, IsTrue};
+ghost use Rattle.std.specs.Prelude.{◌≡◌, ◌-◌, ◌<◌, true, false, nat_eq, if◌then◌else◌, [], ◌∷◌, length, IfOk, MatchResult, IsTrue};
+ghost use lib.Pointwise.{pointwise};
+ghost use Rattle.crossbeam_utils.specs.Register.{Turns, Forks, Merges};
 ghost use Rattle.crossbeam_utils.specs.Seq.{cell_view, IsSamePass};
 ghost use Rattle.search_model.specs.Order.{better};
 ghost use Rattle.incumbent_board.specs.History.{first_of, last_of};
 ghost use Rattle.incumbent_board.specs.Words.{words_of};
-ghost use Rattle.incumbent_board.specs.Rule.{ALL, sight, cell_of, joined as joined_lem, FitsWords, Looks, Weighs, Places, Closes};
+ghost use Rattle.incumbent_board.specs.Rule.{ALL, sight, cell_of, IsKept, joined as joined_lem, FitsWords, Looks, Weighs, Places, Closes};
 
 use crate::sight::Sight;
 use crate::six_words::BLANK;
@@ -137,14 +139,79 @@ pub type Cell = RuledSeqCell<[u64; 6], Sight, OneHistory, 6>;
 /// What a seat knows of the cell. It has no bytes.
 pub type Place = Pass<[u64; 6], Sight>;
 
+// A blank cell with no history, and a pass that stands for all seats.
+#[tactic(auto, using(crate::proofs::Steps::begins))]
+fn make_blank(alloc: Global) -> Result<(Cell, Place), NoMemory>
+    ensures cell { IfOk result (λ c. c.1.table_id ≡ c.0.table.shared.table_id) }
+    ensures view { IfOk result (λ c. cell_view c.1 ≡ sight ALL [] [] [] []) }
+{
+    Ok(Cell::ruled(alloc, BLANK)?)
+}
+
+// A pass hands on a part of what it knows.
+fn split_step<M: Split<Sight>>(cell: &Cell, place: &mut Place) -> Place
+    requires cell { place.old.table_id ≡ cell.now.table.shared.table_id }
+    requires rule { let v = cell_view place.old in Forks IsKept place.old.id v (M.left v) (M.right v) }
+    ensures kept { IsSamePass place.old place.new × (cell_view place.new ≡ M.left (cell_view place.old)) }
+    ensures given { (result.table_id ≡ place.old.table_id) × (cell_view result ≡ M.right (cell_view place.old)) }
+    ensures unused { result.me.1 ≡ [] }
+{
+    cell.split_pass::<M>(place)
+}
+
+// A pass takes in another that has made no calls.
+fn join_step<M: Join<Sight>>(cell: &Cell, place: &mut Place, other: Place)
+    requires cell { (place.old.table_id ≡ cell.now.table.shared.table_id) × (other.table_id ≡ place.old.table_id) }
+    requires unused { other.me.1 ≡ [] }
+    requires rule { let v = cell_view place.old in let w = cell_view other in
+        Merges IsKept place.old.id v other.id w (M.both v w) M.spent }
+    ensures same { IsSamePass place.old place.new }
+    ensures joined { cell_view place.new ≡ M.both (cell_view place.old) (cell_view other) }
+{
+    cell.join_pass::<M>(place, other);
+}
+
+// A load, which tells the pass what `M` says.
+fn load_step<M: Outcome<[u64; 6], Sight>, R: Wait>(
+    rt: &R,
+    cell: &Cell,
+    place: &mut Place,
+) -> [u64; 6]
+    requires cell { place.old.table_id ≡ cell.now.table.shared.table_id }
+    requires rule { Turns IsKept place.old.id (cell_view place.old) (λ x. x) M.then }
+    ensures same { IsSamePass place.old place.new }
+    ensures tells { M.then (cell_view place.old) result result (cell_view place.new) }
+{
+    cell.load_as::<M, R>(rt, place)
+}
+
+// A try to replace, which tells the pass what `M` says.
+fn try_step<M: Outcome<[u64; 6], Sight>, R: Wait>(
+    rt: &R,
+    cell: &Cell,
+    place: &mut Place,
+    expected: [u64; 6],
+    words: [u64; 6],
+) -> Result<[u64; 6], [u64; 6]>
+    requires cell { place.old.table_id ≡ cell.now.table.shared.table_id }
+    requires rule { Turns IsKept place.old.id (cell_view place.old)
+        (λ x. if pointwise nat_eq x expected then words else x) M.then }
+    ensures same { IsSamePass place.old place.new }
+    ensures tells { MatchResult result
+        (λ x. (pointwise nat_eq x expected ≡ true) × M.then (cell_view place.old) x words (cell_view place.new))
+        (λ x. (pointwise nat_eq x expected ≡ false) × M.then (cell_view place.old) x x (cell_view place.new)) }
+{
+    cell.compare_exchange_as::<M, R>(rt, place, expected, words)
+}
+
 // A blank cell whose history begins with the standing that the call picks.
 fn open_as<S: Offered>(alloc: Global, first: &Standing) -> Result<(Cell, Place), NoMemory>
     requires { first.now ≡ S.offer }
     ensures cell { IfOk result (λ c. c.1.table_id ≡ c.0.table.shared.table_id) }
     ensures view { IfOk result (λ c. cell_view c.1 ≡ sight ALL (first.now ∷ []) [] [] []) }
 {
-    let (cell, mut pass) = Cell::ruled(alloc, BLANK)?;
-    let place = cell.split_pass::<Begins<S>>(&mut pass);
+    let (cell, mut pass) = make_blank(alloc)?;
+    let place = split_step::<Begins<S>>(&cell, &mut pass);
     Ok((cell, place))
 }
 
@@ -165,7 +232,7 @@ pub fn deal(cell: &Cell, place: &mut Place) -> Place
         sight (v.seats - 1) v.seen v.told v.placed v.behind }
     ensures dealt { cell_view result ≡ sight 1 (cell_view place.old).seen [] [] [] }
 {
-    cell.split_pass::<Deals>(place)
+    split_step::<Deals>(cell, place)
 }
 
 /// Loads the words.
@@ -175,7 +242,7 @@ pub fn look_at<R: Wait>(rt: &R, cell: &Cell, place: &mut Place) -> [u64; 6]
     ensures same { IsSamePass place.old place.new }
     ensures looks { Looks (cell_view place.old) result result (cell_view place.new) }
 {
-    cell.load_as::<LookStep, R>(rt, place)
+    load_step::<LookStep, R>(rt, cell, place)
 }
 
 // Loads the words for the offer that the call picks.
@@ -191,7 +258,7 @@ fn weigh_as<S: Offered, R: Wait>(
     ensures same { IsSamePass place.old place.new }
     ensures weighs { Weighs offer.now (cell_view place.old) result result (cell_view place.new) }
 {
-    cell.load_as::<WeighStep<S>, R>(rt, place)
+    load_step::<WeighStep<S>, R>(rt, cell, place)
 }
 
 /// Loads the words for an offer, which is behind where they show it to be.
@@ -225,7 +292,7 @@ fn try_place_as<S: Offered, R: Wait>(
         (λ _. Places offer.now (cell_view place.old) (cell_view place.new))
         (λ x. Weighs offer.now (cell_view place.old) x x (cell_view place.new)) }
 {
-    cell.compare_exchange_as::<TryStep<S>, R>(rt, place, expected, words)
+    try_step::<TryStep<S>, R>(rt, cell, place, expected, words)
 }
 
 /// Tries to replace the words that a pass has seen by those of a better offer: `Ok` where it did, and else the words that
@@ -259,8 +326,8 @@ pub fn join(cell: &Cell, place: &mut Place, mut other: Place)
     ensures same { IsSamePass place.old place.new }
     ensures joined { cell_view place.new ≡ joined_lem (cell_view place.old) (cell_view other) }
 {
-    let whole = cell.split_pass::<CutsOff>(&mut other);
-    cell.join_pass::<Joins>(place, whole);
+    let whole = split_step::<CutsOff>(cell, &mut other);
+    join_step::<Joins>(cell, place, whole);
 }
 
 /// Loads the words with a pass that stands for all seats.
@@ -269,5 +336,5 @@ pub fn last_look<R: Wait>(rt: &R, cell: &Cell, place: &mut Place) -> [u64; 6]
     requires all { (cell_view place.old).seats ≡ ALL }
     ensures closes { Closes (cell_view place.old) result result (cell_view place.new) }
 {
-    cell.load_as::<CloseStep, R>(rt, place)
+    load_step::<CloseStep, R>(rt, cell, place)
 }

@@ -1,9 +1,8 @@
-use Rattle.std.proofs.Common.{◌∙◌, lit<}
 use Rattle.incumbent_board.proofs.Passes.{cuts, merges}
 use Rattle.incumbent_board.proofs.cell.join.Goals as goal
 
-pub split_pass-whole-requires : goal.split_pass-whole-requires
-split_pass-whole-requires c = (lit< tt, (lit< tt, (c.requires.cell.1 ∙ c.requires.cell.0, cuts _ _)))
+pub split_step-whole-requires-clause-rule : goal.split_step-whole-requires-clause-rule
+split_step-whole-requires-clause-rule c = cuts _ _
 
-pub join_pass-requires : goal.join_pass-requires
-join_pass-requires c = (lit< tt, (lit< tt, ((c.requires.cell.0, c.split_pass-whole.ensures.given.0 ∙ c.requires.cell.1, c.split_pass-whole.ensures.given.2), merges _ _ _ _ c.requires.some)))
+pub join_step-requires-clause-rule : goal.join_step-requires-clause-rule
+join_step-requires-clause-rule c = merges _ _ _ _ c.requires.some

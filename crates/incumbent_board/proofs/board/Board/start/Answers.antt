@@ -1,0 +1,12 @@
+use Rattle.std.proofs.Common.{arith}
+use Rattle.std.proofs.lemmas.Grind.{common_steps}
+use Rattle.incumbent_board.proofs.board.Board.start.Goals as goal
+
+pub returns-clause-many : goal.returns-clause-many
+returns-clause-many c = grind (arith, common_steps)
+
+pub returns-clause-all : goal.returns-clause-all
+returns-clause-all c = grind (arith, common_steps)
+
+pub returns-clause-new : goal.returns-clause-new
+returns-clause-new c = grind (arith, common_steps)
