@@ -1,5 +1,5 @@
 -- What is kept of the items of a text is its plan.
-use Rattle.std.proofs.Common.{◌≡◌, ℕ, ◌+◌, ◌≤◌, List, [], ◌∷◌, ◌++◌, map, length, take, drop, Ok, Err, refl, sym, ap, subst, ◌∙◌, arith, append_assoc, append-nil}
+use Rattle.std.proofs.Common.{◌≡◌, ℕ, ◌+◌, ◌≤◌, List, [], ◌∷◌, ◌++◌, map, length, take, drop, Result, Ok, Err, refl, sym, ap, subst, ◌∙◌, arith, append_assoc, append-nil}
 use Rattle.std.proofs.Math.Seq.{take-add}
 use Rattle.std.proofs.lemmas.List.{take-append-drop, take_all, take_rest}
 use Rattle.search_model.specs.declared.standing.Standing.{Standing}
@@ -9,6 +9,7 @@ use Rattle.bound_tree.specs.declared.gap.GapPlan.{GapPlan}
 use Rattle.tree_format.specs.declared.collecting.Collected.{Collected}
 use Rattle.tree_format.specs.declared.kind.PlanFault.{PlanFault}
 use Rattle.tree_format.specs.declared.plan_line.Family.{Family}
+use Rattle.tree_format.specs.declared.plan_line.Family.TheVariants.{Plans, Gaps}
 use Rattle.tree_format.specs.declared.plan_item.PlanItem.{PlanItem}
 use Rattle.tree_format.specs.declared.plan_item.PlanItem.TheVariants.{Node, End}
 use Rattle.tree_format.specs.declared.plan_item.Step.{Step}
@@ -73,7 +74,7 @@ collected_on family p text n m feed kept h =
 
 -- reading stopped at it
 pub stop_collected : (family : Family) (p : Problem) (text : List ℕ) (n : ℕ) (feed : Stand) (kept : Collected) (stop : PlanStop) → HasCollected family p (take n text) feed kept →
-    IfFault {A = ℕ} (Err stop) (λ fault. (before : List ℕ) → HasCollected family p before feed kept → text_at family p (before ++ rest_of text n) ≡ Err fault) → Gives family (Err stop) (text_at family p text)
+    IfFault {A = ℕ} (Err stop) (λ fault. (before : List ℕ) → HasCollected family p before feed kept → text_at family p (before ++ rest_of text n) ≡ Err fault) → IfFault {A = Unit {0}} (Err stop) (λ fault. text_at family p text ≡ Err fault)
 stop_collected family p text n feed kept (Fault fault) h faulty =
     let whole : take n text ++ rest_of text n ≡ text = ap (λ (left : List ℕ). take n text ++ left) (take_rest text n) ∙ take-append-drop n text in
     sym (ap (text_at family p) whole) ∙ faulty (take n text) h
@@ -87,3 +88,15 @@ collected_all family p text n feed kept le h = subst (λ (t : List ℕ). HasColl
 -- what is kept of a whole text is the plan that it spells
 pub whole_collected : (family : Family) (p : Problem) (text : List ℕ) (feed : Stand) (kept : Collected) (h : HasCollected family p text feed kept) → IsWhole family p text h.items → Gives family (Ok kept) (text_at family p text)
 whole_collected family p text feed kept h whole = (whole.plan, whole.spelled, subst (Keeps family kept) (ap (with_items blank_plan) whole.tell ∙ plan_told whole.plan) h.keeps)
+
+-- From the first byte to the last.
+
+-- before the first item nothing is kept
+pub first_collected : (family : Family) (p : Problem) (feed : Stand) (kept : Collected) → HasRead family p [] [] feed → Keeps Plans kept blank_plan → Keeps Gaps kept blank_plan → HasCollected family p [] feed kept
+first_collected Plans p feed kept read plan gap = record { items = []; read = read; keeps = plan }
+first_collected Gaps p feed kept read plan gap = record { items = []; read = read; keeps = gap }
+
+-- where reading stopped, that is told
+pub stop_told : (family : Family) (stop : PlanStop) (read : Result GapPlan PlanFault) → IfFault {A = Unit {0}} (Err stop) (λ fault. read ≡ Err fault) → Gives family (Err stop) read
+stop_told family (Fault fault) read h = h
+stop_told family NoMemory read h = tt

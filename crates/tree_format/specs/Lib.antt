@@ -3,6 +3,7 @@ pub mod PlanText
 pub mod RecordParts
 pub mod Kinds
 pub mod Reading
+pub mod LetterLines
 pub mod Gathering
 pub mod FeedSteps
 pub mod Feeding

@@ -1,11 +1,11 @@
 //! A whole text by its feed: what its items say is collected.
 
-ghost use Rattle.std.specs.Prelude.{◌≡◌, ◌≤◌, ◌++◌, ℕ, List, length, take, Err, IfOk, OnOk};
+ghost use Rattle.std.specs.Prelude.{◌≡◌, ◌≤◌, ◌++◌, ℕ, List, [], length, take, Ok, Err, IfOk, OnOk};
 ghost use Rattle.bound_tree.specs.declared.gap.GapPlan.{GapPlan as GapLem};
 ghost use Rattle.bound_tree.specs.Gaps.{shape_of};
 ghost use Rattle.tree_format.specs.Collecting.{with_item, Keeps, HasCollected};
 ghost use Rattle.tree_format.specs.Gives.{Gives, IfFault};
-ghost use Rattle.tree_format.specs.Reading.{text_at};
+ghost use Rattle.tree_format.specs.Reading.{blank_plan, text_at};
 
 use crate::feed::PlanFeed;
 use crate::plan_item::{Fed, PlanItem, Step};
@@ -88,6 +88,46 @@ fn take_some(
     }
 }
 
+// Feeds a whole text, and keeps what its items say.
+fn take_all(
+    feed: &mut PlanFeed,
+    kept: &mut Collected,
+    sc: &Scenario,
+    family: Family,
+    text: &[u8],
+) -> Result<(), PlanStop>
+    requires { HasCollected family sc.now [] feed.old kept.old }
+    ensures whole { OnOk result (
+        (plan : GapLem) × (text_at family sc.now text.now ≡ Ok plan) × Keeps family kept.new plan) }
+    ensures fault { IfFault result (λ fault. text_at family sc.now text.now ≡ Err fault) }
+{
+    let mut done = 0;
+    while done < text.len() {
+        done += take_some(feed, kept, sc, family, &text[done..])?;
+    }
+    match feed.finish() {
+        Ok(()) => Ok(()),
+        Err(fault) => Err(PlanStop::Fault(fault)),
+    }
+}
+
+// What is kept before the first item.
+fn nothing_collected(alloc: Global) -> Collected
+    ensures plan { Keeps Family.Plans result blank_plan }
+    ensures gap { Keeps Family.Gaps result blank_plan }
+{
+    Collected {
+        standing: Standing {
+            path: Path::empty(),
+            value: 0,
+        },
+        weight: 0,
+        ceiling: 0,
+        records: Vec::new(alloc),
+        nodes: Vec::new(alloc),
+    }
+}
+
 /// What a text of the family says, to its last byte.
 pub fn collect(
     alloc: Global,
@@ -98,22 +138,9 @@ pub fn collect(
     ensures { Gives family result (text_at family sc.now text.now) }
 {
     let mut feed = PlanFeed::start(alloc, sc, family)?;
-    let mut kept = Collected {
-        standing: Standing {
-            path: Path::empty(),
-            value: 0,
-        },
-        weight: 0,
-        ceiling: 0,
-        records: Vec::new(alloc),
-        nodes: Vec::new(alloc),
-    };
-    let mut done = 0;
-    while done < text.len() {
-        done += take_some(&mut feed, &mut kept, sc, family, &text[done..])?;
-    }
-    match feed.finish() {
+    let mut kept = nothing_collected(alloc);
+    match take_all(&mut feed, &mut kept, sc, family, text) {
         Ok(()) => Ok(kept),
-        Err(fault) => Err(PlanStop::Fault(fault)),
+        Err(stop) => Err(stop),
     }
 }

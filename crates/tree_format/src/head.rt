@@ -27,7 +27,6 @@ fn push_version(out: &mut Vec<u8>, dialect: Dialect) -> Result<(), NoMemory>
 }
 
 // Appends the line `path NAME ..`.
-#[tactic(auto, using(text_rows::proofs::RowSteps::row_steps))]
 fn push_places(out: &mut Vec<u8>, sc: &Scenario, path: &Path) -> Result<(), NoMemory>
     requires { ArePositions sc.now path.now }
     ensures ok { OnOk result (out.new.items ≡ out.old.items ++
@@ -81,7 +80,6 @@ fn push_ceiling(out: &mut Vec<u8>, dialect: Dialect, ceiling: u128) -> Result<()
 }
 
 /// Appends all lines before the records, of which so many follow.
-#[tactic(auto, using(text_rows::proofs::RowSteps::row_steps))]
 pub fn push_head(
     out: &mut Vec<u8>,
     dialect: Dialect,

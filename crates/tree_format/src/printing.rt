@@ -15,7 +15,6 @@ use search_model::Scenario;
 use text_rows::push_row;
 
 // Appends the text of a plan of this dialect.
-#[tactic(auto, using(text_rows::proofs::RowSteps::row_steps))]
 fn push_plan(
     out: &mut Vec<u8>,
     dialect: Dialect,
@@ -79,7 +78,6 @@ pub fn print_plan_2(out: &mut Vec<u8>, sc: &Scenario, plan: &Plan) -> Result<(),
 }
 
 // Appends the text of a gap plan.
-#[tactic(auto, using(text_rows::proofs::RowSteps::row_steps))]
 fn push_gap(out: &mut Vec<u8>, sc: &Scenario, plan: &GapPlan) -> Result<(), NoMemory>
     requires { IsPrintableGap sc.now plan.now }
     ensures ok { OnOk result (out.new.items ≡ out.old.items ++ gap_text sc.now plan.now) }

@@ -69,7 +69,6 @@ fn push_prefix(out: &mut Vec<u8>, prefixes: Prefixes, prefix: &Path) -> Result<(
 }
 
 // Appends the line of a record.
-#[tactic(auto, using(text_rows::proofs::RowSteps::row_steps))]
 fn push_record(
     out: &mut Vec<u8>,
     prefixes: Prefixes,
@@ -113,7 +112,6 @@ fn push_closed(out: &mut Vec<u8>, dialect: Dialect, r: &TreeNode) -> Result<(), 
 }
 
 /// Appends the lines of records.
-#[tactic(auto, using(text_rows::proofs::RowSteps::row_steps))]
 pub fn push_records(
     out: &mut Vec<u8>,
     dialect: Dialect,
@@ -131,7 +129,6 @@ pub fn push_records(
 }
 
 /// Appends the lines of nodes.
-#[tactic(auto, using(text_rows::proofs::RowSteps::row_steps))]
 pub fn push_nodes(out: &mut Vec<u8>, dialect: Dialect, nodes: &[GapNode]) -> Result<(), NoMemory>
     ensures ok { OnOk result (out.new.items ≡ out.old.items ++ text_of (map (node_row dialect) nodes.now)) }
     ensures err { OnErr result (Begins out.old.items out.new.items) }

@@ -11,7 +11,6 @@ use search_model::Scenario;
 use text_rows::{Field, push_field};
 
 /// Appends position numbers, each with a blank before it.
-#[tactic(auto, using(text_rows::proofs::RowSteps::row_steps))]
 pub fn push_positions(out: &mut Vec<u8>, positions: &[u8]) -> Result<(), NoMemory>
     ensures ok { OnOk result (out.new.items ≡ out.old.items ++ spaced (numbers positions.now)) }
     ensures err { OnErr result (Begins out.old.items out.new.items) }
@@ -23,7 +22,6 @@ pub fn push_positions(out: &mut Vec<u8>, positions: &[u8]) -> Result<(), NoMemor
 }
 
 /// Appends the names of positions, each with a blank before it.
-#[tactic(auto, using(text_rows::proofs::RowSteps::row_steps))]
 pub fn push_names(out: &mut Vec<u8>, sc: &Scenario, positions: &[u8]) -> Result<(), NoMemory>
     requires { ArePositions sc.now positions.now }
     ensures ok { OnOk result (out.new.items ≡ out.old.items ++ spaced (map (position_name sc.now) positions.now)) }

@@ -1,5 +1,6 @@
 use Rattle.std.proofs.Common.{rules}
-use Rattle.exact_parts.proofs.AppendLemmas.{stands_first, stands_next, stands_last}
+use Rattle.exact_parts.proofs.AppendLemmas.{stands_first, stands_next, stands_last, at_refusal}
+use Rattle.exact_parts.proofs.Beginnings.{begins_after}
 use Rattle.tree_format.proofs.LineTexts.{gap_parts}
 use Rattle.tree_format.specs.declared.plan_line.Dialect.TheVariants.{Gap}
 use Rattle.tree_format.proofs.printing.push_gap.Goals as goal
@@ -17,3 +18,12 @@ returns-clause-narrow c = record {
   ceiling = search rules;
   nodes = rw c.nodes-nodes.ensures at c.in_ok-push_nodes.ensures.narrow;
 }
+
+pub returns-in_err-push_head-clause-err : goal.returns-in_err-push_head-clause-err
+returns-in_err-push_head-clause-err c = at_refusal _ _ c.in_err-push_head.ensures.err
+
+pub returns-in_err-push_nodes-clause-err : goal.returns-in_err-push_nodes-clause-err
+returns-in_err-push_nodes-clause-err c = at_refusal _ _ (begins_after _ _ _ _ c.in_ok-push_head.ensures.ok c.in_err-push_nodes.ensures.err)
+
+pub returns-in_err-push_row-clause-err : goal.returns-in_err-push_row-clause-err
+returns-in_err-push_row-clause-err c = at_refusal _ _ (begins_after _ _ _ _ c.in_ok-push_head.ensures.ok (begins_after _ _ _ _ c.in_ok-push_nodes.ensures.ok c.in_err-push_row.ensures.err))

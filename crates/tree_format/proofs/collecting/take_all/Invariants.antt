@@ -1,6 +1,6 @@
 use Rattle.std.proofs.Common.{◌≤◌, ◌-◌, length, take}
 use Rattle.tree_format.specs.Collecting.{HasCollected}
-use Rattle.tree_format.proofs.collecting.collect.Given as goal
+use Rattle.tree_format.proofs.collecting.take_all.Given as goal
 
 abbrev pub invariant-loop-done : goal.invariant-loop-done
 invariant-loop-done l = record {
