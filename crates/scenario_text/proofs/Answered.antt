@@ -1,8 +1,10 @@
 -- What the answer of a reader says of the text.
 use Rattle.std.proofs.Common.{◌≡◌, ℕ, Bool, true, false, List, [], ◌∷◌, length, Option, Some, None, Result, Ok, Err, refl, sym, ap, subst, ◌∙◌, arith, ◌⊎◌, inl, inr, true≢false}
+use Rattle.std.specs.Prelude.{IfOk}
 use Rattle.std.specs.List.{list_any}
 use Rattle.std.proofs.lemmas.Bool.{cond_both, or_parts}
 use Rattle.search_model.specs.Problem.{Problem}
+use Rattle.scenario_text.specs.declared.draft.Draft.{Draft}
 use Rattle.scenario_text.specs.declared.kind.TextKind.{TextKind}
 use Rattle.scenario_text.specs.declared.kind.TextKind.TheVariants.{NotText, BadLine, BadNumber, OverLimit, UnknownName, DoubleName, MissingRow, DoubleRow, WrongSum, PartOver, NoMove, TooWide, EarlyEnd, Rest}
 use Rattle.scenario_text.specs.declared.kind.TextFault.{TextFault}
@@ -95,16 +97,20 @@ one_text text p q g h =
     one_problem h.front.state p q (subst (λ (f : Front). Says f.state p) front g.says) h.says
 
 -- reading stopped
-pub stop_front : (text : List ℕ) (stop : TextStop) → ReadsDraft text (Err stop) → ReadsFront text (Err stop)
-stop_front text (Fault fault) reads = reads
-stop_front text NoMemory reads = tt
+pub stop_front : (text : List ℕ) (draft : Draft) (stop : TextStop) → ReadsDraft text draft (Err stop) → ReadsFront text (Err stop)
+stop_front text draft (Fault fault) reads = reads
+stop_front text draft NoMemory reads = tt
 
-pub stop_alone : (text : List ℕ) (stop : TextStop) → ReadsDraft text (Err stop) → ReadsAlone text (Err stop)
-stop_alone text (Fault fault) reads = ap (alone text) reads
-stop_alone text NoMemory reads = tt
+pub stop_alone : (text : List ℕ) (draft : Draft) (stop : TextStop) → ReadsDraft text draft (Err stop) → ReadsAlone text (Err stop)
+stop_alone text draft (Fault fault) reads = ap (alone text) reads
+stop_alone text draft NoMemory reads = tt
 
 -- The answer to `read_scenario`.
 module _ (text : List ℕ) where
+  pub front_text : (result : Result (Problem × ℕ) TextStop) → ReadsFront text result → IfOk result (λ r. IsFront text r.0 r.1)
+  front_text (Ok r) reads = reads
+  front_text (Err stop) reads = tt
+
   pub front_spelled : (result : Result (Problem × ℕ) TextStop) → ReadsFront text result → (p : Problem) (n : ℕ) → IsFront text p n → Answers result (p, n)
   front_spelled (Ok r) reads p n h = one_front text r.0 p r.1 n reads h
   front_spelled (Err (Fault fault)) reads p n h = absurd (err_ok fault h.front (sym reads ∙ h.read))
@@ -126,6 +132,10 @@ module _ (text : List ℕ) where
   front_never_rest (Err NoMemory) reads = tt
 
   -- The answer to `read_scenario_alone`.
+  pub alone_text : (result : Result Problem TextStop) → ReadsAlone text result → IfOk result (λ p. IsTextOf p text)
+  alone_text (Ok p) reads = reads
+  alone_text (Err stop) reads = tt
+
   pub alone_spelled : (result : Result Problem TextStop) → ReadsAlone text result → (p : Problem) → IsTextOf p text → Answers result p
   alone_spelled (Ok q) reads p h = one_text text q p reads h
   alone_spelled (Err (Fault fault)) reads p h = absurd (err_ok fault h.front (sym reads ∙ h.read))

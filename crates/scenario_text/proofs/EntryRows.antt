@@ -26,7 +26,7 @@ use Rattle.scenario_text.specs.State.{State, positions_in}
 use Rattle.scenario_text.specs.KindTable.{pair_names, pair_parts, stands_twice, holds_of, has_parts, has_look, has_period_row, part, within}
 use Rattle.scenario_text.specs.Grammar.{row_at}
 use Rattle.scenario_text.proofs.ByCellNames.{twice_alike}
-use Rattle.scenario_text.proofs.FirstFields.{front_none, front_some}
+use Rattle.scenario_text.proofs.FirstFields.{front_none, front_some, front_rest}
 
 -- The pairs of fields are what the table asks of their names and their parts.
 module _ (names : List (List ℕ)) where
@@ -271,6 +271,17 @@ module _ {X : Type 0} (view : X → List ℕ) (new : Draft) (result : Result (Un
   row_front (f ∷ fields) d fs more some front behind taken =
       let whole : fs ≡ view f ∷ more = front_some 65 (view f) (map view fields) fs front ∙ ap (λ (x : List (List ℕ)). view f ∷ x) (sym behind) in
       subst (TakesLine new result) (ap (row_at line s) (sym whole)) taken
+
+  -- and by a field more
+  pub row_front_two : (fields : List X) (d e : X) (fs behind more : List (List ℕ)) → 2 ≤ length fields → map view fields ≡ take 66 fs → behind ≡ drop 1 fs → more ≡ drop 1 behind →
+      TakesLine new result (row_at line s (view (get_or fields 0 d) ∷ view (get_or fields 1 e) ∷ more)) → TakesLine new result (row_at line s fs)
+  row_front_two [] d e fs behind more some front first second taken = absurd (omega (arith, some))
+  row_front_two (f ∷ []) d e fs behind more some front first second taken = absurd (omega (arith, some))
+  row_front_two (f ∷ g ∷ fields) d e fs behind more some front first second taken =
+      let one : fs ≡ view f ∷ behind = front_some 65 (view f) (map view (g ∷ fields)) fs front ∙ ap (λ (x : List (List ℕ)). view f ∷ x) (sym first) in
+      let rest : view g ∷ map view fields ≡ take 65 behind = front_rest 65 (view f) (map view (g ∷ fields)) fs front ∙ ap (take 65) (sym first) in
+      let two : behind ≡ view g ∷ more = front_some 64 (view g) (map view fields) behind rest ∙ ap (λ (x : List (List ℕ)). view g ∷ x) (sym second) in
+      subst (TakesLine new result) (ap (row_at line s) (sym (one ∙ ap (λ (x : List (List ℕ)). view f ∷ x) two))) taken
 
 pub no_row : (line : Line) (s : State) (fs : List (List ℕ)) → [] ≡ take 66 fs → row_at line s fs ≡ row_at line s []
 no_row line s fs front = ap (row_at line s) (front_none 65 fs front)

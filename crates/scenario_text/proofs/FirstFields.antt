@@ -1,5 +1,5 @@
 -- The first fields of a line say what the line says, but for pairs.
-use Rattle.std.proofs.Common.{◌≡◌, ℕ, suc, ◌≤◌, true, false, Bool, ◌<◌, List, [], ◌∷◌, map, get_or, length, take, drop, Result, Err, refl, sym, ap, ◌∙◌, arith, subst, inl, inr}
+use Rattle.std.proofs.Common.{◌≡◌, ℕ, suc, ◌≤◌, ◌-◌, true, false, Bool, ◌<◌, List, [], ◌∷◌, map, get_or, length, take, drop, Result, Err, refl, sym, ap, ◌∙◌, arith, subst, inl, inr}
 use Rattle.std.proofs.lemmas.Bool.{lt-ltb, cases_order}
 use Rattle.std.proofs.lemmas.List.{length-take-le, take_all}
 use Rattle.scenario_text.specs.declared.draft.Draft.{Draft}
@@ -82,8 +82,9 @@ row_cut line s (a ∷ b ∷ c ∷ d ∷ fs) short = long_cut line s a b c d fs s
 -- What was taken of the first fields was taken of the line.
 
 module _ (new : Draft) (result : Result (Unit {0}) LineStop) (s : State) where
-  pub front_taken : (line : Line) (fs ws : List (List ℕ)) → is_short line ≡ true → ws ≡ take 66 fs → TakesLine new result (row_at line s ws) → TakesLine new result (row_at line s fs)
-  front_taken line fs ws short front taken = subst (TakesLine new result) (ap (row_at line s) front ∙ row_cut line s fs short) taken
+  pub front_taken : (line own : Line) (fs ws : List (List ℕ)) → line ≡ own → is_short own ≡ true → ws ≡ take 66 fs → TakesLine new result (row_at own s ws) → TakesLine new result (row_at line s fs)
+  front_taken line own fs ws same short front taken =
+      subst (TakesLine new result) (ap (row_at own s) front ∙ row_cut own s fs short ∙ ap (λ (l : Line). row_at l s fs) (sym same)) taken
 
   pub fields_taken : (w : List ℕ) (ws fs more : List (List ℕ)) → w ∷ ws ≡ take 67 fs → more ≡ drop 1 fs → TakesLine new result (fields_at s (w ∷ more)) → TakesLine new result (fields_at s fs)
   fields_taken w ws fs more front behind taken =
@@ -96,6 +97,10 @@ module _ {X : Type 0} (view : X → List ℕ) (line : Line) (new : Draft) (resul
   one_taken [] d some few taken = absurd (omega (arith, some))
   one_taken (f ∷ []) d some few taken = taken
   one_taken (f ∷ g ∷ fs) d some few taken = absurd (omega (arith, few))
+
+  pub some_taken : (fs : List X) (d : X) → 1 ≤ length fs → TakesLine new result (row_at line s (view (get_or fs 0 d) ∷ map view (take (length fs - 1) (drop 1 fs)))) → TakesLine new result (row_at line s (map view fs))
+  some_taken [] d some taken = absurd (omega (arith, some))
+  some_taken (f ∷ fs) d some taken = subst (λ (gs : List X). TakesLine new result (row_at line s (view f ∷ map view gs))) (take_all (length (f ∷ fs) - 1) fs (omega arith)) taken
 
 pub fields_front : (w : List ℕ) (ws fs more : List (List ℕ)) → w ∷ ws ≡ take 67 fs → more ≡ drop 1 fs → ws ≡ take 66 more
 fields_front w ws fs more front behind = front_rest 66 w ws fs front ∙ ap (take 66) (sym behind)

@@ -5,6 +5,7 @@ pub mod Positions
 pub mod Ranges
 pub mod Ascending
 pub mod FieldTexts
+pub mod LastCalls
 pub mod Printed
 pub mod Loop
 pub mod Determined
@@ -18,6 +19,7 @@ pub mod RowsRead
 pub mod HeadLines
 pub mod RowLines
 pub mod Columns
+pub mod NewNames
 pub mod GridNames
 pub mod Spreads
 pub mod FirstFields

@@ -22,9 +22,9 @@ no_lines (c ∷ cs) e = absurd (omega arith)
 pub at_end : (s : State) (number : ℕ) (text : List ℕ) → length text ≡ 0 → read_from scenario_lines s number (lines_of text) ≡ Err (record { line = number; kind = EarlyEnd })
 at_end s number text e = at_early scenario_lines s number (lines_of text) (no_lines text e)
 
-pub at_stop : (s : State) (number : ℕ) (new : Draft) (line : List ℕ) (lines ls : List (List ℕ)) (stop : LineStop) (text : List ℕ) → ls ≡ line ∷ lines → TakesLine new (Err stop) (line_at s line) → read_from scenario_lines s number ls ≡ front_of text → ReadsDraft text (Err (stop_at number stop))
-at_stop s number new line lines ls (line_stops.Fault kind) text e f so_far = sym so_far ∙ at_fault scenario_lines s number line lines ls kind e f
-at_stop s number new line lines ls line_stops.NoMemory text e f so_far = tt
+pub at_stop : (s : State) (number : ℕ) (new : Draft) (line : List ℕ) (lines ls : List (List ℕ)) (stop : LineStop) (text : List ℕ) (draft : Draft) → ls ≡ line ∷ lines → TakesLine new (Err stop) (line_at s line) → read_from scenario_lines s number ls ≡ front_of text → ReadsDraft text draft (Err (stop_at number stop))
+at_stop s number new line lines ls (line_stops.Fault kind) text draft e f so_far = sym so_far ∙ at_fault scenario_lines s number line lines ls kind e f
+at_stop s number new line lines ls line_stops.NoMemory text draft e f so_far = tt
 
 -- what follows the line feed of the line of this number
 pub after_going_on : (number : ℕ) (text after : List ℕ) → after ≡ after_lines number text → after ≡ after_lines (number + 1 - 1) text

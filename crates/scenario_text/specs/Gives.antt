@@ -4,7 +4,7 @@ use Rattle.scenario_text.specs.declared.draft.Draft.{Draft}
 use Rattle.scenario_text.specs.declared.kind.TextKind.{TextKind}
 use Rattle.scenario_text.specs.declared.kind.TextFault.{TextFault}
 use Rattle.scenario_text.specs.declared.pairs.Scan.{Scan}
-use Rattle.scenario_text.specs.declared.reading.DraftFront.{DraftFront}
+use Rattle.scenario_text.specs.declared.reading.DraftEnd.{DraftEnd}
 use Rattle.scenario_text.specs.declared.stop.LineStop.{LineStop}
 use Rattle.scenario_text.specs.declared.stop.LineStop.TheVariants as line_stops
 use Rattle.scenario_text.specs.declared.stop.TextStop.{TextStop}
@@ -33,12 +33,12 @@ abbrev pub ScansSome : List (List ℕ) → List (List ℕ) → Option Scan → T
 ScansSome names fields None = are_pairs fields ≡ false
 ScansSome names fields (Some pairs) = (are_pairs fields ≡ true) × HasSeen 1 (pairs_of names fields) pairs
 
--- the text was read up to its line `end`, or has that fault, unless memory ran out
-abbrev pub ReadsDraft : List ℕ → Result DraftFront TextStop → Type 0
-ReadsDraft text (Ok front) =
-    (front_of text ≡ Ok (record { state = state_of front.draft; line = front.line })) × IsSound (state_of front.draft) × (front.rest.now ≡ after_lines front.line text)
-ReadsDraft text (Err (text_stops.Fault fault)) = front_of text ≡ Err fault
-ReadsDraft text (Err text_stops.NoMemory) = Unit {0}
+-- the text was read into the draft up to its line `end`, or has that fault, unless memory ran out
+abbrev pub ReadsDraft : List ℕ → Draft → Result DraftEnd TextStop → Type 0
+ReadsDraft text draft (Ok end) =
+    (front_of text ≡ Ok (record { state = state_of draft; line = end.line })) × IsSound (state_of draft) × (end.rest.now ≡ after_lines end.line text)
+ReadsDraft text draft (Err (text_stops.Fault fault)) = front_of text ≡ Err fault
+ReadsDraft text draft (Err text_stops.NoMemory) = Unit {0}
 
 -- the stop of a line of that number
 abbrev pub stop_at : ℕ → LineStop → TextStop

@@ -14,6 +14,7 @@ pub mod InRows
 pub mod ReadingLaws
 pub mod Scenarios
 pub mod Gives
+pub mod NewNames
 pub mod Scanning
 pub mod RowFields
 pub mod StateRows

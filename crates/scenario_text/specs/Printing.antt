@@ -81,21 +81,29 @@ first_entry p c = if first_of p c == 0 then [] else record { cell = c; part = fi
 abbrev pub covered_entry : Problem → CellPart → List CellPart
 covered_entry p e = if e.part == p.sweep.denominator then [] else record { cell = e.cell; part = e.part } ∷ []
 
+-- the row of the horizon
+abbrev pub horizon_row : Problem → List (List ℕ)
+horizon_row p = codes "horizon" ∷ decimal p.horizon ∷ []
+
+-- and that of what first parts, drift parts and parts that are missed are parts of
+abbrev pub wholes_row : Problem → List (List ℕ)
+wholes_row p = codes "parts" ∷ decimal p.total ∷ decimal p.drift.denominator ∷ decimal p.sweep.denominator ∷ []
+
 -- the first three rows
 abbrev pub head_rows : TextVersion → Problem → List (List (List ℕ))
-head_rows version p =
-    version_row version
-    ∷ (codes "horizon" ∷ decimal p.horizon ∷ [])
-    ∷ (codes "parts" ∷ decimal p.total ∷ decimal p.drift.denominator ∷ decimal p.sweep.denominator ∷ [])
-    ∷ []
+head_rows version p = version_row version ∷ horizon_row p ∷ wholes_row p ∷ []
 
 -- and the cells
 abbrev pub front_rows : TextVersion → Problem → List (List (List ℕ))
 front_rows version p = head_rows version p ++ sort_rows p Cells
 
--- the rows of the start and of the first parts
+-- the row of the start
+abbrev pub start_row : Problem → List (List ℕ)
+start_row p = codes "start" ∷ position_name p p.start ∷ []
+
+-- it and that of the first parts
 abbrev pub start_rows : Problem → List (List (List ℕ))
-start_rows p = (codes "start" ∷ position_name p p.start ∷ []) ∷ first_row p.names (first_entries p) ∷ []
+start_rows p = start_row p ∷ first_row p.names (first_entries p) ∷ []
 
 -- the rows from the start to the drift rows
 abbrev pub body_rows : Problem → List (List (List ℕ))

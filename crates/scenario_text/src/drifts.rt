@@ -16,8 +16,8 @@ use crate::draft::RowIn;
 use drift_chain::{ChangeFault, Drift, DriftChange, DriftPart};
 use std::alloc::{AllocError, Global};
 
-/// The rows of single periods, as a drift takes them.
-pub fn drift_changes(alloc: Global, rows: Vec<RowIn>) -> Result<Vec<DriftChange>, AllocError>
+// The rows of single periods, as a drift takes them.
+fn drift_changes(alloc: Global, rows: Vec<RowIn>) -> Result<Vec<DriftChange>, AllocError>
     ensures { IfOk result (λ v. map row_change v.items ≡ map drift_change_of (map period_row_of rows.items)) }
 {
     let mut changes = Vec::new(alloc);
@@ -31,8 +31,8 @@ pub fn drift_changes(alloc: Global, rows: Vec<RowIn>) -> Result<Vec<DriftChange>
     Ok(changes)
 }
 
-/// The drift of these rows in every period.
-pub fn base_drift(denominator: u32, rows: Vec<Vec<DriftPart>>) -> Drift
+// The drift of these rows in every period.
+fn base_drift(denominator: u32, rows: Vec<Vec<DriftPart>>) -> Drift
     requires some_denominator { 1 ≤ denominator }
     requires most_denominator { denominator ≤ 1000000 }
     requires some_row { 1 ≤ length rows.items }
@@ -49,8 +49,8 @@ pub fn base_drift(denominator: u32, rows: Vec<Vec<DriftPart>>) -> Drift
     }
 }
 
-/// The drift with these rows in single periods.
-pub fn changed_drift(
+// The drift with these rows in single periods.
+fn changed_drift(
     alloc: Global,
     drift: Drift,
     changes: Vec<DriftChange>,
@@ -71,4 +71,28 @@ pub fn changed_drift(
         Err(ChangeFault::NoMemory) => Err(AllocError),
         Err(_) => unreachable!(),
     }
+}
+
+/// The drift of these rows in every period, but for those of single periods.
+pub fn drift_of(
+    alloc: Global,
+    denominator: u32,
+    rows: Vec<Vec<DriftPart>>,
+    later: Vec<RowIn>,
+) -> Result<Drift, AllocError>
+    requires some_denominator { 1 ≤ denominator }
+    requires most_denominator { denominator ≤ 1000000 }
+    requires some_row { 1 ≤ length rows.items }
+    requires most_rows { length rows.items ≤ 200 }
+    requires faultless { (fault : DriftFault) → HasFault denominator (map (λ row. row.items) rows.items) fault → ⊥ }
+    requires changes { (fault : ChangeFaultLem) → HasChangeFault denominator (length rows.items)
+        (map drift_change_of (map period_row_of later.items)) fault → ⊥ }
+    ensures denominator { IfOk result (λ drift. drift.denominator ≡ denominator) }
+    ensures made { IfOk result (λ drift. AllZip IsPermutation (map (λ row. row.items) rows.items) drift.rows) }
+    ensures changes { IfOk result (λ drift.
+        AllZip IsSameChange (map drift_change_of (map period_row_of later.items)) drift.changes) }
+    ensures sound { IfOk result IsDrift }
+{
+    let changes = drift_changes(alloc, later)?;
+    changed_drift(alloc, base_drift(denominator, rows), changes)
 }

@@ -74,6 +74,14 @@ fn push_first(out: &mut Vec<u8>, sc: &Scenario) -> Result<(), NoMemory>
     Ok(())
 }
 
+// The line feed behind a row that was begun.
+fn end_row(out: &mut Vec<u8>) -> Result<(), NoMemory>
+    ensures ok { OnOk result (out.new.items ≡ out.old.items ++ 10 ∷ []) }
+    ensures err { OnErr result (Begins out.old.items out.new.items) }
+{
+    Ok(out.push(b'\n')?)
+}
+
 /// Appends the row of the first parts.
 pub fn push_first_row(out: &mut Vec<u8>, sc: &Scenario) -> Result<(), NoMemory>
     ensures ok { OnOk result (out.new.items ≡ out.old.items ++
@@ -82,8 +90,7 @@ pub fn push_first_row(out: &mut Vec<u8>, sc: &Scenario) -> Result<(), NoMemory>
 {
     begin_row(out, b"first", &[])?;
     push_first(out, sc)?;
-    out.push(b'\n')?;
-    Ok(())
+    end_row(out)
 }
 
 // The fields of a cell that a look covers, where it doesn't miss all of it.
@@ -133,8 +140,7 @@ fn push_drift_row(
 {
     begin_row(out, word, fields)?;
     push_entries(out, sc, sc.drift().row(t, c))?;
-    out.push(b'\n')?;
-    Ok(())
+    end_row(out)
 }
 
 // The fields of the cells that a look of one period covers.
@@ -169,8 +175,7 @@ fn push_look_row(
 {
     begin_row(out, word, fields)?;
     push_look(out, sc, t, q)?;
-    out.push(b'\n')?;
-    Ok(())
+    end_row(out)
 }
 
 // The names of positions.
@@ -196,8 +201,7 @@ fn push_moves(out: &mut Vec<u8>, sc: &Scenario, q: u8) -> Result<(), NoMemory>
 {
     begin_row(out, b"moves", &[Field::Word(sc.position(q).bytes())])?;
     push_names(out, sc, sc.grid().moves(q))?;
-    out.push(b'\n')?;
-    Ok(())
+    end_row(out)
 }
 
 // How much of a target in the cell of a position's number a look from there misses in period 1: all of it, where there is no

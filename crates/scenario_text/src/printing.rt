@@ -8,7 +8,7 @@ ghost use Rattle.search_model.specs.Problem.{IsProblem};
 ghost use Rattle.period_rows.specs.Rows.{is_same_row};
 ghost use Rattle.scenario_text.specs.Canonical.{canonical_text, other_rows};
 ghost use Rattle.scenario_text.specs.StateRows.{version_row};
-ghost use Rattle.scenario_text.specs.Printing.{sort_owners, sort_rows, in_force, change_owners, change_last, change_limit, change_row, change_at, change_rows, head_rows, front_rows, start_rows, body_rows, later_change_rows, plain_rows, full_rows, chosen_rows};
+ghost use Rattle.scenario_text.specs.Printing.{sort_owners, sort_rows, in_force, change_owners, change_last, change_limit, change_row, change_at, change_rows, horizon_row, wholes_row, head_rows, front_rows, start_row, start_rows, body_rows, later_change_rows, plain_rows, full_rows, chosen_rows};
 
 use crate::draft::TextVersion;
 use crate::line_rows::{push_first_row, push_in_period, push_sort_row};
@@ -133,13 +133,19 @@ fn push_version(out: &mut Vec<u8>, version: TextVersion) -> Result<(), NoMemory>
     }
 }
 
-// The first three rows.
-fn print_head(out: &mut Vec<u8>, sc: &Scenario, version: TextVersion) -> Result<(), NoMemory>
-    ensures ok { OnOk result (out.new.items ≡ out.old.items ++ text_of (head_rows version sc.now)) }
+// The row of the horizon.
+fn push_horizon(out: &mut Vec<u8>, sc: &Scenario) -> Result<(), NoMemory>
+    ensures ok { OnOk result (out.new.items ≡ out.old.items ++ text_of (horizon_row sc.now ∷ [])) }
     ensures err { OnErr result (Begins out.old.items out.new.items) }
 {
-    push_version(out, version)?;
-    push_row(out, b"horizon", &[Field::Number(sc.horizon() as u128)])?;
+    push_row(out, b"horizon", &[Field::Number(sc.horizon() as u128)])
+}
+
+// The row of what first parts, drift parts and parts that are missed are parts of.
+fn push_wholes(out: &mut Vec<u8>, sc: &Scenario) -> Result<(), NoMemory>
+    ensures ok { OnOk result (out.new.items ≡ out.old.items ++ text_of (wholes_row sc.now ∷ [])) }
+    ensures err { OnErr result (Begins out.old.items out.new.items) }
+{
     push_row(
         out,
         b"parts",
@@ -151,6 +157,16 @@ fn print_head(out: &mut Vec<u8>, sc: &Scenario, version: TextVersion) -> Result<
     )
 }
 
+// The first three rows.
+fn print_head(out: &mut Vec<u8>, sc: &Scenario, version: TextVersion) -> Result<(), NoMemory>
+    ensures ok { OnOk result (out.new.items ≡ out.old.items ++ text_of (head_rows version sc.now)) }
+    ensures err { OnErr result (Begins out.old.items out.new.items) }
+{
+    push_version(out, version)?;
+    push_horizon(out, sc)?;
+    push_wholes(out, sc)
+}
+
 // The rows up to the cells.
 fn print_front(out: &mut Vec<u8>, sc: &Scenario, version: TextVersion) -> Result<(), NoMemory>
     requires { IsProblem sc.now }
@@ -158,8 +174,16 @@ fn print_front(out: &mut Vec<u8>, sc: &Scenario, version: TextVersion) -> Result
     ensures err { OnErr result (Begins out.old.items out.new.items) }
 {
     print_head(out, sc, version)?;
-    print_sort(out, sc, RowSort::Cells)?;
-    Ok(())
+    print_sort(out, sc, RowSort::Cells)
+}
+
+// The row of the start.
+fn push_start(out: &mut Vec<u8>, sc: &Scenario) -> Result<(), NoMemory>
+    ensures ok { OnOk result (out.new.items ≡ out.old.items ++ text_of (start_row sc.now ∷ [])) }
+    ensures err { OnErr result (Begins out.old.items out.new.items) }
+{
+    let name = sc.position(sc.start());
+    push_row(out, b"start", &[Field::Word(name.bytes())])
 }
 
 // The rows of the start and of the first parts.
@@ -167,11 +191,7 @@ fn print_start(out: &mut Vec<u8>, sc: &Scenario) -> Result<(), NoMemory>
     ensures ok { OnOk result (out.new.items ≡ out.old.items ++ text_of (start_rows sc.now)) }
     ensures err { OnErr result (Begins out.old.items out.new.items) }
 {
-    push_row(
-        out,
-        b"start",
-        &[Field::Word(sc.position(sc.start()).bytes())],
-    )?;
+    push_start(out, sc)?;
     push_first_row(out, sc)
 }
 
@@ -183,8 +203,7 @@ fn print_body(out: &mut Vec<u8>, sc: &Scenario) -> Result<(), NoMemory>
 {
     print_start(out, sc)?;
     print_sort(out, sc, RowSort::Moves)?;
-    print_sort(out, sc, RowSort::Drift)?;
-    Ok(())
+    print_sort(out, sc, RowSort::Drift)
 }
 
 // The rows behind them in version 2.
@@ -195,8 +214,7 @@ fn print_later(out: &mut Vec<u8>, sc: &Scenario) -> Result<(), NoMemory>
 {
     print_changes(out, sc, ChangeSort::DriftIn)?;
     print_sort(out, sc, RowSort::Looks)?;
-    print_changes(out, sc, ChangeSort::LookIn)?;
-    Ok(())
+    print_changes(out, sc, ChangeSort::LookIn)
 }
 
 // The rows of version 1 but the last one.
@@ -207,8 +225,7 @@ fn print_plain(out: &mut Vec<u8>, sc: &Scenario) -> Result<(), NoMemory>
 {
     print_front(out, sc, TextVersion::One)?;
     print_body(out, sc)?;
-    print_sort(out, sc, RowSort::Overlook)?;
-    Ok(())
+    print_sort(out, sc, RowSort::Overlook)
 }
 
 // The rows of version 2 but the last one.
@@ -220,8 +237,7 @@ fn print_full(out: &mut Vec<u8>, sc: &Scenario) -> Result<(), NoMemory>
     print_front(out, sc, TextVersion::Two)?;
     print_sort(out, sc, RowSort::Positions)?;
     print_body(out, sc)?;
-    print_later(out, sc)?;
-    Ok(())
+    print_later(out, sc)
 }
 
 // The rows of the version that can say it, but the last one.
@@ -244,8 +260,7 @@ fn print_rows(out: &mut Vec<u8>, sc: &Scenario) -> Result<(), NoMemory>
 {
     sc.recall_sound();
     print_either(out, sc)?;
-    push_row(out, b"end", &[])?;
-    Ok(())
+    push_row(out, b"end", &[])
 }
 
 /// Appends the canonical text of a scenario: of version 1 where such a text can say it, or else of version 2.

@@ -16,10 +16,9 @@ use indexmap::IndexSet;
 use std::alloc::Global;
 use text_rows::{cut_line, is_blank};
 
-/// What was read up to the line `end`, the number of that line, and what follows its line feed.
+/// The number of the line `end`, and what follows its line feed.
 #[derive(Drop)]
-pub struct DraftFront<'a> {
-    pub draft: Draft,
+pub struct DraftEnd<'a> {
     pub line: u64,
     pub rest: &'a [u8],
 }
@@ -39,7 +38,8 @@ fn is_ended(stage: Stage) -> bool
     matches!(stage, Stage::Ended)
 }
 
-fn blank_draft(alloc: Global) -> Draft
+/// A draft of which nothing was read.
+pub fn blank_draft(alloc: Global) -> Draft
     ensures { state_of result ≡ blank_state }
 {
     Draft {
@@ -63,27 +63,27 @@ fn blank_draft(alloc: Global) -> Draft
     }
 }
 
-/// What the text says, up to its line `end`.
+/// Reads into a blank draft what the text says, up to its line `end`.
 #[tactic(auto, using(crate::proofs::Loop::loop_steps))]
-pub fn read_draft(alloc: Global, text: &[u8]) -> Result<DraftFront<'_>, TextStop>
-    ensures { ReadsDraft text.now result }
+pub fn read_draft<'a>(
+    alloc: Global,
+    draft: &mut Draft,
+    text: &'a [u8],
+) -> Result<DraftEnd<'a>, TextStop>
+    requires { state_of draft.old ≡ blank_state }
+    ensures { ReadsDraft text.now draft.new result }
 {
-    let mut draft = blank_draft(alloc);
     let mut rest = text;
     let mut number = 1u64;
     while !rest.is_empty() {
         let (line, after) = cut_line(rest);
-        match take_line(alloc, &mut draft, line) {
+        match take_line(alloc, draft, line) {
             Ok(()) => {}
             Err(stop) => return Err(at_number(number, stop)),
         }
         rest = after;
         if is_ended(draft.stage) {
-            return Ok(DraftFront {
-                draft,
-                line: number,
-                rest,
-            });
+            return Ok(DraftEnd { line: number, rest });
         }
         number += 1;
     }

@@ -6,14 +6,42 @@ ghost use Rattle.scenario_text.specs.declared.kind.TextKind.TheVariants as kinds
 ghost use Rattle.scenario_text.specs.declared.kind.TextFault.{TextFault as FaultLem};
 ghost use Rattle.scenario_text.specs.Faults.{IsFirstFault, IsRest};
 ghost use Rattle.scenario_text.specs.Gives.{Answers, Tells, IfFault};
+ghost use Rattle.scenario_text.specs.State.{state_of, blank_state};
 ghost use Rattle.scenario_text.specs.Scenarios.{IsFront, IsTextOf, ReadsFront, ReadsAlone};
 
 use crate::assembling::assemble;
+use crate::draft::Draft;
 use crate::kind::{TextFault, TextKind};
-use crate::reading::{first_said, read_draft};
+use crate::reading::{blank_draft, first_said, read_draft};
 use crate::stop::TextStop;
 use search_model::Scenario;
 use std::alloc::Global;
+
+// The scenario at the front of a text, read into a blank draft.
+fn read_front(alloc: Global, draft: &mut Draft, text: &[u8]) -> Result<(Scenario, usize), TextStop>
+    requires { state_of draft.old ≡ blank_state }
+    ensures { ReadsFront text.now result }
+{
+    let end = read_draft(alloc, draft, text)?;
+    let bytes = text.len() - end.rest.len();
+    let scenario = assemble(alloc, draft)?;
+    Ok((scenario, bytes))
+}
+
+// The scenario of a whole text.
+fn read_alone(alloc: Global, draft: &mut Draft, text: &[u8]) -> Result<Scenario, TextStop>
+    requires { state_of draft.old ≡ blank_state }
+    ensures { ReadsAlone text.now result }
+{
+    let end = read_draft(alloc, draft, text)?;
+    if let Some(line) = first_said(end.rest, end.line + 1) {
+        return Err(TextStop::Fault(TextFault {
+            line,
+            kind: TextKind::Rest,
+        }));
+    }
+    Ok(assemble(alloc, draft)?)
+}
 
 /// The scenario whose text stands at the front, and how many bytes that text has, the line feed of its line `end`
 /// included where there is one. What follows isn't looked at.
@@ -29,10 +57,11 @@ pub fn read_scenario(alloc: Global, text: &[u8]) -> Result<(Scenario, usize), Te
     ensures faulty { (fault : FaultLem) → IsFirstFault text.now fault → Tells result fault }
     ensures never_rest { IfFault result (λ fault. fault.kind ≡ kinds.Rest → ⊥) }
 {
-    let front = read_draft(alloc, text)?;
-    let bytes = text.len() - front.rest.len();
-    let scenario = assemble(alloc, front.draft)?;
-    Ok((scenario, bytes))
+    let mut draft = blank_draft(alloc);
+    let read = read_front(alloc, &mut draft, text);
+    // (a call, which is proved once for all drafts, and not a drop field by field here)
+    drop(draft);
+    read
 }
 
 /// The scenario of a text behind whose line `end` no line says anything.
@@ -50,12 +79,9 @@ pub fn read_scenario_alone(alloc: Global, text: &[u8]) -> Result<Scenario, TextS
     ensures rest { (fault : FaultLem) → IsRest text.now fault → Tells result fault }
     ensures no_other_rest { IfFault result (λ fault. fault.kind ≡ kinds.Rest → IsRest text.now fault) }
 {
-    let front = read_draft(alloc, text)?;
-    if let Some(line) = first_said(front.rest, front.line + 1) {
-        return Err(TextStop::Fault(TextFault {
-            line,
-            kind: TextKind::Rest,
-        }));
-    }
-    Ok(assemble(alloc, front.draft)?)
+    let mut draft = blank_draft(alloc);
+    let read = read_alone(alloc, &mut draft, text);
+    // (a call, which is proved once for all drafts, and not a drop field by field here)
+    drop(draft);
+    read
 }

@@ -1,7 +1,9 @@
 //! Lines that say something of all cells at once: `grid`, `spread` and `rate`.
 
-ghost use Rattle.std.specs.Prelude.{◌≡◌, ◌≤◌, ◌*◌, ◌-◌, ◌==◌, ◌++◌, ◌∷◌, [], nat_lt, if◌then◌else◌, map, filter, replicate, length, is_some, true, false, Ok, IfOk, OnOk};
-ghost use Rattle.std.specs.List.{list_any};
+ghost use Rattle.std.specs.Prelude.{◌≡◌, ◌≤◌, ◌+◌, ◌*◌, ◌-◌, ◌==◌, ◌++◌, ◌∷◌, [], nat_lt, if◌then◌else◌, map, filter, replicate, length, is_some, true, false, Ok, IfOk, OnOk};
+ghost use Rattle.std.specs.Fmt.{decimal};
+ghost use Rattle.std.specs.List.{list_any, range_with_len};
+ghost use Rattle.search_grid.specs.Sides.{side_moves};
 ghost use Rattle.search_model.specs.Grids.{grid_name as grid_name_lem, grid_names as grid_names_lem, rest_of as rest_lem, spread_row as spread_row_lem, spread_rows as spread_rows_lem};
 ghost use Rattle.scenario_text.specs.State.{state_of};
 ghost use Rattle.scenario_text.specs.Sound.{IsSound};
@@ -14,6 +16,7 @@ use crate::kind::TextKind;
 use crate::line::Line;
 use crate::number_field::{MOST_PART, is_bad, is_over, number_at, number_in};
 use crate::stop::LineStop;
+use crate::taking::push_no_parts;
 use drift_chain::DriftPart;
 use indexmap::IndexSet;
 use search_grid::Grid;
@@ -22,18 +25,39 @@ use std::alloc::{AllocError, Global};
 // The most rows, and columns, of a grid.
 const MOST_SIDE: u128 = 200;
 
+// Adds a letter and a number.
+fn push_numbered(name: &mut Vec<u8>, letter: u8, number: u8) -> Result<(), AllocError>
+    ensures { OnOk result (name.new.items ≡ name.old.items ++ letter ∷ decimal number) }
+{
+    name.push(letter)?;
+    name.extend_from_slice(Digits::of(u32::from(number)).bytes())?;
+    Ok(())
+}
+
 fn grid_name(alloc: Global, cols: u8, c: u8) -> Result<Vec<u8>, AllocError>
     requires { 1 ≤ cols }
     ensures { IfOk result (λ name. name.items ≡ grid_name_lem cols c) }
 {
-    let row = Digits::of(u32::from(c / cols));
-    let col = Digits::of(u32::from(c % cols));
     let mut name = Vec::new(alloc);
-    name.push(b'r')?;
-    name.extend_from_slice(row.bytes())?;
-    name.push(b'c')?;
-    name.extend_from_slice(col.bytes())?;
+    push_numbered(&mut name, b'r', c / cols)?;
+    push_numbered(&mut name, b'c', c % cols)?;
     Ok(name)
+}
+
+// Adds the name of the next cell.
+fn push_grid_name(
+    alloc: Global,
+    names: &mut IndexSet<Vec<u8>>,
+    cols: u8,
+    c: u8,
+) -> Result<(), AllocError>
+    requires some { 1 ≤ cols }
+    requires before { map (λ n. n.items) names.old.keys ≡ map (grid_name_lem cols) (range_with_len 0 c) }
+    ensures { OnOk result (map (λ n. n.items) names.new.keys ≡ map (grid_name_lem cols) (range_with_len 0 (c + 1))) }
+{
+    let name = grid_name(alloc, cols, c)?;
+    names.insert(name)?;
+    Ok(())
 }
 
 fn grid_names(alloc: Global, rows: u8, cols: u8) -> Result<IndexSet<Vec<u8>>, AllocError>
@@ -43,8 +67,7 @@ fn grid_names(alloc: Global, rows: u8, cols: u8) -> Result<IndexSet<Vec<u8>>, Al
 {
     let mut names = IndexSet::new(alloc);
     for c in 0..rows * cols {
-        let name = grid_name(alloc, cols, c)?;
-        names.insert(name)?;
+        push_grid_name(alloc, &mut names, cols, c)?;
     }
     Ok(names)
 }
@@ -66,9 +89,31 @@ fn no_parts(alloc: Global, cells: u8) -> Result<Vec<Vec<DriftPart>>, AllocError>
 {
     let mut rows = Vec::new(alloc);
     for _ in 0..cells {
-        rows.push(Vec::new(alloc))?;
+        push_no_parts(alloc, &mut rows)?;
     }
     Ok(rows)
+}
+
+// The cells of this grid, with no rows but those of their moves.
+fn set_cells_of(
+    alloc: Global,
+    draft: &mut Draft,
+    rows: u8,
+    cols: u8,
+    grid: &Grid,
+) -> Result<(), LineStop>
+    requires some { (1 ≤ rows) × (1 ≤ cols) }
+    requires few { rows * cols ≤ 200 }
+    requires sides { grid.now ≡ side_moves rows cols }
+    ensures { TakesLine draft.new result (Ok (with_cells (state_of draft.old) rows cols)) }
+{
+    draft.names = grid_names(alloc, rows, cols)?;
+    draft.moves = rows_of(alloc, grid)?;
+    draft.parts = no_parts(alloc, rows * cols)?;
+    draft.overlook = vec![in alloc; None; (rows * cols) as usize]?;
+    draft.gridded = true;
+    draft.stage = Stage::Start;
+    Ok(())
 }
 
 fn set_cells(alloc: Global, draft: &mut Draft, rows: u8, cols: u8) -> Result<(), LineStop>
@@ -76,17 +121,10 @@ fn set_cells(alloc: Global, draft: &mut Draft, rows: u8, cols: u8) -> Result<(),
     requires few { rows * cols ≤ 200 }
     ensures { TakesLine draft.new result (Ok (with_cells (state_of draft.old) rows cols)) }
 {
-    let grid = match Grid::four_neighbour(alloc, rows, cols) {
-        Ok(grid) => grid,
-        Err(_) => return Err(LineStop::NoMemory),
-    };
-    draft.names = grid_names(alloc, rows, cols)?;
-    draft.moves = rows_of(alloc, &grid)?;
-    draft.parts = no_parts(alloc, rows * cols)?;
-    draft.overlook = vec![in alloc; None; (rows * cols) as usize]?;
-    draft.gridded = true;
-    draft.stage = Stage::Start;
-    Ok(())
+    match Grid::four_neighbour(alloc, rows, cols) {
+        Ok(grid) => set_cells_of(alloc, draft, rows, cols, &grid),
+        Err(_) => Err(LineStop::NoMemory),
+    }
 }
 
 fn set_grid(alloc: Global, draft: &mut Draft, rows: &[u8], cols: &[u8]) -> Result<(), LineStop>

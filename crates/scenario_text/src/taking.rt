@@ -1,14 +1,15 @@
 //! The lines above the rows: each function takes a line by the fields behind its keyword.
 
-ghost use Rattle.std.specs.Prelude.{◌≡◌, ◌∷◌, [], ℕ, List, None, Ok, map, true};
+ghost use Rattle.std.specs.Prelude.{◌≡◌, ◌≤◌, ◌∷◌, ◌++◌, [], ℕ, List, Some, None, Ok, OnOk, map, length, true, codes, if◌then◌else◌};
 ghost use Rattle.scenario_text.specs.declared.draft.TextVersion.{TextVersion as Version};
-ghost use Rattle.text_rows.specs.Fields.{fields_of as fields_lem};
+ghost use Rattle.text_rows.specs.Fields.{fields_of as fields_lem, is_word};
 ghost use Rattle.scenario_text.specs.State.{state_of};
 ghost use Rattle.scenario_text.specs.Sound.{IsSound};
 ghost use Rattle.scenario_text.specs.Gives.{TakesLine};
 ghost use Rattle.scenario_text.specs.Scanning.{HasSeen};
 ghost use Rattle.scenario_text.specs.Fields.{are_pairs, cell_named as cell_named_lem};
 ghost use Rattle.scenario_text.specs.ByCells.{pairs_of};
+ghost use Rattle.scenario_text.specs.NewNames.{name_fault as name_fault_lem};
 ghost use Rattle.scenario_text.specs.Grammar.{row_at, with_name, with_position};
 
 use crate::cell_names::{are_name_bytes, cell_named, positions_of};
@@ -18,23 +19,44 @@ use crate::line::Line;
 use crate::number_field::{MOST_PART, is_bad, is_over, number_at, number_in};
 use crate::pairs::{Scan, check_pairs, scan_some_pairs, total_of};
 use crate::stop::LineStop;
-use std::alloc::Global;
+use drift_chain::DriftPart;
+use indexmap::IndexSet;
+use std::alloc::{AllocError, Global};
+
+// The version that a field says.
+fn version_said(field: &[u8]) -> Option<TextVersion>
+    ensures { result ≡ (if is_word field.now (codes "1") then Some Version.One
+        else (if is_word field.now (codes "2") then Some Version.Two else None)) }
+{
+    if field == b"1".as_slice() {
+        Some(TextVersion::One)
+    } else if field == b"2".as_slice() {
+        Some(TextVersion::Two)
+    } else {
+        None
+    }
+}
+
+// Sets the version that a field says.
+fn set_version(draft: &mut Draft, field: &[u8]) -> Result<(), LineStop>
+    ensures { TakesLine draft.new result (row_at Line.Scenario (state_of draft.old) (field.now ∷ [])) }
+{
+    match version_said(field) {
+        None => Err(LineStop::Fault(TextKind::BadLine)),
+        Some(version) => {
+            draft.stage = Stage::Horizon;
+            draft.version = version;
+            Ok(())
+        }
+    }
+}
 
 /// `scenario 1`, or `scenario 2`
 pub fn take_version(draft: &mut Draft, fields: &[&[u8]]) -> Result<(), LineStop>
     ensures { TakesLine draft.new result (row_at Line.Scenario (state_of draft.old) (map (λ f. f.now) fields.now)) }
 {
     match fields {
-        [version] if *version == b"1".as_slice() => {
-            draft.stage = Stage::Horizon;
-            draft.version = TextVersion::One;
-            Ok(())
-        }
-        [version] if *version == b"2".as_slice() => {
-            draft.stage = Stage::Horizon;
-            draft.version = TextVersion::Two;
-            Ok(())
-        }
+        [version] => set_version(draft, version),
         _ => Err(LineStop::Fault(TextKind::BadLine)),
     }
 }
@@ -93,17 +115,42 @@ pub fn take_parts(draft: &mut Draft, fields: &[&[u8]]) -> Result<(), LineStop>
     }
 }
 
+// Adds a name behind the others.
+fn push_name(alloc: Global, names: &mut IndexSet<Vec<u8>>, name: &[u8]) -> Result<(), AllocError>
+    requires { cell_named_lem (map (λ n. n.items) names.old.keys) name.now ≡ None }
+    ensures { OnOk result (map (λ n. n.items) names.new.keys ≡ map (λ n. n.items) names.old.keys ++ name.now ∷ []) }
+{
+    let mut bytes = Vec::new(alloc);
+    bytes.extend_from_slice(name)?;
+    names.insert(bytes)?;
+    Ok(())
+}
+
+// Adds a row without moves.
+fn push_no_moves(alloc: Global, rows: &mut Vec<Vec<u8>>) -> Result<(), AllocError>
+    ensures { OnOk result (map (λ row. row.items) rows.new.items ≡ map (λ row. row.items) rows.old.items ++ [] ∷ []) }
+{
+    rows.push(Vec::new(alloc))?;
+    Ok(())
+}
+
+/// Adds a row without parts.
+pub fn push_no_parts(alloc: Global, rows: &mut Vec<Vec<DriftPart>>) -> Result<(), AllocError>
+    ensures { OnOk result (map (λ row. row.items) rows.new.items ≡ map (λ row. row.items) rows.old.items ++ [] ∷ []) }
+{
+    rows.push(Vec::new(alloc))?;
+    Ok(())
+}
+
 // Adds a cell that is a position, too, and has no rows yet.
 fn push_place(alloc: Global, draft: &mut Draft, name: &[u8]) -> Result<(), LineStop>
     requires new { cell_named_lem (state_of draft.old).names name.now ≡ None }
     requires version { draft.old.version ≡ Version.One }
     ensures { TakesLine draft.new result (Ok (with_name (state_of draft.old) name.now)) }
 {
-    let mut bytes = Vec::new(alloc);
-    bytes.extend_from_slice(name)?;
-    draft.names.insert(bytes)?;
-    draft.moves.push(Vec::new(alloc))?;
-    draft.parts.push(Vec::new(alloc))?;
+    push_name(alloc, &mut draft.names, name)?;
+    push_no_moves(alloc, &mut draft.moves)?;
+    push_no_parts(alloc, &mut draft.parts)?;
     draft.overlook.push(None)?;
     Ok(())
 }
@@ -114,10 +161,8 @@ fn push_target(alloc: Global, draft: &mut Draft, name: &[u8]) -> Result<(), Line
     requires version { draft.old.version ≡ Version.Two }
     ensures { TakesLine draft.new result (Ok (with_name (state_of draft.old) name.now)) }
 {
-    let mut bytes = Vec::new(alloc);
-    bytes.extend_from_slice(name)?;
-    draft.names.insert(bytes)?;
-    draft.parts.push(Vec::new(alloc))?;
+    push_name(alloc, &mut draft.names, name)?;
+    push_no_parts(alloc, &mut draft.parts)?;
     Ok(())
 }
 
@@ -131,20 +176,32 @@ fn push_cell(alloc: Global, draft: &mut Draft, name: &[u8]) -> Result<(), LineSt
     }
 }
 
+// What is wrong with a name that is to be added to others, if anything is.
+#[tactic(auto, unfolding(crate::specs::NewNames::name_fault))]
+fn name_fault(names: &IndexSet<Vec<u8>>, name: &[u8]) -> Option<TextKind>
+    requires { length names.now.keys ≤ 200 }
+    ensures { result ≡ name_fault_lem (map (λ n. n.items) names.now.keys) name.now }
+{
+    if !are_name_bytes(name) {
+        return Some(TextKind::BadLine);
+    }
+    if name.len() > 24 || names.len() >= 200 {
+        return Some(TextKind::OverLimit);
+    }
+    if cell_named(names, name).is_some() {
+        return Some(TextKind::DoubleName);
+    }
+    None
+}
+
 fn add_cell(alloc: Global, draft: &mut Draft, name: &[u8]) -> Result<(), LineStop>
     requires { IsSound (state_of draft.old) }
     ensures { TakesLine draft.new result (row_at Line.Cell (state_of draft.old) (name.now ∷ [])) }
 {
-    if !are_name_bytes(name) {
-        return Err(LineStop::Fault(TextKind::BadLine));
+    match name_fault(&draft.names, name) {
+        Some(kind) => Err(LineStop::Fault(kind)),
+        None => push_cell(alloc, draft, name),
     }
-    if name.len() > 24 || draft.names.len() >= 200 {
-        return Err(LineStop::Fault(TextKind::OverLimit));
-    }
-    if cell_named(&draft.names, name).is_some() {
-        return Err(LineStop::Fault(TextKind::DoubleName));
-    }
-    push_cell(alloc, draft, name)
 }
 
 /// `cell NAME`
@@ -163,10 +220,8 @@ fn push_position(alloc: Global, draft: &mut Draft, name: &[u8]) -> Result<(), Li
     requires { cell_named_lem (state_of draft.old).positions name.now ≡ None }
     ensures { TakesLine draft.new result (Ok (with_position (state_of draft.old) name.now)) }
 {
-    let mut bytes = Vec::new(alloc);
-    bytes.extend_from_slice(name)?;
-    draft.positions.insert(bytes)?;
-    draft.moves.push(Vec::new(alloc))?;
+    push_name(alloc, &mut draft.positions, name)?;
+    push_no_moves(alloc, &mut draft.moves)?;
     draft.looks.push(None)?;
     draft.stage = Stage::Positions;
     Ok(())
@@ -176,16 +231,10 @@ fn add_position(alloc: Global, draft: &mut Draft, name: &[u8]) -> Result<(), Lin
     requires { IsSound (state_of draft.old) }
     ensures { TakesLine draft.new result (row_at Line.Position (state_of draft.old) (name.now ∷ [])) }
 {
-    if !are_name_bytes(name) {
-        return Err(LineStop::Fault(TextKind::BadLine));
+    match name_fault(&draft.positions, name) {
+        Some(kind) => Err(LineStop::Fault(kind)),
+        None => push_position(alloc, draft, name),
     }
-    if name.len() > 24 || draft.positions.len() >= 200 {
-        return Err(LineStop::Fault(TextKind::OverLimit));
-    }
-    if cell_named(&draft.positions, name).is_some() {
-        return Err(LineStop::Fault(TextKind::DoubleName));
-    }
-    push_position(alloc, draft, name)
 }
 
 /// `position NAME`

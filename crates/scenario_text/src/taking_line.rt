@@ -104,7 +104,6 @@ pub fn take_end(draft: &mut Draft, fields: &[&[u8]]) -> Result<(), LineStop>
 }
 
 // The line that is due, of which the first fields behind the keyword are given beside their text
-#[tactic(auto, using(crate::proofs::FirstFields::front_taken))]
 fn take_due(
     alloc: Global,
     draft: &mut Draft,

@@ -10,5 +10,5 @@ returns-clause-first c =
     let each = subst P c.deref.ensures.value c.in_ok-first.ensures.parts in
     λ d lt. each d (omega (arith, lt, c.len.ensures.len))
 
-pub returns-clause-total : goal.returns-clause-total
-returns-clause-total c = c.in_ok-first.ensures.total ∙ ap (λ (es : List CellPart). sum_by (λ e. e.part) es) c.deref.ensures.value
+pub returns-clause-first_total : goal.returns-clause-first_total
+returns-clause-first_total c = c.in_ok-first.ensures.total ∙ ap (λ (es : List CellPart). sum_by (λ e. e.part) es) c.deref.ensures.value

@@ -3,8 +3,8 @@ use Rattle.std.proofs.lemmas.List.{get_or-map, length-map}
 use Rattle.search_model.specs.Names.{IsName}
 use Rattle.scenario_text.proofs.assembling.names_of.Goals as goal
 
-pub unreachable-requires : goal.unreachable-requires
-unreachable-requires c =
+pub name_of-requires : goal.name_of-requires
+name_of-requires c =
     let keys = c.args.keys.now.keys in
     let f : Vec ℕ Global → List ℕ = λ n. n.items in
     let i = c.loop-key.key-index in
@@ -14,4 +14,4 @@ unreachable-requires c =
     let there : i < length keys = rw same at lt in
     let at : get_or (map f keys) i [] ≡ f (get_or keys i key) = get_or-map f keys i key [] there in
     let here : f (get_or keys i key) ≡ c.deref.result.now = ap f (sym (c.key-item.is ∙ ap (λ ks. slice_index_or ks i key) same)) ∙ sym c.deref.ensures.value in
-    c.in_default.ensures.none (subst IsName (at ∙ here) (c.requires i [] (omega (arith, there, length-map keys f))))
+    subst IsName (at ∙ here) (c.requires i [] (omega (arith, there, length-map keys f)))

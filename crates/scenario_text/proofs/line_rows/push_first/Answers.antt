@@ -1,3 +1,5 @@
+use Rattle.exact_parts.proofs.AppendLemmas.{at_refusal}
+use Rattle.exact_parts.proofs.Beginnings.{begins_after}
 use Rattle.scenario_text.specs.RowFields.{entry_fields}
 use Rattle.scenario_text.specs.Printing.{first_entry}
 use Rattle.text_rows.proofs.RowSteps.{fields_in_range}
@@ -15,3 +17,6 @@ returns-clause-ok c =
     let p = c.args.sc.now in
     let all : c.loop-c.c ≡ p.cells = omega (arith, c.cells-c-end.ensures.value) in
     c.loop-c.invariant ∙ ap (λ (n : ℕ). c.args.out.now.items ++ spaced (flat_map (λ k. entry_fields p.names (first_entry p k)) (range_with_len 0 n))) all ∙ ap (λ (t : List ℕ). c.args.out.now.items ++ t) (first_fields p)
+
+pub returns-in_err-push_first_of-clause-err : goal.returns-in_err-push_first_of-clause-err
+returns-in_err-push_first_of-clause-err c = at_refusal _ _ (begins_after _ _ _ _ c.loop-c.invariant c.in_err-push_first_of.ensures.err)

@@ -1,10 +1,21 @@
 use Rattle.std.proofs.Common.{[]}
 use Rattle.std.specs.Prelude.{codes}
-use Rattle.text_rows.proofs.RowSteps.{begun_row_ended}
+use Rattle.exact_parts.proofs.AppendLemmas.{at_refusal}
+use Rattle.exact_parts.proofs.Beginnings.{begins_after}
 use Rattle.scenario_text.specs.Canonical.{first_entries}
 use Rattle.scenario_text.specs.RowFields.{entry_fields}
+use Rattle.scenario_text.proofs.LastCalls.{row_last, begins_last}
 use Rattle.scenario_text.proofs.line_rows.push_first_row.Goals as goal
+
+pub returns-in_err-begin_row-clause-err : goal.returns-in_err-begin_row-clause-err
+returns-in_err-begin_row-clause-err c = at_refusal _ _ c.in_err-begin_row.ensures.err
+
+pub returns-in_err-push_first-clause-err : goal.returns-in_err-push_first-clause-err
+returns-in_err-push_first-clause-err c = at_refusal _ _ (begins_after _ _ _ _ c.in_ok-begin_row.ensures.ok c.in_err-push_first.ensures.err)
 
 pub returns-clause-ok : goal.returns-clause-ok
 returns-clause-ok c =
-    begun_row_ended _ _ _ c.push.new.self.items (codes "first") [] (entry_fields c.args.sc.now.names (first_entries c.args.sc.now)) c.in_ok-begin_row.ensures.ok c.in_ok-push_first.ensures.ok c.in_ok-push.ensures.items
+    row_last c.end_row.result c.args.out.now.items c.begin_row.new.out.items c.push_first.new.out.items c.end_row.new.out.items (codes "first") [] (entry_fields c.args.sc.now.names (first_entries c.args.sc.now)) c.in_ok-begin_row.ensures.ok c.in_ok-push_first.ensures.ok c.end_row.ensures.ok
+
+pub returns-clause-err : goal.returns-clause-err
+returns-clause-err c = begins_last c.end_row.result _ _ _ _ c.in_ok-begin_row.ensures.ok (begins_last c.end_row.result _ _ _ _ c.in_ok-push_first.ensures.ok c.end_row.ensures.err)

@@ -12,16 +12,16 @@ use Rattle.scenario_text.proofs.reading.read_draft.Goals as goal
 
 pub loop-rest-init : goal.loop-rest-init
 loop-rest-init c = record {
-  so_far = ap (λ (s : State). read_from scenario_lines s 1 (lines_of c.args.text.now)) c.blank_draft-draft.ensures;
+  so_far = ap (λ (s : State). read_from scenario_lines s 1 (lines_of c.args.text.now)) c.requires;
   rest = after_none c.args.text.now;
   number = omega arith;
   short = omega arith;
-  sound = subst IsSound (sym c.blank_draft-draft.ensures) blank_sound;
+  sound = subst IsSound (sym c.requires) blank_sound;
 }
 
 pub returns-in-Err : goal.returns-in-Err
 returns-in-Err c =
-    rw c.at_number.ensures (at_stop (state_of c.loop-rest.draft) c.loop-rest.number c.take_line.new.draft c.cut_line.result.0.now (lines_of c.cut_line.result.1.now) (lines_of c.loop-rest.rest.now) c.in-Err.stop c.args.text.now c.cut_line.ensures.lines c.in-Err.ensures c.loop-rest.invariant.so_far)
+    rw c.at_number.ensures (at_stop (state_of c.loop-rest.draft) c.loop-rest.number c.take_line.new.draft c.cut_line.result.0.now (lines_of c.cut_line.result.1.now) (lines_of c.loop-rest.rest.now) c.in-Err.stop c.args.text.now c.take_line.new.draft c.cut_line.ensures.lines c.in-Err.ensures c.loop-rest.invariant.so_far)
 
 pub returns-then-is_ended : goal.returns-then-is_ended
 returns-then-is_ended c = (

@@ -1,23 +1,13 @@
-use Rattle.std.proofs.Common.{refl, ◌∙◌, ap, map, ◌≡◌, Bool, None, List, ℕ, ◌++◌, ◌∷◌, [], Vec, Global}
+use Rattle.std.proofs.Common.{◌≡◌, ◌∙◌, refl, ap, map, List, None, ◌++◌, ◌∷◌, [], Vec, Global}
 use Rattle.std.specs.Option.{option_map}
-use Rattle.std.specs.Str.{bytes_eq}
 use Rattle.std.proofs.lemmas.List.{map_push}
 use Rattle.period_rows.specs.declared.part.CellPart.{CellPart}
-use Rattle.scenario_text.proofs.Columns.{inserted_last}
 use Rattle.scenario_text.proofs.taking.push_position.Goals as goal
 
 pub returns : goal.returns
 returns c =
-    let bytes : Vec ℕ Global → List ℕ = λ n. n.items in
     let parts : Vec CellPart Global → List CellPart = λ n. n.items in
-    let same : Vec ℕ Global → Vec ℕ Global → Bool = λ x y. bytes_eq x.items y.items in
-    let name : c.extend_from_slice.new.self.items ≡ c.args.name.now =
-    c.in_ok-extend_from_slice.ensures.items ∙ ap (λ (x : List ℕ). x ++ c.args.name.now) c.new-bytes.ensures.items in
-    let names : map bytes c.insert.new.self.keys ≡ map bytes c.args.draft.now.positions.keys ++ c.args.name.now ∷ [] =
-    ap (map bytes) c.in_ok-insert.ensures.keys
-    ∙ inserted_last same bytes c.args.draft.now.positions.keys c.extend_from_slice.new.self (λ k. refl) (rw name c.requires)
-    ∙ ap (λ (x : List ℕ). map bytes c.args.draft.now.positions.keys ++ x ∷ []) name in
-    let moves : map bytes c.push.new.self.items ≡ map bytes c.args.draft.now.moves.items ++ [] ∷ [] =
-    ap (map bytes) c.in_ok-push.ensures.items ∙ map_push bytes c.args.draft.now.moves.items c.new.result ∙ ap (λ (x : List ℕ). map bytes c.args.draft.now.moves.items ++ x ∷ []) c.new.ensures.items in
-    let looks : map (option_map parts) c.push-2.new.self.items ≡ map (option_map parts) c.args.draft.now.looks.items ++ None ∷ [] = ap (map (option_map parts)) c.in_ok-push-2.ensures.items ∙ map_push (option_map parts) c.args.draft.now.looks.items None in
+    let names = c.in_ok-push_name.ensures in
+    let moves = c.in_ok-push_no_moves.ensures in
+    let looks : map (option_map parts) c.push.new.self.items ≡ map (option_map parts) c.args.draft.now.looks.items ++ None ∷ [] = ap (map (option_map parts)) c.in_ok-push.ensures.items ∙ map_push (option_map parts) c.args.draft.now.looks.items None in
     rw (names, moves, looks) refl
