@@ -9,7 +9,7 @@ use Rattle.sweep_table.specs.LookParts.{factor_of}
 use Rattle.search_model.specs.Problem.{Problem, IsProblem, first_of}
 use Rattle.list_laws.proofs.Sums.{sum_by-range-part, sum_by-range-same}
 use Rattle.belief_update.specs.Masses.{mass_of, masses_of}
-use Rattle.belief_update.specs.Belief.{BeliefState, IsBelief, is_looked}
+use Rattle.belief_update.specs.Belief.{BeliefState, IsBelief, IsReached, IsUnlooked, is_looked}
 use Rattle.belief_update.proofs.MassSteps.{mass_of-look, mass_of-drift, mass_of-start}
 use Rattle.belief_update.proofs.MassTotals.{total_after-is, total_after-fits, split_last}
 
@@ -37,6 +37,14 @@ last_look : (p : Problem) (looks : List (Option ℕ)) (b : BeliefState) → IsBe
 last_look p looks b belief =
     let parts = split_last (b.period - 1) looks (omega (arith, belief.periods, belief.first)) in
     (parts.0, parts.1, omega (arith, parts.2, belief.first), parts.3)
+
+-- a belief whose period isn't looked at is that after no look in it
+pub unlooked_is : (p : Problem) (b : BeliefState) → IsReached p b → b.looked ≡ false → IsUnlooked p b
+unlooked_is p b reached unlooked =
+    let (looks, belief) = reached in
+    let (front, look, _, parts) = last_look p looks b belief in
+    let none : look ≡ None = none_is look (sym (is_looked-last front look) ∙ ap is_looked (sym parts) ∙ sym belief.looked ∙ unlooked) in
+    (front, subst (λ (made : List (Option ℕ)). IsBelief p made b) (parts ∙ ap (λ (o : Option ℕ). front ++ o ∷ []) none) belief)
 
 -- the masses after a step, by those before it
 pub drift_mass_at : (p : Problem) (looks : List (Option ℕ)) (t d : ℕ) → length looks ≡ t → 1 ≤ t →

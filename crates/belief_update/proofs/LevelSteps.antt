@@ -1,7 +1,7 @@
 -- The levels of a prefix, one look more.
-use Rattle.std.proofs.Common.{ℕ, ◌+◌, ◌-◌, ◌<◌, ◌≤◌, ◌≡◌, false, List, [], ◌∷◌, ◌++◌, length, take, set, slice_index, slice_index_or, arith, inl, inr, ap, ◌∙◌, subst, get_or-set_same, get_or-set_other, length-set}
+use Rattle.std.proofs.Common.{ℕ, ◌+◌, ◌-◌, ◌<◌, ◌≤◌, ◌≡◌, false, List, [], ◌∷◌, ◌++◌, length, take, set, slice_index, slice_index_or, arith, inl, inr, ap, ◌∙◌, subst, get_or-set_same, get_or-set_other, length-set, length-append, All}
 use Rattle.std.proofs.lemmas.Bool.{cases_lt}
-use Rattle.std.proofs.lemmas.List.{set-append_right, get_or_append_left, get_or_default}
+use Rattle.std.proofs.lemmas.List.{set-append_right, get_or_append_left, get_or-append-add, get_or_default}
 use Rattle.std.proofs.lemmas.List.Elements.{All-set}
 use Rattle.search_model.specs.Problem.{Problem}
 use Rattle.belief_update.specs.Onward.{OnwardState, IsMadeFor, IsOnward}
@@ -43,3 +43,9 @@ levels_shared p q r n m levels le same are = record {
 pub level_in_front : (p : Problem) (q : List ℕ) (i : ℕ) (levels front back : List OnwardState) (d : OnwardState) → levels ≡ front ++ back → i < length front → IsOnward p q (level_at levels i) → IsOnward p q (slice_index_or front i d)
 level_in_front p q i levels front back d parts inside on =
     subst (IsOnward p q) (ap (λ (xs : List OnwardState). level_at xs i) parts ∙ get_or_append_left front back none i inside ∙ get_or_default front i none d inside) on
+
+-- and the first one behind it is made for the scenario
+pub level_behind : (p : Problem) (levels front back : List OnwardState) (d : OnwardState) → levels ≡ front ++ back → 1 ≤ length back → All (IsMadeFor p) levels → IsMadeFor p (slice_index_or back 0 d)
+level_behind p levels front back d parts some made =
+    subst (IsMadeFor p) (ap (λ (xs : List OnwardState). slice_index_or xs (length front + 0) d) parts ∙ get_or-append-add front back 0 d)
+    (made (length front + 0) d (omega (arith, ap length parts, length-append front back, some)))

@@ -1,5 +1,5 @@
 -- The value of a prefix, by a belief after it.
-use Rattle.std.proofs.Common.{ℕ, ◌*◌, ◌-◌, ◌^◌, ◌≤◌, ◌≡◌, List, Some, map, length, max, sym, subst, ◌∙◌, arith, sum}
+use Rattle.std.proofs.Common.{ℕ, ◌+◌, ◌*◌, ◌-◌, ◌^◌, ◌≤◌, ◌≡◌, List, Some, map, length, max, sym, subst, ◌∙◌, arith, sum}
 use Rattle.std.proofs.Math.Nat.{le-max_right}
 use Rattle.std.proofs.lemmas.List.{length-map}
 use Rattle.search_model.specs.Problem.{Problem, IsProblem}
@@ -26,6 +26,10 @@ past_in p q t b late belief =
 -- in the period of its last look
 pub past_after : (p : Problem) (q : List ℕ) (b : BeliefState) → IsAfter p q b → IsPast p q b
 past_after p q b after = past_in p q (max 1 (length q)) b (le-max_right 1 (length q)) after
+
+-- its period is at most that of the next look
+pub near_after : (p : Problem) (q : List ℕ) (b : BeliefState) → IsAfter p q b → b.period ≤ length q + 1
+near_after p q b after = omega (arith, length-looks_to (max 1 (length q)) q (le-max_right 1 (length q)), after.periods)
 
 -- a belief with a look in each period
 pub past_whole : (p : Problem) (q : List ℕ) (b : BeliefState) → IsBelief p (map Some q) b → IsPast p q b

@@ -1,5 +1,5 @@
 -- Beliefs along a prefix, one look after the other.
-use Rattle.std.proofs.Common.{ℕ, suc, ◌+◌, ◌-◌, ◌<◌, ◌≤◌, ◌≡◌, ◌==◌, true, false, List, [], ◌∷◌, ◌++◌, Option, Some, None, map, max, min, length, take, drop, slice_index, inl, inr, refl, sym, ap, subst, ◌∙◌, arith, length-append, append_assoc, length-drop}
+use Rattle.std.proofs.Common.{ℕ, suc, ◌+◌, ◌-◌, ◌<◌, ◌≤◌, ◌≡◌, ◌==◌, true, false, List, [], ◌∷◌, ◌++◌, Option, Some, None, map, max, min, length, take, drop, slice_index, inl, inr, IsTrue, true≢false, All, refl, sym, ap, subst, ◌∙◌, arith, length-append, append_assoc, length-drop}
 use Rattle.std.proofs.lemmas.Bool.{cases_eq, cases_lt, eq-eqb, ne_eqb}
 use Rattle.std.proofs.lemmas.List.{take_more, take_all, take-take, map-append, length-take-le}
 use Rattle.std.proofs.lemmas.List.Sums.{common_prefix_len-le, common_prefix_len-drop_yes, common_prefix_len-drop_no}
@@ -7,7 +7,7 @@ use Rattle.std.proofs.Math.Nat.{max-eq_right}
 use Rattle.search_model.specs.Problem.{Problem}
 use Rattle.belief_update.specs.Masses.{looks_to}
 use Rattle.belief_update.specs.Belief.{BeliefState, IsBelief, is_looked, awaiting}
-use Rattle.belief_update.specs.Trails.{IsPast, IsAfter, IsAhead, AreRows, common_of}
+use Rattle.belief_update.specs.Trails.{IsPast, IsAfter, IsAhead, AreRows, HaveAllCells, row_at, common_of}
 use Rattle.belief_update.proofs.Looks.{looks_to-look, looks_to-drift}
 use Rattle.belief_update.proofs.BeliefSteps.{is_looked-last}
 
@@ -101,4 +101,44 @@ rows_shared p q r n m rows ahead le same are = record {
   ahead_cells = are.ahead_cells;
   after = λ k few. rw (← shorter_front q r k n few same) (are.after k (omega (arith, few, le)));
   before = λ k few more. rw (← shorter_front q r k n few same) (are.before k (omega (arith, few, le)) more);
+}
+
+-- a belief whose own period is looked at isn't ahead of the next look yet
+pub more_behind : (p : Problem) (q : List ℕ) (b : BeliefState) → IsPast p q b → b.period ≤ length q + 1 → length q < p.horizon → IsTrue b.looked → b.period < p.horizon
+more_behind p q b past near short looked = elim (cases_lt (length q) b.period) [
+  | inl later ↦
+      let period : b.period ≡ length q + 1 = omega (arith, later, near) in
+      let belief : IsBelief p (looks_to (length q) q ++ None ∷ []) b = subst (λ (looks : List (Option ℕ)). IsBelief p looks b) (looks_ahead q) (subst (λ (t : ℕ). IsBelief p (looks_to t q) b) period past.belief) in
+      absurd (true≢false (sym looked ∙ belief.looked ∙ is_looked-last (looks_to (length q) q) None))
+  | inr here ↦ omega (arith, here, short)
+]
+
+-- beliefs before a look are those along the empty prefix
+pub rows_first : (p : Problem) (rows ahead : List BeliefState) → length rows ≡ p.horizon + 1 → length ahead ≡ p.horizon → All (IsBelief p (None ∷ [])) rows → All (IsBelief p (None ∷ [])) ahead → AreRows p [] 0 rows ahead
+rows_first p rows ahead size ahead_size each ahead_each = record {
+  size = size;
+  ahead_size = ahead_size;
+  cells = λ k d here. (each k d here).cells;
+  ahead_cells = λ k d here. (ahead_each k d here).cells;
+  after = λ k few. let zero : k ≡ 0 = omega (arith, few) in rw zero (each 0 (row_at [] 0) (omega (arith, size)));
+  before = λ k few below. let zero : k ≡ 0 = omega (arith, few) in rw zero (ahead_each 0 (row_at [] 0) (omega (arith, few, below, ahead_size)));
+}
+
+-- the beliefs up to the next look, by those up to the one before it
+pub rows_more : (p : Problem) (q : List ℕ) (i : ℕ) (rows ahead new new_ahead : List BeliefState) → AreRows p q i rows ahead → length new ≡ length rows → length new_ahead ≡ length ahead →
+    HaveAllCells p new → HaveAllCells p new_ahead → IsAfter p (take (i + 1) q) (row_at new (i + 1)) → (i + 1 < p.horizon → IsAhead p (take (i + 1) q) (row_at new_ahead (i + 1))) →
+    ((k : ℕ) → k ≤ i → row_at new k ≡ row_at rows k) → ((k : ℕ) → k < i + 1 → row_at new_ahead k ≡ row_at ahead k) → AreRows p q (i + 1) new new_ahead
+rows_more p q i rows ahead new new_ahead are size ahead_size cells ahead_cells after before same same_ahead = record {
+  size = size ∙ are.size;
+  ahead_size = ahead_size ∙ are.ahead_size;
+  cells = cells;
+  ahead_cells = ahead_cells;
+  after = λ k few. elim (cases_lt i k) [
+    | inl past ↦ let last : k ≡ i + 1 = omega (arith, past, few) in rw last after
+    | inr early ↦ rw (same k early) (are.after k early)
+  ];
+  before = λ k few below. elim (cases_lt i k) [
+    | inl past ↦ let last : k ≡ i + 1 = omega (arith, past, few) in rw last (before (omega (arith, last, below)))
+    | inr early ↦ rw (same_ahead k (omega (arith, early))) (are.before k early below)
+  ];
 }

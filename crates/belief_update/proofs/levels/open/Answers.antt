@@ -1,9 +1,9 @@
-use Rattle.std.proofs.Common.{ℕ, ◌+◌, ◌<◌, ◌≡◌, List, [], ◌∷◌, ◌++◌, length, take, set, slice_index, slice_index_or, arith}
+use Rattle.std.proofs.Common.{ℕ, ◌+◌, ◌<◌, ◌≡◌, List, [], ◌∷◌, ◌++◌, length, take, set, slice_index, slice_index_or, refl, ap, arith, length-append}
 use Rattle.std.proofs.lemmas.List.{length-take-le}
 use Rattle.search_model.specs.Problem.{Problem}
-use Rattle.belief_update.specs.Onward.{OnwardState, IsMadeFor, IsOnward}
+use Rattle.belief_update.specs.Onward.{OnwardState, IsMadeFor, IsOnward, IsOnwardBehind}
 use Rattle.belief_update.specs.Levels.{AreLevels}
-use Rattle.belief_update.proofs.LevelSteps.{level_more, level_in_front}
+use Rattle.belief_update.proofs.LevelSteps.{level_more, level_in_front, level_behind}
 use Rattle.belief_update.proofs.levels.open.Goals as goal
 
 -- a level that is made of the one before it, behind those that there are
@@ -15,6 +15,62 @@ more p looks i levels front back d new parts long inside short are made onward =
     let before = are.after i (omega arith) (omega (arith, inside, short)) in
     let here = level_in_front p (take i looks) i levels front back d parts there before in
     level_more p looks i levels front back new parts long inside short are made (onward (take i looks) (length-take-le i looks (omega (arith, inside))) here)
+
+-- the level before a look, in front of the cut, is that after so many looks
+before : (p : Problem) (looks : List ℕ) (i : ℕ) (levels front back : List OnwardState) (d : OnwardState) → levels ≡ front ++ back → length front ≡ i + 1 → i < length looks → length looks < p.horizon →
+    AreLevels p looks i levels → IsOnwardBehind p i (slice_index_or front i d)
+before p looks i levels front back d parts long inside short are =
+    let on = are.after i (omega arith) (omega (arith, inside, short)) in
+    (take i looks, length-take-le i looks (omega (arith, inside)), level_in_front p (take i looks) i levels front back d parts (omega (arith, long)) on)
+
+-- the level after the look, behind the cut, has room
+after : (p : Problem) (looks : List ℕ) (i : ℕ) (levels front back : List OnwardState) (d : OnwardState) → levels ≡ front ++ back → length front ≡ i + 1 → i < length looks → length looks < p.horizon →
+    AreLevels p looks i levels → IsMadeFor p (slice_index_or back 0 d)
+after p looks i levels front back d parts long inside short are =
+    level_behind p levels front back d parts (omega (arith, ap length parts, length-append front back, long, inside, short, are.size)) are.made
+
+pub reach_own-requires-clause-position : goal.reach_own-requires-clause-position
+reach_own-requires-clause-position c = c.requires.positions c.args.i 0 c.requires.inside
+
+pub reach_own-requires-clause-last : goal.reach_own-requires-clause-last
+reach_own-requires-clause-last c =
+    omega (arith, ap length c.split_at_mut-before.ensures.value, length-append c.split_at_mut-before.result.0.now c.split_at_mut-before.result.1.now, c.split_at_mut-before.ensures.front_len, c.requires.levels.size)
+
+pub look_from_own-requires-clause-made : goal.look_from_own-requires-clause-made
+look_from_own-requires-clause-made c =
+    after c.args.sc.now c.args.looks.now c.args.i c.args.levels.now c.split_at_mut-before.result.0.now c.split_at_mut-before.result.1.now _
+    c.split_at_mut-before.ensures.value c.split_at_mut-before.ensures.front_len c.requires.inside c.requires.short c.requires.levels
+
+pub look_from_own-requires-clause-own : goal.look_from_own-requires-clause-own
+look_from_own-requires-clause-own c = (c.if-reach_own.ensures.there refl).own
+
+pub look_from_own-requires-clause-alike : goal.look_from_own-requires-clause-alike
+look_from_own-requires-clause-alike c = (c.if-reach_own.ensures.there refl).alike
+
+pub look_from_own-requires-clause-flow : goal.look_from_own-requires-clause-flow
+look_from_own-requires-clause-flow c = rw c.from.ensures (c.if-reach_own.ensures.flows.each _ _ (c.if-reach_own.ensures.there refl).inside)
+
+pub look_from_own-requires-clause-steps : goal.look_from_own-requires-clause-steps
+look_from_own-requires-clause-steps c =
+    let made = (c.if-reach_own.ensures.there refl).made c.index-flows-from.result in
+    let size = ap length c.split_at_mut-before.ensures.value in
+    rw c.from.ensures
+    (omega (arith, made, size, length-append c.split_at_mut-before.result.0.now c.split_at_mut-before.result.1.now, c.split_at_mut-before.ensures.front_len, c.requires.levels.size))
+
+pub look_from_own-requires-clause-before : goal.look_from_own-requires-clause-before
+look_from_own-requires-clause-before c =
+    before c.args.sc.now c.args.looks.now c.args.i c.args.levels.now c.split_at_mut-before.result.0.now c.split_at_mut-before.result.1.now _
+    c.split_at_mut-before.ensures.value c.split_at_mut-before.ensures.front_len c.requires.inside c.requires.short c.requires.levels
+
+pub look_from-requires-clause-made : goal.look_from-requires-clause-made
+look_from-requires-clause-made c =
+    after c.args.sc.now c.args.looks.now c.args.i c.args.levels.now c.split_at_mut-before.result.0.now c.split_at_mut-before.result.1.now _
+    c.split_at_mut-before.ensures.value c.split_at_mut-before.ensures.front_len c.requires.inside c.requires.short c.requires.levels
+
+pub look_from-requires-clause-before : goal.look_from-requires-clause-before
+look_from-requires-clause-before c =
+    before c.args.sc.now c.args.looks.now c.args.i c.args.levels.now c.split_at_mut-before.result.0.now c.split_at_mut-before.result.1.now _
+    c.split_at_mut-before.ensures.value c.split_at_mut-before.ensures.front_len c.requires.inside c.requires.short c.requires.levels
 
 pub returns-then-reach_own-clause-levels : goal.returns-then-reach_own-clause-levels
 returns-then-reach_own-clause-levels c =

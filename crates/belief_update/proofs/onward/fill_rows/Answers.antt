@@ -1,10 +1,17 @@
-use Rattle.std.proofs.Common.{◌≡◌, ◌<◌, ◌≤◌, ◌+◌, length, arith}
+use Rattle.std.proofs.Common.{◌≡◌, ◌<◌, ◌≤◌, ◌+◌, length, arith, length-set}
 use Rattle.std.proofs.lemmas.List.Elements.{All-set}
 use Rattle.belief_update.specs.Masses.{looks_to}
 use Rattle.belief_update.specs.Belief.{BeliefState, IsBelief}
-use Rattle.belief_update.proofs.Looks.{looks_to-drift}
+use Rattle.belief_update.proofs.Looks.{length-looks_to, looks_to-drift}
 use Rattle.belief_update.proofs.OnwardRows.{row_more}
 use Rattle.belief_update.proofs.onward.fill_rows.Goals as goal
+
+pub drift-requires-clause-period : goal.drift-requires-clause-period
+drift-requires-clause-period c =
+    let q = c.args.prefix.now in
+    let t = c.loop-t.t in
+    let after : length q ≤ t = omega (arith, c.len.ensures.value, c.loop-t.auto.t) in
+    omega (arith, length-looks_to t q after, c.loop-t.invariant.belief.periods, c.loop-t-test.true, c.loop-t.auto.rows, length-set c.args.rows.now c.len.result c.copy_from.new.self, c.requires.size)
 
 -- one period more
 pub loop-t-preserved : goal.loop-t-preserved

@@ -12,6 +12,24 @@ loop-entry-init c k lt =
     let none : g - g ≡ 0 = omega arith in
     rw (factor_none g k, none) (omega arith)
 
+pub look_from-look-requires-clause-last : goal.look_from-look-requires-clause-last
+look_from-look-requires-clause-last c = rw c.period.ensures c.requires.belief.1.last
+
+pub at-requires : goal.at-requires
+at-requires c =
+    let right : IsLookRow c.args.sc.now.sweep.denominator c.args.sc.now.cells c.parts-entry-items.result.now = rw c.parts-entry-items.ensures c.look_from-look.ensures.row in
+    omega (arith, right.within c.loop-entry.entry-index (misses 0 0) c.loop-entry-test.true, c.requires.belief.1.cells)
+
+pub bounds-taken-from : goal.bounds-taken-from
+bounds-taken-from c =
+    let right : IsLookRow c.args.sc.now.sweep.denominator c.args.sc.now.cells c.parts-entry-items.result.now = rw c.parts-entry-items.ensures c.look_from-look.ensures.row in
+    omega (arith, right.within c.loop-entry.entry-index (misses 0 0) c.loop-entry-test.true, c.from.ensures, c.loop-entry.auto.taken, c.requires.width)
+
+pub bounds-taken-from-in-loop-entry : goal.bounds-taken-from-in-loop-entry
+bounds-taken-from-in-loop-entry c =
+    let right : IsLookRow c.args.sc.now.sweep.denominator c.args.sc.now.cells c.parts-entry-items.result.now = rw c.parts-entry-items.ensures c.look_from-look.ensures.row in
+    omega (arith, right.within c.loop-entry.entry-index (misses 0 0) c.loop-entry-test.true, c.from.ensures, c.loop-entry.auto.taken, c.requires.width)
+
 pub overflow_mul-taken : goal.overflow_mul-taken
 overflow_mul-taken c =
     let p = c.args.sc.now in

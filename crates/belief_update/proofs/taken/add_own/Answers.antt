@@ -1,9 +1,25 @@
-use Rattle.std.proofs.Common.{◌≡◌, ◌<◌, ◌*◌, ◌+◌, ◌-◌, ℕ, [], ◌∷◌, slice_index, sym, ◌∙◌, arith, inl, inr, length, refl, subst, get_or-set_other}
+use Rattle.std.proofs.Common.{◌≡◌, ◌<◌, ◌≤◌, ◌*◌, ◌+◌, ◌-◌, ℕ, [], ◌∷◌, slice_index, sym, ◌∙◌, arith, inl, inr, length, refl, subst, get_or-set_other}
+use Rattle.std.proofs.Math.Nat.{le_refl}
+use Rattle.std.proofs.lemmas.Nat.{mul-le}
 use Rattle.std.proofs.lemmas.Grind.{get_or-set_at}
 use Rattle.std.proofs.lemmas.Bool.{cases_eq}
 use Rattle.sweep_table.specs.LookParts.{factor_in, misses}
 use Rattle.belief_update.proofs.OwnLooks.{own_factor_here, own_factor_there}
 use Rattle.belief_update.proofs.taken.add_own.Goals as goal
+
+pub overflow_mul-taken : goal.overflow_mul-taken
+overflow_mul-taken c =
+    let g = c.args.sc.now.sweep.denominator in
+    let scaled = slice_index c.args.belief.now.masses c.args.a * c.args.scale in
+    let more : scaled * 1 ≤ scaled * g = mul-le scaled 1 scaled g (le_refl scaled) c.sweep.ensures.sound.sweep.denominator.0 in
+    rw c.at.ensures (omega (arith, c.requires.found, more))
+
+pub overflow_mul-taken-2 : goal.overflow_mul-taken-2
+overflow_mul-taken-2 c = rw (c.at.ensures, c.from-found.ensures, c.denominator.ensures.value, c.sweep.ensures.value) (omega (arith, c.requires.fits))
+
+pub overflow_add-taken : goal.overflow_add-taken
+overflow_add-taken c =
+    rw (c.from.ensures, c.at.ensures, c.from-found.ensures, c.denominator.ensures.value, c.sweep.ensures.value) (omega (arith, c.requires.fits))
 
 pub returns : goal.returns
 returns c =

@@ -12,6 +12,19 @@ loop-entry-init c k lt =
     let none : g - g ≡ 0 = omega arith in
     rw (factor_none g k, none, c.clear.ensures k (omega (arith, lt, c.requires.width))) (omega arith)
 
+pub look_from-look-requires-clause-last : goal.look_from-look-requires-clause-last
+look_from-look-requires-clause-last c = rw c.period.ensures c.requires.ahead.1.last
+
+pub at-requires : goal.at-requires
+at-requires c =
+    let right : IsLookRow c.args.sc.now.sweep.denominator c.args.sc.now.cells c.parts-entry-items.result.now = rw c.parts-entry-items.ensures c.look_from-look.ensures.row in
+    omega (arith, right.within c.loop-entry.entry-index (misses 0 0) c.loop-entry-test.true, c.requires.ahead.1.cells)
+
+pub bounds-found-from : goal.bounds-found-from
+bounds-found-from c =
+    let right : IsLookRow c.args.sc.now.sweep.denominator c.args.sc.now.cells c.parts-entry-items.result.now = rw c.parts-entry-items.ensures c.look_from-look.ensures.row in
+    omega (arith, right.within c.loop-entry.entry-index (misses 0 0) c.loop-entry-test.true, c.from-in-loop-entry.ensures, c.loop-entry.auto.found, c.clear.auto.masses, c.requires.width)
+
 pub overflow_mul-found : goal.overflow_mul-found
 overflow_mul-found c =
     let p = c.args.sc.now in

@@ -1,7 +1,15 @@
-use Rattle.std.proofs.Common.{false, [], ◌+◌, ◌<◌, length, refl, arith}
+use Rattle.std.proofs.Common.{false, true≢false, None, [], ◌+◌, ◌<◌, length, take, refl, sym, ◌∙◌, arith}
 use Rattle.std.proofs.lemmas.Grind.{get_or-set_at}
+use Rattle.belief_update.specs.Masses.{looks_to}
+use Rattle.belief_update.proofs.BeliefSteps.{is_looked-last}
 use Rattle.belief_update.proofs.TrailSteps.{unlooked_ahead, after_look}
 use Rattle.belief_update.proofs.trail.make_row.Goals as goal
+
+pub step_from-requires-clause-period : goal.step_from-requires-clause-period
+step_from-requires-clause-period g c looked =
+    let front = take c.args.i c.args.looks.now in
+    let unlooked = unlooked_ahead c.args.sc.now c.args.looks.now c.args.i c.requires.inside c.args.ahead.now c.requires.ahead in
+    absurd (true≢false (sym looked ∙ unlooked.looked ∙ is_looked-last (looks_to (length front) front) None))
 
 pub returns-clause-row : goal.returns-clause-row
 returns-clause-row g c =

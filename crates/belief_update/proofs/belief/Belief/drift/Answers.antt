@@ -1,10 +1,20 @@
-use Rattle.std.proofs.Common.{false, ℕ, ◌+◌, ◌*◌, ◌<◌, ◌≡◌, List, [], ◌∷◌, ◌++◌, Option, None, length, slice_index, sym, ap, ◌∙◌, sum_by}
+use Rattle.std.proofs.Common.{false, ℕ, ◌+◌, ◌*◌, ◌<◌, ◌≡◌, List, [], ◌∷◌, ◌++◌, Option, None, length, slice_index, sym, ap, ◌∙◌, sum_by, arith}
 use Rattle.std.specs.List.{range_with_len}
 use Rattle.std.proofs.lemmas.List.{with_items_is}
 use Rattle.drift_chain.specs.DriftRows.{part_of}
-use Rattle.belief_update.specs.Belief.{IsBelief}
+use Rattle.belief_update.specs.Belief.{BeliefState, IsBelief}
 use Rattle.belief_update.proofs.BeliefSteps.{drift_fits, drift_is, belief_fits}
 use Rattle.belief_update.proofs.belief.Belief.drift.Goals as goal
+
+pub move_on-requires-clause-cells : goal.move_on-requires-clause-cells
+move_on-requires-clause-cells c = ap length c.deref_mut.ensures.value ∙ c.self.invariant.spare ∙ sym (ap length c.deref.ensures.value)
+
+pub move_on-requires-clause-rows : goal.move_on-requires-clause-rows
+move_on-requires-clause-rows c =
+    rw c.drift.ensures.value (ap length c.deref.ensures.value ∙ ap (λ (b : BeliefState). length b.masses) c.self.view_is ∙ c.requires.belief.1.cells ∙ sym c.drift.ensures.sound.drift_cells)
+
+pub move_on-requires-clause-last : goal.move_on-requires-clause-last
+move_on-requires-clause-last c = omega (arith, ap (λ (b : BeliefState). b.period) c.self.view_is, c.requires.period, c.drift.ensures.sound.horizon.1)
 
 pub move_on-requires-clause-fits : goal.move_on-requires-clause-fits
 move_on-requires-clause-fits c =
@@ -39,3 +49,6 @@ pub returns-clause-belief : goal.returns-clause-belief
 returns-clause-belief c looks given =
     let stored = with_items_is c.self.inside.next c.move_on.new.next (c.move_on.auto.next ∙ c.deref_mut.ensures.len) in
     rw (c.swap.ensures.x_after, stored) (made c looks given)
+
+pub overflow_add-self : goal.overflow_add-self
+overflow_add-self c = omega (arith, ap (λ (b : BeliefState). b.period) c.self.view_is, c.requires.period, c.drift.ensures.sound.horizon.1)

@@ -1,6 +1,13 @@
 use Rattle.std.proofs.Common.{◌≡◌, ap, length, ◌∙◌}
 use Rattle.std.proofs.lemmas.List.{with_items_is}
+use Rattle.belief_update.specs.Onward.{OnwardState}
 use Rattle.belief_update.proofs.onward.Onward.look_from.Goals as goal
+
+pub leave_rows-requires-clause-size : goal.leave_rows-requires-clause-size
+leave_rows-requires-clause-size c = ap length c.deref_mut.ensures.value ∙ ap (λ (o : OnwardState). length o.rows) c.self.view_is ∙ c.requires.made.size
+
+pub leave_rows-requires-clause-cells : goal.leave_rows-requires-clause-cells
+leave_rows-requires-clause-cells c = rw (c.deref_mut.ensures.value ∙ ap (λ (o : OnwardState). o.rows) c.self.view_is) c.requires.made.cells
 
 pub returns-clause-made : goal.returns-clause-made
 returns-clause-made c =

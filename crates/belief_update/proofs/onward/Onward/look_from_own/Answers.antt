@@ -1,5 +1,6 @@
 use Rattle.std.proofs.Common.{◌≡◌, ◌+◌, refl, ap, length, ◌∙◌, arith}
 use Rattle.std.proofs.lemmas.List.{with_items_is}
+use Rattle.belief_update.specs.Onward.{OnwardState}
 use Rattle.search_model.proofs.LookRows.{own_cell}
 use Rattle.belief_update.proofs.UnitSteps.{made_up}
 use Rattle.belief_update.proofs.onward.Onward.look_from_own.Goals as goal
@@ -12,6 +13,12 @@ bounds-masses-from c =
     let here = own_cell p c.recall_sound.ensures (c.args.k + 1) c.args.a _ refl part rows in
     let taken = c.value_with-self-inside.ensures.taken q size on in
     omega (arith, here, taken.cells, ap length c.masses.ensures, c.from.ensures)
+
+pub leave_units-requires-clause-size : goal.leave_units-requires-clause-size
+leave_units-requires-clause-size c = ap length c.deref_mut.ensures.value ∙ ap (λ (o : OnwardState). length o.rows) c.self.view_is ∙ c.requires.made.size
+
+pub leave_units-requires-clause-cells : goal.leave_units-requires-clause-cells
+leave_units-requires-clause-cells c = rw (c.deref_mut.ensures.value ∙ ap (λ (o : OnwardState). o.rows) c.self.view_is) c.requires.made.cells
 
 pub leave_units-requires-clause-taken : goal.leave_units-requires-clause-taken
 leave_units-requires-clause-taken c q size on =
@@ -34,3 +41,8 @@ returns-clause-onward c q size on =
     let many : length new ≡ p.horizon = c.leave_units.auto.rows ∙ ap length c.deref_mut.ensures.value ∙ ap (λ o. length o.rows) c.self.view_is ∙ c.requires.made.size in
     let kept = with_items_is c.self.inside.rows new (c.leave_units.auto.rows ∙ c.deref_mut.ensures.len) in
     rw kept (record { size = many; each = c.leave_units.ensures.rows q size on; value = c.value_with-self-inside.ensures.value q size on })
+
+pub returns-clause-room : goal.returns-clause-room
+returns-clause-room c =
+    let (q, size, on) = c.requires.before in
+    (c.value_with-self-inside.ensures.taken q size on).cells
