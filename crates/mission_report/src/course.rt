@@ -4,6 +4,7 @@ ghost use Rattle.std.specs.Prelude.{◌≡◌, ◌<◌, ◌++◌, ◌∷◌, [],
 ghost use Rattle.search_model.specs.Legal.{IsPath};
 ghost use Rattle.search_model.specs.Tracks.{value_of};
 ghost use Rattle.belief_update.specs.Belief.{IsBelief};
+ghost use Rattle.mission_report.specs.Account.{values_along};
 ghost use Rattle.mission_report.specs.Course.{IsCourse};
 
 use belief_update::{Belief, later_parts};
@@ -49,19 +50,36 @@ fn note_look(
     Ok(())
 }
 
+// Looks along a path, one position a period, while the target drifts from each period to the next, and notes the values.
+fn note_looks(
+    sc: &Scenario,
+    path: &Path,
+    belief: &mut Belief,
+    values: &mut Vec<u128>,
+) -> Result<(), NoMemory>
+    requires path { IsPath sc.now path.now }
+    requires start { IsBelief sc.now (None ∷ []) belief.old }
+    requires empty { values.old.items ≡ [] }
+    ensures values { OnOk result (values.new.items ≡ values_along sc.now path.now) }
+    ensures belief { OnOk result (IsBelief sc.now (map Some path.now) belief.new) }
+{
+    sc.recall_sound();
+    let looks = path.cells();
+    note_look(sc, belief, looks[0], values)?;
+    for t in 1..looks.len() {
+        belief.drift(sc);
+        note_look(sc, belief, looks[t], values)?;
+    }
+    Ok(())
+}
+
 /// Looks along a path, one position a period, while the target drifts from each period to the next.
 pub fn follow(alloc: Global, sc: &Scenario, path: &Path) -> Result<Course, NoMemory>
     requires { IsPath sc.now path.now }
     ensures { IfOk result (IsCourse sc.now path.now) }
 {
-    sc.recall_sound();
-    let looks = path.cells();
     let mut belief = Belief::start(alloc, sc)?;
     let mut values = Vec::new(alloc);
-    note_look(sc, &mut belief, looks[0], &mut values)?;
-    for t in 1..looks.len() {
-        belief.drift(sc);
-        note_look(sc, &mut belief, looks[t], &mut values)?;
-    }
+    note_looks(sc, path, &mut belief, &mut values)?;
     Ok(Course { values, belief })
 }

@@ -50,10 +50,13 @@ impl Scratch {
     pub fn tables(alloc: Global, sc: &Scenario) -> Result<Scratch, NoMemory>
         ensures { IfOk result (IsMadeFor sc.now) }
     {
+        let edge = EdgeTables::tables(alloc, sc)?;
+        let tangent = TangentTables::tables(alloc, sc)?;
+        let mean = Mean::tables(alloc, sc)?;
         Ok(Scratch {
-            mean: Mean::tables(alloc, sc)?,
-            tangent: TangentTables::tables(alloc, sc)?,
-            edge: EdgeTables::tables(alloc, sc)?,
+            mean,
+            tangent,
+            edge,
         })
     }
 

@@ -9,7 +9,6 @@ ghost use Rattle.search_workers.specs.Seen.{desk_view};
 
 use crate::incumbent::Incumbent;
 use crate::stack::Stack;
-use belief_update::Belief;
 use bound_tree::TreeNode;
 use exact_parts::NoMemory;
 use incumbent_board::BoardSeat;
@@ -49,16 +48,13 @@ impl Desk {
         ensures standing { IfOk result (λ d. d.incumbent.standing ≡ first.now) }
         ensures empty { IfOk result (λ d. (d.stack ≡ []) × (d.records.items ≡ [])) }
     {
-        let belief = Belief::start(alloc, sc)?;
+        let stack = Stack::new(alloc)?;
+        let incumbent = Incumbent::start(alloc, sc, first, seat)?;
         Ok(Desk {
             ticket,
-            incumbent: Incumbent {
-                standing: *first,
-                seat,
-                belief,
-            },
+            incumbent,
             scratch: Scratch::tables(alloc, sc)?,
-            stack: Stack::new(alloc)?,
+            stack,
             records: Vec::new(alloc),
         })
     }

@@ -1,6 +1,7 @@
 //! What all desks have together.
 
-ghost use Rattle.std.specs.Prelude.{◌≡◌, ◌<◌, ◌≤◌, length, map, OnOk, ◌++◌, ◌∷◌, [], vec_len, vec_capacity, IsFalse};
+ghost use Rattle.std.specs.Prelude.{◌≡◌, ◌<◌, ◌≤◌, length, map, OnOk, ◌++◌, ◌∷◌, [], vec_len, vec_capacity, IsFalse, if◌then◌else◌};
+ghost use Rattle.search_model.specs.Order.{better as is_better};
 ghost use Rattle.tree_gather.specs.Hauls.{IsBestOf};
 ghost use Rattle.search_workers.specs.Seen.{desk_view};
 ghost use Rattle.search_workers.specs.Settled.{closed_at, waiting_at, lasts_at};
@@ -8,6 +9,7 @@ ghost use Rattle.search_workers.specs.Harvests.{Adds};
 
 use crate::desk::Desk;
 use crate::incumbent::Incumbent;
+use crate::room::push_into_room;
 use bound_tree::TreeNode;
 use exact_parts::NoMemory;
 use incumbent_board::BoardSeat;
@@ -55,12 +57,32 @@ fn add_seats(
     ensures room { (vec_capacity tickets.old ≤ vec_capacity tickets.new) ×
         (vec_capacity seats.old ≤ vec_capacity seats.new) }
 {
-    let Ok(()) = tickets.push(ticket) else {
-        unreachable!()
-    };
-    let Ok(()) = seats.push(seat) else {
-        unreachable!()
-    };
+    push_into_room(tickets, ticket);
+    push_into_room(seats, seat);
+}
+
+// Keeps the better of two standings.
+fn keep_better(best: &mut Standing, last: &Standing)
+    ensures { best.new ≡ (if is_better last.now best.old then last.now else best.old) }
+{
+    if better(last, best) {
+        *best = *last;
+    }
+}
+
+// Adds the lists of a desk, or notes that memory ran out for them.
+fn add_or_note(harvest: &mut Harvest, records: Vec<TreeNode>, prefixes: Vec<Path>)
+    ensures before { IsFalse harvest.new.short → IsFalse harvest.old.short }
+    ensures closed { IsFalse harvest.new.short → harvest.new.closed.items ≡ harvest.old.closed.items ++ records.items }
+    ensures waiting { IsFalse harvest.new.short →
+        harvest.new.waiting.items ≡ harvest.old.waiting.items ++ prefixes.items }
+    ensures best { harvest.new.best ≡ harvest.old.best }
+    ensures seats { (harvest.new.tickets ≡ harvest.old.tickets) × (harvest.new.seats ≡ harvest.old.seats) }
+{
+    let added = add_lists(&mut harvest.closed, &mut harvest.waiting, records, prefixes);
+    if added.is_err() {
+        harvest.short = true;
+    }
 }
 
 // Adds what a desk has. Where memory runs out for its lists, that is noted, and its seats are added all the same.
@@ -71,6 +93,7 @@ fn add_desk(harvest: &mut Harvest, desk: Desk)
     ensures room { (vec_capacity harvest.old.tickets ≤ vec_capacity harvest.new.tickets) ×
         (vec_capacity harvest.old.seats ≤ vec_capacity harvest.new.seats) }
 {
+    keep_better(&mut harvest.best, &desk.incumbent.standing);
     let Desk {
         ticket,
         incumbent,
@@ -79,23 +102,12 @@ fn add_desk(harvest: &mut Harvest, desk: Desk)
         records,
     } = desk;
     let Incumbent {
-        standing,
+        standing: _,
         seat,
         belief: _,
     } = incumbent;
-    if better(&standing, &harvest.best) {
-        harvest.best = standing;
-    }
     add_seats(&mut harvest.tickets, &mut harvest.seats, ticket, seat);
-    let added = add_lists(
-        &mut harvest.closed,
-        &mut harvest.waiting,
-        records,
-        stack.into_prefixes(),
-    );
-    if added.is_err() {
-        harvest.short = true;
-    }
+    add_or_note(harvest, records, stack.into_prefixes());
 }
 
 /// What all desks have, and the tasks left, in a search from the standing `first`. The seats go into room that was taken

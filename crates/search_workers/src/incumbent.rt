@@ -1,6 +1,6 @@
 //! The standing that a worker uses.
 
-ghost use Rattle.std.specs.Prelude.{◌≡◌, ◌+◌, ◌-◌, ◌^◌, ℕ, length, min, IsTrue, ◌↔◌};
+ghost use Rattle.std.specs.Prelude.{◌≡◌, ◌+◌, ◌-◌, ◌^◌, ℕ, length, min, IsTrue, IfOk, ◌↔◌};
 ghost use Rattle.bound_tree.specs.declared.node.Kind.TheVariants.{Whole};
 ghost use Rattle.bound_tree.specs.Close.{IsExact, IsAtLeast};
 ghost use Rattle.incumbent_board.specs.History.{MayStand};
@@ -9,8 +9,10 @@ ghost use Rattle.search_workers.specs.Incumbents.{best_after, WasTold, Looked};
 
 use belief_update::{Belief, prefix_value};
 use bound_tree::{Kind, TreeNode};
+use exact_parts::NoMemory;
 use incumbent_board::{Board, BoardSeat};
 use search_model::{Path, Scenario, Standing, better};
+use std::alloc::Global;
 use std::sync::Wait;
 
 /// The standing that a worker uses, with its seat at the board, and a belief by which it computes the value of a path that
@@ -35,6 +37,24 @@ fn is_exact(sc: &Scenario, belief: &mut Belief, standing: &Standing) -> bool
 }
 
 impl Incumbent {
+    /// The standing that a search begins with, and its seat at the board. Only this call takes memory.
+    pub fn start(
+        alloc: Global,
+        sc: &Scenario,
+        first: &Standing,
+        seat: BoardSeat,
+    ) -> Result<Incumbent, NoMemory>
+        ensures standing { IfOk result (λ i. i.standing ≡ first.now) }
+        ensures seat { IfOk result (λ i. i.seat ≡ seat) }
+        ensures belief { IfOk result (λ i. length i.belief.masses ≡ sc.now.cells) }
+    {
+        Ok(Incumbent {
+            standing: *first,
+            seat,
+            belief: Belief::start(alloc, sc)?,
+        })
+    }
+
     // Looks at the board.
     fn look<R: Wait>(&mut self, rt: &R, board: &Board) -> Standing
         requires { IsSeatOf board.now self.old.seat }

@@ -10,6 +10,7 @@ ghost use Rattle.search_workers.specs.Seen.{desk_view};
 use crate::crew::Member;
 use crate::desk::Desk;
 use crate::left::Left;
+use crate::room::push_into_room;
 use exact_parts::NoMemory;
 use search_model::Path;
 use std::alloc::Global;
@@ -54,12 +55,8 @@ fn part_all(
     for member in crew {
         let Member { worker, left: _ } = member;
         let (kit, desk) = worker.part();
-        let Ok(()) = kits.push(kit) else {
-            unreachable!()
-        };
-        let Ok(()) = desks.push(desk) else {
-            unreachable!()
-        };
+        push_into_room(&mut kits, kit);
+        push_into_room(&mut desks, desk);
     }
     (kits, desks)
 }

@@ -1,6 +1,6 @@
 //! Room to take the workers of a search apart.
 
-ghost use Rattle.std.specs.Prelude.{IfOk};
+ghost use Rattle.std.specs.Prelude.{◌≡◌, ◌<◌, ◌≤◌, ◌++◌, ◌∷◌, [], vec_len, vec_capacity, IfOk};
 ghost use Rattle.search_workers.specs.Rooms.{IsRoomFor};
 
 use crate::desk::Desk;
@@ -33,4 +33,15 @@ impl Room {
             seats: Vec::with_capacity(alloc, workers)?,
         })
     }
+}
+
+/// Puts an item into room that is there.
+pub(crate) fn push_into_room<T: Drop>(items: &mut Vec<T>, item: T)
+    requires { vec_len items.old < vec_capacity items.old }
+    ensures items { items.new.items ≡ items.old.items ++ item ∷ [] }
+    ensures room { vec_capacity items.old ≤ vec_capacity items.new }
+{
+    let Ok(()) = items.push(item) else {
+        unreachable!()
+    };
 }

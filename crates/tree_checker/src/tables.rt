@@ -31,10 +31,13 @@ impl BoundTables {
     pub(crate) fn start(alloc: Global, sc: &Scenario) -> Result<BoundTables, NoMemory>
         ensures { IfOk result (AreMadeFor sc.now) }
     {
+        let edge = EdgeTables::tables(alloc, sc)?;
+        let tangent = TangentTables::tables(alloc, sc)?;
+        let mean = Mean::tables(alloc, sc)?;
         Ok(BoundTables {
-            mean: Mean::tables(alloc, sc)?,
-            tangent: TangentTables::tables(alloc, sc)?,
-            edge: EdgeTables::tables(alloc, sc)?,
+            mean,
+            tangent,
+            edge,
         })
     }
 

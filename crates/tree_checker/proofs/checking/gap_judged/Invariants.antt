@@ -1,7 +1,7 @@
 use Rattle.std.proofs.Common.{◌≡◌, ◌+◌, ◌≤◌, drop}
 use Rattle.tree_checker.specs.GapReasons.{gap_reason}
 use Rattle.tree_checker.specs.Progress.{gap_reason_if, IsUnderWay, IsMadeFor}
-use Rattle.tree_checker.proofs.checking.gap_verdict.Given as goal
+use Rattle.tree_checker.proofs.checking.gap_judged.Given as goal
 
 -- what is left of the nodes leads to the first reason of all
 abbrev pub invariant-loop-node : goal.invariant-loop-node

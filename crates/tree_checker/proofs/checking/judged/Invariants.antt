@@ -1,7 +1,7 @@
 use Rattle.std.proofs.Common.{◌≡◌, ◌+◌, ◌≤◌, drop}
 use Rattle.tree_checker.specs.Reasons.{first_reason}
 use Rattle.tree_checker.specs.Progress.{reason_if, IsUnderWay, IsMadeFor}
-use Rattle.tree_checker.proofs.checking.verdict.Given as goal
+use Rattle.tree_checker.proofs.checking.judged.Given as goal
 
 -- what is left of the records leads to the first reason of all
 abbrev pub invariant-loop-node : goal.invariant-loop-node

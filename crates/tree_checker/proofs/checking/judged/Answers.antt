@@ -2,7 +2,7 @@ use Rattle.std.proofs.Common.{◌≡◌, ℕ, ◌+◌, ◌<◌, ◌∷◌, List,
 use Rattle.std.proofs.lemmas.List.{drop_more}
 use Rattle.bound_tree.specs.declared.node.TreeNode.{TreeNode}
 use Rattle.tree_checker.specs.Progress.{reason_if}
-use Rattle.tree_checker.proofs.checking.verdict.Goals as goal
+use Rattle.tree_checker.proofs.checking.judged.Goals as goal
 
 pub loop-node-preserved : goal.loop-node-preserved
 loop-node-preserved c =

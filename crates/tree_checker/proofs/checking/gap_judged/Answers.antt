@@ -5,7 +5,7 @@ use Rattle.bound_tree.specs.declared.gap.GapNode.{GapNode}
 use Rattle.tree_checker.specs.GapReasons.{gap_verdict_of}
 use Rattle.tree_checker.specs.Progress.{Progress, gap_reason_if}
 use Rattle.tree_checker.proofs.GapReason.{nothing_follows}
-use Rattle.tree_checker.proofs.checking.gap_verdict.Goals as goal
+use Rattle.tree_checker.proofs.checking.gap_judged.Goals as goal
 
 pub returns : goal.returns
 returns c =
