@@ -2,7 +2,7 @@ ghost use Rattle.std.specs.Prelude.{◌≡◌, IfSome};
 ghost use Rattle.search_model.specs.Legal.{IsPath};
 ghost use Rattle.backward_mass.specs.Table.{IsMadeFor};
 
-use crate::scenarios::{crosses_threads, scenario_of};
+use crate::scenarios::{crosses_threads, holds};
 use backward_mass::Backward;
 use search_model::{Path, Scenario};
 use std::alloc::Global;
@@ -50,12 +50,16 @@ fn is_filled_again(alloc: Global, sc: &Scenario) -> Result<bool, Fail>
     }
 }
 
-fn table_is_filled_again(alloc: Global) -> Result<bool, Fail> {
-    let sc = scenario_of(alloc, WAITING_LONGER)?;
+// The same of a scenario of three cells and periods.
+fn is_filled_again_over(alloc: Global, sc: &Scenario) -> Result<bool, Fail> {
     if sc.cells() != 3 || sc.horizon() != 3 {
         return Ok(false);
     }
-    is_filled_again(alloc, &sc)
+    is_filled_again(alloc, sc)
+}
+
+fn table_is_filled_again(alloc: Global) -> Result<bool, Fail> {
+    holds(alloc, WAITING_LONGER, is_filled_again_over)
 }
 
 #[test]

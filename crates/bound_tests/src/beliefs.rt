@@ -1,9 +1,9 @@
-ghost use Rattle.std.specs.Prelude.{◌≡◌, ◌≤◌, ◌+◌, ◌∷◌, [], ◌<◌, IfOk, IsTrue, length};
+ghost use Rattle.std.specs.Prelude.{◌≡◌, ◌≤◌, ◌+◌, ◌∷◌, [], ◌<◌, IsTrue, length};
 ghost use Rattle.search_model.specs.Problem.{Problem};
 ghost use Rattle.belief_update.specs.Belief.{IsBelief};
 ghost use Rattle.belief_update.specs.Trails.{IsTrailOf, common_of};
 
-use crate::scenarios::{crosses_threads, scenario_of};
+use crate::scenarios::{crosses_threads, holds};
 use belief_update::{Belief, Steps, Trail, prefix_value};
 use search_model::{Path, Scenario};
 use std::alloc::Global;
@@ -11,19 +11,6 @@ use std::marker::Brand;
 use std::sync::ledger::{Blank, Ledger};
 use std::test::Fail;
 use worked_scenarios::{TWO_CELLS, WAITING_LONGER};
-
-// The two cells, of which contracts see their numbers alone.
-fn two_cells(alloc: Global) -> Result<Scenario, Fail>
-    ensures cells { IfOk result (λ sc. sc.cells ≡ 2) }
-    ensures positions { IfOk result (λ sc. sc.positions ≡ 2) }
-    ensures horizon { IfOk result (λ sc. sc.horizon ≡ 2) }
-{
-    let sc = scenario_of(alloc, TWO_CELLS)?;
-    if sc.cells() != 2 || sc.positions() != 2 || sc.horizon() != 2 {
-        return Err(Fail::from("not two cells and two periods"));
-    }
-    Ok(sc)
-}
 
 // Whether a belief over two cells has this period, these masses and this sum.
 fn is_belief(belief: &Belief, period: u32, a: u128, b: u128, undetected: u128) -> bool
@@ -68,14 +55,17 @@ fn beliefs_over(alloc: Global, sc: &Scenario) -> Result<bool, Fail>
     Ok(look_and_drift(sc, &mut belief, &mut kept))
 }
 
-fn beliefs_look_and_drift(alloc: Global) -> Result<bool, Fail> {
-    let sc = two_cells(alloc)?;
-    beliefs_over(alloc, &sc)
+// The same of a scenario of two cells, positions and periods.
+fn beliefs_look_and_drift(alloc: Global, sc: &Scenario) -> Result<bool, Fail> {
+    if sc.cells() != 2 || sc.positions() != 2 || sc.horizon() != 2 {
+        return Ok(false);
+    }
+    beliefs_over(alloc, sc)
 }
 
 #[test]
 fn a_look_empties_its_cell_and_the_drift_spreads_the_rest(rt: HostRuntime) -> Result<(), Fail> {
-    assert!(rt; beliefs_look_and_drift(rt.alloc())?);
+    assert!(rt; holds(rt.alloc(), TWO_CELLS, beliefs_look_and_drift)?);
     Ok(())
 }
 
@@ -117,27 +107,11 @@ fn values_over(alloc: Global, sc: &Scenario) -> Result<bool, Fail> {
     Ok(have_values(sc, &mut belief))
 }
 
-fn prefixes_have_values(alloc: Global) -> Result<bool, Fail> {
-    let sc = two_cells(alloc)?;
-    values_over(alloc, &sc)
-}
-
 #[test]
 fn prefixes_have_the_worked_values(rt: HostRuntime) -> Result<(), Fail> {
-    assert!(rt; prefixes_have_values(rt.alloc())?);
+    assert!(rt; holds(rt.alloc(), TWO_CELLS, values_over)?);
     crosses_threads::<Belief>();
     Ok(())
-}
-
-// The target that waits, of which contracts see that there are three cells.
-fn waiting_longer(alloc: Global) -> Result<Scenario, Fail>
-    ensures { IfOk result (λ sc. sc.cells ≡ 3) }
-{
-    let sc = scenario_of(alloc, WAITING_LONGER)?;
-    if sc.cells() != 3 {
-        return Err(Fail::from("not three cells"));
-    }
-    Ok(sc)
 }
 
 // Whether the belief after the first `k` looks has these masses.
@@ -226,14 +200,17 @@ fn rows_over(alloc: Global, sc: &Scenario) -> Result<bool, Fail>
     Ok(rows_are_right::<Brand>(sc, &mut trail, Blank::new(1)))
 }
 
-fn trail_has_rows(alloc: Global) -> Result<bool, Fail> {
-    let sc = waiting_longer(alloc)?;
-    rows_over(alloc, &sc)
+// The same of a scenario of three cells.
+fn trail_has_rows(alloc: Global, sc: &Scenario) -> Result<bool, Fail> {
+    if sc.cells() != 3 {
+        return Ok(false);
+    }
+    rows_over(alloc, sc)
 }
 
 #[test]
 fn a_trail_keeps_what_prefixes_have_in_common(rt: HostRuntime) -> Result<(), Fail> {
-    assert!(rt; trail_has_rows(rt.alloc())?);
+    assert!(rt; holds(rt.alloc(), WAITING_LONGER, trail_has_rows)?);
     crosses_threads::<Trail>();
     Ok(())
 }

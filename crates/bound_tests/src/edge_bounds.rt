@@ -1,7 +1,7 @@
 ghost use Rattle.mean_bound.specs.Means.{IsMadeFor as IsMeanFor};
 ghost use Rattle.edge_bound.specs.Edges.{IsMadeFor, AreTablesFor};
 
-use crate::scenarios::{crosses_threads, scenario_of};
+use crate::scenarios::{crosses_threads, holds};
 use edge_bound::{Edge, EdgeTables};
 use mean_bound::Mean;
 use search_model::{Path, Scenario};
@@ -122,17 +122,42 @@ fn have_bounds(
     true
 }
 
+// Whether the prefixes of a scenario have these bounds by tables of their own and by those that others read, too.
+fn are_bounded_by(
+    alloc: Global,
+    sc: &Scenario,
+    edge: &mut Edge,
+    tables: &mut EdgeTables,
+    bounds: &[Bound],
+) -> Result<bool, Fail>
+    requires edge { IsMadeFor sc.now edge.old }
+    requires tables { AreTablesFor sc.now tables.old }
+{
+    let mut mean = Mean::tables(alloc, sc)?;
+    Ok(have_bounds(sc, edge, tables, &mut mean, bounds))
+}
+
+// The same with tables for both.
+fn are_bounded_with(
+    alloc: Global,
+    sc: &Scenario,
+    edge: &mut Edge,
+    bounds: &[Bound],
+) -> Result<bool, Fail>
+    requires { IsMadeFor sc.now edge.old }
+{
+    let mut tables = EdgeTables::tables(alloc, sc)?;
+    are_bounded_by(alloc, sc, edge, &mut tables, bounds)
+}
+
 // Whether the prefixes of a scenario have these bounds.
 fn are_bounded_over(alloc: Global, sc: &Scenario, bounds: &[Bound]) -> Result<bool, Fail> {
     let mut edge = Edge::tables(alloc, sc)?;
-    let mut tables = EdgeTables::tables(alloc, sc)?;
-    let mut mean = Mean::tables(alloc, sc)?;
-    Ok(have_bounds(sc, &mut edge, &mut tables, &mut mean, bounds))
+    are_bounded_with(alloc, sc, &mut edge, bounds)
 }
 
 fn are_bounded(alloc: Global, text: &str, bounds: &[Bound]) -> Result<bool, Fail> {
-    let sc = scenario_of(alloc, text)?;
-    are_bounded_over(alloc, &sc, bounds)
+    holds(alloc, text, |alloc, sc| are_bounded_over(alloc, sc, bounds))
 }
 
 // Worked by hand.

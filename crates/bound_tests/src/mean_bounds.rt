@@ -1,6 +1,6 @@
 ghost use Rattle.mean_bound.specs.Means.{IsMadeFor};
 
-use crate::scenarios::{WIDE_LOOKS, crosses_threads, scenario_of};
+use crate::scenarios::{WIDE_LOOKS, crosses_threads, holds};
 use mean_bound::Mean;
 use search_model::{Path, Scenario};
 use std::alloc::Global;
@@ -84,8 +84,11 @@ fn are_bounded(
     bounds: &[Bound],
     values: &[Value],
 ) -> Result<bool, Fail> {
-    let sc = scenario_of(alloc, text)?;
-    are_bounded_over(alloc, &sc, bounds, values)
+    holds(
+        alloc,
+        text,
+        |alloc, sc| are_bounded_over(alloc, sc, bounds, values),
+    )
 }
 
 #[test]

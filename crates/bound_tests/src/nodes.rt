@@ -1,6 +1,6 @@
 ghost use Rattle.path_node.specs.Room.{IsMadeFor};
 
-use crate::scenarios::{crosses_threads, scenario_of};
+use crate::scenarios::{crosses_threads, holds};
 use bound_tree::Kind;
 use path_node::{Scratch, close};
 use search_model::{Path, Scenario, Standing, value};
@@ -62,8 +62,11 @@ fn are_closed_over(alloc: Global, sc: &Scenario, best: &[u8], rows: &[Row]) -> R
 }
 
 fn are_closed(alloc: Global, text: &str, best: &[u8], rows: &[Row]) -> Result<bool, Fail> {
-    let sc = scenario_of(alloc, text)?;
-    are_closed_over(alloc, &sc, best, rows)
+    holds(
+        alloc,
+        text,
+        |alloc, sc| are_closed_over(alloc, sc, best, rows),
+    )
 }
 
 // The path that waits with the target, which finds 7 of 8.

@@ -1,4 +1,4 @@
-use crate::scenarios::scenario_of;
+use crate::scenarios::holds;
 use opening_path::opening;
 use search_model::Scenario;
 use std::alloc::Global;
@@ -12,8 +12,7 @@ fn is_opening(alloc: Global, sc: &Scenario, path: &[u8], value: u128) -> Result<
 }
 
 fn is_opened(alloc: Global, text: &str, path: &[u8], value: u128) -> Result<bool, Fail> {
-    let sc = scenario_of(alloc, text)?;
-    is_opening(alloc, &sc, path, value)
+    holds(alloc, text, |alloc, sc| is_opening(alloc, sc, path, value))
 }
 
 // The one path; of equal values the least move; and the greedy path where it misses the best.

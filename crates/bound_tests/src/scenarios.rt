@@ -1,4 +1,4 @@
-//! A scenario that two files of tests share, and how one is made of its text.
+//! A scenario that two files of tests share, and how what a test asks is asked of the scenario of a text.
 
 use scenario_text::read_scenario_alone;
 use search_model::Scenario;
@@ -29,10 +29,16 @@ lookin 2 b a 1 c 1
 end
 ";
 
-/// The scenario of a text.
-pub(crate) fn scenario_of(alloc: Global, text: &str) -> Result<Scenario, Fail> {
+/// Whether what is asked holds of the scenario of a text.
+pub(crate) fn holds<F: FnOnce(Global, &Scenario) -> Result<bool, Fail>>(
+    alloc: Global,
+    text: &str,
+    asked: F,
+) -> Result<bool, Fail>
+    requires { F.IsAlwaysCallable asked }
+{
     match read_scenario_alone(alloc, text.as_bytes()) {
-        Ok(sc) => Ok(sc),
+        Ok(sc) => asked(alloc, &sc),
         Err(_) => Err(Fail::from("no scenario")),
     }
 }

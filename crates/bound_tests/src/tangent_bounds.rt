@@ -3,7 +3,7 @@ ghost use Rattle.search_model.specs.Legal.{IsLegal, IsPath};
 ghost use Rattle.mean_bound.specs.Means.{IsMadeFor as IsMeanFor};
 ghost use Rattle.tangent_bound.specs.Room.{IsMadeFor, AreTablesFor};
 
-use crate::scenarios::{WIDE_LOOKS, crosses_threads, scenario_of};
+use crate::scenarios::{WIDE_LOOKS, crosses_threads, holds};
 use mean_bound::Mean;
 use search_model::{Path, Scenario};
 use std::alloc::Global;
@@ -81,17 +81,42 @@ fn have_bounds(
     true
 }
 
+// Whether the prefixes of a scenario have these bounds by tables of their own and by those that others read, too.
+fn are_bounded_by(
+    alloc: Global,
+    sc: &Scenario,
+    tangent: &mut Tangent,
+    tables: &mut TangentTables,
+    bounds: &[Bound],
+) -> Result<bool, Fail>
+    requires tangent { IsMadeFor sc.now tangent.old }
+    requires tables { AreTablesFor sc.now tables.old }
+{
+    let mut mean = Mean::tables(alloc, sc)?;
+    Ok(have_bounds(sc, tangent, tables, &mut mean, bounds))
+}
+
+// The same with tables for both.
+fn are_bounded_with(
+    alloc: Global,
+    sc: &Scenario,
+    tangent: &mut Tangent,
+    bounds: &[Bound],
+) -> Result<bool, Fail>
+    requires { IsMadeFor sc.now tangent.old }
+{
+    let mut tables = TangentTables::tables(alloc, sc)?;
+    are_bounded_by(alloc, sc, tangent, &mut tables, bounds)
+}
+
 // Whether the prefixes of a scenario have these bounds.
 fn are_bounded_over(alloc: Global, sc: &Scenario, bounds: &[Bound]) -> Result<bool, Fail> {
     let mut tangent = Tangent::tables(alloc, sc)?;
-    let mut tables = TangentTables::tables(alloc, sc)?;
-    let mut mean = Mean::tables(alloc, sc)?;
-    Ok(have_bounds(sc, &mut tangent, &mut tables, &mut mean, bounds))
+    are_bounded_with(alloc, sc, &mut tangent, bounds)
 }
 
 fn are_bounded(alloc: Global, text: &str, bounds: &[Bound]) -> Result<bool, Fail> {
-    let sc = scenario_of(alloc, text)?;
-    are_bounded_over(alloc, &sc, bounds)
+    holds(alloc, text, |alloc, sc| are_bounded_over(alloc, sc, bounds))
 }
 
 #[test]

@@ -1,8 +1,14 @@
 //! Texts of gap plans that are read and print back, and such texts that have a fault, by line and kind.
 
+ghost use Rattle.std.specs.Prelude.{◌∷◌, [], map};
+ghost use Rattle.bound_tree.specs.Places.{AreInPlace};
+ghost use Rattle.bound_tree.specs.Gaps.{shape_of};
+ghost use Rattle.tree_format.specs.PlanText.{IsPrintableGap};
+
 use crate::plan_feeds::tells_gap_as_read;
-use crate::plan_scenarios::scenario_of;
+use crate::plan_scenarios::asked;
 use crate::plan_texts::{TWO_CELLS_2, bytes_of, has_fault, line_behind, with_line};
+use bound_tree::GapPlan;
 use search_model::Scenario;
 use std::alloc::Global;
 use std::test::Fail;
@@ -86,23 +92,34 @@ M 12
 end
 ";
 
-// Whether a text is a gap plan's, and the gap plan prints back to the same bytes, behind what stood there.
-fn prints(alloc: Global, sc: &Scenario, text: &str) -> Result<bool, Fail> {
+// Whether a gap plan prints to these bytes, behind what stood there.
+fn prints_to(alloc: Global, sc: &Scenario, plan: &GapPlan, text: &str) -> Result<bool, Fail>
+    requires printable { IsPrintableGap sc.now plan.now }
+    requires in_place { AreInPlace sc.now ([] ∷ []) (map shape_of plan.now.nodes) }
+{
     let mut out = Vec::from_slice(alloc, b"!")?;
-    match read_gap(alloc, sc, text.as_bytes()) {
-        Ok(plan) => print_gap(&mut out, sc, &plan)?,
-        Err(_) => return Ok(false),
-    }
+    print_gap(&mut out, sc, plan)?;
     Ok(out.strip_prefix(b"!") == Some(text.as_bytes()))
 }
 
+// Whether a text is a gap plan's, and the gap plan prints back to the same bytes.
+fn prints(alloc: Global, sc: &Scenario, text: &str) -> Result<bool, Fail> {
+    match read_gap(alloc, sc, text.as_bytes()) {
+        Ok(plan) => prints_to(alloc, sc, &plan, text),
+        Err(_) => Ok(false),
+    }
+}
+
 // The same, and by pieces it tells what reading it at once says.
+fn prints_and_tells(alloc: Global, sc: &Scenario, text: &str) -> Result<bool, Fail> {
+    Ok(prints(alloc, sc, text)? && tells_gap_as_read(alloc, sc, text.as_bytes())?)
+}
+
 fn prints_back(alloc: Global, row: &str) -> Result<bool, Fail> {
-    let Some((words, text)) = row.split_once('\n') else {
-        return Ok(false);
-    };
-    let sc = scenario_of(alloc, words)?;
-    Ok(prints(alloc, &sc, text)? && tells_gap_as_read(alloc, &sc, text.as_bytes())?)
+    match row.split_once('\n') {
+        Some((words, text)) => asked(alloc, words, |sc| prints_and_tells(alloc, sc, text)),
+        None => Ok(false),
+    }
 }
 
 fn rows_that_print_back(alloc: Global, table: &str) -> Result<u32, Fail> {
@@ -198,8 +215,7 @@ fn rows_over(alloc: Global, sc: &Scenario, table: &str) -> Result<u32, Fail> {
 }
 
 fn rows_of_faults(alloc: Global, table: &str) -> Result<u32, Fail> {
-    let sc = scenario_of(alloc, "ab 2")?;
-    rows_over(alloc, &sc, table)
+    asked(alloc, "ab 2", |sc| rows_over(alloc, sc, table))
 }
 
 #[test]
@@ -222,8 +238,11 @@ fn fronts_over(alloc: Global, sc: &Scenario, text: &[u8]) -> Result<usize, Fail>
 }
 
 fn fronts_that_end_early(alloc: Global) -> Result<usize, Fail> {
-    let sc = scenario_of(alloc, "ab 2")?;
-    fronts_over(alloc, &sc, TWO_WAIT.as_bytes())
+    asked(
+        alloc,
+        "ab 2",
+        |sc| fronts_over(alloc, sc, TWO_WAIT.as_bytes()),
+    )
 }
 
 #[test]
@@ -232,17 +251,17 @@ fn gap_fronts_end_early(rt: HostRuntime) -> Result<(), Fail> {
     Ok(())
 }
 
-fn families_are_apart(alloc: Global) -> Result<bool, Fail> {
-    let sc = scenario_of(alloc, "ab 2")?;
+fn families_are_apart(alloc: Global, sc: &Scenario) -> Result<bool, Fail> {
     Ok(
-        has_gap_fault(alloc, &sc, TWO_CELLS_2.as_bytes(), "1 BadLine")?
-            && has_fault(alloc, &sc, TWO_WAIT.as_bytes(), "1 BadLine")?,
+        has_gap_fault(alloc, sc, TWO_CELLS_2.as_bytes(), "1 BadLine")?
+            && has_fault(alloc, sc, TWO_WAIT.as_bytes(), "1 BadLine")?,
     )
 }
 
 // The text of a plan is none of a gap plan, and the other way round.
 #[test]
 fn no_text_is_of_both_families(rt: HostRuntime) -> Result<(), Fail> {
-    assert!(rt; families_are_apart(rt.alloc())?);
+    let alloc = rt.alloc();
+    assert!(rt; asked(alloc, "ab 2", |sc| families_are_apart(alloc, sc))?);
     Ok(())
 }

@@ -151,34 +151,55 @@ fn is_gap(telling: &Telling, plan: &GapPlan) -> bool {
         && are_open(&telling.nodes, plan.nodes.nodes())
 }
 
-/// Whether a text tells the same one byte at a time, by seven, and whole, and that is what reading it at once says.
-pub fn tells_as_read(alloc: Global, sc: &Scenario, text: &[u8]) -> Result<bool, Fail> {
+// Whether this was told of what reading a text at once says.
+fn is_as_read(alloc: Global, sc: &Scenario, text: &[u8], telling: &Telling) -> bool {
+    match read_plan(alloc, sc, text) {
+        Ok(plan) => is_plan(telling, &plan),
+        Err(PlanStop::Fault(fault)) => telling.fault == Some(fault),
+        Err(PlanStop::NoMemory) => false,
+    }
+}
+
+// The same of a gap plan.
+fn is_gap_as_read(alloc: Global, sc: &Scenario, text: &[u8], telling: &Telling) -> bool {
+    match read_gap(alloc, sc, text) {
+        Ok(plan) => is_gap(telling, &plan),
+        Err(PlanStop::Fault(fault)) => telling.fault == Some(fault),
+        Err(PlanStop::NoMemory) => false,
+    }
+}
+
+// Whether a text tells in pieces of this size what reading it at once says.
+fn tells_by(
+    alloc: Global,
+    sc: &Scenario,
+    family: Family,
+    text: &[u8],
+    size: usize,
+) -> Result<bool, Fail> {
+    let telling = told_by(alloc, sc, family, text, size)?;
+    Ok(match family {
+        Family::Plans => is_as_read(alloc, sc, text, &telling),
+        Family::Gaps => is_gap_as_read(alloc, sc, text, &telling),
+    })
+}
+
+// The same one byte at a time, by seven, and whole.
+fn tells_by_each(alloc: Global, sc: &Scenario, family: Family, text: &[u8]) -> Result<bool, Fail> {
     for size in [1, 7, 1_000_000] {
-        let telling = told_by(alloc, sc, Family::Plans, text, size)?;
-        let same = match read_plan(alloc, sc, text) {
-            Ok(plan) => is_plan(&telling, &plan),
-            Err(PlanStop::Fault(fault)) => telling.fault == Some(fault),
-            Err(PlanStop::NoMemory) => false,
-        };
-        if !same {
+        if !tells_by(alloc, sc, family, text, size)? {
             return Ok(false);
         }
     }
     Ok(true)
 }
 
+/// Whether a text tells the same one byte at a time, by seven, and whole, and that is what reading it at once says.
+pub fn tells_as_read(alloc: Global, sc: &Scenario, text: &[u8]) -> Result<bool, Fail> {
+    tells_by_each(alloc, sc, Family::Plans, text)
+}
+
 /// The same of the text of a gap plan.
 pub fn tells_gap_as_read(alloc: Global, sc: &Scenario, text: &[u8]) -> Result<bool, Fail> {
-    for size in [1, 7, 1_000_000] {
-        let telling = told_by(alloc, sc, Family::Gaps, text, size)?;
-        let same = match read_gap(alloc, sc, text) {
-            Ok(plan) => is_gap(&telling, &plan),
-            Err(PlanStop::Fault(fault)) => telling.fault == Some(fault),
-            Err(PlanStop::NoMemory) => false,
-        };
-        if !same {
-            return Ok(false);
-        }
-    }
-    Ok(true)
+    tells_by_each(alloc, sc, Family::Gaps, text)
 }

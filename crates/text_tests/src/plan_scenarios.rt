@@ -1,6 +1,6 @@
 //! The scenarios that plans are read over: texts whose cells have the names of the positions the other way round.
 
-use crate::scenario_texts::read;
+use crate::scenario_texts::asked_of;
 use search_model::Scenario;
 use std::alloc::Global;
 use std::test::Fail;
@@ -146,16 +146,27 @@ fn rest_of(positions: &str) -> &'static str {
     }
 }
 
-/// The scenario of these words: positions and periods, or one that has a name.
-pub(crate) fn scenario_of(alloc: Global, words: &str) -> Result<Scenario, Fail> {
-    if words == "the air" {
-        return read(alloc, BASE_AND_AIR.as_bytes());
-    }
-    if words == "four cells" {
-        return read(alloc, FOUR_CELLS.as_bytes());
-    }
+// The text of a scenario of these positions and periods.
+fn text_of(alloc: Global, words: &str) -> Result<String, Fail> {
     let (positions, periods) = words.split_once(' ').ok_or("no periods")?;
     let rest = rest_of(positions);
-    let text = format!(in alloc; "scenario 2\nhorizon {periods}\n{rest}")?;
-    read(alloc, text.as_bytes())
+    Ok(format!(in alloc; "scenario 2\nhorizon {periods}\n{rest}")?)
+}
+
+/// What is asked of the scenario of these words: positions and periods, or one that has a name.
+pub(crate) fn asked<T, F: FnOnce(&Scenario) -> Result<T, Fail>>(
+    alloc: Global,
+    words: &str,
+    ask: F,
+) -> Result<T, Fail>
+    requires { F.IsAlwaysCallable ask }
+{
+    match words {
+        "the air" => asked_of(alloc, BASE_AND_AIR.as_bytes(), ask),
+        "four cells" => asked_of(alloc, FOUR_CELLS.as_bytes(), ask),
+        _ => match text_of(alloc, words) {
+            Ok(text) => asked_of(alloc, text.as_bytes(), ask),
+            Err(fail) => Err(fail),
+        },
+    }
 }

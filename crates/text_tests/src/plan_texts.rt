@@ -2,7 +2,7 @@
 //! and one function goes over them, so that a row more costs no proof.
 
 use crate::plan_feeds::tells_as_read;
-use crate::plan_scenarios::scenario_of;
+use crate::plan_scenarios::asked;
 use crate::plan_tables::{FAULTS, TEXTS};
 use bound_tree::{Kind, Plan, TreeNode};
 use search_model::Scenario;
@@ -78,8 +78,7 @@ fn row_is_answered(alloc: Global, row: &str) -> Result<bool, Fail> {
         return Ok(false);
     };
     let (words, answer) = head.split_once(": ").ok_or("no answer")?;
-    let sc = scenario_of(alloc, words)?;
-    is_answered(alloc, &sc, text, answer)
+    asked(alloc, words, |sc| is_answered(alloc, sc, text, answer))
 }
 
 // How many rows of a table are answered so.
@@ -157,20 +156,37 @@ fn says_an_edge(plan: &Plan) -> bool {
     }
 }
 
-fn plan_over(alloc: Global, sc: &Scenario, text: &str) -> Result<Plan, Fail> {
-    Ok(read_plan(alloc, sc, text.as_bytes())?)
-}
-
-fn plan_of(alloc: Global, words: &str, text: &str) -> Result<Plan, Fail> {
-    let sc = scenario_of(alloc, words)?;
-    plan_over(alloc, &sc, text)
+// Whether a text is a plan's, of which this holds.
+fn says<F: FnOnce(&Plan) -> bool>(
+    alloc: Global,
+    sc: &Scenario,
+    text: &str,
+    holds: F,
+) -> Result<bool, Fail>
+    requires { F.IsAlwaysCallable holds }
+{
+    match read_plan(alloc, sc, text.as_bytes()) {
+        Ok(plan) => Ok(holds(&plan)),
+        Err(_) => Ok(false),
+    }
 }
 
 fn texts_say_plans(alloc: Global) -> Result<bool, Fail> {
-    let three = plan_of(alloc, "abc 3", THREE_PERIODS)?;
-    let two = plan_of(alloc, "ab 2", TWO_CELLS_2)?;
-    let edge = plan_of(alloc, "row 3", WITH_EDGE)?;
-    Ok(says_three_periods(&three) && says_two_cells_2(&two) && says_an_edge(&edge))
+    Ok(
+        asked(
+            alloc,
+            "abc 3",
+            |sc| says(alloc, sc, THREE_PERIODS, says_three_periods),
+        )? && asked(
+            alloc,
+            "ab 2",
+            |sc| says(alloc, sc, TWO_CELLS_2, says_two_cells_2),
+        )? && asked(
+            alloc,
+            "row 3",
+            |sc| says(alloc, sc, WITH_EDGE, says_an_edge),
+        )?,
+    )
 }
 
 #[test]
@@ -254,8 +270,7 @@ fn rows_over(alloc: Global, sc: &Scenario, table: &str) -> Result<u32, Fail> {
 
 // The same of two cells.
 fn rows_of_faults(alloc: Global, table: &str) -> Result<u32, Fail> {
-    let sc = scenario_of(alloc, "ab 2")?;
-    rows_over(alloc, &sc, table)
+    asked(alloc, "ab 2", |sc| rows_over(alloc, sc, table))
 }
 
 #[test]
@@ -280,8 +295,7 @@ fn long_line(alloc: Global, front: &[u8], byte: u8, back: &[u8]) -> Result<Vec<u
 
 // Whether a text over two cells has the fault.
 fn text_has_fault(alloc: Global, text: &[u8], fault: &str) -> Result<bool, Fail> {
-    let sc = scenario_of(alloc, "ab 2")?;
-    has_fault(alloc, &sc, text, fault)
+    asked(alloc, "ab 2", |sc| has_fault(alloc, sc, text, fault))
 }
 
 // Whether a text whose line 7 is this one has the fault.
@@ -331,8 +345,7 @@ fn fronts_over(alloc: Global, sc: &Scenario, text: &[u8]) -> Result<usize, Fail>
 }
 
 fn fronts_that_end_early(alloc: Global, text: &[u8]) -> Result<usize, Fail> {
-    let sc = scenario_of(alloc, "ab 2")?;
-    fronts_over(alloc, &sc, text)
+    asked(alloc, "ab 2", |sc| fronts_over(alloc, sc, text))
 }
 
 #[test]
@@ -388,8 +401,7 @@ fn lengths_over(alloc: Global, sc: &Scenario, text: &[u8]) -> Result<Vec<usize>,
 }
 
 fn item_lengths(alloc: Global, text: &[u8]) -> Result<Vec<usize>, Fail> {
-    let sc = scenario_of(alloc, "ab 2")?;
-    lengths_over(alloc, &sc, text)
+    asked(alloc, "ab 2", |sc| lengths_over(alloc, sc, text))
 }
 
 // The first four lines, each record and the end are fed one after the other.

@@ -1,7 +1,7 @@
 ghost use Rattle.std.specs.Prelude.{IfSome};
 ghost use Rattle.search_model.specs.Legal.{IsPath};
 
-use crate::scenario_texts::read;
+use crate::scenario_texts::asked_of;
 use mission_report::{push_report, push_report_json};
 use search_model::{Path, Scenario};
 use std::alloc::Global;
@@ -41,13 +41,19 @@ fn is_json(alloc: Global, sc: &Scenario, positions: &[u8], text: &str) -> Result
 }
 
 fn reports(alloc: Global, scenario: &str, positions: &[u8], text: &str) -> Result<bool, Fail> {
-    let sc = read(alloc, scenario.as_bytes())?;
-    is_report(alloc, &sc, positions, text)
+    asked_of(
+        alloc,
+        scenario.as_bytes(),
+        |sc| is_report(alloc, sc, positions, text),
+    )
 }
 
 fn reports_json(alloc: Global, scenario: &str, positions: &[u8], text: &str) -> Result<bool, Fail> {
-    let sc = read(alloc, scenario.as_bytes())?;
-    is_json(alloc, &sc, positions, text)
+    asked_of(
+        alloc,
+        scenario.as_bytes(),
+        |sc| is_json(alloc, sc, positions, text),
+    )
 }
 
 const TWO_CELLS: &str = "report 1

@@ -101,10 +101,16 @@ fn fault(alloc: Global, text: &[u8]) -> Result<Vec<u8>, Fail> {
     Ok(told.into_bytes())
 }
 
-/// The scenario of a text.
-pub(crate) fn read(alloc: Global, text: &[u8]) -> Result<Scenario, Fail> {
+/// What is asked of the scenario of a text.
+pub(crate) fn asked_of<T, F: FnOnce(&Scenario) -> Result<T, Fail>>(
+    alloc: Global,
+    text: &[u8],
+    ask: F,
+) -> Result<T, Fail>
+    requires { F.IsAlwaysCallable ask }
+{
     match read_scenario_alone(alloc, text) {
-        Ok(sc) => Ok(sc),
+        Ok(sc) => ask(&sc),
         Err(_) => Err(Fail::from("no scenario")),
     }
 }
@@ -117,8 +123,7 @@ fn printed(alloc: Global, sc: &Scenario) -> Result<Vec<u8>, Fail> {
 
 // The canonical text of a text's scenario.
 fn canonical(alloc: Global, text: &[u8]) -> Result<Vec<u8>, Fail> {
-    let sc = read(alloc, text)?;
-    printed(alloc, &sc)
+    asked_of(alloc, text, |sc| printed(alloc, sc))
 }
 
 // Whether a text is its own canonical text.
@@ -128,14 +133,12 @@ fn is_canonical(alloc: Global, text: &[u8]) -> Result<bool, Fail> {
 
 // Whether a text is read as this scenario.
 fn reads_as(alloc: Global, sc: &Scenario, text: &[u8]) -> Result<bool, Fail> {
-    let read = read(alloc, text)?;
-    Ok(agree(sc, &read))
+    asked_of(alloc, text, |read| Ok(agree(sc, read)))
 }
 
 // Whether two texts are read as the same scenario.
 fn read_alike(alloc: Global, one: &[u8], other: &[u8]) -> Result<bool, Fail> {
-    let sc = read(alloc, one)?;
-    reads_as(alloc, &sc, other)
+    asked_of(alloc, one, |sc| reads_as(alloc, sc, other))
 }
 
 // Whether the canonical text is its own, and reads as the same scenario.
@@ -243,8 +246,7 @@ fn values_of(alloc: Global, sc: &Scenario) -> Result<Vec<u8>, Fail> {
 
 // What a scenario holds.
 fn values(alloc: Global, text: &[u8]) -> Result<Vec<u8>, Fail> {
-    let sc = read(alloc, text)?;
-    values_of(alloc, &sc)
+    asked_of(alloc, text, |sc| values_of(alloc, sc))
 }
 
 fn push_front(told: &mut Vec<u8>, sc: &Scenario, bytes: usize) -> Result<(), Fail> {
