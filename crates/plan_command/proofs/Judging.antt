@@ -43,7 +43,7 @@ use Rattle.plan_command.specs.Spaces.{is_space, starts_with_space, SkipsSpaces}
 use Rattle.plan_command.specs.Plans.{BeginsWith, HasFaultIn}
 use Rattle.plan_command.specs.Families.{IsAccepted, reason_against}
 use Rattle.plan_command.specs.Commands.{HasBadText}
-use Rattle.plan_command.specs.Intakes.{LacksBy, nodes_in, records_kept, kept_of, kept_by, leads_at_end, IsNextItem, HasHeard, HasTakenText, HasTakenRest, IsVerdictOn, TellsRest, JudgesAs, IsBehind, JudgesRest, JudgesFront, Lacks, IsBehindAll, HasTaken, GoesOn}
+use Rattle.plan_command.specs.Intakes.{LacksBy, nodes_in, records_kept, kept_of, kept_by, leads_at_end, IsNextItem, HasHeard, HasTakenText, HasTakenRest, IsVerdictOn, TellsRest, JudgesAs, IsBehind, JudgesRest, JudgesFront, Lacks, IsBehindAll, HasTaken, stopped_by, intake_by, GoesOn}
 use Rattle.plan_command.proofs.Heard.{few_nodes, is_next, plan_reason, plan_kept, kept_on, kept_still}
 use Rattle.plan_command.proofs.Reading.{rest_behind, read_fault}
 
@@ -229,9 +229,13 @@ any_fault : {X : Type 0} {P Q : PlanFault → Type 0} (r : Result X PlanStop) �
 any_fault (Ok x) f p = tt
 any_fault {X = X} (Err stop) f p = if_fault X X stop f p
 
--- the fault that was told
-pub told_fault : (X : Type 0) (P : PlanFault → Type 0) (stop : PlanStop) (fault : PlanFault) → stop ≡ halts.Fault fault → IfFault {A = X} (Err stop) P → P fault
-told_fault X P stop fault is p = subst (λ (s : PlanStop). IfFault {A = X} (Err s) P) is p
+-- a judge was stopped by this, at these bytes: where it is a fault, they have it, and so they have whatever follows
+abbrev WrongOf : Judge → List ℕ → PlanStop → Type 0
+WrongOf judge piece stop = IfFault {A = Unit {0}} (Err stop) (λ fault. (task : Task) (before more : List ℕ) → HasTakenRest task before judge → HasFaultIn task.family judge.sc (before ++ piece ++ more) fault)
+
+pub goes_wrong : (task : Task) (judge : Judge) (piece : List ℕ) (stop : PlanStop) → WrongOf judge piece stop → GoesOn task judge piece (Err (stopped_by stop))
+goes_wrong task judge piece (halts.Fault fault) wrong = wrong task
+goes_wrong task judge piece halts.NoMemory wrong = tt
 
 -- the judge whose text has begun
 pub text_begun : (task : Task) (text : List ℕ) (judge : Judge) → HasTakenText task text judge → HasTakenText task text (record judge { begun = true })
@@ -342,14 +346,13 @@ begins_far p text rest more later ends begins =
     subst (λ (t : List ℕ). BeginsWith p t (rest ++ more ++ later)) (sym (append_assoc text more later))
     (subst (λ (t : List ℕ). BeginsWith p (text ++ (more ++ later)) t) (sym (append_assoc rest more later)) (begins_on p text rest (more ++ later) ends begins))
 
-pub judged_far : (task : Task) (text more : List ℕ) (judge : Judge) (next : Intake) → EndsWithEnd text → IsBehind task text judge → GoesOn task judge more next → HasTaken task (text ++ more) next
-judged_far task text more judge (intakes.Scenario alloc due lines) ends h none = absurd none
-judged_far task text more judge (intakes.Plan new) ends h (same, takes) = record {
+pub judged_far : (task : Task) (text more : List ℕ) (judge : Judge) (next : Result Judge Stop) → EndsWithEnd text → IsBehind task text judge → GoesOn task judge more next → HasTaken task (text ++ more) (intake_by next)
+judged_far task text more judge (Ok new) ends h (same, takes) = record {
   rest = h.rest ++ more;
   begins = λ later. subst (λ (q : Problem). BeginsWith q (text ++ more ++ later) (h.rest ++ more ++ later)) (sym same) (begins_far judge.sc text h.rest more later ends h.begins);
   taken = takes h.rest h.taken;
 }
-judged_far task text more judge (intakes.Stopped stop) ends h lacks =
+judged_far task text more judge (Err stop) ends h lacks =
     lacks_alike _ _ _ _ (λ fault none. absurd none)
     (λ fault faulty later. (judge.sc, (h.rest ++ more ++ later, begins_far judge.sc text h.rest more later ends h.begins, faulty h.rest later h.taken)))
     stop lacks
@@ -416,10 +419,14 @@ module _ (task : Task) (bytes more : List ℕ) (intake : Intake) (h : HasTaken t
         taken = takes behind.rest behind.taken;
       }
 
-  pub plan_faulty : (judge : Judge) (fault : PlanFault) → intake ≡ intakes.Plan judge → ((before later : List ℕ) → HasTakenRest task before judge → HasFaultIn task.family judge.sc (before ++ more ++ later) fault) → Lacks task (bytes ++ more) (stops.Refused (refusals.BadPlan fault))
+  plan_faulty : (judge : Judge) (fault : PlanFault) → intake ≡ intakes.Plan judge → ((before later : List ℕ) → HasTakenRest task before judge → HasFaultIn task.family judge.sc (before ++ more ++ later) fault) → Lacks task (bytes ++ more) (stops.Refused (refusals.BadPlan fault))
   plan_faulty judge fault is faulty = λ later.
       let behind : IsBehindAll task bytes judge = subst (HasTaken task bytes) is h in
       (judge.sc, (behind.rest ++ more ++ later, begins_more judge.sc bytes more behind.rest later behind.begins, faulty behind.rest later behind.taken))
+
+  pub plan_stops : (judge : Judge) (stop : PlanStop) → intake ≡ intakes.Plan judge → WrongOf judge more stop → Lacks task (bytes ++ more) (stopped_by stop)
+  plan_stops judge (halts.Fault fault) is wrong = plan_faulty judge fault is (wrong task)
+  plan_stops judge halts.NoMemory is wrong = tt
 
   -- a refusal
   pub stopped_more : (stop : Stop) → intake ≡ intakes.Stopped stop → HasTaken task (bytes ++ more) intake
@@ -441,9 +448,15 @@ pub some_text : (text : List ℕ) → (length text == 0) ≡ false → 0 < lengt
 some_text [] some = let bad : ⊥ = cc in absurd bad
 some_text (c ∷ text) some = omega arith
 
--- a fault of the bytes behind a scenario
-pub faulty_rest : (family : Family) (p q : Problem) (rest : List ℕ) (fault : PlanFault) → q ≡ p → ((more : List ℕ) → HasFaultIn family q ([] ++ rest ++ more) fault) → (more : List ℕ) → HasFaultIn family p (rest ++ more) fault
+-- A judge that goes on with the bytes behind a scenario.
+
+faulty_rest : (family : Family) (p q : Problem) (rest : List ℕ) (fault : PlanFault) → q ≡ p → ((more : List ℕ) → HasFaultIn family q ([] ++ rest ++ more) fault) → (more : List ℕ) → HasFaultIn family p (rest ++ more) fault
 faulty_rest family p q rest fault same faulty = subst (λ (r : Problem). (more : List ℕ) → HasFaultIn family r (rest ++ more) fault) same faulty
+
+pub rest_gone : (task : Task) (p : Problem) (rest : List ℕ) (judge : Judge) (next : Result Judge Stop) → judge.sc ≡ p → HasTakenRest task [] judge → GoesOn task judge rest next → JudgesRest task p rest next
+rest_gone task p rest judge (Ok new) same nothing (kept, takes) = (kept ∙ same, takes [] nothing)
+rest_gone task p rest judge (Err stop) same nothing lacks =
+    lacks_alike _ _ _ _ (λ fault none. absurd none) (λ fault faulty. faulty_rest task.family p judge.sc rest fault same (λ more. faulty [] more nothing)) stop lacks
 
 -- a byte more of a piece
 pub gathered_byte : (old piece now : List ℕ) (i : ℕ) → i < length piece → now ≡ old ++ take i piece → now ++ get_or piece i 0 ∷ [] ≡ old ++ take (i + 1) piece

@@ -210,13 +210,22 @@ HasTaken task bytes (intakes.Scenario alloc due text) = (due ≡ task) × (text.
 HasTaken task bytes (intakes.Plan judge) = IsBehindAll task bytes judge
 HasTaken task bytes (intakes.Stopped stop) = Lacks task bytes stop
 
+-- what stops a run where this stops the reading of a plan or gap plan
+abbrev pub stopped_by : PlanStop → Stop
+stopped_by (halts.Fault fault) = stops.Refused (refusals.BadPlan fault)
+stopped_by halts.NoMemory = stops.NoMemory
+
 -- a judge took a piece more, or the piece has a fault, and so it has whatever follows, unless memory ran out
-abbrev pub GoesOn : Task → Judge → List ℕ → Intake → Type 0
-GoesOn task judge piece (intakes.Scenario alloc due text) = ⊥
-GoesOn task judge piece (intakes.Plan new) =
+abbrev pub GoesOn : Task → Judge → List ℕ → Result Judge Stop → Type 0
+GoesOn task judge piece (Ok new) =
     (new.sc ≡ judge.sc) × ((rest : List ℕ) → HasTakenRest task rest judge → HasTakenRest task (rest ++ piece) new)
-GoesOn task judge piece (intakes.Stopped stop) =
+GoesOn task judge piece (Err stop) =
     LacksBy (λ fault. ⊥) (λ fault. (rest more : List ℕ) → HasTakenRest task rest judge → HasFaultIn task.family judge.sc (rest ++ piece ++ more) fault) stop
+
+-- an intake that goes on by a judge, or stops
+abbrev pub intake_by : Result Judge Stop → Intake
+intake_by (Ok judge) = intakes.Plan judge
+intake_by (Err stop) = intakes.Stopped stop
 
 -- a piece was added to the lines of a scenario, which didn't end, or it was taken where these ended
 abbrev pub GathersOn : Task → List ℕ → List ℕ → List ℕ → Option Intake → Type 0

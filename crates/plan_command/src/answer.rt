@@ -114,7 +114,12 @@ pub fn answer_scenario<R: AllocGlobal + Threads + Wait + Sync, G: Gate>(
     ensures { MakesOf (map string_bytes words.now) request input.now result }
 {
     match read_scenario_alone(rt.alloc(), input) {
-        Ok(sc) => done(made_of(rt, words, request, &sc, gate)),
+        Ok(sc) => {
+            let made = made_of(rt, words, request, &sc, gate);
+            // (a call, which is proved once for all scenarios, and not a drop field by field here)
+            drop(sc);
+            done(made)
+        }
         Err(TextStop::Fault(fault)) => Err(Stop::Refused(Refusal::BadScenario(fault))),
         Err(TextStop::NoMemory) => Err(Stop::NoMemory),
     }

@@ -54,7 +54,10 @@ pub fn answer_check(alloc: Global, judgement: Judgement) -> Result<Answer, Stop>
     ensures { (words : List (List ℕ)) (input : List ℕ) → Judges texts.Plans input (Ok judgement)
         → MakesOf words Request.Check input result }
 {
-    tell_verdict(alloc, judgement.verdict)
+    let verdict = judgement.verdict;
+    // (a call, as in `answer_scenario`)
+    drop(judgement);
+    tell_verdict(alloc, verdict)
 }
 
 /// The verdict on the gap plan that follows the scenario in the input.
@@ -62,7 +65,10 @@ pub fn answer_check_gap(alloc: Global, judgement: Judgement) -> Result<Answer, S
     ensures { (words : List (List ℕ)) (input : List ℕ) → Judges texts.Gaps input (Ok judgement)
         → MakesOf words Request.CheckGap input result }
 {
-    tell_verdict(alloc, judgement.verdict)
+    let verdict = judgement.verdict;
+    // (a call, as in `answer_scenario`)
+    drop(judgement);
+    tell_verdict(alloc, verdict)
 }
 
 // Appends the report of a path.

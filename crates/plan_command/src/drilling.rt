@@ -7,6 +7,7 @@ ghost use Rattle.bound_tree.specs.Places.{AreInPlace};
 ghost use Rattle.tree_format.specs.PlanText.{IsPrintable, ArePositions};
 ghost use Rattle.plan_command.specs.declared.request.Request.{Request};
 ghost use Rattle.scenario_maker.specs.Made.{made_problem};
+ghost use Rattle.scenario_text.specs.Canonical.{canonical_text};
 ghost use Rattle.plan_command.specs.Drills.{drill_text};
 ghost use Rattle.plan_command.specs.Commands.{IsDrilled};
 ghost use Rattle.plan_command.specs.Plans.{IsCertified, IsTooMany};
@@ -31,16 +32,26 @@ use text_rows::{Field, push_row};
 use tree_checker::{Verdict, check};
 use tree_format::{PlanStop, print_plan_2, push_path, read_plan};
 
+// The text of a scenario.
+fn text_of(alloc: Global, sc: &Scenario) -> Result<Vec<u8>, NoMemory>
+    ensures { IfOk result (λ text. text.items ≡ canonical_text sc.now) }
+{
+    let mut text = Vec::new(alloc);
+    print_scenario(&mut text, sc)?;
+    Ok(text)
+}
+
 /// The text of the scenario that is made from a number.
 pub fn answer_make(alloc: Global, number: u64) -> Result<Answer, Stop>
     ensures { (words : List (List ℕ)) → MakesOf words (Request.Make number) [] result }
 {
     let sc = make(alloc, number)?;
-    let mut text = Vec::new(alloc);
-    print_scenario(&mut text, &sc)?;
+    let made = text_of(alloc, &sc);
+    // (a call, as in `answer_scenario`)
+    drop(sc);
     Ok(Answer {
         status: Status::Done,
-        text,
+        text: made?,
     })
 }
 
@@ -168,5 +179,7 @@ pub fn answer_drill<R: AllocGlobal + Threads + Wait + Sync, G: Gate>(
     ensures { (words : List (List ℕ)) → MakesOf words (Request.Drill number workers) [] result }
 {
     let sc = make(rt.alloc(), number)?;
-    answer_made(rt, number, &sc, workers, gate)
+    let answer = answer_made(rt, number, &sc, workers, gate);
+    drop(sc);
+    answer
 }

@@ -64,7 +64,11 @@ fn hear_pieces<S: Source>(
     let mut intake = Intake::new(alloc, task);
     match read_pieces(source, piece, MOST_JUDGED, &mut intake) {
         Ok(()) => intake.finish(),
-        Err(stop) => Err(unread(stop)),
+        Err(stop) => {
+            // (a call, which is proved once for all intakes, and not a drop field by field here; so below)
+            drop(intake);
+            Err(unread(stop))
+        }
     }
 }
 
@@ -114,7 +118,11 @@ fn report_input<S: Source>(alloc: Global, json: bool, source: &mut S) -> Result<
         (source_view S.left S.faults source.new) (MakesOf words (Request.Report json)) result }
 {
     match judge_input(alloc, Family::Plans, source) {
-        Ok(judgement) => answer_report(alloc, json, &judgement),
+        Ok(judgement) => {
+            let answer = answer_report(alloc, json, &judgement);
+            drop(judgement);
+            answer
+        }
         Err(stop) => Err(stop),
     }
 }
@@ -127,7 +135,11 @@ fn convert_input<S: Source>(alloc: Global, source: &mut S) -> Result<Answer, Sto
     let family = Family::Plans;
     let keeps = true;
     match hear_input(alloc, Task { family, keeps }, source) {
-        Ok(judgement) => answer_convert(alloc, &judgement),
+        Ok(judgement) => {
+            let answer = answer_convert(alloc, &judgement);
+            drop(judgement);
+            answer
+        }
         Err(stop) => Err(stop),
     }
 }

@@ -4,7 +4,7 @@ ghost use Rattle.std.specs.Prelude.{◌≡◌, ◌++◌, [], ℕ, List, IfOk};
 ghost use Rattle.scenario_text.specs.Laws.{EndsWithEnd};
 ghost use Rattle.plan_command.specs.declared.judge.Task.{Task as TaskLem};
 ghost use Rattle.plan_command.specs.Plans.{BeginsWith};
-ghost use Rattle.plan_command.specs.Intakes.{HasGathered, GathersOn, HasTakenRest, GoesOn, TellsRest, IsBehind, JudgesRest, JudgesFront, JudgesAs, HasTaken, Becomes};
+ghost use Rattle.plan_command.specs.Intakes.{HasGathered, GathersOn, HasTakenRest, stopped_by, intake_by, GoesOn, TellsRest, IsBehind, JudgesRest, JudgesFront, JudgesAs, HasTaken, Becomes};
 
 use crate::hearing::Head;
 use crate::judge::{Judge, Task};
@@ -17,6 +17,7 @@ use exact_parts::NoMemory;
 use scenario_text::{TextStop, read_scenario};
 use search_model::Scenario;
 use std::alloc::Global;
+use std::mem::replace;
 use tree_checker::GapVerdict;
 use tree_format::{PlanFault, PlanStop};
 
@@ -53,15 +54,39 @@ fn gather(text: &mut Vec<u8>, piece: &[u8]) -> Result<Option<usize>, NoMemory>
     Ok(None)
 }
 
+// What stops a run where this stops the reading of a plan or gap plan.
+fn stop_by(stop: PlanStop) -> Stop
+    ensures { result ≡ stopped_by stop }
+{
+    match stop {
+        PlanStop::Fault(fault) => Stop::Refused(Refusal::BadPlan(fault)),
+        PlanStop::NoMemory => Stop::NoMemory,
+    }
+}
+
+// The judge, once it took the bytes that follow.
+fn going_on(judge: Judge, more: &[u8]) -> Result<Judge, Stop>
+    requires { (task : TaskLem) × (rest : List ℕ) × HasTakenRest task rest judge }
+    ensures { (task : TaskLem) → GoesOn task judge more.now result }
+{
+    let mut judge = judge;
+    match judge.take(more) {
+        Ok(()) => Ok(judge),
+        Err(stop) => {
+            // (a call, which is proved once for all judges, and not a drop field by field here; so below)
+            drop(judge);
+            Err(stop_by(stop))
+        }
+    }
+}
+
 // The judge behind a scenario, which took these bytes.
 fn judge_rest(alloc: Global, sc: Scenario, task: Task, rest: &[u8]) -> Result<Judge, Stop>
     ensures { JudgesRest task sc rest.now result }
 {
-    let mut judge = Judge::start(alloc, sc, task)?;
-    match judge.take(rest) {
-        Ok(()) => Ok(judge),
-        Err(PlanStop::Fault(fault)) => Err(Stop::Refused(Refusal::BadPlan(fault))),
-        Err(PlanStop::NoMemory) => Err(Stop::NoMemory),
+    match Judge::start(alloc, sc, task) {
+        Ok(judge) => going_on(judge, rest),
+        Err(NoMemory) => Err(Stop::NoMemory),
     }
 }
 
@@ -76,16 +101,13 @@ fn judge_behind(alloc: Global, task: Task, text: &[u8]) -> Result<Judge, Stop>
     }
 }
 
-// What is made of a judge and of the bytes that follow.
-fn going_on(judge: Judge, more: &[u8]) -> Intake
-    requires { (task : TaskLem) × (rest : List ℕ) × HasTakenRest task rest judge }
-    ensures { (task : TaskLem) → GoesOn task judge more.now result }
+// What is made of a judge that goes on, or of what stops it.
+fn intake_of(judge: Result<Judge, Stop>) -> Intake
+    ensures { result ≡ intake_by judge }
 {
-    let mut judge = judge;
-    match judge.take(more) {
-        Ok(()) => Intake::Plan(judge),
-        Err(PlanStop::Fault(fault)) => Intake::Stopped(Stop::Refused(Refusal::BadPlan(fault))),
-        Err(PlanStop::NoMemory) => Intake::Stopped(Stop::NoMemory),
+    match judge {
+        Ok(judge) => Intake::Plan(judge),
+        Err(stop) => Intake::Stopped(stop),
     }
 }
 
@@ -95,7 +117,7 @@ fn judged_on(alloc: Global, task: Task, text: &[u8], more: &[u8]) -> Intake
     ensures { HasTaken task (text.now ++ more.now) result }
 {
     match judge_behind(alloc, task, text) {
-        Ok(judge) => going_on(judge, more),
+        Ok(judge) => intake_of(going_on(judge, more)),
         Err(stop) => Intake::Stopped(stop),
     }
 }
@@ -133,7 +155,11 @@ fn judgement_of(
 {
     match said {
         Ok(verdict) => Ok(Judgement { sc, plan, verdict }),
-        Err(fault) => Err(Stop::Refused(Refusal::BadPlan(fault))),
+        Err(fault) => {
+            drop(sc);
+            drop(plan);
+            Err(Stop::Refused(Refusal::BadPlan(fault)))
+        }
     }
 }
 
@@ -165,7 +191,8 @@ impl Receiver for Intake {
 
     fn take(&mut self, piece: &[u8]) {
         match self.take_piece(piece) {
-            Some(next) => *self = next,
+            // (what it was is let go by a call)
+            Some(next) => drop(replace(self, next)),
             None => {}
         }
     }
@@ -189,10 +216,7 @@ impl Intake {
             Intake::Scenario(alloc, task, text) => gathered_on(*alloc, *task, text, piece),
             Intake::Plan(judge) => match judge.take(piece) {
                 Ok(()) => None,
-                Err(PlanStop::Fault(fault)) => {
-                    Some(Intake::Stopped(Stop::Refused(Refusal::BadPlan(fault))))
-                }
-                Err(PlanStop::NoMemory) => Some(Intake::Stopped(Stop::NoMemory)),
+                Err(stop) => Some(Intake::Stopped(stop_by(stop))),
             },
             Intake::Stopped(_) => None,
         }

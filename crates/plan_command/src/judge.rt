@@ -1,7 +1,7 @@
 //! The judge of a plan or of a gap plan whose text comes in pieces.
 
 ghost use Rattle.std.specs.Prelude.{◌≡◌, ◌<◌, ◌≤◌, ◌^◌, ◌++◌, ◌∷◌, [], ℕ, List, length, take, IsTrue, IfOk, IfErr, OnOk};
-ghost use Rattle.tree_format.specs.Feeding.{IsDecided};
+ghost use Rattle.tree_format.specs.Feeding.{HasRead, IsDecided};
 ghost use Rattle.tree_format.specs.declared.plan_item.PlanItem.{PlanItem as ItemLem};
 ghost use Rattle.tree_format.specs.Gives.{IfFault};
 ghost use Rattle.tree_checker.specs.Progress.{IsUnderWay, IsMadeFor};
@@ -62,24 +62,46 @@ impl Judge {
         ensures scenario { IfOk result (λ judge. judge.sc ≡ sc) }
         ensures nothing { IfOk result (λ judge. HasTakenRest task [] judge) }
     {
-        let feed = PlanFeed::start(alloc, &sc, task.family)?;
-        let checker = Checker::tables(alloc, &sc)?;
-        Ok(Judge {
-            sc,
-            task,
-            head: Head {
-                standing: Standing {
-                    path: Path::empty(),
-                    value: 0,
+        match PlanFeed::start(alloc, &sc, task.family) {
+            Ok(feed) => Judge::with_feed(alloc, sc, task, feed),
+            Err(NoMemory) => {
+                // (a call, which is proved once for all scenarios, and not a drop field by field here)
+                drop(sc);
+                Err(NoMemory)
+            }
+        }
+    }
+
+    // The judge with a feed that has read nothing.
+    fn with_feed(alloc: Global, sc: Scenario, task: Task, feed: PlanFeed) -> Result<Judge, NoMemory>
+        requires { HasRead task.family sc [] [] feed }
+        ensures scenario { IfOk result (λ judge. judge.sc ≡ sc) }
+        ensures nothing { IfOk result (λ judge. HasTakenRest task [] judge) }
+    {
+        match Checker::tables(alloc, &sc) {
+            Ok(checker) => Ok(Judge {
+                sc,
+                task,
+                head: Head {
+                    standing: Standing {
+                        path: Path::empty(),
+                        value: 0,
+                    },
+                    weight: 0,
+                    ceiling: 0,
                 },
-                weight: 0,
-                ceiling: 0,
-            },
-            records: Vec::new(alloc),
-            begun: false,
-            feed,
-            checker,
-        })
+                records: Vec::new(alloc),
+                begun: false,
+                feed,
+                checker,
+            }),
+            Err(NoMemory) => {
+                // (calls, as above)
+                drop(sc);
+                drop(feed);
+                Err(NoMemory)
+            }
+        }
     }
 
     // Hears what a line of the text told.

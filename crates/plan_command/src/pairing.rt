@@ -67,7 +67,12 @@ fn pair_from<R: AllocGlobal + Threads + Wait + Sync, G: Gate>(
         → Gives (IsPaired nodes sc.now name) (IsUnpairedFrom nodes sc.now name) result }
 {
     match product(rt.alloc(), sc, second) {
-        Ok(made) => made_and_planned(rt, &made, workers, nodes, gate),
+        Ok(made) => {
+            let text = made_and_planned(rt, &made, workers, nodes, gate);
+            // (a call, as in `answer_scenario`)
+            drop(made);
+            text
+        }
         Err(DuoFault::TooManyPositions) => Err(unpaired(DuoWhy::TooManyPositions)),
         Err(DuoFault::TooManyMoves) => Err(unpaired(DuoWhy::TooManyMoves)),
         Err(DuoFault::TooFine) => Err(unpaired(DuoWhy::TooFine)),

@@ -36,7 +36,10 @@ fn replan_flown<R: AllocGlobal + Threads + Wait + Sync, G: Gate>(
     match forced(rt.alloc(), sc, flown) {
         Ok(made) => {
             made.recall_sound();
-            made_and_planned(rt, &made, workers, nodes, gate)
+            let text = made_and_planned(rt, &made, workers, nodes, gate);
+            // (a call, as in `answer_scenario`)
+            drop(made);
+            text
         }
         Err(ForceFault::NotLegal) => unreachable!(),
         Err(ForceFault::TooManyPositions) => Err(unflown(FlownWhy::TooManyPositions)),

@@ -8,15 +8,15 @@ use Rattle.plan_command.specs.Makes.{MakesOf}
 use Rattle.plan_command.proofs.Inputs.{made_read, stopped_alike, lacks_refuses}
 use Rattle.plan_command.proofs.input.convert_input.Goals as goal
 
-pub answer_convert-requires : goal.answer_convert-requires
-answer_convert-requires g c = (c.in-Ok.ensures.0, c.in-Ok.ensures.2)
+pub answer_convert-answer-requires : goal.answer_convert-answer-requires
+answer_convert-answer-requires g c = (c.in-Ok.ensures.0, c.in-Ok.ensures.2)
 
 pub returns-in-Ok : goal.returns-in-Ok
 returns-in-Ok g c = λ words.
     let before : Source = source_view g.S.Source.left g.S.Source.faults c.args.source.now in
     let after : Source = source_view g.S.Source.left g.S.Source.faults c.hear_input.new.source in
     let (input, read, judges) = c.in-Ok.ensures in
-    made_read words Convert (Some MOST_JUDGED) before after input c.answer_convert.result read (c.answer_convert.ensures words input judges)
+    made_read words Convert (Some MOST_JUDGED) before after input c.answer_convert-answer.result read (c.answer_convert-answer.ensures words input judges)
 
 pub returns-in-Err : goal.returns-in-Err
 returns-in-Err g c = λ words.

@@ -6,14 +6,14 @@ use Rattle.plan_command.specs.Inputs.{Source, source_view}
 use Rattle.plan_command.proofs.Inputs.{judge_answered, judge_stopped}
 use Rattle.plan_command.proofs.input.report_input.Goals as goal
 
-pub answer_report-requires : goal.answer_report-requires
-answer_report-requires g c = (c.in-Ok.ensures.0, c.in-Ok.ensures.2)
+pub answer_report-answer-requires : goal.answer_report-answer-requires
+answer_report-answer-requires g c = (c.in-Ok.ensures.0, c.in-Ok.ensures.2)
 
 pub returns-in-Ok : goal.returns-in-Ok
 returns-in-Ok g c = λ words.
     let before : Source = source_view g.S.Source.left g.S.Source.faults c.args.source.now in
     let after : Source = source_view g.S.Source.left g.S.Source.faults c.judge_input.new.source in
-    judge_answered Plans words (Report c.args.json) (Some MOST_JUDGED) before after c.in-Ok.judgement c.answer_report.result c.in-Ok.ensures (c.answer_report.ensures words)
+    judge_answered Plans words (Report c.args.json) (Some MOST_JUDGED) before after c.in-Ok.judgement c.answer_report-answer.result c.in-Ok.ensures (c.answer_report-answer.ensures words)
 
 pub returns-in-Err : goal.returns-in-Err
 returns-in-Err g c = λ words.

@@ -1,8 +1,8 @@
-use Rattle.std.proofs.Common.{subst}
+use Rattle.std.proofs.Common.{◌++◌, sym, subst}
 use Rattle.plan_command.specs.declared.intake.Intake.TheVariants as intakes
-use Rattle.plan_command.specs.Intakes.{HasTaken}
+use Rattle.plan_command.specs.Intakes.{Lacks, HasTaken}
 use Rattle.plan_command.proofs.Gathering.{gathered_more}
-use Rattle.plan_command.proofs.Judging.{plan_taken, plan_more, plan_faulty, stopped_more, told_fault}
+use Rattle.plan_command.proofs.Judging.{plan_taken, plan_more, plan_stops, stopped_more}
 use Rattle.plan_command.proofs.intake.Intake.take_piece.Goals as goal
 
 pub take-requires : goal.take-requires
@@ -16,8 +16,9 @@ returns-in-Scenario c = λ task bytes h.
 pub returns-in-Ok : goal.returns-in-Ok
 returns-in-Ok c = λ task bytes h. plan_more task bytes c.args.piece.now c.args.self.now h c.in-Plan.judge c.take.new.self c.in-Plan.is c.take.ensures.scenario (c.in-Ok.ensures.taken task)
 
-pub returns-in-Err-Fault : goal.returns-in-Err-Fault
-returns-in-Err-Fault c = λ task bytes h. plan_faulty task bytes c.args.piece.now c.args.self.now h c.in-Plan.judge c.in-Err-Fault.fault c.in-Plan.is (told_fault (Unit {0}) _ c.in-Err-Fault.field-0 c.in-Err-Fault.fault c.in-Err-Fault.field-0-is c.in-Err-Fault.ensures.fault task)
+pub returns-in-Err : goal.returns-in-Err
+returns-in-Err c = λ task bytes h.
+    subst (Lacks task (bytes ++ c.args.piece.now)) (sym c.stop_by.ensures) (plan_stops task bytes c.args.piece.now c.args.self.now h c.in-Plan.judge c.in-Err.stop c.in-Plan.is c.in-Err.ensures.fault)
 
 pub returns-in-Stopped : goal.returns-in-Stopped
 returns-in-Stopped c = λ task bytes h. stopped_more task bytes c.args.piece.now c.args.self.now h _ c.in-Stopped.is
