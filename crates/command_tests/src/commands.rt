@@ -128,12 +128,27 @@ fn is_planned<R: AllocGlobal + Threads + Wait + Sync>(rt: &R, make: &str) -> Res
     Ok(made.status == Status::Done && planned.status == Status::Done)
 }
 
+// Whether the scenario of the number 0 starts there.
+fn starts_as_worked<R: AllocGlobal + Threads + Wait + Sync>(rt: &R) -> Result<bool, Fail> {
+    let made = ended(rt, "make 0", Vec::new(rt.alloc()), 16, &[], &[])?;
+    let line = made.out.split(|c| *c == b'\n').nth(28);
+    Ok(line == Some(b"start r1c2".as_slice()))
+}
+
+// Whether a drill of the number 0 by 1 and by 16 workers says the same.
+fn drills_alike<R: AllocGlobal + Threads + Wait + Sync>(rt: &R) -> Result<bool, Fail> {
+    let alloc = rt.alloc();
+    let one = ended(rt, "drill 0 --workers 1", Vec::new(alloc), 16, &[], &[])?;
+    let many = ended(rt, "drill 0 --workers 16", Vec::new(alloc), 16, &[], &[])?;
+    let done = one.status == Status::Done
+        && one.out.starts_with(b"drill 1\nnumber 0\npath ")
+        && one.out.ends_with(b"\naccepted\n");
+    Ok(done && one.out.as_slice() == many.out.as_slice())
+}
+
 #[test]
 fn made_scenarios_and_drills(rt: HostRuntime) -> Result<(), Fail> {
-    let alloc = rt.alloc();
-    let made = ended(&rt, "make 0", Vec::new(alloc), 16, &[], &[])?;
-    let line = made.out.split(|c| *c == b'\n').nth(28).ok_or("no line")?;
-    assert_eq!(rt; line, b"start r1c2".as_slice());
+    assert!(rt; starts_as_worked(&rt)?);
     for make in [
         "make 0",
         "make 1",
@@ -142,13 +157,7 @@ fn made_scenarios_and_drills(rt: HostRuntime) -> Result<(), Fail> {
     ] {
         assert!(rt; is_planned(&rt, make)?);
     }
-    let one = ended(&rt, "drill 0 --workers 1", Vec::new(alloc), 16, &[], &[])?;
-    let many = ended(&rt, "drill 0 --workers 16", Vec::new(alloc), 16, &[], &[])?;
-    assert_eq!(rt; one.status, Status::Done);
-    assert!(rt;
-        one.out.starts_with(b"drill 1\nnumber 0\npath ") && one.out.ends_with(b"\naccepted\n")
-    );
-    assert_eq!(rt; one.out.as_slice(), many.out.as_slice());
+    assert!(rt; drills_alike(&rt)?);
     Ok(())
 }
 
@@ -212,15 +221,26 @@ fn is_too_long<R: AllocGlobal + Threads + Wait + Sync>(rt: &R, words: &str) -> R
     )
 }
 
+// Whether the plan of a scenario with the greatest numbers begins with this head.
+fn wide_begins<R: AllocGlobal + Threads + Wait + Sync>(rt: &R, head: &str) -> Result<bool, Fail> {
+    let input = text_of(rt.alloc(), "@wide")?;
+    let wide = ended(rt, "plan", input, 4096, &[], &[])?;
+    let head = text_of(rt.alloc(), head)?;
+    Ok(wide.status == Status::Done && wide.out.starts_with(&head))
+}
+
+// Whether a scenario of as many bytes as it may have is planned as the one that it begins with.
+fn longest_is_planned<R: AllocGlobal + Threads + Wait + Sync>(rt: &R) -> Result<bool, Fail> {
+    let longest = padded(rt.alloc(), 1_048_576)?;
+    let end = ended(rt, "plan", longest, 65_536, &[], &[])?;
+    let plan = text_of(rt.alloc(), "@two_cells_plan_2")?;
+    Ok(end.out.as_slice() == plan.as_slice())
+}
+
 #[test]
 fn a_wide_plan_and_inputs_at_the_limit_and_past_it(rt: HostRuntime) -> Result<(), Fail> {
-    let alloc = rt.alloc();
-    let wide = ended(&rt, "plan", text_of(alloc, "@wide")?, 4096, &[], &[])?;
-    assert_eq!(rt; wide.status, Status::Done);
-    assert!(rt; wide.out.starts_with(&text_of(alloc, WIDE_PLAN_HEAD)?));
-    let longest = padded(alloc, 1_048_576)?;
-    let longest = ended(&rt, "plan", longest, 65_536, &[], &[])?;
-    assert!(rt; longest.out.as_slice() == text_of(alloc, "@two_cells_plan_2")?.as_slice());
+    assert!(rt; wide_begins(&rt, WIDE_PLAN_HEAD)?);
+    assert!(rt; longest_is_planned(&rt)?);
     for words in [
         "plan",
         "gap",

@@ -1,8 +1,8 @@
 //! Plans held against a second program, `bench/listed`, which lists all paths of small scenarios over all tracks of the
 //! target. It printed the rows of the table.
 
-use crate::trials::{checked_plan, text_of};
-use std::alloc::AllocGlobal;
+use crate::trials::{checked_plan, push_text, text_of};
+use std::alloc::{AllocGlobal, Global};
 use std::sync::Wait;
 use std::test::Fail;
 use std::thread::Threads;
@@ -35,13 +35,30 @@ path a a a | chance 4120 6144: start a | first a 3 b 1 c 2 | moves d c a | moves
 path b a d | chance 5544 6144: start c | first a 2 b 1 c 3 | moves d c b a | moves c d c b | moves b b a | moves a d b a | drift a b 3 c 1 | drift b a 1 c 3 | drift c a 2 c 2 | driftin 1 a a 3 b 1 | driftin 1 b b 2 c 2 | driftin 2 b a 3 b 1 | driftin 2 c a 1 b 2 c 1 | look d a 2 b 0 | look c a 2 b 1 | look b a 4 b 3 c 2 | look a a 0 b 2 c 0 | lookin 1 b b 2 c 1 | lookin 2 a a 3 b 0 | lookin 3 c b 3 c 1 | end
 ";
 
-// Whether a scenario has the plan of its row, and `check` accepts it.
+// How a scenario begins, and how it goes on.
+fn listed(alloc: Global, rows: &str) -> Result<Vec<u8>, Fail> {
+    let mut scenario = Vec::new(alloc);
+    push_text(&mut scenario, HEAD)?;
+    push_text(&mut scenario, rows)?;
+    Ok(scenario)
+}
+
+// Whether a scenario has this path and chance, and `check` accepts its plan.
+fn is_planned<R: AllocGlobal + Threads + Wait + Sync>(
+    rt: &R,
+    scenario: &[u8],
+    best: &str,
+) -> Result<bool, Fail> {
+    let found = checked_plan(rt, "plan --workers 2", scenario)?;
+    let wanted = text_of(rt.alloc(), best)?;
+    Ok(found.as_slice() == wanted.as_slice())
+}
+
+// Whether a scenario has the plan of its row.
 fn is_listed<R: AllocGlobal + Threads + Wait + Sync>(rt: &R, row: &str) -> Result<bool, Fail> {
     let (best, rows) = row.split_once(": ").ok_or("no scenario")?;
-    let mut scenario = text_of(rt.alloc(), HEAD)?;
-    scenario.extend_from_slice(&text_of(rt.alloc(), rows)?)?;
-    let found = checked_plan(rt, "plan --workers 2", &scenario)?;
-    Ok(found.as_slice() == text_of(rt.alloc(), best)?.as_slice())
+    let scenario = listed(rt.alloc(), rows)?;
+    is_planned(rt, &scenario, best)
 }
 
 #[test]

@@ -1,7 +1,7 @@
 //! `replan`, `map` and `duo`. What they write is held against other programs: `bench/derived` printed the made scenarios, the
 //! maps and what stands against them, `bench/tree` the plans.
 
-use crate::trials::{ended, ends, is_accepted, text_of};
+use crate::trials::{ended, ends, is_accepted, push_text};
 use plan_command::Status;
 use std::alloc::{AllocGlobal, Global};
 use std::sync::Wait;
@@ -185,18 +185,23 @@ fn push_each(
     Ok(())
 }
 
-// A scenario whose start has the first name of those that replanning adds, with so many positions besides.
-fn crowded(alloc: Global, count: usize) -> Result<Vec<u8>, Fail> {
-    let mut text = text_of(
-        alloc,
+// Adds a scenario whose start has the first name of those that replanning adds, with so many positions besides.
+fn push_crowded(alloc: Global, text: &mut Vec<u8>, count: usize) -> Result<(), Fail> {
+    push_text(
+        text,
         "scenario 2 | horizon 1 | parts 1 1 1 | cell a | position flown-0",
     )?;
-    push_each(alloc, &mut text, "position", "", count)?;
-    text.extend_from_slice(&text_of(alloc, "start flown-0 | first a 1 | moves flown-0 flown-0")?)?;
-    push_each(alloc, &mut text, "moves", " flown-0", count)?;
-    text.extend_from_slice(&text_of(alloc, "drift a a 1 | look flown-0")?)?;
-    push_each(alloc, &mut text, "look", "", count)?;
-    text.extend_from_slice(b"end\n")?;
+    push_each(alloc, text, "position", "", count)?;
+    push_text(text, "start flown-0 | first a 1 | moves flown-0 flown-0")?;
+    push_each(alloc, text, "moves", " flown-0", count)?;
+    push_text(text, "drift a a 1 | look flown-0")?;
+    push_each(alloc, text, "look", "", count)?;
+    push_text(text, "end")
+}
+
+fn crowded(alloc: Global, count: usize) -> Result<Vec<u8>, Fail> {
+    let mut text = Vec::new(alloc);
+    push_crowded(alloc, &mut text, count)?;
     Ok(text)
 }
 
@@ -211,6 +216,14 @@ fn is_refused<R: AllocGlobal + Threads + Wait + Sync>(
     Ok(end.status == Status::BadFlown && end.out.is_empty() && end.err.as_slice() == line)
 }
 
+// Whether the map of a crowded scenario is that of its one cell.
+fn is_mapped<R: AllocGlobal + Threads + Wait + Sync>(rt: &R, count: usize) -> Result<bool, Fail> {
+    let scenario = crowded(rt.alloc(), count)?;
+    let end = ended(rt, "map flown flown-0", scenario, 4096, &[], &[])?;
+    let wanted = b"map 1\nperiod 1 flown-0\nleft a 1 100.000\nend\n";
+    Ok(end.out.as_slice() == wanted.as_slice())
+}
+
 #[test]
 fn crowded_scenarios_are_refused_for_their_number_before_names(
     rt: HostRuntime,
@@ -218,18 +231,6 @@ fn crowded_scenarios_are_refused_for_their_number_before_names(
     assert!(rt; is_refused(&rt, 197, b"bad flown: NameTaken\n")?);
     assert!(rt; is_refused(&rt, 198, b"bad flown: TooManyPositions\n")?);
     assert!(rt; is_refused(&rt, 199, b"bad flown: TooManyPositions\n")?);
-    let map = ended(
-        &rt,
-        "map flown flown-0",
-        crowded(rt.alloc(), 199)?,
-        4096,
-        &[],
-        &[],
-    )?;
-    let wanted = text_of(
-        rt.alloc(),
-        "map 1 | period 1 flown-0 | left a 1 100.000 | end",
-    )?;
-    assert!(rt; map.out.as_slice() == wanted.as_slice());
+    assert!(rt; is_mapped(&rt, 199)?);
     Ok(())
 }

@@ -96,28 +96,85 @@ fn push_lines(text: &mut Vec<u8>, row: &str) -> Result<(), AllocError> {
     Ok(())
 }
 
-/// A text whose lines are written in one; a line such as `@two_cells` stands for the text of this name.
-pub fn text_of(alloc: Global, row: &str) -> Result<Vec<u8>, Fail> {
-    let mut text = Vec::new(alloc);
+/// Adds a text whose lines are written in one; a line such as `@two_cells` stands for the text of this name.
+pub fn push_text(text: &mut Vec<u8>, row: &str) -> Result<(), Fail> {
     for line in row.split(" | ") {
         let lines = match line.strip_prefix('@') {
             Some(name) => named(name).ok_or("no such text")?,
             None => line,
         };
-        push_lines(&mut text, lines)?;
+        push_lines(text, lines)?;
     }
+    Ok(())
+}
+
+/// Such a text alone.
+pub fn text_of(alloc: Global, row: &str) -> Result<Vec<u8>, Fail> {
+    let mut text = Vec::new(alloc);
+    push_text(&mut text, row)?;
     Ok(text)
 }
 
-/// The words of a command line.
-pub fn words_of(alloc: Global, line: &str) -> Result<Vec<String>, Fail> {
-    let mut words = Vec::new(alloc);
+fn push_words(alloc: Global, words: &mut Vec<String>, line: &str) -> Result<(), Fail> {
     for word in line.split(' ') {
         if !word.is_empty() {
             words.push(String::from_str(alloc, word)?)?;
         }
     }
+    Ok(())
+}
+
+/// The words of a command line.
+pub fn words_of(alloc: Global, line: &str) -> Result<Vec<String>, Fail> {
+    let mut words = Vec::new(alloc);
+    push_words(alloc, &mut words, line)?;
     Ok(words)
+}
+
+/// Numbers or bytes, once more.
+pub fn copied<T: Copy + Drop>(alloc: Global, items: &[T]) -> Result<Vec<T>, AllocError> {
+    let mut copy = Vec::new(alloc);
+    copy.extend_from_slice(items)?;
+    Ok(copy)
+}
+
+// How a run ended, and what was written.
+fn outcome_of(alloc: Global, status: Status, out: &[u8], err: &[u8]) -> Result<Outcome, Fail> {
+    let out = copied(alloc, out)?;
+    let err = copied(alloc, err)?;
+    Ok(Outcome { status, out, err })
+}
+
+// Runs words between a source and a sink.
+fn ended_between<R: AllocGlobal + Threads + Wait + Sync>(
+    rt: &R,
+    words: &[String],
+    source: &mut MemSource,
+    out: &mut MemSink,
+    most: usize,
+) -> Result<Outcome, Fail>
+    requires { 1 ≤ most }
+{
+    let mut err = MemSink::new(rt.alloc(), most, Vec::new(rt.alloc()));
+    let status = run(rt, words, source, out, &mut err, &OpenGate);
+    outcome_of(rt.alloc(), status, out.wrote(), err.wrote())
+}
+
+// Runs words over memory.
+fn ended_over<R: AllocGlobal + Threads + Wait + Sync>(
+    rt: &R,
+    words: &[String],
+    input: Vec<u8>,
+    most: usize,
+    read_fails: &[u64],
+    write_fails: &[u64],
+) -> Result<Outcome, Fail>
+    requires { 1 ≤ most }
+{
+    let alloc = rt.alloc();
+    let mut source = MemSource::new(input, most, copied(alloc, read_fails)?);
+    let mut out = MemSink::new(alloc, most, copied(alloc, write_fails)?);
+    ended_between(rt, words, &mut source, &mut out, most)
 }
 
 /// Runs a command over memory, `most` bytes a read and a write.
@@ -131,17 +188,8 @@ pub fn ended<R: AllocGlobal + Threads + Wait + Sync>(
 ) -> Result<Outcome, Fail>
     requires { 1 ≤ most }
 {
-    let alloc = rt.alloc();
-    let words = words_of(alloc, line)?;
-    let mut source = MemSource::new(input, most, read_fails.to_vec(alloc)?);
-    let mut out = MemSink::new(alloc, most, write_fails.to_vec(alloc)?);
-    let mut err = MemSink::new(alloc, most, Vec::new(alloc));
-    let status = run(rt, &words, &mut source, &mut out, &mut err, &OpenGate);
-    Ok(Outcome {
-        status,
-        out: out.wrote().to_vec(alloc)?,
-        err: err.wrote().to_vec(alloc)?,
-    })
+    let words = words_of(rt.alloc(), line)?;
+    ended_over(rt, &words, input, most, read_fails, write_fails)
 }
 
 // Whether what a run wrote is a text as its side says: the beginning, the end, or all of it.
@@ -172,6 +220,39 @@ pub fn ends<R: AllocGlobal + Threads + Wait + Sync>(
     ends_by(rt, row, 16)
 }
 
+// The fields of a row.
+#[derive(Clone, Copy)]
+struct Row<'a> {
+    words: &'a str,
+    input: &'a str,
+    status: &'a str,
+    side: &'a str,
+    text: &'a str,
+}
+
+fn row_of(row: &str) -> Option<Row> {
+    let mut fields = row.split("; ");
+    Some(Row {
+        words: fields.next()?,
+        input: fields.next()?,
+        status: fields.next()?,
+        side: fields.next()?,
+        text: fields.next()?,
+    })
+}
+
+// Whether a run ended as its row says.
+fn is_as_said(alloc: Global, end: &Outcome, row: &Row) -> Result<bool, Fail> {
+    let (wrote, other) = if row.side == "err" {
+        (&end.err, &end.out)
+    } else {
+        (&end.out, &end.err)
+    };
+    let code = format!(in alloc; "{}", status_code(end.status))?;
+    let same = code.as_str() == row.status && other.is_empty();
+    Ok(same && is_written(row.side, wrote, &text_of(alloc, row.text)?))
+}
+
 /// How a run ends, `most` bytes a read and a write, where it ends as its row says. In a row are the words, the input, the
 /// number of the status, a side, and the text that the run writes there: on `err` or on `out`, all of it, or its `head` or
 /// its `tail` there; nothing is on the other side. Texts are written as `text_of` reads them.
@@ -182,22 +263,14 @@ pub fn ends_by<R: AllocGlobal + Threads + Wait + Sync>(
 ) -> Result<Option<Outcome>, Fail>
     requires { 1 ≤ most }
 {
-    let alloc = rt.alloc();
-    let mut fields = row.split("; ");
-    let words = fields.next().ok_or("no words")?;
-    let input = input_of(alloc, fields.next().ok_or("no input")?)?;
-    let status = fields.next().ok_or("no status")?;
-    let side = fields.next().ok_or("no side")?;
-    let text = text_of(alloc, fields.next().ok_or("no text")?)?;
-    let end = ended(rt, words, input, most, &[], &[])?;
-    let (wrote, other) = if side == "err" {
-        (&end.err, &end.out)
+    let row = row_of(row).ok_or("no row")?;
+    let input = input_of(rt.alloc(), row.input)?;
+    let end = ended(rt, row.words, input, most, &[], &[])?;
+    if is_as_said(rt.alloc(), &end, &row)? {
+        Ok(Some(end))
     } else {
-        (&end.out, &end.err)
-    };
-    let code = format!(in alloc; "{}", status_code(end.status))?;
-    let as_said = code.as_str() == status && is_written(side, wrote, &text) && other.is_empty();
-    Ok(if as_said { Some(end) } else { None })
+        Ok(None)
+    }
 }
 
 /// Whether a check accepts a scenario and the plan behind it.
@@ -209,15 +282,39 @@ pub fn is_accepted<R: AllocGlobal + Threads + Wait + Sync>(
     Ok(check.out.as_slice() == b"accepted\n".as_slice())
 }
 
-// The path and the chance of a plan, as its text has them.
-fn path_and_chance(alloc: Global, plan: &[u8]) -> Result<Vec<u8>, Fail> {
-    let path = plan.split(|c| *c == b'\n').nth(1).ok_or("no path")?;
-    let chance = plan.split(|c| *c == b'\n').nth(2).ok_or("no chance")?;
-    let mut both = path.to_vec(alloc)?;
-    both.push(b'\n')?;
-    both.extend_from_slice(chance)?;
-    both.push(b'\n')?;
-    Ok(both)
+// Adds the path and the chance of a plan, as its text has them.
+fn push_path_and_chance(told: &mut Vec<u8>, plan: &[u8]) -> Result<(), Fail> {
+    for number in 1..3 {
+        let line = plan.split(|c| *c == b'\n').nth(number).ok_or("no line")?;
+        told.extend_from_slice(line)?;
+        told.push(b'\n')?;
+    }
+    Ok(())
+}
+
+// Whether a check accepts a plan behind its scenario.
+fn is_plan_of<R: AllocGlobal + Threads + Wait + Sync>(
+    rt: &R,
+    scenario: &[u8],
+    plan: &[u8],
+) -> Result<bool, Fail> {
+    let mut input = copied(rt.alloc(), scenario)?;
+    input.extend_from_slice(plan)?;
+    is_accepted(rt, input)
+}
+
+// The path and the chance of a plan that a check accepts.
+fn path_and_chance<R: AllocGlobal + Threads + Wait + Sync>(
+    rt: &R,
+    scenario: &[u8],
+    plan: &[u8],
+) -> Result<Vec<u8>, Fail> {
+    if !is_plan_of(rt, scenario, plan)? {
+        return Err(Fail::from("not accepted"));
+    }
+    let mut told = Vec::new(rt.alloc());
+    push_path_and_chance(&mut told, plan)?;
+    Ok(told)
 }
 
 /// Plans a scenario, and checks the plan: its path and chance.
@@ -226,12 +323,7 @@ pub fn checked_plan<R: AllocGlobal + Threads + Wait + Sync>(
     words: &str,
     scenario: &[u8],
 ) -> Result<Vec<u8>, Fail> {
-    let alloc = rt.alloc();
-    let plan = ended(rt, words, scenario.to_vec(alloc)?, 4096, &[], &[])?;
-    let mut input = scenario.to_vec(alloc)?;
-    input.extend_from_slice(&plan.out)?;
-    if !is_accepted(rt, input)? {
-        return Err(Fail::from("not accepted"));
-    }
-    path_and_chance(alloc, &plan.out)
+    let input = copied(rt.alloc(), scenario)?;
+    let plan = ended(rt, words, input, 4096, &[], &[])?;
+    path_and_chance(rt, scenario, &plan.out)
 }

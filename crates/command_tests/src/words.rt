@@ -147,10 +147,15 @@ plan : none
 // The words of a row.
 fn words_between(alloc: Global, line: &str) -> Result<Vec<String>, Fail> {
     let mut words = Vec::new(alloc);
+    push_words(alloc, &mut words, line)?;
+    Ok(words)
+}
+
+fn push_words(alloc: Global, words: &mut Vec<String>, line: &str) -> Result<(), Fail> {
     for word in line.split('/') {
         words.push(String::from_str(alloc, word)?)?;
     }
-    Ok(words)
+    Ok(())
 }
 
 // A request, as rows have it.
