@@ -55,25 +55,30 @@ fn entries_come_in_ascending_order(rt: HostRuntime) -> Result<(), Fail> {
     Ok(())
 }
 
+fn fault_of_rows(alloc: Global, lists: &[&[(u8, u32)]]) -> Result<Option<DriftFault>, Fail> {
+    Ok(drift_of(alloc, 2, lists)?.err())
+}
+
+const ROWS: [(&[&[(u8, u32)]], DriftFault); 6] = [
+    (&[&[(0, 1)]], DriftFault::WrongSum(0)),
+    (&[&[]], DriftFault::WrongSum(0)),
+    (
+        &[&[(0, u32::MAX), (1, 3)], &[(0, 2)]],
+        DriftFault::WrongSum(0),
+    ),
+    (
+        &[&[(0, 2)], &[(2, 0), (2, 1)], &[(9, 1)]],
+        DriftFault::ZeroPart(1),
+    ),
+    (&[&[(0, 1), (0, 1)]], DriftFault::DoubleEntry(0)),
+    (&[&[(1, 0)]], DriftFault::OutOfRange(0)),
+];
+
 // The least row that has a fault is named, and of its faults the first; the sum of a row may exceed 32 bits.
 #[test]
 fn faults_have_their_order(rt: HostRuntime) -> Result<(), Fail> {
-    let cases: [(&[&[(u8, u32)]], DriftFault); 6] = [
-        (&[&[(0, 1)]], DriftFault::WrongSum(0)),
-        (&[&[]], DriftFault::WrongSum(0)),
-        (
-            &[&[(0, u32::MAX), (1, 3)], &[(0, 2)]],
-            DriftFault::WrongSum(0),
-        ),
-        (
-            &[&[(0, 2)], &[(2, 0), (2, 1)], &[(9, 1)]],
-            DriftFault::ZeroPart(1),
-        ),
-        (&[&[(0, 1), (0, 1)]], DriftFault::DoubleEntry(0)),
-        (&[&[(1, 0)]], DriftFault::OutOfRange(0)),
-    ];
-    for (lists, fault) in cases {
-        assert_eq!(rt; drift_of(rt.alloc(), 2, lists)?.err(), Some(fault));
+    for (lists, fault) in ROWS {
+        assert_eq!(rt; fault_of_rows(rt.alloc(), lists)?, Some(fault));
     }
     Ok(())
 }
@@ -114,46 +119,52 @@ fn has_changes_in_their_periods(drift: &Drift) -> bool {
         && drift.part(31, 1, 0) == 2
 }
 
+const TOLD: [Told; 3] = [
+    (2, 0, &[(1, 1), (0, 1)]),
+    (31, 1, &[(0, 2)]),
+    (1, 1, &[(0, 1), (1, 1)]),
+];
+
 #[test]
 fn changes_are_of_their_period_and_cell(rt: HostRuntime) -> Result<(), Fail> {
-    let told: [Told; 3] = [
-        (2, 0, &[(1, 1), (0, 1)]),
-        (31, 1, &[(0, 2)]),
-        (1, 1, &[(0, 1), (1, 1)]),
-    ];
-    let drift = changed(rt.alloc(), &told)??;
+    let drift = changed(rt.alloc(), &TOLD)??;
     assert!(rt; has_changes_in_their_periods(&drift));
     crosses_threads(drift);
     Ok(())
 }
 
+const CHANGES: [(&[Told], Option<ChangeFault>); 8] = [
+    (&[], None),
+    (&[(31, 0, &[(0, 2)]), (1, 0, &[(1, 2)])], None),
+    (&[(0, 0, &[(0, 2)])], Some(ChangeFault::PeriodOutOfRange(0))),
+    (&[(32, 2, &[])], Some(ChangeFault::PeriodOutOfRange(0))),
+    (
+        &[(1, 0, &[(0, 2)]), (1, 2, &[])],
+        Some(ChangeFault::CellOutOfRange(1)),
+    ),
+    (
+        &[(1, 0, &[(0, 2)]), (1, 0, &[])],
+        Some(ChangeFault::DoubleChange(1)),
+    ),
+    (
+        &[(1, 0, &[(0, 1), (0, 1)]), (0, 0, &[])],
+        Some(ChangeFault::BadRow(0)),
+    ),
+    (
+        &[(1, 0, &[(0, 2)]), (1, 1, &[(2, 2)])],
+        Some(ChangeFault::BadRow(1)),
+    ),
+];
+
+fn fault_of_changes(alloc: Global, told: &[Told]) -> Result<Option<ChangeFault>, Fail> {
+    Ok(changed(alloc, told)?.err())
+}
+
 // The least place that has a fault is named, and of its faults the first.
 #[test]
 fn faults_of_changes_have_their_order(rt: HostRuntime) -> Result<(), Fail> {
-    let cases: [(&[Told], Option<ChangeFault>); 8] = [
-        (&[], None),
-        (&[(31, 0, &[(0, 2)]), (1, 0, &[(1, 2)])], None),
-        (&[(0, 0, &[(0, 2)])], Some(ChangeFault::PeriodOutOfRange(0))),
-        (&[(32, 2, &[])], Some(ChangeFault::PeriodOutOfRange(0))),
-        (
-            &[(1, 0, &[(0, 2)]), (1, 2, &[])],
-            Some(ChangeFault::CellOutOfRange(1)),
-        ),
-        (
-            &[(1, 0, &[(0, 2)]), (1, 0, &[])],
-            Some(ChangeFault::DoubleChange(1)),
-        ),
-        (
-            &[(1, 0, &[(0, 1), (0, 1)]), (0, 0, &[])],
-            Some(ChangeFault::BadRow(0)),
-        ),
-        (
-            &[(1, 0, &[(0, 2)]), (1, 1, &[(2, 2)])],
-            Some(ChangeFault::BadRow(1)),
-        ),
-    ];
-    for (told, fault) in cases {
-        assert_eq!(rt; changed(rt.alloc(), told)?.err(), fault);
+    for (told, fault) in CHANGES {
+        assert_eq!(rt; fault_of_changes(rt.alloc(), told)?, fault);
     }
     Ok(())
 }

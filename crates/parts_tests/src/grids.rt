@@ -1,3 +1,4 @@
+use crate::copies::copied;
 use crate::threads::crosses_threads;
 use search_grid::{Grid, GridFault};
 use std::alloc::{AllocError, Global};
@@ -6,7 +7,7 @@ use std::test::Fail;
 fn rows_of(alloc: Global, lists: &[&[u8]]) -> Result<Vec<Vec<u8>>, AllocError> {
     let mut rows = Vec::new(alloc);
     for list in lists {
-        rows.push(list.to_vec(alloc)?)?;
+        rows.push(copied(alloc, list)?)?;
     }
     Ok(rows)
 }
@@ -37,18 +38,19 @@ fn a_field_has_side_neighbours(rt: HostRuntime) -> Result<(), Fail> {
     Ok(())
 }
 
+const FAULTY: [(&[&[u8]], GridFault); 6] = [
+    (&[], GridFault::CellCount),
+    (&[&[0; 64]], GridFault::DoubleMove(0)),
+    (&[&[0; 65]], GridFault::TooManyMoves(0)),
+    (&[&[0], &[0, 0], &[]], GridFault::DoubleMove(1)),
+    (&[&[0], &[], &[5]], GridFault::NoMove(1)),
+    (&[&[1, 0], &[0], &[5]], GridFault::OutOfRange(2)),
+];
+
 // The least cell that has a fault is named, and of its faults the first.
 #[test]
 fn faults_have_their_order(rt: HostRuntime) -> Result<(), Fail> {
-    let cases: [(&[&[u8]], GridFault); 6] = [
-        (&[], GridFault::CellCount),
-        (&[&[0; 64]], GridFault::DoubleMove(0)),
-        (&[&[0; 65]], GridFault::TooManyMoves(0)),
-        (&[&[0], &[0, 0], &[]], GridFault::DoubleMove(1)),
-        (&[&[0], &[], &[5]], GridFault::NoMove(1)),
-        (&[&[1, 0], &[0], &[5]], GridFault::OutOfRange(2)),
-    ];
-    for (lists, fault) in cases {
+    for (lists, fault) in FAULTY {
         assert_eq!(rt; Grid::new(rows_of(rt.alloc(), lists)?).err(), Some(fault));
     }
     Ok(())

@@ -1,3 +1,4 @@
+use crate::copies::copied;
 use crate::threads::crosses_threads;
 use drift_chain::{Drift, DriftPart};
 use search_grid::Grid;
@@ -37,36 +38,38 @@ fn compared<T: Copy + Ord>(a: T, b: T) -> (bool, Ordering) {
     (a == b, a.cmp(&b))
 }
 
+const COMPARED: [(&[u8], &[u8], Ordering); 6] = [
+    (&[], &[0], Ordering::Less),
+    (&[1], &[1, 0], Ordering::Less),
+    (&[1, 2], &[2, 0], Ordering::Less),
+    (&[2], &[1, 9], Ordering::Greater),
+    (&[0], &[], Ordering::Greater),
+    (&[3, 3], &[3, 3], Ordering::Equal),
+];
+
 #[test]
 fn paths_compare_as_lists(rt: HostRuntime) {
-    let cases: [(&[u8], &[u8], Ordering); 6] = [
-        (&[], &[0], Ordering::Less),
-        (&[1], &[1, 0], Ordering::Less),
-        (&[1, 2], &[2, 0], Ordering::Less),
-        (&[2], &[1, 9], Ordering::Greater),
-        (&[0], &[], Ordering::Greater),
-        (&[3, 3], &[3, 3], Ordering::Equal),
-    ];
-    for (a, b, order) in cases {
+    for (a, b, order) in COMPARED {
         let (equal, found) = compared(standing(0, a).path, standing(0, b).path);
         assert_eq!(rt; equal, order == Ordering::Equal);
         assert!(rt; found == order);
     }
 }
 
+const NAMES: [(&[u8], bool); 8] = [
+    (b"r0c0", true),
+    (b"azAZ09_-", true),
+    (b"abcdefghijklmnopqrstuvwx", true),
+    (b"abcdefghijklmnopqrstuvwxy", false),
+    (b"", false),
+    (b"a.b", false),
+    (b"a b", false),
+    (b"caf\xc3\xa9", false),
+];
+
 #[test]
 fn names_are_short_and_plain(rt: HostRuntime) -> Result<(), Fail> {
-    let cases: [(&[u8], bool); 8] = [
-        (b"r0c0", true),
-        (b"azAZ09_-", true),
-        (b"abcdefghijklmnopqrstuvwx", true),
-        (b"abcdefghijklmnopqrstuvwxy", false),
-        (b"", false),
-        (b"a.b", false),
-        (b"a b", false),
-        (b"caf\xc3\xa9", false),
-    ];
-    for (bytes, is_name) in cases {
+    for (bytes, is_name) in NAMES {
         assert_eq!(rt; Name::new(bytes).is_some(), is_name);
     }
     let Some(name) = Name::new(b"r0c0") else {
@@ -105,7 +108,7 @@ fn a_path_begins_with_its_prefixes(rt: HostRuntime) {
 fn lists_of(alloc: Global, lists: &[&[u8]]) -> Result<Vec<Vec<u8>>, AllocError> {
     let mut rows = Vec::new(alloc);
     for list in lists {
-        rows.push(list.to_vec(alloc)?)?;
+        rows.push(copied(alloc, list)?)?;
     }
     Ok(rows)
 }
@@ -131,7 +134,7 @@ fn row_of_three(alloc: Global) -> Result<Grid, Fail> {
 fn staying(alloc: Global, cells: u8) -> Result<Drift, Fail> {
     let mut rows = Vec::new(alloc);
     for cell in 0..cells {
-        rows.push([DriftPart { cell, part: 1 }].to_vec(alloc)?)?;
+        rows.push(copied(alloc, &[DriftPart { cell, part: 1 }])?)?;
     }
     if rows.is_empty() || rows.len() > 200 {
         return Err(Fail::from("no drift of so many cells"));
@@ -144,7 +147,7 @@ fn looks_of(alloc: Global, denominator: u32) -> Result<Sweep, Fail> {
     if denominator == 0 || denominator > 1_000_000 {
         return Err(Fail::from("no such denominator"));
     }
-    Sweep::new(denominator, [1, 1, 1].to_vec(alloc)?).map_err(|_| Fail::from("no sweep"))
+    Sweep::new(denominator, copied(alloc, &[1, 1, 1])?).map_err(|_| Fail::from("no sweep"))
 }
 
 // What the tests change of a scenario.
@@ -159,19 +162,58 @@ struct Given {
     looks: u32,
 }
 
-// Three cells in a row, and a target that stays where it is.
-fn parts_of(alloc: Global, given: Given) -> Result<Parts, Fail> {
-    Ok(Parts {
+// What a scenario lists, and its tables.
+#[derive(Drop)]
+struct Lists {
+    names: Vec<Name>,
+    positions: Vec<Name>,
+    first: Vec<u32>,
+}
+
+#[derive(Drop)]
+struct Tables {
+    grid: Grid,
+    drift: Drift,
+    sweep: Sweep,
+}
+
+fn lists_given(alloc: Global, given: Given) -> Result<Lists, Fail> {
+    Ok(Lists {
         names: names_of(alloc, given.names)?,
         positions: names_of(alloc, given.positions)?,
-        horizon: given.horizon,
-        start: given.start,
-        total: given.total,
-        first: given.first.to_vec(alloc)?,
+        first: copied(alloc, given.first)?,
+    })
+}
+
+// Three cells in a row, and a target that stays where it is.
+fn tables_given(alloc: Global, given: Given) -> Result<Tables, Fail> {
+    Ok(Tables {
         grid: row_of_three(alloc)?,
         drift: staying(alloc, 3)?,
         sweep: looks_of(alloc, given.looks)?,
     })
+}
+
+fn joined(given: Given, lists: Lists, tables: Tables) -> Parts {
+    Parts {
+        names: lists.names,
+        positions: lists.positions,
+        horizon: given.horizon,
+        start: given.start,
+        total: given.total,
+        first: lists.first,
+        grid: tables.grid,
+        drift: tables.drift,
+        sweep: tables.sweep,
+    }
+}
+
+fn parts_of(alloc: Global, given: Given) -> Result<Parts, Fail> {
+    let lists = lists_given(alloc, given)?;
+    match tables_given(alloc, given) {
+        Ok(tables) => Ok(joined(given, lists, tables)),
+        Err(fail) => Err(fail),
+    }
 }
 
 // The target waits in the last cell.
@@ -186,6 +228,19 @@ fn waiting(alloc: Global, horizon: u32, start: u8) -> Result<Scenario, Fail> {
         looks: 2,
     };
     Scenario::new(parts_of(alloc, given)?).map_err(|_| Fail::from("no scenario"))
+}
+
+// Whether what is asked holds of a scenario in which the target waits.
+fn holds<F: FnOnce(&Scenario) -> bool>(
+    alloc: Global,
+    horizon: u32,
+    start: u8,
+    asked: F,
+) -> Result<bool, Fail>
+    requires { F.IsAlwaysCallable asked }
+{
+    let sc = waiting(alloc, horizon, start)?;
+    Ok(asked(&sc))
 }
 
 // Whether a scenario of two periods in which the target waits says what it was made of.
@@ -232,8 +287,7 @@ fn are_legal(sc: &Scenario, rows: &[(&[u8], bool)]) -> bool {
 
 #[test]
 fn legal_prefixes_follow_the_moves(rt: HostRuntime) -> Result<(), Fail> {
-    let sc = waiting(rt.alloc(), 2, 0)?;
-    assert!(rt; are_legal(&sc, &LEGAL));
+    assert!(rt; holds(rt.alloc(), 2, 0, |sc| are_legal(sc, &LEGAL))?);
     Ok(())
 }
 
@@ -252,8 +306,7 @@ fn have_moves(sc: &Scenario, rows: &[(&[u8], &[u8])]) -> bool {
 
 #[test]
 fn moves_come_from_the_last_position(rt: HostRuntime) -> Result<(), Fail> {
-    let sc = waiting(rt.alloc(), 2, 1)?;
-    assert!(rt; have_moves(&sc, &MOVES));
+    assert!(rt; holds(rt.alloc(), 2, 1, |sc| have_moves(sc, &MOVES))?);
     Ok(())
 }
 
@@ -279,8 +332,7 @@ fn have_values(sc: &Scenario, rows: &[(&[u8], u128)]) -> bool {
 
 #[test]
 fn values_are_as_worked_by_hand(rt: HostRuntime) -> Result<(), Fail> {
-    let sc = waiting(rt.alloc(), 3, 1)?;
-    assert!(rt; have_values(&sc, &WORKED));
+    assert!(rt; holds(rt.alloc(), 3, 1, |sc| have_values(sc, &WORKED))?);
     Ok(())
 }
 
@@ -396,13 +448,14 @@ const FAULTY: [(Given, ModelFault); 9] = [
     ),
 ];
 
+fn fault_of(alloc: Global, given: Given) -> Result<Option<ModelFault>, Fail> {
+    Ok(Scenario::new(parts_of(alloc, given)?).err())
+}
+
 #[test]
 fn the_first_fault_is_named(rt: HostRuntime) -> Result<(), Fail> {
     for (given, fault) in FAULTY {
-        assert_eq!(rt;
-            Scenario::new(parts_of(rt.alloc(), given)?).err(),
-            Some(fault)
-        );
+        assert_eq!(rt; fault_of(rt.alloc(), given)?, Some(fault));
     }
     Ok(())
 }

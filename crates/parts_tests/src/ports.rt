@@ -1,3 +1,4 @@
+use crate::copies::copied;
 use byte_ports::{
     MemSink, MemSource, PlainSink, PlainSource, ReadStop, Sink, Source, StdErr, StdIn, StdOut,
     WriteStop, read_all, write_all,
@@ -57,7 +58,7 @@ fn fails_at_the_second_read(alloc: Global, source: &mut MemSource) -> Result<boo
 
 #[test]
 fn the_second_read_fails(rt: HostRuntime) -> Result<(), Fail> {
-    let faults = [2].to_vec(rt.alloc())?;
+    let faults = copied(rt.alloc(), &[2])?;
     let mut source = MemSource::new(counting(rt.alloc(), 0, 155)?, 16, faults);
     assert!(rt; fails_at_the_second_read(rt.alloc(), &mut source)?);
     Ok(())
@@ -75,13 +76,18 @@ fn writes(
     Ok(told == answer && sink.wrote() == counting(alloc, 0, end)?.as_slice())
 }
 
+// Whether the third of its writes fails, and it goes on behind what it wrote.
+fn fails_at_the_third_write(alloc: Global, sink: &mut MemSink) -> Result<bool, Fail> {
+    let all = counting(alloc, 0, 72)?;
+    let rest = counting(alloc, 32, 72)?;
+    let fails = writes(alloc, sink, &all, Err(WriteStop::Fault), 32)?;
+    Ok(fails && writes(alloc, sink, &rest, Ok(()), 72)?)
+}
+
 #[test]
 fn the_third_write_fails(rt: HostRuntime) -> Result<(), Fail> {
-    let alloc = rt.alloc();
-    let (all, rest) = (counting(alloc, 0, 72)?, counting(alloc, 32, 72)?);
-    let mut sink = MemSink::new(alloc, 16, [3].to_vec(alloc)?);
-    assert!(rt; writes(alloc, &mut sink, &all, Err(WriteStop::Fault), 32)?);
-    assert!(rt; writes(alloc, &mut sink, &rest, Ok(()), 72)?);
+    let mut sink = MemSink::new(rt.alloc(), 16, copied(rt.alloc(), &[3])?);
+    assert!(rt; fails_at_the_third_write(rt.alloc(), &mut sink)?);
     Ok(())
 }
 
@@ -95,7 +101,7 @@ fn fails_at_the_first_call(sink: &mut MemSink) -> bool {
 
 #[test]
 fn nothing_to_write_makes_no_call(rt: HostRuntime) -> Result<(), Fail> {
-    let mut sink = MemSink::new(rt.alloc(), 16, [1].to_vec(rt.alloc())?);
+    let mut sink = MemSink::new(rt.alloc(), 16, copied(rt.alloc(), &[1])?);
     assert!(rt; fails_at_the_first_call(&mut sink));
     Ok(())
 }
@@ -106,7 +112,7 @@ fn kept(alloc: Global, bytes: &[u8]) -> Result<Option<Vec<u8>>, AllocError> {
     if write_all(&mut sink, bytes).is_err() {
         return Ok(None);
     }
-    Ok(Some(sink.wrote().to_vec(alloc)?))
+    Ok(Some(copied(alloc, sink.wrote())?))
 }
 
 // Whether a source holds these bytes and no more.

@@ -1,5 +1,6 @@
 ghost use Rattle.std.specs.Prelude.{◌≡◌, [], IfOk};
 
+use crate::copies::copied;
 use crate::threads::crosses_threads;
 use std::alloc::{AllocError, Global};
 use std::test::Fail;
@@ -70,7 +71,7 @@ fn changed(alloc: Global, lists: &[Changed]) -> Result<Result<Sweep, LookChangeF
 fn looks_of(alloc: Global, parts: &[u32]) -> Result<Sweep, Fail>
     ensures { IfOk result (λ sweep. sweep.changes ≡ []) }
 {
-    match Sweep::new(2, parts.to_vec(alloc)?) {
+    match Sweep::new(2, copied(alloc, parts)?) {
         Ok(sweep) => Ok(sweep),
         Err(_) => Err(Fail::from("no sweep")),
     }
@@ -96,7 +97,7 @@ fn a_part_may_be_the_whole_denominator(rt: HostRuntime) -> Result<(), Fail> {
 
 #[test]
 fn the_least_cell_over_is_named(rt: HostRuntime) -> Result<(), Fail> {
-    let parts = [2, 3, 4].to_vec(rt.alloc())?;
+    let parts = copied(rt.alloc(), &[2, 3, 4])?;
     assert_eq!(rt; Sweep::new(2, parts).err(), Some(SweepFault::PartOver(1)));
     Ok(())
 }
@@ -106,37 +107,47 @@ fn one_rate_of(alloc: Global, parts: &[u32]) -> Result<Option<u32>, Fail> {
     Ok(looks_of(alloc, parts)?.one_rate(1))
 }
 
+const RATES: [(&[u32], Option<u32>); 3] = [
+    (&[1, 2, 1], Some(1)),
+    (&[0, 1, 1], None),
+    (&[2, 2, 2], Some(2)),
+];
+
 #[test]
 fn one_rate_is_the_least_part_or_none(rt: HostRuntime) -> Result<(), Fail> {
-    let cases: [(&[u32], Option<u32>); 3] = [
-        (&[1, 2, 1], Some(1)),
-        (&[0, 1, 1], None),
-        (&[2, 2, 2], Some(2)),
-    ];
-    for (parts, rate) in cases {
+    for (parts, rate) in RATES {
         assert_eq!(rt; one_rate_of(rt.alloc(), parts)?, rate);
     }
     Ok(())
 }
 
+fn fault_of_rows(
+    alloc: Global,
+    cells: u8,
+    lists: &[Entries],
+) -> Result<Option<LookFault>, AllocError> {
+    Ok(halves(alloc, cells, lists)?.err())
+}
+
+const ROWS: [(u8, &[Entries], LookFault); 7] = [
+    (2, &[], LookFault::Count),
+    (0, &[&[(0, 3)]], LookFault::Count),
+    (201, &[&[(0, 3)]], LookFault::Count),
+    (2, &[&[(0, 1)], &[(2, 3), (2, 3)]], LookFault::OutOfRange(1)),
+    (
+        2,
+        &[&[(1, 3), (1, 0)], &[(2, 0)]],
+        LookFault::DoubleEntry(0),
+    ),
+    (2, &[&[(1, 2)], &[], &[(0, 3)]], LookFault::PartOver(2)),
+    (1, &[&[(0, 3)], &[(1, 0)]], LookFault::PartOver(0)),
+];
+
 // Count goes before all else, then the least position with a fault, and of its faults the first.
 #[test]
 fn faults_have_their_order(rt: HostRuntime) -> Result<(), Fail> {
-    let cases: [(u8, &[Entries], LookFault); 7] = [
-        (2, &[], LookFault::Count),
-        (0, &[&[(0, 3)]], LookFault::Count),
-        (201, &[&[(0, 3)]], LookFault::Count),
-        (2, &[&[(0, 1)], &[(2, 3), (2, 3)]], LookFault::OutOfRange(1)),
-        (
-            2,
-            &[&[(1, 3), (1, 0)], &[(2, 0)]],
-            LookFault::DoubleEntry(0),
-        ),
-        (2, &[&[(1, 2)], &[], &[(0, 3)]], LookFault::PartOver(2)),
-        (1, &[&[(0, 3)], &[(1, 0)]], LookFault::PartOver(0)),
-    ];
-    for (cells, lists, fault) in cases {
-        assert_eq!(rt; halves(rt.alloc(), cells, lists)?.err(), Some(fault));
+    for (cells, lists, fault) in ROWS {
+        assert_eq!(rt; fault_of_rows(rt.alloc(), cells, lists)?, Some(fault));
     }
     Ok(())
 }
@@ -209,32 +220,37 @@ fn looks_change_in_single_periods(rt: HostRuntime) -> Result<(), Fail> {
     Ok(())
 }
 
+fn fault_of_changes(alloc: Global, lists: &[Changed]) -> Result<Option<LookChangeFault>, Fail> {
+    Ok(changed(alloc, lists)?.err())
+}
+
+const CHANGES: [(&[Changed], LookChangeFault); 7] = [
+    (
+        &[(1, 1, &[]), (0, 2, &[(2, 0)])],
+        LookChangeFault::PeriodOutOfRange(1),
+    ),
+    (&[(33, 0, &[])], LookChangeFault::PeriodOutOfRange(0)),
+    (
+        &[(32, 2, &[(0, 3)]), (0, 0, &[])],
+        LookChangeFault::PositionOutOfRange(0),
+    ),
+    (
+        &[(1, 0, &[]), (2, 0, &[]), (1, 0, &[(2, 0)])],
+        LookChangeFault::DoubleChange(2),
+    ),
+    (&[(1, 0, &[(2, 0)])], LookChangeFault::BadRow(0)),
+    (
+        &[(1, 0, &[]), (1, 1, &[(1, 0), (1, 0)])],
+        LookChangeFault::BadRow(1),
+    ),
+    (&[(1, 0, &[(1, 3)])], LookChangeFault::BadRow(0)),
+];
+
 // The first change with a fault is named, and of its faults the first.
 #[test]
 fn faults_of_changes_have_their_order(rt: HostRuntime) -> Result<(), Fail> {
-    let cases: [(&[Changed], LookChangeFault); 7] = [
-        (
-            &[(1, 1, &[]), (0, 2, &[(2, 0)])],
-            LookChangeFault::PeriodOutOfRange(1),
-        ),
-        (&[(33, 0, &[])], LookChangeFault::PeriodOutOfRange(0)),
-        (
-            &[(32, 2, &[(0, 3)]), (0, 0, &[])],
-            LookChangeFault::PositionOutOfRange(0),
-        ),
-        (
-            &[(1, 0, &[]), (2, 0, &[]), (1, 0, &[(2, 0)])],
-            LookChangeFault::DoubleChange(2),
-        ),
-        (&[(1, 0, &[(2, 0)])], LookChangeFault::BadRow(0)),
-        (
-            &[(1, 0, &[]), (1, 1, &[(1, 0), (1, 0)])],
-            LookChangeFault::BadRow(1),
-        ),
-        (&[(1, 0, &[(1, 3)])], LookChangeFault::BadRow(0)),
-    ];
-    for (lists, fault) in cases {
-        assert_eq!(rt; changed(rt.alloc(), lists)?.err(), Some(fault));
+    for (lists, fault) in CHANGES {
+        assert_eq!(rt; fault_of_changes(rt.alloc(), lists)?, Some(fault));
     }
     Ok(())
 }

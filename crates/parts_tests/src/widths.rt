@@ -1,3 +1,4 @@
+use crate::copies::copied;
 use exact_parts::{Number, digits, fits, number_of, push_percent, push_u128, read_u128, weight_of};
 use std::test::Fail;
 
@@ -8,16 +9,17 @@ fn widths(rt: HostRuntime) {
     assert_eq!(rt; weight_of(2, 2, 2, 2), 16);
 }
 
+const NUMBERS: [(&[u8], Option<u128>); 5] = [
+    (b"340282366920938463463374607431768211455", Some(u128::MAX)),
+    (b"340282366920938463463374607431768211456", None),
+    (b"0", Some(0)),
+    (b"01", None),
+    (b"", None),
+];
+
 #[test]
 fn texts_are_read(rt: HostRuntime) {
-    let cases: [(&[u8], Option<u128>); 5] = [
-        (b"340282366920938463463374607431768211455", Some(u128::MAX)),
-        (b"340282366920938463463374607431768211456", None),
-        (b"0", Some(0)),
-        (b"01", None),
-        (b"", None),
-    ];
-    for (text, number) in cases {
+    for (text, number) in NUMBERS {
         assert_eq!(rt; read_u128(text), number);
     }
 }
@@ -41,7 +43,7 @@ fn digits_stand_at_the_front(rt: HostRuntime) {
 
 #[test]
 fn a_number_is_appended(rt: HostRuntime) -> Result<(), Fail> {
-    let mut out = b"n ".to_vec(rt.alloc())?;
+    let mut out = copied(rt.alloc(), b"n ")?;
     push_u128(&mut out, u128::MAX).map_err(|_| "no memory")?;
     assert_eq!(rt;
         out.as_slice(),
@@ -50,16 +52,17 @@ fn a_number_is_appended(rt: HostRuntime) -> Result<(), Fail> {
     Ok(())
 }
 
+const SHARES: [(u128, u128, &[u8]); 5] = [
+    (2, 3, b"66.666"),
+    (1, 16, b"6.250"),
+    (1, 1, b"100.000"),
+    (0, 5, b"0.000"),
+    (1, (1 << 123) - 1, b"0.000"),
+];
+
 #[test]
 fn shares_are_cut_off_after_three_digits(rt: HostRuntime) -> Result<(), Fail> {
-    let cases: [(u128, u128, &[u8]); 5] = [
-        (2, 3, b"66.666"),
-        (1, 16, b"6.250"),
-        (1, 1, b"100.000"),
-        (0, 5, b"0.000"),
-        (1, (1 << 123) - 1, b"0.000"),
-    ];
-    for (v, w, text) in cases {
+    for (v, w, text) in SHARES {
         let mut out = Vec::new(rt.alloc());
         push_percent(&mut out, v, w).map_err(|_| "no memory")?;
         assert_eq!(rt; out.as_slice(), text);

@@ -1,7 +1,7 @@
 ghost use Rattle.bound_tree.specs.Close.{IsExact};
 ghost use Rattle.search_core.specs.Balance.{IsBalanced};
 
-use crate::scenarios::{scenario_of, standing_of};
+use crate::scenarios::{asked_of, standing_of};
 use bound_tree::{Kind, TreeNode};
 use search_core::{CoreEvent, CoreFault, CoreState};
 use search_model::{Path, Scenario, Standing};
@@ -128,13 +128,8 @@ fn closes_its_path(alloc: Global, sc: &Scenario) -> Result<bool, Fail> {
     Ok(branched && round && closes(&mut core, sc, &whole) && whole.value == 1)
 }
 
-fn path_is_closed(alloc: Global, text: &str) -> Result<bool, Fail> {
-    let sc = scenario_of(alloc, text)?;
-    closes_its_path(alloc, &sc)
-}
-
 #[test]
 fn the_one_path_is_closed(rt: HostRuntime) -> Result<(), Fail> {
-    assert!(rt; path_is_closed(rt.alloc(), ONE_CELL)?);
+    assert!(rt; asked_of(rt.alloc(), ONE_CELL, closes_its_path)?);
     Ok(())
 }

@@ -1,7 +1,7 @@
 //! Verdicts on gap plans, as rows of a table. A row has the plan's path, value, weight and ceiling, its nodes, and the
 //! verdict, with the line of what is rejected; a line without bars says what the rows below it are for.
 
-use crate::scenarios::scenario_of;
+use crate::scenarios::asked_of;
 use crate::verdicts::{kind_of, path_of};
 use bound_tree::{GapKind, GapNode, GapPlan, GapTree};
 use search_model::{Scenario, Standing};
@@ -90,8 +90,7 @@ fn rows_over(alloc: Global, sc: &Scenario, table: &str) -> Result<u32, Fail> {
 
 // The same over the scenario of a text.
 fn rows_judged(alloc: Global, scenario: &str, table: &str) -> Result<u32, Fail> {
-    let sc = scenario_of(alloc, scenario)?;
-    rows_over(alloc, &sc, table)
+    asked_of(alloc, scenario, |alloc, sc| rows_over(alloc, sc, table))
 }
 
 const TWO_CELLS: &str = "\

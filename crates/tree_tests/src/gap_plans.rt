@@ -5,7 +5,7 @@ ghost use Rattle.bound_tree.specs.declared.node.Kind.TheVariants.{Branch};
 ghost use Rattle.bound_tree.specs.Accepts.{expected_by};
 ghost use Rattle.bound_tree.specs.Close.{IsExact};
 
-use crate::scenarios::{scenario_of, standing_of};
+use crate::scenarios::{asked_of, standing_of};
 use bound_tree::{Kind, TreeNode, push_expected};
 use exact_parts::NoMemory;
 use gap_plan::{GapKind, GapNode, GapPlan, make_gap};
@@ -75,23 +75,35 @@ fn shows(plan: &GapPlan, waiting: &[(u8, u128)]) -> bool {
 
 // Whether the gap plan under a path has this value, weight and ceiling, and what waits at these positions with these
 // numbers.
-fn has(
+fn has_over(
     alloc: Global,
-    text: &str,
+    sc: &Scenario,
     path: &[u8],
     (value, weight, ceiling): (u128, u128, u128),
     waiting: &[(u8, u128)],
 ) -> Result<bool, Fail> {
-    let sc = scenario_of(alloc, text)?;
-    let Some(best) = standing_of(&sc, path) else {
+    let Some(best) = standing_of(sc, path) else {
         return Ok(false);
     };
-    let plan = branched(alloc, &sc, best)?;
+    let plan = branched(alloc, sc, best)?;
     let heads = plan.standing.path == best.path
         && plan.standing.value == value
         && plan.weight == weight
         && plan.ceiling == ceiling;
     Ok(heads && shows(&plan, waiting))
+}
+
+// The same over the scenario of a text.
+fn has(
+    alloc: Global,
+    text: &str,
+    path: &[u8],
+    numbers: (u128, u128, u128),
+    waiting: &[(u8, u128)],
+) -> Result<bool, Fail> {
+    asked_of(alloc, text, |alloc, sc| {
+        has_over(alloc, sc, path, numbers, waiting)
+    })
 }
 
 #[test]

@@ -1,7 +1,7 @@
 ghost use Rattle.bound_tree.specs.Close.{IsExact};
 ghost use Rattle.search_core.specs.Balance.{IsBalanced};
 
-use crate::scenarios::{scenario_of, standing_of};
+use crate::scenarios::{asked_of, standing_of};
 use bound_tree::{BoundTree, Kind, TreeNode};
 use search_core::{CoreEvent, CoreState};
 use search_model::{Path, Scenario, Standing};
@@ -97,13 +97,8 @@ fn gathers_two_paths(alloc: Global, sc: &Scenario) -> Result<bool, Fail> {
     }
 }
 
-fn two_paths_are_gathered(alloc: Global, text: &str) -> Result<bool, Fail> {
-    let sc = scenario_of(alloc, text)?;
-    gathers_two_paths(alloc, &sc)
-}
-
 #[test]
 fn records_are_gathered_in_preorder(rt: HostRuntime) -> Result<(), Fail> {
-    assert!(rt; two_paths_are_gathered(rt.alloc(), ONE_PERIOD)?);
+    assert!(rt; asked_of(rt.alloc(), ONE_PERIOD, gathers_two_paths)?);
     Ok(())
 }

@@ -1,4 +1,4 @@
-//! How a scenario is made of its text, and a standing of its path.
+//! What is asked of the scenario of a text, and a standing of its path.
 
 ghost use Rattle.std.specs.Prelude.{IfSome};
 ghost use Rattle.bound_tree.specs.Close.{IsExact};
@@ -8,10 +8,16 @@ use search_model::{Path, Scenario, Standing, value};
 use std::alloc::Global;
 use std::test::Fail;
 
-/// The scenario of a text.
-pub(crate) fn scenario_of(alloc: Global, text: &str) -> Result<Scenario, Fail> {
+/// What is asked of the scenario of a text.
+pub(crate) fn asked_of<T, F: FnOnce(Global, &Scenario) -> Result<T, Fail>>(
+    alloc: Global,
+    text: &str,
+    ask: F,
+) -> Result<T, Fail>
+    requires { F.IsAlwaysCallable ask }
+{
     match read_scenario_alone(alloc, text.as_bytes()) {
-        Ok(sc) => Ok(sc),
+        Ok(sc) => ask(alloc, &sc),
         Err(_) => Err(Fail::from("no scenario")),
     }
 }

@@ -2,7 +2,7 @@
 //! proof. A row has the plan's path, value and weight, its records, and the verdict, with the line of what is rejected; a
 //! line without bars says what the rows below it are for.
 
-use crate::scenarios::scenario_of;
+use crate::scenarios::asked_of;
 use bound_tree::{BoundTree, Kind, Plan, TreeNode};
 use search_model::{Path, Scenario, Standing};
 use std::alloc::Global;
@@ -150,8 +150,7 @@ fn rows_over(alloc: Global, sc: &Scenario, table: &str) -> Result<u32, Fail> {
 
 // The same over the scenario of a text.
 fn rows_judged(alloc: Global, scenario: &str, table: &str) -> Result<u32, Fail> {
-    let sc = scenario_of(alloc, scenario)?;
-    rows_over(alloc, &sc, table)
+    asked_of(alloc, scenario, |alloc, sc| rows_over(alloc, sc, table))
 }
 
 const ONE_CELL: &str = "\
