@@ -128,7 +128,7 @@ fn is_planned<R: AllocGlobal + Threads + Wait + Sync>(rt: &R, make: &str) -> Res
     Ok(made.status == Status::Done && planned.status == Status::Done)
 }
 
-// Whether the scenario of the number 0 starts there.
+// Whether the scenario of the number 0 starts at r1c2.
 fn starts_as_worked<R: AllocGlobal + Threads + Wait + Sync>(rt: &R) -> Result<bool, Fail> {
     let made = ended(rt, "make 0", Vec::new(rt.alloc()), 16, &[], &[])?;
     let line = made.out.split(|c| *c == b'\n').nth(28);

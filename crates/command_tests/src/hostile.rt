@@ -2,7 +2,7 @@
 
 ghost use Rattle.std.specs.Prelude.{◌≤◌};
 
-use crate::trials::{Outcome, copied, ended, text_of, words_of};
+use crate::trials::{Outcome, ended, text_of, words_of};
 use byte_ports::{MemSink, MemSource, Source};
 use plan_command::{OpenGate, Status, run};
 use std::alloc::Global;
@@ -243,7 +243,7 @@ fn line_is_lost<R: AllocGlobal + Threads + Wait + Sync>(
     err: &mut MemSink,
 ) -> Result<bool, Fail> {
     let alloc = rt.alloc();
-    let mut source = MemSource::new(copied(alloc, b"x")?, 16, Vec::new(alloc));
+    let mut source = MemSource::new(Vec::from_slice(alloc, b"x")?, 16, Vec::new(alloc));
     let mut out = MemSink::new(alloc, 16, Vec::new(alloc));
     let status = run(rt, words, &mut source, &mut out, err, &OpenGate);
     Ok(status == Status::Usage && err.wrote().is_empty() && source.read(&mut [0; 4]) == Ok(1))
@@ -252,7 +252,7 @@ fn line_is_lost<R: AllocGlobal + Threads + Wait + Sync>(
 #[test]
 fn the_line_on_err_fails(rt: HostRuntime) -> Result<(), Fail> {
     let words = words_of(rt.alloc(), "fly")?;
-    let mut err = MemSink::new(rt.alloc(), 16, copied(rt.alloc(), &[1])?);
+    let mut err = MemSink::new(rt.alloc(), 16, Vec::from_slice(rt.alloc(), &[1])?);
     assert!(rt; line_is_lost(&rt, &words, &mut err)?);
     Ok(())
 }

@@ -131,17 +131,10 @@ pub fn words_of(alloc: Global, line: &str) -> Result<Vec<String>, Fail> {
     Ok(words)
 }
 
-/// Numbers or bytes, once more.
-pub fn copied<T: Copy + Drop>(alloc: Global, items: &[T]) -> Result<Vec<T>, AllocError> {
-    let mut copy = Vec::new(alloc);
-    copy.extend_from_slice(items)?;
-    Ok(copy)
-}
-
 // How a run ended, and what was written.
 fn outcome_of(alloc: Global, status: Status, out: &[u8], err: &[u8]) -> Result<Outcome, Fail> {
-    let out = copied(alloc, out)?;
-    let err = copied(alloc, err)?;
+    let out = Vec::from_slice(alloc, out)?;
+    let err = Vec::from_slice(alloc, err)?;
     Ok(Outcome { status, out, err })
 }
 
@@ -172,8 +165,8 @@ fn ended_over<R: AllocGlobal + Threads + Wait + Sync>(
     requires { 1 ≤ most }
 {
     let alloc = rt.alloc();
-    let mut source = MemSource::new(input, most, copied(alloc, read_fails)?);
-    let mut out = MemSink::new(alloc, most, copied(alloc, write_fails)?);
+    let mut source = MemSource::new(input, most, Vec::from_slice(alloc, read_fails)?);
+    let mut out = MemSink::new(alloc, most, Vec::from_slice(alloc, write_fails)?);
     ended_between(rt, words, &mut source, &mut out, most)
 }
 
@@ -298,7 +291,7 @@ fn is_plan_of<R: AllocGlobal + Threads + Wait + Sync>(
     scenario: &[u8],
     plan: &[u8],
 ) -> Result<bool, Fail> {
-    let mut input = copied(rt.alloc(), scenario)?;
+    let mut input = Vec::from_slice(rt.alloc(), scenario)?;
     input.extend_from_slice(plan)?;
     is_accepted(rt, input)
 }
@@ -323,7 +316,7 @@ pub fn checked_plan<R: AllocGlobal + Threads + Wait + Sync>(
     words: &str,
     scenario: &[u8],
 ) -> Result<Vec<u8>, Fail> {
-    let input = copied(rt.alloc(), scenario)?;
+    let input = Vec::from_slice(rt.alloc(), scenario)?;
     let plan = ended(rt, words, input, 4096, &[], &[])?;
     path_and_chance(rt, scenario, &plan.out)
 }

@@ -1,4 +1,3 @@
-use crate::copies::copied;
 use crate::threads::crosses_threads;
 use search_grid::{Grid, GridFault};
 use std::alloc::{AllocError, Global};
@@ -7,7 +6,7 @@ use std::test::Fail;
 fn rows_of(alloc: Global, lists: &[&[u8]]) -> Result<Vec<Vec<u8>>, AllocError> {
     let mut rows = Vec::new(alloc);
     for list in lists {
-        rows.push(copied(alloc, list)?)?;
+        rows.push(Vec::from_slice(alloc, list)?)?;
     }
     Ok(rows)
 }

@@ -1,4 +1,3 @@
-use crate::copies::copied;
 use crate::threads::crosses_threads;
 use drift_chain::{Drift, DriftPart};
 use search_grid::Grid;
@@ -108,7 +107,7 @@ fn a_path_begins_with_its_prefixes(rt: HostRuntime) {
 fn lists_of(alloc: Global, lists: &[&[u8]]) -> Result<Vec<Vec<u8>>, AllocError> {
     let mut rows = Vec::new(alloc);
     for list in lists {
-        rows.push(copied(alloc, list)?)?;
+        rows.push(Vec::from_slice(alloc, list)?)?;
     }
     Ok(rows)
 }
@@ -134,7 +133,7 @@ fn row_of_three(alloc: Global) -> Result<Grid, Fail> {
 fn staying(alloc: Global, cells: u8) -> Result<Drift, Fail> {
     let mut rows = Vec::new(alloc);
     for cell in 0..cells {
-        rows.push(copied(alloc, &[DriftPart { cell, part: 1 }])?)?;
+        rows.push(Vec::from_slice(alloc, &[DriftPart { cell, part: 1 }])?)?;
     }
     if rows.is_empty() || rows.len() > 200 {
         return Err(Fail::from("no drift of so many cells"));
@@ -147,7 +146,7 @@ fn looks_of(alloc: Global, denominator: u32) -> Result<Sweep, Fail> {
     if denominator == 0 || denominator > 1_000_000 {
         return Err(Fail::from("no such denominator"));
     }
-    Sweep::new(denominator, copied(alloc, &[1, 1, 1])?).map_err(|_| Fail::from("no sweep"))
+    Sweep::new(denominator, Vec::from_slice(alloc, &[1, 1, 1])?).map_err(|_| Fail::from("no sweep"))
 }
 
 // What the tests change of a scenario.
@@ -162,7 +161,7 @@ struct Given {
     looks: u32,
 }
 
-// What a scenario lists, and its tables.
+// The lists of a scenario's parts.
 #[derive(Drop)]
 struct Lists {
     names: Vec<Name>,
@@ -170,6 +169,7 @@ struct Lists {
     first: Vec<u32>,
 }
 
+// Their tables.
 #[derive(Drop)]
 struct Tables {
     grid: Grid,
@@ -181,7 +181,7 @@ fn lists_given(alloc: Global, given: Given) -> Result<Lists, Fail> {
     Ok(Lists {
         names: names_of(alloc, given.names)?,
         positions: names_of(alloc, given.positions)?,
-        first: copied(alloc, given.first)?,
+        first: Vec::from_slice(alloc, given.first)?,
     })
 }
 
@@ -210,10 +210,8 @@ fn joined(given: Given, lists: Lists, tables: Tables) -> Parts {
 
 fn parts_of(alloc: Global, given: Given) -> Result<Parts, Fail> {
     let lists = lists_given(alloc, given)?;
-    match tables_given(alloc, given) {
-        Ok(tables) => Ok(joined(given, lists, tables)),
-        Err(fail) => Err(fail),
-    }
+    let tables = tables_given(alloc, given)?;
+    Ok(joined(given, lists, tables))
 }
 
 // The target waits in the last cell.

@@ -1,4 +1,3 @@
-use crate::copies::copied;
 use byte_ports::{
     MemSink, MemSource, PlainSink, PlainSource, ReadStop, Sink, Source, StdErr, StdIn, StdOut,
     WriteStop, read_all, write_all,
@@ -58,7 +57,7 @@ fn fails_at_the_second_read(alloc: Global, source: &mut MemSource) -> Result<boo
 
 #[test]
 fn the_second_read_fails(rt: HostRuntime) -> Result<(), Fail> {
-    let faults = copied(rt.alloc(), &[2])?;
+    let faults = Vec::from_slice(rt.alloc(), &[2])?;
     let mut source = MemSource::new(counting(rt.alloc(), 0, 155)?, 16, faults);
     assert!(rt; fails_at_the_second_read(rt.alloc(), &mut source)?);
     Ok(())
@@ -86,7 +85,7 @@ fn fails_at_the_third_write(alloc: Global, sink: &mut MemSink) -> Result<bool, F
 
 #[test]
 fn the_third_write_fails(rt: HostRuntime) -> Result<(), Fail> {
-    let mut sink = MemSink::new(rt.alloc(), 16, copied(rt.alloc(), &[3])?);
+    let mut sink = MemSink::new(rt.alloc(), 16, Vec::from_slice(rt.alloc(), &[3])?);
     assert!(rt; fails_at_the_third_write(rt.alloc(), &mut sink)?);
     Ok(())
 }
@@ -101,7 +100,7 @@ fn fails_at_the_first_call(sink: &mut MemSink) -> bool {
 
 #[test]
 fn nothing_to_write_makes_no_call(rt: HostRuntime) -> Result<(), Fail> {
-    let mut sink = MemSink::new(rt.alloc(), 16, copied(rt.alloc(), &[1])?);
+    let mut sink = MemSink::new(rt.alloc(), 16, Vec::from_slice(rt.alloc(), &[1])?);
     assert!(rt; fails_at_the_first_call(&mut sink));
     Ok(())
 }
@@ -112,7 +111,7 @@ fn kept(alloc: Global, bytes: &[u8]) -> Result<Option<Vec<u8>>, AllocError> {
     if write_all(&mut sink, bytes).is_err() {
         return Ok(None);
     }
-    Ok(Some(copied(alloc, sink.wrote())?))
+    Ok(Some(Vec::from_slice(alloc, sink.wrote())?))
 }
 
 // Whether a source holds these bytes and no more.

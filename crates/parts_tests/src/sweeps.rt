@@ -1,6 +1,5 @@
 ghost use Rattle.std.specs.Prelude.{◌≡◌, [], IfOk};
 
-use crate::copies::copied;
 use crate::threads::crosses_threads;
 use std::alloc::{AllocError, Global};
 use std::test::Fail;
@@ -71,7 +70,7 @@ fn changed(alloc: Global, lists: &[Changed]) -> Result<Result<Sweep, LookChangeF
 fn looks_of(alloc: Global, parts: &[u32]) -> Result<Sweep, Fail>
     ensures { IfOk result (λ sweep. sweep.changes ≡ []) }
 {
-    match Sweep::new(2, copied(alloc, parts)?) {
+    match Sweep::new(2, Vec::from_slice(alloc, parts)?) {
         Ok(sweep) => Ok(sweep),
         Err(_) => Err(Fail::from("no sweep")),
     }
@@ -97,7 +96,7 @@ fn a_part_may_be_the_whole_denominator(rt: HostRuntime) -> Result<(), Fail> {
 
 #[test]
 fn the_least_cell_over_is_named(rt: HostRuntime) -> Result<(), Fail> {
-    let parts = copied(rt.alloc(), &[2, 3, 4])?;
+    let parts = Vec::from_slice(rt.alloc(), &[2, 3, 4])?;
     assert_eq!(rt; Sweep::new(2, parts).err(), Some(SweepFault::PartOver(1)));
     Ok(())
 }

@@ -1,4 +1,3 @@
-use crate::copies::copied;
 use exact_parts::{Number, digits, fits, number_of, push_percent, push_u128, read_u128, weight_of};
 use std::test::Fail;
 
@@ -43,7 +42,7 @@ fn digits_stand_at_the_front(rt: HostRuntime) {
 
 #[test]
 fn a_number_is_appended(rt: HostRuntime) -> Result<(), Fail> {
-    let mut out = copied(rt.alloc(), b"n ")?;
+    let mut out = Vec::from_slice(rt.alloc(), b"n ")?;
     push_u128(&mut out, u128::MAX).map_err(|_| "no memory")?;
     assert_eq!(rt;
         out.as_slice(),
