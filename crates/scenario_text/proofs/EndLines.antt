@@ -86,7 +86,7 @@ fewer_by : (b : Bool) (c n : ℕ) (pieces : List (List ℕ)) {P : Type 0} → 1 
 fewer_by true c n pieces some le here further = here refl (omega (arith, le))
 fewer_by false c n pieces some le here further = further refl (omega (arith, le, onto_some c pieces some))
 
-after_join : (n : ℕ) (start rest : List ℕ) → n ≤ length (lines_of (start ++ 10 ∷ [])) → after_lines n (start ++ 10 ∷ rest) ≡ after_lines n (start ++ 10 ∷ []) ++ rest
+pub after_join : (n : ℕ) (start rest : List ℕ) → n ≤ length (lines_of (start ++ 10 ∷ [])) → after_lines n (start ++ 10 ∷ rest) ≡ after_lines n (start ++ 10 ∷ []) ++ rest
 unfolding lines_of after_lines
 after_join zero start rest le = sym (append_assoc start (10 ∷ []) rest)
 after_join (suc zero) [] rest le = refl
