@@ -1,4 +1,4 @@
--- What holds along the records of a tree, and of the paths below a prefix.
+-- What holds along the records of a tree, and where a path goes on.
 use Rattle.std.proofs.Common.{◌≡◌, ℕ, ◌<◌, List, [], ◌∷◌, ◌++◌, length, take, refl, sym, subst, arith, Contains, All}
 use Rattle.std.proofs.lemmas.List.Elements.{All-nil, All-cons, All-head, All-tail, All-contains}
 use Rattle.search_grid.specs.Moves.{moves_from}
@@ -23,16 +23,16 @@ next_move rows a (x ∷ q) (b ∷ y) f e l =
     let found = next_move rows x q y follows rest (omega (arith, l)) in
     (found.0, cc (same, found.1), found.2)
 
-module _ (p : Problem) (V : List ℕ → Type 0) where
-  -- all paths below a prefix have a property
-  abbrev pub AllBelow : List ℕ → Type 0
-  AllBelow q = (y : List ℕ) → Extends p q y → V y
+module _ (p : Problem) (y : List ℕ) (E : Type 0) where
+  -- it holds if the path begins with the prefix
+  abbrev pub LeadsTo : List ℕ → Type 0
+  LeadsTo q = Extends p q y → E
 
-  -- what extends a prefix that is shorter than the horizon extends one of its children
-  pub from_children : (q : List ℕ) → length q < p.horizon → All AllBelow (children_of p q) → AllBelow q
-  from_children q short below y x =
+  -- what begins with a prefix that is shorter than the horizon begins with one of its children
+  pub from_children : (q : List ℕ) → length q < p.horizon → All LeadsTo (children_of p q) → LeadsTo q
+  from_children q short below x =
       let next = next_move p.moves p.start q y x.path.follows x.front (omega (arith, short, x.path.whole)) in
-      All-contains AllBelow _ _ below (Contains-map (λ b. q ++ b ∷ []) _ next.0 next.2) y (record { path = x.path; front = next.1 })
+      All-contains LeadsTo _ _ below (Contains-map (λ b. q ++ b ∷ []) _ next.0 next.2) (record { path = x.path; front = next.1 })
 
 module _ (p : Problem) (P : List ℕ → Type 0) where
   -- where the property holds of all prefixes that a record opens, it holds of the record's prefix

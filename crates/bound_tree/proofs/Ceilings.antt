@@ -1,43 +1,27 @@
 -- What the ceiling of a gap plan says.
-use Rattle.std.proofs.Common.{◌≡◌, ℕ, ◌+◌, ◌*◌, ◌<◌, ◌≤◌, ◌==◌, eqb-true, ap, List, [], ◌∷◌, map, length, sym, refl, ◌∙◌, subst, arith, Contains, All, false, ◌↔◌}
-use Rattle.std.proofs.lemmas.Bool.{cond_both, eqb-false}
-use Rattle.std.proofs.lemmas.List.{take_all}
+use Rattle.std.proofs.Common.{◌≡◌, ℕ, ◌+◌, ◌*◌, ◌≤◌, ◌==◌, inl, inr, ap, List, [], ◌∷◌, map, length, sym, refl, ◌∙◌, subst, arith, Contains, All, false, ◌↔◌}
+use Rattle.std.proofs.lemmas.Bool.{cond_both, true≢false}
 use Rattle.std.proofs.lemmas.List.Elements.{All-nil, All-cons, All-head, All-tail, All-append, All-weaker, All-map, All-contains, All-contains_itself}
 use Rattle.search_model.specs.declared.standing.Standing.{Standing}
 use Rattle.search_model.specs.Problem.{Problem, IsProblem}
-use Rattle.search_model.specs.Legal.{IsLegal}
+use Rattle.search_model.specs.Legal.{IsLegal, IsPath}
 use Rattle.search_model.specs.Tracks.{value_of, whole_weight}
 use Rattle.search_model.specs.Bounds.{greatest, mean_of}
-use Rattle.search_model.specs.Order.{standing_of}
+use Rattle.search_model.specs.Order.{better, standing_of, IsBest}
+use Rattle.search_model.proofs.Best.{one_best}
 use Rattle.search_model.proofs.BoundSizes.{mean_size}
 use Rattle.search_model.proofs.Greatest.{greatest_above, greatest_below, greatest-one}
-use Rattle.search_model.proofs.Orders.{not_better_parts}
+use Rattle.search_model.proofs.Orders.{not_better_parts, better_one_way, same_or_differ}
 use Rattle.list_laws.proofs.Members.{Contains-nil, Contains-head, Contains-tail, Contains-map, Contains-flat_map}
 use Rattle.bound_tree.specs.declared.node.TreeNode.{TreeNode}
 use Rattle.bound_tree.specs.declared.gap.GapKind.{GapKind}
 use Rattle.bound_tree.specs.declared.gap.GapKind.TheVariants.{Closed, Waiting}
 use Rattle.bound_tree.specs.declared.gap.GapNode.{GapNode}
 use Rattle.bound_tree.specs.Accepts.{IsGoodKind, IsGood}
-use Rattle.bound_tree.specs.Places.{opened_by}
-use Rattle.bound_tree.specs.Gaps.{shape_of_kind, shape_of, ceiling_of, IsGoodOpenKind, IsGoodOpen, open_number, open_numbers, closed_node, gap_of, plan_of}
-use Rattle.bound_tree.specs.GapLaws.{PrefixCeilingIsAbove, CeilingIsAbove, CeilingSize, GapOfNoneWaiting, NoneWaitingIsBest, PlanIsGapPlan, MetCeilingIsBest}
-use Rattle.bound_tree.proofs.Along.{AllBelow, PassesOn, along_tree}
-use Rattle.bound_tree.proofs.Continuing.{front_legal, front_short}
-use Rattle.bound_tree.proofs.MeanBound.{mean_is_above}
+use Rattle.bound_tree.specs.Gaps.{shape_of_kind, shape_of, ceiling_of, IsGoodOpenKind, IsGoodOpen, open_number, open_numbers, closed_node, gap_of}
+use Rattle.bound_tree.specs.GapLaws.{CeilingIsAbove, CeilingSize, GapOfNoneWaiting, NoneWaitingIsBest, PlanIsGapPlan, MetCeilingIsBest}
+use Rattle.bound_tree.proofs.Leaves.{shorter, Says, best_ends}
 use Rattle.bound_tree.proofs.Placing.{eaten_is_placed_and_good, placed_are_legal}
-use Rattle.bound_tree.proofs.Accepted.{good_passes, accepted_plan_is_best}
-
--- a prefix that isn't as long as the horizon is shorter, if it isn't longer
-shorter : (n m : ℕ) → n ≤ m → (n == m) ≡ false → n < m
-shorter n m le other = let differ = eqb-false n m other in omega (arith, le, differ)
-
-pub prefix_ceiling_is_above : PrefixCeilingIsAbove
-prefix_ceiling_is_above p q y sound x =
-    cond_both (length q == p.horizon) (value_of p q) (mean_of p q) (λ c. value_of p y ≤ c)
-    (λ whole.
-    let same : y ≡ q = sym (take_all (length q) y (omega (arith, eqb-true (length q) p.horizon whole, x.path.whole))) ∙ x.front in
-    omega (arith, ap (value_of p) same))
-    (λ other. mean_is_above p q y sound (front_legal p q y x) (shorter (length q) p.horizon (front_short p q y x) other) x)
 
 -- the ceiling of a legal prefix is at most the whole weight, once for each period and once more
 prefix_ceiling_size : (p : Problem) (q : List ℕ) → IsProblem p → length q ≤ p.horizon → ceiling_of p q ≤ (p.horizon + 1) * whole_weight p
@@ -56,33 +40,30 @@ All-open P (node ∷ nodes) each =
 open_listed : (nodes : List GapNode) (node : GapNode) (n : ℕ) → Contains nodes node → Contains (open_number node.kind) n → Contains (open_numbers nodes) n
 open_listed nodes node n has is = Contains-flat_map (λ node. open_number node.kind) nodes node n has is
 
--- a path finds at most the ceiling
-abbrev IsWithin : Problem → ℕ → List ℕ → Type 0
-IsWithin p ceiling y = value_of p y ≤ ceiling
+-- no path finds more than the best
+best_most : (p : Problem) (x y : List ℕ) → IsBest p x → IsPath p y → value_of p y ≤ value_of p x
+best_most p x y best path =
+    elim (same_or_differ y x) [
+      | inl same ↦ omega (arith, ap (value_of p) same)
+      | inr differ ↦ (not_better_parts (standing_of p y) (standing_of p x) (better_one_way (standing_of p x) (standing_of p y) (best.better y path differ))).0
+    ]
 
-module _ (p : Problem) (sound : IsProblem p) (s : Standing) (ceiling : ℕ) (most : s.value ≤ ceiling) where
-  -- a good node passes on that all paths below find at most the ceiling, if its number isn't above it
-  node_passes : (q : List ℕ) (kind : GapKind) → IsGoodOpenKind p s q kind → All (λ n. n ≤ ceiling) (open_number kind) →
-      All (AllBelow p (IsWithin p ceiling)) (opened_by p q (shape_of_kind kind)) → AllBelow p (IsWithin p ceiling) q
-  node_passes q (Closed kind) good low below y x =
-      good_passes p sound s (IsWithin p ceiling) (λ y worse. omega (arith, (not_better_parts (standing_of p y) s worse).0, most)) q kind good below y x
-  node_passes q (Waiting n) good low below y x = omega (arith, All-head (λ n. n ≤ ceiling) n [] low, good, prefix_ceiling_is_above p q y sound x)
+-- what the leaf says at which the best path ends: that finds at most a ceiling, if the value and the leaf's number aren't above it
+said_within : (p : Problem) (sound : IsProblem p) (s : Standing) (x : List ℕ) (best : IsBest p x) (ceiling : ℕ) (kind : GapKind) → Says p sound s x best kind → s.value ≤ ceiling →
+    ((n : ℕ) → Contains (open_number kind) n → n ≤ ceiling) → value_of p x ≤ ceiling
+said_within p sound s x best ceiling (Closed kind) says most low = omega (arith, (not_better_parts (standing_of p x) s says).0, most)
+said_within p sound s x best ceiling (Waiting n) says most low = omega (arith, says, low n (Contains-head n []))
 
 pub ceiling_is_above : CeilingIsAbove
 ceiling_is_above p plan y sound a path =
     let s = plan.standing in
-    let nodes = plan.nodes in
-    let B : List ℕ → Type 0 = AllBelow p (IsWithin p plan.ceiling) in
-    let above : (n : ℕ) → Contains (s.value ∷ open_numbers nodes) n → n ≤ plan.ceiling = λ n has. omega (arith, a.ceiling, greatest_above (s.value ∷ open_numbers nodes) n has) in
-    let low : (node : GapNode) → Contains nodes node → All (λ n. n ≤ plan.ceiling) (open_number node.kind) =
-    λ node has.
-    All-weaker (Contains (open_number node.kind)) (λ n. n ≤ plan.ceiling) (λ n is. above n (Contains-tail s.value n (open_numbers nodes) (open_listed nodes node n has is)))
-    (open_number node.kind) (All-contains_itself (open_number node.kind)) in
-    let most = above s.value (Contains-head s.value (open_numbers nodes)) in
-    let each = All-weaker (Contains nodes) (λ node. PassesOn p B (shape_of node))
-    (λ node has. node_passes p sound s plan.ceiling most node.prefix node.kind (All-contains (IsGoodOpen p s) nodes node a.good has) (low node has))
-    nodes (All-contains_itself nodes) in
-    All-head B [] [] (along_tree p B ([] ∷ []) (map shape_of nodes) a.placed (All-map (PassesOn p B) shape_of nodes each)) y (record { path = path; front = refl })
+    let numbers : List ℕ = open_numbers plan.nodes in
+    let (x, best, _) = one_best p sound in
+    let (node, has, says) = best_ends p sound s x best plan.nodes a.placed a.good in
+    let above : (n : ℕ) → Contains (s.value ∷ numbers) n → n ≤ plan.ceiling = λ n is. omega (arith, a.ceiling, greatest_above (s.value ∷ numbers) n is) in
+    let within = said_within p sound s x best plan.ceiling node.kind says (above s.value (Contains-head s.value numbers))
+    (λ n is. above n (Contains-tail s.value n numbers (open_listed plan.nodes node n has is))) in
+    omega (arith, best_most p x y best path, within)
 
 -- the number of a good waiting node is as small as a ceiling
 number_size : (p : Problem) (s : Standing) (q : List ℕ) (kind : GapKind) → IsProblem p → length q ≤ p.horizon → IsGoodOpenKind p s q kind →
@@ -147,11 +128,25 @@ gap_of_none_waiting p plan none =
           record { path = a.path; value = a.value; weight = a.weight; placed = (eaten.0 a.tree).0; good = goods.1 (eaten.0 a.tree).1; ceiling = met ∙ sym alone },
     )
 
+-- a leaf among nodes of which none waits says of the best path that it isn't better
+said_closed : (p : Problem) (sound : IsProblem p) (s : Standing) (x : List ℕ) (best : IsBest p x) (kind : GapKind) → Says p sound s x best kind → open_number kind ≡ [] → better (standing_of p x) s ≡ false
+said_closed p sound s x best (Closed kind) says none = says
+said_closed p sound s x best (Waiting n) says none = absurd (omega (arith, ap length none))
+
 pub none_waiting_is_best : NoneWaitingIsBest
-none_waiting_is_best p plan sound none a = accepted_plan_is_best p (plan_of plan) sound ((gap_of_none_waiting p plan none).0 a).0
+none_waiting_is_best p plan sound none a =
+    let s = plan.standing in
+    let (x, best, _) = one_best p sound in
+    let (node, has, says) = best_ends p sound s x best plan.nodes a.placed a.good in
+    let closed = no_number node.kind (λ n is. Contains-nil n (subst (λ ns. Contains ns n) none (open_listed plan.nodes node n has is))) in
+    let worse : better (standing_of p x) (standing_of p s.path) ≡ false = rw (← a.value) (said_closed p sound s x best node.kind says closed) in
+    elim (same_or_differ s.path x) [
+      | inl same ↦ subst (IsBest p) (sym same) best
+      | inr differ ↦ absurd (true≢false (sym (best.better s.path a.path differ) ∙ worse))
+    ]
 
 -- no closed node waits
-none_of_closed : (rs : List TreeNode) → open_numbers (map closed_node rs) ≡ []
+pub none_of_closed : (rs : List TreeNode) → open_numbers (map closed_node rs) ≡ []
 none_of_closed [] = refl
 none_of_closed (r ∷ rs) = none_of_closed rs
 

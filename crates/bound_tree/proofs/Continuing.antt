@@ -1,6 +1,6 @@
 -- Paths that extend a prefix: what is left of them is a continuation.
 use Rattle.std.proofs.Common.{ℕ, ◌-◌, ◌<◌, ◌≤◌, ◌≡◌, List, ◌++◌, map, length, drop, sym, ap, ◌∙◌, subst, arith, Contains, All, length-append}
-use Rattle.std.proofs.lemmas.List.{take-append-drop, length-drop}
+use Rattle.std.proofs.lemmas.List.{take-append-drop, take_all, length-drop}
 use Rattle.search_model.specs.Problem.{Problem, IsProblem}
 use Rattle.search_model.specs.Legal.{Follows, IsLegal, IsPath, last_of, continuations}
 use Rattle.search_model.specs.Bounds.{sum_along, greatest}
@@ -25,6 +25,10 @@ module _ (p : Problem) (q y : List ℕ) (x : Extends p q y) where
 
   follows_both : Follows p.moves p.start q × Follows p.moves (last_of p.start q) (rest_of q y)
   follows_both = (follows-append p.moves p.start q (rest_of q y)).0 (subst (Follows p.moves p.start) whole_is x.path.follows)
+
+  -- a prefix that is as long as the horizon is the path
+  pub whole_front : length q ≡ p.horizon → y ≡ q
+  whole_front full = sym (take_all (length q) y (omega (arith, full, x.path.whole))) ∙ x.front
 
   -- the prefix is legal
   pub front_legal : IsLegal p q

@@ -8,6 +8,7 @@ pub mod Convex
 pub mod TangentBound
 pub mod EatLemmas
 pub mod Along
+pub mod Leaves
 pub mod Accepted
 pub mod EdgeBound
 pub mod Rooms

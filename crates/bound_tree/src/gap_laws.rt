@@ -4,7 +4,7 @@ ghost use Rattle.bound_tree.specs.GapLaws.{PrefixCeilingIsAbove, CeilingIsAbove,
 
 /// No path finds more than the ceiling of a gap plan that is accepted, and none that extends a prefix more than the
 /// ceiling of the prefix.
-#[tactic(auto, using(crate::proofs::Ceilings::ceiling_is_above, crate::proofs::Ceilings::prefix_ceiling_is_above))]
+#[tactic(auto, using(crate::proofs::Ceilings::ceiling_is_above, crate::proofs::Leaves::prefix_ceiling_is_above))]
 pub fn ceiling_is_above()
     ensures plan { CeilingIsAbove }
     ensures prefix { PrefixCeilingIsAbove }
