@@ -13,19 +13,20 @@ use Rattle.plan_command.specs.declared.status.Status.TheVariants.{Done}
 use Rattle.plan_command.specs.Commands.{Answers}
 use Rattle.plan_command.specs.Intakes.{JudgesAs, keeping_plans}
 use Rattle.plan_command.proofs.Printing.{accepted_in_place}
+use Rattle.plan_command.proofs.Verdicts.{plan_accepted}
 
 module _ (input : List ℕ) (judged : Judgement) (judges : JudgesAs keeping_plans input (Ok judged)) where
   pub kept_printable : IsPrintable judged.sc judged.plan
   kept_printable =
-      let (plan, (rest, begins, behind), on, kept) = judges in
+      let (plan, (rest, begins, (behind, closed)), on, kept) = judges in
       subst (IsPrintable judged.sc) (sym kept) (printable_read judged.sc (plan_of plan) behind.text behind.spelled)
 
   pub kept_in_place : judged.verdict ≡ Accepted → AreInPlace judged.sc ([] ∷ []) judged.plan.tree
   kept_in_place accepted =
-      let (plan, is, on, kept) = judges in
-      subst (λ (k : Plan). AreInPlace judged.sc ([] ∷ []) k.tree) (sym kept) (accepted_in_place judged.sc (plan_of plan) (on.accepted.0 accepted))
+      let (plan, (rest, begins, (behind, closed)), on, kept) = judges in
+      subst (λ (k : Plan). AreInPlace judged.sc ([] ∷ []) k.tree) (sym kept) (accepted_in_place judged.sc (plan_of plan) (plan_accepted judged.sc plan closed (on.accepted.0 accepted)))
 
   pub kept_converted : (words : List (List ℕ)) (status : Status) (text : List ℕ) → judged.verdict ≡ Accepted → status ≡ Done → IsPlanText2 judged.sc judged.plan text → Answers words Convert input status text
   kept_converted words status text accepted done spelled =
-      let (plan, is, on, kept) = judges in
-      (judged.sc, plan_of plan, is, (done, on.accepted.0 accepted, subst (λ (k : Plan). IsPlanText2 judged.sc k text) kept spelled))
+      let (plan, (rest, begins, (behind, closed)), on, kept) = judges in
+      (judged.sc, plan_of plan, (rest, begins, behind), (done, plan_accepted judged.sc plan closed (on.accepted.0 accepted), subst (λ (k : Plan). IsPlanText2 judged.sc k text) kept spelled))

@@ -1,5 +1,5 @@
 -- What a checker heard of a plan, item by item, and what is kept of it.
-use Rattle.std.proofs.Common.{ℕ, ◌≡◌, ◌+◌, ◌≤◌, inl, inr, Bool, true, false, List, [], ◌∷◌, ◌++◌, map, length, Option, Some, None, refl, sym, ap, ◌∙◌, subst, arith, append_assoc, append-nil, length-append}
+use Rattle.std.proofs.Common.{ℕ, ◌≡◌, ◌+◌, ◌≤◌, inl, inr, Bool, true, false, List, [], ◌∷◌, ◌++◌, map, length, refl, sym, ap, ◌∙◌, subst, arith, append_assoc, append-nil, length-append}
 use Rattle.std.proofs.lemmas.List.{map-append}
 use Rattle.search_model.specs.declared.standing.Standing.{Standing}
 use Rattle.search_model.specs.Problem.{Problem, IsProblem}
@@ -13,18 +13,14 @@ use Rattle.tree_format.specs.declared.plan_item.PlanItem.TheVariants.{Head, Node
 use Rattle.tree_format.specs.Feeding.{items_of, Tells}
 use Rattle.tree_format.specs.declared.plan_line.Family.{Family}
 use Rattle.tree_format.specs.declared.plan_line.Family.TheVariants.{Plans, Gaps}
-use Rattle.tree_format.specs.Dialects.{most_records}
+use Rattle.tree_format.specs.Dialects.{first_line, most_records}
 use Rattle.tree_format.specs.declared.dialects.TheConstants.{MOST_GAP_NODES}
 use Rattle.tree_format.proofs.FedLaws.{items_in_order}
 use Rattle.tree_checker.specs.declared.tables.BoundTables.{BoundTables}
-use Rattle.tree_checker.specs.declared.verdict.RejectAt.{RejectAt}
-use Rattle.tree_checker.specs.Reasons.{verdict_of}
-use Rattle.tree_checker.specs.GapReasons.{plain_at, gap_verdict_of}
-use Rattle.tree_checker.specs.Progress.{Progress, after_head, after_gap_head, reason_if, gap_reason_if, IsUnderWay, IsMadeFor}
-use Rattle.tree_checker.proofs.GapReason.{nothing_follows}
+use Rattle.tree_checker.specs.Progress.{Progress, begun_at, gap_reason_if, gap_reason_at_end, IsUnderWay, IsMadeFor}
 use Rattle.plan_command.specs.declared.hearing.Head.{Head as AHead}
 use Rattle.plan_command.specs.Families.{reason_against}
-use Rattle.plan_command.specs.Intakes.{nodes_in, records_kept, kept_of, leads_to, leads_at_end, plain_verdict, LeadsToReason, HasHeard, IsNextItem}
+use Rattle.plan_command.specs.Intakes.{nodes_in, records_kept, kept_of, LeadsToReason, HasHeard, IsNextItem}
 
 -- The nodes among items.
 
@@ -50,26 +46,22 @@ plan_with s w c nodes = record { standing = s; weight = w; ceiling = c; nodes = 
 
 -- The head.
 
-pub plan_begun : (p : Problem) (s : Standing) (w c n : ℕ) (tables : BoundTables) (checker : Progress) → checker ≡ after_head p tables s w → IsUnderWay p checker → IsMadeFor p checker → HasHeard Plans p (Head s w c n ∷ []) (head_of s w c) checker
-plan_begun p s w c n tables checker begun under_way made = record {
-  under_way = under_way;
-  made_for = made;
-  line = let line : checker.line ≡ 5 = ap (λ (g : Progress). g.line) begun in omega (arith, line);
-  reason = (refl, λ later. ap (λ (g : Progress). plain_at (reason_if p g (map shape_of later))) begun);
-}
+few_lines : (family : Family) → first_line family ≤ 6
+few_lines Plans = omega arith
+few_lines Gaps = omega arith
 
-pub gap_begun : (p : Problem) (s : Standing) (w c n : ℕ) (tables : BoundTables) (checker : Progress) → checker ≡ after_gap_head p tables s w → IsUnderWay p checker → IsMadeFor p checker → HasHeard Gaps p (Head s w c n ∷ []) (head_of s w c) checker
-gap_begun p s w c n tables checker begun under_way made = record {
+pub head_heard : (family : Family) (p : Problem) (s : Standing) (w c n : ℕ) (tables : BoundTables) (checker : Progress) → checker ≡ begun_at (first_line family) p tables s w → IsUnderWay p checker → IsMadeFor p checker → HasHeard family p (Head s w c n ∷ []) (head_of s w c) checker
+head_heard family p s w c n tables checker begun under_way made = record {
   under_way = under_way;
   made_for = made;
-  line = let line : checker.line ≡ 6 = ap (λ (g : Progress). g.line) begun in omega (arith, line);
+  line = let line : checker.line ≡ first_line family = ap (λ (g : Progress). g.line) begun in let few = few_lines family in omega (arith, line, few);
   reason = (refl, λ later. ap (λ (g : Progress). gap_reason_if p g c later) begun);
 }
 
 -- One item more.
 
 module _ (family : Family) (p : Problem) where
-  leads_on : (told : List PlanItem) (r : GapNode) (head : AHead) (old new : Progress) → ((c : ℕ) (rs : List GapNode) → leads_to family p new c rs ≡ leads_to family p old c (r ∷ rs)) → LeadsToReason family p told head old → LeadsToReason family p (told ++ Node r ∷ []) head new
+  leads_on : (told : List PlanItem) (r : GapNode) (head : AHead) (old new : Progress) → ((c : ℕ) (rs : List GapNode) → gap_reason_if p new c rs ≡ gap_reason_if p old c (r ∷ rs)) → LeadsToReason family p told head old → LeadsToReason family p (told ++ Node r ∷ []) head new
   leads_on [] r head old new next leads = tt
   leads_on (Head s w c n ∷ more) r head old new next leads = (
     leads.0,
@@ -82,7 +74,7 @@ module _ (family : Family) (p : Problem) where
   leads_on (End ∷ more) r head old new next leads = tt
 
   pub node_heard : (told : List PlanItem) (r : GapNode) (head : AHead) (old new : Progress) → HasHeard family p told head old →
-      ((c : ℕ) (rs : List GapNode) → leads_to family p new c rs ≡ leads_to family p old c (r ∷ rs)) → IsUnderWay p new → new.line ≤ old.line + 1 → IsMadeFor p new → HasHeard family p (told ++ Node r ∷ []) head new
+      ((c : ℕ) (rs : List GapNode) → gap_reason_if p new c rs ≡ gap_reason_if p old c (r ∷ rs)) → IsUnderWay p new → new.line ≤ old.line + 1 → IsMadeFor p new → HasHeard family p (told ++ Node r ∷ []) head new
   node_heard told r head old new heard next under_way line made = record {
     under_way = under_way;
     made_for = made;
@@ -166,17 +158,11 @@ is_next family p text told End sound tells = tt
 
 -- The reason against a whole plan or gap plan.
 
--- where no node follows, the reason that leads on is that at the end
-none_follows : (family : Family) (p : Problem) (g : Progress) (ceiling : ℕ) → leads_to family p g ceiling [] ≡ leads_at_end family g ceiling
-none_follows Plans p g ceiling = refl
-none_follows Gaps p g ceiling = nothing_follows p g ceiling
-
-pub plan_reason : (family : Family) (p : Problem) (plan : GapPlan) (told : List PlanItem) (head : AHead) (checker : Progress) → told ≡ items_of plan → HasHeard family p told head checker → (head ≡ head_of plan.standing plan.weight plan.ceiling) × (leads_at_end family checker head.ceiling ≡ reason_against family p plan)
+pub plan_reason : (family : Family) (p : Problem) (plan : GapPlan) (told : List PlanItem) (head : AHead) (checker : Progress) → told ≡ items_of plan → HasHeard family p told head checker → (head ≡ head_of plan.standing plan.weight plan.ceiling) × (gap_reason_at_end checker head.ceiling ≡ reason_against family p plan)
 plan_reason family p plan told head checker whole heard =
     let leads = subst (λ (items : List PlanItem). LeadsToReason family p items head checker) whole heard.reason in (
       leads.0,
-      ap (λ (h : AHead). leads_at_end family checker h.ceiling) leads.0
-          ∙ sym (none_follows family p checker plan.ceiling)
+      ap (λ (h : AHead). gap_reason_at_end checker h.ceiling) leads.0
           ∙ leads.1 []
           ∙ ap (λ (rs : List GapNode). reason_against family p (plan_with plan.standing plan.weight plan.ceiling rs)) (append-nil _ ∙ nodes_in-plan plan.nodes),
     )
@@ -208,9 +194,3 @@ pub plan_kept : (keeps : Bool) (plan : GapPlan) (told : List PlanItem) (head : A
 plan_kept keeps plan told head records whole is kept =
     let all : records ≡ records_kept keeps plan.nodes = kept ∙ ap (λ (items : List PlanItem). records_kept keeps (nodes_in items)) whole ∙ ap (records_kept keeps) (nodes_in-plan plan.nodes) in
     ap (λ (h : AHead). plan_by h records) is ∙ ap (plan_by (head_of plan.standing plan.weight plan.ceiling)) all
-
--- The verdict on a plan, as one on a gap plan.
-
-pub plain_verdict_of : (reason : Option RejectAt) → plain_verdict (verdict_of reason) ≡ gap_verdict_of (plain_at reason)
-plain_verdict_of None = refl
-plain_verdict_of (Some at) = refl

@@ -1,5 +1,5 @@
 -- What a judge took of the bytes behind a scenario, and kept of them.
-use Rattle.std.proofs.Common.{ℕ, suc, get_or, ◌≡◌, ◌↔◌, ◌+◌, ◌<◌, ◌≤◌, ◌^◌, true, false, List, [], ◌∷◌, ◌++◌, length, take, drop, Option, Some, None, Result, Ok, Err, refl, sym, ap, ◌∙◌, subst, arith, append_assoc, append-nil, length-append, OnOk}
+use Rattle.std.proofs.Common.{ℕ, suc, get_or, ◌≡◌, ◌+◌, ◌<◌, ◌≤◌, ◌^◌, true, false, List, [], ◌∷◌, ◌++◌, length, take, drop, Option, Some, None, Result, Ok, Err, refl, sym, ap, ◌∙◌, subst, arith, append_assoc, append-nil, length-append, OnOk}
 use Rattle.std.specs.Prelude.{◌==◌}
 use Rattle.std.proofs.Math.Seq.{take-add, take-suc}
 use Rattle.std.proofs.lemmas.List.{take-append-drop, take_all, drop-append-le}
@@ -19,8 +19,7 @@ use Rattle.tree_format.specs.Gives.{IfFault}
 use Rattle.tree_format.specs.declared.plan_item.PlanItem.{PlanItem}
 use Rattle.tree_format.specs.Reading.{text_at}
 use Rattle.tree_format.specs.declared.plan_line.Family.{Family}
-use Rattle.tree_format.specs.declared.plan_line.Family.TheVariants.{Plans, Gaps}
-use Rattle.bound_tree.specs.Gaps.{plan_of}
+use Rattle.tree_format.specs.Dialects.{first_line}
 use Rattle.tree_format.specs.declared.plan_item.Step.{Step}
 use Rattle.tree_format.specs.declared.plan_item.Step.TheVariants.{More, Item, Fault}
 use Rattle.tree_format.specs.Feeding.{HasRead, IfRead, IfMore, IfItem, IfFaulty, IsDecided, IsWhole, IsCutOff}
@@ -28,10 +27,9 @@ use Rattle.tree_format.specs.FeedSteps.{Stand}
 use Rattle.tree_checker.specs.declared.gap_verdict.GapRejectAt.{GapRejectAt}
 use Rattle.tree_checker.specs.declared.gap_verdict.GapVerdict.{GapVerdict}
 use Rattle.tree_checker.specs.declared.gap_verdict.GapVerdict.TheVariants as verdicts
-use Rattle.tree_checker.specs.GapReasons.{plain_at, gap_verdict_of}
-use Rattle.tree_checker.specs.Progress.{IsUnderWay, IsMadeFor}
-use Rattle.tree_checker.proofs.Reason.{no_reason_is_accepted}
-use Rattle.tree_checker.proofs.GapReason.{no_reason_is_accepted_gap, none_plain}
+use Rattle.tree_checker.specs.GapReasons.{gap_verdict_of}
+use Rattle.tree_checker.specs.Progress.{gap_reason_at_end, IsUnderWay, IsMadeFor}
+use Rattle.tree_checker.proofs.Reason.{no_reason_from}
 use Rattle.plan_command.specs.declared.judge.Task.{Task}
 use Rattle.plan_command.specs.declared.judge.Judge.{Judge}
 use Rattle.plan_command.specs.declared.intake.Intake.{Intake}
@@ -41,9 +39,9 @@ use Rattle.plan_command.specs.declared.status.Stop.TheVariants as stops
 use Rattle.plan_command.specs.declared.status.Refusal.TheVariants as refusals
 use Rattle.plan_command.specs.Spaces.{is_space, starts_with_space, SkipsSpaces}
 use Rattle.plan_command.specs.Plans.{BeginsWith, HasFaultIn}
-use Rattle.plan_command.specs.Families.{IsAccepted, reason_against}
+use Rattle.plan_command.specs.Families.{reason_against}
 use Rattle.plan_command.specs.Commands.{HasBadText}
-use Rattle.plan_command.specs.Intakes.{LacksBy, nodes_in, records_kept, kept_of, kept_by, leads_at_end, IsNextItem, HasHeard, HasTakenText, HasTakenRest, IsVerdictOn, TellsRest, JudgesAs, IsBehind, JudgesRest, JudgesFront, Lacks, IsBehindAll, HasTaken, stopped_by, intake_by, GoesOn}
+use Rattle.plan_command.specs.Intakes.{LacksBy, nodes_in, records_kept, kept_of, kept_by, IsNextItem, HasHeard, HasTakenText, HasTakenRest, IsVerdictOn, TellsRest, JudgesAs, IsBehind, JudgesRest, JudgesFront, Lacks, IsBehindAll, HasTaken, stopped_by, intake_by, GoesOn}
 use Rattle.plan_command.proofs.Heard.{few_nodes, is_next, plan_reason, plan_kept, kept_on, kept_still}
 use Rattle.plan_command.proofs.Reading.{rest_behind, read_fault}
 
@@ -259,30 +257,23 @@ module _ (piece : List ℕ) (old new : Judge) (r : Result (Unit {0}) PlanStop) w
 
 -- Where the text ends.
 
--- there is no reason exactly where it is accepted
-none_against : (family : Family) (p : Problem) (plan : GapPlan) → (reason_against family p plan ≡ None) ↔ IsAccepted family p plan
-none_against Plans p plan =
-    let exact = no_reason_is_accepted p (plan_of plan) in
-    (λ none. exact.0 (none_plain _ none), λ accepts. ap plain_at (exact.1 accepts))
-none_against Gaps p plan = no_reason_is_accepted_gap p plan
-
 none_said : (reason : Option GapRejectAt) → gap_verdict_of reason ≡ verdicts.Accepted → reason ≡ None
 none_said None h = refl
 none_said (Some at) h = let bad : ⊥ = cc in absurd bad
 
 verdict_on : (family : Family) (p : Problem) (plan : GapPlan) (verdict : GapVerdict) → verdict ≡ gap_verdict_of (reason_against family p plan) → IsVerdictOn family p plan verdict
 verdict_on family p plan verdict is =
-    let exact = none_against family p plan in
+    let exact = no_reason_from (first_line family) p plan in
     record {
       exact = is;
       accepted = (λ accepted. exact.0 (none_said _ (sym is ∙ accepted)), λ accepts. is ∙ ap gap_verdict_of (exact.1 accepts));
     }
 
-pub told_verdict : (task : Task) (rest : List ℕ) (judge : Judge) (verdict : GapVerdict) → IsProblem judge.sc → (h : HasTakenRest task rest judge) → IsWhole task.family judge.sc h.text h.taken.told → verdict ≡ gap_verdict_of (leads_at_end judge.task.family judge.checker judge.head.ceiling) → TellsRest task judge.sc (kept_by judge) rest (Ok verdict)
+pub told_verdict : (task : Task) (rest : List ℕ) (judge : Judge) (verdict : GapVerdict) → IsProblem judge.sc → (h : HasTakenRest task rest judge) → IsWhole task.family judge.sc h.text h.taken.told → verdict ≡ gap_verdict_of (gap_reason_at_end judge.checker judge.head.ceiling) → TellsRest task judge.sc (kept_by judge) rest (Ok verdict)
 told_verdict task rest judge verdict sound h whole is =
     let plan = whole.plan in
     let reason = plan_reason task.family judge.sc plan h.taken.told judge.head judge.checker whole.tell h.taken.heard in
-    let said : verdict ≡ gap_verdict_of (reason_against task.family judge.sc plan) = is ∙ ap (λ (t : Task). gap_verdict_of (leads_at_end t.family judge.checker judge.head.ceiling)) h.taken.same ∙ ap gap_verdict_of reason.1 in
+    let said : verdict ≡ gap_verdict_of (reason_against task.family judge.sc plan) = is ∙ ap gap_verdict_of reason.1 in
     let kept : kept_by judge ≡ kept_of task.keeps plan = plan_kept task.keeps plan h.taken.told judge.head judge.records.items whole.tell reason.0 h.taken.kept in
     (plan, (rest_behind task.family judge.sc rest h.text plan sound h.skips whole.spelled, verdict_on task.family judge.sc plan verdict said), kept)
 

@@ -9,7 +9,7 @@ use Rattle.tree_format.specs.declared.plan_line.Family.{Family}
 use Rattle.tree_format.specs.declared.plan_line.Family.TheVariants.{Plans, Gaps}
 use Rattle.tree_format.specs.PlanText.{plan_text, plan_text_2, gap_text, IsTextOfPlan, IsGapText}
 use Rattle.tree_format.specs.Reading.{text_at, as_plan, plan_at, gap_at}
-use Rattle.tree_format.proofs.ReadsBack.{text_read, gap_read, one_plan_a_text, one_gap_a_text}
+use Rattle.tree_format.proofs.ReadsBack.{text_read, read_is_closed, gap_read, one_plan_a_text, one_gap_a_text}
 use Rattle.tree_format.proofs.Spelled.{one_text_a_plan, one_text_a_gap}
 use Rattle.plan_command.specs.Plans.{IsRest, IsPlanRest, IsGapRest, IsReadFault, HasFaultIn}
 use Rattle.plan_command.specs.Families.{IsRestOf}
@@ -39,7 +39,9 @@ plan_behind p rest text plan sound skips reads = record {
 
 -- and so it is of a gap plan
 pub rest_behind : (family : Family) (p : Problem) (rest text : List ℕ) (plan : GapPlan) → IsProblem p → SkipsSpaces rest text → text_at family p text ≡ Ok plan → IsRestOf family p rest plan
-rest_behind Plans p rest text plan sound skips reads = plan_behind p rest text (plan_of plan) sound skips (ap as_plan reads)
+rest_behind Plans p rest text plan sound skips reads =
+    let own = ap as_plan reads in
+    (plan_behind p rest text (plan_of plan) sound skips own, read_is_closed p sound plan text (one_text_a_plan p (plan_of plan) text sound own) reads)
 rest_behind Gaps p rest text plan sound skips reads = record {
   blanks = skips.blanks;
   only = skips.only;

@@ -9,7 +9,7 @@ use Rattle.bound_tree.specs.declared.node.TreeNode.{TreeNode}
 use Rattle.bound_tree.specs.declared.plan.Plan.{Plan}
 use Rattle.bound_tree.specs.declared.gap.GapNode.{GapNode}
 use Rattle.bound_tree.specs.declared.gap.GapPlan.{GapPlan}
-use Rattle.bound_tree.specs.Gaps.{shape_of}
+use Rattle.bound_tree.specs.Gaps.{shape_of, GapAccepts}
 use Rattle.tree_format.specs.declared.kind.PlanFault.{PlanFault}
 use Rattle.tree_format.specs.declared.plan_item.PlanItem.{PlanItem}
 use Rattle.tree_format.specs.declared.plan_item.PlanItem.TheVariants as items
@@ -17,15 +17,11 @@ use Rattle.tree_format.specs.declared.stop.PlanStop.{PlanStop}
 use Rattle.tree_format.specs.declared.stop.PlanStop.TheVariants as halts
 use Rattle.tree_format.specs.Feeding.{HasRead}
 use Rattle.tree_format.specs.declared.plan_line.Family.{Family}
-use Rattle.tree_format.specs.declared.plan_line.Family.TheVariants.{Plans, Gaps}
-use Rattle.tree_checker.specs.declared.verdict.Verdict.{Verdict}
-use Rattle.tree_checker.specs.declared.verdict.Verdict.TheVariants as plain
-use Rattle.tree_checker.specs.declared.gap_verdict.GapRejectAt.{GapRejectAt}
-use Rattle.tree_checker.specs.declared.gap_verdict.GapWhy.TheVariants as whys
+use Rattle.tree_format.specs.declared.plan_line.Family.TheVariants.{Plans}
 use Rattle.tree_checker.specs.declared.gap_verdict.GapVerdict.{GapVerdict}
 use Rattle.tree_checker.specs.declared.gap_verdict.GapVerdict.TheVariants as verdicts
-use Rattle.tree_checker.specs.GapReasons.{plain_at, gap_verdict_of}
-use Rattle.tree_checker.specs.Progress.{Progress, reason_if, reason_at_end, gap_reason_if, gap_reason_at_end, IsUnderWay, IsMadeFor}
+use Rattle.tree_checker.specs.GapReasons.{gap_verdict_of}
+use Rattle.tree_checker.specs.Progress.{Progress, gap_reason_if, IsUnderWay, IsMadeFor}
 use Rattle.plan_command.specs.declared.hearing.Head.{Head}
 use Rattle.plan_command.specs.declared.judge.Task.{Task}
 use Rattle.plan_command.specs.declared.judge.Judge.{Judge}
@@ -37,7 +33,7 @@ use Rattle.plan_command.specs.declared.status.Stop.TheVariants as stops
 use Rattle.plan_command.specs.declared.status.Refusal.TheVariants as refusals
 use Rattle.plan_command.specs.Spaces.{SkipsSpaces}
 use Rattle.plan_command.specs.Plans.{BeginsWith, HasFaultIn}
-use Rattle.plan_command.specs.Families.{IsRestOf, IsInputOf, IsAccepted, reason_against}
+use Rattle.plan_command.specs.Families.{IsRestOf, IsInputOf, reason_against}
 use Rattle.plan_command.specs.Commands.{HasBadText}
 
 -- no front of the bytes ends with a line `end`
@@ -80,22 +76,12 @@ keeping_none family = record { family = family; keeps = false }
 abbrev pub keeping_plans : Task
 keeping_plans = record { family = Plans; keeps = true }
 
--- the first reason, should these nodes follow and then the end, with this ceiling in the head
-abbrev pub leads_to : Family → Problem → Progress → ℕ → List GapNode → Option GapRejectAt
-leads_to Plans p g ceiling nodes = plain_at (reason_if p g (map shape_of nodes))
-leads_to Gaps p g ceiling nodes = gap_reason_if p g ceiling nodes
-
--- and should the end follow
-abbrev pub leads_at_end : Family → Progress → ℕ → Option GapRejectAt
-leads_at_end Plans g ceiling = plain_at (reason_at_end g)
-leads_at_end Gaps g ceiling = gap_reason_at_end g ceiling
-
 -- where a head was told first, it is this one, and the checker leads to the first reason against the plan or gap plan of that
 -- head and of the nodes so far, whatever nodes follow
 abbrev pub LeadsToReason : Family → Problem → List PlanItem → Head → Progress → Type 0
 LeadsToReason family p (items.Head s w c n ∷ more) head checker =
     (head ≡ record { standing = s; weight = w; ceiling = c })
-    × ((later : List GapNode) → leads_to family p checker c later ≡ reason_against family p (record { standing = s; weight = w; ceiling = c; nodes = nodes_in more ++ later }))
+    × ((later : List GapNode) → gap_reason_if p checker c later ≡ reason_against family p (record { standing = s; weight = w; ceiling = c; nodes = nodes_in more ++ later }))
 LeadsToReason family p told head checker = Unit {0}
 
 -- a checker that was told these items, and the head among them
@@ -133,15 +119,10 @@ abbrev pub KeepsWhereShort : Bool → PlanStop → Type 0
 KeepsWhereShort keeps (halts.Fault fault) = Unit {0}
 KeepsWhereShort keeps halts.NoMemory = IsTrue keeps
 
--- the verdict on a plan, as one on a gap plan
-abbrev pub plain_verdict : Verdict → GapVerdict
-plain_verdict plain.Accepted = verdicts.Accepted
-plain_verdict (plain.Rejected at) = verdicts.Rejected (record { line = at.line; why = whys.Plain at.why })
-
 -- the first reason against a plan or gap plan, or that it is accepted
 pub record IsVerdictOn (family : Family) (p : Problem) (plan : GapPlan) (verdict : GapVerdict) : Type 0 where
   pub exact : verdict ≡ gap_verdict_of (reason_against family p plan)
-  pub accepted : (verdict ≡ verdicts.Accepted) ↔ IsAccepted family p plan
+  pub accepted : (verdict ≡ verdicts.Accepted) ↔ GapAccepts p plan
 
 -- behind the scenario it follows, and this is its verdict
 abbrev pub IsJudged : Family → Problem → List ℕ → GapPlan → GapVerdict → Type 0

@@ -1,10 +1,8 @@
 //! The commands `check`, `checkgap` and `report`.
 
-ghost use Rattle.std.specs.Prelude.{◌≡◌, ◌++◌, ℕ, List, Some, IfOk, OnOk, Ok};
+ghost use Rattle.std.specs.Prelude.{◌≡◌, ◌++◌, ℕ, List, IfOk, OnOk, Ok};
 ghost use Rattle.search_model.specs.Legal.{IsPath};
 ghost use Rattle.tree_format.specs.declared.plan_line.Family.TheVariants as texts;
-ghost use Rattle.tree_checker.specs.declared.verdict.RejectAt.{RejectAt as PlainLem};
-ghost use Rattle.tree_checker.specs.GapReasons.{plain_at};
 ghost use Rattle.plan_command.specs.Checks.{TellsVerdict};
 ghost use Rattle.plan_command.specs.Intakes.{Judges};
 ghost use Rattle.plan_command.specs.Commands.{report_of};
@@ -19,7 +17,7 @@ use exact_parts::{NoMemory, push_u128};
 use mission_report::{push_report, push_report_json};
 use search_model::{Path, Scenario};
 use std::alloc::Global;
-use tree_checker::{GapRejectAt, GapVerdict, GapWhy, RejectAt, gap_why_name};
+use tree_checker::{GapRejectAt, GapVerdict, as_plain, gap_why_name};
 
 // The line of a rejection.
 fn rejection(alloc: Global, at: GapRejectAt) -> Result<Vec<u8>, NoMemory>
@@ -93,17 +91,6 @@ fn report(alloc: Global, json: bool, sc: &Scenario, path: &Path) -> Result<Vec<u
     Ok(text)
 }
 
-/// A reason against a plan, which is told as one against a gap plan.
-pub fn plain_reason(at: GapRejectAt) -> RejectAt
-    requires { (plain : PlainLem) × (plain_at (Some plain) ≡ Some at) }
-    ensures { plain_at (Some result) ≡ Some at }
-{
-    match at.why {
-        GapWhy::Plain(why) => RejectAt { line: at.line, why },
-        GapWhy::WaitingWrong | GapWhy::CeilingWrong => unreachable!(),
-    }
-}
-
 /// The report of an accepted plan, or the first reason against the plan.
 pub fn answer_report(alloc: Global, json: bool, judgement: &Judgement) -> Result<Answer, Stop>
     requires { (input : List ℕ) × Judges texts.Plans input (Ok judgement.now) }
@@ -115,6 +102,6 @@ pub fn answer_report(alloc: Global, json: bool, judgement: &Judgement) -> Result
             status: Status::Done,
             text: report(alloc, json, &judgement.sc, &judgement.plan.standing.path)?,
         }),
-        GapVerdict::Rejected(at) => Err(Stop::Refused(Refusal::Rejected(plain_reason(at)))),
+        GapVerdict::Rejected(at) => Err(Stop::Refused(Refusal::Rejected(as_plain(at)))),
     }
 }

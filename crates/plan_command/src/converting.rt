@@ -6,12 +6,11 @@ ghost use Rattle.plan_command.specs.Intakes.{JudgesAs, keeping_plans};
 ghost use Rattle.plan_command.specs.Makes.{MakesOf};
 
 use crate::answer::Answer;
-use crate::checking::plain_reason;
 use crate::intake::Judgement;
 use crate::planning::text_of_plan;
 use crate::status::{Refusal, Status, Stop};
 use std::alloc::Global;
-use tree_checker::GapVerdict;
+use tree_checker::{GapVerdict, as_plain};
 
 /// The plan that follows the scenario in the input, as text of version 2, where it is accepted.
 pub fn answer_convert(alloc: Global, judgement: &Judgement) -> Result<Answer, Stop>
@@ -24,6 +23,6 @@ pub fn answer_convert(alloc: Global, judgement: &Judgement) -> Result<Answer, St
             status: Status::Done,
             text: text_of_plan(alloc, &judgement.sc, &judgement.plan)?,
         }),
-        GapVerdict::Rejected(at) => Err(Stop::Refused(Refusal::Rejected(plain_reason(at)))),
+        GapVerdict::Rejected(at) => Err(Stop::Refused(Refusal::Rejected(as_plain(at)))),
     }
 }

@@ -9,7 +9,7 @@ ghost use Rattle.plan_command.specs.Plans.{HasFaultIn};
 ghost use Rattle.plan_command.specs.declared.judge.Task.{Task as TaskLem};
 ghost use Rattle.plan_command.specs.Intakes.{records_kept, kept_by, nodes_in, IsNextItem, HasHeard, HasTakenText, HasTakenRest, KeepsWhereShort, TellsRest};
 
-use crate::hearing::{Head, hear_head, hear_node, verdict_at_end};
+use crate::hearing::{Head, hear_head, hear_node};
 use crate::spaces::{rest_from, skip_spaces};
 use bound_tree::{GapNode, TreeNode};
 use exact_parts::NoMemory;
@@ -132,7 +132,7 @@ impl Judge {
             }
             PlanItem::Node(node) => {
                 keep(&mut self.records, self.task.keeps, &node)?;
-                hear_node(&mut self.checker, &self.sc, self.task.family, &node);
+                hear_node(&mut self.checker, &self.sc, &node);
                 Ok(())
             }
             PlanItem::End => Ok(()),
@@ -226,7 +226,7 @@ impl Judge {
     {
         self.sc.recall_sound();
         match self.feed.finish() {
-            Ok(()) => Ok(verdict_at_end(&self.checker, self.task.family, self.head.ceiling)),
+            Ok(()) => Ok(self.checker.verdict(self.head.ceiling)),
             Err(fault) => Err(fault),
         }
     }

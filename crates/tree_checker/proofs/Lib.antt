@@ -1,4 +1,5 @@
 pub mod Paths
 pub mod Rates
 pub mod Reason
-pub mod GapReason
+pub mod Records
+pub mod Steps

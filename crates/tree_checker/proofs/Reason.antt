@@ -1,29 +1,44 @@
--- There is no reason against a plan exactly where it is accepted.
-use Rattle.std.proofs.Common.{◌≡◌, ℕ, ◌+◌, Bool, true, false, not, List, [], ◌∷◌, ◌++◌, length, Option, Some, None, ◌↔◌, sym, refl, ap, ◌∙◌, subst, ◌<◌, ltb-true, lt-ltb, eqb-true, eq-eqb, if◌then◌else◌, Result, Ok, Err, IfOk, IfNone, IsTrue}
-use Rattle.std.specs.Option.{option_or}
+-- There is no reason against a plan or gap plan exactly where it is accepted.
+use Rattle.std.proofs.Common.{◌≡◌, ◌↔◌, ℕ, ◌+◌, ◌<◌, ◌==◌, Bool, true, false, not, List, [], ◌∷◌, ◌++◌, map, length, Option, Some, None, refl, sym, ap, ◌∙◌, subst, All, ltb-true, lt-ltb, eqb-true, eq-eqb, if◌then◌else◌, Result, Ok, Err, IfOk, IsTrue}
+use Rattle.std.specs.Prelude.{nat_lt}
+use Rattle.std.specs.Option.{option_or, option_map}
 use Rattle.std.proofs.lemmas.Bool.{not-true, and_parts, and_from, true≢false}
+use Rattle.std.proofs.lemmas.List.Elements.{All-nil, All-cons, All-head, All-tail}
 use Rattle.search_model.specs.declared.standing.Standing.{Standing}
 use Rattle.search_model.specs.Problem.{Problem}
 use Rattle.search_model.specs.Legal.{IsPath}
 use Rattle.search_model.specs.Tracks.{value_of, whole_weight}
 use Rattle.search_model.specs.Order.{smaller}
-use Rattle.search_model.specs.Bounds.{mean_of, IsRate, tangent_of}
+use Rattle.search_model.specs.Bounds.{greatest, mean_of, IsRate, tangent_of}
 use Rattle.search_model.specs.Edge.{edge_of}
 use Rattle.search_model.proofs.Orders.{smaller_irreflexive, same_from_neither}
 use Rattle.bound_tree.specs.declared.node.Kind.{Kind}
 use Rattle.bound_tree.specs.declared.node.Kind.TheVariants.{Branch, Whole, Mean, Tangent, Edge}
-use Rattle.bound_tree.specs.declared.node.TreeNode.{TreeNode}
 use Rattle.bound_tree.specs.declared.plan.Plan.{Plan}
+use Rattle.bound_tree.specs.declared.gap.GapKind.{GapKind}
+use Rattle.bound_tree.specs.declared.gap.GapKind.TheVariants.{Closed, Waiting}
+use Rattle.bound_tree.specs.declared.gap.GapNode.{GapNode}
+use Rattle.bound_tree.specs.declared.gap.GapPlan.{GapPlan}
 use Rattle.bound_tree.specs.Cut.{is_cut, times}
 use Rattle.bound_tree.specs.Close.{IsExact}
-use Rattle.bound_tree.specs.Accepts.{Extends, IsGoodKind, expected_by, AreEaten, Accepts}
+use Rattle.bound_tree.specs.Accepts.{Extends, IsGoodKind, expected_by, Accepts}
+use Rattle.bound_tree.specs.Places.{opened_by, AreInPlace}
+use Rattle.bound_tree.specs.Gaps.{shape_of_kind, shape_of, ceiling_of, IsGoodOpenKind, IsGoodOpen, open_numbers, gap_of, GapAccepts}
+use Rattle.bound_tree.proofs.Placing.{opened_by_good, nothing_either_way}
+use Rattle.bound_tree.proofs.Ceilings.{plan_is_gap_plan}
 use Rattle.tree_checker.specs.declared.verdict.Why.{Why}
 use Rattle.tree_checker.specs.declared.verdict.RejectAt.{RejectAt}
 use Rattle.tree_checker.specs.declared.verdict.Verdict.{Verdict}
 use Rattle.tree_checker.specs.declared.verdict.Verdict.TheVariants.{Accepted}
+use Rattle.tree_checker.specs.declared.gap_verdict.GapWhy.{GapWhy}
+use Rattle.tree_checker.specs.declared.gap_verdict.GapWhy.TheVariants.{Plain, CeilingWrong}
+use Rattle.tree_checker.specs.declared.gap_verdict.GapRejectAt.{GapRejectAt}
+use Rattle.tree_checker.specs.declared.gap_verdict.GapVerdict.{GapVerdict}
+use Rattle.tree_checker.specs.declared.gap_verdict.GapVerdict.TheVariants as gaps
 use Rattle.tree_checker.specs.Rate.{one_rate_of}
-use Rattle.tree_checker.specs.Reasons.{first_failed, path_tests, value_tests, tangent_tests, kind_tests, record_tests, at_line, head_reason, tree_reason, first_reason, verdict_of}
-use Rattle.tree_checker.specs.Laws.{AcceptedWithNoReason}
+use Rattle.tree_checker.specs.Reasons.{Test, first_failed, path_tests, value_tests, tangent_tests, kind_tests, plain_test, open_tests, node_tests, at_line, head_reason, next_reason, expected_past, nodes_reason, ceiling_reason, reason_from, as_plain, first_reason, verdict_of}
+use Rattle.tree_checker.specs.GapReasons.{gap_reason, gap_verdict_of}
+use Rattle.tree_checker.specs.Laws.{AcceptedWithNoReason, GapAcceptedWithNoReason}
 use Rattle.tree_checker.proofs.Paths.{is_path-Decides, starts-Decides}
 use Rattle.tree_checker.proofs.Rates.{finds_one_rate}
 
@@ -44,13 +59,32 @@ pub none_failed : {W : Type 0} (ts : List (Bool × W)) → AllTrue ts → first_
 none_failed [] h = refl
 none_failed (t ∷ ts) h = rw h.0 (none_failed ts h.1)
 
-none_at : (line : ℕ) (w : Option Why) → at_line line w ≡ None → w ≡ None
+none_at : (line : ℕ) (w : Option GapWhy) → at_line line w ≡ None → w ≡ None
 none_at line None h = refl
 none_at line (Some w) h = cc
 
 pub both_none : {R : Type 0} (first later : Option R) → option_or first later ≡ None → (first ≡ None) × (later ≡ None)
 both_none None later h = (refl, h)
 both_none (Some r) later h = cc
+
+-- Tests of a plan among those of a gap plan.
+
+plain_one : (b : Bool) (w : Why) (more : Option GapWhy) (rest : Option Why) → more ≡ option_map (λ v. Plain v) rest → (if b then more else Some (Plain w)) ≡ option_map (λ v. Plain v) (if b then rest else Some w)
+plain_one true w more rest h = h
+plain_one false w more rest h = refl
+
+-- of a plan's tests the same fails first
+pub plain_first : (ts : List Test) → first_failed (map plain_test ts) ≡ option_map (λ w. Plain w) (first_failed ts)
+plain_first [] = refl
+plain_first (t ∷ ts) = plain_one t.0 t.1 (first_failed (map plain_test ts)) (first_failed ts) (plain_first ts)
+
+plain_true : (ts : List Test) → AllTrue (map plain_test ts) → AllTrue ts
+plain_true [] h = tt
+plain_true (t ∷ ts) h = (h.0, plain_true ts h.1)
+
+true_plain : (ts : List Test) → AllTrue ts → AllTrue (map plain_test ts)
+true_plain [] h = tt
+true_plain (t ∷ ts) h = (h.0, true_plain ts h.1)
 
 module _ (p : Problem) (s : Standing) where
   -- a tangent that passes its tests, with the one rate that there may be, is good
@@ -93,40 +127,70 @@ module _ (p : Problem) (s : Standing) where
   short_branch q (Tangent b whole) h e = cc
   short_branch q (Edge b) h e = cc
 
-  eaten : (line : ℕ) (rs : List TreeNode) (qs : List (List ℕ)) → tree_reason p s line rs qs ≡ None → AreEaten p s qs rs
-  eaten line [] [] h = tt
-  eaten line [] (q ∷ qs) h = cc
-  eaten line (r ∷ rs) [] h = cc
-  eaten line (r ∷ rs) (q ∷ qs) h =
-      let parts = both_none (at_line line (first_failed (record_tests p s q r))) (tree_reason p s (line + 1) rs (expected_by p q r.kind ++ qs)) h in
-      let tests = all_true (record_tests p s q r) (none_at line _ parts.0) in
-      let same : r.prefix ≡ q = same_from_neither r.prefix q (not-true (smaller r.prefix q) tests.1.0) (not-true (smaller q r.prefix) tests.0) in
-      let rest = eaten (line + 1) rs (expected_by p q r.kind ++ qs) parts.1 in (
-        same,
-        subst (λ z. IsGoodKind p s z r.kind) (sym same) (good_kind q r.kind tests.1.1),
-        subst (λ z. AreEaten p s (expected_by p z r.kind ++ qs) rs) (sym same) rest,
+  good_open : (q : List ℕ) (kind : GapKind) → AllTrue (open_tests p s q kind) → IsGoodOpenKind p s q kind
+  good_open q (Closed kind) h = good_kind q kind (plain_true (kind_tests p s q kind) h)
+  good_open q (Waiting n) h = eqb-true n (ceiling_of p q) h.0
+
+  open_good : (q : List ℕ) (kind : GapKind) → IsGoodOpenKind p s q kind → AllTrue (open_tests p s q kind)
+  open_good q (Closed kind) h = true_plain (kind_tests p s q kind) (kind_good q kind h)
+  open_good q (Waiting n) h = (eq-eqb n (ceiling_of p q) h, tt)
+
+  short_open : (q : List ℕ) (kind : GapKind) → AllTrue (open_tests p s q kind) → shape_of_kind kind ≡ Branch → length q < p.horizon
+  short_open q (Closed kind) h e = short_branch q kind (plain_true (kind_tests p s q kind) h) e
+  short_open q (Waiting n) h e = cc
+
+  -- a branch that passes its tests is shorter than the horizon
+  pub branch_is_short : (q : List ℕ) (node : GapNode) → first_failed (node_tests p s q node) ≡ None → shape_of_kind node.kind ≡ Branch → length q < p.horizon
+  branch_is_short q node h e = short_open q node.kind (all_true (node_tests p s q node) h).1.1 e
+
+  -- a good node makes the same expected whether its length is asked for or not
+  opened_by_open : (q : List ℕ) (kind : GapKind) → IsGoodOpenKind p s q kind → opened_by p q (shape_of_kind kind) ≡ expected_by p q (shape_of_kind kind)
+  opened_by_open q (Closed kind) good = opened_by_good p s q kind good
+  opened_by_open q (Waiting n) good = nothing_either_way (nat_lt (length q) p.horizon)
+
+  -- a node that passes its tests has the prefix that is expected, and is good there
+  right_node : (q : List ℕ) (node : GapNode) → first_failed (node_tests p s q node) ≡ None → (node.prefix ≡ q) × IsGoodOpenKind p s q node.kind
+  right_node q node h =
+      let tests = all_true (node_tests p s q node) h in
+      (same_from_neither node.prefix q (not-true (smaller node.prefix q) tests.1.0) (not-true (smaller q node.prefix) tests.0), good_open q node.kind tests.1.1)
+
+  node_right : (q : List ℕ) (node : GapNode) → node.prefix ≡ q → IsGoodOpenKind p s q node.kind → first_failed (node_tests p s q node) ≡ None
+  node_right q node same good =
+      let neither : (z : List ℕ) → z ≡ q → (smaller q z ≡ false) × (smaller z q ≡ false) = λ z e. rw e (smaller_irreflexive q, smaller_irreflexive q) in
+      let order = neither node.prefix same in
+      none_failed (node_tests p s q node) (ap not order.0, (ap not order.1, open_good q node.kind good))
+
+  placed_and_good : (line : ℕ) (nodes : List GapNode) (qs : List (List ℕ)) → nodes_reason p s line nodes qs ≡ None → AreInPlace p qs (map shape_of nodes) × All (IsGoodOpen p s) nodes
+  placed_and_good line [] [] h = (tt, All-nil (IsGoodOpen p s))
+  placed_and_good line [] (q ∷ qs) h = cc
+  placed_and_good line (node ∷ nodes) [] h = cc
+  placed_and_good line (node ∷ nodes) (q ∷ qs) h =
+      let parts = both_none (at_line line (next_reason p s (q ∷ qs) node)) (nodes_reason p s (line + 1) nodes (expected_past p (q ∷ qs) node)) h in
+      let right = right_node q node (none_at line _ parts.0) in
+      let rest = placed_and_good (line + 1) nodes (expected_past p (q ∷ qs) node) parts.1 in (
+        (right.0, subst (λ (xs : List (List ℕ)). AreInPlace p (xs ++ qs) (map shape_of nodes)) (sym (opened_by_open q node.kind right.1)) rest.0),
+        All-cons (IsGoodOpen p s) node nodes (subst (λ (z : List ℕ). IsGoodOpenKind p s z node.kind) (sym right.0) right.1) rest.1,
       )
 
-  no_fault : (line : ℕ) (rs : List TreeNode) (qs : List (List ℕ)) → AreEaten p s qs rs → tree_reason p s line rs qs ≡ None
-  no_fault line [] [] h = refl
-  no_fault line [] (q ∷ qs) h = absurd h
-  no_fault line (r ∷ rs) [] h = absurd h
-  no_fault line (r ∷ rs) (q ∷ qs) h =
-      let neither : (z : List ℕ) → z ≡ q → (smaller q z ≡ false) × (smaller z q ≡ false) = λ z e. rw e (smaller_irreflexive q, smaller_irreflexive q) in
-      let order = neither r.prefix h.0 in
-      let good : IsGoodKind p s q r.kind = subst (λ z. IsGoodKind p s z r.kind) h.0 h.1 in
-      let tests = none_failed (record_tests p s q r) (ap not order.0, (ap not order.1, kind_good q r.kind good)) in
-      let rest : AreEaten p s (expected_by p q r.kind ++ qs) rs = subst (λ z. AreEaten p s (expected_by p z r.kind ++ qs) rs) h.0 h.2 in
-      rw tests (no_fault (line + 1) rs (expected_by p q r.kind ++ qs) rest)
+  no_fault : (line : ℕ) (nodes : List GapNode) (qs : List (List ℕ)) → AreInPlace p qs (map shape_of nodes) → All (IsGoodOpen p s) nodes → nodes_reason p s line nodes qs ≡ None
+  no_fault line [] [] placed good = refl
+  no_fault line [] (q ∷ qs) placed good = absurd placed
+  no_fault line (node ∷ nodes) [] placed good = absurd placed
+  no_fault line (node ∷ nodes) (q ∷ qs) placed good =
+      let here : IsGoodOpenKind p s q node.kind = subst (λ (z : List ℕ). IsGoodOpenKind p s z node.kind) placed.0 (All-head (IsGoodOpen p s) node nodes good) in
+      let later = subst (λ (xs : List (List ℕ)). AreInPlace p (xs ++ qs) (map shape_of nodes)) (opened_by_open q node.kind here) placed.1 in
+      let rest = nodes_reason p s (line + 1) nodes (expected_past p (q ∷ qs) node) in
+      ap (λ (o : Option GapWhy). option_or (at_line line o) rest) (node_right q node placed.0 here)
+      ∙ no_fault (line + 1) nodes (expected_past p (q ∷ qs) node) later (All-tail (IsGoodOpen p s) node nodes good)
 
 -- where there is no reason against the head, the path is a path with its value, and the weight is the whole weight
 pub head_right : (p : Problem) (s : Standing) (weight : ℕ) → head_reason p s weight ≡ None → IsExact p s × (weight ≡ whole_weight p)
 head_right p s weight h =
-    let path = at_line 2 (first_failed (path_tests p s.path)) in
-    let values = at_line 3 (first_failed (value_tests p s weight)) in
+    let path = at_line 2 (first_failed (map plain_test (path_tests p s.path))) in
+    let values = at_line 3 (first_failed (map plain_test (value_tests p s weight))) in
     let head = both_none path values h in
-    let legal = all_true (path_tests p s.path) (none_at 2 _ head.0) in
-    let right = all_true (value_tests p s weight) (none_at 3 _ head.1) in (
+    let legal = plain_true (path_tests p s.path) (all_true (map plain_test (path_tests p s.path)) (none_at 2 _ head.0)) in
+    let right = plain_true (value_tests p s weight) (all_true (map plain_test (value_tests p s weight)) (none_at 3 _ head.1)) in (
       record { path = (is_path-Decides p s.path).0 legal.0; value = eqb-true s.value (value_of p s.path) right.0 },
       eqb-true weight (whole_weight p) right.1.0,
     )
@@ -134,29 +198,58 @@ head_right p s weight h =
 -- and the other way round
 pub right_head : (p : Problem) (s : Standing) (weight : ℕ) → IsPath p s.path → s.value ≡ value_of p s.path → weight ≡ whole_weight p → head_reason p s weight ≡ None
 right_head p s weight path value whole =
-    let legal = none_failed (path_tests p s.path) ((is_path-Decides p s.path).1 path, tt) in
-    let right = none_failed (value_tests p s weight) (eq-eqb s.value (value_of p s.path) value, (eq-eqb weight (whole_weight p) whole, tt)) in
+    let legal = none_failed (map plain_test (path_tests p s.path)) ((is_path-Decides p s.path).1 path, tt) in
+    let right = none_failed (map plain_test (value_tests p s weight)) (eq-eqb s.value (value_of p s.path) value, (eq-eqb weight (whole_weight p) whole, tt)) in
     rw (legal, right) refl
 
-pub exact_head : (p : Problem) (s : Standing) (weight : ℕ) (r : Option RejectAt) → r ≡ head_reason p s weight → IfNone r (IsExact p s)
-exact_head p s weight None h = (head_right p s weight (sym h)).0
-exact_head p s weight (Some r) h = tt
-
-pub no_reason_is_accepted : AcceptedWithNoReason
-no_reason_is_accepted p plan =
+-- there is no reason against a gap plan exactly where it is accepted, whatever line its first node stands at
+pub no_reason_from : (line : ℕ) (p : Problem) (plan : GapPlan) → (reason_from line p plan ≡ None) ↔ GapAccepts p plan
+no_reason_from line p plan =
     let s : Standing = plan.standing in
-    let tree = tree_reason p s 5 plan.tree ([] ∷ []) in (
+    let nodes = nodes_reason p s line plan.nodes ([] ∷ []) in
+    let numbers : List ℕ = s.value ∷ open_numbers plan.nodes in
+    let ceiling = ceiling_reason plan.ceiling numbers in
+    let tests : List (Bool × GapWhy) = (plan.ceiling == greatest numbers, CeilingWrong) ∷ [] in (
       (λ h.
-          let parts = both_none (head_reason p s plan.weight) tree h in
+          let parts = both_none (head_reason p s plan.weight) (option_or nodes ceiling) h in
           let head = head_right p s plan.weight parts.0 in
+          let rest = both_none nodes ceiling parts.1 in
+          let right = placed_and_good p s line plan.nodes ([] ∷ []) rest.0 in
           record {
             path = head.0.path;
             value = head.0.value;
             weight = head.1;
-            tree = eaten p s 5 plan.tree ([] ∷ []) parts.1;
+            placed = right.0;
+            good = right.1;
+            ceiling = eqb-true plan.ceiling (greatest numbers) (all_true tests (none_at 4 (first_failed tests) rest.1)).0;
           }),
-      (λ a. ap (λ (o : Option RejectAt). option_or o tree) (right_head p s plan.weight a.path a.value a.weight) ∙ no_fault p s 5 plan.tree ([] ∷ []) a.tree),
+      (λ a.
+          ap (λ (o : Option GapRejectAt). option_or o (option_or nodes ceiling)) (right_head p s plan.weight a.path a.value a.weight)
+          ∙ ap (λ (o : Option GapRejectAt). option_or o ceiling) (no_fault p s line plan.nodes ([] ∷ []) a.placed a.good)
+          ∙ ap (λ (o : Option GapWhy). at_line 4 o) (none_failed tests (eq-eqb plan.ceiling (greatest numbers) a.ceiling, tt))),
     )
+
+pub no_reason_is_accepted_gap : GapAcceptedWithNoReason
+no_reason_is_accepted_gap p plan = no_reason_from 6 p plan
+
+none_told : (r : Option GapRejectAt) → option_map as_plain r ≡ None → r ≡ None
+none_told None h = refl
+none_told (Some r) h = cc
+
+pub no_reason_is_accepted : AcceptedWithNoReason
+no_reason_is_accepted p plan =
+    let none = no_reason_from 5 p (gap_of plan) in
+    let same = plan_is_gap_plan p plan in
+    (λ h. same.1 (none.0 (none_told (reason_from 5 p (gap_of plan)) h)), λ a. ap (option_map as_plain) (none.1 (same.0 a)))
+
+gap_verdict_is : (reason : Option GapRejectAt) (P : Type 0) → (reason ≡ None) ↔ P → (gap_verdict_of reason ≡ gaps.Accepted) ↔ P
+gap_verdict_is None P h = (λ _. h.0 refl, λ _. refl)
+gap_verdict_is (Some r) P h = (λ e. absurd (let no : ⊥ = cc in no), λ x. absurd (let e = h.1 x in let no : ⊥ = cc in no))
+
+pub accepted_gap_verdict : {E : Type 0} (p : Problem) (plan : GapPlan) (r : Result GapVerdict E) →
+    IfOk r (λ v. v ≡ gap_verdict_of (gap_reason p plan)) → IfOk r (λ v. (v ≡ gaps.Accepted) ↔ GapAccepts p plan)
+accepted_gap_verdict p plan (Ok v) h = rw h (gap_verdict_is (gap_reason p plan) (GapAccepts p plan) (no_reason_is_accepted_gap p plan))
+accepted_gap_verdict p plan (Err e) h = tt
 
 verdict_is : (reason : Option RejectAt) (P : Type 0) → (reason ≡ None) ↔ P → (verdict_of reason ≡ Accepted) ↔ P
 verdict_is None P h = (λ _. h.0 refl, λ _. refl)

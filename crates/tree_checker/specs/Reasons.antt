@@ -1,26 +1,34 @@
--- The first reason against a plan, with the line of its text.
-use Rattle.std.specs.Prelude.{ℕ, ◌+◌, Bool, true, false, not, ◌&&◌, ◌==◌, nat_eq, nat_lt, if◌then◌else◌, List, [], ◌∷◌, ◌++◌, length, Option, Some, None}
+-- The first reason against a plan or a gap plan, with the line of its text. A plan is seen here as the gap plan of its records, in which
+-- no node waits; specs/Records.antt says the same record by record.
+use Rattle.std.specs.Prelude.{ℕ, ◌+◌, Bool, true, false, not, ◌&&◌, ◌==◌, nat_eq, nat_lt, if◌then◌else◌, List, [], ◌∷◌, ◌++◌, map, length, Option, Some, None}
 use Rattle.std.specs.List.{list_any, starts_with}
-use Rattle.std.specs.Option.{option_or}
+use Rattle.std.specs.Option.{option_or, option_map}
 use Rattle.search_grid.specs.Moves.{moves_from}
 use Rattle.search_model.specs.declared.standing.Standing.{Standing}
 use Rattle.search_model.specs.Problem.{Problem}
 use Rattle.search_model.specs.Tracks.{value_of, whole_weight}
 use Rattle.search_model.specs.Order.{smaller, better}
-use Rattle.search_model.specs.Bounds.{mean_of, tangent_of}
+use Rattle.search_model.specs.Bounds.{greatest, mean_of, tangent_of}
 use Rattle.search_model.specs.Edge.{edge_of}
 use Rattle.bound_tree.specs.declared.node.Kind.{Kind}
 use Rattle.bound_tree.specs.declared.node.Kind.TheVariants.{Branch, Whole, Mean, Tangent, Edge}
-use Rattle.bound_tree.specs.declared.node.TreeNode.{TreeNode}
 use Rattle.bound_tree.specs.declared.plan.Plan.{Plan}
+use Rattle.bound_tree.specs.declared.gap.GapKind.{GapKind}
+use Rattle.bound_tree.specs.declared.gap.GapKind.TheVariants.{Closed, Waiting}
+use Rattle.bound_tree.specs.declared.gap.GapNode.{GapNode}
+use Rattle.bound_tree.specs.declared.gap.GapPlan.{GapPlan}
 use Rattle.bound_tree.specs.Cut.{is_cut, times}
 use Rattle.bound_tree.specs.Accepts.{expected_by}
+use Rattle.bound_tree.specs.Gaps.{shape_of_kind, ceiling_of, open_numbers, gap_of}
 use Rattle.tree_checker.specs.Rate.{one_rate_of}
 use Rattle.tree_checker.specs.declared.verdict.Why.{Why}
 use Rattle.tree_checker.specs.declared.verdict.Why.TheVariants.{PathIllegal, ValueWrong, WeightWrong, NotChild, MissingChild, WholeWrong, BoundWrong, NotCut, NoOneRate, ReferenceWrong}
 use Rattle.tree_checker.specs.declared.verdict.RejectAt.{RejectAt}
 use Rattle.tree_checker.specs.declared.verdict.Verdict.{Verdict}
 use Rattle.tree_checker.specs.declared.verdict.Verdict.TheVariants.{Accepted, Rejected}
+use Rattle.tree_checker.specs.declared.gap_verdict.GapWhy.{GapWhy}
+use Rattle.tree_checker.specs.declared.gap_verdict.GapWhy.TheVariants.{Plain, WaitingWrong, CeilingWrong}
+use Rattle.tree_checker.specs.declared.gap_verdict.GapRejectAt.{GapRejectAt}
 
 -- a test that a plan is to pass, and the reason where it fails
 abbrev pub Test : Type 0
@@ -72,34 +80,74 @@ kind_tests p s q (Edge b) = (nat_lt (length q) p.horizon, WholeWrong) ∷ bound_
 abbrev pub place_tests : List ℕ → List ℕ → List Test
 place_tests q prefix = (not (smaller q prefix), MissingChild) ∷ (not (smaller prefix q), NotChild) ∷ []
 
--- the tests of a record where prefix q is expected
-abbrev pub record_tests : Problem → Standing → List ℕ → TreeNode → List Test
-record_tests p s q r = place_tests q r.prefix ++ kind_tests p s q r.kind
+-- a test of a plan as one of a gap plan
+abbrev pub plain_test : Test → Bool × GapWhy
+plain_test t = (t.0, Plain t.1)
+
+-- the tests of how far a search came below a prefix, under the plan's standing: of a closed prefix those of its record, of
+-- one that waits that its number is the prefix's ceiling
+abbrev pub open_tests : Problem → Standing → List ℕ → GapKind → List (Bool × GapWhy)
+open_tests p s q (Closed kind) = map plain_test (kind_tests p s q kind)
+open_tests p s q (Waiting n) = (n == ceiling_of p q, WaitingWrong) ∷ []
+
+-- the tests of a node where prefix q is expected
+abbrev pub node_tests : Problem → Standing → List ℕ → GapNode → List (Bool × GapWhy)
+node_tests p s q node = map plain_test (place_tests q node.prefix) ++ open_tests p s q node.kind
 
 -- a reason stands at a line
-abbrev pub at_line : ℕ → Option Why → Option RejectAt
+abbrev pub at_line : ℕ → Option GapWhy → Option GapRejectAt
 at_line line None = None
 at_line line (Some w) = Some (record { line = line; why = w })
 
 -- the first reason of the path line and of the line after it
-abbrev pub head_reason : Problem → Standing → ℕ → Option RejectAt
-head_reason p s weight = option_or (at_line 2 (first_failed (path_tests p s.path))) (at_line 3 (first_failed (value_tests p s weight)))
+abbrev pub head_reason : Problem → Standing → ℕ → Option GapRejectAt
+head_reason p s weight =
+    option_or (at_line 2 (first_failed (map plain_test (path_tests p s.path)))) (at_line 3 (first_failed (map plain_test (value_tests p s weight))))
 
--- where the records have ended, a prefix that is still expected is missed in the line of `end`
-abbrev pub end_reason : ℕ → List (List ℕ) → Option RejectAt
+-- the first reason against a node where these prefixes are expected
+abbrev pub next_reason : Problem → Standing → List (List ℕ) → GapNode → Option GapWhy
+next_reason p s [] node = Some (Plain NotChild)
+next_reason p s (q ∷ qs) node = first_failed (node_tests p s q node)
+
+-- what is expected behind a node where these prefixes were
+abbrev pub expected_past : Problem → List (List ℕ) → GapNode → List (List ℕ)
+expected_past p [] node = []
+expected_past p (q ∷ qs) node = expected_by p q (shape_of_kind node.kind) ++ qs
+
+-- where the nodes have ended, a prefix that is still expected is missed in the line of `end`
+abbrev pub end_reason : ℕ → List (List ℕ) → Option GapRejectAt
 end_reason line [] = None
-end_reason line (q ∷ qs) = Some (record { line = line; why = MissingChild })
+end_reason line (q ∷ qs) = Some (record { line = line; why = Plain MissingChild })
 
--- the first reason of the records from a line on, and of the line of `end`, where these prefixes are expected
-abbrev pub tree_reason : Problem → Standing → ℕ → List TreeNode → List (List ℕ) → Option RejectAt
-tree_reason p s line [] qs = end_reason line qs
-tree_reason p s line (r ∷ rs) [] = Some (record { line = line; why = NotChild })
-tree_reason p s line (r ∷ rs) (q ∷ qs) =
-    option_or (at_line line (first_failed (record_tests p s q r))) (tree_reason p s (line + 1) rs (expected_by p q r.kind ++ qs))
+-- the first reason of the nodes from a line on, and of the line of `end`, where these prefixes are expected
+abbrev pub nodes_reason : Problem → Standing → ℕ → List GapNode → List (List ℕ) → Option GapRejectAt
+nodes_reason p s line [] qs = end_reason line qs
+nodes_reason p s line (node ∷ nodes) qs =
+    option_or (at_line line (next_reason p s qs node)) (nodes_reason p s (line + 1) nodes (expected_past p qs node))
 
--- the first reason against a plan: its head in lines 2 and 3, and its records from line 5 on
+-- the reason against a ceiling, in line 4: it is the greatest of these numbers
+abbrev pub ceiling_reason : ℕ → List ℕ → Option GapRejectAt
+ceiling_reason ceiling numbers = at_line 4 (first_failed ((ceiling == greatest numbers, CeilingWrong) ∷ []))
+
+-- the first reason against a gap plan whose first node stands at this line: its head in lines 2 and 3, its nodes, and last
+-- its ceiling
+abbrev pub reason_from : ℕ → Problem → GapPlan → Option GapRejectAt
+reason_from line p plan =
+    option_or (head_reason p plan.standing plan.weight)
+    (option_or (nodes_reason p plan.standing line plan.nodes ([] ∷ [])) (ceiling_reason plan.ceiling (plan.standing.value ∷ open_numbers plan.nodes)))
+
+-- a reason as one against a plan: a number that has no place there is a wrong bound
+abbrev pub plain_why : GapWhy → Why
+plain_why (Plain w) = w
+plain_why WaitingWrong = BoundWrong
+plain_why CeilingWrong = BoundWrong
+
+abbrev pub as_plain : GapRejectAt → RejectAt
+as_plain r = record { line = r.line; why = plain_why r.why }
+
+-- the first reason against a plan, whose first record stands at line 5
 abbrev pub first_reason : Problem → Plan → Option RejectAt
-first_reason p plan = option_or (head_reason p plan.standing plan.weight) (tree_reason p plan.standing 5 plan.tree ([] ∷ []))
+first_reason p plan = option_map as_plain (reason_from 5 p (gap_of plan))
 
 -- what is said of a plan with this first reason
 abbrev pub verdict_of : Option RejectAt → Verdict

@@ -68,7 +68,7 @@ fn gap_verdict(alloc: Global, sc: &Scenario, plan: &GapPlan) -> Result<GapVerdic
 
 /// Whether a gap plan is accepted; else the first reason against it. The nodes are tested as the records of a plan, and
 /// the ceiling last of all.
-#[tactic(auto, using(crate::proofs::GapReason::accepted_gap_verdict))]
+#[tactic(auto, using(crate::proofs::Reason::accepted_gap_verdict))]
 pub fn check_gap(alloc: Global, sc: &Scenario, plan: &GapPlan) -> Result<GapVerdict, NoMemory>
     ensures exact { IfOk result (λ v. v ≡ gap_verdict_of (gap_reason sc.now plan.now)) }
     ensures accepted { IfOk result (λ v. (v ≡ GapVerdict.Accepted) ↔ GapAccepts sc.now plan.now) }

@@ -2,8 +2,10 @@
 
 ghost use Rattle.std.specs.Prelude.{◌≡◌};
 ghost use Rattle.tree_checker.specs.Whys.{gap_name_of};
+ghost use Rattle.tree_checker.specs.Reasons.{plain_why as plain_why_lem, as_plain as as_plain_lem};
+ghost use Rattle.tree_checker.specs.GapReasons.{plain_verdict as plain_verdict_lem};
 
-use crate::verdict::{Why, why_name};
+use crate::verdict::{RejectAt, Verdict, Why, why_name};
 
 /// Why a gap plan is rejected.
 #[derive(Clone, Copy, Debug, PartialEq, Eq)]
@@ -38,5 +40,35 @@ pub fn gap_why_name(why: GapWhy) -> &'static str
         GapWhy::Plain(why) => why_name(why),
         GapWhy::WaitingWrong => "WaitingWrong",
         GapWhy::CeilingWrong => "CeilingWrong",
+    }
+}
+
+// A reason as one against a plan: a number that has no place there is a wrong bound.
+fn plain_why(why: GapWhy) -> Why
+    ensures { result ≡ plain_why_lem why }
+{
+    match why {
+        GapWhy::Plain(why) => why,
+        GapWhy::WaitingWrong | GapWhy::CeilingWrong => Why::BoundWrong,
+    }
+}
+
+/// A rejection as one of a plan.
+pub fn as_plain(at: GapRejectAt) -> RejectAt
+    ensures { result ≡ as_plain_lem at }
+{
+    RejectAt {
+        line: at.line,
+        why: plain_why(at.why),
+    }
+}
+
+/// A verdict as one on a plan.
+pub fn plain_verdict(verdict: GapVerdict) -> Verdict
+    ensures { result ≡ plain_verdict_lem verdict }
+{
+    match verdict {
+        GapVerdict::Accepted => Verdict::Accepted,
+        GapVerdict::Rejected(at) => Verdict::Rejected(as_plain(at)),
     }
 }

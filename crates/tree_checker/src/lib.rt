@@ -13,6 +13,8 @@ mod verdict;
 
 pub use checker::Checker;
 pub use checking::{check, check_gap};
-pub use gap_verdict::{GapRejectAt, GapVerdict, GapWhy, gap_why_name};
-pub use laws::{accepted_with_no_reason, finds_one_rate, gap_accepted_with_no_reason};
+pub use gap_verdict::{GapRejectAt, GapVerdict, GapWhy, as_plain, gap_why_name, plain_verdict};
+pub use laws::{
+    accepted_with_no_reason, finds_one_rate, first_reason_by_records, gap_accepted_with_no_reason,
+};
 pub use verdict::{RejectAt, Verdict, Why, why_name};

@@ -3,15 +3,14 @@
 ghost use Rattle.std.specs.Prelude.{◌≡◌, IfNone};
 ghost use Rattle.search_model.specs.Legal.{IsLegal};
 ghost use Rattle.bound_tree.specs.Close.{IsExact};
-ghost use Rattle.tree_checker.specs.Reasons.{first_failed, value_tests, kind_tests, head_reason as head_reason_lem};
-ghost use Rattle.tree_checker.specs.GapReasons.{open_tests, node_tests};
+ghost use Rattle.tree_checker.specs.Reasons.{first_failed, value_tests, kind_tests, open_tests, node_tests, head_reason as head_reason_lem};
 ghost use Rattle.tree_checker.specs.Tables.{AreMadeFor};
 
 use crate::bounds::{edge_reason, mean_reason, tangent_reason};
-use crate::gap_verdict::GapWhy;
+use crate::gap_verdict::{GapRejectAt, GapWhy};
 use crate::path_tests::is_path;
 use crate::tables::BoundTables;
-use crate::verdict::{RejectAt, Why};
+use crate::verdict::Why;
 use bound_tree::{GapKind, GapNode, Kind};
 use search_model::{Path, Scenario, Standing, better};
 
@@ -42,20 +41,23 @@ pub(crate) fn head_reason(
     tables: &mut BoundTables,
     standing: &Standing,
     weight: u128,
-) -> Option<RejectAt>
+) -> Option<GapRejectAt>
     requires made { AreMadeFor sc.now tables.old }
     ensures reason { result ≡ head_reason_lem sc.now standing.now weight }
     ensures exact { IfNone result (IsExact sc.now standing.now) }
     ensures made { AreMadeFor sc.now tables.new }
 {
     if !is_path(sc, &standing.path) {
-        return Some(RejectAt {
+        return Some(GapRejectAt {
             line: 2,
-            why: Why::PathIllegal,
+            why: GapWhy::Plain(Why::PathIllegal),
         });
     }
     let why = value_reason(sc, tables, standing, weight)?;
-    Some(RejectAt { line: 3, why })
+    Some(GapRejectAt {
+        line: 3,
+        why: GapWhy::Plain(why),
+    })
 }
 
 // The first reason against a path as a record.

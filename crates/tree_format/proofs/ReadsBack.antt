@@ -27,7 +27,7 @@ use Rattle.search_model.specs.Legal.{IsLegal}
 use Rattle.search_model.proofs.PlainSteps.{positions_follow}
 use Rattle.search_model.specs.Names.{IsName, is_name_byte}
 use Rattle.std.proofs.lemmas.Grind.{common_steps}
-use Rattle.tree_format.specs.PlanText.{numbers, node_fields, written, node_row, chance_row, ceiling_row, ceiling_rows, count_row, text_in, ArePositions, IsPrintableKind, IsPrintableRecord, IsPrintable, IsNarrow, IsTextOfPlan, IsNarrowNode, IsGapText}
+use Rattle.tree_format.specs.PlanText.{numbers, node_fields, written, node_row, chance_row, ceiling_row, ceiling_rows, count_row, text_in, ArePositions, IsPrintableKind, IsPrintableRecord, IsPrintable, IsNarrow, IsTextOfPlan, IsNarrowNode, IsGapText, HasNoEdge, plan_text, plan_text_2}
 use Rattle.tree_format.specs.declared.due.Due.{Due}
 use Rattle.tree_format.specs.declared.plan_line.Dialect.{Dialect}
 use Rattle.tree_format.specs.declared.plan_line.Dialect.TheVariants.{One, Two, Gap}
@@ -334,15 +334,21 @@ plan_has_text p v plan k narrow e ceiling known places = record {
   places = places;
 }
 
-pub plan_text_reads_back : PlanTextReadsBack
-plan_text_reads_back p plan h k narrow no_edge =
-    ap as_plan (text_reads_back p One (gap_of plan) h (plan_has_text p One plan k narrow refl refl no_edge tt)) ∙ ap Ok (plan_of_gap plan)
+-- it is read as the gap plan of its records
+closed_reads_back : (p : Problem) (plan : Plan) → IsProblem p → IsPrintable p plan → IsNarrow plan → HasNoEdge plan → text_at Plans p (plan_text p plan) ≡ Ok (gap_of plan)
+closed_reads_back p plan h k narrow no_edge = text_reads_back p One (gap_of plan) h (plan_has_text p One plan k narrow refl refl no_edge tt)
 
-pub plan_text_2_reads_back : PlanText2ReadsBack
-plan_text_2_reads_back p plan h k narrow places =
+closed_2_reads_back : (p : Problem) (plan : Plan) → IsProblem p → IsPrintable p plan → IsNarrow plan → AreInPlace p ([] ∷ []) plan.tree → text_at Plans p (plan_text_2 p plan) ≡ Ok (gap_of plan)
+closed_2_reads_back p plan h k narrow places =
     let known = All-weaker (IsPrintableRecord p) (λ (r : TreeNode). IsLettered Two (Closed r.kind)) (λ r _. tt) plan.tree k.records in
     let here = subst (AreInPlace p ([] ∷ [])) (sym (shapes_of_closed plan.tree)) places in
-    ap as_plan (text_reads_back p Two (gap_of plan) h (plan_has_text p Two plan k narrow refl refl known here)) ∙ ap Ok (plan_of_gap plan)
+    text_reads_back p Two (gap_of plan) h (plan_has_text p Two plan k narrow refl refl known here)
+
+pub plan_text_reads_back : PlanTextReadsBack
+plan_text_reads_back p plan h k narrow no_edge = ap as_plan (closed_reads_back p plan h k narrow no_edge) ∙ ap Ok (plan_of_gap plan)
+
+pub plan_text_2_reads_back : PlanText2ReadsBack
+plan_text_2_reads_back p plan h k narrow places = ap as_plan (closed_2_reads_back p plan h k narrow places) ∙ ap Ok (plan_of_gap plan)
 
 -- nodes that have the prefixes that are expected can be printed, where these are legal
 placed_printable : (p : Problem) → IsProblem p → (nodes : List GapNode) (qs : List (List ℕ)) → All (IsLegal p) qs → AreInPlace p qs (map shape_of nodes) → All (λ r. IsPrintableKind p (shape_of r).kind) nodes → All (λ r. IsPrintableRecord p (shape_of r)) nodes
@@ -380,6 +386,18 @@ text_read p h plan text spelled = elim spelled [
   | inl one ↦ ap (plan_at p) one.spelled ∙ plan_text_reads_back p plan h one.printable one.narrow one.no_edge
   | inr two ↦ ap (plan_at p) two.spelled ∙ plan_text_2_reads_back p plan h two.printable two.narrow two.in_place
 ]
+
+-- what the text of a plan is read as is the gap plan of its records
+closed_read : (p : Problem) → IsProblem p → (plan : Plan) (text : List ℕ) → IsTextOfPlan p plan text → text_at Plans p text ≡ Ok (gap_of plan)
+closed_read p h plan text spelled = elim spelled [
+  | inl one ↦ ap (text_at Plans p) one.spelled ∙ closed_reads_back p plan h one.printable one.narrow one.no_edge
+  | inr two ↦ ap (text_at Plans p) two.spelled ∙ closed_2_reads_back p plan h two.printable two.narrow two.in_place
+]
+
+pub read_is_closed : (p : Problem) → IsProblem p → (plan : GapPlan) (text : List ℕ) → IsTextOfPlan p (plan_of plan) text → text_at Plans p text ≡ Ok plan → gap_of (plan_of plan) ≡ plan
+read_is_closed p h plan text spelled reads =
+    let closed = closed_read p h (plan_of plan) text spelled in
+    cc
 
 -- and that of a gap plan as that gap plan
 pub gap_read : (p : Problem) → IsProblem p → (plan : GapPlan) (text : List ℕ) → IsGapText p plan text → gap_at p text ≡ Ok plan

@@ -32,6 +32,11 @@ abbrev pub most_records : Family → ℕ
 most_records Plans = MOST_NODES
 most_records Gaps = MOST_GAP_NODES
 
+-- the line of the first record
+abbrev pub first_line : Family → ℕ
+first_line Plans = 5
+first_line Gaps = 6
+
 -- whether it has the letter `E`
 abbrev pub has_edges : Dialect → Bool
 has_edges One = false

@@ -1,7 +1,7 @@
 //! What the dialects differ in.
 
 ghost use Rattle.std.specs.Prelude.{◌≡◌, ◌≤◌};
-ghost use Rattle.tree_format.specs.Dialects.{family_of as family_of_lem, most_records as most_records_lem, has_ceiling as has_ceiling_lem, has_edges as has_edges_lem, has_open as has_open_lem, prefixes_in as prefixes_in_lem};
+ghost use Rattle.tree_format.specs.Dialects.{family_of as family_of_lem, most_records as most_records_lem, first_line as first_line_lem, has_ceiling as has_ceiling_lem, has_edges as has_edges_lem, has_open as has_open_lem, prefixes_in as prefixes_in_lem};
 
 use crate::plan_line::{Dialect, Family, Prefixes};
 use bound_tree::MOST_NODES;
@@ -27,6 +27,16 @@ pub fn most_records(family: Family) -> u64
     match family {
         Family::Plans => MOST_NODES,
         Family::Gaps => MOST_GAP_NODES,
+    }
+}
+
+/// The line of the first record of a text of a family.
+pub fn first_line(family: Family) -> u64
+    ensures { result ≡ first_line_lem family }
+{
+    match family {
+        Family::Plans => 5,
+        Family::Gaps => 6,
     }
 }
 

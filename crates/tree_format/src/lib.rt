@@ -27,7 +27,7 @@ mod stop;
 mod writing;
 
 pub use collecting::record_of;
-pub use dialects::MOST_GAP_NODES;
+pub use dialects::{MOST_GAP_NODES, first_line};
 pub use feed::PlanFeed;
 pub use feed_laws::{
     cut_anywhere, each_fault_is_met, fault_is_last, gathered_is_summary, items_in_order,

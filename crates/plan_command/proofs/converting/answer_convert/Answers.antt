@@ -1,5 +1,5 @@
 use Rattle.std.proofs.Common.{true, refl}
-use Rattle.plan_command.proofs.Verdicts.{plain_against, plan_rejected}
+use Rattle.plan_command.proofs.Verdicts.{plan_rejected}
 use Rattle.plan_command.proofs.Converted.{kept_printable, kept_in_place, kept_converted}
 use Rattle.plan_command.proofs.converting.answer_convert.Goals as goal
 
@@ -12,8 +12,5 @@ text_of_plan-requires-clause-in_place c = kept_in_place c.requires.0 c.args.judg
 pub returns-in_ok-text_of_plan-in-Accepted : goal.returns-in_ok-text_of_plan-in-Accepted
 returns-in_ok-text_of_plan-in-Accepted c = λ words input judges. kept_converted input c.args.judgement.now judges words _ _ c.in-Accepted.is refl c.in_ok-text_of_plan-in-Accepted.ensures
 
-pub plain_reason-requires : goal.plain_reason-requires
-plain_reason-requires c = plain_against true c.requires.0 c.args.judgement.now c.in-Rejected.at c.in-Rejected.is c.requires.1
-
 pub returns-in-Rejected : goal.returns-in-Rejected
-returns-in-Rejected c = λ words input judges. (tt, plan_rejected true input c.args.judgement.now c.in-Rejected.at c.in-Rejected.is judges c.plain_reason.result c.plain_reason.ensures)
+returns-in-Rejected c = λ words input judges. (tt, plan_rejected true input c.args.judgement.now c.in-Rejected.at c.as_plain.result c.in-Rejected.is c.as_plain.ensures judges)

@@ -1,8 +1,12 @@
-use Rattle.plan_command.proofs.Heard.{plan_begun, gap_begun}
+use Rattle.std.proofs.Common.{ap, ◌∙◌, ℕ}
+use Rattle.tree_checker.specs.Progress.{begun_at}
+use Rattle.plan_command.proofs.Heard.{head_heard}
 use Rattle.plan_command.proofs.hearing.hear_head.Goals as goal
 
-pub returns-in-Plans : goal.returns-in-Plans
-returns-in-Plans c = rw c.in-Plans.is (λ count. plan_begun c.args.sc.now c.args.head.now.standing c.args.head.now.weight c.args.head.now.ceiling count c.head.new.self.tables c.head.new.self c.head.ensures.begun c.head.ensures.under_way c.head.ensures.made)
-
-pub returns-in-Gaps : goal.returns-in-Gaps
-returns-in-Gaps c = rw c.in-Gaps.is (λ count. gap_begun c.args.sc.now c.args.head.now.standing c.args.head.now.weight c.args.head.now.ceiling count c.gap_head.new.self.tables c.gap_head.new.self c.gap_head.ensures.begun c.gap_head.ensures.under_way c.gap_head.ensures.made)
+pub returns : goal.returns
+returns c =
+    let p = c.args.sc.now in
+    let head = c.args.head.now in
+    let tables = c.begin.new.self.tables in
+    let begun = c.begin.ensures.begun ∙ ap (λ (line : ℕ). begun_at line p tables head.standing head.weight) c.first_line.ensures in
+    λ count. head_heard c.args.family p head.standing head.weight head.ceiling count tables c.begin.new.self begun c.begin.ensures.under_way c.begin.ensures.made

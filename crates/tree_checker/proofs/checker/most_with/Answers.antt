@@ -2,7 +2,7 @@ use Rattle.std.proofs.Common.{◌≡◌, ℕ, ◌∷◌, ◌++◌, max, ap, sym,
 use Rattle.search_model.specs.Bounds.{greatest}
 use Rattle.bound_tree.specs.declared.gap.GapKind.{GapKind}
 use Rattle.bound_tree.specs.Gaps.{open_number}
-use Rattle.tree_checker.proofs.GapReason.{greatest-two}
+use Rattle.tree_checker.proofs.Steps.{greatest-two}
 use Rattle.tree_checker.proofs.checker.most_with.Goals as goal
 
 pub returns-in-Waiting : goal.returns-in-Waiting

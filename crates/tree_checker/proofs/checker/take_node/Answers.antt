@@ -5,7 +5,7 @@ use Rattle.search_model.specs.Legal.{IsLegal}
 use Rattle.bound_tree.specs.Gaps.{shape_of_kind}
 use Rattle.bound_tree.specs.Room.{HasRoom}
 use Rattle.bound_tree.proofs.Rooms.{split_legal, legal_expected, room_left, room_expected}
-use Rattle.tree_checker.proofs.GapReason.{branch_is_short}
+use Rattle.tree_checker.proofs.Reason.{branch_is_short}
 use Rattle.tree_checker.proofs.checker.take_node.Goals as goal
 
 pub node_reason-requires-clause-legal : goal.node_reason-requires-clause-legal

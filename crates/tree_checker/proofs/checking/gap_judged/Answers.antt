@@ -4,7 +4,6 @@ use Rattle.search_model.specs.Problem.{Problem}
 use Rattle.bound_tree.specs.declared.gap.GapNode.{GapNode}
 use Rattle.tree_checker.specs.GapReasons.{gap_verdict_of}
 use Rattle.tree_checker.specs.Progress.{Progress, gap_reason_if}
-use Rattle.tree_checker.proofs.GapReason.{nothing_follows}
 use Rattle.tree_checker.proofs.checking.gap_judged.Goals as goal
 
 pub returns : goal.returns
@@ -16,7 +15,7 @@ returns c =
     let same : c.nodes-node-items.result.now ≡ nodes = cc in
     let none : drop c.loop-node.node-index nodes ≡ [] = drop_all c.loop-node.node-index nodes (omega (arith, ap length same)) in
     c.finish_gap.ensures
-    ∙ ap gap_verdict_of (sym (nothing_follows p g ceiling) ∙ ap (gap_reason_if p g ceiling) (sym none) ∙ c.loop-node.invariant.reason)
+    ∙ ap gap_verdict_of (ap (gap_reason_if p g ceiling) (sym none) ∙ c.loop-node.invariant.reason)
 
 pub loop-node-preserved : goal.loop-node-preserved
 loop-node-preserved c =

@@ -1,5 +1,5 @@
 use Rattle.std.proofs.Common.{Some}
-use Rattle.tree_checker.proofs.GapReason.{closed_reason}
+use Rattle.tree_checker.proofs.Steps.{closed_reason}
 use Rattle.tree_checker.proofs.reasons.open_reason.Goals as goal
 
 pub returns-in_ok-why-in-Closed-clause-reason : goal.returns-in_ok-why-in-Closed-clause-reason

@@ -24,7 +24,7 @@ pub returns-in_ok-keep-in-Node-clause-heard : goal.returns-in_ok-keep-in-Node-cl
 returns-in_ok-keep-in-Node-clause-heard c = λ told next heard.
     let self = c.args.self.now in
     subst (λ (item : PlanItem). HasHeard self.task.family self.sc (told ++ item ∷ []) self.head c.hear_node.new.checker) (sym c.in-Node.is)
-    (c.hear_node.ensures told self.head heard)
+    (c.hear_node.ensures self.task.family told self.head heard)
 
 pub returns-in_ok-keep-in-Node-clause-kept : goal.returns-in_ok-keep-in-Node-clause-kept
 returns-in_ok-keep-in-Node-clause-kept c =
