@@ -1,4 +1,4 @@
-//! Texts of gap plans that are read and print back, and such texts that have a fault, by line and kind.
+//! Texts of gap plans that are read and print back, and such texts that are cut off.
 
 ghost use Rattle.std.specs.Prelude.{◌∷◌, [], map};
 ghost use Rattle.bound_tree.specs.Places.{AreInPlace};
@@ -7,7 +7,7 @@ ghost use Rattle.tree_format.specs.PlanText.{IsPrintableGap};
 
 use crate::plan_feeds::tells_gap_as_read;
 use crate::plan_scenarios::asked;
-use crate::plan_texts::{TWO_CELLS_2, bytes_of, has_fault, line_behind, with_line};
+use crate::plan_texts::{TWO_CELLS_2, has_fault, line_behind};
 use bound_tree::GapPlan;
 use search_model::Scenario;
 use std::alloc::Global;
@@ -138,51 +138,6 @@ fn gap_texts_print_back(rt: HostRuntime) -> Result<(), Fail> {
     Ok(())
 }
 
-// A line of the text above, what stands in its place, and the line and the kind of the first fault.
-const GAP_FAULTS: &str = "\
-1|plan 1~|1 BadLine
-1|plan 2~|1 BadLine
-1|gap 2~|1 BadLine
-1|gap~|1 BadLine
-1|gap 1 ~|1 BadLine
-2|path~|2 BadLine
-2|path a x~|2 UnknownName
-3|chance 12~|3 BadLine
-3|chance 12 x~|3 BadNumber
-4||4 BadLine
-4|ceiling~|4 BadLine
-4|ceiling ~|4 BadLine
-4|ceiling 12 16~|4 BadLine
-4|Ceiling 12~|4 BadLine
-4|ceiling x~|4 BadNumber
-4|ceiling 012~|4 BadNumber
-4|ceiling 340282366920938463463374607431768211456~|4 BadNumber
-4|ceiling 12~ceiling 12~|5 BadLine
-5|nodes x~|5 BadNumber
-5|nodes 4194306~|5 TooManyNodes
-5|nodes 4194305~|9 WrongCount
-5|nodes 1048577~|9 WrongCount
-5|nodes 2~|8 WrongCount
-5|nodes 0~end~|6 StillOpen
-6|B 0~|6 BadLine
-6|O 12~|7 NoPlace
-7|O~|7 BadLine
-7|o 12~|7 BadLine
-7|O 12 0~|7 BadLine
-7|W 12 0~|7 BadLine
-7|O x~|7 BadNumber
-7|O 012~|7 BadNumber
-7|O 340282366920938463463374607431768211456~|7 BadNumber
-7|T 12 0~|7 BadLine
-7|T 12 0 2~|7 BadNumber
-7|B~|9 StillOpen
-8|end~|8 WrongCount
-9|O 12~end~|9 WrongCount
-9|end 1~|9 BadLine
-9|end~~|10 Rest
-9|end~x|10 Rest
-";
-
 // Whether a text has this fault, told as line and kind, and by pieces the same.
 fn has_gap_fault(alloc: Global, sc: &Scenario, text: &[u8], fault: &str) -> Result<bool, Fail> {
     match read_gap(alloc, sc, text) {
@@ -192,36 +147,6 @@ fn has_gap_fault(alloc: Global, sc: &Scenario, text: &[u8], fault: &str) -> Resu
         }
         _ => Ok(false),
     }
-}
-
-fn row_has_fault(alloc: Global, sc: &Scenario, row: &str) -> Result<bool, Fail> {
-    let Some((line, rest)) = row.split_once('|') else {
-        return Ok(false);
-    };
-    let (bytes, fault) = rest.split_once('|').ok_or("no fault")?;
-    let bytes = bytes_of(alloc, bytes)?;
-    let text = with_line(alloc, TWO_WAIT, line.parse::<u64>()?, &bytes)?;
-    has_gap_fault(alloc, sc, &text, fault)
-}
-
-fn rows_over(alloc: Global, sc: &Scenario, table: &str) -> Result<u32, Fail> {
-    let mut count = 0u32;
-    for row in table.split('\n') {
-        if row_has_fault(alloc, sc, row)? {
-            count = count.saturating_add(1);
-        }
-    }
-    Ok(count)
-}
-
-fn rows_of_faults(alloc: Global, table: &str) -> Result<u32, Fail> {
-    asked(alloc, "ab 2", |sc| rows_over(alloc, sc, table))
-}
-
-#[test]
-fn gap_faults_of_a_line(rt: HostRuntime) -> Result<(), Fail> {
-    assert_eq!(rt; rows_of_faults(rt.alloc(), GAP_FAULTS)?, 41);
-    Ok(())
 }
 
 // How many fronts of a text end early, in the line that they end in.

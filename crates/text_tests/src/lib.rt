@@ -15,8 +15,6 @@ mod plan_texts;
 #[cfg(test)]
 mod reports;
 #[cfg(test)]
-mod scenario_faults;
-#[cfg(test)]
 mod scenario_prints;
 #[cfg(test)]
 mod scenario_texts;

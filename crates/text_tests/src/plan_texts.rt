@@ -1,9 +1,9 @@
-//! Texts that are read and print back, and texts that have a fault, by line and kind. The rows of a table stand in one text,
+//! Texts that are read and print back, and texts that are cut off or have long lines. The rows of a table stand in one text,
 //! and one function goes over them, so that a row more costs no proof.
 
 use crate::plan_feeds::tells_as_read;
 use crate::plan_scenarios::asked;
-use crate::plan_tables::{FAULTS, TEXTS};
+use crate::plan_tables::TEXTS;
 use bound_tree::{Kind, Plan, TreeNode};
 use search_model::Scenario;
 use std::alloc::{AllocError, Global};
@@ -63,40 +63,29 @@ pub fn has_fault(alloc: Global, sc: &Scenario, text: &[u8], fault: &str) -> Resu
     }
 }
 
-// Whether this is said of a text.
-fn is_answered(alloc: Global, sc: &Scenario, text: &str, answer: &str) -> Result<bool, Fail> {
-    if answer == "prints back" {
-        prints_back(alloc, sc, text)
-    } else {
-        has_fault(alloc, sc, text.as_bytes(), answer)
+// Whether the text of a row prints back, over the scenario of the line above it.
+fn row_prints_back(alloc: Global, row: &str) -> Result<bool, Fail> {
+    match row.split_once('\n') {
+        Some((words, text)) => asked(alloc, words, |sc| prints_back(alloc, sc, text)),
+        None => Ok(false),
     }
 }
 
-// Whether the text of a row is answered as the line above it says.
-fn row_is_answered(alloc: Global, row: &str) -> Result<bool, Fail> {
-    let Some((head, text)) = row.split_once('\n') else {
-        return Ok(false);
-    };
-    let (words, answer) = head.split_once(": ").ok_or("no answer")?;
-    asked(alloc, words, |sc| is_answered(alloc, sc, text, answer))
-}
-
-// How many rows of a table are answered so.
-fn rows_answered(alloc: Global, table: &str) -> Result<u32, Fail> {
+// How many rows of a table print back.
+fn rows_that_print_back(alloc: Global, table: &str) -> Result<u32, Fail> {
     let mut count = 0u32;
     for row in table.split("== ") {
-        if row_is_answered(alloc, row)? {
+        if row_prints_back(alloc, row)? {
             count = count.saturating_add(1);
         }
     }
     Ok(count)
 }
 
-// A branch opens as many records as its position has moves. A name of a cell is none of a position, and above the last
-// number of a cell stands one more of a position.
+// A branch opens as many records as its position has moves.
 #[test]
-fn texts_are_answered(rt: HostRuntime) -> Result<(), Fail> {
-    assert_eq!(rt; rows_answered(rt.alloc(), TEXTS)?, 21);
+fn texts_print_back(rt: HostRuntime) -> Result<(), Fail> {
+    assert_eq!(rt; rows_that_print_back(rt.alloc(), TEXTS)?, 18);
     Ok(())
 }
 
@@ -195,22 +184,8 @@ fn texts_say_their_plans(rt: HostRuntime) -> Result<(), Fail> {
     Ok(())
 }
 
-/// The bytes of a row; `~` stands for a line feed.
-pub fn bytes_of(alloc: Global, row: &str) -> Result<Vec<u8>, AllocError> {
-    let mut bytes = Vec::new(alloc);
-    for c in row.as_bytes() {
-        bytes.push(if *c == b'~' { b'\n' } else { *c })?;
-    }
-    Ok(bytes)
-}
-
-/// A text with other bytes in the place of a line.
-pub fn with_line(
-    alloc: Global,
-    whole: &str,
-    number: u64,
-    bytes: &[u8],
-) -> Result<Vec<u8>, AllocError> {
+// A text with other bytes in the place of a line.
+fn with_line(alloc: Global, whole: &str, number: u64, bytes: &[u8]) -> Result<Vec<u8>, AllocError> {
     let mut text = Vec::new(alloc);
     let mut line = 1u64;
     for c in whole.as_bytes() {
@@ -225,58 +200,6 @@ pub fn with_line(
         }
     }
     Ok(text)
-}
-
-// Six records are announced, and the sixth has no place.
-const ONE_TOO_MANY: &str =
-    "plan 2\npath a a\nchance 12 16\nnodes 6\nB\nB\nW 12\nW 12\nM 12\nW 12\nend\n";
-
-// The tree is open, and no record is announced.
-const NO_RECORDS: &str = "plan 2\npath a a\nchance 12 16\nnodes 0\nend\n";
-
-// The text whose line a row changes.
-fn whole_of(version: &str) -> &'static str {
-    match version {
-        "1" => TWO_CELLS,
-        "2" => TWO_CELLS_2,
-        "2 with one record too many" => ONE_TOO_MANY,
-        _ => NO_RECORDS,
-    }
-}
-
-// Whether a text has the fault of a row: its version, a line, what stands in its place, and the line and the kind of the
-// first fault.
-fn row_has_fault(alloc: Global, sc: &Scenario, row: &str) -> Result<bool, Fail> {
-    let Some((head, rest)) = row.split_once('|') else {
-        return Ok(false);
-    };
-    let (version, line) = head.split_once(": ").ok_or("no line")?;
-    let (bytes, fault) = rest.split_once('|').ok_or("no fault")?;
-    let bytes = bytes_of(alloc, bytes)?;
-    let text = with_line(alloc, whole_of(version), line.parse::<u64>()?, &bytes)?;
-    has_fault(alloc, sc, &text, fault)
-}
-
-// How many rows of a table have their fault, in texts over a scenario.
-fn rows_over(alloc: Global, sc: &Scenario, table: &str) -> Result<u32, Fail> {
-    let mut count = 0u32;
-    for row in table.split('\n') {
-        if row_has_fault(alloc, sc, row)? {
-            count = count.saturating_add(1);
-        }
-    }
-    Ok(count)
-}
-
-// The same of two cells.
-fn rows_of_faults(alloc: Global, table: &str) -> Result<u32, Fail> {
-    asked(alloc, "ab 2", |sc| rows_over(alloc, sc, table))
-}
-
-#[test]
-fn faults_of_a_line(rt: HostRuntime) -> Result<(), Fail> {
-    assert_eq!(rt; rows_of_faults(rt.alloc(), FAULTS)?, 73);
-    Ok(())
 }
 
 #[test]
@@ -317,6 +240,18 @@ fn long_lines_have_faults(alloc: Global) -> Result<bool, Fail> {
 #[test]
 fn long_lines(rt: HostRuntime) -> Result<(), Fail> {
     assert!(rt; long_lines_have_faults(rt.alloc())?);
+    Ok(())
+}
+
+// Whether a text with a blank before it has the fault: a check skips what is blank before a plan.
+fn blank_has_fault(alloc: Global) -> Result<bool, Fail> {
+    let text = with_line(alloc, TWO_CELLS, 1, b" plan 1\n")?;
+    text_has_fault(alloc, &text, "1 BadLine")
+}
+
+#[test]
+fn a_blank_before_a_text(rt: HostRuntime) -> Result<(), Fail> {
+    assert!(rt; blank_has_fault(rt.alloc())?);
     Ok(())
 }
 

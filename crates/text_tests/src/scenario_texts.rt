@@ -1,10 +1,9 @@
-//! Texts that are read, that have a fault, and that are printed, as rows of tables.
+//! Texts that are read, that have a fault, and that are printed; rows of tables where no case of `worked_runs` says it.
 //!
 //! A table is a head and rows. Each row begins with `@`, and is a text, `=`, and what is answered of it; without `=` that
 //! is the text again. The head is what all texts begin with, `=`, and what all answers begin with, in the same way.
 
-use crate::scenario_faults::FAULTS;
-use crate::scenario_prints::{CANONICAL, FRONT, READ_BACK, VALUES};
+use crate::scenario_prints::{FRONT, READ_BACK, VALUES};
 use exact_parts::push_u128;
 use scenario_text::{
     TextKind, TextStop, print_scenario, read_scenario, read_scenario_alone, text_kind_name,
@@ -17,11 +16,7 @@ use text_rows::cut;
 // What is asked of a text.
 #[derive(Clone, Copy)]
 enum Asked {
-    /// What both readers tell of it.
-    Fault,
-    /// Its canonical text.
-    Canonical,
-    /// Whether that reads as the same scenario.
+    /// Whether its canonical text reads as the same scenario.
     Back,
     /// What its scenario holds.
     Values,
@@ -71,8 +66,6 @@ fn is_answered(
 
 fn answered(alloc: Global, asked: Asked, text: &[u8]) -> Result<Vec<u8>, Fail> {
     match asked {
-        Asked::Fault => fault(alloc, text),
-        Asked::Canonical => canonical(alloc, text),
         Asked::Back => back(alloc, text),
         Asked::Values => values(alloc, text),
         Asked::Front => front(alloc, text),
@@ -270,18 +263,7 @@ fn front(alloc: Global, text: &[u8]) -> Result<Vec<u8>, Fail> {
 }
 
 #[test]
-fn faults_are_told(rt: HostRuntime) -> Result<(), Fail> {
-    for (table, rows) in FAULTS {
-        assert_eq!(rt; rows_that_hold(rt.alloc(), Asked::Fault, table)?, rows);
-    }
-    Ok(())
-}
-
-#[test]
-fn canonical_texts_are_printed(rt: HostRuntime) -> Result<(), Fail> {
-    for (table, rows) in CANONICAL {
-        assert_eq!(rt; rows_that_hold(rt.alloc(), Asked::Canonical, table)?, rows);
-    }
+fn canonical_texts_are_read_back(rt: HostRuntime) -> Result<(), Fail> {
     assert_eq!(rt; rows_that_hold(rt.alloc(), Asked::Back, READ_BACK)?, 4);
     Ok(())
 }
