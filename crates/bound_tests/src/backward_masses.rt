@@ -2,7 +2,7 @@ ghost use Rattle.std.specs.Prelude.{◌≡◌, IfSome};
 ghost use Rattle.search_model.specs.Legal.{IsPath};
 ghost use Rattle.backward_mass.specs.Table.{IsMadeFor};
 
-use crate::scenarios::{crosses_threads, holds};
+use crate::scenarios::{asked_of, crosses_threads};
 use backward_mass::Backward;
 use search_model::{Path, Scenario};
 use std::alloc::Global;
@@ -59,7 +59,7 @@ fn is_filled_again_over(alloc: Global, sc: &Scenario) -> Result<bool, Fail> {
 }
 
 fn table_is_filled_again(alloc: Global) -> Result<bool, Fail> {
-    holds(alloc, WAITING_LONGER, is_filled_again_over)
+    asked_of(alloc, WAITING_LONGER, is_filled_again_over)
 }
 
 #[test]

@@ -1,7 +1,7 @@
 ghost use Rattle.mean_bound.specs.Means.{IsMadeFor as IsMeanFor};
 ghost use Rattle.edge_bound.specs.Edges.{IsMadeFor, AreTablesFor};
 
-use crate::scenarios::{crosses_threads, holds};
+use crate::scenarios::{asked_of, crosses_threads};
 use edge_bound::{Edge, EdgeTables};
 use mean_bound::Mean;
 use search_model::{Path, Scenario};
@@ -157,7 +157,7 @@ fn are_bounded_over(alloc: Global, sc: &Scenario, bounds: &[Bound]) -> Result<bo
 }
 
 fn are_bounded(alloc: Global, text: &str, bounds: &[Bound]) -> Result<bool, Fail> {
-    holds(alloc, text, |alloc, sc| are_bounded_over(alloc, sc, bounds))
+    asked_of(alloc, text, |alloc, sc| are_bounded_over(alloc, sc, bounds))
 }
 
 // Worked by hand.

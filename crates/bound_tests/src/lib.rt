@@ -1,5 +1,6 @@
-//! What masses, walks, bounds, the opening and the closing of a prefix come to on worked scenarios, by public calls alone.
-//! There is no code here but tests: they stand apart so that a crate need not be proved once more for them.
+//! What masses, walks, bounds, the opening, the closing of a prefix and the records of one worker and of several come to on
+//! worked scenarios, and the verdicts on plans and gap plans, by public calls alone. There is no code here but tests: they
+//! stand apart so that a crate need not be proved once more for them.
 #![tactic(auto)]
 
 #[cfg(test)]
@@ -7,7 +8,15 @@ mod backward_masses;
 #[cfg(test)]
 mod beliefs;
 #[cfg(test)]
+mod cores;
+#[cfg(test)]
 mod edge_bounds;
+#[cfg(test)]
+mod gap_checks;
+#[cfg(test)]
+mod gap_plans;
+#[cfg(test)]
+mod gathers;
 #[cfg(test)]
 mod mean_bounds;
 #[cfg(test)]
@@ -20,5 +29,7 @@ mod scenarios;
 mod scouts;
 #[cfg(test)]
 mod tangent_bounds;
+#[cfg(test)]
+mod verdicts;
 #[cfg(test)]
 mod walks;

@@ -1,11 +1,10 @@
 ghost use Rattle.mean_bound.specs.Means.{IsMadeFor};
 
-use crate::scenarios::{WIDE_LOOKS, crosses_threads, holds};
+use crate::scenarios::{WIDE_LOOKS, asked_of, crosses_threads};
 use mean_bound::Mean;
 use search_model::{Path, Scenario};
 use std::alloc::Global;
 use std::test::Fail;
-use worked_scenarios::{TWO_CELLS, WAITING_LONGER};
 
 // A prefix, its bound, and the path of the greatest sum that it begins.
 type Bound = (&'static [u8], u128, &'static [u8]);
@@ -84,55 +83,22 @@ fn are_bounded(
     bounds: &[Bound],
     values: &[Value],
 ) -> Result<bool, Fail> {
-    holds(
+    asked_of(
         alloc,
         text,
         |alloc, sc| are_bounded_over(alloc, sc, bounds, values),
     )
 }
 
-#[test]
-fn prefixes_have_the_worked_bounds_after_others(rt: HostRuntime) -> Result<(), Fail> {
-    let bounds: [Bound; 7] = [
-        (&[2], 8, &[2, 2, 2]),
-        (&[2, 2], 7, &[2, 2, 2]),
-        (&[2, 1], 6, &[2, 1, 2]),
-        (&[0], 4, &[0, 1, 2]),
-        (&[1], 8, &[1, 2, 2]),
-        (&[2, 2], 7, &[2, 2, 2]),
-        (&[2], 8, &[2, 2, 2]),
-    ];
-    let values: [Value; 8] = [
-        (&[2, 2, 2], 7),
-        (&[2, 2, 1], 6),
-        (&[1, 2, 2], 6),
-        (&[2, 2], 6),
-        (&[2], 4),
-        (&[], 0),
-        (&[0], 0),
-        (&[2, 1], 4),
-    ];
-    assert!(rt; are_bounded(rt.alloc(), WAITING_LONGER, &bounds, &values)?);
-    crosses_threads::<Mean>();
-    Ok(())
-}
+// In parts of 24. A first look from position 0 finds half of 5 of 6, which is 10. A second one then finds 5 from either
+// position. A first look from position 1 finds 2 alone, and then the one from position 0 still finds 10.
+const WIDE_BOUNDS: &[Bound] = &[(&[], 20, &[0, 0]), (&[0], 15, &[0, 0]), (&[1], 12, &[1, 0])];
 
-#[test]
-fn a_drifting_target_has_the_worked_bounds(rt: HostRuntime) -> Result<(), Fail> {
-    let bounds: [Bound; 3] = [
-        (&[1], 12, &[1, 0]),
-        (&[0], 12, &[0, 0]),
-        (&[1], 12, &[1, 0]),
-    ];
-    assert!(rt; are_bounded(rt.alloc(), TWO_CELLS, &bounds, &[(&[1, 1], 12)])?);
-    Ok(())
-}
+const WIDE_VALUES: &[Value] = &[(&[1, 1], 9)];
 
 #[test]
 fn looks_at_two_cells_have_the_worked_bounds(rt: HostRuntime) -> Result<(), Fail> {
-    // In parts of 24. A first look from position 0 finds half of 5 of 6, which is 10. A second one then finds 5 from either
-    // position. A first look from position 1 finds 2 alone, and then the one from position 0 still finds 10.
-    let bounds: [Bound; 3] = [(&[], 20, &[0, 0]), (&[0], 15, &[0, 0]), (&[1], 12, &[1, 0])];
-    assert!(rt; are_bounded(rt.alloc(), WIDE_LOOKS, &bounds, &[(&[1, 1], 9)])?);
+    assert!(rt; are_bounded(rt.alloc(), WIDE_LOOKS, WIDE_BOUNDS, WIDE_VALUES)?);
+    crosses_threads::<Mean>();
     Ok(())
 }

@@ -1,6 +1,6 @@
 ghost use Rattle.path_node.specs.Room.{IsMadeFor};
 
-use crate::scenarios::{crosses_threads, holds};
+use crate::scenarios::{asked_of, crosses_threads};
 use bound_tree::Kind;
 use path_node::{Scratch, close};
 use search_model::{Path, Scenario, Standing, value};
@@ -62,7 +62,7 @@ fn are_closed_over(alloc: Global, sc: &Scenario, best: &[u8], rows: &[Row]) -> R
 }
 
 fn are_closed(alloc: Global, text: &str, best: &[u8], rows: &[Row]) -> Result<bool, Fail> {
-    holds(
+    asked_of(
         alloc,
         text,
         |alloc, sc| are_closed_over(alloc, sc, best, rows),
@@ -72,35 +72,38 @@ fn are_closed(alloc: Global, text: &str, best: &[u8], rows: &[Row]) -> Result<bo
 // The path that waits with the target, which finds 7 of 8.
 const WAITS: &[u8] = &[2, 2, 2];
 
+const LONGER_ROWS: &[Row] = &[
+    (&[], 'B', 0, &[]),
+    (&[0], 'M', 4, &[]),
+    (&[1], 'T', 12, &[1, 2, 2]),
+    (&[2], 'B', 0, &[]),
+    (&[2, 2, 1], 'W', 6, &[]),
+];
+
 #[test]
 fn prefixes_are_closed_by_each_kind(rt: HostRuntime) -> Result<(), Fail> {
-    let rows: [Row; 5] = [
-        (&[], 'B', 0, &[]),
-        (&[0], 'M', 4, &[]),
-        (&[1], 'T', 12, &[1, 2, 2]),
-        (&[2], 'B', 0, &[]),
-        (&[2, 2, 1], 'W', 6, &[]),
-    ];
-    assert!(rt; are_closed(rt.alloc(), WAITING_LONGER, WAITS, &rows)?);
+    assert!(rt; are_closed(rt.alloc(), WAITING_LONGER, WAITS, LONGER_ROWS)?);
     Ok(())
 }
 
+const TWO_RATES_ROWS: &[Row] = &[
+    (&[0], 'M', 4, &[]),
+    (&[1], 'E', 6, &[]),
+    (&[2], 'B', 0, &[]),
+];
+
 #[test]
 fn looks_of_two_rates_have_no_tangent(rt: HostRuntime) -> Result<(), Fail> {
-    let rows: [Row; 3] = [
-        (&[0], 'M', 4, &[]),
-        (&[1], 'E', 6, &[]),
-        (&[2], 'B', 0, &[]),
-    ];
-    assert!(rt; are_closed(rt.alloc(), TWO_RATES, WAITS, &rows)?);
+    assert!(rt; are_closed(rt.alloc(), TWO_RATES, WAITS, TWO_RATES_ROWS)?);
     crosses_threads::<Scratch>();
     Ok(())
 }
 
+const AIR_ROWS: &[Row] = &[(&[], 'B', 0, &[]), (&[0], 'W', 0, &[]), (&[1], 'W', 1, &[])];
+
 // The look from the air finds 1 of 2, which is the whole of each bound of the empty prefix.
 #[test]
 fn more_positions_than_cells_are_closed(rt: HostRuntime) -> Result<(), Fail> {
-    let rows: [Row; 3] = [(&[], 'B', 0, &[]), (&[0], 'W', 0, &[]), (&[1], 'W', 1, &[])];
-    assert!(rt; are_closed(rt.alloc(), BASE_AND_AIR, &[1], &rows)?);
+    assert!(rt; are_closed(rt.alloc(), BASE_AND_AIR, &[1], AIR_ROWS)?);
     Ok(())
 }

@@ -1,4 +1,4 @@
-use crate::scenarios::holds;
+use crate::scenarios::asked_of;
 use opening_path::opening;
 use search_model::Scenario;
 use std::alloc::Global;
@@ -12,7 +12,7 @@ fn is_opening(alloc: Global, sc: &Scenario, path: &[u8], value: u128) -> Result<
 }
 
 fn is_opened(alloc: Global, text: &str, path: &[u8], value: u128) -> Result<bool, Fail> {
-    holds(alloc, text, |alloc, sc| is_opening(alloc, sc, path, value))
+    asked_of(alloc, text, |alloc, sc| is_opening(alloc, sc, path, value))
 }
 
 // The one path; of equal values the least move; and the greedy path where it misses the best.

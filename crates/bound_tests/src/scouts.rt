@@ -4,7 +4,7 @@
 ghost use Rattle.std.specs.Prelude.{IfOk};
 ghost use Rattle.bound_tree.specs.Close.{IsExact};
 
-use crate::scenarios::holds;
+use crate::scenarios::asked_of;
 use mean_bound::Mean;
 use opening_path::opening;
 use path_node::Scratch;
@@ -63,7 +63,7 @@ fn is_scouted_over(alloc: Global, sc: &Scenario, path: &[u8], value: u128) -> Re
 }
 
 fn is_scouted(alloc: Global, text: &str, path: &[u8], value: u128) -> Result<bool, Fail> {
-    holds(
+    asked_of(
         alloc,
         text,
         |alloc, sc| is_scouted_over(alloc, sc, path, value),

@@ -3,13 +3,13 @@ ghost use Rattle.search_model.specs.Legal.{IsLegal, IsPath};
 ghost use Rattle.mean_bound.specs.Means.{IsMadeFor as IsMeanFor};
 ghost use Rattle.tangent_bound.specs.Room.{IsMadeFor, AreTablesFor};
 
-use crate::scenarios::{WIDE_LOOKS, crosses_threads, holds};
+use crate::scenarios::{WIDE_LOOKS, asked_of, crosses_threads};
 use mean_bound::Mean;
 use search_model::{Path, Scenario};
 use std::alloc::Global;
 use std::test::Fail;
 use tangent_bound::{Tangent, TangentTables};
-use worked_scenarios::{TWO_CELLS, WAITING_LONGER};
+use worked_scenarios::WAITING_LONGER;
 
 // A prefix, the reference at which it is bounded, and the bound.
 type Bound = (&'static [u8], &'static [u8], u128);
@@ -116,41 +116,32 @@ fn are_bounded_over(alloc: Global, sc: &Scenario, bounds: &[Bound]) -> Result<bo
 }
 
 fn are_bounded(alloc: Global, text: &str, bounds: &[Bound]) -> Result<bool, Fail> {
-    holds(alloc, text, |alloc, sc| are_bounded_over(alloc, sc, bounds))
+    asked_of(alloc, text, |alloc, sc| are_bounded_over(alloc, sc, bounds))
 }
 
+// Out of twice 8. The path that waits with the target finds 7, which is 14. The reference 2, 1, 0
+// looks at the target once and has the value 4, and each look at the last cell gains the other 4: twice 4, and the two such
+// looks below the prefix 2, with no gain of the reference's own there.
+const WAITING_BOUNDS: &[Bound] = &[(&[], &[2, 2, 2], 14), (&[2], &[2, 1, 0], 16)];
+
 #[test]
-fn two_cells_have_this_bound(rt: HostRuntime) -> Result<(), Fail> {
-    assert!(rt; are_bounded(rt.alloc(), TWO_CELLS, &[(&[0], &[0, 0], 32)])?);
+fn a_target_that_waits_has_these_bounds(rt: HostRuntime) -> Result<(), Fail> {
+    assert!(rt; are_bounded(rt.alloc(), WAITING_LONGER, WAITING_BOUNDS)?);
     crosses_threads::<Tangent>();
     Ok(())
 }
 
-#[test]
-fn a_target_that_waits_has_these_bounds(rt: HostRuntime) -> Result<(), Fail> {
-    // Out of twice 8. The reference 2, 1, 0 looks at the target once and has the value 4, and each look at the last cell
-    // gains the other 4: twice 4, and the two such looks below the prefix 2, with no gain of the reference's own there.
-    let bounds: [Bound; 5] = [
-        (&[], &[2, 2, 2], 14),
-        (&[1], &[1, 2, 2], 12),
-        (&[2], &[2, 2, 2], 14),
-        (&[2], &[2, 1, 0], 16),
-        (&[2, 2], &[2, 2, 2], 14),
-    ];
-    assert!(rt; are_bounded(rt.alloc(), WAITING_LONGER, &bounds)?);
-    Ok(())
-}
+// Out of twice 24. The reference 1, 1 misses 1, 8 and 6 of 24 in the cells, so its value is 9. From position 0 a look gains
+// 8 + 6 in either period, from position 1 it gains 1, and in period 2 it gains 1 + 6.
+const WIDE_BOUNDS: &[Bound] = &[
+    (&[], &[1, 1], 18 + 28 - 8),
+    (&[1], &[1, 1], 18 + 14 - 7),
+    (&[0], &[0, 1], 32),
+    (&[1], &[1, 0], 24),
+];
 
 #[test]
 fn looks_at_two_cells_have_these_bounds(rt: HostRuntime) -> Result<(), Fail> {
-    // Out of twice 24. The reference 1, 1 misses 1, 8 and 6 of 24 in the cells, so its value is 9. From position 0 a look
-    // gains 8 + 6 in either period, from position 1 it gains 1, and in period 2 it gains 1 + 6.
-    let bounds: [Bound; 4] = [
-        (&[], &[1, 1], 18 + 28 - 8),
-        (&[1], &[1, 1], 18 + 14 - 7),
-        (&[0], &[0, 1], 32),
-        (&[1], &[1, 0], 24),
-    ];
-    assert!(rt; are_bounded(rt.alloc(), WIDE_LOOKS, &bounds)?);
+    assert!(rt; are_bounded(rt.alloc(), WIDE_LOOKS, WIDE_BOUNDS)?);
     Ok(())
 }

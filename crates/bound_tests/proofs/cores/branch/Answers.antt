@@ -4,7 +4,7 @@ use Rattle.bound_tree.specs.Close.{IsClosed, IsExact}
 use Rattle.bound_tree.specs.declared.node.Kind.TheVariants.{Branch}
 use Rattle.search_core.proofs.FromBounds.{empty_branches}
 use Rattle.search_core.proofs.Answered.{Contains-place}
-use Rattle.tree_tests.proofs.cores.branch.Goals as goal
+use Rattle.bound_tests.proofs.cores.branch.Goals as goal
 
 pub step-requires-clause-allowed : goal.step-requires-clause-allowed
 step-requires-clause-allowed c = λ held s at.

@@ -1,5 +1,5 @@
 use Rattle.search_core.proofs.FromBounds.{path_is_whole}
-use Rattle.tree_tests.proofs.gathers.close_path.Goals as goal
+use Rattle.bound_tests.proofs.cores.close_path.Goals as goal
 
 pub step-requires-clause-allowed : goal.step-requires-clause-allowed
 step-requires-clause-allowed c = λ held s at.
