@@ -1,5 +1,5 @@
-//! What widths, ports, grids, drift, looks, paths, lines of text and made scenarios answer on worked values, by public calls
-//! alone. There is no code here but tests: they stand apart so that a crate need not be proved once more for them.
+//! What widths, ports, grids, drift, looks, paths, pairs of paths, lines of text and made scenarios answer on worked values,
+//! by public calls alone. There is no code here but tests: they stand apart so that a crate need not be proved once more for them.
 #![tactic(auto)]
 
 #[cfg(test)]
@@ -10,6 +10,8 @@ mod grids;
 mod makers;
 #[cfg(test)]
 mod models;
+#[cfg(test)]
+mod pairs;
 #[cfg(test)]
 mod ports;
 #[cfg(test)]

@@ -93,8 +93,8 @@ fn is_drawn(scenario: &Scenario, row: &Row) -> bool {
         && scenario.sweep().one_rate(8) == Some(row.overlook)
 }
 
-// Says nothing of the scenario, so that no proof carries it.
-fn made(alloc: Global, number: u64) -> Result<Scenario, Fail> {
+/// Says nothing of the scenario, so that no proof carries it.
+pub(crate) fn made(alloc: Global, number: u64) -> Result<Scenario, Fail> {
     Ok(make(alloc, number)?)
 }
 
