@@ -13,7 +13,8 @@ use Rattle.duo_search.proofs.Values.{pair_is_value, no_pair_finds_more}
 use Rattle.plan_command.specs.declared.request.TheConstants.{MOST_JUDGED}
 use Rattle.plan_command.specs.Plans.{BeginsWith, IsPlanRest}
 use Rattle.plan_command.specs.Commands.{IsInput}
-use Rattle.plan_command.specs.MadeLaws.{ReplannedIsBest, PairedIsBest, MadeIsAccepted, MadeIsWithin}
+use Rattle.plan_command.specs.MadePlans.{IsMadeAndPlanned}
+use Rattle.plan_command.specs.MadeLaws.{ReplannedIsBest, PairedIsBest, MadeIsAccepted, MadeIsWithin, WrittenIsAccepted}
 use Rattle.plan_command.proofs.PlanSizes.{plan_text_fits}
 use Rattle.plan_command.proofs.ScenarioSizes.{canonical_text_fits}
 
@@ -45,3 +46,10 @@ made_is_within q nodes text sound (rest, (plan, certified, few, spelled), whole)
     let records = plan_text_fits q sound plan rest spelled in
     let judged : MOST_JUDGED ≡ 336592896 = refl in
     (MOST_JUDGED, refl, omega (arith, ap length whole, length-append (canonical_text q) rest, scenario, records, spelled.printable.few, judged))
+
+-- so is what was written
+pub written_is_accepted : WrittenIsAccepted
+written_is_accepted q plan nodes text sound certified few spelled =
+    let made : IsMadeAndPlanned nodes q (canonical_text q ++ text) = (text, (plan, certified, few, spelled), refl) in
+    let (r, other, same, is, accepts) = made_is_accepted q nodes (canonical_text q ++ text) sound made in
+    (made_is_within q nodes (canonical_text q ++ text) sound made, (q, r, other, same, is, accepts))

@@ -151,7 +151,7 @@ module _ (c : Call) where
       let d = delivered_to (Replan workers nodes flown) done asked in
       let (p, is, (q, (made, (prefix, named, forced)), (text, (plan, certified, few, spelled), whole))) = d.answers.1 in
       let best = replanned_is_best p q prefix plan is.says.sound made named.1 forced certified in
-      (p, q, d.input, prefix, is, (d.read.taken, d.read.ended), named, forced, (plan, text, certified, few, spelled, best, subst (λ t. Writes c t) whole d.written))
+      (p, q, d.input, prefix, is, (d.read.taken, d.read.ended), named, made, forced, (plan, text, certified, few, spelled, best, subst (λ t. Writes c t) whole d.written))
 
   mapped_input : ByStatus c statuses.Done → Maps c
   mapped_input done flown asked =
@@ -165,7 +165,7 @@ module _ (c : Call) where
       let (p, is, (q, (made, (second, named, product)), (text, (plan, certified, few, spelled), whole))) = d.answers.1 in
       let (first_path, second_path, value, most) = paired_is_best p q second plan is.says.sound made named.0 product certified in
       let finds : FindsMost p second plan = record { first_path = first_path; second_path = second_path; value = value; most = most } in
-      (p, q, d.input, second, is, (d.read.taken, d.read.ended), named, product, (plan, text, certified, few, spelled, finds, subst (λ t. Writes c t) whole d.written))
+      (p, q, d.input, second, is, (d.read.taken, d.read.ended), named, made, product, (plan, text, certified, few, spelled, finds, subst (λ t. Writes c t) whole d.written))
 
   -- the plan of an input is the best
   best_of : (p : Problem) (plan : APlan) (input : List ℕ) → ReadsAll c input → IsInput input p plan → Accepts p plan → ReadsBest c p plan

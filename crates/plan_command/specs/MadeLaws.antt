@@ -1,5 +1,5 @@
 -- What the plan of a scenario that is made says of the scenario that it is made of.
-use Rattle.std.specs.Prelude.{ℕ, ◌≡◌, ◌<◌, ◌≤◌, List, map}
+use Rattle.std.specs.Prelude.{ℕ, ◌≡◌, ◌<◌, ◌≤◌, List, ◌++◌, length, map}
 use Rattle.search_model.specs.Problem.{Problem, IsProblem}
 use Rattle.search_model.specs.Legal.{IsLegal}
 use Rattle.search_model.specs.Same.{AreSame}
@@ -10,6 +10,8 @@ use Rattle.duo_search.specs.Product.{pair_value, IsProduct}
 use Rattle.duo_search.specs.Pairs.{IsPathFrom, firsts_of, seconds_of}
 use Rattle.bound_tree.specs.declared.plan.Plan.{Plan}
 use Rattle.bound_tree.specs.Accepts.{Accepts}
+use Rattle.scenario_text.specs.Canonical.{canonical_text}
+use Rattle.tree_format.specs.PlanText.{IsPlanText2}
 use Rattle.plan_command.specs.declared.request.Request.TheVariants.{Check}
 use Rattle.plan_command.specs.Plans.{IsCertified, HasFewLive}
 use Rattle.plan_command.specs.Commands.{IsInput}
@@ -42,6 +44,14 @@ MadeIsAccepted = (q : Problem) (nodes : ℕ) (text : List ℕ) → IsProblem q �
 -- and it isn't too long for a check
 abbrev pub MadeIsWithin : Type 0
 MadeIsWithin = (q : Problem) (nodes : ℕ) (text : List ℕ) → IsProblem q → IsMadeAndPlanned nodes q text → IsWithin Check text
+
+-- so it is of what `replan` and `duo` write, by what `Replans` and `Pairs` of `Keeps` say of it
+abbrev pub TellsAccepted : List ℕ → Type 0
+TellsAccepted text = IsWithin Check text × ((q r : Problem) × (plan : Plan) × AreSame q r × IsInput text r plan × Accepts r plan)
+
+abbrev pub WrittenIsAccepted : Type 0
+WrittenIsAccepted = (q : Problem) (plan : Plan) (nodes : ℕ) (text : List ℕ) → IsProblem q → IsCertified q plan → length plan.tree ≤ nodes → IsPlanText2 q plan text →
+    TellsAccepted (canonical_text q ++ text)
 
 -- all scenarios that force the prefix of the same names are one search
 abbrev pub ForcedByNamesIsOne : Type 0

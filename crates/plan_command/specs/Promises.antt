@@ -3,7 +3,7 @@ use Rattle.std.specs.Prelude.{◌≡◌, ◌≤◌, ◌+◌, ◌⊎◌, ◌↔�
 use Rattle.std.specs.Io.KnownBytes.{Consumes, Appends, IsAtEnd}
 use Rattle.byte_ports.specs.Causes.{Rose}
 use Rattle.byte_ports.specs.Taken.{TakesCount, TakesAtMost}
-use Rattle.search_model.specs.Problem.{Problem}
+use Rattle.search_model.specs.Problem.{Problem, IsProblem}
 use Rattle.search_model.specs.Order.{IsBest, Starts}
 use Rattle.searcher_maps.specs.Carried.{IsBestAmong}
 use Rattle.residual_plan.specs.Forced.{source_of, IsForced}
@@ -74,12 +74,12 @@ Gaps c = (workers nodes : ℕ) → Spells c.words (Gap workers nodes) →
     × ((plan : GapPlan) × (text : List ℕ) × IsGapped nodes p plan × IsGapText p plan text × Writes c text)
 
 -- where a plan behind a flown prefix was asked for, the input is the text of a scenario alone, and `out` grew by the canonical
--- text of a scenario that forces the prefix of the names, and at once behind it by the text of its plan, as for a plan; its
--- path, taken back, is the best of those that begin with the prefix
+-- text of a scenario that forces the prefix of the names, and at once behind it by the text of its plan, as for a plan, so that
+-- `check` accepts both (`made_is_accepted`); its path, taken back, is the best of those that begin with the prefix
 abbrev pub Replans : Call → Type 0
 Replans c = (workers nodes flown : ℕ) → Spells c.words (Replan workers nodes flown) →
     (p q : Problem) × (input prefix : List ℕ) × IsTextOf p input × ReadsAll c input
-    × IsFlown p (names_behind flown c.words) prefix × IsForced p prefix q
+    × IsFlown p (names_behind flown c.words) prefix × IsProblem q × IsForced p prefix q
     × ((plan : APlan) × (text : List ℕ) × IsCertified q plan × (length plan.tree ≤ nodes) × IsPlanText2 q plan text
     × IsBestAmong p (Starts prefix) (map (source_of p prefix) plan.standing.path) × Writes c (canonical_text q ++ text))
 
@@ -98,11 +98,12 @@ pub record FindsMost (p : Problem) (second : ℕ) (plan : APlan) : Type 0 where
   pub most : (a b : List ℕ) → IsPathFrom p p.start a → IsPathFrom p second b → pair_value p a b ≤ plan.standing.value
 
 -- where a plan for two was asked for, the input is the text of a scenario alone, and `out` grew by the canonical text of the
--- product scenario for the second start, and at once behind it by the text of its plan, as for a plan
+-- product scenario for the second start, and at once behind it by the text of its plan, as for a plan, so that `check` accepts
+-- both (`made_is_accepted`)
 abbrev pub Pairs : Call → Type 0
 Pairs c = (workers nodes : ℕ) (name : List ℕ) → Spells c.words (Duo workers nodes name) →
     (p q : Problem) × (input : List ℕ) × (second : ℕ) × IsTextOf p input × ReadsAll c input
-    × Names p name second × IsProduct p second q
+    × Names p name second × IsProblem q × IsProduct p second q
     × ((plan : APlan) × (text : List ℕ) × IsCertified q plan × (length plan.tree ≤ nodes) × IsPlanText2 q plan text
     × FindsMost p second plan × Writes c (canonical_text q ++ text))
 

@@ -1,6 +1,6 @@
 //! What the plan of a scenario that is made says of the scenario that it is made of.
 
-ghost use Rattle.plan_command.specs.MadeLaws.{ReplannedIsBest, PairedIsBest, MadeIsAccepted, MadeIsWithin, ForcedByNamesIsOne, PairedByNameIsOne, FewLiveStays, OnePrefixIsNamed, FlownIsntRefused, ForcedIsntRefused, OneWhyIsntForced, ProductIsntRefused, OneWhyIsntPaired};
+ghost use Rattle.plan_command.specs.MadeLaws.{ReplannedIsBest, PairedIsBest, MadeIsAccepted, MadeIsWithin, WrittenIsAccepted, ForcedByNamesIsOne, PairedByNameIsOne, FewLiveStays, OnePrefixIsNamed, FlownIsntRefused, ForcedIsntRefused, OneWhyIsntForced, ProductIsntRefused, OneWhyIsntPaired};
 
 /// The planned path of a scenario that forces a prefix, taken back, is the best of those that begin with the prefix.
 pub fn replanned_is_best()
@@ -14,10 +14,11 @@ pub fn paired_is_best()
 {}
 
 /// What is written for a scenario that is made is an input whose plan is accepted, for a scenario that is the same
-/// search, and no longer than what `check` reads.
+/// search, and no longer than what `check` reads. What `run` keeps says so of all that `replan` and `duo` write.
 pub fn made_is_accepted()
     ensures accepted { MadeIsAccepted }
     ensures within { MadeIsWithin }
+    ensures written { WrittenIsAccepted }
 {}
 
 /// Scenarios that force the prefix of the same names are one search, and so are the product scenarios for a second
