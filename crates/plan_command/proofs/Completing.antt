@@ -8,6 +8,7 @@ use Rattle.plan_command.specs.declared.status.Refusal.{Refusal}
 use Rattle.plan_command.specs.declared.status.Stop.TheVariants as stops
 use Rattle.plan_command.specs.Words.{Family, of_scenario, of_plan, of_gap, of_nothing, family_of, limit_at, limit_of, Spells}
 use Rattle.plan_command.specs.Commands.{AnswersAs, RefusesAs}
+use Rattle.plan_command.specs.Inputs.{Course}
 use Rattle.plan_command.specs.Run.{Call, Ending, delivered, stopped, Ends, status_at}
 use Rattle.plan_command.specs.Complete.{IsUnlessNoMemory}
 use Rattle.plan_command.specs.Promises.{Completes}
@@ -31,7 +32,7 @@ unread_refuses of_nothing words request input refusal none refuses = refuses
 unread_limit : (o : Option ℕ) (limit : ℕ) → o ≡ None → o ≡ Some limit → ⊥
 unread_limit o limit e h = let bad : ⊥ = cc in bad
 
-module _ (c : Call) where
+module _ (Went : Course → Type 0) (c : Call Went) where
   -- the request that the words spell reads nothing
   none_of : (r request : Request) → Spells c.words r → Spells c.words request → limit_of request ≡ None → limit_of r ≡ None
   none_of r request spelled asked none = ap limit_of (spelled_once c.words r request spelled asked) ∙ none
@@ -47,11 +48,11 @@ module _ (c : Call) where
 
   pub run_completes : (end : Ending) → Ends c end → Completes c (status_at end)
   run_completes end ends = record {
-    complete = λ request input calm. ends_as_due c request input end ends calm;
-    finishes = λ request input calm feasible. feasible_due c.words request input (status_at end) feasible (ends_as_due c request input end ends calm);
-    accepts = λ request input calm good. judge_accepts c.words request input (status_at end) good (ends_as_due c request input end ends calm);
-    rejects = λ request input calm bad. judge_rejects c.words request input (status_at end) bad (ends_as_due c request input end ends calm);
+    complete = λ request input calm. ends_as_due Went c request input end ends calm;
+    finishes = λ request input calm feasible. feasible_due c.words request input (status_at end) feasible (ends_as_due Went c request input end ends calm);
+    accepts = λ request input calm good. judge_accepts c.words request input (status_at end) good (ends_as_due Went c request input end ends calm);
+    rejects = λ request input calm bad. judge_rejects c.words request input (status_at end) bad (ends_as_due Went c request input end ends calm);
     makes = λ request asked none calm. ends_unread end request ends asked none calm;
-    refused = λ request input refusal heard short due by. ends_refused c request input end refusal ends heard short due by;
-    longer = λ request input heard long. ends_longer c request input end ends heard long;
+    refused = λ request input refusal heard short due by. ends_refused Went c request input end refusal ends heard short due by;
+    longer = λ request input heard long. ends_longer Went c request input end ends heard long;
   }

@@ -23,22 +23,23 @@ use Rattle.plan_command.specs.declared.status.Status.TheVariants as statuses
 use Rattle.plan_command.specs.declared.status.Refusal.{Refusal}
 use Rattle.plan_command.specs.declared.status.Refusal.TheVariants as refusals
 use Rattle.plan_command.specs.declared.status.Stop.TheVariants as stops
-use Rattle.plan_command.specs.Words.{Family, of_scenario, of_plan, of_gap, of_nothing, family_of, limit_at, Spells, SpellNone}
+use Rattle.plan_command.specs.Words.{Family, of_scenario, of_plan, of_gap, of_nothing, family_of, limit_at, limit_of, Spells, SpellNone}
 use Rattle.plan_command.specs.Lines.{rejection_of, gap_rejection_of}
 use Rattle.plan_command.specs.GapPlans.{IsAbove}
-use Rattle.plan_command.specs.Inputs.{Source, Reads}
+use Rattle.plan_command.specs.Inputs.{Source, Course, Reads, ReadWhole}
 use Rattle.plan_command.specs.Commands.{IsInput, IsGapInput, TellsWhether, IsGapVerdict, TellsPlan, AnswersAs, RefusesAs}
 use Rattle.plan_command.specs.Run.{Call, Delivered, Refused, Ending, delivered, stopped, Ends, status_at, IsRefusal, IsCutOff}
-use Rattle.plan_command.specs.Promises.{ReadsAll, Writes, WritesNothing, Plans, Gaps, Replans, Maps, FindsMost, Pairs, ReadsBest, Affirms, AffirmsGap, Reports, Converts, RejectsPlan, RejectsGap, Rejects, Makes, Drills, TakesTooMuch, FailsToRead, Keeps}
+use Rattle.plan_command.specs.Promises.{ReadsAll, Writes, WritesNothing, Plans, Gaps, Replans, Maps, FindsMost, Pairs, ReadsBest, Affirms, AffirmsGap, Reports, Converts, RejectsPlan, RejectsGap, Rejects, Makes, Drills, TakesTooMuch, FailsToRead, TakesNoMore, Keeps}
 use Rattle.plan_command.proofs.MadeBest.{replanned_is_best, paired_is_best}
+use Rattle.plan_command.proofs.Inputs.{part_read}
 use Rattle.plan_command.proofs.Unmade.{never_rejected}
 use Rattle.plan_command.proofs.WordForms.{spelled_once}
 
 -- what a run has done that ended with this status
-abbrev ByStatus : Call → Status → Type 0
-ByStatus c statuses.Done = (r : Request) × Spells c.words r × Delivered c.words r c.before c.after statuses.Done
+abbrev ByStatus : {Went : Course → Type 0} → Call Went → Status → Type 0
+ByStatus c statuses.Done = (r : Request) × Spells c.words r × Delivered c r statuses.Done
 ByStatus c statuses.Rejected =
-    ((r : Request) × Spells c.words r × Delivered c.words r c.before c.after statuses.Rejected)
+    ((r : Request) × Spells c.words r × Delivered c r statuses.Rejected)
     ⊎ ((at : RejectAt) × IsRefusal c (refusals.Rejected at))
 ByStatus c statuses.Usage = SpellNone c.words
 ByStatus c statuses.BadScenario = (fault : TextFault) × IsRefusal c (refusals.BadScenario fault)
@@ -49,7 +50,7 @@ ByStatus c statuses.TooManyNodes = (nodes : ℕ) × IsRefusal c (refusals.TooMan
 ByStatus c statuses.TooLong = TakesTooMuch c
 ByStatus c statuses.ReadFault = FailsToRead c
 ByStatus c statuses.WriteFault = Rose c.before.write_faults c.after.write_faults × IsCutOff c
-ByStatus c statuses.NoMemory = WritesNothing c ⊎ IsCutOff c
+ByStatus c statuses.NoMemory = (WritesNothing c ⊎ IsCutOff c) × TakesNoMore c
 
 done_isnt_rejected : statuses.Done ≡ statuses.Rejected → ⊥
 done_isnt_rejected e = cc
@@ -103,15 +104,15 @@ gaps_alone (Replan workers nodes flown) its = let bad : ⊥ = cc in absurd bad
 gaps_alone (Map flown) its = let bad : ⊥ = cc in absurd bad
 gaps_alone (Duo workers nodes second) its = let bad : ⊥ = cc in absurd bad
 
-module _ (c : Call) where
-  delivered_by : (r : Request) (status : Status) → Spells c.words r → Delivered c.words r c.before c.after status → ByStatus c status
+module _ (Went : Course → Type 0) (c : Call Went) where
+  delivered_by : (r : Request) (status : Status) → Spells c.words r → Delivered c r status → ByStatus c status
   delivered_by r status spelled whole =
       elim (done_or_rejected (family_of r) c.words r whole.input status whole.text whole.answers) [
-        | inl done ↦ subst (ByStatus c) (sym done) (r, spelled, subst (λ (s : Status). Delivered c.words r c.before c.after s) done whole)
-        | inr rejected ↦ subst (ByStatus c) (sym rejected) (inl (r, spelled, subst (λ (s : Status). Delivered c.words r c.before c.after s) rejected whole))
+        | inl done ↦ subst (ByStatus c) (sym done) (r, spelled, subst (λ (s : Status). Delivered c r s) done whole)
+        | inr rejected ↦ subst (ByStatus c) (sym rejected) (inl (r, spelled, subst (λ (s : Status). Delivered c r s) rejected whole))
       ]
 
-  refused_by : (r : Request) (refusal : Refusal) → Spells c.words r → Refused c.words r c.before c.after refusal → ByStatus c (status_at (stopped (stops.Refused refusal)))
+  refused_by : (r : Request) (refusal : Refusal) → Spells c.words r → Refused c r refusal → ByStatus c (status_at (stopped (stops.Refused refusal)))
   refused_by r (refusals.Rejected at) spelled refused = inr (at, (r, spelled, refused))
   refused_by r (refusals.BadScenario fault) spelled refused = (fault, (r, spelled, refused))
   refused_by r (refusals.BadPlan fault) spelled refused = (fault, (r, spelled, refused))
@@ -124,40 +125,44 @@ module _ (c : Call) where
   ends_by (delivered status) (r, spelled, whole) = delivered_by r status spelled whole
   ends_by (stopped stops.Usage) ends = ends.0
   ends_by (stopped (stops.Refused refusal)) (r, spelled, refused) = refused_by r refusal spelled refused
-  ends_by (stopped stops.ReadFault) (r, spelled, (failed, same)) = (r, failed.limit, spelled, failed.is_limit, failed.taken, failed.rose, same)
-  ends_by (stopped stops.TooLong) (r, spelled, (long, same)) = (r, long.limit, spelled, long.is_limit, long.taken, same)
+  ends_by (stopped stops.ReadFault) (r, spelled, (failed, same)) = (r, failed.limit, spelled, failed.is_limit, failed.taken, failed.rose, failed.gone, same)
+  ends_by (stopped stops.TooLong) (r, spelled, (long, same)) = (r, long.limit, spelled, long.is_limit, long.taken, long.gone, same)
   ends_by (stopped stops.WriteFault) (r, spelled, fault) = (fault.0, (r, spelled, fault.1))
-  ends_by (stopped stops.NoMemory) (r, spelled, inl same) = inl same
-  ends_by (stopped stops.NoMemory) (r, spelled, inr cut) = inr (r, spelled, cut)
+  ends_by (stopped stops.NoMemory) (r, spelled, inl (part, same)) = (inl same, (r, spelled, part))
+  ends_by (stopped stops.NoMemory) (r, spelled, inr cut) = (inr (r, spelled, cut), (r, spelled, part_read Went (limit_of r) c.before.source c.after.source cut.input cut.read))
 
   -- what was delivered to the request that the words spell
-  delivered_to : (request : Request) → ByStatus c statuses.Done → Spells c.words request → Delivered c.words request c.before c.after statuses.Done
-  delivered_to request (r, spelled, whole) asked = subst (λ (q : Request). Delivered c.words q c.before c.after statuses.Done) (spelled_once c.words r request spelled asked) whole
+  delivered_to : (request : Request) → ByStatus c statuses.Done → Spells c.words request → Delivered c request statuses.Done
+  delivered_to request (r, spelled, whole) asked = subst (λ (q : Request). Delivered c q statuses.Done) (spelled_once c.words r request spelled asked) whole
+
+  -- an input that was read whole
+  whole_read : (limit : ℕ) (input : List ℕ) → ReadWhole Went limit c.before.source c.after.source input → ReadsAll c input
+  whole_read limit input read = (read.taken, read.ended, (limit, read.short, read.gone))
 
   planned_input : ByStatus c statuses.Done → Plans c
   planned_input done workers nodes asked =
       let d = delivered_to (Plan workers nodes) done asked in
       let (p, is, (plan, certified, few, spelled)) = d.answers.1 in
-      (p, d.input, is, (d.read.taken, d.read.ended), (plan, d.text, certified, few, spelled, d.written))
+      (p, d.input, is, (whole_read _ d.input d.read), (plan, d.text, certified, few, spelled, d.written))
 
   gapped_input : ByStatus c statuses.Done → Gaps c
   gapped_input done workers nodes asked =
       let d = delivered_to (Gap workers nodes) done asked in
       let (p, is, (plan, gapped, spelled)) = d.answers.1 in
-      (p, d.input, is, (d.read.taken, d.read.ended), (plan, d.text, gapped, spelled, d.written))
+      (p, d.input, is, (whole_read _ d.input d.read), (plan, d.text, gapped, spelled, d.written))
 
   replanned_input : ByStatus c statuses.Done → Replans c
   replanned_input done workers nodes flown asked =
       let d = delivered_to (Replan workers nodes flown) done asked in
       let (p, is, (q, (made, (prefix, named, forced)), (text, (plan, certified, few, spelled), whole))) = d.answers.1 in
       let best = replanned_is_best p q prefix plan is.says.sound made named.1 forced certified in
-      (p, q, d.input, prefix, is, (d.read.taken, d.read.ended), named, made, forced, (plan, text, certified, few, spelled, best, subst (λ t. Writes c t) whole d.written))
+      (p, q, d.input, prefix, is, (whole_read _ d.input d.read), named, made, forced, (plan, text, certified, few, spelled, best, subst (λ t. Writes c t) whole d.written))
 
   mapped_input : ByStatus c statuses.Done → Maps c
   mapped_input done flown asked =
       let d = delivered_to (Map flown) done asked in
       let (p, is, (prefix, named, told)) = d.answers.1 in
-      (p, d.input, prefix, is, (d.read.taken, d.read.ended), named, subst (λ t. Writes c t) told d.written)
+      (p, d.input, prefix, is, (whole_read _ d.input d.read), named, subst (λ t. Writes c t) told d.written)
 
   paired_input : ByStatus c statuses.Done → Pairs c
   paired_input done workers nodes name asked =
@@ -165,7 +170,7 @@ module _ (c : Call) where
       let (p, is, (q, (made, (second, named, product)), (text, (plan, certified, few, spelled), whole))) = d.answers.1 in
       let (first_path, second_path, value, most) = paired_is_best p q second plan is.says.sound made named.0 product certified in
       let finds : FindsMost p second plan = record { first_path = first_path; second_path = second_path; value = value; most = most } in
-      (p, q, d.input, second, is, (d.read.taken, d.read.ended), named, made, product, (plan, text, certified, few, spelled, finds, subst (λ t. Writes c t) whole d.written))
+      (p, q, d.input, second, is, (whole_read _ d.input d.read), named, made, product, (plan, text, certified, few, spelled, finds, subst (λ t. Writes c t) whole d.written))
 
   -- the plan of an input is the best
   best_of : (p : Problem) (plan : APlan) (input : List ℕ) → ReadsAll c input → IsInput input p plan → Accepts p plan → ReadsBest c p plan
@@ -176,7 +181,7 @@ module _ (c : Call) where
       let d = delivered_to Check done asked in
       let (p, plan, is, verdict) = d.answers in
       let taken = accepting (Accepts p plan) (first_reason p plan) rejection_of statuses.Done d.text refl verdict in
-      ((p, plan, best_of p plan d.input (d.read.taken, d.read.ended) is taken.0), subst (λ t. Writes c t) taken.1 d.written)
+      ((p, plan, best_of p plan d.input (whole_read _ d.input d.read) is taken.0), subst (λ t. Writes c t) taken.1 d.written)
 
   accepted_gap_input : ByStatus c statuses.Done → AffirmsGap c
   accepted_gap_input done asked =
@@ -184,19 +189,19 @@ module _ (c : Call) where
       let (p, plan, is, verdict) = d.answers in
       let taken = accepting (GapAccepts p plan) (gap_reason p plan) gap_rejection_of statuses.Done d.text refl verdict in
       let above : IsAbove p plan.ceiling = λ y path. ceiling_is_above p plan y is.1.front.says.sound taken.0 path in
-      ((p, plan, d.input, (d.read.taken, d.read.ended), is, taken.0, above), subst (λ t. Writes c t) taken.1 d.written)
+      ((p, plan, d.input, (whole_read _ d.input d.read), is, taken.0, above), subst (λ t. Writes c t) taken.1 d.written)
 
   reported_input : ByStatus c statuses.Done → Reports c
   reported_input done json asked =
       let d = delivered_to (Report json) done asked in
       let (p, plan, is, (status, accepts, told)) = d.answers in
-      (p, plan, best_of p plan d.input (d.read.taken, d.read.ended) is accepts, subst (λ t. Writes c t) told d.written)
+      (p, plan, best_of p plan d.input (whole_read _ d.input d.read) is accepts, subst (λ t. Writes c t) told d.written)
 
   converted_input : ByStatus c statuses.Done → Converts c
   converted_input done asked =
       let d = delivered_to Convert done asked in
       let (p, plan, is, (status, accepts, told)) = d.answers in
-      (p, plan, best_of p plan d.input (d.read.taken, d.read.ended) is accepts, (d.text, told, d.written))
+      (p, plan, best_of p plan d.input (whole_read _ d.input d.read) is accepts, (d.text, told, d.written))
 
   made_text : ByStatus c statuses.Done → Makes c
   made_text done number asked =
@@ -230,17 +235,17 @@ module _ (c : Call) where
       let (turned, (at, reason, same)) = turning (GapAccepts p plan) (gap_reason p plan) gap_rejection_of statuses.Rejected text refl tells in
       (spelled, (input, at, read, (p, plan, is, turned, reason), subst (λ t. Writes c t) same written))
 
-  rejected_as : (family : Family) (r : Request) (input text : List ℕ) → family_of r ≡ family → Spells c.words r → Reads (limit_at family) c.before.source c.after.source input → AnswersAs family c.words r input statuses.Rejected text → Writes c text → Rejects c
+  rejected_as : (family : Family) (r : Request) (input text : List ℕ) → family_of r ≡ family → Spells c.words r → Reads Went (limit_at family) c.before.source c.after.source input → AnswersAs family c.words r input statuses.Rejected text → Writes c text → Rejects c
   rejected_as of_scenario r input text its spelled read answers written = absurd (done_isnt_rejected (sym answers.0))
-  rejected_as of_plan r input text its spelled read (p, plan, is, tells) written = inl (told_rejected r p plan input text spelled (read.taken, read.ended) is written tells)
+  rejected_as of_plan r input text its spelled read (p, plan, is, tells) written = inl (told_rejected r p plan input text spelled (whole_read _ input read) is written tells)
   rejected_as of_gap r input text its spelled read (p, plan, is, tells) written =
-      inr (gap_rejected p plan input text (subst (Spells c.words) (gaps_alone r its) spelled) (read.taken, read.ended) is written tells)
+      inr (gap_rejected p plan input text (subst (Spells c.words) (gaps_alone r its) spelled) (whole_read _ input read) is written tells)
   rejected_as of_nothing r input text its spelled read answers written = absurd (done_isnt_rejected (sym answers.0))
 
   -- and of what is refused, only a plan that has to be accepted
-  stopped_as : (family : Family) (r : Request) (input : List ℕ) (at : RejectAt) → Spells c.words r → Reads (limit_at family) c.before.source c.after.source input → RefusesAs family c.words r input (refusals.Rejected at) → WritesNothing c → RejectsPlan c
+  stopped_as : (family : Family) (r : Request) (input : List ℕ) (at : RejectAt) → Spells c.words r → Reads Went (limit_at family) c.before.source c.after.source input → RefusesAs family c.words r input (refusals.Rejected at) → WritesNothing c → RejectsPlan c
   stopped_as of_scenario r input at spelled read (p, is, unmade) unwritten = absurd (never_rejected c.words r p at unmade)
-  stopped_as of_plan r input at spelled read (needs, rejected) unwritten = (input, at, (read.taken, read.ended), rejected, inr (r, needs, spelled, unwritten))
+  stopped_as of_plan r input at spelled read (needs, rejected) unwritten = (input, at, (whole_read _ input read), rejected, inr (r, needs, spelled, unwritten))
   stopped_as of_gap r input at spelled read refuses unwritten = absurd refuses
   stopped_as of_nothing r input at spelled read refuses unwritten = absurd refuses
 
@@ -283,5 +288,6 @@ module _ (c : Call) where
         too_long = told statuses.TooLong;
         read_fault = told statuses.ReadFault;
         write_fault = told statuses.WriteFault;
-        no_memory = told statuses.NoMemory;
+        no_memory = λ none. (told statuses.NoMemory none).0;
+        part_read = λ none. (told statuses.NoMemory none).1;
       }

@@ -22,6 +22,7 @@ use Rattle.plan_command.specs.Flown.{IsFlown}
 use Rattle.plan_command.specs.Replans.{ForcesNames}
 use Rattle.plan_command.specs.Duos.{PairsNamed}
 use Rattle.plan_command.specs.Commands.{Answers, Refuses, IsInput, IsGapInput, IsRejected, IsGapRejected}
+use Rattle.plan_command.specs.Inputs.{Course}
 use Rattle.plan_command.specs.Run.{Call}
 
 -- the request reads an input, and this one is within its limit
@@ -33,13 +34,13 @@ abbrev pub IsLonger : Request → List ℕ → Type 0
 IsLonger request input = (limit : ℕ) × (limit_of request ≡ Some limit) × (limit < length input)
 
 -- words of a request, and a source that tells this input and doesn't fail
-pub record IsHeard (c : Call) (request : Request) (input : List ℕ) : Type 0 where
+pub record IsHeard {Went : Course → Type 0} (c : Call Went) (request : Request) (input : List ℕ) : Type 0 where
   pub spelled : Spells c.words request
   pub told : c.before.source.left ≡ Some input
   pub read : Rose c.before.source.faults c.after.source.faults → ⊥
 
 -- the same, where the input is within the limit and the sink doesn't fail either
-pub record IsUndisturbed (c : Call) (request : Request) (input : List ℕ) : Type 0 where
+pub record IsUndisturbed {Went : Course → Type 0} (c : Call Went) (request : Request) (input : List ℕ) : Type 0 where
   pub heard : IsHeard c request input
   pub within : IsWithin request input
   pub write : Rose c.before.write_faults c.after.write_faults → ⊥

@@ -37,29 +37,32 @@ use Rattle.plan_command.specs.GapPlans.{IsAbove, IsGapped}
 use Rattle.plan_command.specs.Flown.{IsFlown}
 use Rattle.plan_command.specs.Duos.{Names}
 use Rattle.plan_command.specs.Commands.{IsInput, IsGapInput, IsRejected, IsGapRejected, report_of, IsDrilled, NeedsAccepted, Refuses}
+use Rattle.plan_command.specs.Inputs.{Course, to_end, to_fault, too_far, ReadsPart}
 use Rattle.plan_command.specs.Run.{Call, IsRefusal, IsCutOff}
 use Rattle.plan_command.specs.Complete.{IsHeard, IsUndisturbed, IsWithin, IsLonger, IsFeasible, IsAcceptable, IsRejectable, IsUnlessNoMemory, IsDue, IsByText}
 
--- the source was read to its end, and these are its bytes
-abbrev pub ReadsAll : Call → List ℕ → Type 0
-ReadsAll c input = Consumes c.before.source.left c.after.source.left input × IsAtEnd c.after.source.left
+-- the source was read to its end, and these are its bytes: by what it tells of those left, and by what each read gave
+abbrev pub ReadsAll : {Went : Course → Type 0} → Call Went → List ℕ → Type 0
+ReadsAll {Went} c input =
+    Consumes c.before.source.left c.after.source.left input × IsAtEnd c.after.source.left
+    × ((limit : ℕ) × (length input ≤ limit) × Went (to_end limit input))
 
 -- nothing was read
-abbrev pub ReadsNothing : Call → Type 0
+abbrev pub ReadsNothing : {Went : Course → Type 0} → Call Went → Type 0
 ReadsNothing c = c.after.source.left ≡ c.before.source.left
 
 -- `out` grew by this text
-abbrev pub Writes : Call → List ℕ → Type 0
+abbrev pub Writes : {Went : Course → Type 0} → Call Went → List ℕ → Type 0
 Writes c text = Appends c.before.wrote c.after.wrote text
 
 -- `out` is unchanged
-abbrev pub WritesNothing : Call → Type 0
+abbrev pub WritesNothing : {Went : Course → Type 0} → Call Went → Type 0
 WritesNothing c = c.after.wrote ≡ c.before.wrote
 
 -- where a plan was asked for, the input is the text of a scenario alone, and `out` grew by plan text of version 2: the best
 -- path of that scenario, its exact value and the whole weight, and records that are accepted, at most as many as were allowed;
 -- no branch has a prefix that the opening closes by its mean, tangent or edge bound
-abbrev pub Plans : Call → Type 0
+abbrev pub Plans : {Went : Course → Type 0} → Call Went → Type 0
 Plans c = (workers nodes : ℕ) → Spells c.words (Plan workers nodes) →
     (p : Problem) × (input : List ℕ) × IsTextOf p input × ReadsAll c input
     × ((plan : APlan) × (text : List ℕ) × IsCertified p plan × (length plan.tree ≤ nodes) × IsPlanText2 p plan text × Writes c text)
@@ -68,7 +71,7 @@ Plans c = (workers nodes : ℕ) → Spells c.words (Plan workers nodes) →
 -- that isn't worse than the opening, its exact value, a ceiling that no path exceeds, and nodes that are accepted for it. At
 -- most as many records as were allowed are closed; where nothing waits, the path is the best, and else there are more live
 -- prefixes than that, and exactly so many records
-abbrev pub Gaps : Call → Type 0
+abbrev pub Gaps : {Went : Course → Type 0} → Call Went → Type 0
 Gaps c = (workers nodes : ℕ) → Spells c.words (Gap workers nodes) →
     (p : Problem) × (input : List ℕ) × IsTextOf p input × ReadsAll c input
     × ((plan : GapPlan) × (text : List ℕ) × IsGapped nodes p plan × IsGapText p plan text × Writes c text)
@@ -76,7 +79,7 @@ Gaps c = (workers nodes : ℕ) → Spells c.words (Gap workers nodes) →
 -- where a plan behind a flown prefix was asked for, the input is the text of a scenario alone, and `out` grew by the canonical
 -- text of a scenario that forces the prefix of the names, and at once behind it by the text of its plan, as for a plan, so that
 -- `check` accepts both (`made_is_accepted`); its path, taken back, is the best of those that begin with the prefix
-abbrev pub Replans : Call → Type 0
+abbrev pub Replans : {Went : Course → Type 0} → Call Went → Type 0
 Replans c = (workers nodes flown : ℕ) → Spells c.words (Replan workers nodes flown) →
     (p q : Problem) × (input prefix : List ℕ) × IsTextOf p input × ReadsAll c input
     × IsFlown p (names_behind flown c.words) prefix × IsProblem q × IsForced p prefix q
@@ -84,7 +87,7 @@ Replans c = (workers nodes flown : ℕ) → Spells c.words (Replan workers nodes
     × IsBestAmong p (Starts prefix) (map (source_of p prefix) plan.standing.path) × Writes c (canonical_text q ++ text))
 
 -- where a map was asked for, the input is the text of a scenario alone, and `out` grew by the map of the prefix of the names
-abbrev pub Maps : Call → Type 0
+abbrev pub Maps : {Went : Course → Type 0} → Call Went → Type 0
 Maps c = (flown : ℕ) → Spells c.words (Map flown) →
     (p : Problem) × (input prefix : List ℕ) × IsTextOf p input × ReadsAll c input
     × IsFlown p (names_behind flown c.words) prefix × Writes c (map_text p prefix)
@@ -100,7 +103,7 @@ pub record FindsMost (p : Problem) (second : ℕ) (plan : APlan) : Type 0 where
 -- where a plan for two was asked for, the input is the text of a scenario alone, and `out` grew by the canonical text of the
 -- product scenario for the second start, and at once behind it by the text of its plan, as for a plan, so that `check` accepts
 -- both (`made_is_accepted`)
-abbrev pub Pairs : Call → Type 0
+abbrev pub Pairs : {Went : Course → Type 0} → Call Went → Type 0
 Pairs c = (workers nodes : ℕ) (name : List ℕ) → Spells c.words (Duo workers nodes name) →
     (p q : Problem) × (input : List ℕ) × (second : ℕ) × IsTextOf p input × ReadsAll c input
     × Names p name second × IsProblem q × IsProduct p second q
@@ -108,65 +111,70 @@ Pairs c = (workers nodes : ℕ) (name : List ℕ) → Spells c.words (Duo worker
     × FindsMost p second plan × Writes c (canonical_text q ++ text))
 
 -- the input is a scenario and a plan that is accepted, so that its path is the best
-abbrev pub ReadsBest : Call → Problem → APlan → Type 0
+abbrev pub ReadsBest : {Went : Course → Type 0} → Call Went → Problem → APlan → Type 0
 ReadsBest c p plan = (input : List ℕ) × ReadsAll c input × IsInput input p plan × Accepts p plan × IsBest p plan.standing.path
 
 -- where a check was asked for, it read such an input and said `accepted`
-abbrev pub Affirms : Call → Type 0
+abbrev pub Affirms : {Went : Course → Type 0} → Call Went → Type 0
 Affirms c = Spells c.words Check → ((p : Problem) × (plan : APlan) × ReadsBest c p plan) × Writes c (codes "accepted\n")
 
 -- where a check of a gap plan was asked for, the input is a scenario and a gap plan that is accepted, so that no path finds
 -- more than its ceiling, and it said `accepted`
-abbrev pub AffirmsGap : Call → Type 0
+abbrev pub AffirmsGap : {Went : Course → Type 0} → Call Went → Type 0
 AffirmsGap c = Spells c.words CheckGap →
     ((p : Problem) × (plan : GapPlan) × (input : List ℕ) × ReadsAll c input × IsGapInput input p plan × GapAccepts p plan × IsAbove p plan.ceiling)
     × Writes c (codes "accepted\n")
 
 -- where a report was asked for, it read such an input and reported the plan's path, as lines or as JSON
-abbrev pub Reports : Call → Type 0
+abbrev pub Reports : {Went : Course → Type 0} → Call Went → Type 0
 Reports c = (json : Bool) → Spells c.words (Report json) →
     (p : Problem) × (plan : APlan) × ReadsBest c p plan × Writes c (report_of json p plan.standing.path)
 
 -- where a new text of the plan was asked for, it read such an input, and `out` grew by the plan's one text of version 2
-abbrev pub Converts : Call → Type 0
+abbrev pub Converts : {Went : Course → Type 0} → Call Went → Type 0
 Converts c = Spells c.words Convert → (p : Problem) × (plan : APlan) × ReadsBest c p plan × ((text : List ℕ) × IsPlanText2 p plan text × Writes c text)
 
 -- the reason was written where a check was asked for, and nothing where a report or a new text was
-abbrev pub WritesReason : Call → RejectAt → Type 0
+abbrev pub WritesReason : {Went : Course → Type 0} → Call Went → RejectAt → Type 0
 WritesReason c at = (Spells c.words Check × Writes c (rejection_of at)) ⊎ ((request : Request) × NeedsAccepted request × Spells c.words request × WritesNothing c)
 
 -- the input is a scenario and a plan that isn't accepted, for this first reason
-abbrev pub RejectsPlan : Call → Type 0
+abbrev pub RejectsPlan : {Went : Course → Type 0} → Call Went → Type 0
 RejectsPlan c = (input : List ℕ) × (at : RejectAt) × ReadsAll c input × IsRejected input at × WritesReason c at
 
 -- a check of a gap plan was asked for, and the input is a scenario and one that isn't accepted, for this first reason, which
 -- was written
-abbrev pub RejectsGap : Call → Type 0
+abbrev pub RejectsGap : {Went : Course → Type 0} → Call Went → Type 0
 RejectsGap c = Spells c.words CheckGap × ((input : List ℕ) × (at : GapRejectAt) × ReadsAll c input × IsGapRejected input at × Writes c (gap_rejection_of at))
 
-abbrev pub Rejects : Call → Type 0
+abbrev pub Rejects : {Went : Course → Type 0} → Call Went → Type 0
 Rejects c = RejectsPlan c ⊎ RejectsGap c
 
 -- where a scenario was asked for, `out` grew by the canonical text of the one that the number makes
-abbrev pub Makes : Call → Type 0
+abbrev pub Makes : {Went : Course → Type 0} → Call Went → Type 0
 Makes c = (number : ℕ) → Spells c.words (Make number) → ReadsNothing c × Writes c (canonical_text (made_problem number))
 
 -- where a drill was asked for, `out` grew by the summary of the best path of the scenario that the number makes
-abbrev pub Drills : Call → Type 0
+abbrev pub Drills : {Went : Course → Type 0} → Call Went → Type 0
 Drills c = (number workers : ℕ) → Spells c.words (Drill number workers) → ReadsNothing c × ((text : List ℕ) × IsDrilled number text × Writes c text)
 
 -- one byte more than the request's limit was taken
-abbrev pub TakesTooMuch : Call → Type 0
-TakesTooMuch c = (request : Request) × (limit : ℕ) × Spells c.words request × (limit_of request ≡ Some limit)
-    × TakesCount c.before.source.left c.after.source.left (limit + 1) × WritesNothing c
+abbrev pub TakesTooMuch : {Went : Course → Type 0} → Call Went → Type 0
+TakesTooMuch {Went} c = (request : Request) × (limit : ℕ) × Spells c.words request × (limit_of request ≡ Some limit)
+    × TakesCount c.before.source.left c.after.source.left (limit + 1) × Went (too_far limit) × WritesNothing c
 
 -- the source's count of faults rose, and at most the request's limit was taken
-abbrev pub FailsToRead : Call → Type 0
-FailsToRead c = (request : Request) × (limit : ℕ) × Spells c.words request × (limit_of request ≡ Some limit)
-    × TakesAtMost c.before.source.left c.after.source.left limit × Rose c.before.source.faults c.after.source.faults × WritesNothing c
+abbrev pub FailsToRead : {Went : Course → Type 0} → Call Went → Type 0
+FailsToRead {Went} c = (request : Request) × (limit : ℕ) × Spells c.words request × (limit_of request ≡ Some limit)
+    × TakesAtMost c.before.source.left c.after.source.left limit × Rose c.before.source.faults c.after.source.faults
+    × Went (to_fault limit) × WritesNothing c
+
+-- at most the request's limit was taken, and nothing where the request reads nothing
+abbrev pub TakesNoMore : {Went : Course → Type 0} → Call Went → Type 0
+TakesNoMore {Went} c = (request : Request) × Spells c.words request × ReadsPart Went (limit_of request) c.before.source c.after.source
 
 -- What a run has done that ends with this status.
-pub record Keeps (c : Call) (status : Status) : Type 0 where
+pub record Keeps {Went : Course → Type 0} (c : Call Went) (status : Status) : Type 0 where
   -- `plan` at Done, for every number of workers and every interleaving: the best path with its exact value
   pub planned : status ≡ statuses.Done → Plans c
   -- `gap` at Done, for every number of workers and every interleaving: a path, and a proved ceiling of all paths
@@ -205,9 +213,11 @@ pub record Keeps (c : Call) (status : Status) : Type 0 where
   pub write_fault : status ≡ statuses.WriteFault → Rose c.before.write_faults c.after.write_faults × IsCutOff c
   -- at NoMemory `out` is unchanged, or grew by a front of the answer
   pub no_memory : status ≡ statuses.NoMemory → WritesNothing c ⊎ IsCutOff c
+  -- and of the source at most the limit was taken
+  pub part_read : status ≡ statuses.NoMemory → TakesNoMore c
 
 -- When a run ends so.
-pub record Completes (c : Call) (status : Status) : Type 0 where
+pub record Completes {Went : Course → Type 0} (c : Call Went) (status : Status) : Type 0 where
   -- an input that the source tells is answered, or refused, as it is due, where it is within the limit and no port fails
   pub complete : (request : Request) (input : List ℕ) → IsUndisturbed c request input → IsDue c.words request input status
   -- so what is asked of a scenario is written, where what is planned has no more live prefixes than the limit,

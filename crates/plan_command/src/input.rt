@@ -1,7 +1,7 @@
 //! What each request makes of its input, which is read as it is needed.
 
 ghost use Rattle.std.specs.Prelude.{◌≡◌, ◌<◌, ◌^◌, ℕ, List, Some, None, length, map, string_bytes};
-ghost use Rattle.plan_command.specs.Inputs.{source_view, InputOf, ReadsAnd};
+ghost use Rattle.plan_command.specs.Inputs.{source_view, went, InputOf, ReadsAnd};
 ghost use Rattle.plan_command.specs.Intakes.{Judges, JudgesAs};
 ghost use Rattle.plan_command.specs.Makes.{MakesOf, IsAsked};
 ghost use Rattle.plan_command.specs.Words.{family_of, of_scenario, limit_of};
@@ -27,8 +27,8 @@ const PIECE_LEN: usize = 65_536;
 // The whole input, which isn't longer than the limit.
 fn read_input<S: Source>(alloc: Global, source: &mut S, limit: usize) -> Result<Vec<u8>, Stop>
     requires { limit < 2 ^ 30 }
-    ensures { InputOf (λ v. v.items) (Some limit) (source_view S.left S.faults source.old)
-        (source_view S.left S.faults source.new) result }
+    ensures { InputOf (λ v. v.items) (went S.read_gives source.old source.new) (Some limit)
+        (source_view S.left S.faults source.old) (source_view S.left S.faults source.new) result }
 {
     match read_all(alloc, source, limit) {
         Ok(input) => Ok(input),
@@ -58,8 +58,8 @@ fn hear_pieces<S: Source>(
     piece: &mut [u8],
 ) -> Result<Judgement, Stop>
     requires { 0 < length piece.old }
-    ensures { ReadsAnd (Some MOST_JUDGED) (source_view S.left S.faults source.old)
-        (source_view S.left S.faults source.new) (JudgesAs task) result }
+    ensures { ReadsAnd (went S.read_gives source.old source.new) (Some MOST_JUDGED)
+        (source_view S.left S.faults source.old) (source_view S.left S.faults source.new) (JudgesAs task) result }
 {
     let mut intake = Intake::new(alloc, task);
     match read_pieces(source, piece, MOST_JUDGED, &mut intake) {
@@ -74,17 +74,19 @@ fn hear_pieces<S: Source>(
 
 // The verdict on what stands behind the scenario in the input, and what the task keeps of it.
 fn hear_input<S: Source>(alloc: Global, task: Task, source: &mut S) -> Result<Judgement, Stop>
-    ensures { ReadsAnd (Some MOST_JUDGED) (source_view S.left S.faults source.old)
-        (source_view S.left S.faults source.new) (JudgesAs task) result }
+    ensures { ReadsAnd (went S.read_gives source.old source.new) (Some MOST_JUDGED)
+        (source_view S.left S.faults source.old) (source_view S.left S.faults source.new) (JudgesAs task) result }
 {
-    let mut piece = vec![in alloc; 0; PIECE_LEN]?;
-    hear_pieces(alloc, task, source, &mut piece)
+    match vec![in alloc; 0; PIECE_LEN] {
+        Ok(mut piece) => hear_pieces(alloc, task, source, &mut piece),
+        Err(_) => Err(Stop::NoMemory),
+    }
 }
 
 // The verdict on what stands behind the scenario in the input, by a text of the family. Of both only the scenario is kept.
 fn judge_input<S: Source>(alloc: Global, family: Family, source: &mut S) -> Result<Judgement, Stop>
-    ensures { ReadsAnd (Some MOST_JUDGED) (source_view S.left S.faults source.old)
-        (source_view S.left S.faults source.new) (Judges family) result }
+    ensures { ReadsAnd (went S.read_gives source.old source.new) (Some MOST_JUDGED)
+        (source_view S.left S.faults source.old) (source_view S.left S.faults source.new) (Judges family) result }
 {
     let keeps = false;
     hear_input(alloc, Task { family, keeps }, source)
@@ -92,8 +94,8 @@ fn judge_input<S: Source>(alloc: Global, family: Family, source: &mut S) -> Resu
 
 // What `check` makes of its input.
 fn check_input<S: Source>(alloc: Global, source: &mut S) -> Result<Answer, Stop>
-    ensures { (words : List (List ℕ)) → ReadsAnd (Some MOST_JUDGED) (source_view S.left S.faults source.old)
-        (source_view S.left S.faults source.new) (MakesOf words Request.Check) result }
+    ensures { (words : List (List ℕ)) → ReadsAnd (went S.read_gives source.old source.new) (Some MOST_JUDGED)
+        (source_view S.left S.faults source.old) (source_view S.left S.faults source.new) (MakesOf words Request.Check) result }
 {
     match judge_input(alloc, Family::Plans, source) {
         Ok(judgement) => answer_check(alloc, judgement),
@@ -103,8 +105,8 @@ fn check_input<S: Source>(alloc: Global, source: &mut S) -> Result<Answer, Stop>
 
 // What `checkgap` makes of its input.
 fn check_gap_input<S: Source>(alloc: Global, source: &mut S) -> Result<Answer, Stop>
-    ensures { (words : List (List ℕ)) → ReadsAnd (Some MOST_JUDGED) (source_view S.left S.faults source.old)
-        (source_view S.left S.faults source.new) (MakesOf words Request.CheckGap) result }
+    ensures { (words : List (List ℕ)) → ReadsAnd (went S.read_gives source.old source.new) (Some MOST_JUDGED)
+        (source_view S.left S.faults source.old) (source_view S.left S.faults source.new) (MakesOf words Request.CheckGap) result }
 {
     match judge_input(alloc, Family::Gaps, source) {
         Ok(judgement) => answer_check_gap(alloc, judgement),
@@ -114,8 +116,8 @@ fn check_gap_input<S: Source>(alloc: Global, source: &mut S) -> Result<Answer, S
 
 // What `report` makes of its input.
 fn report_input<S: Source>(alloc: Global, json: bool, source: &mut S) -> Result<Answer, Stop>
-    ensures { (words : List (List ℕ)) → ReadsAnd (Some MOST_JUDGED) (source_view S.left S.faults source.old)
-        (source_view S.left S.faults source.new) (MakesOf words (Request.Report json)) result }
+    ensures { (words : List (List ℕ)) → ReadsAnd (went S.read_gives source.old source.new) (Some MOST_JUDGED)
+        (source_view S.left S.faults source.old) (source_view S.left S.faults source.new) (MakesOf words (Request.Report json)) result }
 {
     match judge_input(alloc, Family::Plans, source) {
         Ok(judgement) => {
@@ -129,8 +131,8 @@ fn report_input<S: Source>(alloc: Global, json: bool, source: &mut S) -> Result<
 
 // What `convert` makes of its input, of which the scenario is kept, and the plan.
 fn convert_input<S: Source>(alloc: Global, source: &mut S) -> Result<Answer, Stop>
-    ensures { (words : List (List ℕ)) → ReadsAnd (Some MOST_JUDGED) (source_view S.left S.faults source.old)
-        (source_view S.left S.faults source.new) (MakesOf words Request.Convert) result }
+    ensures { (words : List (List ℕ)) → ReadsAnd (went S.read_gives source.old source.new) (Some MOST_JUDGED)
+        (source_view S.left S.faults source.old) (source_view S.left S.faults source.new) (MakesOf words Request.Convert) result }
 {
     let family = Family::Plans;
     let keeps = true;
@@ -154,8 +156,8 @@ fn scenario_input<R: AllocGlobal + Threads + Wait + Sync, S: Source, G: Gate>(
 ) -> Result<Answer, Stop>
     requires asked { IsAsked (map string_bytes words.now) request }
     requires family { family_of request ≡ of_scenario }
-    ensures { ReadsAnd (Some MOST_SCENARIO) (source_view S.left S.faults source.old)
-        (source_view S.left S.faults source.new) (MakesOf (map string_bytes words.now) request) result }
+    ensures { ReadsAnd (went S.read_gives source.old source.new) (Some MOST_SCENARIO)
+        (source_view S.left S.faults source.old) (source_view S.left S.faults source.new) (MakesOf (map string_bytes words.now) request) result }
 {
     match read_input(rt.alloc(), source, MOST_SCENARIO) {
         Ok(input) => answer_scenario(rt, words, request, &input, gate),
@@ -172,8 +174,8 @@ pub fn answer_for<R: AllocGlobal + Threads + Wait + Sync, S: Source, G: Gate>(
     gate: &G,
 ) -> Result<Answer, Stop>
     requires asked { IsAsked (map string_bytes words.now) request }
-    ensures made { ReadsAnd (limit_of request) (source_view S.left S.faults source.old)
-        (source_view S.left S.faults source.new) (MakesOf (map string_bytes words.now) request) result }
+    ensures made { ReadsAnd (went S.read_gives source.old source.new) (limit_of request)
+        (source_view S.left S.faults source.old) (source_view S.left S.faults source.new) (MakesOf (map string_bytes words.now) request) result }
     ensures unread { limit_of request ≡ None → source.new ≡ source.old }
 {
     match request {

@@ -41,8 +41,8 @@ pub fn serve<R: AllocGlobal + Threads + Wait + Sync, S: Source, K: Sink, G: Gate
     gate: &G,
 ) -> Result<Status, Stop>
     requires spelled { Spells (map string_bytes words.now) request }
-    ensures ends { Ends (call (map string_bytes words.now) S.left S.faults K.wrote K.faults source.old source.new
-        out.old out.new) (ending_of result) }
+    ensures ends { Ends (call S.read_gives (map string_bytes words.now) S.left S.faults K.wrote K.faults
+        source.old source.new out.old out.new) (ending_of result) }
     ensures used { IsErrOf result Stop.Usage → ⊥ }
     ensures unread { limit_of request ≡ None → source.new ≡ source.old }
 {

@@ -23,8 +23,8 @@ fn work<R: AllocGlobal + Threads + Wait + Sync, S: Source, K: Sink, G: Gate>(
     out: &mut K,
     gate: &G,
 ) -> Result<Status, Stop>
-    ensures ends { Ends (call (map string_bytes words.now) S.left S.faults K.wrote K.faults source.old source.new
-        out.old out.new) (ending_of result) }
+    ensures ends { Ends (call S.read_gives (map string_bytes words.now) S.left S.faults K.wrote K.faults
+        source.old source.new out.old out.new) (ending_of result) }
     ensures untouched { IsErrOf result Stop.Usage → source.new ≡ source.old }
     ensures makes_read_nothing { (request : Request) → Spells (map string_bytes words.now) request
         → limit_of request ≡ None → source.new ≡ source.old }
@@ -46,17 +46,17 @@ pub fn run<R: AllocGlobal + Threads + Wait + Sync, S: Source, K: Sink, E: Sink, 
 ) -> Status
     // How it ended, and what it said of that on `err`.
     ensures ended { (end : Ending) × (result ≡ status_at end) ×
-        Ends (call (map string_bytes words.now) S.left S.faults K.wrote K.faults source.old source.new out.old
-        out.new) end
+        Ends (call S.read_gives (map string_bytes words.now) S.left S.faults K.wrote K.faults source.old source.new
+        out.old out.new) end
         × Says (err_view E.wrote E.faults E.wants err.old) (err_view E.wrote E.faults E.wants err.new) (line_at end) }
 
     // So it keeps what its status says: `planned` and the others of `specs/Promises`, for every number of workers and every
     // interleaving.
-    ensures keeps { Keeps (call (map string_bytes words.now) S.left S.faults K.wrote K.faults source.old source.new
-        out.old out.new) result }
+    ensures keeps { Keeps (call S.read_gives (map string_bytes words.now) S.left S.faults K.wrote K.faults
+        source.old source.new out.old out.new) result }
     // And it ends as is due: an input is answered, or refused, where it is within the limit and no port fails.
-    ensures completes { Completes (call (map string_bytes words.now) S.left S.faults K.wrote K.faults source.old
-        source.new out.old out.new) result }
+    ensures completes { Completes (call S.read_gives (map string_bytes words.now) S.left S.faults K.wrote K.faults
+        source.old source.new out.old out.new) result }
 
     // At Usage nothing is read or written: the source is left as it was, whatever it tells.
     ensures nothing_read { result ≡ Status.Usage → (source.new ≡ source.old) × (K.wrote out.new ≡ K.wrote out.old) }

@@ -1,7 +1,7 @@
 use Rattle.std.proofs.Common.{ℕ, List, [], None, refl}
 use Rattle.std.specs.Prelude.{map, string_bytes}
 use Rattle.plan_command.specs.declared.request.Request.TheVariants.{Make, Drill}
-use Rattle.plan_command.specs.Inputs.{Source, source_view}
+use Rattle.plan_command.specs.Inputs.{Source, source_view, went}
 use Rattle.plan_command.proofs.Inputs.{made_read}
 use Rattle.plan_command.proofs.input.answer_for.Goals as goal
 
@@ -21,10 +21,10 @@ pub returns-in-Make-clause-made : goal.returns-in-Make-clause-made
 returns-in-Make-clause-made g c =
     let words : List (List ℕ) = map string_bytes c.args.words.now in
     let source : Source = source_view g.S.Source.left g.S.Source.faults c.args.source.now in
-    rw c.in-Make.is (made_read words (Make c.in-Make.number) None source source [] c.answer_make.result (record { empty = refl; same = refl }) (c.answer_make.ensures words))
+    rw c.in-Make.is (made_read (went g.S.Source.read_gives c.args.source.now c.args.source.now) words (Make c.in-Make.number) None source source [] c.answer_make.result (record { empty = refl; same = refl }) (c.answer_make.ensures words))
 
 pub returns-in-Drill-clause-made : goal.returns-in-Drill-clause-made
 returns-in-Drill-clause-made g c =
     let words : List (List ℕ) = map string_bytes c.args.words.now in
     let source : Source = source_view g.S.Source.left g.S.Source.faults c.args.source.now in
-    rw c.in-Drill.is (made_read words (Drill c.in-Drill.number c.in-Drill.workers) None source source [] c.answer_drill.result (record { empty = refl; same = refl }) (c.answer_drill.ensures words))
+    rw c.in-Drill.is (made_read (went g.S.Source.read_gives c.args.source.now c.args.source.now) words (Drill c.in-Drill.number c.in-Drill.workers) None source source [] c.answer_drill.result (record { empty = refl; same = refl }) (c.answer_drill.ensures words))
