@@ -108,14 +108,6 @@ stopped_alike Went limits before after Makes Makes' refuses stops.TooLong read =
 stopped_alike Went limits before after Makes Makes' refuses stops.Usage read = absurd read
 stopped_alike Went limits before after Makes Makes' refuses stops.WriteFault read = absurd read
 
-pub judge_stopped : (Went : Course → Type 0) (family : TextFamily) (words : List (List ℕ)) (request : Request) (limits : Option ℕ) (before after : Source) (stop : Stop) → IsOfText family request → ReadsAnd Went limits before after (Judges family) (Err stop) → ReadsAnd Went limits before after (MakesOf words request) (Err stop)
-judge_stopped Went family words request limits before after stop judges read =
-    stopped_alike Went limits before after (Judges family) (MakesOf words request) (λ input refusal lacks. lacks_refuses family words request input refusal judges lacks) stop read
-
--- what is answered to a judgement
-pub judge_answered : (Went : Course → Type 0) (family : TextFamily) (words : List (List ℕ)) (request : Request) (limits : Option ℕ) (before after : Source) (judged : Judgement) (made : Result Answer Stop) → ReadsAnd Went limits before after (Judges family) (Ok judged) → ((input : List ℕ) → Judges family input (Ok judged) → MakesOf words request input made) → ReadsAnd Went limits before after (MakesOf words request) made
-judge_answered Went family words request limits before after judged made (input, read, is) makes = made_read Went words request limits before after input made read (makes input is)
-
 -- how a run ends that makes nothing
 pub ends_stopped : (Went : Course → Type 0) (c : Call Went) (request : Request) (stop : Stop) → Spells c.words request → ReadsAnd Went (limit_of request) c.before.source c.after.source (MakesOf c.words request) (Err stop) → c.after.wrote ≡ c.before.wrote → Ends c (stopped stop)
 ends_stopped Went c request (stops.Refused refusal) spelled (input, read, refuses) same = (request, spelled, record { input = input; read = read; refuses = refuses; unwritten = same })

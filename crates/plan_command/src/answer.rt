@@ -1,18 +1,16 @@
-//! What each request that reads the text of a scenario alone makes of it.
+//! What is made of the text of a scenario alone.
 
-ghost use Rattle.std.specs.Prelude.{◌≡◌, map, string_bytes};
-ghost use Rattle.plan_command.specs.Gives.{Gives};
-ghost use Rattle.plan_command.specs.Makes.{MakesOf, IsAsked, IsDone};
-ghost use Rattle.plan_command.specs.Commands.{MakesText, IsUnmade};
-ghost use Rattle.plan_command.specs.Words.{family_of, of_scenario, names_behind};
+ghost use Rattle.std.specs.Prelude.{◌≡◌, ℕ, List};
+ghost use Rattle.plan_command.specs.declared.request.Request.{Request};
+ghost use Rattle.plan_command.specs.Asked.{Asks, IsAskable, GivesFor};
+ghost use Rattle.plan_command.specs.Makes.{MakesOf, IsDone};
 
+use crate::asked::ScenarioRequest;
 use crate::gapping::gapped;
 use crate::mapping::map_flown;
-use crate::options::cut;
 use crate::pairing::pair;
 use crate::planning::planned;
 use crate::replanning::replan;
-use crate::request::Request;
 use crate::status::{Refusal, Status, Stop};
 use exact_parts::NoMemory;
 use scenario_text::{TextStop, read_scenario_alone};
@@ -49,42 +47,30 @@ impl From<AllocError> for Stop {
     }
 }
 
-// The words from this place on.
-fn names_from(words: &[String], at: usize) -> &[String]
-    ensures { map string_bytes result.now ≡ names_behind at (map string_bytes words.now) }
-{
-    let (_, names) = cut(words, at);
-    names
-}
-
-// What the request makes of a scenario.
+// What is made of a scenario.
 fn made_of<R: AllocGlobal + Threads + Wait + Sync, G: Gate>(
     rt: &R,
-    words: &[String],
-    request: Request,
+    asked: &ScenarioRequest,
     sc: &Scenario,
     gate: &G,
 ) -> Result<Vec<u8>, Stop>
-    requires asked { IsAsked (map string_bytes words.now) request }
-    requires family { family_of request ≡ of_scenario }
-    ensures { Gives (MakesText (map string_bytes words.now) request sc.now)
-        (IsUnmade (map string_bytes words.now) request sc.now) result }
+    requires { IsAskable asked.now }
+    ensures { GivesFor asked.now sc.now result }
 {
-    match request {
-        Request::Plan { workers, nodes } => planned(rt, sc, workers, nodes, gate),
-        Request::Gap { workers, nodes } => gapped(rt, sc, workers, nodes, gate),
-        Request::Replan {
+    match asked {
+        ScenarioRequest::Plan { workers, nodes } => planned(rt, sc, *workers, *nodes, gate),
+        ScenarioRequest::Gap { workers, nodes } => gapped(rt, sc, *workers, *nodes, gate),
+        ScenarioRequest::Replan {
             workers,
             nodes,
-            flown,
-        } => replan(rt, sc, names_from(words, flown), workers, nodes, gate),
-        Request::Map { flown } => map_flown(rt.alloc(), sc, names_from(words, flown)),
-        Request::Duo {
+            names,
+        } => replan(rt, sc, names, *workers, *nodes, gate),
+        ScenarioRequest::Map { names } => map_flown(rt.alloc(), sc, names),
+        ScenarioRequest::Duo {
             workers,
             nodes,
             second,
-        } => pair(rt, sc, &second, workers, nodes, gate),
-        _ => unreachable!(),
+        } => pair(rt, sc, second, *workers, *nodes, gate),
     }
 }
 
@@ -101,21 +87,20 @@ fn done(made: Result<Vec<u8>, Stop>) -> Result<Answer, Stop>
     }
 }
 
-/// What the request makes of the scenario whose text alone the input is.
+/// What is made of the scenario whose text alone the input is.
 pub fn answer_scenario<R: AllocGlobal + Threads + Wait + Sync, G: Gate>(
     rt: &R,
-    words: &[String],
-    request: Request,
+    asked: &ScenarioRequest,
     input: &[u8],
     gate: &G,
 ) -> Result<Answer, Stop>
-    requires asked { IsAsked (map string_bytes words.now) request }
-    requires family { family_of request ≡ of_scenario }
-    ensures { MakesOf (map string_bytes words.now) request input.now result }
+    requires { IsAskable asked.now }
+    ensures { (words : List (List ℕ)) (request : Request) → Asks words request asked.now
+        → MakesOf words request input.now result }
 {
     match read_scenario_alone(rt.alloc(), input) {
         Ok(sc) => {
-            let made = made_of(rt, words, request, &sc, gate);
+            let made = made_of(rt, asked, &sc, gate);
             // (a call, which is proved once for all scenarios, and not a drop field by field here)
             drop(sc);
             done(made)

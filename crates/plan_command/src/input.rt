@@ -1,25 +1,25 @@
-//! What each request makes of its input, which is read as it is needed.
+//! What is made of an input, which is read as it is needed.
 
-ghost use Rattle.std.specs.Prelude.{◌≡◌, ◌<◌, ◌^◌, ℕ, List, Some, None, length, map, string_bytes};
+ghost use Rattle.std.specs.Prelude.{◌≡◌, ◌<◌, ◌^◌, ℕ, List, Some, Ok, length};
+ghost use Rattle.plan_command.specs.declared.request.Request.{Request};
 ghost use Rattle.plan_command.specs.Inputs.{source_view, went, InputOf, ReadsAnd};
-ghost use Rattle.plan_command.specs.Intakes.{Judges, JudgesAs};
-ghost use Rattle.plan_command.specs.Makes.{MakesOf, IsAsked};
-ghost use Rattle.plan_command.specs.Words.{family_of, of_scenario, limit_of};
+ghost use Rattle.plan_command.specs.Intakes.{JudgesAs};
+ghost use Rattle.plan_command.specs.Asked.{Asks, IsAskable, request_of, task_of};
+ghost use Rattle.plan_command.specs.Makes.{MakesOf};
 
 use crate::answer::{Answer, answer_scenario};
+use crate::asked::{JudgedRequest, ScenarioRequest};
 use crate::checking::{answer_check, answer_check_gap, answer_report};
 use crate::converting::answer_convert;
-use crate::drilling::{answer_drill, answer_make};
 use crate::intake::{Intake, Judgement};
 use crate::judge::Task;
-use crate::request::{MOST_JUDGED, MOST_SCENARIO, Request};
+use crate::request::{MOST_JUDGED, MOST_SCENARIO};
 use crate::status::Stop;
 use byte_ports::{InputStop, ReadStop, Source, read_all, read_pieces};
 use search_workers::Gate;
 use std::alloc::Global;
 use std::sync::Wait;
 use std::thread::Threads;
-use tree_format::Family;
 
 // How many bytes of an input are read at once, at most.
 const PIECE_LEN: usize = 65_536;
@@ -83,112 +83,58 @@ fn hear_input<S: Source>(alloc: Global, task: Task, source: &mut S) -> Result<Ju
     }
 }
 
-// The verdict on what stands behind the scenario in the input, by a text of the family. Of both only the scenario is kept.
-fn judge_input<S: Source>(alloc: Global, family: Family, source: &mut S) -> Result<Judgement, Stop>
-    ensures { ReadsAnd (went S.read_gives source.old source.new) (Some MOST_JUDGED)
-        (source_view S.left S.faults source.old) (source_view S.left S.faults source.new) (Judges family) result }
+// What is said of a judgement on the input.
+fn answer_judged(alloc: Global, asked: JudgedRequest, judgement: Judgement) -> Result<Answer, Stop>
+    requires { (input : List ℕ) × JudgesAs (task_of asked) input (Ok judgement) }
+    ensures { (words : List (List ℕ)) (input : List ℕ) → JudgesAs (task_of asked) input (Ok judgement)
+        → MakesOf words (request_of asked) input result }
 {
-    let keeps = false;
-    hear_input(alloc, Task { family, keeps }, source)
-}
-
-// What `check` makes of its input.
-fn check_input<S: Source>(alloc: Global, source: &mut S) -> Result<Answer, Stop>
-    ensures { (words : List (List ℕ)) → ReadsAnd (went S.read_gives source.old source.new) (Some MOST_JUDGED)
-        (source_view S.left S.faults source.old) (source_view S.left S.faults source.new) (MakesOf words Request.Check) result }
-{
-    match judge_input(alloc, Family::Plans, source) {
-        Ok(judgement) => answer_check(alloc, judgement),
-        Err(stop) => Err(stop),
-    }
-}
-
-// What `checkgap` makes of its input.
-fn check_gap_input<S: Source>(alloc: Global, source: &mut S) -> Result<Answer, Stop>
-    ensures { (words : List (List ℕ)) → ReadsAnd (went S.read_gives source.old source.new) (Some MOST_JUDGED)
-        (source_view S.left S.faults source.old) (source_view S.left S.faults source.new) (MakesOf words Request.CheckGap) result }
-{
-    match judge_input(alloc, Family::Gaps, source) {
-        Ok(judgement) => answer_check_gap(alloc, judgement),
-        Err(stop) => Err(stop),
-    }
-}
-
-// What `report` makes of its input.
-fn report_input<S: Source>(alloc: Global, json: bool, source: &mut S) -> Result<Answer, Stop>
-    ensures { (words : List (List ℕ)) → ReadsAnd (went S.read_gives source.old source.new) (Some MOST_JUDGED)
-        (source_view S.left S.faults source.old) (source_view S.left S.faults source.new) (MakesOf words (Request.Report json)) result }
-{
-    match judge_input(alloc, Family::Plans, source) {
-        Ok(judgement) => {
+    match asked {
+        JudgedRequest::Check => answer_check(alloc, judgement),
+        JudgedRequest::CheckGap => answer_check_gap(alloc, judgement),
+        JudgedRequest::Report { json } => {
             let answer = answer_report(alloc, json, &judgement);
             drop(judgement);
             answer
         }
-        Err(stop) => Err(stop),
-    }
-}
-
-// What `convert` makes of its input, of which the scenario is kept, and the plan.
-fn convert_input<S: Source>(alloc: Global, source: &mut S) -> Result<Answer, Stop>
-    ensures { (words : List (List ℕ)) → ReadsAnd (went S.read_gives source.old source.new) (Some MOST_JUDGED)
-        (source_view S.left S.faults source.old) (source_view S.left S.faults source.new) (MakesOf words Request.Convert) result }
-{
-    let family = Family::Plans;
-    let keeps = true;
-    match hear_input(alloc, Task { family, keeps }, source) {
-        Ok(judgement) => {
+        JudgedRequest::Convert => {
             let answer = answer_convert(alloc, &judgement);
             drop(judgement);
             answer
         }
+    }
+}
+
+/// What is said of an input that holds a scenario and a plan or gap plan.
+pub fn judged_input<S: Source>(
+    alloc: Global,
+    asked: JudgedRequest,
+    source: &mut S,
+) -> Result<Answer, Stop>
+    ensures { (words : List (List ℕ)) → ReadsAnd (went S.read_gives source.old source.new) (Some MOST_JUDGED)
+        (source_view S.left S.faults source.old) (source_view S.left S.faults source.new)
+        (MakesOf words (request_of asked)) result }
+{
+    match hear_input(alloc, asked.task(), source) {
+        Ok(judgement) => answer_judged(alloc, asked, judgement),
         Err(stop) => Err(stop),
     }
 }
 
-// What a request makes of its input that reads the text of a scenario alone.
-fn scenario_input<R: AllocGlobal + Threads + Wait + Sync, S: Source, G: Gate>(
+/// What is made of an input that is the text of a scenario alone.
+pub fn scenario_input<R: AllocGlobal + Threads + Wait + Sync, S: Source, G: Gate>(
     rt: &R,
-    words: &[String],
-    request: Request,
+    asked: &ScenarioRequest,
     source: &mut S,
     gate: &G,
 ) -> Result<Answer, Stop>
-    requires asked { IsAsked (map string_bytes words.now) request }
-    requires family { family_of request ≡ of_scenario }
-    ensures { ReadsAnd (went S.read_gives source.old source.new) (Some MOST_SCENARIO)
-        (source_view S.left S.faults source.old) (source_view S.left S.faults source.new) (MakesOf (map string_bytes words.now) request) result }
+    requires { IsAskable asked.now }
+    ensures { (words : List (List ℕ)) (request : Request) → Asks words request asked.now
+        → ReadsAnd (went S.read_gives source.old source.new) (Some MOST_SCENARIO)
+        (source_view S.left S.faults source.old) (source_view S.left S.faults source.new) (MakesOf words request) result }
 {
     match read_input(rt.alloc(), source, MOST_SCENARIO) {
-        Ok(input) => answer_scenario(rt, words, request, &input, gate),
+        Ok(input) => answer_scenario(rt, asked, &input, gate),
         Err(stop) => Err(stop),
-    }
-}
-
-/// What the request that the words spell makes of its input.
-pub fn answer_for<R: AllocGlobal + Threads + Wait + Sync, S: Source, G: Gate>(
-    rt: &R,
-    words: &[String],
-    request: Request,
-    source: &mut S,
-    gate: &G,
-) -> Result<Answer, Stop>
-    requires asked { IsAsked (map string_bytes words.now) request }
-    ensures made { ReadsAnd (went S.read_gives source.old source.new) (limit_of request)
-        (source_view S.left S.faults source.old) (source_view S.left S.faults source.new) (MakesOf (map string_bytes words.now) request) result }
-    ensures unread { limit_of request ≡ None → source.new ≡ source.old }
-{
-    match request {
-        Request::Check => check_input(rt.alloc(), source),
-        Request::CheckGap => check_gap_input(rt.alloc(), source),
-        Request::Report { json } => report_input(rt.alloc(), json, source),
-        Request::Convert => convert_input(rt.alloc(), source),
-        Request::Make { number } => answer_make(rt.alloc(), number),
-        Request::Drill { number, workers } => answer_drill(rt, number, workers, gate),
-        Request::Plan { .. }
-        | Request::Gap { .. }
-        | Request::Replan { .. }
-        | Request::Map { .. }
-        | Request::Duo { .. } => scenario_input(rt, words, request, source, gate),
     }
 }
