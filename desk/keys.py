@@ -222,3 +222,8 @@ VISIBILITY = (
     Key("factor", "the factor of the sweep width, from 0 to 10", "0.5", number(0, 10), True),
 )
 PARTS = tuple(Key(it, "a whole number from 1 to 1000000", "20", whole(1, MOST_PART)) for it in ("first", "drift", "look"))
+TRACKS = (
+    Key("count", "a whole number from 1000 to 200000", "20000", whole(1000, 200_000)),
+    Key("seed", "a whole number from 1 to 1000000", "1", whole(1, MOST_PART)),
+    Key("finer", "a whole number from 1 to 4", "2", whole(1, 4)),
+)

@@ -17,7 +17,9 @@ LONGEST_LINE = 1_000
 # The most tables of one name, and the most reports.
 MOST_ROWS = 200
 MOST_REPORTS = 20
-TOP = ("title", "search", "area", "report", "current", "wind", "drift", "searcher", "light", "visibility", "parts")
+# How many tracks are simulated by default.
+COUNT = 20_000
+TOP = ("title", "search", "area", "report", "current", "wind", "drift", "searcher", "light", "visibility", "parts", "tracks")
 # A time such as 19:30, which TOML takes with seconds alone.
 BARE_TIME = re.compile(rb"=\s*(?:\d{4}-\d\d-\d\d[ T])?\d{1,2}:\d\d\s*(?:#|$)")
 # What lines of a fault have in common.
@@ -57,6 +59,15 @@ class Searcher:
 
 
 @dataclasses.dataclass(frozen=True)
+class TrackChoice:
+    """How many tracks are simulated, from which seed, and how many states make the side of a square, or None where that is open."""
+
+    count: int
+    seed: int
+    finer: int | None
+
+
+@dataclasses.dataclass(frozen=True)
 class Situation:
     """A situation, with times in minutes after the begin of the search, velocities in metres east and south a minute."""
 
@@ -72,6 +83,7 @@ class Situation:
     searcher: Searcher
     visibility: tuple
     parts: tuple
+    tracks: TrackChoice
 
     def look_time(self, t):
         """When the look of period t counts as made: at the end of the period."""
@@ -145,6 +157,7 @@ def situation(given):
         searcher=searcher(tables["searcher"], grid, minutes),
         visibility=visibility(tables, clock),
         parts=tuple(take_table(tables.get("parts", {}), "[parts]", keys.PARTS).values()),
+        tracks=track_choice(tables.get("tracks", {})),
     )
 
 
@@ -301,3 +314,9 @@ def daylight(table, clock):
     factors = {"sunrise": (it["night"], Fraction(1)), "sunset": (Fraction(1), it["night"])}
     turns = sorted((minutes_of(f"[light] {key}", clock.nearest, it[key]), *factors[key]) for key in factors if it[key])
     return moments.Steps(((None, turns[0][1]), *((since, later) for since, _, later in turns)))
+
+
+def track_choice(table):
+    """How tracks are simulated."""
+    it = take_table(table, "[tracks]", keys.TRACKS)
+    return TrackChoice(it["count"] or COUNT, it["seed"] or 1, it["finer"])

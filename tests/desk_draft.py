@@ -583,6 +583,7 @@ class Planning(unittest.TestCase):
         "[light]": keys.LIGHT,
         "[[visibility]]": keys.VISIBILITY,
         "[parts]": keys.PARTS,
+        "[tracks]": keys.TRACKS,
     }
 
     def setUp(self):
@@ -666,7 +667,7 @@ class Wrong(unittest.TestCase):
 
     def test_each_key_of_a_wrong_type_is_named_with_an_example(self):
         tables = {"search": keys.SEARCH, "area": keys.AREA, "report": keys.REPORT, "current": keys.CURRENT, "wind": keys.WIND, "drift": keys.DRIFT,
-                  "searcher": keys.SEARCHER, "light": keys.LIGHT, "visibility": keys.VISIBILITY, "parts": keys.PARTS}
+                  "searcher": keys.SEARCHER, "light": keys.LIGHT, "visibility": keys.VISIBILITY, "parts": keys.PARTS, "tracks": keys.TRACKS}
         for name, its_keys in tables.items():
             for key in its_keys:
                 for value in ("{ a = 1 }", '"<b>"', "-7", "[[]]", "1979-05-27"):
