@@ -35,14 +35,9 @@ class Shares:
 
     def look(self, misses, position):
         """How often a look from a position misses, by number of cell; the base sees nothing."""
-        own, beside = misses
         if position == BASE:
             return {}
-        found = {self.numbers[position]: own}
-        if beside is not None:
-            seen = detection.beside(position, self.given.searcher.course)
-            found.update((self.numbers[it], beside) for it in seen if it in self.numbers)
-        return found
+        return {self.numbers[it]: miss for it, miss in detection.covered(self.given, misses, position).items()}
 
     def moves(self, position):
         """The numbers of the positions that the searcher reaches from one in a period, ascending."""
