@@ -10,6 +10,8 @@ from desk.rounding import MOST_PERIODS
 
 # The most squares of an area, with its land.
 MOST_SQUARES = 1000
+# The most places of a trackline.
+MOST_PLACES = 50
 SQUARE = re.compile(r"r(\d{1,3})c(\d{1,3})", re.ASCII)
 
 
@@ -159,6 +161,16 @@ def place(value):
     return take(value[0]), take(value[1])
 
 
+def places(value):
+    """A list of 2 to MOST_PLACES places, each another than the one before it."""
+    if not isinstance(value, list) or not 2 <= len(value) <= MOST_PLACES:
+        raise ValueError("no list, or a short or long one")
+    found = tuple(place(it) for it in value)
+    if any(one == other for one, other in zip(found, found[1:])):
+        raise ValueError("a place twice")
+    return found
+
+
 TITLE = Key("title", "a text of one line, up to 200 characters", '"Kayaker off the point"', text)
 TIME = "a local time, or a date and a time, without a zone"
 SEARCH = (
@@ -179,9 +191,12 @@ PLACE = "a pair of metres east and south of the area's north-west corner"
 REPORT = (
     Key("cell", "the name of a cell", '"r2c3"', square),
     Key("at", PLACE, "[1750, 1250]", place),
+    Key("track", "a list of 2 to 50 such pairs, one after the other", "[[400, 3100], [2600, 1200]]", places),
     Key("radius", "metres from 0 to 100000", "400", number(0, 100_000)),
+    Key("probable_error", "metres above 0 and up to 100000", "300", number(0, 100_000, True)),
     Key("weight", "a number above 0 and up to 1000000", "2", number(0, 1_000_000, True)),
     Key("time", TIME, '"18:45"', moments.moment, True),
+    Key("until", TIME, '"19:05"', moments.moment),
 )
 CURRENT = (
     Key("begins", TIME, '"18:00"', moments.moment),
@@ -196,6 +211,11 @@ WIND = (
 DRIFT = (
     Key("spread", "metres from 0 to 100000", "100", number(0, 100_000)),
     Key("leeway", "a share of the wind's speed, from 0 to 1", "0.03", number(0, 1)),
+    Key("current_error", "knots from 0 to 20", "0.2", number(0, 20)),
+    Key("wind_error", "knots from 0 to 100", "3", number(0, 100)),
+    Key("leeway_error", "a share of the wind's speed, from 0 to 1", "0.005", number(0, 1)),
+    Key("divergence", "degrees from 0 to 90", "20", number(0, 90)),
+    Key("jibing", "a chance in an hour, from 0 to 0.9", "0.04", number(0, Fraction(9, 10))),
 )
 SEARCHER = (
     Key("start", "the name of a cell", '"r6c3"', square),

@@ -5,7 +5,7 @@ import tomllib
 from decimal import Decimal, InvalidOperation
 from fractions import Fraction
 
-from desk import geometry, keys, moments
+from desk import draws, geometry, keys, moments
 from desk.forms import MOST_CELLS, MOST_MOVES
 from desk.keys import BadSituation, shown, take_key, take_table
 from desk.rounding import MOST_PERIODS
@@ -29,16 +29,48 @@ NEAREST = 'a time without a date is the one nearest to the begin of the search, 
 
 @dataclasses.dataclass(frozen=True)
 class Report:
-    """Where the person may have been so many minutes after the begin of the search (before it, a number below 0).
+    """Where the person may have been so many minutes after the begin of the search (before it, a number below 0), or at some time from
+    then to `until`.
 
-    They are anywhere in a circle around a place, or, where the radius is None, anywhere in a square.
+    They were at a place or, where there is a track, somewhere along the line through its places; or around it, by the radius of a circle
+    or by a probable error in metres. Where there is neither a track, a radius nor a probable error, they were anywhere in a square.
     """
 
     minutes: Fraction
     weight: Fraction
     square: tuple
     place: tuple
-    radius: Fraction | None
+    radius: Fraction | None = None
+    probable_error: Fraction | None = None
+    track: tuple | None = None
+    until: Fraction | None = None
+
+    @property
+    def is_square(self):
+        return self.radius is None and self.probable_error is None and self.track is None
+
+
+@dataclasses.dataclass(frozen=True)
+class Drift:
+    """How the person drifts: the velocities of the current and of the air by steps of time (or None), the leeway straight downwind and
+    to a side as shares of the wind's speed, the spread in metres to each side in a period; and what a person has of their own: standard
+    deviations of the current and the wind along each axis in metres a minute, and of the downwind leeway as a share of the wind's
+    speed, and how often in a minute the side of the leeway changes."""
+
+    current: moments.Steps | None
+    wind: moments.Steps | None
+    downwind: Fraction
+    crosswind: float
+    spread: Fraction
+    current_error: float
+    wind_error: float
+    leeway_error: float
+    rate: float
+
+    @property
+    def is_own(self):
+        """Whether persons have anything of their own."""
+        return any((self.crosswind, self.current_error, self.wind_error, self.leeway_error))
 
 
 @dataclasses.dataclass(frozen=True)
@@ -78,12 +110,21 @@ class Situation:
     grid: geometry.Grid
     is_lost: bool
     reports: tuple
-    velocities: tuple
-    spread: Fraction
+    drift: Drift
     searcher: Searcher
     visibility: tuple
     parts: tuple
     tracks: TrackChoice
+
+    @property
+    def velocities(self):
+        """The velocities of the current and of the leeway by steps."""
+        leeway = self.drift.wind and moments.Steps(tuple((since, tuple(self.drift.downwind * by for by in it)) for since, it in self.drift.wind.rows))
+        return tuple(it for it in (self.drift.current, leeway) if it)
+
+    @property
+    def spread(self):
+        return self.drift.spread
 
     def look_time(self, t):
         """When the look of period t counts as made: at the end of the period."""
@@ -143,7 +184,6 @@ def situation(given):
     periods = how_many(search, clock)
     grid, is_lost = area(tables["area"])
     told = reports(tables, clock, grid, minutes)
-    velocities, spread = drift(tables, clock, min(it.minutes for it in told))
     return Situation(
         title=title or "",
         clock=clock,
@@ -152,8 +192,7 @@ def situation(given):
         grid=grid,
         is_lost=is_lost,
         reports=told,
-        velocities=velocities,
-        spread=spread,
+        drift=drift(tables, clock, min(it.minutes for it in told)),
         searcher=searcher(tables["searcher"], grid, minutes),
         visibility=visibility(tables, clock),
         parts=tuple(take_table(tables.get("parts", {}), "[parts]", keys.PARTS).values()),
@@ -206,18 +245,29 @@ def reports(tables, clock, grid, minutes):
 def report(table, where, clock, grid, minutes):
     """A report. Raises BadSituation where it is of another time than it may be, or not in a cell."""
     it = take_table(table, where, keys.REPORT)
-    is_one = (it["cell"] is None) != (it["at"] is None)
-    need(is_one, f"{where} cell", 'either it or at should stand, as in cell = "r2c3" or at = [1750, 1250]')
-    time = minutes_of(f"{where} time", clock.before, it["time"], minutes)
-    is_right = -2 * moments.DAY <= time <= minutes
-    told = f"it should be at most two days before the search begins, and not after its first look at {clock.told(minutes)}"
-    need(is_right, f"{where} time", told)
-    key = "cell" if it["at"] is None else "at"
-    square = it["cell"] if key == "cell" else grid.square_at(it["at"])
-    told = f"it should be in a cell of the area that isn't land, and is in {geometry.name_of(square)}"
-    need(grid.is_water(square), f"{where} {key}", told)
-    radius = Fraction(0) if it["radius"] is None and key == "at" else it["radius"]
-    return Report(time, it["weight"] or Fraction(1), square, it["at"] or grid.middle(square), radius)
+    named = [key for key in ("cell", "at", "track") if it[key] is not None]
+    need(len(named) == 1, f"{where} cell", 'one of it, at and track should stand, as in cell = "r2c3" or at = [1750, 1250]')
+    is_one = it["radius"] is None or it["probable_error"] is None
+    need(is_one, f"{where} probable_error", "either it or radius should stand, as in probable_error = 300")
+    since, until = report_times(it, where, clock, minutes)
+    squares = [it["cell"]] if it["cell"] else [grid.square_at(place) for place in it["track"] or [it["at"]]]
+    for square in squares:
+        told = f"it should be in a cell of the area that isn't land, and is in {geometry.name_of(square)}"
+        need(grid.is_water(square), f"{where} {named[0]}", told)
+    place = grid.middle(squares[0]) if it["cell"] else (it["track"] or [it["at"]])[0]
+    radius = Fraction(0) if it["at"] and not it["probable_error"] and it["radius"] is None else it["radius"]
+    return Report(since, it["weight"] or Fraction(1), squares[0], place, radius, it["probable_error"], it["track"], until)
+
+
+def report_times(it, where, clock, minutes):
+    """When a report's time begins, and when it ends or None where it is one moment."""
+    found = {key: minutes_of(f"{where} {key}", clock.before, it[key], minutes) for key in ("time", "until") if it[key]}
+    for key, time in found.items():
+        told = f"it should be at most two days before the search begins, and not after its first look at {clock.told(minutes)}"
+        need(-2 * moments.DAY <= time <= minutes, f"{where} {key}", told)
+    since, until = found["time"], found.get("until")
+    need(until is None or since < until, f"{where} until", f'it should be after time, which is {clock.told(since)}, as in until = "19:05"')
+    return since, until
 
 
 def steps(tables, name, its_keys, clock, value):
@@ -236,15 +286,34 @@ def steps(tables, name, its_keys, clock, value):
 
 
 def drift(tables, clock, earliest):
-    """The velocities of current and of leeway by steps, known from the time that is the earliest asked for, and the spread in metres
-    a period."""
+    """How the person drifts, with current and wind known from the time that is the earliest asked for."""
     it = take_table(tables.get("drift", {}), "[drift]", keys.DRIFT)
-    leeway = it["leeway"] or 0
     current = steps(tables, "current", keys.CURRENT, clock, lambda row: velocity(row["knots"], row["towards"]))
-    wind = steps(tables, "wind", keys.WIND, clock, lambda row: velocity(row["knots"] * leeway, row["from"] + 180))
+    wind = steps(tables, "wind", keys.WIND, clock, lambda row: velocity(row["knots"], row["from"] + 180))
+    check_wind(it, wind)
+    known((("current", current), ("wind", wind)), clock, earliest)
+    # Of a vector a unit long: what is left of it straight ahead, and to the right.
+    right, back = geometry.displacement(it["leeway"] or Fraction(0), it["divergence"] or 0)
+    return Drift(
+        current=current,
+        wind=wind,
+        downwind=-back,
+        crosswind=float(right),
+        spread=it["spread"] or Fraction(0),
+        current_error=float(geometry.metres(it["current_error"] or 0, 1)),
+        wind_error=float(geometry.metres(it["wind_error"] or 0, 1)),
+        leeway_error=float(it["leeway_error"] or 0),
+        rate=draws.rate(float(it["jibing"] or 0)) / 60,
+    )
+
+
+def check_wind(it, wind):
+    """Raises BadSituation where keys of [drift] lack what they are about."""
     is_right = wind is None or it["leeway"] is not None
     need(is_right, "[drift] leeway is lacking", "with [[wind]] it should be a share of the wind's speed, from 0 to 1, as in leeway = 0.03")
-    return known((("current", current), ("wind", wind)), clock, earliest), it["spread"] or Fraction(0)
+    for key in ("wind_error", "leeway_error", "divergence", "jibing"):
+        need(wind or not it[key], f"[drift] {key}", "it should stand with [[wind]], as in [[wind]] with knots = 12 and from = 270")
+    need(it["divergence"] or not it["jibing"], "[drift] jibing", "it should stand with divergence, as in divergence = 20")
 
 
 def velocity(knots, towards):

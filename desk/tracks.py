@@ -1,20 +1,22 @@
 """Simulated drifts of a situation: the tracks of single persons in continuous places, from which everything else is counted.
 
 Places are pairs of floats, in metres east and south of the area's north-west corner. All draws come from `random.Random(seed).random()`,
-which is the same on every machine, one track after the other.
+one track after the other, so the same situation has the same tracks on every machine.
 """
+import bisect
 import dataclasses
+import itertools
 import math
 import random
 from fractions import Fraction
 from typing import NamedTuple
 
-# The most steps of the drift before the first look. Where a report is older than so many periods, several make one step.
+from desk import draws
+from desk.reported import Reported
+from desk.water import Water
+
+# The most steps before the first look. Where a report is older than so many periods, a step is several periods.
 MOST_BEFORE = 48
-# Where land is near, a track goes in parts of less than a square, and where a part might touch land, in so many parts of it.
-FINER_PARTS = 16
-# What is held at the border of the area, is so far inside of it, in metres.
-INSIDE = 0.001
 
 
 @dataclasses.dataclass(frozen=True)
@@ -28,153 +30,168 @@ class Tracks:
 
 
 class Leg(NamedTuple):
-    """A time in which the drift is steady: its displacement in metres, the share of the spread of its step, and whether that is drawn anew."""
+    """A time in which current and wind are steady: its minutes, the displacement in metres by current and leeway, and that of the air."""
 
+    minutes: float
     east: float
     south: float
-    share: float
-    is_new: bool
+    air_east: float
+    air_south: float
+
+    def lasting(self, minutes):
+        """A part of this leg, of so many minutes."""
+        part = minutes / self.minutes
+        return Leg(minutes, self.east * part, self.south * part, self.air_east * part, self.air_south * part)
 
 
-class Water:
-    """The area as floats: where a track goes from a place, and where it ends."""
+class Step(NamedTuple):
+    """A time whose spread is drawn once: when it ends, its minutes, the most metres of the spread to each side, and its legs."""
 
-    def __init__(self, given):
-        grid = given.grid
-        self.is_lost, self.side, self.columns = given.is_lost, float(grid.side), grid.columns
-        self.width, self.height = float(grid.columns * grid.side), float(grid.rows * grid.side)
-        # By square with a ring around the area: whether a place there isn't land.
-        self.ring = [(row, column) not in grid.land for row in range(-1, grid.rows + 1) for column in range(-1, grid.columns + 1)]
-        # By square: how far nobody in it comes to land, in metres.
-        self.clear = [self.reach(grid, (row, column)) for row in range(grid.rows) for column in range(grid.columns)]
+    ends: float
+    minutes: float
+    spread: float
+    legs: tuple
 
-    def reach(self, grid, square):
-        """How many metres along an axis a square is away from land."""
-        far = min((max(abs(square[0] - row), abs(square[1] - column)) for row, column in grid.land), default=math.inf)
-        return (far - 1) * self.side
-
-    def held(self, x, y):
-        """The place inside of the area that is nearest to one, or None where what leaves it is lost."""
-        if 0 <= x < self.width and 0 <= y < self.height:
-            return x, y
-        if self.is_lost:
-            return None
-        return min(max(x, 0.0), self.width - INSIDE), min(max(y, 0.0), self.height - INSIDE)
-
-    def is_water(self, x, y):
-        """Whether a place is in the area and not on land."""
-        return 0 <= x < self.width and 0 <= y < self.height and self.ring[self.at(x, y)]
-
-    def at(self, x, y):
-        """The number of a place's square in the ring."""
-        return (math.floor(y / self.side) + 1) * (self.columns + 2) + math.floor(x / self.side) + 1
-
-    def gone(self, x, y, east, south):
-        """Where a track ends that would go from a place so many metres on, or None. It goes straight, in parts; where a part would
-        enter land, or go between two corners of it, the track stays where it is for that part, and so for the others."""
-        count = int(max(abs(east), abs(south)) / self.side) + 1
-        east, south = east / count, south / count
-        for _ in range(count):
-            to = self.held(x + east, y + south)
-            if to is None:
-                return None
-            if not self.is_open(x, y, *to):
-                return self.until_land(x, y, east / FINER_PARTS, south / FINER_PARTS)
-            x, y = to
-        return x, y
-
-    def is_open(self, x, y, east, south):
-        """Whether no square between two places, that are less than a square apart along each axis, is land."""
-        ring = self.ring
-        return ring[self.at(x, y)] and ring[self.at(east, south)] and ring[self.at(x, south)] and ring[self.at(east, y)]
-
-    def until_land(self, x, y, east, south):
-        """Where a track ends that goes so many parts on until the next would enter land."""
-        for _ in range(FINER_PARTS):
-            to = self.held(x + east, y + south)
-            if to is None:
-                return None
-            ring = self.ring
-            if not ring[self.at(*to)] or not (ring[self.at(x, to[1])] or ring[self.at(to[0], y)]):
-                break
-            x, y = to
-        return x, y
+    def behind(self, begins):
+        """What is left of this step from a time in it on. What is random adds up by its squares, so its spread is by the root of time."""
+        minutes, ends, kept = self.ends - begins, self.ends - self.minutes, []
+        for it in self.legs:
+            ends += it.minutes
+            if ends > begins:
+                kept.append(it.lasting(min(ends - begins, it.minutes)))
+        return Step(self.ends, minutes, self.spread * math.sqrt(minutes / self.minutes), tuple(kept))
 
 
-def displacement(given, begins, ends):
-    """The displacement in metres east and south between two times in minutes, exactly: also of a tide that turns between them."""
-    found = [it.moved(begins, ends) for it in given.velocities]
-    return tuple(sum((it[at] for it in found), Fraction(0)) for at in (0, 1))
+# ---- the drift that all have in common
 
 
-def stages(given, begins):
-    """The legs of a drift that begins at a time in minutes: T lists, each of the legs until the look of a period."""
-    first = given.look_time(1)
-    together = max(math.ceil((first - begins) / given.minutes / MOST_BEFORE), 1) * given.minutes
-    before = [begins, *(first - together * it for it in reversed(range(math.ceil((first - begins) / together))))]
-    found = [[leg for pair in zip(before, before[1:]) for leg in legs(given, *pair)]]
-    return found + [list(legs(given, given.look_time(t), given.look_time(t + 1))) for t in range(1, given.periods)]
+def timeline(given):
+    """The steps from the earliest report on: T lists, of the steps until the look of each period. A period is one step; before the
+    first look, where there would be too many, several are."""
+    first, earliest = given.look_time(1), min(it.minutes for it in given.reports)
+    count = math.ceil((first - earliest) / given.minutes)
+    length = given.minutes * math.ceil(Fraction(count, MOST_BEFORE))
+    ends = [first - length * it for it in reversed(range(math.ceil((first - earliest) / length)))]
+    before = [step_of(given, *it) for it in zip([earliest, *ends], ends)]
+    return [before, *([step_of(given, given.look_time(t), given.look_time(t + 1))] for t in range(1, given.periods))]
 
 
-def legs(given, begins, ends):
-    """The legs of a step: parts of it in which current and wind are steady. The spread of a step is that of a period times the root of
-    how many periods it is, since what is random adds up by its squares."""
-    root = math.sqrt((ends - begins) / given.minutes)
-    turns = {since for it in given.velocities for since, _ in it.rows if since is not None and begins < since < ends}
+def step_of(given, begins, ends):
+    """The step between two times in minutes. Its displacements are exact, also of a tide that turns in it, and floats at the end."""
+    drift = given.drift
+    steady = [it for it in (drift.current, drift.wind) if it]
+    turns = {since for it in steady for since, _ in it.rows if since is not None and begins < since < ends}
     times = [begins, *sorted(turns), ends]
-    for since, until in zip(times, times[1:]):
-        east, south = (float(it) for it in displacement(given, since, until))
-        yield Leg(east, south, root * float((until - since) / (ends - begins)), since == begins)
+    legs = (leg_of(drift, *it) for it in zip(times, times[1:]))
+    spread = float(drift.spread) * math.sqrt((ends - begins) / given.minutes)
+    return Step(float(ends), float(ends - begins), spread, tuple(legs))
 
 
-def first_place(report, water, side, draw):
-    """A place where the person may have been at the time of a report: anywhere in its circle or its square, but not on land."""
-    if report.radius is None:
-        return (report.square[1] + draw()) * side, (report.square[0] + draw()) * side
-    (x, y), radius = (float(it) for it in report.place), float(report.radius)
-    if not radius:
-        return x, y
-    west, east, north, south = max(x - radius, 0.0), min(x + radius, water.width), max(y - radius, 0.0), min(y + radius, water.height)
-    while True:
-        there = west + (east - west) * draw(), north + (south - north) * draw()
-        if (there[0] - x) ** 2 + (there[1] - y) ** 2 <= radius**2 and water.is_water(*there):
-            return there
+def leg_of(drift, begins, ends):
+    """The leg between two times in minutes."""
+    current, air = (it.moved(begins, ends) if it else (Fraction(0), Fraction(0)) for it in (drift.current, drift.wind))
+    moved = (at + drift.downwind * by for at, by in zip(current, air))
+    return Leg(*(float(it) for it in (ends - begins, *moved, *air)))
+
+
+# ---- what a person has of their own
+
+
+class Person:
+    """What stays with a person: draws of the error of the current and of the wind in metres a minute, of the downwind leeway as a share of
+    the wind's speed; and the side to which they go from straight downwind, 1 the right and -1 the left, until it changes."""
+
+    def __init__(self, drift, begins, draw):
+        self.draw, self.rate, self.to_right = draw, drift.rate, drift.crosswind
+        current, self.wind = (draws.pair(it, draw) for it in (drift.current_error, drift.wind_error))
+        self.leeway = drift.leeway_error * draws.normal(draw()) if drift.leeway_error else 0.0
+        self.drift = tuple(by + (float(drift.downwind) + self.leeway) * air for by, air in zip(current, self.wind))
+        self.side = (1 if draw() < 0.5 else -1) if drift.crosswind else 0
+        self.turns = begins + draws.waiting(drift.rate, draw) if drift.rate else math.inf
+
+    def moves(self, steps):
+        """The moves of this person in steps, as plain_moves has them."""
+        return [(it.spread, self.moved(it.legs, it.minutes) if it.ends <= self.turns else self.turned(it)) for it in steps]
+
+    def moved(self, legs, whole):
+        """The moves of legs in which the side doesn't change, of a step of so many minutes."""
+        more, right = self.leeway, self.side * self.to_right
+        a_minute_east, a_minute_south = self.drift[0] - right * self.wind[1], self.drift[1] + right * self.wind[0]
+        return [
+            (
+                east + minutes * a_minute_east + more * air_east - right * air_south,
+                south + minutes * a_minute_south + more * air_south + right * air_east,
+                minutes / whole,
+            )
+            for minutes, east, south, air_east, air_south in legs
+        ]
+
+    def turned(self, step):
+        """The moves of a step in which the side changes. A leg is cut where it does."""
+        found, begins = [], step.ends - step.minutes
+        for leg in step.legs:
+            ends, left = begins + leg.minutes, leg
+            while self.turns < ends:
+                found += self.moved([leg.lasting(self.turns - begins)], step.minutes)
+                begins, left = self.turns, leg.lasting(ends - self.turns)
+                self.side, self.turns = -self.side, self.turns + draws.waiting(self.rate, self.draw)
+            found += self.moved([left], step.minutes)
+            begins = ends
+        return found
+
+
+def plain_moves(steps):
+    """The moves of all who have nothing of their own: of each step the spread, and of each leg the metres east and south and its share of
+    the step's minutes."""
+    return [(it.spread, [(leg.east, leg.south, leg.minutes / it.minutes) for leg in it.legs]) for it in steps]
+
+
+# ---- tracks
 
 
 def simulated(given, count=None, seed=None):
     """The tracks of a situation (desk.situation.Situation); count and seed as the situation says unless they are given."""
     count, seed = given.tracks.count if count is None else count, given.tracks.seed if seed is None else seed
-    draw, water, side = random.Random(seed).random, Water(given), float(given.grid.side)
+    draw, water = random.Random(seed).random, Water(given.grid, given.is_lost)
+    reports = [Reported(it, at, water) for at, it in enumerate(given.reports, 1)]
     total = sum(it.weight for it in given.reports)
-    limits = [float(sum(it.weight for it in given.reports[: at + 1]) / total) for at in range(len(given.reports))]
-    drifts = [stages(given, it.minutes) for it in given.reports]
+    limits = [float(it / total) for it in itertools.accumulate(it.weight for it in given.reports)]
+    drifts = Drifts(given)
     looks = tuple([] for _ in range(given.periods))
     for _ in range(count):
-        chosen = draw()
-        at = next((at for at, limit in enumerate(limits) if chosen < limit), len(limits) - 1)
-        place = first_place(given.reports[at], water, side, draw)
-        drift(looks, place, drifts[at], float(given.spread), water, draw)
+        report = reports[bisect.bisect_right(limits, draw())]
+        begins, place = report.time(draw), report.place(draw)
+        track(looks, place, drifts.moves(begins, draw), water, draw)
     return Tracks(count, seed, looks)
 
 
-def drift(looks, place, drifts, spread, water, draw):
+class Drifts:
+    """The moves of persons by their begin; those of persons who have nothing of their own are made once."""
+
+    def __init__(self, given):
+        self.drift, self.steps, self.plain = given.drift, timeline(given), {}
+
+    def moves(self, begins, draw):
+        """T lists, of the moves until the look of each period, of somebody who drifts from a time on."""
+        if self.drift.is_own:
+            person = Person(self.drift, begins, draw)
+            return [person.moves(it) for it in self.begun(begins)]
+        if begins not in self.plain:
+            self.plain[begins] = [plain_moves(it) for it in self.begun(begins)]
+        return self.plain[begins]
+
+    def begun(self, begins):
+        """The steps from a time on."""
+        before, *others = self.steps
+        return [[it if it.ends - it.minutes >= begins else it.behind(begins) for it in before if it.ends > begins], *others]
+
+
+def track(looks, place, drifts, water, draw):
     """Puts a track's place at each look behind those of the others."""
-    clear, columns, side, width, height = water.clear, water.columns, water.side, water.width, water.height
-    aside = down = 0.0
-    for found, steps in zip(looks, drifts):
-        if place is not None:
-            for east, south, share, is_new in steps:
-                if is_new and spread:
-                    aside, down = spread * (2 * draw() - 1), spread * (2 * draw() - 1)
-                east, south = east + share * aside, south + share * down
-                x, y = place
-                far = clear[int(y / side) * columns + int(x / side)]
-                if -far < east < far and -far < south < far:
-                    place = x + east, y + south
-                    if not (0 <= place[0] < width and 0 <= place[1] < height):
-                        place = water.held(*place)
-                else:
-                    place = water.gone(x, y, east, south)
-                if place is None:
-                    break
+    gone = water.gone
+    for found, moves in zip(looks, drifts):
+        for spread, legs in moves if place else ():
+            aside, down = (spread * (2 * draw() - 1), spread * (2 * draw() - 1)) if spread else (0.0, 0.0)
+            for east, south, share in legs:
+                place = place and gone(place, east + share * aside, south + share * down)
         found.append(place)

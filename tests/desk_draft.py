@@ -714,7 +714,7 @@ class Wrong(unittest.TestCase):
             ("rows = 3", 'rows = 3\nland = ["r0c0"]', "[searcher] start: it should be in the area and not on land, and names r0c0"),
             ('cell = "r1c1"', 'cell = "r1c4"', "[[report]] 1 cell"),
             ('cell = "r1c1"', "at = [1852, 10]", "[[report]] 1 at"),
-            ('cell = "r1c1"', 'cell = "r1c1"\nat = [10, 10]', "[[report]] 1 cell: either it or at"),
+            ('cell = "r1c1"', 'cell = "r1c1"\nat = [10, 10]', "[[report]] 1 cell: one of it, at and track"),
             ('"12:15"', '"2026-07-04 12:00"', "[[report]] 1 time: it has a date"),
             ('start = "r0c0"', "base = [10, 10]\nenters = [\"r0c0\"]", "[searcher] base: it should be outside"),
             ('start = "r0c0"', "base = [-10, 10]", "[searcher] enters"),
