@@ -6,8 +6,8 @@ import math
 from desk.draws import Circle, Normal
 from desk.keys import BadSituation
 
-# How often a place is drawn until it is in the area and not on land.
-MOST_TRIES = 100_000
+# How many places are drawn at most on the mean until one is in the area and not on land, and how many before that mean is known.
+MOST_TRIES, FIRST_TRIES = 100, 20_000
 EVERYWHERE = ((-math.inf, math.inf),) * 2
 
 
@@ -43,7 +43,7 @@ class Reported:
     """The report of a number from 1 on: draws of its time and its place."""
 
     def __init__(self, report, number, water):
-        self.number, self.water = number, water
+        self.number, self.water, self.tries = number, water, 0
         self.since, self.until = float(report.minutes), float(report.minutes if report.until is None else report.until)
         places = [tuple(float(it) for it in place) for place in report.track or [report.place]]
         self.where = Square(report.square, water.side) if report.is_square else Line(places)
@@ -65,12 +65,14 @@ class Reported:
 
     def place(self, draw):
         """A place where they were. Raises BadSituation where hardly any is in the area and not on land."""
-        for _ in range(MOST_TRIES):
+        while self.tries > -FIRST_TRIES:
+            self.tries -= 1
             x, y = self.where.drawn(draw)
             if self.error:
                 east, south = self.error.drawn(draw)
                 x, y = x + east, y + south
             if self.water.is_water(x, y):
+                self.tries += MOST_TRIES
                 return x, y
-        why = "hardly any of its places are in the area and not on land; it should be nearer, as in radius = 400"
+        why = f"hardly one of {MOST_TRIES} of its places is in the area and not on land; it should be smaller, as in radius = 400"
         raise BadSituation(f"[[report]] {self.number} radius or probable_error: {why}")

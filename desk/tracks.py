@@ -69,9 +69,9 @@ def timeline(given):
     """The steps from the earliest report on: T lists, of the steps until the look of each period. A period is one step; before the
     first look, where there would be too many, several are."""
     first, earliest = given.look_time(1), min(it.minutes for it in given.reports)
-    count = math.ceil((first - earliest) / given.minutes)
-    length = given.minutes * math.ceil(Fraction(count, MOST_BEFORE))
-    ends = [first - length * it for it in reversed(range(math.ceil((first - earliest) / length)))]
+    periods = (first - earliest) / given.minutes
+    together = max(math.ceil(periods / MOST_BEFORE), 1)
+    ends = [first - given.minutes * together * it for it in reversed(range(math.ceil(periods / together)))]
     before = [step_of(given, *it) for it in zip([earliest, *ends], ends)]
     return [before, *([step_of(given, given.look_time(t), given.look_time(t + 1))] for t in range(1, given.periods))]
 
