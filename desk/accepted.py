@@ -29,7 +29,8 @@ class Search:
     text; `ceiling` what no path exceeds, of a gap plan alone; `report` the program's own, or for a gap plan, of which it makes none,
     that of these masses; `frames` those of desk.masses, which agree with it, or with the program's map, too, where it
     `is_mapped`; the checksums those of the two texts. `note` is what the program said on standard error. `seats` says who is where,
-    and `told_by` is the text whose comments say where that is: the scenario's own, or that of the one that it was made of.
+    and `told_by` is the text whose comments say where that is: the scenario's own, or that of the one that it was made of. `trial` is
+    what a trial says of the plan (desk.tried), or None.
     """
 
     name: str
@@ -47,6 +48,7 @@ class Search:
     told_by: bytes
     ceiling: int | None = None
     is_mapped: bool = False
+    trial: object = None
 
     @property
     def checked_by(self):

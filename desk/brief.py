@@ -1,5 +1,8 @@
-"""brief SCENARIO [PLAN] [--of SCENARIO] [--from HH:MM --minutes N]: writes an accepted plan as plain text for a radio or a tasking form."""
-from desk import accepted, masses, running, tables
+"""brief SCENARIO [PLAN] [--of SCENARIO] [--trial FILE] [--from HH:MM --minutes N]: writes an accepted plan as plain text for a radio or a
+tasking form."""
+import textwrap
+
+from desk import accepted, masses, running, tables, tried
 
 # How wide the text is where names allow it, in columns.
 WIDTH = 60
@@ -65,6 +68,7 @@ def text_of(search, times):
         search.checked_by,
         f"Chance to find them: {search.report.percent} %, {begin[0]}",
         *begin[1:],
+        *(line for it in tables.about_trial(search) for line in textwrap.wrap(it, WIDTH)),
         *tables.about_flown(search),
         *tables.about_names(search),
         "",
@@ -82,7 +86,7 @@ def text_of(search, times):
 
 def brief_of(given):
     """The text of what the words say, and what the program said on standard error. Raises accepted.Refused."""
-    search = accepted.load(given.files, given.of)
+    search = tried.with_trial(accepted.load(given.files, given.of), given.trial)
     # Of a gap plan the program makes no report, and so its map is asked.
     return text_of(search if search.ceiling is None else accepted.mapped(search), given.times), search.note
 

@@ -48,7 +48,7 @@ def header(search):
     """The name of the scenario, the verdict, the chance, and what the scenario says of itself."""
     said, looks = comment(search.told_by), tables.plural(search.sc.horizon, "look")
     each = "" if search.seats.count == 1 else " each"
-    told = " ".join([*tables.about_flown(search), *tables.about_names(search)])
+    told = " ".join([*tables.about_trial(search), *tables.about_flown(search), *tables.about_names(search)])
     more = f'<p class="note">{escape(told)}</p>' if told else ""
     up = "" if search.ceiling is None else ", that of the ceiling is rounded up"
     own = f"<details><summary>What the scenario says of itself</summary><pre>{escape(said)}</pre></details>" if said else ""
@@ -123,8 +123,17 @@ def signs(count):
     )
 
 
-def controls(count):
+def drifts_box(search):
+    """The choice of whether simulated drifts are drawn, where there are some."""
+    if not search.trial:
+        return ""
+    count = len(search.trial.drifts[0])
+    return f'<label><input type="checkbox" id="drifts" autocomplete="off"> {tables.plural(count, "simulated drift")} at the time of the look</label>'
+
+
+def controls(search):
     """The slider, the buttons, and the choice of what the numbers say."""
+    count = search.sc.horizon
     return (
         '<div class="controls"><button type="button" id="play">Play</button>'
         '<button type="button" id="back" aria-label="One period back">&#8249;</button>'
@@ -132,7 +141,7 @@ def controls(count):
         '<button type="button" id="forth" aria-label="One period on">&#8250;</button></div>'
         "<fieldset><legend>Numbers and colours</legend>"
         '<label><input type="radio" name="shares" value="of-all" checked> share of all</label>'
-        '<label><input type="radio" name="shares" value="of-left"> if nothing was found so far</label></fieldset>'
+        f'<label><input type="radio" name="shares" value="of-left"> if nothing was found so far</label>{drifts_box(search)}</fieldset>'
         '<p id="said" class="hidden" role="status" aria-live="polite"></p>'
     )
 
@@ -147,7 +156,7 @@ def map_section(search, drawn, clock):
         f'<span class="on-screen">Arrow keys go from period to period.</span>{metres}{lacking}'
     )
     return (
-        f'<section id="map" class="of-all"><h2>Where they may be</h2>{controls(search.sc.horizon)}'
+        f'<section id="map" class="of-all"><h2>Where they may be</h2>{controls(search)}'
         f'<div class="with-scale">{figures(search, drawn, clock)}{scale()}</div>{signs(search.seats.count)}<p class="note">{note}</p></section>'
     )
 
@@ -166,6 +175,7 @@ def style(drawn):
         return asset("page.css")
     width = f"@media screen {{ .figures .map {{ min-width: {math.ceil(drawn.columns() * LEAST_CELL)}px; }} }}"
     pair = asset("pair.css") if drawn.search.seats.count > 1 else ""
+    pair += asset("drifts.css") if drawn.search.trial else ""
     return f"{asset('page.css')}{pair}{width}\n.map .texts .name {{ font-size: {drawn.name_size():.1f}px; }}\n"
 
 

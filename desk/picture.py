@@ -117,7 +117,7 @@ class Picture:
         who = range(len(self.ways))
         ways = "".join(self.of(it, self.path(it, frame)) for it in who)
         signs = "".join(self.of(it, self.labels(it, frame) + self.searcher(it, frame)) for it in who)
-        parts = [self.squares(frame), self.outlines(frame), ways, self.texts(frame), signs]
+        parts = [self.squares(frame), self.outlines(frame), ways, self.texts(frame), self.drifts(frame), signs]
         return f'<svg class="map" role="img" aria-label="{escape(label)}" viewBox="{box}">{"".join(parts)}</svg>'
 
     def classes(self, frame, mass):
@@ -139,6 +139,13 @@ class Picture:
         at = (self.cells[it] for it in frame.covered)
         drawn = (f'<rect x="{number(x - 45)}" y="{number(y - 45)}"/>' for x, y in at)
         return f'<g class="covers">{"".join(drawn)}</g>'
+
+    def drifts(self, frame):
+        """A dot for each simulated drift that is in the area at the look, where there are some and places are metres."""
+        if not self.search.trial or not frame.period or not self.layout.metres:
+            return ""
+        places = (self.point(it) for it in self.search.trial.drifts[frame.period - 1] if it)
+        return f'<path class="drifts" aria-hidden="true" d="{"".join(f"M{x:.0f} {y:.0f}h0" for x, y in places)}"/>'
 
     @staticmethod
     def of(searcher, drawing):

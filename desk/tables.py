@@ -76,6 +76,11 @@ def about_flown(search):
     return [head, f"If {these} found nothing, those to come find them: {masses.percent(search.report.value - found, missed)} %."]
 
 
+def about_trial(search):
+    """What is said of a trial of the plan, as sentences; none where there was none."""
+    return search.trial.sentences() if search.trial else []
+
+
 def about_names(search):
     """What is said of names that are numbers, as a list of one sentence or none."""
     return ["Positions have numbers here: --of SCENARIO has their names."] if search.seats.is_numbered else []
