@@ -94,10 +94,6 @@
         show(now());
       });
     });
-    const drifts = document.getElementById("drifts");
-    if (drifts) {
-      drifts.addEventListener("change", () => document.getElementById("map").toggleAttribute("data-drifts", drifts.checked));
-    }
     show(0);
   }
 }());

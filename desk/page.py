@@ -191,7 +191,7 @@ def main_part(search, drawn, why, clock):
 
 def document(search, drawn, why, clock=None):
     """The page of a search: `drawn` is its Picture, or None with the reason `why` there is none."""
-    css, script = style(drawn), asset("page.js")
+    css, script = style(drawn), asset("page.js") + (asset("drifts.js") if search.trial else "")
     policy = f"default-src 'none'; style-src '{checksum(css)}'; script-src '{checksum(script)}'; base-uri 'none'; form-action 'none'"
     return (
         '<!DOCTYPE html>\n<html lang="en">\n<head>\n<meta charset="utf-8">\n'
