@@ -1,9 +1,10 @@
 """An accepted plan or gap plan with its scenario: what the program says of both, and the masses behind its report."""
 import dataclasses
+import functools
 import hashlib
 import os
 
-from desk import forms, masses, paths, program, reports, seats
+from desk import forms, masses, paths, program, reports, seats, squares
 
 # The longest input of `check`, in bytes (docs/FORMATS.md, status 9).
 MOST_INPUT = 336_592_896
@@ -61,6 +62,11 @@ class Search:
     def cells(self):
         """The names of the cells, by number."""
         return [it.decode("ascii") for it in self.sc.names]
+
+    @functools.cached_property
+    def squares(self):
+        """The squares by which the search is told."""
+        return squares.squares(self.seats.of)
 
     def where(self, frame):
         """Where the searchers are in a frame, in words."""

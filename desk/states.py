@@ -5,6 +5,7 @@ north-west. What has left the area is in the state `lost`.
 """
 import math
 import re
+from fractions import Fraction
 
 from desk import geometry
 from desk.forms import MOST_CELLS
@@ -76,9 +77,9 @@ class States:
         return self.numbers.get(self.spots.part(self.spots.number_of(place), self.finer))
 
     def middle(self, name):
-        """Where a state is drawn, in metres: its middle. LOST is drawn apart, beyond the south-east corner of the area."""
+        """Where a state is drawn, in metres: its middle. LOST is drawn apart, east of the area at its south."""
         if name == LOST:
-            return self.grid.middle((self.grid.rows + 1, self.grid.columns + 1))
+            return self.grid.middle((self.grid.rows - 1, self.grid.columns + Fraction(1, 2)))
         (row, column), inside = self.parts[self.names.index(name)]
         south, east = divmod(inside, self.finer)
         return self.grid.finer(self.finer).middle((row * self.finer + south, column * self.finer + east))
