@@ -43,7 +43,7 @@ class States(unittest.TestCase):
         found = states.States(GRID, True, reached([(199, 1), (250, 150)]), 4)
         self.assertEqual(found.names, [b"r0c1-04", b"r1c2-11", b"lost"])
         # A quarter of 100 m: r0c1-04 is from 175 to 200 and from 0 to 25; lost is a square and a half beyond the corner at (300, 200).
-        self.assertEqual([found.middle(it) for it in found.names], [(187.5, 12.5), (262.5, 162.5), (450, 350)])
+        self.assertEqual([found.middle(it) for it in found.names], [(187.5, 12.5), (262.5, 162.5), (400, 150)])
         self.assertEqual((found.number_of(None), found.of_spots[None]), (2, 2))
         self.assertEqual([found.within(it) for it in ((0, 1), (1, 2), (0, 0))], [[0], [1], []])
 
