@@ -221,6 +221,7 @@ SEARCHER = (
     Key("start", "the name of a cell", '"r6c3"', square),
     Key("base", f"{PLACE}, outside of the area", "[-2000, 1500]", place),
     Key("enters", "a list of cells, or of blocks of cells, where it comes into the area from its base", '["r0c0..r6c0"]', squares),
+    Key("leaves", f"{TIME}, up to the search's begin", '"19:10"', moments.moment),
     Key("speed", "the knots at which it searches, above 0 and up to 1000", "8", number(0, 1000, True), True),
     Key("sweep_width", "metres above 0 and up to 100000", "300", number(0, 100_000, True), True),
     Key("search_minutes", "the minutes of a period in which it searches, above 0 and up to a period", "12", number(0, 1440, True)),

@@ -1,11 +1,10 @@
 """What a situation comes to before it is rounded: which cells and positions there are, and the shares of each step and each look."""
 from fractions import Fraction
 
-from desk import detection, drifting, geometry
+from desk import detection, drifting, ways
 from desk.forms import MOST_CELLS
 from desk.situation import BadSituation
-
-BASE = "base"
+from desk.ways import BASE
 
 
 class Shares:
@@ -41,14 +40,7 @@ class Shares:
 
     def moves(self, position):
         """The numbers of the positions that the searcher reaches from one in a period, ascending."""
-        who = self.given.searcher
-        if position == BASE:
-            return sorted(self.numbers[it] for it in who.enters)
-        found = self.grid.neighbours(position, who.reaches) + [position] * who.stays
-        if not found:
-            name = geometry.name_of(position)
-            raise BadSituation(f"[searcher] stays: it should be true, since no cell is reached from {name}, as in stays = true")
-        return sorted(self.numbers[it] for it in found)
+        return sorted(self.numbers[it] for it in ways.moves(self.given, position))
 
     def start(self):
         """The number of the position where the searcher is before period 1."""

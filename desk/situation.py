@@ -1,11 +1,12 @@
 """Reads a situation: a TOML file that says what is known in metres, knots, degrees and times. docs/PLANNING.md has its keys."""
 import dataclasses
+import functools
 import re
 import tomllib
 from decimal import Decimal, InvalidOperation
 from fractions import Fraction
 
-from desk import draws, geometry, keys, moments
+from desk import draws, geometry, keys, moments, ways
 from desk.forms import MOST_CELLS, MOST_MOVES
 from desk.keys import BadSituation, shown, take_key, take_table
 from desk.rounding import MOST_PERIODS
@@ -75,16 +76,18 @@ class Drift:
 
 @dataclasses.dataclass(frozen=True)
 class Searcher:
-    """The searcher: the square or, outside of the area, the base where it is at first; its speed in knots, its sweep widths in metres
-    in its own cell and (or None) in the cells beside its course, and the minutes that it searches in each period."""
+    """The searcher: the square or, outside of the area, the base where it is at first, and how many minutes before the begin it leaves
+    that; its speed in knots, its sweep widths in metres in its own cell and (or None) in the cells beside its course, and the minutes
+    that it searches in each period. It reaches the 4 or 8 cells around one, or (None) as many as time allows."""
 
     start: tuple | None
     base: tuple | None
     enters: frozenset
+    ahead: Fraction
     speed: Fraction
     sweep_width: Fraction
     search_minutes: Fraction
-    reaches: int
+    reaches: int | None
     stays: bool
     course: str | None
     beside: Fraction | None
@@ -129,6 +132,11 @@ class Situation:
     def look_time(self, t):
         """When the look of period t counts as made: at the end of the period."""
         return self.minutes * t
+
+    @functools.cached_property
+    def ways(self):
+        """The searcher's ways."""
+        return ways.Ways(self.grid, self.searcher, self.minutes)
 
 
 def need(holds, key, why):
@@ -184,7 +192,7 @@ def situation(given):
     periods = how_many(search, clock)
     grid, is_lost = area(tables["area"])
     told = reports(tables, clock, grid, minutes)
-    return Situation(
+    found = Situation(
         title=title or "",
         clock=clock,
         minutes=minutes,
@@ -193,11 +201,13 @@ def situation(given):
         is_lost=is_lost,
         reports=told,
         drift=drift(tables, clock, min(it.minutes for it in told)),
-        searcher=searcher(tables["searcher"], grid, minutes),
+        searcher=searcher(tables["searcher"], clock, grid, minutes),
         visibility=visibility(tables, clock),
         parts=tuple(take_table(tables.get("parts", {}), "[parts]", keys.PARTS).values()),
         tracks=track_choice(tables.get("tracks", {})),
     )
+    found.ways.check(clock)
+    return found
 
 
 def minutes_of(key, how, it, *rest):
@@ -331,7 +341,7 @@ def known(named, clock, earliest):
     return tuple(it for _, it in named if it)
 
 
-def searcher(table, grid, minutes):
+def searcher(table, clock, grid, minutes):
     """The searcher. Raises BadSituation where its place, its ways or its times contradict the area and the periods."""
     it = take_table(table, "[searcher]", keys.SEARCHER)
     swath = {} if it["swath"] is None else take_table(it["swath"], "[searcher.swath]", keys.SWATH)
@@ -342,14 +352,26 @@ def searcher(table, grid, minutes):
         start=it["start"],
         base=it["base"],
         enters=it["enters"] or frozenset(),
+        ahead=ahead(it, clock),
         speed=it["speed"],
         sweep_width=it["sweep_width"],
-        search_minutes=it["search_minutes"] or minutes,
-        reaches=it["reaches"] or 4,
+        search_minutes=ways.search_minutes(grid, it["speed"], minutes, it["reaches"], it["search_minutes"]),
+        reaches=it["reaches"],
         stays=it["stays"] is not False,
         course=swath.get("course"),
         beside=swath.get("sweep_width"),
     )
+
+
+def ahead(it, clock):
+    """How many minutes before the begin of the search it leaves its base."""
+    if it["leaves"] is None:
+        return Fraction(0)
+    need(it["base"], "[searcher] leaves", "it should stand where base does, and only there")
+    time = minutes_of("[searcher] leaves", clock.nearest, it["leaves"])
+    told = f"it should be at most a day before the search begins at {clock.told(0)}, and not after that"
+    need(-moments.DAY <= time <= 0, "[searcher] leaves", told)
+    return -time
 
 
 def check_places(it, grid):

@@ -2,6 +2,7 @@
 import math
 
 from desk import detection, drifting, geometry, rounding
+from desk.geometry import decimal
 from desk.rounded import name_of
 from desk.shares import BASE
 
@@ -13,11 +14,6 @@ def percent(share):
     """A share in percent, with three digits, rounded up, but for what floats are wrong by."""
     thousandths = math.ceil(round(float(share) * 100_000, 6))
     return f"{thousandths // 1000}.{thousandths % 1000:03}"
-
-
-def decimal(value):
-    """A number of metres or minutes with up to two digits behind the point."""
-    return f"{float(value):.2f}".rstrip("0").rstrip(".")
 
 
 def places(shares):
@@ -109,10 +105,6 @@ def edge(shares, sc):
 def warnings(shares, draft):
     """What the draft may not say well."""
     given = shares.given
-    way = geometry.metres(given.searcher.speed, given.minutes)
-    if way < given.grid.side:
-        told = f"the searcher makes {decimal(way)} metres in a period, and its next cell is {decimal(given.grid.side)} metres away"
-        yield f"note: {told}; take longer periods or smaller cells"
     if any(it < detection.SURE for pair in shares.misses for it in pair if it is not None):
         yield "note: a look finds more than 99 percent; larger cells or shorter periods say more of such a searcher"
     if max(draft.first, draft.drift, draft.look) > COARSE:

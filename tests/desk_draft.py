@@ -141,6 +141,7 @@ class Writing(unittest.TestCase):
 
 SITUATIONS = sorted(glob.glob(os.path.join(TOP, "examples", "situations", "*.toml")))
 # A lake of 3 by 4 cells of 463 m, the way of 1 knot in 15 minutes (1852 / 4). The search begins at noon; its first look is at 12:15.
+# In 7.5 minutes the boat makes 1852 m.
 LAKE = """
 [search]
 begins = "12:00"
@@ -155,8 +156,10 @@ cell = "r1c1"
 time = "12:15"
 [searcher]
 start = "r0c0"
-speed = 4
+speed = 8
 sweep_width = 231.5
+search_minutes = 7.5
+reaches = 4
 """
 
 
@@ -331,7 +334,7 @@ class Detection(unittest.TestCase):
         self.assertEqual(detection.miss(Fraction(10**9)), 0)
 
     def test_a_look_misses_by_the_formula(self):
-        # 4 knots make 1852 m in 15 minutes; 231.5 m wide they sweep 463 * 926 m: coverage 2, a miss of 0.135335.
+        # 8 knots make 1852 m in 7.5 minutes; 231.5 m wide they sweep 463 * 926 m: coverage 2, a miss of 0.135335.
         sc = made(LAKE)[0]
         self.assertEqual(set(map(str, sc.looks.values())), {str({at: sc.looks[0][0]}) for at in range(12)})
         self.assertLess(abs(Fraction(sc.looks[0][0], sc.parts[2]) - Fraction("0.135335")), Fraction(1, 2 * sc.parts[2]))
@@ -500,7 +503,7 @@ class Drafts(unittest.TestCase):
         self.assertEqual(made("\ufeff" + LAKE)[0].key(), made(LAKE)[0].key())
 
     def test_who_reaches_what(self):
-        sc = made(LAKE.replace("speed = 4", "speed = 4\nreaches = 8\nstays = false"))[0]
+        sc = made(LAKE.replace("reaches = 4", "reaches = 8\nstays = false"))[0]
         self.assertEqual([sc.positions[it].decode() for it in sc.moves[0]], ["r0c1", "r1c0", "r1c1"])
 
     def test_a_base_outside_of_the_area(self):
@@ -536,7 +539,6 @@ class Drafts(unittest.TestCase):
 
     def test_what_is_noted(self):
         for old, new, note in (
-            ("speed = 4", "speed = 0.9", "note: the searcher makes 416.7 metres in a period, and its next cell is 463 metres away"),
             ("sweep_width = 231.5", "sweep_width = 600", "note: a look finds more than 99 percent"),
         ):
             self.assertFalse(any(it.startswith(note) for it in made(LAKE)[2]))
@@ -554,7 +556,7 @@ class Drafts(unittest.TestCase):
         with self.assertRaisesRegex(keys.BadSituation, r"\[searcher\] base: with it there are 201 positions"):
             made(area.replace('start = "r0c0"', 'base = [-900, 700]\nenters = ["r0c0"]'))
         with self.assertRaisesRegex(keys.BadSituation, r"\[searcher\] stays: .* from r0c0"):
-            made(LAKE.replace("columns = 4", 'columns = 4\nland = ["r0c1", "r1c0"]').replace("speed = 4", "speed = 4\nstays = false"))
+            made(LAKE.replace("columns = 4", 'columns = 4\nland = ["r0c1", "r1c0"]').replace("speed = 8", "speed = 8\nstays = false"))
         with unittest.mock.patch.object(draft, "MOST_SCENARIO", 1000), self.assertRaisesRegex(keys.BadSituation, r"and 1,000 are the most"):
             made(LAKE)
 
@@ -718,7 +720,7 @@ class Wrong(unittest.TestCase):
             ('"12:15"', '"2026-07-04 12:00"', "[[report]] 1 time: it has a date"),
             ('start = "r0c0"', "base = [10, 10]\nenters = [\"r0c0\"]", "[searcher] base: it should be outside"),
             ('start = "r0c0"', "base = [-10, 10]", "[searcher] enters"),
-            ("speed = 4", "speed = 4\nsearch_minutes = 16", "[searcher] search_minutes"),
+            ("search_minutes = 7.5", "search_minutes = 16", "[searcher] search_minutes"),
             ("[[report]]", '[[wind]]\nknots = 9\nfrom = 0\n[[report]]', "[drift] leeway is lacking"),
             ("[[report]]", current.format("12:20") + "[[report]]", "[[current]] 1 begins: it should be at or before 12:15"),
             ("[[report]]", current.format("11:00") + current.format("10:00") + "[[report]]", "[[current]] 2 begins: rows should stand in the order"),

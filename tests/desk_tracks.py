@@ -25,7 +25,7 @@ at = [10000, 10000]
 time = "2026-07-04 12:15"
 [searcher]
 start = "r0c0"
-speed = 4
+speed = 40
 sweep_width = 200
 """
 CURRENT = "[[current]]\nknots = {}\ntowards = {}\n"

@@ -17,8 +17,8 @@ from pages import Refusing, Room, tree  # noqa: E402
 from desk import brief, draft, flights, flying, forms, patterns, show, situation, tracks, trial  # noqa: E402
 
 HALF, QUARTER = Fraction(1, 2), Fraction(1, 4)
-# Squares of a nautical mile and periods of an hour: with one knot and a sweep width of a square's side a look's coverage is 1. A current
-# of one knot carries one square a period. What is missed of a square is 1/e.
+# Squares of a nautical mile and periods of an hour: with two knots, half an hour and a sweep width of a square's side a look's coverage
+# is 1. A current of one knot carries one square a period. What is missed of a square is 1/e.
 LINE = b"""
 [search]
 begins = "12:00"
@@ -38,9 +38,9 @@ towards = 90
 [searcher]
 start = "r0c0"
 reaches = 4
-speed = 1
+speed = 2
 sweep_width = 1852
-search_minutes = 60
+search_minutes = 30
 [tracks]
 count = 1000
 """
@@ -427,7 +427,7 @@ class Told(Room):
         self.assertIn(f" {found['finds'] * 100:.2f} ± {found['error'] * 100:.2f} %", out)
 
     def test_a_plan_of_another_scenario_is_flown_and_that_is_said(self):
-        slower = plan_of(changed(LINE, (b"speed = 1", b"speed = 0.5")))
+        slower = plan_of(changed(LINE, (b"search_minutes = 30", b"search_minutes = 15")))
         out = self.told(self.situation(), self.write("slow.plan", slower)).replace("\n  ", " ")
         self.assertIn("note: slow.plan: the plan is of another scenario", out)
         self.assertIn("points above what is said, so the scenario is no good image of these drifts", out)
