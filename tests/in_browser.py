@@ -189,6 +189,8 @@ def visited(seen_by, page, folder):
     seen |= {"title": seen_by.title, "first": visit.state(), "stops": stops(visit), "printed": visit.printed()}
     seen["text"] = visit.run("return document.body.innerText")
     seen["made"] = visit.run("return [...document.querySelectorAll('script, img, iframe, object, link, a')].map((it) => it.tagName)")
+    wide = "return [...document.querySelectorAll('.frame:not([hidden]) .cells %s')].map((it) => it.getBoundingClientRect().width)"
+    seen["wide"] = {"parts": visit.run(wide % ".part"), "squares": visit.run(wide % "rect:not(.part)")}
     seen["owned"] = visit.run("return window.owned === undefined ? null : String(window.owned)")
     if seen["first"]["slider"] is not None:
         seen |= {"fraction": fraction(visit), "slid": slid(visit), "keys": by_keyboard(visit), "played": played(visit)}
