@@ -18,8 +18,9 @@ class Water:
         self.width, self.height = float(grid.columns * grid.side), float(grid.rows * grid.side)
         # By square, and by squares of a ring around the area: whether it isn't land.
         self.ring = [(row, column) not in grid.land for row in range(-1, grid.rows + 1) for column in range(-1, grid.columns + 1)]
-        # By square: how many metres one may go from anywhere in it along both axes, and come to no land.
-        self.clear = [self.reach(grid, (row, column)) for row in range(grid.rows) for column in range(grid.columns)]
+        # By square: how many metres one may go from anywhere in it along both axes, and come to no land. Nobody is on land.
+        squares = ((row, column) for row in range(grid.rows) for column in range(grid.columns))
+        self.clear = [self.reach(grid, it) if it not in grid.land else 0.0 for it in squares]
 
     def reach(self, grid, square):
         """How many metres are surely between a place in a square and land, along one of the axes."""
