@@ -57,13 +57,18 @@ class Water:
         if -far < east < far and -far < south < far:
             return self.held(x + east, y + south)
         count = int(max(abs(east), abs(south)) / self.side) + 1
-        east, south, is_aground = east / count, south / count, False
-        while count and place and not is_aground:
-            x, y = place
+        east, south = east / count, south / count
+        for left in reversed(range(count)):
             to = x + east, y + south
             place, is_aground = (self.held(*to), False) if self.is_open(x, y, *to) else self.along_land(x, y, east, south)
-            count -= 1
-        return place
+            if place is None or is_aground:
+                return place
+            if not self.is_inside(*to):
+                # Along the edge goes what is left of the way.
+                limits = zip((east, south), to, (self.width, self.height))
+                return self.gone(place, *(left * by if 0 <= at < limit else 0.0 for by, at, limit in limits))
+            x, y = place
+        return x, y
 
     def is_open(self, x, y, east, south):
         """Whether no square between two places, that are less than a square apart along each axis, is land."""

@@ -351,6 +351,10 @@ class Land(unittest.TestCase):
         self.assertEqual(water.gone((50.0, 50.0), 200.0, -300.0), (250.0, 0.0))
         x, y = water.gone((50.0, 50.0), 500.0, -300.0)
         self.assertTrue(y == 0 and 400 - 100 / 16 <= x < 400, (x, y))
+        # So it does where the way across the edge is long, and the way along it short; that takes no longer.
+        x, y = water.gone((150.0, 150.0), 30.0, 1e9)
+        self.assertAlmostEqual(x, 180, 3)
+        self.assertEqual(y, 199.999)
 
 
 class Whole(unittest.TestCase):
