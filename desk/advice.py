@@ -102,7 +102,8 @@ def about_cells(sc, mass):
     own = squares(sc)
     never = [name for name, cells in zip(own.names, own.cells) if cells and name != LOST and not any(here[it] for here in mass for it in cells)]
     if never:
-        yield f"the target is never in {quoting.listed([quoting.name(it) for it in never])}: no drift leads there in time"
+        rounded = ", or what does was rounded away" if own.is_finer else ""
+        yield f"the target is never in {quoting.listed([quoting.name(it) for it in never])}: no drift leads there in time{rounded}"
 
 
 def edge(sc):

@@ -548,7 +548,7 @@ class Warnings(unittest.TestCase):
         self.has(FINER.replace(b"look r0c1 r0c1-01 1 r0c1-03 1", b"look r0c1 r0c1-01 1"), "no look from any position covers part of r0c1, where", FINER)
         # A square is told that the target never comes to; one part alone isn't, nor is what nobody is lost to.
         part = FINER.replace(b"drift r0c0-04 r0c1-03 2", b"drift r0c0-04 r0c0-04 2").replace(b"driftin 2 r0c1-01 r0c1-03 2\n", b"")
-        self.has(part.replace(b"drift r0c0-02 r0c1-01 2", b"drift r0c0-02 r0c0-02 2"), "the target is never in r0c1: no drift leads there in time", part)
+        self.has(part.replace(b"drift r0c0-02 r0c1-01 2", b"drift r0c0-02 r0c0-02 2"), "the target is never in r0c1: no drift leads there in time, or what does was rounded away", part)
 
     def test_the_edge_of_squares_and_what_is_lost(self):
         """By hand: 4 of 8 are in r0c0 in period 3, which is at the west edge of three columns, and 2 are lost."""
