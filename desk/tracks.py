@@ -166,24 +166,21 @@ def simulated(given, count=None, seed=None):
 
 
 class Drifts:
-    """The moves of persons by their begin; those of persons who have nothing of their own are made once."""
+    """The moves of persons by the times at which they begin."""
 
     def __init__(self, given):
-        self.drift, self.steps, self.plain = given.drift, timeline(given), {}
+        self.drift, (self.before, *self.later) = given.drift, timeline(given)
+        self.ends = [it.ends for it in self.before]
+        self.plain_before, *self.plain_later = (plain_moves(it) for it in (self.before, *self.later))
 
     def moves(self, begins, draw):
         """T lists, of the moves until the look of each period, of somebody who drifts from a time on."""
+        at = bisect.bisect_right(self.ends, begins)
+        first = [it.behind(begins) for it in self.before[at : at + 1]]
         if self.drift.is_own:
             person = Person(self.drift, begins, draw)
-            return [person.moves(it) for it in self.begun(begins)]
-        if begins not in self.plain:
-            self.plain[begins] = [plain_moves(it) for it in self.begun(begins)]
-        return self.plain[begins]
-
-    def begun(self, begins):
-        """The steps from a time on."""
-        before, *others = self.steps
-        return [[it if it.ends - it.minutes >= begins else it.behind(begins) for it in before if it.ends > begins], *others]
+            return [person.moves(it) for it in (first + self.before[at + 1 :], *self.later)]
+        return [plain_moves(first) + self.plain_before[at + 1 :], *self.plain_later]
 
 
 def track(looks, place, drifts, water, draw):
