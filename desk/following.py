@@ -4,10 +4,9 @@ The plan is asked of the program's `check` first. The scenario goes to standard 
 mean, to standard error.
 """
 import math
-import re
 import shlex
 
-from desk import accepted, clock, derived, forms, layout, masses, onward, quoting, rounding, running, writing
+from desk import accepted, clock, derived, forms, layout, masses, onward, quoting, rounding, running, telling, writing
 from desk.accepted import Refused
 from desk.squares import squares
 
@@ -16,8 +15,8 @@ USAGE = "usage: osp next SCENARIO PLAN [--flown K] [--horizon N]"
 MOST_SCENARIO = 1_048_576
 # Exit statuses of docs/FORMATS.md.
 WRONG_WORDS, TOO_LONG, FAILED = 2, 9, 70
-# The comment of a scenario that `draft` made, before the lines of its situation.
-DRAFTED = re.compile(rb"(?m)^# The situation, from which osp draft made it:$")
+# The line of a scenario that `draft` made, before those of its situation.
+DRAFTED = b"\n# " + telling.SITUATION.encode("ascii") + b"\n"
 # From what share of the mass that is left on the rounding is called coarse.
 COARSE = (1, 1000)
 
@@ -131,7 +130,7 @@ def followed(scenario, plan, flown, horizon, name):
     except onward.NoWay as no:
         raise Refused(no.status, str(no)) from None
     exact = [exactly(sc, path, flown, name)] if flown + horizon == sc.horizon else []
-    lines = told(sc, path, flown, why, it, bool(DRAFTED.search(scenario)))
+    lines = told(sc, path, flown, why, it, DRAFTED in scenario)
     return text_of(sc, scenario, flown, it), [*filter(None, [note]), *(f"osp next: {line}" for line in (*lines, *exact))]
 
 

@@ -11,6 +11,8 @@ from desk.shares import BASE
 COARSE = 0.02
 APART = 0.1
 ADVICE = "fewer and longer periods leave more room for denominators, and so do smaller ones in [parts] for what you know less well"
+# The comment before the lines of the situation.
+SITUATION = "The situation, from which osp draft made it:"
 
 
 def percent(share):
@@ -20,8 +22,7 @@ def percent(share):
 
 
 def places(shares, states):
-    """Where each state and position lies, by name: metres east and south of the north-west corner. What is lost is drawn apart, beyond
-    the south-east corner."""
+    """Where each state and position lies, by name: metres east and south of the north-west corner. What is lost is drawn apart."""
     found = {name: states.middle(name) for name in states.names}
     for it in shares.positions:
         found[name_of(it)] = shares.given.searcher.base if it == BASE else shares.grid.middle(it)
@@ -31,7 +32,7 @@ def places(shares, states):
 def comments(text, shares, drift, told):
     """The comments of a scenario: what it stands for, the situation line by line, what is `told` first of all (facts), and its places."""
     yield shares.given.title or "A scenario by osp draft."
-    yield "The situation, from which osp draft made it:"
+    yield SITUATION
     for line in text.splitlines():
         yield b"| " + line
     yield from told

@@ -273,8 +273,8 @@ class Commands(Asked):
         self.assertNotIn(b"# at r1c1 ", out)
 
     def test_behind_the_horizon_of_a_draft_there_are_no_tracks(self):
-        head = b"# The situation, from which osp draft made it:\n"
-        self.assertIn(b"\n" + head, read(f"{EXAMPLES}/situations/kayaker.scenario"))
+        head = b"\n# The situation, from which osp draft made it:\n"
+        self.assertIn(head, read(f"{EXAMPLES}/situations/kayaker.scenario"))
         for words, more, is_told in (((), head, True), ((), b"", False), (("--flown", "1"), head, False), (("--flown", "1", "--horizon", "3"), head, True)):
             said = self.finer(*words, more=more)[2]
             self.assertEqual("counted from tracks that end at period 3" in said, is_told, (words, more))
