@@ -1,4 +1,5 @@
-"""What is flown over simulated drifts: the paths of plans, paths that words name, and patterns, each with what a scenario's own sums say of it."""
+"""What is flown over simulated drifts: the paths of plans, paths that words name, and patterns, each with what a scenario's own sums say
+of it."""
 import dataclasses
 import math
 import os
@@ -6,10 +7,10 @@ from fractions import Fraction
 
 from desk import accepted, draft, forms, geometry, masses, paths, patterns, seats
 from desk.accepted import Refused
-from desk.shares import BASE
+from desk.ways import BASE
 
 # Exit statuses of docs/FORMATS.md.
-WRONG, WRONG_WORDS, BAD_SCENARIO, BAD_PLAN = 1, 2, 3, 4
+WRONG, BAD_SCENARIO, BAD_PLAN = 1, 3, 4
 # What a name of a position should be.
 POSITIONS = "the positions are its squares without land, as r5c2, and base where the searcher comes from one"
 
@@ -147,8 +148,8 @@ def head(whose, sc, text):
 def in_seats(at, whose, sc, who, plan, legs):
     """The flight of a plan of a scenario whose seats are these."""
     if who.is_numbered:
-        why = "the places of its two searchers have numbers, since it wasn't made of the scenario that was taken here; --of SCENARIO names another one"
-        raise Refused(WRONG, f"{whose} isn't one of this situation: {why}")
+        why = "the places of its two searchers have numbers, since it wasn't made of the scenario that was taken here"
+        raise Refused(WRONG, f"{whose} isn't one of this situation: {why}; --of SCENARIO names another one")
     places = tuple(who.names[it] for it in plan.path)
     for searcher in range(who.count):
         at.check([it[searcher] for it in places], whose)

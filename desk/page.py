@@ -129,7 +129,8 @@ def drifts_box(search):
     if not search.trial:
         return ""
     count = len(search.trial.drifts[0])
-    return f'<label><input type="checkbox" id="drifts" autocomplete="off"> {tables.plural(count, "simulated drift")} at the time of the look</label>'
+    told = f"{tables.plural(count, 'simulated drift')} at the time of the look"
+    return f'<label><input type="checkbox" id="drifts" autocomplete="off"> {told}</label>'
 
 
 def controls(search):

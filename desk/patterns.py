@@ -101,7 +101,7 @@ def on_circle(sixths, radius):
 
 
 def sector(setting):
-    """VS: nine legs of a radius, which go through the datum three times, in squares. The radius is one that the periods allow, at least 1."""
+    """VS: nine legs of a radius, which go through the datum three times. The radius is as many squares as the periods allow, at least 1."""
     radius = max((setting.count - 1) // SECTOR_LEGS, 1)
     corners = [(0, 0) if it is None else on_circle(it, radius) for it in SECTOR]
     found = [setting.datum]

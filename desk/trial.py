@@ -1,28 +1,32 @@
-"""./osp trial SITUATION.toml [PLAN ..] [--path NAME,NAME,..] [--pattern NAME] ..: flies paths over simulated drifts, and says what they find.
+"""./osp trial SITUATION.toml [PLAN ..] [--path NAME,NAME,..] [--pattern NAME] ..: flies paths over simulated drifts, and says what they
+find.
 
 What is found is held against what the plan says, and paths against each other. docs/PLANNING.md says how to read it.
 """
 import dataclasses
 import hashlib
 import json
+import textwrap
 
-from desk import accepted, clock, flights, flying, keys, patterns, running, states, tracks
+from desk import accepted, clock, flights, flying, keys, patterns, running, tracks
 from desk.accepted import Refused
 from desk.brief import rows_of
-from desk.situation import LONGEST, BadSituation, situation
+from desk.situation import BadSituation, situation
 
 USAGE = (
     "usage: osp trial SITUATION.toml [PLAN ..] [--path NAME,NAME,..] [--pattern NAME] [--of SCENARIO] [--count N] [--seed N] [--json yes]"
     f"\nNAME of a pattern is {', '.join(patterns.PATTERNS)}, or all"
 )
-# The exit statuses (docs/FORMATS.md).
-WRONG, WRONG_WORDS, TOO_LONG = 1, 2, 9
+# Exit statuses of docs/FORMATS.md.
+WRONG, WRONG_WORDS = 1, 2
 # From which difference on, in parts of 1 and in standard errors, a scenario is called no good image.
 MOST_OFF, MOST_ERRORS = 0.02, 3
 # How many tracks the JSON has at most, for a page to draw.
 MOST_DRAWN = 500
 # How wide a name of a flight is in a table, and how wide the text is, in columns.
 NAME_WIDTH, WIDTH = 24, 80
+# The least part of a difference that is told, as a share of 1.
+LEAST_SHOWN = 0.00005
 
 
 @dataclasses.dataclass
@@ -89,7 +93,8 @@ class Flown:
 
 @dataclasses.dataclass
 class Trial:
-    """A trial: the name and the bytes of the situation's file, the situation, its fresh tracks, what was flown, and the datum of the patterns or None."""
+    """A trial: the name and the bytes of the situation's file, the situation, its fresh tracks, what was flown, and the datum of the
+    patterns or None."""
 
     name: str
     text: bytes
@@ -111,11 +116,11 @@ def causes(at, own, flight, fresh):
     chain, halved = (own.found(flight.looks, it).total.mean for it in (finer, flying.HALVED[finer]))
     same = own.found(flight.looks).total.mean
     steps = (
-        ("the plan is of another scenario", float(flight.chance), scenario),
-        ("whole numbers: the scenario's rounding", scenario, chain),
-        ("states: with half their side they would say so much less", chain, halved),
-        ("what a chain forgets of a drift", halved, same),
-        ("the draft's own drifts, of which the plan was made", same, fresh.total.mean),
+        ("since the plan is of another scenario", float(flight.chance), scenario),
+        ("by the rounding of the scenario", scenario, chain),
+        ("by the size of its states: so much less with half their side", chain, halved),
+        ("by what a chain forgets of a drift", halved, same),
+        ("since the plan was made for the draft's own drifts", same, fresh.total.mean),
     )
     return [(why, before - after) for why, before, after in steps]
 
@@ -125,7 +130,8 @@ def tried(asked):
     text = accepted.read_file(asked.situation)
     given = situation(text)
     at = flights.field(given, text, asked.of)
-    listed = [flights.of_plan(at, it, accepted.read_file(it)) for it in asked.plans] + [flights.of_path(at, f"path {it}", word) for it, word in enumerate(asked.paths, 1)]
+    listed = [flights.of_plan(at, it, accepted.read_file(it)) for it in asked.plans]
+    listed += [flights.of_path(at, f"path {it}", word) for it, word in enumerate(asked.paths, 1)]
     seed = given.tracks.seed + 1 if asked.seed is None else asked.seed
     made = tracks.simulated(given, asked.count or given.tracks.count, seed)
     where = flights.datum(at, made) if asked.patterns else None
@@ -183,14 +189,9 @@ def periods(trial, it):
     return [f"{flight.name}, period by period:", *rows_of(lines, [False, True, True, False, False, False, False])]
 
 
-def wrapped(words):
-    """Words in lines of the width of the text."""
-    lines = [""]
-    for it in words:
-        if len(lines[-1]) + len(it) + 1 > WIDTH:
-            lines.append(" ")
-        lines[-1] += f" {it}" if lines[-1] else it
-    return lines
+def wrapped(text):
+    """A text in lines of the width."""
+    return textwrap.wrap(text, WIDTH, subsequent_indent="  ", break_long_words=False, break_on_hyphens=False)
 
 
 def about_patterns(trial):
@@ -200,33 +201,35 @@ def about_patterns(trial):
         return []
     row, column = trial.datum.setting.datum
     told = (
-        f"The datum is r{row}c{column}: there is the mean place of the drifts at look {trial.datum.look}, the first at which the searcher can be there. "
-        "It goes from its start to a pattern's first square by the shortest way, and so around land and over squares that it can't look from, "
-        "and looks from each square on the way. A pattern that ends is begun again."
+        f"The datum is r{row}c{column}: there is the mean place of the drifts at look {trial.datum.look}, the first at which the searcher "
+        "can be there. It goes from its start to a pattern's first square by the quickest way, and so around land, and looks from each "
+        "square on the way. A pattern that ends is begun again."
     )
-    paths = (wrapped([f"{it.name} ({patterns.PATTERNS[it.name].code}):", *it.path]) for it in drawn)
-    return ["", *wrapped(told.split(" ")), *(line for it in paths for line in it)]
+    paths = (wrapped(" ".join([f"{it.name} ({patterns.PATTERNS[it.name].code}):", *it.path])) for it in drawn)
+    return ["", *wrapped(told), *(line for it in paths for line in it)]
 
 
 def about_off(it):
     """What is said of a flight whose finds aren't what its plan says."""
-    told = f"{it.flight.name}: what it finds is {points(abs(it.off))} points {'below' if it.off > 0 else 'above'} what is said, so the scenario is no good image of these drifts."
+    where = "below" if it.off > 0 else "above"
+    told = f"{it.flight.name}: what it finds is {points(abs(it.off))} points {where} what is said, so the scenario is no good image of"
+    told += " these drifts."
     if it.causes is None:
-        return ["", *wrapped(f"{told} The scenario isn't the one that draft makes of this situation now.".split(" "))]
-    rows = [[f"  {why}", points(part)] for why, part in it.causes if abs(part) >= 0.00005]
-    return ["", *wrapped(f"{told} In points, of what is said:".split(" ")), *rows_of(rows, [True, False])]
+        return ["", *wrapped(f"{told} The scenario isn't the one that draft makes of this situation now.")]
+    rows = [[f"  {why}", points(part)] for why, part in it.causes if abs(part) >= LEAST_SHOWN]
+    return ["", *wrapped(f"{told} What is said is more than what is found, in points:"), *rows_of(rows, [True, False])]
 
 
 def text_of(trial):
     """The whole text."""
     own = trial.given.tracks.seed
     other = "which are the draft's own" if trial.tracks.seed == own else f"and not {own}, from which draft makes its own"
-    head = f"{trial.name}: {trial.tracks.count:,} simulated drifts from seed {trial.tracks.seed}, {other}. Behind ± stands the standard error."
-    lines = [*wrapped(head.split(" ")), "", *summary(trial)]
+    head = f"{trial.name}: {trial.tracks.count:,} simulated drifts from seed {trial.tracks.seed}, {other}."
+    lines = [*wrapped(f"{head} Behind ± stands the standard error."), "", *summary(trial)]
     paths = [it for it in trial.flown if it.flight.name not in patterns.PATTERNS]
     for it in paths:
         lines += ["", *periods(trial, it)]
-        lines += [line for note in it.flight.notes for line in wrapped(f"note: {it.flight.name}: {note}".split(" "))]
+        lines += [line for note in it.flight.notes for line in wrapped(f"note: {it.flight.name}: {note}")]
     lines += [line for it in paths if it.is_off for line in about_off(it)]
     lines += about_patterns(trial)
     return "\n".join(lines) + "\n"

@@ -18,8 +18,8 @@ class NoTrial(Exception):
 
 @dataclasses.dataclass
 class Tried:
-    """What a plan finds of `count` simulated drifts, with its standard error, as shares of 1; `says` is what the plan says, and `drifts` has by
-    look the places of some of them, in metres east and south, or None."""
+    """What a plan finds of `count` simulated drifts, with its standard error, as shares of 1; `says` is what the plan says, and `is_off`
+    whether these differ by too much. `drifts` has by look the places of some of them, in metres east and south, or None."""
 
     count: int
     finds: float
@@ -31,7 +31,8 @@ class Tried:
     def sentences(self):
         """What is said of it: both numbers, and whether they fit."""
         digits = 1 if self.error >= 0.0005 else 2
-        told = [f"{self.says * 100:.{digits}f} % by the plan's own sums; {self.finds * 100:.{digits}f} ± {self.error * 100:.{digits}f} % of {self.count:,} simulated drifts."]
+        says, finds, error = (f"{it * 100:.{digits}f}" for it in (self.says, self.finds, self.error))
+        told = [f"{says} % by the plan's own sums; {finds} ± {error} % of {self.count:,} simulated drifts."]
         return told + ["So the scenario is no good image of these drifts: osp trial says why."] * self.is_off
 
 
@@ -69,8 +70,9 @@ def parsed(text):
 def found(text, search):
     """What a trial's text says of an accepted plan; None where it has another path, or another chance. Raises NoTrial."""
     told, drifts = parsed(text)
-    path = [search.seats.where(it.position) for it in search.frames[1:]]
-    wanted = {"path": path, "chance": str(search.report.value), "weight": str(search.report.weight)}
+    wanted = {"chance": str(search.report.value), "weight": str(search.report.weight)}
+    if not search.seats.is_numbered:
+        wanted["path"] = [search.seats.where(it.position) for it in search.frames[1:]]
     try:
         for it in told["flown"]:
             if {key: it[key] for key in wanted} == wanted:

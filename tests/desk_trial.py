@@ -1,5 +1,6 @@
 """Tests of `osp trial`: what looks find of tracks that are drawn by hand, patterns by maps drawn by hand, what is refused, and what `show`
 and `brief` say of a trial. `python3 -m unittest tests.desk_trial`, or tests/desk."""
+import dataclasses
 import json
 import math
 import os
@@ -96,7 +97,8 @@ class Finds(unittest.TestCase):
         dice = random.Random(5)
         squares = [None, *((0, column) for column in range(3))]
         for _ in range(20):
-            many = drifts(given((b"periods = 2", b"periods = 4")), [dice.choices(squares, k=30) for _ in range(4)], [(Fraction(dice.randrange(5), 4), None) for _ in range(4)])
+            places, misses = [dice.choices(squares, k=30) for _ in range(4)], [(Fraction(dice.randrange(5), 4), None) for _ in range(4)]
+            many = drifts(given((b"periods = 2", b"periods = 4")), places, misses)
             looks = [[dice.choice(squares[1:])] for _ in range(4)]
             it = many.found(looks)
             by_hand = []
@@ -143,7 +145,7 @@ class Chains(unittest.TestCase):
     """What a chain makes of drifts, which forgets where in its state a drift was, and where it came from."""
 
     def test_behind_each_look_a_state_is_mixed(self):
-        """Two at A and two at B; then one of each is at C. The look at A misses half: at A all are 1/2, at B all 1. At C they are mixed only behind its look."""
+        """Two at A and two at B; then one of each is at C. The look at A misses half: at A all are 1/2, at B all 1. They are mixed later."""
         A, B, C = Finds.A, Finds.B, Finds.C
         four = drifts(given((b"periods = 2", b"periods = 3")), [[A, A, B, B], [C, B, C, B], [A, B, A, B]], [(HALF, None)] * 3)
         looks = [[A], [B], [A]]
@@ -177,6 +179,80 @@ class Chains(unittest.TestCase):
                 rows = [[sum(a == one and b == other for a, b in zip(places[t], places[t + 1])) for other in squares] for one in squares]
                 belief = [sum(belief[at] * Fraction(row[to], max(sum(row), 1)) for at, row in enumerate(rows)) for to in range(3)]
         self.assertAlmostEqual(many.found([[squares[look]] for look in (1, 0, 2)], 1).total.mean, float(total), 14)
+
+
+# Four drifts, two from r0c0 and two from r0c1, are all in r0c1 at the second look, and then two of them are in r0c2. The scenario's cells
+# are those that they reach, and its looks miss a third.
+THREE = b"""scenario 2
+horizon 3
+parts 2 2 3
+cell r0c0
+cell r0c1
+cell r0c2
+cell lost
+position r0c0
+position r0c1
+position r0c2
+start r0c1
+first r0c0 1 r0c1 1
+moves r0c0 r0c0 r0c1
+moves r0c1 r0c0 r0c1 r0c2
+moves r0c2 r0c1 r0c2
+drift r0c0 r0c1 2
+drift r0c1 r0c1 1 r0c2 1
+drift r0c2 r0c2 2
+drift lost lost 2
+driftin 1 r0c1 r0c1 2
+look r0c0 r0c0 1
+look r0c1 r0c1 1
+look r0c2 r0c2 1
+end
+"""
+
+
+class Causes(unittest.TestCase):
+    """A path looks at r0c0, r0c2 and r0c1. With m for a miss, those that were seen first find themselves at r0c1 or at r0c2 at the end."""
+
+    def setUp(self):
+        self.at = flights.Field(given((b"periods = 2", b"periods = 3")), THREE)
+        self.flight = flights.of_path(self.at, "path 1", "r0c0,r0c2,r0c1")
+
+    def drifts(self, second, third):
+        """The drifts with these places at the second look, and these squares at the third."""
+        looks = [(10.0, 10.0)] * 2 + [(1900.0, 10.0)] * 2, second, [(1852 * it + 10.0, 10.0) for it in third]
+        return flying.Drifts(self.at.given, tracks.Tracks(4, 1, looks))
+
+    def parts(self, own, fresh):
+        found = trial.causes(self.at, own, self.flight, fresh.found(self.flight.looks))
+        return [part for _, part in found]
+
+    def test_states_that_are_too_large(self):
+        """Those from r0c0 are in the west of r0c1, and stay there; the others are in its east, and go on. In truth (m^2 + 1) / 2 are
+        missed, by a chain of squares (m + 1)^2 / 4, by one of half squares as in truth; the scenario has m = 1/3, and says 5/9."""
+        west, east = (1900.0, 10.0), (3600.0, 10.0)
+        own = self.drifts([west, west, east, east], [1, 1, 2, 2])
+        chain, truth = 1 - (MISS + 1) ** 2 / 4, 1 - (MISS * MISS + 1) / 2
+        for got, wanted in zip(self.parts(own, own), (0, 5 / 9 - chain, chain - truth, 0, 0)):
+            self.assertAlmostEqual(got, wanted, 14)
+
+    def test_what_a_chain_forgets_and_chance(self):
+        """All are at one place at the second look, so no states tell them apart. The fresh ones all go to r0c1: (m + m^2) / 2 are missed."""
+        here = (1900.0, 10.0)
+        own, fresh = self.drifts([here] * 4, [1, 1, 2, 2]), self.drifts([here] * 4, [1, 1, 1, 1])
+        chain, truth, other = 1 - (MISS + 1) ** 2 / 4, 1 - (MISS * MISS + 1) / 2, 1 - (MISS * MISS + MISS) / 2
+        found = self.parts(own, fresh)
+        for got, wanted in zip(found, (0, 5 / 9 - chain, 0, chain - truth, truth - other)):
+            self.assertAlmostEqual(got, wanted, 14)
+        self.assertAlmostEqual(sum(found), 5 / 9 - other, 14)
+
+    def test_a_plan_of_another_scenario(self):
+        own = self.drifts([(1900.0, 10.0)] * 4, [1, 1, 2, 2])
+        self.flight = dataclasses.replace(self.flight, value=2, weight=9)
+        self.assertAlmostEqual(self.parts(own, own)[0], 2 / 9 - 5 / 9, 14)
+
+    def test_a_scenario_of_other_states(self):
+        own = self.drifts([(1900.0, 10.0)] * 4, [1, 1, 0, 0])
+        self.assertIsNone(trial.causes(self.at, own, self.flight, own.found(self.flight.looks)))
 
 
 # ---- patterns
@@ -362,8 +438,6 @@ class Data(unittest.TestCase):
 
 # ---- the helper
 
-PLAN = b"plan 2\npath %s\nchance %s\nnodes 0\nend\n"
-
 
 def scenario(text=LINE):
     return draft.drafted(text)[0]
@@ -455,6 +529,21 @@ class Made(Told):
         looks = [it.split(" and ") for it in found["path"]]
         wanted = 1 - MISS ** looks[0].count("r0c1") * MISS ** looks[1].count("r0c2")
         self.assertAlmostEqual(found["finds"], wanted, 6)
+
+    def test_a_gap_plan(self):
+        head, path, chance, rest = plan_of().split(b"\n", 3)
+        gap = b"\n".join([b"gap 1", path, chance, b"ceiling 1", rest])
+        (found,) = self.json(self.situation(), self.write("line.gap", gap))["flown"]
+        self.assertEqual((head, found["name"], found["finds"]), (b"plan 2", "line.gap", round(1 - MISS * MISS, 6)))
+
+    def test_a_brief_of_two_searchers_with_names_and_with_numbers(self):
+        text = changed(LINE, (b"[tracks]", b"[parts]\nlook = 100\ndrift = 10\n[tracks]"))
+        files = [self.write("both.made", paired(scenario(text), "r0c2")), "--of", self.write("one.scenario", scenario(text))]
+        told = self.write("both.json", self.told(self.situation(text), files[0], "--json", "yes").encode())
+        for words in (files, files[:1]):
+            status, out, err = self.run_helper(brief.main, [*words, "--trial", told])
+            self.assertEqual((status, err), (0, ""))
+            self.assertIn("of 1,000 simulated", out.replace("\n", " "))
 
     def test_a_scenario_and_its_plan_in_one_file(self):
         (found,) = self.json(self.situation(), self.write("whole", with_plan(scenario())))["flown"]
@@ -575,7 +664,8 @@ class Refusals(Refusing):
                 self.all_refuse([file, self.write("the.plan", text)], status, part)
         self.all_refuse([file, self.room + "/none"], 5, "cannot read")
         self.all_refuse([self.room + "/none", "--pattern", "all"], 5, "cannot read")
-        self.all_refuse([self.write("bad.toml", changed(LINE, (b"minutes = 60\nperiods", b"minutes = 0\nperiods"))), "--pattern", "all"], 1, "[search] minutes: ")
+        bad = self.write("bad.toml", changed(LINE, (b"minutes = 60\nperiods", b"minutes = 0\nperiods")))
+        self.all_refuse([bad, "--pattern", "all"], 1, "[search] minutes: ")
         self.all_refuse([file, "--path", "r0c1"], 1, "--path r0c1 isn't one of this situation: its path has 1 periods")
         self.all_refuse([file, "--path", "r0c1,\x1b[2J"], 1, "it names \\x1b[2J")
         other = self.write("other.scenario", scenario(changed(LINE, (b"columns = 3", b"columns = 2"))))
