@@ -119,16 +119,6 @@ class Situation:
     parts: tuple
     tracks: TrackChoice
 
-    @property
-    def velocities(self):
-        """The velocities of the current and of the leeway by steps."""
-        leeway = self.drift.wind and moments.Steps(tuple((since, tuple(self.drift.downwind * by for by in it)) for since, it in self.drift.wind.rows))
-        return tuple(it for it in (self.drift.current, leeway) if it)
-
-    @property
-    def spread(self):
-        return self.drift.spread
-
     def look_time(self, t):
         """When the look of period t counts as made: at the end of the period."""
         return self.minutes * t
