@@ -1,5 +1,6 @@
 """Reads a situation: a TOML file that says what is known in metres, knots, degrees and times. docs/PLANNING.md has its keys."""
 import dataclasses
+import datetime
 import functools
 import re
 import tomllib
@@ -192,7 +193,7 @@ def situation(given):
         reports=told,
         drift=drift(tables, clock, min(it.minutes for it in told)),
         searcher=searcher(tables["searcher"], clock, grid, minutes),
-        visibility=visibility(tables, clock),
+        visibility=visibility(tables, clock, minutes * periods),
         parts=tuple(take_table(tables.get("parts", {}), "[parts]", keys.PARTS).values()),
         tracks=track_choice(tables.get("tracks", {})),
     )
@@ -206,6 +207,15 @@ def minutes_of(key, how, it, *rest):
         return how(it, *rest)
     except ValueError:
         raise BadSituation(f'{key}: it has a date, so [search] begins should have one, as in begins = "2026-07-04 19:30"') from None
+
+
+def past(where, key, clock, it):
+    """The minutes of a moment that is up to the begin where it has no date. Raises BadSituation where it might be later as well."""
+    date = (clock.begins.date or datetime.date(2026, 7, 5)) - datetime.timedelta(days=1)
+    written = f'{key} = "{date} {moments.Clock(it).told(0)}"' + ("" if clock.begins.date else ", in begins too")
+    told = f"it is later than the search's begin at {clock.told(0)}; where it was on the day before, write the date, as in {written}"
+    need(not clock.is_ahead(it), f"{where} {key}", f"{told}; else let the search begin later")
+    return minutes_of(f"{where} {key}", clock.past, it)
 
 
 def how_many(search, clock):
@@ -261,7 +271,7 @@ def report(table, where, clock, grid, minutes):
 
 def report_times(it, where, clock, minutes):
     """When a report's time begins, and when it ends or None where it is one moment."""
-    found = {key: minutes_of(f"{where} {key}", clock.before, it[key], minutes) for key in ("time", "until") if it[key]}
+    found = {key: past(where, key, clock, it[key]) for key in ("time", "until") if it[key]}
     for key, time in found.items():
         told = f"it should be at most two days before the search begins, and not after its first look at {clock.told(minutes)}"
         need(-2 * moments.DAY <= time <= minutes, f"{where} {key}", told)
@@ -358,7 +368,7 @@ def ahead(it, clock):
     if it["leaves"] is None:
         return Fraction(0)
     need(it["base"], "[searcher] leaves", "it should stand where base does, and only there")
-    time = minutes_of("[searcher] leaves", clock.nearest, it["leaves"])
+    time = past("[searcher]", "leaves", clock, it["leaves"])
     told = f"it should be at most a day before the search begins at {clock.told(0)}, and not after that"
     need(-moments.DAY <= time <= 0, "[searcher] leaves", told)
     return -time
@@ -381,20 +391,34 @@ def check_places(it, grid):
         need(is_outside, "[searcher] base", told)
 
 
-def visibility(tables, clock):
-    """The factors of the sweep width by steps: of what is seen, and of day and night."""
+def visibility(tables, clock, ends):
+    """The factors of the sweep width by steps until the search ends: of what is seen, and of day and night."""
     seen = steps(tables, "visibility", keys.VISIBILITY, clock, lambda row: row["factor"])
-    light = daylight(tables["light"], clock) if "light" in tables else None
+    light = daylight(tables["light"], clock, ends) if "light" in tables else None
     return known((("visibility", seen), ("light", light)), clock, Fraction(0))
 
 
-def daylight(table, clock):
-    """The factor of the sweep width by day, 1, and by night, between sunset and sunrise."""
+def daylight(table, clock, ends):
+    """The factor of the sweep width by day, 1, and by night, between sunset and sunrise of each day until the search ends."""
     it = take_table(table, "[light]", keys.LIGHT)
     need(it["sunset"] or it["sunrise"], "[light] sunset", 'it or sunrise should stand, as in sunset = "20:45"')
-    factors = {"sunrise": (it["night"], Fraction(1)), "sunset": (Fraction(1), it["night"])}
-    turns = sorted((minutes_of(f"[light] {key}", clock.nearest, it[key]), *factors[key]) for key in factors if it[key])
-    return moments.Steps(((None, turns[0][1]), *((since, later) for since, _, later in turns)))
+    before = {"sunset": Fraction(1), "sunrise": it["night"]}
+    after = {"sunset": it["night"], "sunrise": Fraction(1)}
+    first = {key: minutes_of(f"[light] {key}", clock.nearest, it[key]) for key in before if it[key]}
+    if len(first) == 1:
+        ((key, since),) = first.items()
+        check_half_day(key, since, clock, ends)
+        return moments.Steps(((None, before[key]), (since, after[key])))
+    differ = (first["sunset"] - first["sunrise"]) % moments.DAY
+    need(differ, "[light] sunset", 'it should be another time than sunrise, as in sunset = "20:45" with sunrise = "05:10"')
+    return moments.Steps(tuple(sorted((each, after[key]) for key, since in first.items() for each in moments.daily(since, ends))))
+
+
+def check_half_day(key, since, clock, ends):
+    """Raises BadSituation where the search goes on for more than half a day after a sunset or a sunrise without the other."""
+    other = {"sunset": "sunrise", "sunrise": "sunset"}[key]
+    told = f"the search ends at {clock.told(ends)}, more than 12 hours after {key}, so both should stand, as in {other} = {next(it.example for it in keys.LIGHT if it.name == other)}"
+    need(ends <= since + moments.DAY // 2, f"[light] {other} is lacking", told)
 
 
 def track_choice(table):

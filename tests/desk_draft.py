@@ -143,7 +143,7 @@ SITUATIONS = sorted(glob.glob(os.path.join(TOP, "examples", "situations", "*.tom
 # In 7.5 minutes the boat makes 1852 m.
 LAKE = """
 [search]
-begins = "12:00"
+begins = "2026-07-04 12:00"
 minutes = 15
 periods = 3
 [area]
@@ -152,7 +152,7 @@ rows = 3
 columns = 4
 [[report]]
 cell = "r1c1"
-time = "12:15"
+time = "2026-07-04 12:15"
 [searcher]
 start = "r0c0"
 speed = 8
@@ -306,9 +306,9 @@ class Times(unittest.TestCase):
         self.assertEqual(self.minutes("01:00", "nearest", "23:00"), -120)
         self.assertEqual(self.minutes("22:00", "after", "01:00"), 180)
         self.assertEqual(self.minutes("22:00", "after", "22:00"), 1440)
-        self.assertEqual(self.minutes("00:10", "before", "23:40", 15), -30)
-        self.assertEqual(self.minutes("00:10", "before", "00:25", 15), 15)
-        self.assertEqual(self.minutes("00:10", "before", "00:26", 15), 16 - 1440)
+        self.assertEqual(self.minutes("00:10", "past", "23:40"), -30)
+        self.assertEqual(self.minutes("00:10", "past", "00:10"), 0)
+        self.assertEqual(self.minutes("00:10", "past", "00:11"), 1 - 1440)
 
     def test_times_with_a_date_and_with_seconds(self):
         self.assertEqual(self.minutes("2026-02-28 23:30", "nearest", "2026-03-01T00:15:30"), Fraction("45.5"))
@@ -319,11 +319,11 @@ class Times(unittest.TestCase):
                 moments.moment(wrong)
 
     def test_toml_has_times_of_its_own(self):
-        for begins in ("12:00:00", "2026-07-04T12:00:00"):
-            text = LAKE.replace('"12:00"', begins)
+        for begins in ("2026-07-04 12:00:00", "2026-07-04T12:00:00"):
+            text = LAKE.replace('"2026-07-04 12:00"', begins)
             self.assertEqual(made(text)[0].key(), made(LAKE)[0].key())
         with self.assertRaisesRegex(keys.BadSituation, "without a zone"):
-            made(LAKE.replace('"12:00"', "2026-07-04T12:00:00Z"))
+            made(LAKE.replace('"2026-07-04 12:00"', "2026-07-04T12:00:00Z"))
 
     def test_periods_until_a_time(self):
         for until, periods in (("12:45", 3), ("12:59", 3), ("13:00", 4)):
@@ -495,13 +495,13 @@ class Wrong(unittest.TestCase):
             (LAKE.replace('"r0c0"', '"<b>r0c0</b>\\u001b[31m"'), "[searcher] start: it should be the name of a cell"),
             (LAKE.replace("463", "9" * 980), "[area] cell_size"),
             (LAKE.replace("463", "0x" + "f" * 970), "[area] cell_size"),
-            (LAKE.replace('"12:00"', '"9999-12-31 12:00"'), "[search] begins"),
+            (LAKE.replace('"2026-07-04 12:00"', '"9999-12-31 12:00"'), "[search] begins"),
             (LAKE.replace("463", "1e-999999999"), "[area] cell_size"),
             (LAKE.replace("463", "1e999999999"), "[area] cell_size"),
             (LAKE.replace("463", "nan"), "[area] cell_size"),
             (LAKE + "\0", "TOML"),
             ("", "[search] is lacking"),
-            (LAKE.replace('"12:00"', '"12:00\\u0000"'), "[search] begins"),
+            (LAKE.replace('"2026-07-04 12:00"', '"12:00\\u0000"'), "[search] begins"),
         ):
             with self.subTest(part or given[:20]):
                 self.assertIn(part, self.line_of(given))
@@ -539,8 +539,8 @@ class Wrong(unittest.TestCase):
 
     def test_a_time_without_quotes(self):
         for time in ("12:00", "2026-07-04 12:00", "9:30  # half past nine"):
-            self.says(LAKE.replace('"12:00"', time), 'line 3 has a time without quotes; it stands in them, as in begins = "19:30"')
-        self.assertNotIn("quotes", self.says(LAKE.replace('"12:00"', "noon")))
+            self.says(LAKE.replace('"2026-07-04 12:00"', time), 'line 3 has a time without quotes; it stands in them, as in begins = "19:30"')
+        self.assertNotIn("quotes", self.says(LAKE.replace('"2026-07-04 12:00"', "noon")))
 
     def test_what_contradicts(self):
         current = '[[current]]\nbegins = "{}"\nknots = 1\ntowards = 0\n'
@@ -563,12 +563,12 @@ class Wrong(unittest.TestCase):
             ('cell = "r1c1"', 'cell = "r1c4"', "[[report]] 1 cell"),
             ('cell = "r1c1"', "at = [1852, 10]", "[[report]] 1 at"),
             ('cell = "r1c1"', 'cell = "r1c1"\nat = [10, 10]', "[[report]] 1 cell: one of it, at and track"),
-            ('"12:15"', '"2026-07-04 12:00"', "[[report]] 1 time: it has a date"),
+            ('"2026-07-04 12:00"', '"12:00"', "[[report]] 1 time: it has a date"),
             ('start = "r0c0"', "base = [10, 10]\nenters = [\"r0c0\"]", "[searcher] base: it should be outside"),
             ('start = "r0c0"', "base = [-10, 10]", "[searcher] enters"),
             ("search_minutes = 7.5", "search_minutes = 16", "[searcher] search_minutes"),
             ("[[report]]", '[[wind]]\nknots = 9\nfrom = 0\n[[report]]', "[drift] leeway is lacking"),
-            ("[[report]]", current.format("12:20") + "[[report]]", "[[current]] 1 begins: it should be at or before 12:15"),
+            ("[[report]]", current.format("12:20") + "[[report]]", "[[current]] 1 begins: it should be at or before 2026-07-04 12:15"),
             ("[[report]]", current.format("11:00") + current.format("10:00") + "[[report]]", "[[current]] 2 begins: rows should stand in the order"),
             ("[[report]]", "[light]\nnight = 0.5\n[[report]]", "[light] sunset: it or sunrise"),
             ("periods = 3", f"periods = 2\n{most}", None),
