@@ -72,8 +72,10 @@ class Water:
 
     def is_open(self, x, y, east, south):
         """Whether no square between two places, that are less than a square apart along each axis, is land."""
-        ring = self.ring
-        return ring[self.at(x, south)] and ring[self.at(east, y)] and ring[self.at(east, south)]
+        ring, side, wide = self.ring, self.side, self.columns + 2
+        west, north = math.floor(x / side) + 1, (math.floor(y / side) + 1) * wide
+        east, south = math.floor(east / side) + 1, (math.floor(south / side) + 1) * wide
+        return ring[north + east] and ring[south + west] and ring[south + east]
 
     def along_land(self, x, y, east, south):
         """Where a track ends that goes so many metres, in parts, until a part would enter land; and whether one would."""
