@@ -210,9 +210,11 @@ class Spread(Statistics):
 
     def test_it_is_drawn_anew_in_each_period_and_goes_by_the_root_of_time_before(self):
         # In periods of s^2 / 3 each: two by the third look; 20 minutes are 4/3 of a period; 44 hours are 176, in steps of several.
+        # So it is beside a report of an earlier time, whose steps the other one shares.
         old = reported('at = [10000, 10000]\ntime = "2026-07-04 11:55"')
         oldest = reported('at = [10000, 10000]\ntime = "2026-07-02 16:15"')
-        for text, look, periods in ((OPEN, 3, 2), (old, 1, 4 / 3), (oldest, 1, 176)):
+        earlier = '[[report]]\nat = [10000, 10000]\nweight = 0.000001\ntime = "2026-07-04 11:45"\n'
+        for text, look, periods in ((OPEN, 3, 2), (old, 1, 4 / 3), (old + earlier, 1, 4 / 3), (oldest, 1, 176)):
             for along in moved(text + "[drift]\nspread = 90\n", look, 5000):
                 self.assert_mean(along, 0, 90 * math.sqrt(periods / 3))
                 self.assert_variance(along, periods * 90**2 / 3)
