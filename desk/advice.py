@@ -45,7 +45,7 @@ def beyond(sc, covered):
 
 
 def names(sc, cells, among):
-    """The names of the squares of these cells in a list, which says `part of` where not all cells of the square are these that are among some."""
+    """The names of the squares of these cells in a list. It says `part of` where others of `among`, which has them all, are in the square."""
     told = []
     for name, own in zip(squares(sc).names, squares(sc).cells):
         found = cells.intersection(own)
@@ -98,7 +98,7 @@ def about_periods(sc, covered, mass):
 
 
 def about_cells(sc, mass):
-    """Squares that the target never comes to in any part. What nobody is lost to is no such one."""
+    """Squares that the target never comes to in any part, but for what is lost."""
     own = squares(sc)
     never = [name for name, cells in zip(own.names, own.cells) if cells and name != LOST and not any(here[it] for here in mass for it in cells)]
     if never:
@@ -107,8 +107,8 @@ def about_cells(sc, mass):
 
 
 def edge(sc):
-    """The cells at the edge of an area of squares with names such as r3c4, in the outermost rows, where there are three or more, and columns;
-    and what is lost over it. Nothing where some cell has another name."""
+    """The cells at the edge of an area of squares with names such as r3c4, in the outermost rows, where there are three or more, and
+    columns; and what is lost over it. Nothing where some cell has another name."""
     own = squares(sc)
     places = {at: row_and_column(name) for at, name in enumerate(own.names) if name != LOST}
     if not places or not all(places.values()):
@@ -124,8 +124,9 @@ def about_edge(sc, mass):
     here, cells = mass[-1], edge(sc)
     part, whole = sum(here[it] for it in cells), sum(here)
     if part * EDGE[1] > whole * EDGE[0]:
+        where = "at the edge of the grid or lost" if LOST in sc.names else "at the edge of the grid"
         yield (
-            f"{masses.percent(part, whole)} percent of the target is at the edge of the grid{' or lost' * (LOST in sc.names)} in the last period, if nobody looks: "
+            f"{masses.percent(part, whole)} percent of the target is {where} in the last period, if nobody looks: "
             "where the water goes on there, take in a margin"
         )
 

@@ -10,7 +10,8 @@ AT = re.compile(rb"#[ \t]*at[ \t]+([A-Za-z0-9_-]{1,24})[ \t]+(-?[0-9]{1,9}(?:\.[
 MOST_ACROSS = 200
 # How many sides of a square a position may lie outside of the squares and still be drawn.
 MOST_OUTSIDE = 2
-# The most parts of a square side by side that are looked for, and how far from its place in a part, in parts, a cell may be: places have two digits.
+# The most parts of a square side by side that are looked for, and how far from the middle of one, in parts, a cell may be: places have
+# two digits.
 MOST_PARTS = 9
 NEAR = 0.06
 
@@ -42,7 +43,7 @@ def places_told(text):
 
 
 def places_named(names):
-    """The places that names such as r3c4 give, by name: the column to the right, the row down. What is lost is drawn apart, east of them."""
+    """The places that names such as r3c4 give, by name: the column to the right, the row down. What is lost is apart, east of them."""
     found = ((it, row_and_column(it)) for it in names)
     places = {name: (float(it[1]), float(it[0])) for name, it in found if it}
     if LOST in names and places:

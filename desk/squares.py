@@ -1,4 +1,4 @@
-"""The squares of an area, where a search is told by them: the cells of a scenario may be finer, and have the names of their squares then."""
+"""The squares of an area, by which a search is told: the cells of a scenario may be parts of them, and have their names then."""
 import dataclasses
 import re
 

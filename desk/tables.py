@@ -160,8 +160,9 @@ def all_states(search, finer):
 def all_row(search, place, frames):
     """The row of a place, with its share after each of these looks, and the colour that it has on the map."""
     whole = search.report.weight
-    told = (sum(it.left[cell] for cell in place.cells) for it in frames)
-    shares = (f'<td class="number a{picture.class_of(mass * place.count, whole)}" title="{mass} of {whole}">{picture.share(mass, whole)}</td>' for mass in told)
+    masses_left = (sum(it.left[cell] for cell in place.cells) for it in frames)
+    told = ((mass, picture.class_of(mass * place.count, whole)) for mass in masses_left)
+    shares = (f'<td class="number a{colour}" title="{mass} of {whole}">{picture.share(mass, whole)}</td>' for mass, colour in told)
     return f'<tr><th scope="row"><bdi>{escape(place.name)}</bdi></th>{"".join(shares)}</tr>'
 
 
