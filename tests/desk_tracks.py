@@ -247,6 +247,19 @@ class Persons(Statistics):
             self.assert_variance(east, 55.56**2)
             self.assert_variance(south, 55.56**2 + (138.9 * math.sin(turn)) ** 2)
 
+    def test_the_leeway_turns_with_the_wind_of_a_person(self):
+        # The wind blows with 10 knots to the north, and with an error of one standard deviation, 4 knots, to the east. To the right by 30
+        # degrees go 4 cos 30 + 10 sin 30 = 8.464102 knots to the east and 10 cos 30 - 4 sin 30 = 6.660254 to the north; 3 percent of it
+        # make 13.89 m in a period of each knot. To the left go 4 cos 30 - 10 sin 30 = -1.535898 and 10 cos 30 + 4 sin 30 = 10.660254.
+        it = given(OPEN + WIND.format(180) + "wind_error = 4\ndivergence = 30\n")
+        step = tracks.step_of(it, Fraction(15), Fraction(30))
+        for side, knots_east, knots_north in ((0.2, 8.464102, 6.660254), (0.7, -1.535898, 10.660254)):
+            person = tracks.Person(it.drift, 15.0, iter((0.841344746, 0.5, side)).__next__)
+            (((east, south, share),),) = (moves for _, moves in person.moves([step]))
+            self.assertAlmostEqual(east, 13.89 * knots_east, 3)
+            self.assertAlmostEqual(south, -13.89 * knots_north, 3)
+            self.assertEqual(share, 1)
+
     def test_the_error_of_the_leeway_goes_downwind(self):
         # 0.5 percent of 10 knots are 0.05 knots, 23.15 m in a period, around the 138.9 m of the leeway.
         east, south = moved(OPEN + WIND.format(270) + "leeway_error = 0.005\n", 2, 10_000)
@@ -255,10 +268,16 @@ class Persons(Statistics):
         self.assertEqual(set(south), {0})
 
     def test_divergence_has_two_sides(self):
-        # 138.9 m by 30 degrees: 138.9 * 0.866025404 = 120.290929 m downwind and 69.45 m to one side.
-        for wind, left, right in ((180, (-69.45, -120.290929), (69.45, -120.290929)), (270, (120.290929, -69.45), (120.290929, 69.45))):
+        # 138.9 m by 30 degrees: 138.9 * 0.866025404 = 120.290929 m downwind and 69.45 m to one side. A wind from 225 goes to 045, and the
+        # leeway to 015 and 075: 138.9 * 0.965925826 = 134.167097 m along one axis and 138.9 * 0.258819045 = 35.949965 m along the other.
+        for wind, left, right in (
+            (180, (-69.45, -120.290929), (69.45, -120.290929)),
+            (270, (120.290929, -69.45), (120.290929, 69.45)),
+            (225, (35.949965, -134.167097), (134.167097, -35.949965)),
+        ):
             places = list(zip(*moved(OPEN + WIND.format(wind) + "divergence = 30\n", 2, 4000)))
-            self.assertEqual({tuple(round(axis, 6) for axis in it) for it in places}, {left, right})
+            wanted = {tuple(round(axis, 4) for axis in it) for it in (left, right)}
+            self.assertEqual({tuple(round(axis, 4) for axis in it) for it in places}, wanted)
             self.assert_share([math.dist(it, right) < 1 for it in places], 1 / 2)
         # The side is kept.
         for (x, _), (then_x, _) in zip(*looks(OPEN + WIND.format(180) + "divergence = 30\n", 100)[1:]):
