@@ -248,13 +248,14 @@ class Persons(Statistics):
             self.assert_variance(south, 55.56**2 + (138.9 * math.sin(turn)) ** 2)
 
     def test_the_leeway_turns_with_the_wind_of_a_person(self):
-        # The wind blows with 10 knots to the north, and with an error of one standard deviation, 4 knots, to the east. To the right by 30
-        # degrees go 4 cos 30 + 10 sin 30 = 8.464102 knots to the east and 10 cos 30 - 4 sin 30 = 6.660254 to the north; 3 percent of it
-        # make 13.89 m in a period of each knot. To the left go 4 cos 30 - 10 sin 30 = -1.535898 and 10 cos 30 + 4 sin 30 = 10.660254.
+        # The wind blows with 10 knots to the north, and with errors of one standard deviation, 4 knots to the east and 4 to the south: 4 to
+        # the east and 6 to the north. To the right by 30 degrees go 4 cos 30 + 6 sin 30 = 6.464102 knots to the east and
+        # 6 cos 30 - 4 sin 30 = 3.196152 to the north; 3 percent of it make 13.89 m in a period of each knot. To the left go
+        # 4 cos 30 - 6 sin 30 = 0.464102 and 6 cos 30 + 4 sin 30 = 7.196152.
         it = given(OPEN + WIND.format(180) + "wind_error = 4\ndivergence = 30\n")
         step = tracks.step_of(it, Fraction(15), Fraction(30))
-        for side, knots_east, knots_north in ((0.2, 8.464102, 6.660254), (0.7, -1.535898, 10.660254)):
-            person = tracks.Person(it.drift, 15.0, iter((0.841344746, 0.5, side)).__next__)
+        for side, knots_east, knots_north in ((0.2, 6.464102, 3.196152), (0.7, 0.464102, 7.196152)):
+            person = tracks.Person(it.drift, 15.0, iter((0.841344746, 0.841344746, side)).__next__)
             (((east, south, share),),) = (moves for _, moves in person.moves([step]))
             self.assertAlmostEqual(east, 13.89 * knots_east, 3)
             self.assertAlmostEqual(south, -13.89 * knots_north, 3)
