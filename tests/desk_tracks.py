@@ -157,6 +157,13 @@ class Reports(Statistics):
             self.assert_mean(aside, 0, math.sqrt(variance))
             self.assert_variance(aside, variance, kurtosis)
 
+    def test_the_error_along_a_trackline_is_whole_where_it_begins_at_the_edge(self):
+        # From 100 m off the northern edge to the south-east; far from there, the way across the line is that of a uniform disc.
+        line = 'track = [[1000, 100], [16000, 15100]]\nradius = 800\ntime = "2026-07-04 12:15"'
+        across = [(x - y - 900) / math.sqrt(2) for x, y in looks(reported(line), 5000)[0] if x + y > 10000]
+        self.assert_mean(across, 0, 400)
+        self.assert_variance(across, 800**2 / 4, 2)
+
     def test_a_line_of_several_parts(self):
         line = Line([(0.0, 0.0), (3.0, 4.0), (3.0, 9.0)])
         for along, place in ((0.0, (0.0, 0.0)), (0.25, (1.5, 2.0)), (0.5, (3.0, 4.0)), (0.9, (3.0, 8.0))):
