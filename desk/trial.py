@@ -72,6 +72,15 @@ def taken(key, word):
 
 
 @dataclasses.dataclass
+class Cause:
+    """Why what is found isn't what is said, what helps, and how much of the difference it makes, as a share of 1."""
+
+    why: str
+    helps: str
+    part: float
+
+
+@dataclasses.dataclass
 class Flown:
     """A flight, what it finds, how much less than the first of all, and (or None) where the difference to what its plan says comes from."""
 
@@ -105,7 +114,7 @@ class Trial:
 
 
 def causes(at, own, flight, fresh):
-    """Where the difference between what a plan says and what is found comes from, as pairs of a cause and a part that sum to it.
+    """Where the difference between what a plan says and what is found comes from: causes whose parts sum to it.
 
     `own` are the draft's drifts. None where its scenario isn't the one of the field.
     """
@@ -116,13 +125,13 @@ def causes(at, own, flight, fresh):
     chain, halved = (own.found(flight.looks, it).total.mean for it in (finer, flying.HALVED[finer]))
     same = own.found(flight.looks).total.mean
     steps = (
-        ("since the plan is of another scenario", float(flight.chance), scenario),
-        ("by the rounding of the scenario", scenario, chain),
-        ("by the size of its states: so much less with half their side", chain, halved),
-        ("by what a chain forgets of a drift", halved, same),
-        ("since the plan was made for the draft's own drifts", same, fresh.total.mean),
+        ("a plan of another scenario", "draft and plan anew", float(flight.chance), scenario),
+        ("the rounding of the scenario", "[parts], or fewer periods", scenario, chain),
+        ("its states, beside ones of half their side", "[tracks] finer, or smaller cells", chain, halved),
+        ("what a chain of those still forgets of a drift", "go by what is found", halved, same),
+        ("the draft's own drifts, to which a plan fits", "[tracks] count", same, fresh.total.mean),
     )
-    return [(why, before - after) for why, before, after in steps]
+    return [Cause(why, helps, before - after) for why, helps, before, after in steps]
 
 
 def tried(asked):
@@ -216,8 +225,8 @@ def about_off(it):
     told += " these drifts."
     if it.causes is None:
         return ["", *wrapped(f"{told} The scenario isn't the one that draft makes of this situation now.")]
-    rows = [[f"  {why}", points(part)] for why, part in it.causes if abs(part) >= LEAST_SHOWN]
-    return ["", *wrapped(f"{told} What is said is more than what is found, in points:"), *rows_of(rows, [True, False])]
+    rows = [[f"  {each.why}", points(each.part), each.helps] for each in it.causes if abs(each.part) >= LEAST_SHOWN]
+    return ["", *wrapped(f"{told} Where the points of difference come from:"), *rows_of([["  cause", "points", "what helps"], *rows], [True, False, True])]
 
 
 def text_of(trial):
@@ -257,7 +266,7 @@ def flown_json(it):
         "is_off": it.is_off,
         "periods": [{"says": part(says), "finds": part(found.mean), "error": part(found.error)} for says, found in rows],
         "less": {"finds": part(it.less.mean), "error": part(it.less.error)},
-        "causes": None if it.causes is None else [{"why": why, "part": part(share)} for why, share in it.causes],
+        "causes": None if it.causes is None else [{"why": each.why, "part": part(each.part)} for each in it.causes],
         "notes": list(flight.notes),
     }
 

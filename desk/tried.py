@@ -70,6 +70,8 @@ def parsed(text):
 def found(text, search):
     """What a trial's text says of an accepted plan; None where it has another path, or another chance. Raises NoTrial."""
     told, drifts = parsed(text)
+    if len(drifts) != search.sc.horizon:
+        return None
     wanted = {"chance": str(search.report.value), "weight": str(search.report.weight)}
     if not search.seats.is_numbered:
         wanted["path"] = [search.seats.where(it.position) for it in search.frames[1:]]

@@ -15,7 +15,7 @@ sys.path.insert(0, os.path.dirname(os.path.realpath(__file__)))
 from made import forced, paired, with_plan  # noqa: E402
 from pages import Refusing, Room, tree  # noqa: E402
 
-from desk import brief, draft, flights, flying, forms, patterns, show, situation, tracks, trial  # noqa: E402
+from desk import accepted, brief, draft, flights, flying, forms, patterns, show, situation, tracks, trial, tried  # noqa: E402
 
 HALF, QUARTER = Fraction(1, 2), Fraction(1, 4)
 # Squares of a nautical mile and periods of an hour: with two knots, half an hour and a sweep width of a square's side a look's coverage
@@ -224,7 +224,7 @@ class Causes(unittest.TestCase):
 
     def parts(self, own, fresh):
         found = trial.causes(self.at, own, self.flight, fresh.found(self.flight.looks))
-        return [part for _, part in found]
+        return [it.part for it in found]
 
     def test_states_that_are_too_large(self):
         """Those from r0c0 are in the west of r0c1, and stay there; the others are in its east, and go on. In truth (m^2 + 1) / 2 are
@@ -505,7 +505,7 @@ class Told(Room):
         out = self.told(self.situation(), self.write("slow.plan", slower)).replace("\n  ", " ")
         self.assertIn("note: slow.plan: the plan is of another scenario", out)
         self.assertIn("points above what is said, so the scenario is no good image of these drifts", out)
-        self.assertIn("the plan is of another scenario", out)
+        self.assertIn("\n  a plan of another scenario ", self.told(self.situation(), self.write("slow.plan", slower)))
 
 
 class Made(Told):
@@ -600,28 +600,32 @@ class Shown(Told):
 
     def test_other_trials_are_refused(self):
         words, found = self.files()
-        flown = found["flown"][0]
-        other = {**found, "flown": [{**flown, "path": ["r0c1", "r0c1"]}]}
-        worth = {**found, "flown": [{**flown, "chance": "1"}]}
-        for what, part in (
-            (json.dumps(other), "this plan wasn't flown there"),
-            (json.dumps(worth), "this plan wasn't flown there"),
-            (json.dumps({**found, "trial": 2}), "isn't what osp trial writes with --json yes"),
-            (json.dumps({**found, "count": "9"}), "isn't what osp trial writes"),
-            (json.dumps({**found, "drifts": [[[1, "<b>"]]]}), "isn't what osp trial writes"),
-            (json.dumps({**found, "drifts": [[None] * 501]}), "isn't what osp trial writes"),
-            (json.dumps({**found, "flown": [{**flown, "finds": 1.5}]}), "isn't what osp trial writes"),
-            (json.dumps({**found, "flown": [{**flown, "finds": "<b>"}]}), "isn't what osp trial writes"),
-            (json.dumps({**found, "flown": 3}), "isn't what osp trial writes"),
-            ("[" * 100_000, "isn't what osp trial writes"),
-            ('{"trial":1,"count":1,"drifts":[[[NaN,1]]],"flown":[]}', "isn't what osp trial writes"),
-            ("", "isn't what osp trial writes"),
-            ("\xff", "isn't what osp trial writes"),
+        flown, search = found["flown"][0], accepted.load(words[:2])
+        none = [{"path": ["r0c1", "r0c1"]}, {"chance": "1"}, {"weight": "9"}]
+        self.assertIsNone(tried.found(json.dumps({**found, "drifts": [[None]]}).encode(), search))
+        for other in none:
+            self.assertIsNone(tried.found(json.dumps({**found, "flown": [{**flown, **other}]}).encode(), search), other)
+        for what in (
+            json.dumps({**found, "trial": 2}),
+            json.dumps({**found, "count": "9"}),
+            json.dumps({**found, "drifts": [[[1, "<b>"]]]}),
+            json.dumps({**found, "drifts": [[[1, 2, 3]]]}),
+            json.dumps({**found, "drifts": [[None] * 501]}),
+            json.dumps({**found, "drifts": [[None]] * 33}),
+            json.dumps({**found, "flown": [{**flown, "finds": 1.5}]}),
+            json.dumps({**found, "flown": [{**flown, "finds": "<b>"}]}),
+            json.dumps({**found, "flown": 3}),
+            "[" * 100_000,
+            '{"trial":1,"count":1,"drifts":[[[NaN,1]]],"flown":[]}',
+            "",
+            "\xff",
         ):
-            for helper in (show, brief):
-                ended, out, err = self.run_helper(helper.main, [*words[:3], self.write("x.json", what.encode("latin-1"))])
-                self.assertEqual((ended, out), (2, ""), what[:60])
-                self.assertIn(part, err)
+            with self.assertRaises(tried.NoTrial, msg=what[:60]):
+                tried.found(what.encode("latin-1"), search)
+        for helper, text, part in ((show, "x", "isn't what osp trial writes with --json yes"), (brief, '{"trial":1,"count":1,"drifts":[[],[]],"flown":[]}', "this plan wasn't flown there")):
+            ended, out, err = self.run_helper(helper.main, [*words[:3], self.write("x.json", text.encode())])
+            self.assertEqual((ended, out), (2, ""))
+            self.assertIn(part, err)
 
 
 class Refusals(Refusing):
