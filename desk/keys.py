@@ -185,7 +185,7 @@ AREA = (
     Key("rows", "a whole number from 1 to 200", "7", whole(1, MOST_CELLS), True),
     Key("columns", "a whole number from 1 to 200", "7", whole(1, MOST_CELLS), True),
     Key("land", "a list of cells, or of blocks of cells from the north-west one to the south-east one", LAND, squares),
-    Key("edge", '"stays" or "lost"', '"stays"', one_of("stays", "lost")),
+    Key("edge", '"lost" or "stays"', '"lost"', one_of("stays", "lost")),
 )
 PLACE = "a pair of metres east and south of the area's north-west corner"
 REPORT = (

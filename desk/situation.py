@@ -232,16 +232,17 @@ def how_many(search, clock):
 def area(table):
     """The grid, and whether what leaves it is lost."""
     it = take_table(table, "[area]", keys.AREA)
-    land, is_lost = it["land"] or frozenset(), it["edge"] == "lost"
+    land, is_lost = it["land"] or frozenset(), it["edge"] != "stays"
     grid = geometry.Grid(it["rows"], it["columns"], it["cell_size"], land)
-    squares, most = grid.rows * grid.columns, MOST_CELLS - is_lost
+    squares = grid.rows * grid.columns
     told = f"rows times columns should be at most {keys.MOST_SQUARES} with land, {AS_IN}, and is {squares}"
     need(squares <= keys.MOST_SQUARES, "[area] rows", told)
     for each in sorted(land):
         last = geometry.name_of((grid.rows - 1, grid.columns - 1))
         need(grid.contains(each), "[area] land", f"it should be in the area, whose last cell is {last}, and names {geometry.name_of(each)}")
     count = squares - len(land)
-    need(1 <= count <= most, "[area] rows", f"rows times columns without land should be 1 to {most} cells, {AS_IN}, and is {count}")
+    told = f"rows times columns without land should be 1 to {MOST_CELLS} cells, {AS_IN}, and is {count}"
+    need(1 <= count <= MOST_CELLS, "[area] rows", told)
     return grid, is_lost
 
 

@@ -1,7 +1,7 @@
 """What a draft says of itself: the comments of its scenario, and the lines on standard error."""
 import math
 
-from desk import detection, rounding
+from desk import detection, margins, moments, rounding, twofold
 from desk.chain import deviations
 from desk.geometry import decimal
 from desk.rounded import name_of
@@ -91,13 +91,25 @@ def lines(shares, drift, draft, told):
     """The lines to say: what is `told` first of all (facts), how many periods would fit, detection, what is at the edge, and warnings."""
     sc = draft.scenario
     yield from told
+    yield from reports(shares.given)
+    yield from shares.given.ways.lines(shares.given.clock)
     most = rounding.most_periods(sc.parts)
     yield f"with these parts {most} periods fit at most, {most - sc.horizon} more than these" + (
         "" if most > sc.horizon else "; for more, give smaller ones, as in [parts] drift = 20 and look = 10"
     )
     yield from detections(shares)
     yield from edge(shares, drift)
+    yield twofold.line(shares.given, sc)
     yield from warnings(shares, draft)
+
+
+def reports(given):
+    """When each report was taken to be, and how long before the search begins."""
+    for at, it in enumerate(given.reports, 1):
+        times = [it.minutes] if it.until is None else [it.minutes, it.until]
+        when = " to ".join(given.clock.told(time) + given.clock.day(time) for time in times)
+        ages = " to ".join(moments.lasting(abs(time)) for time in times)
+        yield f"report {at} is of {when}, {ages} {'before' if it.minutes <= 0 else 'after'} the begin of the search"
 
 
 def detections(shares):
@@ -115,8 +127,12 @@ def edge(shares, drift):
     border = {at for at, (square, _) in enumerate(states.parts) if shares.grid.is_edge(square)}
     first, last = (percent(sum(look.get(it, 0) for it in border) / count) for look in (drift.looks[0], drift.looks[-1]))
     yield f"in the cells at the edge of the area are {first} percent at the first look, and {last} at the last, if no look finds anything"
+    lost = drift.looks[-1].get(len(states.parts), 0)
     if states.is_lost:
-        yield f"{percent(drift.looks[-1].get(len(states.parts), 0) / count)} percent have left the area by the last look"
+        yield f"{percent(lost / count)} percent have left the area by the last look"
+    share = (lost + sum(drift.looks[-1].get(it, 0) for it in border)) / count
+    if share > margins.MUCH:
+        yield margins.note(shares.given, share)
 
 
 def warnings(shares, draft):

@@ -60,6 +60,43 @@ class Ways:
         leaves = clock.told(Fraction(math.floor(left - takes - self.who.ahead)))
         raise BadSituation(f'[searcher] base: {told}; say when it leaves, as in leaves = "{leaves}", or let the search begin later')
 
+    def lines(self, clock):
+        """What to say of the minutes of search and of way, by the kinds of moves, and which squares are left out."""
+        kinds = [f"{decimal(self.minutes_of(it))} {word}" for it, word in zip(next_lengths(self.grid, self.who.reaches), ("to a cell beside it", "by its corner"))]
+        told = f"a period is {decimal(self.who.search_minutes)} minutes of search and up to {decimal(self.minutes - self.who.search_minutes)} of way"
+        found = {it: self.reached(it) for it in self.cells}
+        kept = {it: nearest(reached) for it, reached in found.items()}
+        farthest = max(found[it][to] for it, squares in kept.items() for to in squares)
+        counts = sorted(len(it) for it in kept.values())
+        told += f": {', '.join(['0 to stay'] * self.who.stays + kinds)}"
+        yield f"{told}; in one move it reaches {counts[0]} to {counts[-1]} cells, the farthest in {decimal(self.minutes_of(farthest))} minutes"
+        if self.who.base:
+            yield from self.from_base(clock)
+        many = [it for it, reached in found.items() if len(reached) > len(kept[it])]
+        if many:
+            more = f" and {len(many) - 1} others" if len(many) > 1 else ""
+            yield f"note: from {geometry.name_of(many[0])}{more} more than {MOST_MOVES} cells are reached in time; the nearest are taken"
+        if self.who.reaches == 8 and farthest < 2**0.5 and len(kinds) > 1:
+            yield f"note: by a corner the way takes {kinds[1].split()[0]} minutes, and isn't made; take fewer of search, as in search_minutes = {decimal(self.most_search())}"
+
+    def from_base(self, clock):
+        """What to say of the way from the base."""
+        reached, entered = self.reached(BASE), self.entered()
+        leaves, left = clock.told(-self.who.ahead), self.left(BASE)
+        takes = [decimal(self.minutes_of(it)) for it in (min(reached.values()), max(reached.values()))]
+        yield f"from its base it leaves at {leaves}, and is in {takes[0]} to {takes[1]} minutes of {decimal(left)} at {len(reached)} cells that it enters"
+        late = sorted(set(self.who.enters) - set(reached))
+        if late:
+            names = ", ".join(geometry.name_of(it) for it in late[:3]) + (f" and {len(late) - 3} more" if len(late) > 3 else "")
+            longest = max((entered[it] for it in late if it in entered), default=None)
+            told = "there is no way over water" if longest is None else f"its way takes up to {decimal(self.minutes_of(longest))} minutes"
+            yield f"note: of the cells that it enters it isn't in time at {names}: {told}"
+
+    def most_search(self):
+        """The most minutes of search that leave time for the way to the next square, by its corner, too."""
+        longest = max(self.minutes_of(it) for it in next_lengths(self.grid, self.who.reaches))
+        return Fraction(math.floor((self.minutes - longest) * MINUTE_PART), MINUTE_PART)
+
     def entered(self):
         """The lengths of the ways from the base to the squares that it enters, however long they are, by square."""
         return {it: length for it, length in self.lengths(BASE).items() if it in self.who.enters}

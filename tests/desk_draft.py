@@ -150,6 +150,7 @@ periods = 3
 cell_size = 463
 rows = 3
 columns = 4
+edge = "stays"
 [[report]]
 cell = "r1c1"
 time = "2026-07-04 12:15"
@@ -551,7 +552,6 @@ class Wrong(unittest.TestCase):
             ("periods = 3", 'until = "12:10"', "[search] until: it should leave 1 to 32 periods"),
             ("periods = 3", "perods = 3", "[search] 'perods': there is no such key; [search] has begins"),
             ("rows = 3", "rows = 51", "[area] rows: rows times columns without land should be 1 to 200"),
-            ("rows = 3", "rows = 50\nedge = \"lost\"", "[area] rows: rows times columns without land should be 1 to 199"),
             ("rows = 3", "rows = 50", None),
             ("rows = 3", "rows = 200\nland = [\"r3c0..r199c3\"]", None),
             ("columns = 4", "columns = 200\nland = [\"r0c4..r2c199\"]", None),

@@ -4,7 +4,7 @@ import random
 import unittest
 from fractions import Fraction
 
-from desk import detection, geometry, keys, moments, situation, ways
+from desk import detection, draft, geometry, keys, margins, moments, situation, ways
 
 # Squares of 926 m; at 20 knots (617.33 m a minute) the way to the next one is 1.5 minutes. The boat lies in the middle of 9 by 9 squares.
 SEA = """
@@ -24,6 +24,8 @@ start = "r4c4"
 speed = 20
 sweep_width = 200
 search_minutes = 12
+[tracks]
+count = 1000
 """
 
 
@@ -245,6 +247,98 @@ class Nights(unittest.TestCase):
                 self.factors(light, periods=periods)
         with self.assertRaisesRegex(keys.BadSituation, r"\[light\] sunset: it should be another time than sunrise"):
             self.factors('sunset = "20:00"\nsunrise = "20:00"')
+
+
+class Margins(unittest.TestCase):
+    """A current of 4 knots makes 1852 m in 15 minutes, two squares of 926 m; persons begin anywhere in r4c4, and are 5 squares on at the last
+    look, at 12:37:30 (2.5 periods after 12:00)."""
+
+    def current(self, towards, knots=4, *changes):
+        it = ("[[report]]", f"[[current]]\nknots = {knots}\ntowards = {towards}\n[[report]]")
+        return given(it, ('"r1c1"', '"r4c4"'), ('"11:00"', '"2026-07-04 12:00"'), ("periods = 3", "periods = 2"), *changes)
+
+    def test_which_side_and_by_how_many(self):
+        # Two periods are 4 squares: from row 4 to row 0 in the north, which is at the edge; one row more is enough. With 5 knots half of all
+        # are in row -1, and two rows more are needed; likewise on all sides.
+        for towards, knots, added in ((0, 4, [1, 0, 0, 0]), (0, 5, [2, 0, 0, 0]), (270, 4, [0, 1, 0, 0]), (180, 5, [0, 0, 2, 0]), (90, 4, [0, 0, 0, 1]), (90, 3, [0] * 4)):
+            self.assertEqual(margins.wanted(self.current(towards, knots)), added, (towards, knots))
+
+    def test_who_comes_back_was_over_the_edge_all_the_same(self):
+        # Four squares and a half to the north in the first two periods, and the same back in the others.
+        tide = ("[searcher]", '[[current]]\nbegins = "12:30"\nknots = 5\ntowards = 180\n[searcher]')
+        it = self.current(0, 5, tide, ("periods = 2", "periods = 4"))
+        self.assertEqual(margins.wanted(it), [1, 0, 0, 0])
+
+    def test_what_is_told(self):
+        it = self.current(0, 5)
+        told = "note: 60.0 percent are at or over the edge of the area by the last look; add 2 rows in the north: rows = 11 and columns = 9; names and metres "
+        self.assertEqual(margins.note(it, 0.6), told + "then count from the new corner")
+        it = self.current(90, 4, ("columns = 9", "columns = 9\nland = [\"r8c0\"]"))
+        self.assertTrue(margins.note(it, 0.051).endswith("5.1 percent are at or over the edge of the area by the last look; add 1 column in the east: rows = 9 and columns = 10"))
+        self.assertIn("would hardly go on from there", margins.note(self.current(90, 0), 0.06))
+
+    def test_a_wider_area_is_as_told(self):
+        """Who does as the note says, isn't told again."""
+        for it in (self.current(0, 5, ("rows = 9", "rows = 11"), ('"r4c4"', '"r6c4"')), self.current(90, 4, ("columns = 9", "columns = 10"))):
+            self.assertEqual(margins.wanted(it), [0, 0, 0, 0])
+
+
+class Twofold(unittest.TestCase):
+    def line(self, *changes):
+        text = SEA
+        for old, new in changes:
+            text = text.replace(old, new)
+        return next(it for it in draft.drafted(text.encode())[1] if it.startswith("two searchers"))
+
+    SMALL = ("rows = 9", "rows = 2"), ("columns = 9", "columns = 7"), ("r4c4", "r0c4"), ("speed = 20", "speed = 20\nreaches = 4")
+
+    def test_it_fits(self):
+        self.assertEqual(self.line(*self.SMALL, ("[searcher]", "[parts]\nlook = 10\n[searcher]")), "two searchers: duo takes the scenario as it is")
+
+    def test_it_does_not_fit(self):
+        # 81 positions; from the middle 9 by corners are reached, 81 pairs. 9 by 926 m are 8334 m: of 3 by 4 cells each has 2778 m.
+        said = self.line(("speed = 20", "speed = 20\nreaches = 8"), ("[searcher]", "[parts]\nfirst = 1\ndrift = 1\nlook = 10\n[searcher]"))
+        self.assertEqual(said, "two searchers: duo doesn't take the scenario (81 positions, and 14 are the most; 81 pairs of moves, and 64 are the most); it would "
+                         "with [area] cell_size = 2778, rows = 3, columns = 3 and [searcher] reaches = 4")
+
+    def test_looks_that_do_not_fit_twice(self):
+        # (3 + 10) * 1 * 1 * (G * G)^4 < 2^127: G^8 < 1.309e37; 43000 is more than the 1000 that are allowed, so a look of 1001 is too fine.
+        said = self.line(*self.SMALL, ("[searcher]", "[parts]\nfirst = 1\ndrift = 1\nlook = 1001\n[searcher]"))
+        self.assertEqual(said, "two searchers: duo doesn't take the scenario (1001 parts of a look, and 1000 fit twice); it would with [parts] look = 1000")
+
+
+class Told(unittest.TestCase):
+    def lines(self, *changes):
+        text = SEA
+        for old, new in changes:
+            self.assertIn(old, text)
+            text = text.replace(old, new)
+        return list(draft.drafted(text.encode())[1])
+
+    def test_reports(self):
+        for begins, time, line in (("12:00", "11:00", "report 1 is of 11:00 today, 60 minutes before the begin of the search"),
+                                   ("05:45", "22:30", "report 1 is of 22:30 the day before, 7 h 15 min before the begin of the search"),
+                                   ("2026-07-04 12:00", "2026-07-04 12:15", "report 1 is of 2026-07-04 12:15, 15 minutes after the begin of the search")):
+            self.assertIn(line, self.lines(("2026-07-04 12:00", begins), ("11:00", time)))
+        until = self.lines(("2026-07-04 12:00", "12:00"), ('"11:00"', '"11:00"\nuntil = "11:30"'))
+        self.assertIn("report 1 is of 11:00 today to 11:30 today, 60 minutes to 30 minutes before the begin of the search", until)
+
+    def test_minutes_of_search_and_of_way(self):
+        # By a corner 2.1213 minutes; two squares are 3, and so 6 squares are reached from a corner and 13 from the middle.
+        told = "a period is 12 minutes of search and up to 3 of way: 0 to stay, 1.5 to a cell beside it, 2.12 by its corner; in one move it reaches 6 to 13 cells, "
+        self.assertIn(told + "the farthest in 3 minutes", self.lines())
+        base = self.lines(coming("[-1389, 4167]", "r2c0..r6c0", 'leaves = "11:59:30"'))
+        self.assertIn("from its base it leaves at 2026-07-04 11:59:30, and is in 3 to 3.35 minutes of 3.5 at 3 cells that it enters", base)
+        # The root of 8 squares is 4.243 minutes.
+        self.assertIn("note: of the cells that it enters it isn't in time at r2c0, r6c0: its way takes up to 4.24 minutes", base)
+
+    def test_what_is_left_out(self):
+        # 7.5 minutes are 5 squares: from r0c0 26 within 5, from the middle 77.
+        many = [it for it in self.lines(searching(7.5)) if "more than 64 cells are reached in time; the nearest are taken" in it]
+        self.assertEqual(len(many), 1)
+        corner = "note: by a corner the way takes 2.12 minutes, and isn't made; take fewer of search, as in search_minutes = 12.87"
+        self.assertIn(corner, self.lines(("speed = 20", "speed = 20\nreaches = 8"), searching(13)))
+        self.assertNotIn(corner, self.lines(("speed = 20", "speed = 20\nreaches = 8")))
 
 
 if __name__ == "__main__":
