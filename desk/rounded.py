@@ -28,9 +28,12 @@ def name_of(position):
 
 def denominators(given, shares, drift):
     """The denominators A, D, G of the scenario of a situation's Shares and Drift. Raises BadSituation where none fit."""
-    a = given.parts[0] or rounding.exact(drift.looks[0], rounding.MOST_TRIED) or rounding.MOST_TRIED
+    a, d, g = given.parts
+    a = a or rounding.exact(drift.looks[0], rounding.MOST_TRIED) or rounding.MOST_TRIED
+    # Where all that is in a state goes to one other, nothing is rounded.
+    d = d or (1 if all(len(row) == 1 for step in drift.steps for row in step.values()) else None)
     misses = sorted({it for pair in shares.misses for it in pair if it is not None})
-    found = rounding.denominators(given.periods, (a, *given.parts[1:]), misses, lambda d: float(max(variations(chain(drift, a, d), drift))))
+    found = rounding.denominators(given.periods, (a, d, g), misses, lambda d: float(max(variations(chain(drift, a, d), drift))))
     if found is None:
         told = ", ".join(f"{name} = {it}" for name, it in zip(("first", "drift", "look"), given.parts) if it)
         why = f"{given.periods} periods don't fit into 128 bits with {told}"

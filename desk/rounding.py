@@ -7,9 +7,11 @@ from desk.forms import is_narrow
 MOST_PERIODS = 32
 # The finest denominator that is chosen: no share is known better than to a thousandth. Those of the drift that are tried.
 MOST_TRIED = 1000
-TRIED = (1, 2, 3, 4, 5, 6, 7, 8, 10, 12, 15, 20, 30, 50)
-# How much worse than the best a smaller denominator may be, as a share of 1: for a look, and for chain and look together.
-CLOSE_LOOK, CLOSE = 0.001, 0.005
+TRIED = (2, 3, 4, 5, 6, 7, 8, 10, 12, 15, 20, 30, 50)
+# What a plan is off by is about the rounding of its looks, and a tenth of the greatest total variation of its chain (measured: see
+# docs/PLANNING.md). By so much more than the best, as a share of 1, a smaller denominator may be off.
+OF_VARIATION = 0.1
+CLOSE = 0.001
 # What floats are taken as equal by.
 NINE_DIGITS = 5e-10
 
@@ -75,13 +77,13 @@ def exact(shares, most):
     return next((it for it in range(1, most + 1) if all(abs(ratio - round(ratio * it) / it) < NINE_DIGITS for ratio in ratios)), None)
 
 
-def denominators(horizon, given, misses, off):
+def denominators(horizon, given, misses, variation):
     """The denominators A, D, G for a horizon: those of `given` that aren't None (A isn't), and the others for the truth of the plan.
 
-    `off(d)` says by how much a chain in parts A and d is off at most. For each D of TRIED, G is the least number up to MOST_TRIED that fits
-    and rounds no miss by more than CLOSE_LOOK above what the best one that fits does. By the sum of what the chain is off and of the
-    rounding of a miss, the least D is taken that is at most CLOSE above the best one: greater numbers make longer texts, and leave less
-    room for more periods and searchers. Answers None where none fit.
+    `variation(d)` is the greatest total variation of the chain in parts A and d. For each D of TRIED, G is the least number up to
+    MOST_TRIED that fits and rounds no miss by more than CLOSE above what the best one that fits does. By the sum of that rounding and
+    of OF_VARIATION times the variation, the least D is taken that is at most CLOSE above the best one: greater numbers make longer
+    texts, and leave less room for more periods and searchers. Answers None where none fit.
     """
     a, d, g = given
     most = {it: greatest(MOST_TRIED, lambda look: is_narrow(horizon, (a, it, g or look))) for it in ([d] if d else TRIED)}
@@ -89,9 +91,9 @@ def denominators(horizon, given, misses, off):
     found = []
     for it in (it for it in most if most[it]):
         fit = {look: error for look, error in errors.items() if g or look <= most[it]}
-        close = min(fit.values()) + CLOSE_LOOK
+        close = min(fit.values()) + CLOSE
         look = next(look for look, error in fit.items() if error <= close)
-        found.append((off(it) + fit[look], it, look))
+        found.append((OF_VARIATION * variation(it) + fit[look], it, look))
     best = min((error for error, *_ in found), default=0)
     return next(((a, it, look) for error, it, look in found if error <= best + CLOSE), None)
 
