@@ -1,5 +1,6 @@
 """The keys of a situation: the tables of its TOML file, what each value should be, an example of it, and what takes it."""
 import dataclasses
+import difflib
 import re
 from decimal import Decimal
 from fractions import Fraction
@@ -13,6 +14,12 @@ MOST_SQUARES = 1000
 # The most places of a trackline.
 MOST_PLACES = 50
 SQUARE = re.compile(r"r(\d{1,3})c(\d{1,3})", re.ASCII)
+
+
+# Values as people write them: a number in quotes, perhaps with a comma; a time such as 7:30 or 19.30; what stands between two squares.
+PLAIN = re.compile(r"\s*-?\d{1,12}(?:[.,]\d{1,12})?\s*", re.ASCII)
+CLOCK = re.compile(r"\b(\d{1,2})[:.h](\d\d)\b|\b(\d\d)(\d\d)\Z", re.ASCII)
+BETWEEN = re.compile(r"\s*(?:\.{1,3}|\u2026|-|\u2013|:|\bto\b)\s*")
 
 
 class BadSituation(Exception):
@@ -50,24 +57,75 @@ def shown(value):
 
 def take_table(table, where, keys):
     """The values of a table by key; None where a key that isn't needed is lacking. Raises BadSituation."""
+    if isinstance(table, list) and where[1:2] != "[":
+        raise BadSituation(f"{where}: it stands once, so its first line should be {where}, and is [{where}]")
     if not isinstance(table, dict):
         raise BadSituation(f"{where}: it should be a table, as in examples/situations/kayaker.toml, and is {shown(table)}")
     names = [it.name for it in keys]
     unknown = next((it for it in table if it not in names), None)
     if unknown is not None:
-        raise BadSituation(f"{where} {shown(unknown)}: there is no such key; {where} has {', '.join(names)}")
+        raise BadSituation(f"{where} {shown(unknown)}: there is no such key{meant(unknown, where, names)}; {where} has {', '.join(names)}")
     return {key.name: take_key(table, where, key) for key in keys}
 
 
+def meant(unknown, where, names):
+    """What a key may have been meant for that a table doesn't have: another one of its keys, or a key of other tables."""
+    near = difflib.get_close_matches(unknown, names, 1)
+    tables = [name for name, its in TABLES.items() if name != where and any(it.name == unknown for it in its)]
+    if tables:
+        return f", and it belongs to {' or '.join(tables)}"
+    return f", and {near[0]} may be meant" if near else ""
+
+
 def take_key(table, where, key):
+    """The value of a key; None where it is lacking and not needed. Raises BadSituation."""
     if key.name not in table:
         if key.needed:
             raise BadSituation(f"{where} {key.name} is lacking: {key.told()}")
         return None
+    value = table[key.name]
     try:
-        return key.take(table[key.name])
+        return key.take(value)
     except (ValueError, OverflowError):
-        raise BadSituation(f"{where} {key.name}: {key.told()}, and is {shown(table[key.name])}") from None
+        again = next((written(it) for it in likely(value) if takes(key, it)), None)
+        instead = f"; write {key.name} = {again}" if again else ""
+        raise BadSituation(f"{where} {key.name}: {key.told()}, and is {shown(value)}{instead}") from None
+
+
+def likely(value):
+    """What a wrong value was perhaps meant to be: without quotes or brackets, or with them, in small letters, with two dots between the
+    squares of a block, with a colon and two digits in a time."""
+    if isinstance(value, str) and len(value) <= 40:
+        yield from (Decimal(it) for it in [value.strip().replace(",", ".")] if PLAIN.fullmatch(it))
+        yield from ({"true": True, "yes": True, "false": False, "no": False}[it] for it in [value.lower()] if it in ("true", "yes", "false", "no"))
+        yield CLOCK.sub(lambda it: f"{int(it[1] or it[3]):02}:{it[2] or it[4]}", value)
+        yield from (value.lower(), [dotted(value)])
+    if isinstance(value, list) and len(value) == 1:
+        yield value[0]
+    if isinstance(value, list) and all(isinstance(it, str) for it in value):
+        yield [dotted(it) for it in value]
+
+
+def dotted(value):
+    """A block of squares as it is written, in small letters and with two dots."""
+    return BETWEEN.sub("..", value.lower())
+
+
+def takes(key, value):
+    try:
+        key.take(value)
+        return True
+    except (ValueError, OverflowError):
+        return False
+
+
+def written(value):
+    """A value as TOML has it, in ASCII; None where it is long."""
+    if isinstance(value, list):
+        text = "[" + ", ".join(written(it) or "" for it in value) + "]"
+    else:
+        text = f'"{value}"' if isinstance(value, str) else str(value).lower()
+    return text if len(text) <= 80 and text.isascii() else None
 
 
 # ---- what values are
@@ -248,3 +306,17 @@ TRACKS = (
     Key("seed", "a whole number from 1 to 1000000", "1", whole(1, MOST_PART)),
     Key("finer", "a whole number from 1 to 4", "2", whole(1, 4)),
 )
+TABLES = {
+    "[search]": SEARCH,
+    "[area]": AREA,
+    "[[report]]": REPORT,
+    "[[current]]": CURRENT,
+    "[[wind]]": WIND,
+    "[drift]": DRIFT,
+    "[searcher]": SEARCHER,
+    "[searcher.swath]": SWATH,
+    "[light]": LIGHT,
+    "[[visibility]]": VISIBILITY,
+    "[parts]": PARTS,
+    "[tracks]": TRACKS,
+}

@@ -24,6 +24,15 @@ COUNT = 20_000
 TOP = ("title", "search", "area", "report", "current", "wind", "drift", "searcher", "light", "visibility", "parts", "tracks")
 # A time such as 19:30, which TOML takes with seconds alone.
 BARE_TIME = re.compile(rb"=\s*(?:\d{4}-\d\d-\d\d[ T])?\d{1,2}:\d\d\s*(?:#|$)")
+# What a line that isn't TOML may have, and how it should be.
+AT_LINE = re.compile(r"at line (\d+)")
+SLIPS = (
+    (re.compile("[\u201c\u201d\u201e\u2018\u2019]".encode()), 'has curved quotes; they are straight, as in start = "r6c3"'),
+    (re.compile(rb"=\s*-?\d+,\d"), "has a comma in a number; it has a point, as in knots = 0.6"),
+    (re.compile(rb"=\s*-?[\d.]+\s*(?:[A-Za-z%/]|\xc2\xb0)"), "has a unit behind a number; it has none, as in speed = 8"),
+    (re.compile(rb"=\s*(?!true|false|inf|nan)[A-Za-z]"), 'has a text without quotes; it stands in them, as in start = "r6c3"'),
+    (re.compile(rb"^\s*[A-Za-z_]+\s*:"), "has a colon behind a key; an equals sign stands there, as in rows = 7"),
+)
 # What lines of a fault have in common.
 AS_IN = "as in examples/situations/kayaker.toml"
 NEAREST = 'a time without a date is the one nearest to the begin of the search, and a date is given as in begins = "2026-07-05 03:00"'
@@ -158,6 +167,12 @@ def why_not(given, said):
     for at, line in enumerate(given.split(b"\n"), 1):
         if BARE_TIME.search(line):
             return f'line {at} has a time without quotes; it stands in them, as in begins = "19:30"'
+    at = AT_LINE.search(said)
+    if at and said.startswith("Cannot overwrite"):
+        return f"line {at[1]} gives a key that its table has already; each stands once, as in rows = 7"
+    slip = at and next((why for form, why in SLIPS if form.search(given.split(b"\n")[int(at[1]) - 1])), None)
+    if slip:
+        return f"line {at[1]} {slip}"
     said = "".join(it if it.isprintable() else " " for it in said)
     return f"{ascii(said)[1:-1][:120]}; a line is as in rows = 7"
 
@@ -165,6 +180,7 @@ def why_not(given, said):
 def rows_of(tables, name, most=MOST_ROWS):
     """The tables of [[name]]. Raises BadSituation."""
     rows = tables.get(name, [])
+    need(not isinstance(rows, dict), f"[{name}]", f"each such table should have [[{name}]] as its first line, in two brackets on each side")
     is_right = isinstance(rows, list) and len(rows) <= most
     need(is_right, f"[[{name}]]", f"it should be up to {most} tables, each with [[{name}]] as its first line, and is {shown(rows)}")
     return rows
@@ -174,7 +190,7 @@ def situation(given):
     """The situation that a file given as bytes says. Raises BadSituation."""
     tables = parsed(given)
     for it in tables:
-        need(it in TOP, shown(it), f"there is no such table; a situation has {', '.join(TOP)}")
+        need(it in TOP, shown(it), f"there is no such table{keys.meant(it, '', TOP)}; a situation has {', '.join(TOP)}")
     for it in ("search", "area", "searcher"):
         need(it in tables, f"[{it}] is lacking", f"it should be a table, {AS_IN}")
     title = take_key(tables, "the file's", keys.TITLE)

@@ -16,6 +16,8 @@ from desk.keys import BadSituation
 BASE = "base"
 # Lengths that are the same to so many digits behind the point are taken as one.
 DIGITS = 9
+# From more moves than so many on plans were seen that need more records than are allowed.
+MANY = 30
 # The minutes of search that follow from the way to the next square are whole parts of a minute.
 MINUTE_PART = 100
 
@@ -72,6 +74,9 @@ class Ways:
         yield f"{told}; in one move it reaches {counts[0]} to {counts[-1]} cells, the farthest in {decimal(self.minutes_of(farthest))} minutes"
         if self.who.base:
             yield from self.from_base(clock)
+        if counts[-1] > MANY:
+            told = f"a plan of up to {counts[-1]} moves from a cell may need more records than are allowed"
+            yield f"note: {told}; more minutes of search leave fewer moves, fewer periods help, and ./osp gap makes something of what is allowed"
         many = [it for it, reached in found.items() if len(reached) > len(kept[it])]
         if many:
             more = f" and {len(many) - 1} others" if len(many) > 1 else ""

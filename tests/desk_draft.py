@@ -541,7 +541,7 @@ class Wrong(unittest.TestCase):
     def test_a_time_without_quotes(self):
         for time in ("12:00", "2026-07-04 12:00", "9:30  # half past nine"):
             self.says(LAKE.replace('"2026-07-04 12:00"', time), 'line 3 has a time without quotes; it stands in them, as in begins = "19:30"')
-        self.assertNotIn("quotes", self.says(LAKE.replace('"2026-07-04 12:00"', "noon")))
+        self.assertNotIn("a time without quotes", self.says(LAKE.replace('"2026-07-04 12:00"', "noon")))
 
     def test_what_contradicts(self):
         current = '[[current]]\nbegins = "{}"\nknots = 1\ntowards = 0\n'
@@ -550,7 +550,7 @@ class Wrong(unittest.TestCase):
             ("periods = 3", "", "[search] periods: either it or until"),
             ("periods = 3", 'periods = 3\nuntil = "13:00"', "[search] periods: either it or until"),
             ("periods = 3", 'until = "12:10"', "[search] until: it should leave 1 to 32 periods"),
-            ("periods = 3", "perods = 3", "[search] 'perods': there is no such key; [search] has begins"),
+            ("periods = 3", "perods = 3", "[search] 'perods': there is no such key, and periods may be meant; [search] has begins"),
             ("rows = 3", "rows = 51", "[area] rows: rows times columns without land should be 1 to 200"),
             ("rows = 3", "rows = 50", None),
             ("rows = 3", "rows = 200\nland = [\"r3c0..r199c3\"]", None),

@@ -307,6 +307,49 @@ class Twofold(unittest.TestCase):
         self.assertEqual(said, "two searchers: duo doesn't take the scenario (1001 parts of a look, and 1000 fit twice); it would with [parts] look = 1000")
 
 
+class Slips(unittest.TestCase):
+    """What a new user may write, and what is said of it."""
+
+    def test_what_to_write(self):
+        base = SEA.replace('start = "r4c4"', 'base = [-1389, 4167]\nenters = ["r2c0..r6c0"]\nleaves = "11:50"')
+        for old, new, wanted in (
+            ("[[report]]", "[report]", "[report]: each such table should have [[report]] as its first line, in two brackets on each side"),
+            ("[[report]]", "[current]\nknots = 1\ntowards = 9\n[[report]]", "[current]: each such table should have [[current]] as its first line"),
+            ("[[report]]", "[wind]\nknots = 1\nfrom = 9\n[drift]\nleeway = 0.1\n[[report]]", "[wind]: each such table should have [[wind]] as its first line"),
+            ("[[report]]", "[visibility]\nfactor = 1\n[[report]]", "[visibility]: each such table should have [[visibility]] as its first line"),
+            ("[search]", "[[search]]", "[search]: it stands once, so its first line should be [search], and is [[search]]"),
+            ("r2c0..r6c0", "r2c0-r6c0", 'write enters = ["r2c0..r6c0"]'),
+            ("r2c0..r6c0", "r2c0 to r6c0", 'write enters = ["r2c0..r6c0"]'),
+            ("r2c0..r6c0", "R2C0:R6C0", 'write enters = ["r2c0..r6c0"]'),
+            ('["r2c0..r6c0"]', '"r2c0..r6c0"', 'write enters = ["r2c0..r6c0"]'),
+            ("columns = 9", 'columns = 9\nland = "r0c0"', 'write land = ["r0c0"]'),
+            ('"r1c1"', '"R1C1"', 'write cell = "r1c1"'),
+            ('"r1c1"', '["r1c1"]', 'write cell = "r1c1"'),
+            ("speed = 20", 'speed = "20"', "write speed = 20"),
+            ("speed = 20", 'speed = "7,5"', "write speed = 7.5"),
+            ("speed = 20", 'speed = 20\nstays = "no"', "write stays = false"),
+            ('"11:00"', '"9:30"', 'write time = "09:30"'),
+            ('"11:00"', '"09.30"', 'write time = "09:30"'),
+            ('"11:00"', '"0930"', 'write time = "09:30"'),
+            ('"r1c1"', "r1c1", "line 11 has a text without quotes; it stands in them"),
+            ('"r1c1"', "\u201cr1c1\u201d", "line 11 has curved quotes; they are straight"),
+            ("minutes = 15", "minutes = 15 min", "line 4 has a unit behind a number; it has none"),
+            ("minutes = 15", "minutes = 7,5", "line 4 has a comma in a number; it has a point"),
+            ("minutes = 15", "minutes: 15", "line 4 has a colon behind a key; an equals sign stands there"),
+            ("minutes = 15", "minutes = 15\nminutes = 15", "line 5 gives a key that its table has already"),
+            ("speed = 20", "spede = 20", "[searcher] 'spede': there is no such key, and speed may be meant; [searcher] has start"),
+            ("speed = 20", "speed = 20\nspread = 20", "[searcher] 'spread': there is no such key, and it belongs to [drift]; [searcher] has start"),
+            ("[[report]]", "[[reports]]", "'reports': there is no such table, and report may be meant; a situation has title"),
+            ("[search]", "edge = 3\n[search]", "'edge': there is no such table, and it belongs to [area]; a situation has title"),
+        ):
+            with self.subTest(new):
+                self.assertIn(wanted, said((old, new), text=base))
+
+    def test_what_no_change_mends_has_no_advice(self):
+        for old, new in (('"11:00"', '"noon"'), ("speed = 20", 'speed = "fast"'), ("speed = 20", 'speed = "-3"'), ('"r1c1"', '"r1c1-r2c2"')):
+            self.assertNotIn("write", said((old, new)))
+
+
 class Told(unittest.TestCase):
     def lines(self, *changes):
         text = SEA
@@ -336,6 +379,10 @@ class Told(unittest.TestCase):
         # 7.5 minutes are 5 squares: from r0c0 26 within 5, from the middle 77.
         many = [it for it in self.lines(searching(7.5)) if "more than 64 cells are reached in time; the nearest are taken" in it]
         self.assertEqual(len(many), 1)
+        # 6 minutes are 4 squares: from the middle 49 are reached.
+        large = "note: a plan of up to 49 moves from a cell may need more records than are allowed"
+        self.assertTrue(any(it.startswith(large) for it in self.lines(searching(9))))
+        self.assertFalse(any("more records" in it for it in self.lines()))
         corner = "note: by a corner the way takes 2.12 minutes, and isn't made; take fewer of search, as in search_minutes = 12.87"
         self.assertIn(corner, self.lines(("speed = 20", "speed = 20\nreaches = 8"), searching(13)))
         self.assertNotIn(corner, self.lines(("speed = 20", "speed = 20\nreaches = 8")))
