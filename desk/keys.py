@@ -97,7 +97,7 @@ def likely(value):
     squares of a block, with a colon and two digits in a time."""
     if isinstance(value, str) and len(value) <= 40:
         yield from (Decimal(it) for it in [value.strip().replace(",", ".")] if PLAIN.fullmatch(it))
-        yield from ({"true": True, "yes": True, "false": False, "no": False}[it] for it in [value.lower()] if it in ("true", "yes", "false", "no"))
+        yield from (meaning for word, meaning in (("true", True), ("yes", True), ("false", False), ("no", False)) if word == value.lower())
         yield CLOCK.sub(lambda it: f"{int(it[1] or it[3]):02}:{it[2] or it[4]}", value)
         yield from (value.lower(), [dotted(value)])
     if isinstance(value, list) and len(value) == 1:

@@ -59,7 +59,8 @@ def note(given, share):
     """What to add where this share of the tracks, above MUCH, is at or over the edge by the last look."""
     grid, added = given.grid, dict(zip(SIDES, wanted(given)))
     told = f"note: {float(share) * 100:.1f} percent are at or over the edge of the area by the last look"
-    words = [f"{count} {'row' if side in ('north', 'south') else 'column'}{'s' * (count > 1)} in the {side}" for side, count in added.items() if count]
+    kinds = dict(north="row", west="column", south="row", east="column")
+    words = [f"{count} {kinds[side]}{'s' * (count > 1)} in the {side}" for side, count in added.items() if count]
     if not words:
         return f"{told}, and would hardly go on from there"
     rows, columns = grid.rows + added["north"] + added["south"], grid.columns + added["west"] + added["east"]

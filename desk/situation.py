@@ -434,7 +434,8 @@ def daylight(table, clock, ends):
 def check_half_day(key, since, clock, ends):
     """Raises BadSituation where the search goes on for more than half a day after a sunset or a sunrise without the other."""
     other = {"sunset": "sunrise", "sunrise": "sunset"}[key]
-    told = f"the search ends at {clock.told(ends)}, more than 12 hours after {key}, so both should stand, as in {other} = {next(it.example for it in keys.LIGHT if it.name == other)}"
+    example = next(it.example for it in keys.LIGHT if it.name == other)
+    told = f"the search ends at {clock.told(ends)}, more than 12 hours after {key}, so both should stand, as in {other} = {example}"
     need(ends <= since + moments.DAY // 2, f"[light] {other} is lacking", told)
 
 

@@ -58,38 +58,43 @@ class Ways:
             raise BadSituation("[searcher] enters: no way over water leads there from the base; name cells that it can come to")
         length, square = min((length, it) for it, length in found.items())
         takes, left = self.minutes_of(length), self.left(BASE)
-        told = f"the way to {geometry.name_of(square)}, the nearest cell that it enters, takes {decimal(takes)} minutes, and the search leaves {decimal(left)}"
+        told = f"the way to {geometry.name_of(square)}, the nearest cell that it enters, takes {decimal(takes)} minutes"
+        told += f", and the search leaves {decimal(left)}"
         leaves = clock.told(Fraction(math.floor(left - takes - self.who.ahead)))
         raise BadSituation(f'[searcher] base: {told}; say when it leaves, as in leaves = "{leaves}", or let the search begin later')
 
     def lines(self, clock):
         """What to say of the minutes of search and of way, by the kinds of moves, and which squares are left out."""
-        kinds = [f"{decimal(self.minutes_of(it))} {word}" for it, word in zip(next_lengths(self.grid, self.who.reaches), ("to a cell beside it", "by its corner"))]
-        told = f"a period is {decimal(self.who.search_minutes)} minutes of search and up to {decimal(self.minutes - self.who.search_minutes)} of way"
+        lengths, search = next_lengths(self.grid, self.who.reaches), self.who.search_minutes
+        kinds = [f"{decimal(self.minutes_of(it))} {word}" for it, word in zip(lengths, ("to a cell beside it", "by its corner"))]
+        told = f"a period is {decimal(search)} minutes of search and up to {decimal(self.minutes - search)} of way"
         found = {it: self.reached(it) for it in self.cells}
         kept = {it: nearest(reached) for it, reached in found.items()}
         farthest = max(found[it][to] for it, squares in kept.items() for to in squares)
         counts = sorted(len(it) for it in kept.values())
         told += f": {', '.join(['0 to stay'] * self.who.stays + kinds)}"
-        yield f"{told}; in one move it reaches {counts[0]} to {counts[-1]} cells, the farthest in {decimal(self.minutes_of(farthest))} minutes"
+        told += f"; in one move it reaches {counts[0]} to {counts[-1]} cells, the farthest in"
+        yield f"{told} {decimal(self.minutes_of(farthest))} minutes"
         if self.who.base:
             yield from self.from_base(clock)
         if counts[-1] > MANY:
             told = f"a plan of up to {counts[-1]} moves from a cell may need more records than are allowed"
-            yield f"note: {told}; more minutes of search leave fewer moves, fewer periods help, and ./osp gap makes something of what is allowed"
+            yield f"note: {told}; more minutes of search leave fewer moves, fewer periods help, and gap makes something of those"
         many = [it for it, reached in found.items() if len(reached) > len(kept[it])]
         if many:
             more = f" and {len(many) - 1} others" if len(many) > 1 else ""
             yield f"note: from {geometry.name_of(many[0])}{more} more than {MOST_MOVES} cells are reached in time; the nearest are taken"
         if self.who.reaches == 8 and farthest < 2**0.5 and len(kinds) > 1:
-            yield f"note: by a corner the way takes {kinds[1].split()[0]} minutes, and isn't made; take fewer of search, as in search_minutes = {decimal(self.most_search())}"
+            told = f"note: by a corner the way takes {decimal(self.minutes_of(lengths[1]))} minutes, and isn't made"
+            yield f"{told}; take fewer of search, as in search_minutes = {decimal(self.most_search())}"
 
     def from_base(self, clock):
         """What to say of the way from the base."""
         reached, entered = self.reached(BASE), self.entered()
         leaves, left = clock.told(-self.who.ahead), self.left(BASE)
         takes = [decimal(self.minutes_of(it)) for it in (min(reached.values()), max(reached.values()))]
-        yield f"from its base it leaves at {leaves}, and is in {takes[0]} to {takes[1]} minutes of {decimal(left)} at {len(reached)} cells that it enters"
+        told = f"from its base it leaves at {leaves}, and is in {takes[0]} to {takes[1]} minutes of {decimal(left)}"
+        yield f"{told} at {len(reached)} cells that it enters"
         late = sorted(set(self.who.enters) - set(reached))
         if late:
             names = ", ".join(geometry.name_of(it) for it in late[:3]) + (f" and {len(late) - 3} more" if len(late) > 3 else "")
@@ -229,12 +234,16 @@ def search_minutes(grid, speed, minutes, reaches, given):
     shortest, longest = ways[0], ways[-1]
     found = given or Fraction(math.floor((minutes - longest) * MINUTE_PART), MINUTE_PART)
     if found <= 0:
-        told = f"at {decimal(speed)} knots the way to the next cell takes {decimal(longest)} minutes, and leaves nothing of a period's {decimal(minutes)}"
-        raise BadSituation(f"[searcher] speed: {told} for the search; take longer periods, or smaller cells, as in {longer(longest)}")
+        told = f"at {decimal(speed)} knots the way to the next cell takes {decimal(longest)} minutes, and leaves nothing"
+        told += f" of a period's {decimal(minutes)} for the search"
+        raise BadSituation(f"[searcher] speed: {told}; take longer periods, or smaller cells, as in {longer(longest)}")
     if shortest > minutes - found:
-        told = f"the way to the next cell takes {decimal(shortest)} minutes, and the search leaves {decimal(minutes - found)} of a period's {decimal(minutes)}"
+        told = f"the way to the next cell takes {decimal(shortest)} minutes"
+        told += f", and the search leaves {decimal(minutes - found)} of a period's {decimal(minutes)}"
         most = Fraction(math.floor((minutes - longest) * MINUTE_PART), MINUTE_PART)
-        change = f"take fewer, as in search_minutes = {decimal(most)}" if most > 0 else f"take longer periods, or smaller cells, as in {longer(longest + found)}"
+        change = f"take longer periods, or smaller cells, as in {longer(longest + found)}"
+        if most > 0:
+            change = f"take fewer, as in search_minutes = {decimal(most)}"
         raise BadSituation(f"[searcher] search_minutes: {told}; {change}")
     return found
 
