@@ -121,7 +121,7 @@ class Picture:
         who = range(len(self.ways))
         ways = "".join(self.of(it, self.path(it, frame)) for it in who)
         signs = "".join(self.of(it, self.labels(it, frame) + self.searcher(it, frame)) for it in who)
-        parts = [self.colours(frame), self.borders(), self.outlines(frame), ways, self.texts(frame), self.drifts(frame), signs]
+        parts = [self.colours(frame), self.borders(), self.outlines(frame), self.drifts(frame), ways, self.texts(frame), signs]
         return f'<svg class="map" role="img" aria-label="{escape(label)}" viewBox="{box}">{"".join(parts)}</svg>'
 
     def classes(self, frame, mass, parts=1):
