@@ -9,9 +9,9 @@ MOST_PERIODS = 32
 MOST_TRIED = 1000
 TRIED = (2, 3, 4, 5, 6, 7, 8, 10, 12, 15, 20, 30, 50)
 # What a plan is off by is about the rounding of its looks, and a tenth of the greatest total variation of its chain (measured: see
-# docs/PLANNING.md). By so much more than the best, as a share of 1, a smaller denominator may be off.
+# docs/PLANNING.md). By so much more than the best, as a share of 1, a smaller denominator may be off: that of looks, and that of drift.
 OF_VARIATION = 0.1
-CLOSE = 0.001
+CLOSE_LOOK, CLOSE = 0.001, 0.0005
 # What floats are taken as equal by.
 NINE_DIGITS = 5e-10
 
@@ -81,7 +81,7 @@ def denominators(horizon, given, misses, variation):
     """The denominators A, D, G for a horizon: those of `given` that aren't None (A isn't), and the others for the truth of the plan.
 
     `variation(d)` is the greatest total variation of the chain in parts A and d. For each D of TRIED, G is the least number up to
-    MOST_TRIED that fits and rounds no miss by more than CLOSE above what the best one that fits does. By the sum of that rounding and
+    MOST_TRIED that fits and rounds no miss by more than CLOSE_LOOK above what the best one that fits does. By the sum of that rounding and
     of OF_VARIATION times the variation, the least D is taken that is at most CLOSE above the best one: greater numbers make longer
     texts, and leave less room for more periods and searchers. Answers None where none fit.
     """
@@ -91,7 +91,7 @@ def denominators(horizon, given, misses, variation):
     found = []
     for it in (it for it in most if most[it]):
         fit = {look: error for look, error in errors.items() if g or look <= most[it]}
-        close = min(fit.values()) + CLOSE
+        close = min(fit.values()) + CLOSE_LOOK
         look = next(look for look, error in fit.items() if error <= close)
         found.append((OF_VARIATION * variation(it) + fit[look], it, look))
     best = min((error for error, *_ in found), default=0)
