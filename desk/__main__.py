@@ -11,6 +11,7 @@ HELPERS = {
     "explain": "desk.explain",
     "split": "desk.split",
     "join": "desk.join",
+    "trial": "desk.trial",
 }
 
 

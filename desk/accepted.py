@@ -1,9 +1,10 @@
 """An accepted plan or gap plan with its scenario: what the program says of both, and the masses behind its report."""
 import dataclasses
+import functools
 import hashlib
 import os
 
-from desk import forms, masses, paths, program, reports, seats
+from desk import forms, masses, paths, program, reports, seats, squares
 
 # The longest input of `check`, in bytes (docs/FORMATS.md, status 9).
 MOST_INPUT = 336_592_896
@@ -29,7 +30,8 @@ class Search:
     text; `ceiling` what no path exceeds, of a gap plan alone; `report` the program's own, or for a gap plan, of which it makes none,
     that of these masses; `frames` those of desk.masses, which agree with it, or with the program's map, too, where it
     `is_mapped`; the checksums those of the two texts. `note` is what the program said on standard error. `seats` says who is where,
-    and `told_by` is the text whose comments say where that is: the scenario's own, or that of the one that it was made of.
+    and `told_by` is the text whose comments say where that is: the scenario's own, or that of the one that it was made of. `trial` is
+    what a trial says of the plan (desk.tried), or None.
     """
 
     name: str
@@ -47,6 +49,7 @@ class Search:
     told_by: bytes
     ceiling: int | None = None
     is_mapped: bool = False
+    trial: object = None
 
     @property
     def checked_by(self):
@@ -59,6 +62,11 @@ class Search:
     def cells(self):
         """The names of the cells, by number."""
         return [it.decode("ascii") for it in self.sc.names]
+
+    @functools.cached_property
+    def squares(self):
+        """The squares by which the search is told."""
+        return squares.squares(self.seats.of)
 
     def where(self, frame):
         """Where the searchers are in a frame, in words."""

@@ -1,11 +1,10 @@
 """Warnings of a scenario that is right and perhaps not meant. Numbers are exact; shares are printed in percent, cut off."""
-import re
-
 from desk import masses, paths, quoting, verdict
+from desk.squares import row_and_column, squares
+from desk.states import LOST
 
 # From what share of the person on at the edge of a grid it is told.
 EDGE = (1, 10)
-ROW_AND_COLUMN = re.compile(rb"r([0-9]{1,3})c([0-9]{1,3})\Z")
 
 
 def drifting(sc):
@@ -45,9 +44,14 @@ def beyond(sc, covered):
     return sum(left), sc.parts[0] * sc.parts[1] ** (sc.horizon - 1)
 
 
-def names(sc, cells):
-    """The names of cells in a list."""
-    return quoting.listed([quoting.name(sc.names[it]) for it in sorted(cells)])
+def names(sc, cells, among):
+    """The names of the squares of these cells in a list. It says `part of` where others of `among`, which has them all, are in the square."""
+    told = []
+    for name, own in zip(squares(sc).names, squares(sc).cells):
+        found = cells.intersection(own)
+        if found:
+            told.append(("" if found == among.intersection(own) else "part of ") + quoting.name(name))
+    return quoting.listed(told)
 
 
 def about_misses(sc):
@@ -79,9 +83,10 @@ def about_reach(sc, covered, mass):
         return
     if 2 * lost > whole:
         yield f"at most {masses.percent(whole - lost, whole)} percent can be found: the rest is never in a cell that a look can cover in time"
-    missed = {cell for here in mass for cell, it in enumerate(here) if it} - ever_seen(sc)
+    there = {cell for here in mass for cell, it in enumerate(here) if it and sc.names[cell] != LOST}
+    missed = there - ever_seen(sc)
     if missed:
-        yield f"no look from any position covers {names(sc, missed)}, where the target may be"
+        yield f"no look from any position covers {names(sc, missed, there)}, where the target may be"
 
 
 def about_periods(sc, covered, mass):
@@ -93,31 +98,35 @@ def about_periods(sc, covered, mass):
 
 
 def about_cells(sc, mass):
-    """Cells that the target never comes to."""
-    never = [cell for cell in range(len(sc.names)) if not any(here[cell] for here in mass)]
+    """Squares that the target never comes to in any part, but for what is lost."""
+    own = squares(sc)
+    never = [name for name, cells in zip(own.names, own.cells) if cells and name != LOST and not any(here[it] for here in mass for it in cells)]
     if never:
-        yield f"the target is never in {names(sc, never)}: no drift leads there in time"
+        rounded = ", or what does was rounded away" if own.is_finer else ""
+        yield f"the target is never in {quoting.listed([quoting.name(it) for it in never])}: no drift leads there in time{rounded}"
 
 
 def edge(sc):
-    """The cells at the edge of a grid of names such as r3c4: the outermost rows, where there are three or more, and columns.
-    Nothing where some cell has another name."""
-    found = [ROW_AND_COLUMN.match(it) for it in sc.names]
-    if not all(found):
+    """The cells at the edge of an area of squares with names such as r3c4, in the outermost rows, where there are three or more, and
+    columns; and what is lost over it. Nothing where some cell has another name."""
+    own = squares(sc)
+    places = {at: row_and_column(name) for at, name in enumerate(own.names) if name != LOST}
+    if not places or not all(places.values()):
         return set()
-    places = [(int(it[1]), int(it[2])) for it in found]
-    ends = [(min(them), max(them)) for them in zip(*places)]
+    ends = [(min(them), max(them)) for them in zip(*places.values())]
     wide = [(first, last) if last - first > 1 else (None, None) for first, last in ends]
-    return {cell for cell, at in enumerate(places) if any(it in end for it, end in zip(at, wide))}
+    inner = {at for at, place in places.items() if not any(it in end for it, end in zip(place, wide))}
+    return {cell for at, cells in enumerate(own.cells) if at not in inner for cell in cells}
 
 
 def about_edge(sc, mass):
-    """Much of the target is at the edge of a grid in the last period, from where it might have gone further."""
+    """Much of the target is at the edge of a grid in the last period, from where it might have gone further, or is lost over it."""
     here, cells = mass[-1], edge(sc)
     part, whole = sum(here[it] for it in cells), sum(here)
     if part * EDGE[1] > whole * EDGE[0]:
+        where = "at the edge of the grid or lost" if LOST in sc.names else "at the edge of the grid"
         yield (
-            f"{masses.percent(part, whole)} percent of the target is at the edge of the grid in the last period, if nobody looks: "
+            f"{masses.percent(part, whole)} percent of the target is {where} in the last period, if nobody looks: "
             "where the water goes on there, take in a margin"
         )
 

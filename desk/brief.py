@@ -1,9 +1,12 @@
-"""brief SCENARIO [PLAN] [--of SCENARIO] [--from HH:MM --minutes N]: writes an accepted plan as plain text for a radio or a tasking form."""
-from desk import accepted, masses, running, tables
+"""brief SCENARIO [PLAN] [--of SCENARIO] [--trial FILE] [--from HH:MM --minutes N]: writes an accepted plan as plain text for a radio or a
+tasking form."""
+import textwrap
+
+from desk import accepted, masses, running, tables, tried
 
 # How wide the text is where names allow it, in columns.
 WIDTH = 60
-# How many cells are told at the end.
+# How many squares are told at the end.
 MOST_LEFT = 5
 
 
@@ -42,16 +45,17 @@ def periods(search, times):
 
 
 def left(search):
-    """Where they are if nothing was found: the cells that hold most, as a share of all and of what is left."""
-    last, whole = search.frames[-1], search.report.weight
-    order = masses.greatest(last.left)
+    """Where they are if nothing was found: the squares that hold most, as a share of all and of what is left."""
+    last, whole, names = search.frames[-1], search.report.weight, search.squares.texts
+    sums = search.squares.sums(last.left)
+    order = masses.greatest(sums)
     if not order:
         return ["If nothing was found: nowhere, these looks find them."]
     head = f"If nothing was found, they are after look {last.period} in"
-    lines = [["cell", "of all", "of what is left"]]
-    lines += [[search.cells[it], percent(last.left[it], whole), percent(last.left[it], last.missed)] for it in order[:MOST_LEFT]]
+    lines = [[search.squares.noun, "of all", "of what is left"]]
+    lines += [[names[it], percent(sums[it], whole), percent(sums[it], last.missed)] for it in order[:MOST_LEFT]]
     more = len(order) - MOST_LEFT
-    rest = sum(last.left[it] for it in order[MOST_LEFT:])
+    rest = sum(sums[it] for it in order[MOST_LEFT:])
     return [head, *rows_of(lines, [True, False, False]), *([f"and in {more} more: {percent(rest, whole)} of all"] if more > 0 else [])]
 
 
@@ -65,6 +69,7 @@ def text_of(search, times):
         search.checked_by,
         f"Chance to find them: {search.report.percent} %, {begin[0]}",
         *begin[1:],
+        *(line for it in tables.about_trial(search) for line in textwrap.wrap(it, WIDTH)),
         *tables.about_flown(search),
         *tables.about_names(search),
         "",
@@ -82,7 +87,7 @@ def text_of(search, times):
 
 def brief_of(given):
     """The text of what the words say, and what the program said on standard error. Raises accepted.Refused."""
-    search = accepted.load(given.files, given.of)
+    search = tried.with_trial(accepted.load(given.files, given.of), given.trial)
     # Of a gap plan the program makes no report, and so its map is asked.
     return text_of(search if search.ceiling is None else accepted.mapped(search), given.times), search.note
 

@@ -37,40 +37,50 @@ def clock(options):
     return Clock(int(begins[1]) * 60 + int(begins[2]), int(minutes[0]))
 
 
+def sorted_words(words, once, many=()):
+    """The words that are names of files; the word behind each option of `once` that stands, by option; and by each option of `many`
+    the words behind it, as often as it stands. Behind `--` all words are names. Raises BadWords."""
+    files, found, rest = [], {it: [] for it in many}, list(words)
+    while rest:
+        word = rest.pop(0)
+        if word == "--":
+            return files + rest, found
+        if word not in once and word not in many:
+            if word.startswith("--"):
+                raise BadWords(f"there is no such option as {ascii(word)[1:-1]}")
+            files.append(word)
+        elif not rest or word in once and word in found:
+            raise BadWords(f"{word} {'stands once, and ' * (word in once)}has one word behind it")
+        elif word in once:
+            found[word] = rest.pop(0)
+        else:
+            found[word].append(rest.pop(0))
+    return files, found
+
+
 @dataclasses.dataclass
 class Words:
     """What words say: the files of a scenario and its plan, or the one that has both; the file of the scenario that it was made of, or
-    None; the clock, or None."""
+    None; the clock, or None; the file of a trial, or None."""
 
     files: list
     of: str | None
     times: Clock | None
+    trial: str | None = None
 
 
-OPTIONS = ("--of", "--from", "--minutes")
+OPTIONS = ("--of", "--from", "--minutes", "--trial")
 
 
 def taken(words):
-    """What the words SCENARIO [PLAN] [--of SCENARIO] [--from HH:MM --minutes N] say. Raises BadWords.
+    """What the words SCENARIO [PLAN] [--of SCENARIO] [--trial FILE] [--from HH:MM --minutes N] say. Raises BadWords.
 
-    Behind `--` all words are names. The name `-` stands for standard input, which can be read once.
+    The name `-` stands for standard input, which can be read once.
     """
-    files, options, rest = [], {}, list(words)
-    while rest:
-        word = rest.pop(0)
-        if word == "--":
-            files, rest = files + rest, []
-        elif word in OPTIONS:
-            if word in options or not rest:
-                raise BadWords(f"{word} stands once, and has one word behind it")
-            options[word] = rest.pop(0)
-        elif word.startswith("--"):
-            raise BadWords("there is no such option")
-        else:
-            files.append(word)
+    files, options = sorted_words(words, OPTIONS)
     if len(files) not in (1, 2):
         raise BadWords("a scenario's file and a plan's are needed, or one file with both")
-    of = options.pop("--of", None)
-    if [*files, of].count("-") > 1:
+    of, trial = options.pop("--of", None), options.pop("--trial", None)
+    if [*files, of, trial].count("-") > 1:
         raise BadWords("standard input can be read once, and stands for one file")
-    return Words(files, of, clock(options))
+    return Words(files, of, clock(options), trial)

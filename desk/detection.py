@@ -46,3 +46,12 @@ def misses(situation, t):
     seen = factor(situation.visibility, situation.minutes * (t - 1), situation.minutes * t)
     widths = [who.sweep_width, who.beside]
     return [None if it is None else miss(coverage(it * seen, who.speed, who.search_minutes, situation.grid.side)) for it in widths]
+
+
+def covered(situation, misses, square):
+    """How often a look from a square misses, by square that it covers; `misses` are those of its period."""
+    own, aside = misses
+    found = {square: own}
+    if aside is not None:
+        found.update((it, aside) for it in beside(square, situation.searcher.course) if situation.grid.is_water(it))
+    return found

@@ -5,7 +5,8 @@ The scenario goes to standard output; what was rounded, and what to look at, to 
 import os
 import sys
 
-from desk import telling, writing
+from desk import telling, tracks, writing
+from desk.chain import drifts
 from desk.rounded import rounded
 from desk.shares import Shares
 from desk.situation import LONGEST, BadSituation, situation
@@ -20,12 +21,16 @@ def drafted(text):
     """The scenario's text for a situation's text, both as bytes, and the lines to say of it. Raises BadSituation."""
     given = situation(text)
     shares = Shares(given)
-    draft = rounded(shares)
-    scenario = writing.scenario_text(draft.scenario, telling.comments(text, shares, draft))
-    if len(scenario) > MOST_SCENARIO:
-        why = f"the scenario has {len(scenario):,} bytes, and {MOST_SCENARIO:,} are the most; take fewer, larger cells, as in rows = 7"
-        raise BadSituation(f"[area] rows: {why}")
-    return scenario, telling.lines(shares, draft)
+    for drift in drifts(given, tracks.simulated(given)):
+        draft = rounded(shares, drift)
+        told = telling.facts(shares, drift, draft)
+        scenario = writing.scenario_text(draft.scenario, telling.comments(text, shares, drift, told))
+        if len(scenario) <= MOST_SCENARIO:
+            return scenario, telling.lines(shares, drift, draft, told)
+    why = f"the scenario has {len(scenario):,} bytes, and {MOST_SCENARIO:,} are the most"
+    if drift.states.finer > 1:
+        raise BadSituation(f"[tracks] finer: {why}; take a smaller number, as in finer = {drift.states.finer - 1}")
+    raise BadSituation(f"[area] rows: {why}; take fewer, larger cells, as in rows = 7")
 
 
 def say(line):

@@ -4,19 +4,19 @@ The plan is asked of the program's `check` first. The scenario goes to standard 
 mean, to standard error.
 """
 import math
-import re
 import shlex
 
-from desk import accepted, clock, derived, forms, masses, onward, quoting, rounding, running, writing
+from desk import accepted, clock, derived, forms, layout, masses, onward, quoting, rounding, running, telling, writing
 from desk.accepted import Refused
+from desk.squares import squares
 
 USAGE = "usage: osp next SCENARIO PLAN [--flown K] [--horizon N]"
 # The longest text of a scenario, in bytes (docs/FORMATS.md, status 9).
 MOST_SCENARIO = 1_048_576
 # Exit statuses of docs/FORMATS.md.
 WRONG_WORDS, TOO_LONG, FAILED = 2, 9, 70
-# A comment that says where a cell or a position lies.
-AT = re.compile(rb"#[ \t]*at[ \t]+([A-Za-z0-9_-]{1,24})[ \t]+[-+.0-9]{1,32}[ \t]+[-+.0-9]{1,32}")
+# The line of a scenario that `draft` made, before those of its situation.
+DRAFTED = b"\n# " + telling.SITUATION.encode("ascii") + b"\n"
 # From what share of the mass that is left on the rounding is called coarse.
 COARSE = (1, 1000)
 
@@ -45,9 +45,10 @@ def periods(sc, flown, horizon):
 
 
 def places(text, sc):
-    """The comments of a scenario that say where its cells and positions lie, without their number signs."""
-    found = (AT.fullmatch(it.strip(b" \t\r")) for it in text.split(b"\n"))
-    return [it[0].removeprefix(b"#").strip() for it in found if it and (it[1] in sc.names or it[1] in sc.positions)]
+    """The comments of a scenario that say where its cells, their squares and its positions lie, without their number signs."""
+    placed = {*sc.names, *sc.positions, *squares(sc).names}
+    found = (layout.AT.fullmatch(it.strip(b" \t\r")) for it in text.split(b"\n"))
+    return [it[0].removeprefix(b"#").strip() for it in found if it and it[1] in placed]
 
 
 def decimal(share):
@@ -61,13 +62,24 @@ def decimal(share):
     return f"{units // 10**digits}.{units % 10**digits:0{digits}}"
 
 
-def told(sc, flown, why, it):
-    """What is said on standard error of the scenario from there on."""
+def replan(sc, flown, name):
+    """The words that plan what comes behind these positions, by a scenario in a file of this name."""
+    names = " ".join(shlex.quote(quoting.name(sc.positions[it])) for it in flown)
+    return f"./osp replan flown {names} < {name}"
+
+
+def told(sc, path, flown, why, it, is_draft):
+    """What is said on standard error of the scenario from there on. `is_draft` says whether `draft` made the one before."""
     new, p1 = it.sc, it.found
     at = quoting.name(sc.positions[new.start])
     yield f"behind period {flown} of {sc.horizon}: the searcher starts at {at}, and the horizon is {quoting.counted(new.horizon, 'period')} ({why})"
     if flown + new.horizon > sc.horizon:
         yield f"periods behind period {sc.horizon} have the looks of period {sc.horizon}, and the drift of the last step before it"
+        if is_draft:
+            yield (
+                f"that drift is counted from tracks that end at period {sc.horizon}, and says little of what comes behind it: rather draft the "
+                f"situation anew with more periods, and plan the rest by {replan(sc, path[:flown], 'THAT_SCENARIO')}"
+            )
     p2 = f"{p1} + {1 - p1}*P2"
     yield f"P1, the chance that the {quoting.counted(flown, 'period')} flown find the target, is {masses.percent(p1.numerator, p1.denominator)} percent: {p1}"
     yield f"chances from here (P2) hold given that nothing was found; together they are P1 + (1 - P1)*P2 = {p2}"
@@ -84,12 +96,11 @@ def told(sc, flown, why, it):
 def exactly(sc, path, flown, name):
     """What is said of the rest of the same horizon: the words that plan it exactly, or why none do. `name` is the scenario's file."""
     head = f"for what is left of the same {quoting.counted(sc.horizon, 'period')} replan is exact, and shows that no path that begins so is better"
-    names = " ".join(shlex.quote(quoting.name(sc.positions[it])) for it in path[:flown])
     try:
         derived.forced(sc, path[:flown])
     except derived.Refused as why:
         return f"{head}; but not here: bad flown: {why}"
-    return f"{head}: ./osp replan flown {names} < {'SCENARIO' if name == '-' else shlex.quote(accepted.shown(name))}"
+    return f"{head}: {replan(sc, path[:flown], 'SCENARIO' if name == '-' else shlex.quote(accepted.shown(name)))}"
 
 
 def text_of(sc, old, flown, it):
@@ -119,7 +130,8 @@ def followed(scenario, plan, flown, horizon, name):
     except onward.NoWay as no:
         raise Refused(no.status, str(no)) from None
     exact = [exactly(sc, path, flown, name)] if flown + horizon == sc.horizon else []
-    return text_of(sc, scenario, flown, it), [*filter(None, [note]), *(f"osp next: {line}" for line in (*told(sc, flown, why, it), *exact))]
+    lines = told(sc, path, flown, why, it, DRAFTED in scenario)
+    return text_of(sc, scenario, flown, it), [*filter(None, [note]), *(f"osp next: {line}" for line in (*lines, *exact))]
 
 
 def main(words):

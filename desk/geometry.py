@@ -12,6 +12,11 @@ NAUTICAL_MILE = 1852
 SINE_PART = 10**9
 
 
+def decimal(value):
+    """A number of metres, minutes or knots with up to two digits behind the point."""
+    return f"{float(value):.2f}".rstrip("0").rstrip(".")
+
+
 def metres(knots, minutes):
     """The metres that a speed in knots makes in so many minutes, exactly."""
     return Fraction(knots) * NAUTICAL_MILE * Fraction(minutes) / 60

@@ -1,5 +1,6 @@
 """The keys of a situation: the tables of its TOML file, what each value should be, an example of it, and what takes it."""
 import dataclasses
+import difflib
 import re
 from decimal import Decimal
 from fractions import Fraction
@@ -10,7 +11,15 @@ from desk.rounding import MOST_PERIODS
 
 # The most squares of an area, with its land.
 MOST_SQUARES = 1000
+# The most places of a trackline.
+MOST_PLACES = 50
 SQUARE = re.compile(r"r(\d{1,3})c(\d{1,3})", re.ASCII)
+
+
+# Values as people write them: a number in quotes, perhaps with a comma; a time such as 7:30 or 19.30; what stands between two squares.
+PLAIN = re.compile(r"\s*-?\d{1,12}(?:[.,]\d{1,12})?\s*", re.ASCII)
+CLOCK = re.compile(r"\b(\d{1,2})[:.h](\d\d)\b|\b(\d\d)(\d\d)\Z", re.ASCII)
+BETWEEN = re.compile(r"\s*(?:\.{1,3}|\u2026|-|\u2013|:|\bto\b)\s*")
 
 
 class BadSituation(Exception):
@@ -48,24 +57,75 @@ def shown(value):
 
 def take_table(table, where, keys):
     """The values of a table by key; None where a key that isn't needed is lacking. Raises BadSituation."""
+    if isinstance(table, list) and where[1:2] != "[":
+        raise BadSituation(f"{where}: it stands once, so its first line should be {where}, and is [{where}]")
     if not isinstance(table, dict):
         raise BadSituation(f"{where}: it should be a table, as in examples/situations/kayaker.toml, and is {shown(table)}")
     names = [it.name for it in keys]
     unknown = next((it for it in table if it not in names), None)
     if unknown is not None:
-        raise BadSituation(f"{where} {shown(unknown)}: there is no such key; {where} has {', '.join(names)}")
+        raise BadSituation(f"{where} {shown(unknown)}: there is no such key{meant(unknown, where, names)}; {where} has {', '.join(names)}")
     return {key.name: take_key(table, where, key) for key in keys}
 
 
+def meant(unknown, where, names):
+    """What a key may have been meant for that a table doesn't have: another one of its keys, or a key of other tables."""
+    near = difflib.get_close_matches(unknown, names, 1)
+    tables = [name for name, its in TABLES.items() if name != where and any(it.name == unknown for it in its)]
+    if tables:
+        return f", and it belongs to {' or '.join(tables)}"
+    return f", and {near[0]} may be meant" if near else ""
+
+
 def take_key(table, where, key):
+    """The value of a key; None where it is lacking and not needed. Raises BadSituation."""
     if key.name not in table:
         if key.needed:
             raise BadSituation(f"{where} {key.name} is lacking: {key.told()}")
         return None
+    value = table[key.name]
     try:
-        return key.take(table[key.name])
+        return key.take(value)
     except (ValueError, OverflowError):
-        raise BadSituation(f"{where} {key.name}: {key.told()}, and is {shown(table[key.name])}") from None
+        again = next((written(it) for it in likely(value) if takes(key, it)), None)
+        instead = f"; write {key.name} = {again}" if again else ""
+        raise BadSituation(f"{where} {key.name}: {key.told()}, and is {shown(value)}{instead}") from None
+
+
+def likely(value):
+    """What a wrong value was perhaps meant to be: without quotes or brackets, or with them, in small letters, with two dots between the
+    squares of a block, with a colon and two digits in a time."""
+    if isinstance(value, str) and len(value) <= 40:
+        yield from (Decimal(it) for it in [value.strip().replace(",", ".")] if PLAIN.fullmatch(it))
+        yield from (meaning for word, meaning in (("true", True), ("yes", True), ("false", False), ("no", False)) if word == value.lower())
+        yield CLOCK.sub(lambda it: f"{int(it[1] or it[3]):02}:{it[2] or it[4]}", value)
+        yield from (value.lower(), [dotted(value)])
+    if isinstance(value, list) and len(value) == 1:
+        yield value[0]
+    if isinstance(value, list) and all(isinstance(it, str) for it in value):
+        yield [dotted(it) for it in value]
+
+
+def dotted(value):
+    """A block of squares as it is written, in small letters and with two dots."""
+    return BETWEEN.sub("..", value.lower())
+
+
+def takes(key, value):
+    try:
+        key.take(value)
+        return True
+    except (ValueError, OverflowError):
+        return False
+
+
+def written(value):
+    """A value as TOML has it, in ASCII; None where it is long."""
+    if isinstance(value, list):
+        text = "[" + ", ".join(written(it) or "" for it in value) + "]"
+    else:
+        text = f'"{value}"' if isinstance(value, str) else str(value).lower()
+    return text if len(text) <= 80 and text.isascii() else None
 
 
 # ---- what values are
@@ -159,6 +219,16 @@ def place(value):
     return take(value[0]), take(value[1])
 
 
+def places(value):
+    """A list of 2 to MOST_PLACES places, each another than the one before it."""
+    if not isinstance(value, list) or not 2 <= len(value) <= MOST_PLACES:
+        raise ValueError("no list, or a short or long one")
+    found = tuple(place(it) for it in value)
+    if any(one == other for one, other in zip(found, found[1:])):
+        raise ValueError("a place twice")
+    return found
+
+
 TITLE = Key("title", "a text of one line, up to 200 characters", '"Kayaker off the point"', text)
 TIME = "a local time, or a date and a time, without a zone"
 SEARCH = (
@@ -173,15 +243,18 @@ AREA = (
     Key("rows", "a whole number from 1 to 200", "7", whole(1, MOST_CELLS), True),
     Key("columns", "a whole number from 1 to 200", "7", whole(1, MOST_CELLS), True),
     Key("land", "a list of cells, or of blocks of cells from the north-west one to the south-east one", LAND, squares),
-    Key("edge", '"stays" or "lost"', '"stays"', one_of("stays", "lost")),
+    Key("edge", '"lost" or "stays"', '"lost"', one_of("stays", "lost")),
 )
 PLACE = "a pair of metres east and south of the area's north-west corner"
 REPORT = (
     Key("cell", "the name of a cell", '"r2c3"', square),
     Key("at", PLACE, "[1750, 1250]", place),
+    Key("track", "a list of 2 to 50 such pairs, one after the other", "[[400, 3100], [2600, 1200]]", places),
     Key("radius", "metres from 0 to 100000", "400", number(0, 100_000)),
+    Key("probable_error", "metres above 0 and up to 100000", "300", number(0, 100_000, True)),
     Key("weight", "a number above 0 and up to 1000000", "2", number(0, 1_000_000, True)),
     Key("time", TIME, '"18:45"', moments.moment, True),
+    Key("until", TIME, '"19:05"', moments.moment),
 )
 CURRENT = (
     Key("begins", TIME, '"18:00"', moments.moment),
@@ -196,11 +269,17 @@ WIND = (
 DRIFT = (
     Key("spread", "metres from 0 to 100000", "100", number(0, 100_000)),
     Key("leeway", "a share of the wind's speed, from 0 to 1", "0.03", number(0, 1)),
+    Key("current_error", "knots from 0 to 20", "0.2", number(0, 20)),
+    Key("wind_error", "knots from 0 to 100", "3", number(0, 100)),
+    Key("leeway_error", "a share of the wind's speed, from 0 to 1", "0.005", number(0, 1)),
+    Key("divergence", "degrees from 0 to 90", "20", number(0, 90)),
+    Key("jibing", "a chance in an hour, from 0 to 0.9", "0.04", number(0, Fraction(9, 10))),
 )
 SEARCHER = (
     Key("start", "the name of a cell", '"r6c3"', square),
     Key("base", f"{PLACE}, outside of the area", "[-2000, 1500]", place),
     Key("enters", "a list of cells, or of blocks of cells, where it comes into the area from its base", '["r0c0..r6c0"]', squares),
+    Key("leaves", f"{TIME}, up to the search's begin", '"19:10"', moments.moment),
     Key("speed", "the knots at which it searches, above 0 and up to 1000", "8", number(0, 1000, True), True),
     Key("sweep_width", "metres above 0 and up to 100000", "300", number(0, 100_000, True), True),
     Key("search_minutes", "the minutes of a period in which it searches, above 0 and up to a period", "12", number(0, 1440, True)),
@@ -222,3 +301,22 @@ VISIBILITY = (
     Key("factor", "the factor of the sweep width, from 0 to 10", "0.5", number(0, 10), True),
 )
 PARTS = tuple(Key(it, "a whole number from 1 to 1000000", "20", whole(1, MOST_PART)) for it in ("first", "drift", "look"))
+TRACKS = (
+    Key("count", "a whole number from 1000 to 200000", "20000", whole(1000, 200_000)),
+    Key("seed", "a whole number from 1 to 1000000", "1", whole(1, MOST_PART)),
+    Key("finer", "a whole number from 1 to 4", "2", whole(1, 4)),
+)
+TABLES = {
+    "[search]": SEARCH,
+    "[area]": AREA,
+    "[[report]]": REPORT,
+    "[[current]]": CURRENT,
+    "[[wind]]": WIND,
+    "[drift]": DRIFT,
+    "[searcher]": SEARCHER,
+    "[searcher.swath]": SWATH,
+    "[light]": LIGHT,
+    "[[visibility]]": VISIBILITY,
+    "[parts]": PARTS,
+    "[tracks]": TRACKS,
+}

@@ -1,13 +1,19 @@
-"""Where cells and positions lie: by comments `# at NAME X Y` of a scenario, else by names such as r3c4, else nowhere."""
+"""Where squares, cells and positions lie: by comments `# at NAME X Y` of a scenario, else by names such as r3c4, else nowhere."""
 import dataclasses
 import re
 
+from desk.squares import row_and_column, squares
+from desk.states import LOST
+
 AT = re.compile(rb"#[ \t]*at[ \t]+([A-Za-z0-9_-]{1,24})[ \t]+(-?[0-9]{1,9}(?:\.[0-9]{1,9})?)[ \t]+(-?[0-9]{1,9}(?:\.[0-9]{1,9})?)")
-ROW_AND_COLUMN = re.compile(rb"r([0-9]{1,3})c([0-9]{1,3})")
-# How many sides of a cell a map may be long or wide.
+# How many sides of a square a map may be long or wide.
 MOST_ACROSS = 200
-# How many sides of a cell a position may lie outside of the cells and still be drawn.
+# How many sides of a square a position may lie outside of the squares and still be drawn.
 MOST_OUTSIDE = 2
+# The most parts of a square side by side that are looked for, and how far from the middle of one, in parts, a cell may be: places have
+# two digits.
+MOST_PARTS = 9
+NEAR = 0.06
 
 
 class NoPlaces(Exception):
@@ -16,15 +22,18 @@ class NoPlaces(Exception):
 
 @dataclasses.dataclass
 class Layout:
-    """The middles of cells and positions by number, x to the right (east) and y down (south), and the side of a cell.
+    """The middles of squares, cells and positions by number, x to the right (east) and y down (south), and the side of a square.
 
-    They are in metres where comments say them, else in cells. A position that isn't drawn has None.
+    They are in metres where comments say them, else in squares. A square without cells, or a position, that isn't drawn has None.
+    `finer` says how many parts side by side make a square that has parts: 1 where nothing says where in its square a cell lies.
     """
 
+    squares: list
     cells: list
     positions: list
     side: float
     metres: bool
+    finer: int
 
 
 def places_told(text):
@@ -34,9 +43,13 @@ def places_told(text):
 
 
 def places_named(names):
-    """The places that names such as r3c4 give, by name: the column to the right, the row down."""
-    found = ((it, ROW_AND_COLUMN.fullmatch(it)) for it in names)
-    return {name: (float(it[2]), float(it[1])) for name, it in found if it}
+    """The places that names such as r3c4 give, by name: the column to the right, the row down. What is lost is apart, east of them."""
+    found = ((it, row_and_column(it)) for it in names)
+    places = {name: (float(it[1]), float(it[0])) for name, it in found if it}
+    if LOST in names and places:
+        east, south = map(max, zip(*places.values()))
+        places[LOST] = east + 1.5, south
+    return places
 
 
 def distance(one, other):
@@ -70,21 +83,39 @@ def place_of(sc, position, places, cells):
     return own
 
 
-def is_near(place, cells, side):
-    """Whether a place lies among the cells, or not far outside of them."""
-    ranges = [(min(it), max(it)) for it in zip(*cells)]
+def is_near(place, drawn, side):
+    """Whether a place lies among the squares, or not far outside of them."""
+    ranges = [(min(it), max(it)) for it in zip(*drawn)]
     return all(least - side * MOST_OUTSIDE <= at <= most + side * MOST_OUTSIDE for at, (least, most) in zip(place, ranges))
 
 
+def parts_of(own, places, cells, side):
+    """How many parts side by side make a square, by the least number for which each cell of a square with parts is in the middle of one.
+
+    `own` are the squares, `places` their middles, `cells` those of the cells. 1 where no number up to MOST_PARTS fits.
+    """
+    away = [(cells[cell][axis] - places[at][axis]) / side + 1 / 2 for at in own.split for cell in own.cells[at] for axis in (0, 1)]
+    fits = (count for count in range(2, MOST_PARTS + 1) if all(abs(it * count % 1 - 1 / 2) < NEAR and 0 < it < 1 for it in away))
+    return next(fits, 1) if away else 1
+
+
 def layout(sc, text):
-    """The layout of a scenario with this text. Raises NoPlaces where not each cell has a place, or no map can be drawn of them."""
-    told = places_told(text)
-    metres = all(it in told for it in sc.names)
-    places = told if metres else places_named([*sc.names, *sc.positions])
-    lacking = next((it for it in sc.names if it not in places), None)
+    """The layout of a scenario with this text. Raises NoPlaces where not each square has a place, or no map can be drawn of them."""
+    own, told = squares(sc), places_told(text)
+    filled = [own.names[it] for it in own.filled()]
+    metres = all(it in told for it in filled)
+    named = told if metres else places_named([*own.names, *sc.positions])
+    lacking = next((it for it in filled if it not in named), None)
     if lacking is not None:
-        raise NoPlaces(f"nothing says where the cell {lacking.decode('ascii')} lies")
-    cells = [places[it] for it in sc.names]
-    side = side_of(cells)
-    positions = [place_of(sc, it, places, cells) for it in range(len(sc.positions))]
-    return Layout(cells, [it if it and is_near(it, cells, side) else None for it in positions], side, metres)
+        raise NoPlaces(f"nothing says where the {own.noun} {lacking.decode('ascii')} lies")
+    places = [named.get(it) for it in own.names]
+    drawn = [it for it in places if it]
+    side = side_of(drawn)
+    cells, finer = [places[it] for it in own.of_cells()], 1
+    if metres and all(it in told for it in sc.names):
+        within = [told[it] for it in sc.names]
+        finer = parts_of(own, places, within, side)
+        cells = within if finer > 1 else cells
+    positions = [place_of(sc, it, named, cells) for it in range(len(sc.positions))]
+    near = [it if it and is_near(it, drawn, side) else None for it in positions]
+    return Layout(places, cells, near, side, metres and len(drawn) > 1, finer)

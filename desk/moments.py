@@ -4,6 +4,8 @@ import datetime
 import re
 from fractions import Fraction
 
+from desk import geometry
+
 DAY = 24 * 60
 SPELLED = re.compile(r"(?:(\d{4})-(\d\d)-(\d\d)[ T])?(\d\d):(\d\d)(?::(\d\d))?", re.ASCII)
 
@@ -54,9 +56,18 @@ class Clock:
         """The minutes to the next occurrence after the begin."""
         return self.dated(it) if it.date else (it.minute - self.begins.minute) % DAY or Fraction(DAY)
 
-    def before(self, it, limit):
-        """The minutes to the last occurrence up to so many minutes after the begin."""
-        return self.dated(it) if it.date else limit - (limit - (it.minute - self.begins.minute)) % DAY
+    def past(self, it):
+        """The minutes to the last occurrence up to the begin."""
+        return self.dated(it) if it.date else (it.minute - self.begins.minute) % -DAY
+
+    def is_ahead(self, it):
+        """Whether a time without a date is later on the begin's day, and nearer to the begin than that time of the day before."""
+        return it.date is None and 0 < it.minute - self.begins.minute < DAY // 2
+
+    def day(self, minutes):
+        """Which day it is so many minutes after the begin, in words: empty where the begin has a date, which `told` then says."""
+        days = (self.begins.minute + minutes) // DAY
+        return "" if self.begins.date else {0: " today", -1: " the day before"}.get(days, f" {days} days later")
 
     def told(self, minutes):
         """The time of day so many minutes after the begin, as in 19:45. It has seconds, and a date, where there are any."""
@@ -66,6 +77,19 @@ class Clock:
         if self.begins.date:
             return f"{self.begins.date + datetime.timedelta(days=int(days))} {text}"
         return text
+
+
+def daily(since, ends):
+    """The minutes to the occurrences of a time that comes back each day: from the last one up to the begin to the last one up to `ends`."""
+    return [since % -DAY + it * DAY for it in range(int((ends - since % -DAY) // DAY) + 1)]
+
+
+def lasting(minutes):
+    """So many minutes in words, as in 45 minutes or 7 h 15 min."""
+    hours, rest = divmod(minutes, 60)
+    if hours < 2:
+        return f"{geometry.decimal(minutes)} minute{'s' * (minutes != 1)}"
+    return f"{hours} h" + (f" {geometry.decimal(rest)} min" if rest else "")
 
 
 @dataclasses.dataclass(frozen=True)

@@ -8,13 +8,13 @@ from html import escape
 from desk import masses, picture, tables
 
 HERE = os.path.dirname(os.path.realpath(__file__))
-# The least width of a cell on a screen, in pixels: below it a map can be moved sideways.
+# The least width of a square on a screen, in pixels: below it a map can be moved sideways.
 LEAST_CELL = 36
 # A map of more columns than these has the whole width of the page.
 MOST_BESIDE = 15
 # How much of the comments at the front of a scenario a page repeats, in characters.
 MOST_COMMENT = 4_000
-# How many of the likeliest cells the text above a map names.
+# How many of the likeliest squares the text above a map names.
 MOST_LIKELIEST = 3
 
 
@@ -48,7 +48,7 @@ def header(search):
     """The name of the scenario, the verdict, the chance, and what the scenario says of itself."""
     said, looks = comment(search.told_by), tables.plural(search.sc.horizon, "look")
     each = "" if search.seats.count == 1 else " each"
-    told = " ".join([*tables.about_flown(search), *tables.about_names(search)])
+    told = " ".join([*tables.about_trial(search), *tables.about_flown(search), *tables.about_names(search)])
     more = f'<p class="note">{escape(told)}</p>' if told else ""
     up = "" if search.ceiling is None else ", that of the ceiling is rounded up"
     own = f"<details><summary>What the scenario says of itself</summary><pre>{escape(said)}</pre></details>" if said else ""
@@ -63,13 +63,13 @@ def header(search):
 
 
 def likeliest(search, frame):
-    """The likeliest cells after a look, as shares of all and of what is left."""
+    """The likeliest squares after a look, as shares of all and of what is left."""
     if not frame.missed:
         return "They are found for certain."
-    told = []
+    sums, told = search.squares.sums(frame.left), []
     for sort, whole in (("of-all", search.report.weight), ("of-left", frame.missed)):
-        cells = masses.greatest(frame.left)[:MOST_LIKELIEST]
-        names = ", ".join(f"{escape(search.cells[it])} {masses.percent(frame.left[it], whole)}&nbsp;%" for it in cells)
+        greatest = masses.greatest(sums)[:MOST_LIKELIEST]
+        names = ", ".join(f"{escape(search.squares.texts[it])} {masses.percent(sums[it], whole)}&nbsp;%" for it in greatest)
         told.append(f'<span class="{sort}">Likeliest now: {names}.</span>')
     return "".join(told)
 
@@ -93,11 +93,12 @@ def figures(search, drawn, clock):
     return f'<div class="figures">{"".join(told)}</div>'
 
 
-def scale():
+def scale(drawn):
     """What the colours say."""
     square = '<svg viewBox="0 0 24 20" aria-hidden="true"><rect class="a{}" x="1" y="1" width="22" height="18"/></svg>'
     rows = "".join(f"<li>{square.format(at)}{text}&nbsp;%</li>" for at, text in picture.class_names())
-    return f'<ul class="key" aria-label="Scale of the colours">{rows}</ul>'
+    head = "<li>per square:</li>" if drawn.parted else ""
+    return f'<ul class="key" aria-label="Scale of the colours">{head}{rows}</ul>'
 
 
 def sign(drawing, text):
@@ -123,8 +124,18 @@ def signs(count):
     )
 
 
-def controls(count):
+def drifts_box(search):
+    """The choice of whether simulated drifts are drawn, where there are some."""
+    if not search.trial:
+        return ""
+    count = len(search.trial.drifts[0])
+    told = f"{tables.plural(count, 'simulated drift')} at the time of the look"
+    return f'<label><input type="checkbox" id="drifts" autocomplete="off"> {told}</label>'
+
+
+def controls(search):
     """The slider, the buttons, and the choice of what the numbers say."""
+    count = search.sc.horizon
     return (
         '<div class="controls"><button type="button" id="play">Play</button>'
         '<button type="button" id="back" aria-label="One period back">&#8249;</button>'
@@ -132,56 +143,72 @@ def controls(count):
         '<button type="button" id="forth" aria-label="One period on">&#8250;</button></div>'
         "<fieldset><legend>Numbers and colours</legend>"
         '<label><input type="radio" name="shares" value="of-all" checked> share of all</label>'
-        '<label><input type="radio" name="shares" value="of-left"> if nothing was found so far</label></fieldset>'
+        f'<label><input type="radio" name="shares" value="of-left"> if nothing was found so far</label>{drifts_box(search)}</fieldset>'
         '<p id="said" class="hidden" role="status" aria-live="polite"></p>'
+    )
+
+
+def sides(drawn):
+    """How wide squares and their parts are, where that is known, and what the colour of a part says."""
+    side, finer = drawn.layout.side, drawn.layout.finer
+    if not drawn.layout.metres:
+        return ""
+    if not drawn.parted:
+        return f" North is up; a square is {side:g} m wide."
+    part = side / finer
+    return (
+        f" North is up; a square is {side:g} m wide, and where they may be is counted in states, parts of it of {part:.{0 if part >= 100 else 1}f} m. "
+        "The number in a square is the sum of its states. Colours are per square: a state has that of a square whose states are all as likely as it."
     )
 
 
 def map_section(search, drawn, clock):
     """The maps with all that belongs to them."""
-    metres = f" North is up; a square is {drawn.layout.side:g} m wide." if drawn.layout.metres else ""
     off = drawn.not_drawn()
     lacking = f" Not on the map: {escape(', '.join(sorted(off)))}." if off else ""
     note = (
         "Shares of all and what was found so far sum to 100&nbsp;%. If nothing was found, the shares of what is left do. "
-        f'<span class="on-screen">Arrow keys go from period to period.</span>{metres}{lacking}'
+        f'<span class="on-screen">Arrow keys go from period to period.</span>{sides(drawn)}{lacking}'
     )
     return (
-        f'<section id="map" class="of-all"><h2>Where they may be</h2>{controls(search.sc.horizon)}'
-        f'<div class="with-scale">{figures(search, drawn, clock)}{scale()}</div>{signs(search.seats.count)}<p class="note">{note}</p></section>'
+        f'<section id="map" class="of-all"><h2>Where they may be</h2>{controls(search)}'
+        f'<div class="with-scale">{figures(search, drawn, clock)}{scale(drawn)}</div>{signs(search.seats.count)}<p class="note">{note}</p></section>'
     )
 
 
-def no_map(why):
+def no_map(why, each):
     """Why there is no map, and what would give one."""
     return (
-        f'<p class="note">There is no map, since {escape(why)}. A comment <code># at NAME X Y</code> in the scenario for each cell '
+        f'<p class="note">There is no map, since {escape(why)}. A comment <code># at NAME X Y</code> in the scenario for each {each} '
         "(metres east and south of a corner) gives one; names such as r3c4 do, too.</p>"
     )
 
 
 def style(drawn):
-    """The style of the page, with the least width of its maps, and how large the names of cells are written."""
+    """The style of the page, with the least width of its maps, how large the names of squares are written, and the size of their parts."""
     if drawn is None:
         return asset("page.css")
     width = f"@media screen {{ .figures .map {{ min-width: {math.ceil(drawn.columns() * LEAST_CELL)}px; }} }}"
-    pair = asset("pair.css") if drawn.search.seats.count > 1 else ""
-    return f"{asset('page.css')}{pair}{width}\n.map .texts .name {{ font-size: {drawn.name_size():.1f}px; }}\n"
+    wanted = {"pair.css": drawn.search.seats.count > 1, "drifts.css": drawn.search.trial, "states.css": drawn.parted}
+    more = "".join(asset(name) for name, is_wanted in wanted.items() if is_wanted)
+    side = f"{drawn.part_side():.2f}px"
+    part = f".map .cells .part {{ width: {side}; height: {side}; }}\n" if drawn.parted else ""
+    return f"{asset('page.css')}{more}{width}\n.map .texts .name {{ font-size: {drawn.name_size():.1f}px; }}\n{part}"
 
 
 def main_part(search, drawn, why, clock):
     """All below the header: with a map where there is one, else the table of all cells."""
     periods = tables.periods(search, clock, drawn is not None)
     if drawn is None:
-        return f"<main>{periods}{tables.left(search)}{tables.all_cells(search, True)}{no_map(why)}{tables.numbers(search)}</main>"
+        return f"<main>{periods}{tables.left(search)}{tables.all_cells(search, True)}{no_map(why, search.squares.noun)}{tables.numbers(search)}</main>"
     two = " two" if drawn.columns() <= MOST_BESIDE else ""
     first = f'<div class="columns{two}">{map_section(search, drawn, clock)}<div class="beside">{periods}{tables.left(search)}</div></div>'
-    return f'<main class="with-map">{first}{tables.all_cells(search, False)}{tables.numbers(search)}</main>'
+    return f'<main class="with-map">{first}{tables.all_cells(search, False, drawn.layout.finer)}{tables.numbers(search)}</main>'
 
 
 def document(search, drawn, why, clock=None):
     """The page of a search: `drawn` is its Picture, or None with the reason `why` there is none."""
-    css, script = style(drawn), asset("page.js")
+    css, script = style(drawn), asset("page.js") + (asset("drifts.js") if search.trial else "")
     policy = f"default-src 'none'; style-src '{checksum(css)}'; script-src '{checksum(script)}'; base-uri 'none'; form-action 'none'"
     return (
         '<!DOCTYPE html>\n<html lang="en">\n<head>\n<meta charset="utf-8">\n'

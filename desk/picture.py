@@ -1,16 +1,18 @@
-"""Draws the map after a look, as SVG: cells coloured by where the target may be, the path with arrows, the searcher's place."""
+"""Draws the map after a look, as SVG: squares, or the finer cells in them, coloured by where the target may be, the path with arrows,
+the searcher's place."""
 import math
 from html import escape
 
 from desk import masses
 
-# The side of a cell and the margin around the cells, in units of the picture.
+# The side of a square and the margin around the squares, in units of the picture; and the gap between squares, and between parts of one.
 SIDE, MARGIN = 100, 14
+GAP, THIN_GAP = 2, 0.5
 # How much further a leg of the path bows to its right each time that it is gone again, in either direction.
 BOW, MOST_BOWS = 15, 3
-# The longest name that is drawn whole in a cell.
+# The longest name that is drawn whole in a square.
 MOST_LETTERS = 13
-# How many ranges of periods a cell's label has.
+# How many ranges of periods a square's label has.
 MOST_RANGES = 3
 # How long a name may be so that the periods of looks stand beside it, and not below.
 LETTERS_BESIDE = 6
@@ -54,15 +56,17 @@ def number(value):
 
 
 class Picture:
-    """The maps of a search whose cells have places."""
+    """The maps of a search whose squares have places."""
 
     def __init__(self, search, layout):
-        self.search, self.layout = search, layout
+        self.search, self.layout, self.own = search, layout, search.squares
         self.scale = SIDE / layout.side
-        self.left, self.top = (min(it) for it in zip(*layout.cells))
-        self.cells = [self.point(it) for it in layout.cells]
+        self.left, self.top = (min(it) for it in zip(*filter(None, layout.squares)))
+        self.names = self.own.texts
+        self.squares = {at: self.point(it) for at, it in enumerate(layout.squares) if it}
+        self.parted = sorted(self.own.split) if layout.finer > 1 else []
         self.ways = [self.way(it) for it in range(search.seats.count)]
-        drawn = [*self.cells, *(it for way in self.ways for it in way if it)]
+        drawn = [*self.squares.values(), *(it for way in self.ways for it in way if it)]
         self.low = [min(it) - SIDE / 2 - MARGIN for it in zip(*drawn)]
         self.size = [max(it) + SIDE / 2 + MARGIN - low for it, low in zip(zip(*drawn), self.low)]
         self.legs = self.all_legs()
@@ -83,12 +87,12 @@ class Picture:
         return {seats.names[frame.position][who] for who, way in enumerate(self.ways) for frame, place in zip(frames, way) if place is None}
 
     def columns(self):
-        """How many cells the picture is wide."""
+        """How many squares the picture is wide."""
         return self.size[0] / SIDE
 
     def name_size(self):
-        """How large the names of cells are written so that the longest fits."""
-        return min(NAME_SIZE, NAME_WIDTH / (LETTER * max(len(short(it)) for it in self.search.cells)))
+        """How large the names of squares are written so that the longest fits."""
+        return min(NAME_SIZE, NAME_WIDTH / (LETTER * max(len(short(it)) for it in self.names)))
 
     def all_legs(self):
         """By searcher the curve and the arrow of the way to each period's position, as two path data, or None where nothing is drawn."""
@@ -113,32 +117,64 @@ class Picture:
     def svg(self, frame):
         """The map of a frame."""
         box = " ".join(number(it) for it in [*self.low, *self.size])
-        label = f"Map {when(self.search, frame)}; the table of all cells has its numbers"
+        label = f"Map {when(self.search, frame)}; the table of all {self.own.noun}s has its numbers"
         who = range(len(self.ways))
         ways = "".join(self.of(it, self.path(it, frame)) for it in who)
         signs = "".join(self.of(it, self.labels(it, frame) + self.searcher(it, frame)) for it in who)
-        parts = [self.squares(frame), self.outlines(frame), ways, self.texts(frame), signs]
+        parts = [self.colours(frame), self.borders(), self.outlines(frame), self.drifts(frame), ways, self.texts(frame), signs]
         return f'<svg class="map" role="img" aria-label="{escape(label)}" viewBox="{box}">{"".join(parts)}</svg>'
 
-    def classes(self, frame, mass):
-        """The classes of colour of a cell: as a share of all, and as a share of what is left."""
-        left = class_of(mass, frame.missed) if frame.missed else 0
-        return f"a{class_of(mass, self.search.report.weight)} b{left}"
+    def classes(self, frame, mass, parts=1):
+        """The classes of colour of a place: as a share of all, and as a share of what is left. Of a place of which so many make a square
+        it is the share that a square of them would have."""
+        left = class_of(mass * parts, frame.missed) if frame.missed else 0
+        return f"a{class_of(mass * parts, self.search.report.weight)} b{left}"
 
-    def squares(self, frame):
-        """A square for each cell, whose title says its numbers."""
-        whole, drawn = self.search.report.weight, []
-        for name, (x, y), mass in zip(self.search.cells, self.cells, frame.left):
-            title = f"{name}: {share(mass, whole)} % of all, {share(mass, frame.missed)} % if nothing was found; {mass} of {whole}"
-            at = f'x="{number(x - 49)}" y="{number(y - 49)}"'
-            drawn.append(f'<rect class="{self.classes(frame, mass)}" {at}><title>{escape(title)}</title></rect>')
+    def shares(self, name, frame, mass):
+        """What the title of a place says of it, without its exact fraction."""
+        return f"{name}: {share(mass, self.search.report.weight)} % of all, {share(mass, frame.missed)} % if nothing was found"
+
+    def colours(self, frame):
+        """A square for each square, whose title says its numbers, and on it its parts where it has any."""
+        sums, drawn = self.own.sums(frame.left), []
+        for at, (x, y) in self.squares.items():
+            title = f"{self.shares(self.names[at], frame, sums[at])}; {sums[at]} of {self.search.report.weight}"
+            colour = self.classes(frame, 0 if at in self.parted else sums[at])
+            place = f'x="{number(x - 49)}" y="{number(y - 49)}"'
+            drawn.append(f'<rect class="{colour}" {place}><title>{escape(title)}</title></rect>')
+        drawn += (self.part(frame, it) for at in self.parted for it in self.own.cells[at])
         return f'<g class="cells">{"".join(drawn)}</g>'
 
+    def part(self, frame, cell):
+        """A part of a square, coloured as a whole square that has as much in each part."""
+        x, y = (it - self.part_side() / 2 for it in self.point(self.layout.cells[cell]))
+        mass, parts = frame.left[cell], self.layout.finer**2
+        title = escape(self.shares(self.search.cells[cell], frame, mass))
+        return f'<rect class="{self.classes(frame, mass, parts)} part" x="{number(x)}" y="{number(y)}"><title>{title}</title></rect>'
+
+    def part_side(self):
+        """The side of a part of a square, in units of the picture."""
+        return (SIDE - GAP) / self.layout.finer - THIN_GAP
+
+    def borders(self):
+        """The borders of the squares with parts."""
+        at = (self.squares[it] for it in self.parted)
+        drawn = "".join(f'<rect x="{number(x - 49)}" y="{number(y - 49)}"/>' for x, y in at)
+        return f'<g class="borders">{drawn}</g>' if drawn else ""
+
     def outlines(self, frame):
-        """An outline on each cell that the look covers."""
-        at = (self.cells[it] for it in frame.covered)
+        """An outline on each square that the look covers."""
+        seen = set(frame.covered)
+        at = (place for it, place in self.squares.items() if seen.intersection(self.own.cells[it]))
         drawn = (f'<rect x="{number(x - 45)}" y="{number(y - 45)}"/>' for x, y in at)
         return f'<g class="covers">{"".join(drawn)}</g>'
+
+    def drifts(self, frame):
+        """A dot for each simulated drift that is in the area at the look, where there are some and places are metres."""
+        if not self.search.trial or not frame.period or not self.layout.metres:
+            return ""
+        places = (self.point(it) for it in self.search.trial.drifts[frame.period - 1] if it)
+        return f'<path class="drifts" aria-hidden="true" d="{"".join(f"M{x:.0f} {y:.0f}h0" for x, y in places)}"/>'
 
     @staticmethod
     def of(searcher, drawing):
@@ -157,22 +193,22 @@ class Picture:
         return f'<circle class="start" cx="{number(place[0])}" cy="{number(place[1])}" r="9"/>' if place else ""
 
     def texts(self, frame):
-        """The name of each cell, and its share in percent of all and of what is left."""
-        drawn = []
-        for name, (x, y), mass in zip(self.search.cells, self.cells, frame.left):
+        """The name of each square, and its share in percent of all and of what is left."""
+        sums, drawn = self.own.sums(frame.left), []
+        for it, (x, y) in self.squares.items():
             at = f'x="{number(x)}" y="{number(y + 38)}"'
             drawn.append(
-                f'<g class="{self.classes(frame, mass)}">'
-                f'<text class="name" x="{number(x - 42)}" y="{number(y - 31)}">{escape(short(name))}</text>'
-                f'<text class="of-all" {at}>{share(mass, self.search.report.weight)}</text>'
-                f'<text class="of-left" {at}>{share(mass, frame.missed)}</text></g>'
+                f'<g class="{self.classes(frame, sums[it])}">'
+                f'<text class="name" x="{number(x - 42)}" y="{number(y - 31)}">{escape(short(self.names[it]))}</text>'
+                f'<text class="of-all" {at}>{share(sums[it], self.search.report.weight)}</text>'
+                f'<text class="of-left" {at}>{share(sums[it], frame.missed)}</text></g>'
             )
         return f'<g class="texts" aria-hidden="true">{"".join(drawn)}</g>'
 
     def labels(self, searcher, frame):
         """Beside each place of a way, the periods in which the searcher looks from there; those of the second searcher stand below."""
         places = self.visits(self.ways[searcher], frame.period).items()
-        up = (29 if max(len(it) for it in self.search.cells) <= LETTERS_BESIDE else 13) - BELOW * searcher
+        up = (29 if max(map(len, self.names)) <= LETTERS_BESIDE else 13) - BELOW * searcher
         drawn = (f'<text x="{number(x + 43)}" y="{number(y - up)}">{label}</text>' for (x, y), label in places)
         return f'<g class="visits" aria-hidden="true">{"".join(drawn)}</g>'
 

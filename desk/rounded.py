@@ -1,32 +1,39 @@
-"""The scenario of a situation: its shares as whole parts of the denominators that round least, and how much that was."""
+"""The scenario of a situation: its shares as whole parts of denominators that are chosen for the truth of its plans, and how far it is off."""
 import dataclasses
 from fractions import Fraction
 
-from desk import drifting, forms, geometry, rounding
+from desk import forms, geometry, rounding
+from desk.chain import Chain, chain, variations
+from desk.shares import BASE
 from desk.situation import BadSituation
 
 
 @dataclasses.dataclass
 class Rounded:
-    """A scenario, and the largest rounding of a share of the first distribution, of a step and of a look, each as a share of 1."""
+    """A scenario and its chain. `off` has for each look the total variation between chain and tracks; then the largest rounding of a share
+    of the first distribution, of a row of the drift, and of a miss of a look, each as a share of 1."""
 
     scenario: forms.Scenario
+    chain: Chain
+    off: list
     first: Fraction
     drift: Fraction
     look: Fraction
 
 
-def name_of(it):
-    """The name of a square, of what is lost or of the base, as bytes."""
-    return (it if isinstance(it, str) else geometry.name_of(it)).encode("ascii")
+def name_of(position):
+    """The name of a position, as bytes."""
+    return (BASE if position == BASE else geometry.name_of(position)).encode("ascii")
 
 
-def denominators(shares):
-    """The denominators A, D, G of a scenario with these shares. Raises BadSituation where none fit."""
-    given = shares.given
-    rows = [dict(it) for it in {tuple(sorted(it.items())) for it in shares.kernels}]
+def denominators(given, shares, drift):
+    """The denominators A, D, G of the scenario of a situation's Shares and Drift. Raises BadSituation where none fit."""
+    a, d, g = given.parts
+    a = a or rounding.exact(drift.looks[0], rounding.MOST_TRIED) or rounding.MOST_TRIED
+    # Where all that is in a state goes to one other, nothing is rounded.
+    d = d or (1 if all(len(row) == 1 for step in drift.steps for row in step.values()) else None)
     misses = sorted({it for pair in shares.misses for it in pair if it is not None})
-    found = rounding.denominators(given.periods, given.parts, shares.first, rows, misses)
+    found = rounding.denominators(given.periods, (a, d, g), misses, lambda d: float(max(variations(chain(drift, a, d), drift))))
     if found is None:
         told = ", ".join(f"{name} = {it}" for name, it in zip(("first", "drift", "look"), given.parts) if it)
         why = f"{given.periods} periods don't fit into 128 bits with {told}"
@@ -34,46 +41,40 @@ def denominators(shares):
     return found
 
 
-def rounded(shares):
-    """The scenario of a situation's shares, with what was rounded."""
+def rounded(shares, drift):
+    """The scenario of a situation's Shares and Drift, with what was rounded. Raises BadSituation."""
+    given, states = shares.given, drift.states
     sc = forms.Scenario()
-    sc.horizon, sc.parts = shares.given.periods, denominators(shares)
-    a, d, g = sc.parts
-    sc.names, sc.positions = [name_of(it) for it in shares.cells], [name_of(it) for it in shares.positions]
-    sc.start = shares.start()
-    sc.moves = {at: shares.moves(it) for at, it in enumerate(shares.positions)}
-    first = rounding.largest_remainder(shares.first, a)
-    sc.first = [first.get(it, 0) for it in range(len(sc.names))]
-    first_error = rounding.largest_error(shares.first, first, a)
-    return Rounded(sc, first_error, put_drift(sc, shares, d), put_looks(sc, shares, g))
+    sc.horizon = given.periods
+    sc.parts = denominators(given, shares, drift)
+    made = chain(drift, *sc.parts[:2])
+    sc.names, sc.positions, sc.start = states.names, [name_of(it) for it in shares.positions], shares.start()
+    sc.moves = dict(enumerate(shares.moves))
+    sc.first = [made.first.get(it, 0) for it in range(len(sc.names))]
+    put_drift(sc, made)
+    first = rounding.largest_error(drift.looks[0], made.first, sc.parts[0])
+    rows = [rounding.largest_error(row, made.rows[t][it], sc.parts[1]) for t, step in enumerate(drift.steps) for it, row in step.items()]
+    return Rounded(sc, made, list(variations(made, drift)), first, max(rows, default=Fraction(0)), put_looks(sc, shares, states))
 
 
-def put_drift(sc, shares, whole):
-    """Puts the rows of each step into a scenario; answers their largest rounding. Where a step is like the first, it has no rows of its own."""
-    kernels = shares.kernels or [{(0, 0): Fraction(1)}]
-    largest, done = Fraction(0), []
-    for t, kernel in enumerate(kernels, 1):
-        if kernel in done[:1]:
-            continue
-        done.append(kernel)
-        for at, cell in enumerate(shares.cells):
-            row = shares.row(kernel, cell)
-            parts = rounding.largest_remainder(row, whole)
-            largest = max(largest, rounding.largest_error(row, parts, whole))
-            if t == 1:
-                sc.drift[at] = parts
-            else:
-                sc.drift_in[t, at] = parts
-    return largest
+def put_drift(sc, made):
+    """Puts the rows of a chain into a scenario. A state without tracks at a look, where the chain has no mass either, has the row of the
+    first look at which it has some; one that has none before the last look stays."""
+    for t, rows in enumerate(made.rows, 1):
+        for state, row in rows.items():
+            if sc.drift.setdefault(state, row) != row:
+                sc.drift_in[t, state] = row
+    for state in range(len(sc.names)):
+        sc.drift.setdefault(state, {state: sc.parts[1]})
 
 
-def put_looks(sc, shares, whole):
+def put_looks(sc, shares, states):
     """Puts the looks of each period into a scenario; answers their largest rounding."""
-    largest = Fraction(0)
+    largest, whole = Fraction(0), sc.parts[2]
     for t, misses in enumerate(shares.misses, 1):
         largest = max([largest, *(rounding.miss_error(it, whole) for it in misses if it is not None)])
         for at, position in enumerate(shares.positions):
-            parts = {cell: rounding.nearest_miss(it, whole) for cell, it in shares.look(misses, position).items()}
+            parts = {state: rounding.nearest_miss(it, whole) for state, it in shares.look(misses, position, states).items()}
             if t == 1:
                 sc.looks[at] = parts
             elif parts != sc.looks[at]:

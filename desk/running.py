@@ -27,18 +27,17 @@ def write(text):
         return UNWRITABLE
 
 
+def number(option, word):
+    """The number that a word behind an option says; None where the option doesn't stand. Raises clock.BadWords."""
+    if word is not None and not re.fullmatch("[1-9][0-9]{0,6}", word, re.ASCII):
+        raise clock.BadWords(f"behind {option} stands a whole number from 1 to 9999999, as in {option} 4")
+    return word and int(word)
+
+
 def files_and_numbers(words, options):
     """The words that are no options, and the number behind each of these options, or None. Raises clock.BadWords."""
-    files, found, rest = [], dict.fromkeys(options), list(words)
-    while rest:
-        word = rest.pop(0)
-        if not word.startswith("--"):
-            files.append(word)
-        elif word in found and found[word] is None and rest and re.fullmatch("[1-9][0-9]{0,6}", rest[0], re.ASCII):
-            found[word] = int(rest.pop(0))
-        else:
-            raise clock.BadWords(f"{word} isn't an option that stands once, with a number behind it")
-    return files, found
+    files, found = clock.sorted_words(words, options)
+    return files, {it: number(it, found.get(it)) for it in options}
 
 
 def run(name, more, make, words):
@@ -46,7 +45,7 @@ def run(name, more, make, words):
     try:
         given = clock.taken(words)
     except clock.BadWords as wrong:
-        say(f"osp {name}: {wrong}\nusage: osp {name} SCENARIO [PLAN] [--of SCENARIO] [--from HH:MM --minutes N]{more}")
+        say(f"osp {name}: {wrong}\nusage: osp {name} SCENARIO [PLAN] [--of SCENARIO] [--trial FILE] [--from HH:MM --minutes N]{more}")
         return WRONG_WORDS
     try:
         text, note = make(given)

@@ -1,59 +1,33 @@
-"""What a situation comes to before it is rounded: which cells and positions there are, and the shares of each step and each look."""
-from fractions import Fraction
-
-from desk import detection, drifting, geometry
+"""What a situation comes to for the searcher, before anything is rounded: its positions and moves, and how often its looks miss."""
+from desk import detection, ways
 from desk.forms import MOST_CELLS
 from desk.situation import BadSituation
-
-BASE = "base"
+from desk.ways import BASE
 
 
 class Shares:
-    """The cells (squares, and LOST), the positions (squares, and BASE), and their shares before any rounding.
-
-    `kernels` has the shares of the step after each period but the last, by rows south and columns east; `misses` the chances of a
-    miss of the look of each period, in the own cell and beside the course; `first` where the person is at the first look.
-    """
+    """The positions of the searcher (the squares that aren't land, and BASE), and `misses`, for each period the chances of a miss of its
+    look, in the own square and beside the course."""
 
     def __init__(self, given):
         self.given, self.grid = given, given.grid
-        squares = self.grid.cells()
-        self.cells = squares + [drifting.LOST] * given.is_lost
-        self.positions = squares + [BASE] * (given.searcher.base is not None)
+        self.positions = self.grid.cells() + [BASE] * (given.searcher.base is not None)
         if len(self.positions) > MOST_CELLS:
             raise BadSituation("[searcher] base: with it there are 201 positions, and 200 are the most; take fewer cells, as in columns = 7")
-        self.numbers = {it: at for at, it in enumerate(self.cells)}
-        self.kernels = [drifting.step_kernel(given, t) for t in range(1, given.periods)]
+        self.numbers = {it: at for at, it in enumerate(self.positions)}
         self.misses = [detection.misses(given, t) for t in range(1, given.periods + 1)]
-        self.first = {self.numbers[it]: mass for it, mass in drifting.at_first_look(given).items()}
+        self.moves = [self.moves_from(it) for it in self.positions]
 
-    def row(self, shares, cell):
-        """What of a cell goes where in a step with this kernel, by number. What is lost stays lost."""
-        if cell == drifting.LOST:
-            return {self.numbers[cell]: Fraction(1)}
-        return {self.numbers[to]: it for to, it in drifting.row_of(self.grid, cell, shares, self.given.is_lost).items()}
-
-    def look(self, misses, position):
-        """How often a look from a position misses, by number of cell; the base sees nothing."""
-        own, beside = misses
+    def look(self, misses, position, states):
+        """How often a look from a position misses, by number of state; the base sees nothing."""
         if position == BASE:
             return {}
-        found = {self.numbers[position]: own}
-        if beside is not None:
-            seen = detection.beside(position, self.given.searcher.course)
-            found.update((self.numbers[it], beside) for it in seen if it in self.numbers)
-        return found
+        covered = detection.covered(self.given, misses, position)
+        return {state: miss for square, miss in covered.items() for state in states.within(square)}
 
-    def moves(self, position):
+    def moves_from(self, position):
         """The numbers of the positions that the searcher reaches from one in a period, ascending."""
-        who = self.given.searcher
-        if position == BASE:
-            return sorted(self.numbers[it] for it in who.enters)
-        found = self.grid.neighbours(position, who.reaches) + [position] * who.stays
-        if not found:
-            name = geometry.name_of(position)
-            raise BadSituation(f"[searcher] stays: it should be true, since no cell is reached from {name}, as in stays = true")
-        return sorted(self.numbers[it] for it in found)
+        return sorted(self.numbers[it] for it in ways.moves(self.given, position))
 
     def start(self):
         """The number of the position where the searcher is before period 1."""

@@ -1,10 +1,10 @@
-"""show SCENARIO [PLAN] [--of SCENARIO] [--from HH:MM --minutes N]: writes a page that shows an accepted plan."""
-from desk import accepted, layout, page, picture, running
+"""show SCENARIO [PLAN] [--of SCENARIO] [--trial FILE] [--from HH:MM --minutes N]: writes a page that shows an accepted plan."""
+from desk import accepted, layout, page, picture, running, tried
 
 
 def page_of(given):
     """The page of what the words say, and what the program said on standard error. Raises accepted.Refused."""
-    search = accepted.mapped(accepted.load(given.files, given.of))
+    search = tried.with_trial(accepted.mapped(accepted.load(given.files, given.of)), given.trial)
     try:
         drawn, why = picture.Picture(search, layout.layout(search.seats.of, search.told_by)), None
     except layout.NoPlaces as lacking:

@@ -1,11 +1,13 @@
 """Reads a situation: a TOML file that says what is known in metres, knots, degrees and times. docs/PLANNING.md has its keys."""
 import dataclasses
+import datetime
+import functools
 import re
 import tomllib
 from decimal import Decimal, InvalidOperation
 from fractions import Fraction
 
-from desk import geometry, keys, moments
+from desk import draws, geometry, keys, moments, ways
 from desk.forms import MOST_CELLS, MOST_MOVES
 from desk.keys import BadSituation, shown, take_key, take_table
 from desk.rounding import MOST_PERIODS
@@ -17,9 +19,20 @@ LONGEST_LINE = 1_000
 # The most tables of one name, and the most reports.
 MOST_ROWS = 200
 MOST_REPORTS = 20
-TOP = ("title", "search", "area", "report", "current", "wind", "drift", "searcher", "light", "visibility", "parts")
+# How many tracks are simulated by default.
+COUNT = 20_000
+TOP = ("title", "search", "area", "report", "current", "wind", "drift", "searcher", "light", "visibility", "parts", "tracks")
 # A time such as 19:30, which TOML takes with seconds alone.
 BARE_TIME = re.compile(rb"=\s*(?:\d{4}-\d\d-\d\d[ T])?\d{1,2}:\d\d\s*(?:#|$)")
+# What a line that isn't TOML may have, and how it should be.
+AT_LINE = re.compile(r"at line (\d+)")
+SLIPS = (
+    (re.compile("[\u201c\u201d\u201e\u2018\u2019]".encode()), 'has curved quotes; they are straight, as in start = "r6c3"'),
+    (re.compile(rb"=\s*-?\d+,\d"), "has a comma in a number; it has a point, as in knots = 0.6"),
+    (re.compile(rb"=\s*-?[\d.]+\s*(?:[A-Za-z%/]|\xc2\xb0)"), "has a unit behind a number; it has none, as in speed = 8"),
+    (re.compile(rb"=\s*(?!true|false|inf|nan)[A-Za-z]"), 'has a text without quotes; it stands in them, as in start = "r6c3"'),
+    (re.compile(rb"^\s*[A-Za-z_]+\s*:"), "has a colon behind a key; an equals sign stands there, as in rows = 7"),
+)
 # What lines of a fault have in common.
 AS_IN = "as in examples/situations/kayaker.toml"
 NEAREST = 'a time without a date is the one nearest to the begin of the search, and a date is given as in begins = "2026-07-05 03:00"'
@@ -27,33 +40,76 @@ NEAREST = 'a time without a date is the one nearest to the begin of the search, 
 
 @dataclasses.dataclass(frozen=True)
 class Report:
-    """Where the person may have been so many minutes after the begin of the search (before it, a number below 0).
+    """Where the person may have been so many minutes after the begin of the search (before it, a number below 0), or at some time from
+    then to `until`.
 
-    They are anywhere in a circle around a place, or, where the radius is None, anywhere in a square.
+    They were at a place or, where there is a track, somewhere along the line through its places; or around it, by the radius of a circle
+    or by a probable error in metres. Where there is neither a track, a radius nor a probable error, they were anywhere in a square.
     """
 
     minutes: Fraction
     weight: Fraction
     square: tuple
     place: tuple
-    radius: Fraction | None
+    radius: Fraction | None = None
+    probable_error: Fraction | None = None
+    track: tuple | None = None
+    until: Fraction | None = None
+
+    @property
+    def is_square(self):
+        return self.radius is None and self.probable_error is None and self.track is None
+
+
+@dataclasses.dataclass(frozen=True)
+class Drift:
+    """How the person drifts: the velocities of the current and of the air by steps of time (or None), the leeway straight downwind and
+    to a side as shares of the wind's speed, the spread in metres to each side in a period; and what a person has of their own: standard
+    deviations of the current and the wind along each axis in metres a minute, and of the downwind leeway as a share of the wind's
+    speed, and how often in a minute the side of the leeway changes."""
+
+    current: moments.Steps | None
+    wind: moments.Steps | None
+    downwind: Fraction
+    crosswind: float
+    spread: Fraction
+    current_error: float
+    wind_error: float
+    leeway_error: float
+    rate: float
+
+    @property
+    def is_own(self):
+        """Whether persons have anything of their own."""
+        return any((self.crosswind, self.current_error, self.wind_error, self.leeway_error))
 
 
 @dataclasses.dataclass(frozen=True)
 class Searcher:
-    """The searcher: the square or, outside of the area, the base where it is at first; its speed in knots, its sweep widths in metres
-    in its own cell and (or None) in the cells beside its course, and the minutes that it searches in each period."""
+    """The searcher: the square or, outside of the area, the base where it is at first, and how many minutes before the begin it leaves
+    that; its speed in knots, its sweep widths in metres in its own cell and (or None) in the cells beside its course, and the minutes
+    that it searches in each period. It reaches the 4 or 8 cells around one, or (None) as many as time allows."""
 
     start: tuple | None
     base: tuple | None
     enters: frozenset
+    ahead: Fraction
     speed: Fraction
     sweep_width: Fraction
     search_minutes: Fraction
-    reaches: int
+    reaches: int | None
     stays: bool
     course: str | None
     beside: Fraction | None
+
+
+@dataclasses.dataclass(frozen=True)
+class TrackChoice:
+    """How many tracks are simulated, from which seed, and how many states make the side of a square, or None where that is open."""
+
+    count: int
+    seed: int
+    finer: int | None
 
 
 @dataclasses.dataclass(frozen=True)
@@ -67,15 +123,20 @@ class Situation:
     grid: geometry.Grid
     is_lost: bool
     reports: tuple
-    velocities: tuple
-    spread: Fraction
+    drift: Drift
     searcher: Searcher
     visibility: tuple
     parts: tuple
+    tracks: TrackChoice
 
     def look_time(self, t):
         """When the look of period t counts as made: at the end of the period."""
         return self.minutes * t
+
+    @functools.cached_property
+    def ways(self):
+        """The searcher's ways."""
+        return ways.Ways(self.grid, self.searcher, self.minutes)
 
 
 def need(holds, key, why):
@@ -106,6 +167,12 @@ def why_not(given, said):
     for at, line in enumerate(given.split(b"\n"), 1):
         if BARE_TIME.search(line):
             return f'line {at} has a time without quotes; it stands in them, as in begins = "19:30"'
+    at = AT_LINE.search(said)
+    if at and said.startswith("Cannot overwrite"):
+        return f"line {at[1]} gives a key that its table has already; each stands once, as in rows = 7"
+    slip = at and next((why for form, why in SLIPS if form.search(given.split(b"\n")[int(at[1]) - 1])), None)
+    if slip:
+        return f"line {at[1]} {slip}"
     said = "".join(it if it.isprintable() else " " for it in said)
     return f"{ascii(said)[1:-1][:120]}; a line is as in rows = 7"
 
@@ -113,6 +180,7 @@ def why_not(given, said):
 def rows_of(tables, name, most=MOST_ROWS):
     """The tables of [[name]]. Raises BadSituation."""
     rows = tables.get(name, [])
+    need(not isinstance(rows, dict), f"[{name}]", f"each such table should have [[{name}]] as its first line, in two brackets on each side")
     is_right = isinstance(rows, list) and len(rows) <= most
     need(is_right, f"[[{name}]]", f"it should be up to {most} tables, each with [[{name}]] as its first line, and is {shown(rows)}")
     return rows
@@ -122,7 +190,7 @@ def situation(given):
     """The situation that a file given as bytes says. Raises BadSituation."""
     tables = parsed(given)
     for it in tables:
-        need(it in TOP, shown(it), f"there is no such table; a situation has {', '.join(TOP)}")
+        need(it in TOP, shown(it), f"there is no such table{keys.meant(it, '', TOP)}; a situation has {', '.join(TOP)}")
     for it in ("search", "area", "searcher"):
         need(it in tables, f"[{it}] is lacking", f"it should be a table, {AS_IN}")
     title = take_key(tables, "the file's", keys.TITLE)
@@ -131,8 +199,7 @@ def situation(given):
     periods = how_many(search, clock)
     grid, is_lost = area(tables["area"])
     told = reports(tables, clock, grid, minutes)
-    velocities, spread = drift(tables, clock, min(it.minutes for it in told))
-    return Situation(
+    found = Situation(
         title=title or "",
         clock=clock,
         minutes=minutes,
@@ -140,12 +207,14 @@ def situation(given):
         grid=grid,
         is_lost=is_lost,
         reports=told,
-        velocities=velocities,
-        spread=spread,
-        searcher=searcher(tables["searcher"], grid, minutes),
-        visibility=visibility(tables, clock),
+        drift=drift(tables, clock, min(it.minutes for it in told)),
+        searcher=searcher(tables["searcher"], clock, grid, minutes),
+        visibility=visibility(tables, clock, minutes * periods),
         parts=tuple(take_table(tables.get("parts", {}), "[parts]", keys.PARTS).values()),
+        tracks=track_choice(tables.get("tracks", {})),
     )
+    found.ways.check(clock)
+    return found
 
 
 def minutes_of(key, how, it, *rest):
@@ -154,6 +223,15 @@ def minutes_of(key, how, it, *rest):
         return how(it, *rest)
     except ValueError:
         raise BadSituation(f'{key}: it has a date, so [search] begins should have one, as in begins = "2026-07-04 19:30"') from None
+
+
+def past(where, key, clock, it):
+    """The minutes of a moment that is up to the begin where it has no date. Raises BadSituation where it might be later as well."""
+    date = (clock.begins.date or datetime.date(2026, 7, 5)) - datetime.timedelta(days=1)
+    written = f'{key} = "{date} {moments.Clock(it).told(0)}"' + ("" if clock.begins.date else ", in begins too")
+    told = f"it is later than the search's begin at {clock.told(0)}; where it was on the day before, write the date, as in {written}"
+    need(not clock.is_ahead(it), f"{where} {key}", f"{told}; else let the search begin later")
+    return minutes_of(f"{where} {key}", clock.past, it)
 
 
 def how_many(search, clock):
@@ -170,16 +248,17 @@ def how_many(search, clock):
 def area(table):
     """The grid, and whether what leaves it is lost."""
     it = take_table(table, "[area]", keys.AREA)
-    land, is_lost = it["land"] or frozenset(), it["edge"] == "lost"
+    land, is_lost = it["land"] or frozenset(), it["edge"] != "stays"
     grid = geometry.Grid(it["rows"], it["columns"], it["cell_size"], land)
-    squares, most = grid.rows * grid.columns, MOST_CELLS - is_lost
+    squares = grid.rows * grid.columns
     told = f"rows times columns should be at most {keys.MOST_SQUARES} with land, {AS_IN}, and is {squares}"
     need(squares <= keys.MOST_SQUARES, "[area] rows", told)
     for each in sorted(land):
         last = geometry.name_of((grid.rows - 1, grid.columns - 1))
         need(grid.contains(each), "[area] land", f"it should be in the area, whose last cell is {last}, and names {geometry.name_of(each)}")
     count = squares - len(land)
-    need(1 <= count <= most, "[area] rows", f"rows times columns without land should be 1 to {most} cells, {AS_IN}, and is {count}")
+    told = f"rows times columns without land should be 1 to {MOST_CELLS} cells, {AS_IN}, and is {count}"
+    need(1 <= count <= MOST_CELLS, "[area] rows", told)
     return grid, is_lost
 
 
@@ -193,18 +272,29 @@ def reports(tables, clock, grid, minutes):
 def report(table, where, clock, grid, minutes):
     """A report. Raises BadSituation where it is of another time than it may be, or not in a cell."""
     it = take_table(table, where, keys.REPORT)
-    is_one = (it["cell"] is None) != (it["at"] is None)
-    need(is_one, f"{where} cell", 'either it or at should stand, as in cell = "r2c3" or at = [1750, 1250]')
-    time = minutes_of(f"{where} time", clock.before, it["time"], minutes)
-    is_right = -2 * moments.DAY <= time <= minutes
-    told = f"it should be at most two days before the search begins, and not after its first look at {clock.told(minutes)}"
-    need(is_right, f"{where} time", told)
-    key = "cell" if it["at"] is None else "at"
-    square = it["cell"] if key == "cell" else grid.square_at(it["at"])
-    told = f"it should be in a cell of the area that isn't land, and is in {geometry.name_of(square)}"
-    need(grid.is_water(square), f"{where} {key}", told)
-    radius = Fraction(0) if it["radius"] is None and key == "at" else it["radius"]
-    return Report(time, it["weight"] or Fraction(1), square, it["at"] or grid.middle(square), radius)
+    named = [key for key in ("cell", "at", "track") if it[key] is not None]
+    need(len(named) == 1, f"{where} cell", 'one of it, at and track should stand, as in cell = "r2c3" or at = [1750, 1250]')
+    is_one = it["radius"] is None or it["probable_error"] is None
+    need(is_one, f"{where} probable_error", "either it or radius should stand, as in probable_error = 300")
+    since, until = report_times(it, where, clock, minutes)
+    squares = [it["cell"]] if it["cell"] else [grid.square_at(place) for place in it["track"] or [it["at"]]]
+    for square in squares:
+        told = f"it should be in a cell of the area that isn't land, and is in {geometry.name_of(square)}"
+        need(grid.is_water(square), f"{where} {named[0]}", told)
+    place = grid.middle(squares[0]) if it["cell"] else (it["track"] or [it["at"]])[0]
+    radius = Fraction(0) if it["at"] and not it["probable_error"] and it["radius"] is None else it["radius"]
+    return Report(since, it["weight"] or Fraction(1), squares[0], place, radius, it["probable_error"], it["track"], until)
+
+
+def report_times(it, where, clock, minutes):
+    """When a report's time begins, and when it ends or None where it is one moment."""
+    found = {key: past(where, key, clock, it[key]) for key in ("time", "until") if it[key]}
+    for key, time in found.items():
+        told = f"it should be at most two days before the search begins, and not after its first look at {clock.told(minutes)}"
+        need(-2 * moments.DAY <= time <= minutes, f"{where} {key}", told)
+    since, until = found["time"], found.get("until")
+    need(until is None or since < until, f"{where} until", f'it should be after time, which is {clock.told(since)}, as in until = "19:05"')
+    return since, until
 
 
 def steps(tables, name, its_keys, clock, value):
@@ -223,15 +313,34 @@ def steps(tables, name, its_keys, clock, value):
 
 
 def drift(tables, clock, earliest):
-    """The velocities of current and of leeway by steps, known from the time that is the earliest asked for, and the spread in metres
-    a period."""
+    """How the person drifts, with current and wind known from the time that is the earliest asked for."""
     it = take_table(tables.get("drift", {}), "[drift]", keys.DRIFT)
-    leeway = it["leeway"] or 0
     current = steps(tables, "current", keys.CURRENT, clock, lambda row: velocity(row["knots"], row["towards"]))
-    wind = steps(tables, "wind", keys.WIND, clock, lambda row: velocity(row["knots"] * leeway, row["from"] + 180))
+    wind = steps(tables, "wind", keys.WIND, clock, lambda row: velocity(row["knots"], row["from"] + 180))
+    check_wind(it, wind)
+    known((("current", current), ("wind", wind)), clock, earliest)
+    # Of a vector a unit long: what is left of it straight ahead, and to the right.
+    right, back = geometry.displacement(it["leeway"] or Fraction(0), it["divergence"] or 0)
+    return Drift(
+        current=current,
+        wind=wind,
+        downwind=-back,
+        crosswind=float(right),
+        spread=it["spread"] or Fraction(0),
+        current_error=float(geometry.metres(it["current_error"] or 0, 1)),
+        wind_error=float(geometry.metres(it["wind_error"] or 0, 1)),
+        leeway_error=float(it["leeway_error"] or 0),
+        rate=draws.rate(float(it["jibing"] or 0)) / 60,
+    )
+
+
+def check_wind(it, wind):
+    """Raises BadSituation where keys of [drift] lack what they are about."""
     is_right = wind is None or it["leeway"] is not None
     need(is_right, "[drift] leeway is lacking", "with [[wind]] it should be a share of the wind's speed, from 0 to 1, as in leeway = 0.03")
-    return known((("current", current), ("wind", wind)), clock, earliest), it["spread"] or Fraction(0)
+    for key in ("wind_error", "leeway_error", "divergence", "jibing"):
+        need(wind or not it[key], f"[drift] {key}", "it should stand with [[wind]], as in [[wind]] with knots = 12 and from = 270")
+    need(it["divergence"] or not it["jibing"], "[drift] jibing", "it should stand with divergence, as in divergence = 20")
 
 
 def velocity(knots, towards):
@@ -249,7 +358,7 @@ def known(named, clock, earliest):
     return tuple(it for _, it in named if it)
 
 
-def searcher(table, grid, minutes):
+def searcher(table, clock, grid, minutes):
     """The searcher. Raises BadSituation where its place, its ways or its times contradict the area and the periods."""
     it = take_table(table, "[searcher]", keys.SEARCHER)
     swath = {} if it["swath"] is None else take_table(it["swath"], "[searcher.swath]", keys.SWATH)
@@ -260,14 +369,26 @@ def searcher(table, grid, minutes):
         start=it["start"],
         base=it["base"],
         enters=it["enters"] or frozenset(),
+        ahead=ahead(it, clock),
         speed=it["speed"],
         sweep_width=it["sweep_width"],
-        search_minutes=it["search_minutes"] or minutes,
-        reaches=it["reaches"] or 4,
+        search_minutes=ways.search_minutes(grid, it["speed"], minutes, it["reaches"], it["search_minutes"]),
+        reaches=it["reaches"],
         stays=it["stays"] is not False,
         course=swath.get("course"),
         beside=swath.get("sweep_width"),
     )
+
+
+def ahead(it, clock):
+    """How many minutes before the begin of the search it leaves its base."""
+    if it["leaves"] is None:
+        return Fraction(0)
+    need(it["base"], "[searcher] leaves", "it should stand where base does, and only there")
+    time = past("[searcher]", "leaves", clock, it["leaves"])
+    told = f"it should be at most a day before the search begins at {clock.told(0)}, and not after that"
+    need(-moments.DAY <= time <= 0, "[searcher] leaves", told)
+    return -time
 
 
 def check_places(it, grid):
@@ -287,17 +408,38 @@ def check_places(it, grid):
         need(is_outside, "[searcher] base", told)
 
 
-def visibility(tables, clock):
-    """The factors of the sweep width by steps: of what is seen, and of day and night."""
+def visibility(tables, clock, ends):
+    """The factors of the sweep width by steps until the search ends: of what is seen, and of day and night."""
     seen = steps(tables, "visibility", keys.VISIBILITY, clock, lambda row: row["factor"])
-    light = daylight(tables["light"], clock) if "light" in tables else None
+    light = daylight(tables["light"], clock, ends) if "light" in tables else None
     return known((("visibility", seen), ("light", light)), clock, Fraction(0))
 
 
-def daylight(table, clock):
-    """The factor of the sweep width by day, 1, and by night, between sunset and sunrise."""
+def daylight(table, clock, ends):
+    """The factor of the sweep width by day, 1, and by night, between sunset and sunrise of each day until the search ends."""
     it = take_table(table, "[light]", keys.LIGHT)
     need(it["sunset"] or it["sunrise"], "[light] sunset", 'it or sunrise should stand, as in sunset = "20:45"')
-    factors = {"sunrise": (it["night"], Fraction(1)), "sunset": (Fraction(1), it["night"])}
-    turns = sorted((minutes_of(f"[light] {key}", clock.nearest, it[key]), *factors[key]) for key in factors if it[key])
-    return moments.Steps(((None, turns[0][1]), *((since, later) for since, _, later in turns)))
+    before = {"sunset": Fraction(1), "sunrise": it["night"]}
+    after = {"sunset": it["night"], "sunrise": Fraction(1)}
+    first = {key: minutes_of(f"[light] {key}", clock.nearest, it[key]) for key in before if it[key]}
+    if len(first) == 1:
+        ((key, since),) = first.items()
+        check_half_day(key, since, clock, ends)
+        return moments.Steps(((None, before[key]), (since, after[key])))
+    differ = (first["sunset"] - first["sunrise"]) % moments.DAY
+    need(differ, "[light] sunset", 'it should be another time than sunrise, as in sunset = "20:45" with sunrise = "05:10"')
+    return moments.Steps(tuple(sorted((each, after[key]) for key, since in first.items() for each in moments.daily(since, ends))))
+
+
+def check_half_day(key, since, clock, ends):
+    """Raises BadSituation where the search goes on for more than half a day after a sunset or a sunrise without the other."""
+    other = {"sunset": "sunrise", "sunrise": "sunset"}[key]
+    example = next(it.example for it in keys.LIGHT if it.name == other)
+    told = f"the search ends at {clock.told(ends)}, more than 12 hours after {key}, so both should stand, as in {other} = {example}"
+    need(ends <= since + moments.DAY // 2, f"[light] {other} is lacking", told)
+
+
+def track_choice(table):
+    """How tracks are simulated."""
+    it = take_table(table, "[tracks]", keys.TRACKS)
+    return TrackChoice(it["count"] or COUNT, it["seed"] or 1, it["finer"])

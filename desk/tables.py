@@ -1,11 +1,12 @@
-"""The tables of a page: periods, what is left at the end, all cells after all looks, and the numbers behind it, as HTML."""
+"""The tables of a page: periods, what is left at the end, all squares after all looks, and the numbers behind it, as HTML."""
+import dataclasses
 from html import escape
 
 from desk import masses, picture
 
-# How many cells the table of what is left names.
+# How many squares the table of what is left names.
 MOST_LEFT = 10
-# How many looks a table of all cells has side by side, so that it fits on paper.
+# How many looks a table of all squares has side by side, so that it fits on paper.
 MOST_COLUMNS = 11
 
 
@@ -76,6 +77,11 @@ def about_flown(search):
     return [head, f"If {these} found nothing, those to come find them: {masses.percent(search.report.value - found, missed)} %."]
 
 
+def about_trial(search):
+    """What is said of a trial of the plan, as sentences; none where there was none."""
+    return search.trial.sentences() if search.trial else []
+
+
 def about_names(search):
     """What is said of names that are numbers, as a list of one sentence or none."""
     return ["Positions have numbers here: --of SCENARIO has their names."] if search.seats.is_numbered else []
@@ -106,61 +112,87 @@ def periods(search, clock, with_map):
     return f'<section class="periods"><h2>Period by period</h2>{table(caption, columns, rows)}</section>'
 
 
-def left_row(search, cell):
-    """The row of a cell in which they may be when nothing was found."""
+def left_row(search, square, mass):
+    """The row of a square in which they may be when nothing was found."""
     last, whole = search.frames[-1], search.report.weight
-    mass = last.left[cell]
     return (
-        f'<tr><th scope="row"><bdi>{escape(search.cells[cell])}</bdi></th><td class="number">{exact(f"left-{cell}", mass, whole)}</td>'
-        f'<td class="number">{exact(f"rest-{cell}", mass, last.missed)}</td></tr>'
+        f'<tr><th scope="row"><bdi>{escape(search.squares.texts[square])}</bdi></th><td class="number">{exact(f"left-{square}", mass, whole)}</td>'
+        f'<td class="number">{exact(f"rest-{square}", mass, last.missed)}</td></tr>'
     )
 
 
 def left(search):
-    """Where they are after the last look if no look found them: the likeliest cells."""
-    last, whole = search.frames[-1], search.report.weight
-    order = masses.greatest(last.left)
+    """Where they are after the last look if no look found them: the likeliest squares."""
+    last, whole, noun = search.frames[-1], search.report.weight, search.squares.noun
+    sums = search.squares.sums(last.left)
+    order = masses.greatest(sums)
     head = "<h2>Where they are if nothing was found</h2>"
     if not order:
         return f'<section class="left">{head}<p>Nowhere: these looks find them for certain.</p></section>'
-    heads = [("Cell", False), ("Share of all", True), ("If nothing was found", True)]
-    caption = f"After look {last.period}. All cells together hold {masses.percent(last.missed, whole)} % of all."
-    rows = [left_row(search, it) for it in order[:MOST_LEFT]]
-    rest = sum(last.left[it] for it in order[MOST_LEFT:])
-    others = f"The rest, in {plural(len(order) - MOST_LEFT, 'cell')}: {masses.percent(rest, whole)} % of all."
+    heads = [(noun.capitalize(), False), ("Share of all", True), ("If nothing was found", True)]
+    caption = f"After look {last.period}. All {noun}s together hold {masses.percent(last.missed, whole)} % of all."
+    rows = [left_row(search, it, sums[it]) for it in order[:MOST_LEFT]]
+    rest = sum(sums[it] for it in order[MOST_LEFT:])
+    others = f"The rest, in {plural(len(order) - MOST_LEFT, noun)}: {masses.percent(rest, whole)} % of all."
     more = f'<p class="note">{others}</p>' if rest else ""
     return f'<section class="left">{head}{table(caption, heads, rows)}{more}</section>'
 
 
-def all_row(search, cell, frames):
-    """The row of a cell, with its share after each of these looks."""
+@dataclasses.dataclass(frozen=True)
+class Place:
+    """A row of the tables of all looks: a square, or a cell. `count` says how many as large as it make a square."""
+
+    name: str
+    cells: list
+    count: int = 1
+
+
+def all_squares(search):
+    """The squares that have cells."""
+    return [Place(search.squares.texts[it], search.squares.cells[it]) for it in search.squares.filled()]
+
+
+def all_states(search, finer):
+    """The cells, of which `finer` side by side make a square that has parts."""
+    return [Place(search.cells[it], [it], finer**2 if at in search.squares.split else 1) for it, at in enumerate(search.squares.of_cells())]
+
+
+def all_row(search, place, frames):
+    """The row of a place, with its share after each of these looks, and the colour that it has on the map."""
     whole = search.report.weight
-    told = ((it.left[cell], picture.class_of(it.left[cell], whole)) for it in frames)
+    masses_left = (sum(it.left[cell] for cell in place.cells) for it in frames)
+    told = ((mass, picture.class_of(mass * place.count, whole)) for mass in masses_left)
     shares = (f'<td class="number a{colour}" title="{mass} of {whole}">{picture.share(mass, whole)}</td>' for mass, colour in told)
-    return f'<tr><th scope="row"><bdi>{escape(search.cells[cell])}</bdi></th>{"".join(shares)}</tr>'
+    return f'<tr><th scope="row"><bdi>{escape(place.name)}</bdi></th>{"".join(shares)}</tr>'
 
 
-def some_looks(search, frames):
-    """The table of all cells after these looks."""
-    heads = [("Cell", False), *((f"look {it.period}" if it.period else "before", True) for it in frames)]
-    rows = [all_row(search, it, frames) for it in range(len(search.cells))]
+def some_looks(search, noun, places, frames):
+    """The table of all places after these looks."""
+    heads = [(noun.capitalize(), False), *((f"look {it.period}" if it.period else "before", True) for it in frames)]
+    rows = [all_row(search, it, frames) for it in places]
     found = "".join(f'<td class="number">{picture.share(it.so_far, search.report.weight)}</td>' for it in frames)
     rows.append(f'<tr class="sum"><th scope="row">found so far</th>{found}</tr>')
     caption = (
-        "Percent of all: how likely they are in the cell, and missed by all looks so far. "
+        f"Percent of all: how likely they are in the {noun}, and missed by all looks so far. "
         "With what was found, each column sums to 100."
     )
     return table(caption, heads, rows)
 
 
-def all_cells(search, is_open):
-    """The tables of all cells after all looks, which say in numbers what the maps say in colours."""
+def all_looks(search, noun, places, is_open):
+    """The tables of all places after all looks, which say in numbers what the maps say in colours."""
     parts = (search.frames[at : at + MOST_COLUMNS] for at in range(0, len(search.frames), MOST_COLUMNS))
-    told = "".join(some_looks(search, it) for it in parts)
-    inner = f'<div class="scroll" tabindex="0" role="region" aria-label="All cells after all looks">{told}</div>'
+    told = "".join(some_looks(search, noun, places, it) for it in parts)
+    inner = f'<div class="scroll" tabindex="0" role="region" aria-label="All {noun}s after all looks">{told}</div>'
     if is_open:
         return f'<section class="all"><h2>Where they may be after each look</h2>{inner}</section>'
-    return f'<details class="all"><summary>All cells after all looks, as a table</summary>{inner}</details>'
+    return f'<details class="all"><summary>All {noun}s after all looks, as a table</summary>{inner}</details>'
+
+
+def all_cells(search, is_open, finer=1):
+    """The tables of all squares after all looks, and those of all states where these are parts of squares."""
+    states = all_looks(search, "state", all_states(search, finer), False) if search.squares.is_finer else ""
+    return all_looks(search, search.squares.noun, all_squares(search), is_open) + states
 
 
 def about_records(search):
@@ -175,7 +207,8 @@ def numbers(search):
     """The numbers behind the page, and the checksums by which its files are known again."""
     a, d, g = search.sc.parts
     t = search.sc.horizon
-    counts = plural(t, "period"), plural(len(search.cells), "cell"), plural(len(search.sc.positions), "position")
+    cells = plural(len(search.squares.filled()), search.squares.noun) + (f" in {len(search.cells)} states" if search.squares.is_finer else "")
+    counts = plural(t, "period"), cells, plural(len(search.sc.positions), "position")
     rows = [
         ("Chance", f"{search.report.value} of {search.report.weight}"),
         ("Denominators", f"first distribution {a}, drift {d}, looks {g}; the whole is {a} · {d}<sup>{t - 1}</sup> · {g}<sup>{t}</sup>"),

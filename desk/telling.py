@@ -1,12 +1,18 @@
 """What a draft says of itself: the comments of its scenario, and the lines on standard error."""
 import math
 
-from desk import detection, drifting, geometry, rounding
+from desk import detection, margins, moments, rounding, twofold
+from desk.chain import deviations
+from desk.geometry import decimal
 from desk.rounded import name_of
 from desk.shares import BASE
 
-# From which largest rounding on a note is made.
+# From which largest rounding of a look on, and from which total variation on, a note is made.
 COARSE = 0.02
+APART = 0.1
+ADVICE = "fewer and longer periods leave more room for denominators, and so do smaller ones in [parts] for what you know less well"
+# The comment before the lines of the situation.
+SITUATION = "The situation, from which osp draft made it:"
 
 
 def percent(share):
@@ -15,33 +21,32 @@ def percent(share):
     return f"{thousandths // 1000}.{thousandths % 1000:03}"
 
 
-def decimal(value):
-    """A number of metres or minutes with up to two digits behind the point."""
-    return f"{float(value):.2f}".rstrip("0").rstrip(".")
+def places(shares, states):
+    """Where each state and position lies, by name: metres east and south of the north-west corner. What is lost is drawn apart."""
+    found = {name: states.middle(name) for name in states.names}
+    for it in shares.positions:
+        found[name_of(it)] = shares.given.searcher.base if it == BASE else shares.grid.middle(it)
+    return found
 
 
-def places(shares):
-    """Where each cell and position lies, by name: metres east and south of the north-west corner. What is lost is drawn apart, beyond
-    the south-east corner."""
-    grid = shares.grid
-    for it in shares.cells:
-        yield name_of(it), grid.middle((grid.rows + 1, grid.columns + 1) if it == drifting.LOST else it)
-    if BASE in shares.positions:
-        yield name_of(BASE), shares.given.searcher.base
-
-
-def comments(text, shares, draft):
-    """The comments of a scenario: what it stands for, the situation line by line, the times of its looks, and its places."""
-    given = shares.given
-    yield given.title or "A scenario by osp draft."
-    yield "The situation, from which osp draft made it:"
+def comments(text, shares, drift, told):
+    """The comments of a scenario: what it stands for, the situation line by line, what is `told` first of all (facts), and its places."""
+    yield shares.given.title or "A scenario by osp draft."
+    yield SITUATION
     for line in text.splitlines():
         yield b"| " + line
-    yield times(given)
-    yield parts(draft)
-    yield "Names by row and column: r0 is the northmost row, c0 the westmost column. Metres east and south of the north-west corner:"
-    for name, (east, south) in places(shares):
+    yield from told
+    yield naming(drift.states)
+    for name, (east, south) in places(shares, drift.states).items():
         yield b"at %s %s %s" % (name, decimal(east).encode("ascii"), decimal(south).encode("ascii"))
+
+
+def naming(states):
+    """How places are named, and where the lines behind this one have them."""
+    told = "Names by row and column: r0 is the northmost row, c0 the westmost column"
+    if states.finer > 1:
+        told += f"; of each square, parts 01 to {states.finer**2} row by row from its north-west"
+    return told + ". Metres east and south of the north-west corner:"
 
 
 def times(given):
@@ -60,18 +65,51 @@ def parts(draft):
     return f"parts {a} {d} {g}: the largest rounding {told}"
 
 
-def lines(shares, draft):
-    """The lines to say: times, denominators and rounding, how many periods would fit, detection, what is at the edge, and warnings."""
-    given, sc = shares.given, draft.scenario
-    yield times(given)
-    yield parts(draft)
+def truth(drift, draft):
+    """How the scenario's chain is like the tracks: what they were counted into, the total variation at each look, and how wide both are."""
+    states, tracks = drift.states, drift.tracks
+    inside = [count for look in drift.looks for count in look.values()]
+    finer = f"parts of a cell ({states.finer} by {states.finer})" if states.finer > 1 else "cells"
+    told = f"on average {sum(inside) // len(inside):,} tracks are in one that has any at a look, and {min(inside):,} at least"
+    yield f"{tracks.count:,} tracks from seed {tracks.seed}, counted in {len(states.parts)} {finer}{' and lost' * states.is_lost}: {told}"
+    told = " ".join(f"{float(it):.3f}" for it in draft.off)
+    yield f"total variation between the scenario's drift and the tracks, look by look: {told}"
+    last = draft.scenario.horizon
+    for t, when in {1: "first", last: "last"}.items() if last > 1 else [(1, "only")]:
+        found = deviations(draft.chain, drift, t)
+        if found:
+            (east, south), (of_east, of_south) = [[f"{it:.0f}" for it in each] for each in found]
+            yield f"standard deviations at the {when} look: {east} m east and {south} m south, of the tracks {of_east} and {of_south}"
+
+
+def facts(shares, drift, draft):
+    """What comments and lines both say: times, denominators and rounding, and how true they are."""
+    return [times(shares.given), parts(draft), *truth(drift, draft)]
+
+
+def lines(shares, drift, draft, told):
+    """The lines to say: what is `told` first of all (facts), how many periods would fit, detection, what is at the edge, and warnings."""
+    sc = draft.scenario
+    yield from told
+    yield from reports(shares.given)
+    yield from shares.given.ways.lines(shares.given.clock)
     most = rounding.most_periods(sc.parts)
     yield f"with these parts {most} periods fit at most, {most - sc.horizon} more than these" + (
         "" if most > sc.horizon else "; for more, give smaller ones, as in [parts] drift = 20 and look = 10"
     )
     yield from detections(shares)
-    yield from edge(shares, sc)
+    yield from edge(shares, drift)
+    yield twofold.line(shares.given, sc)
     yield from warnings(shares, draft)
+
+
+def reports(given):
+    """When each report was taken to be, and how long before the search begins."""
+    for at, it in enumerate(given.reports, 1):
+        times = [it.minutes] if it.until is None else [it.minutes, it.until]
+        when = " to ".join(given.clock.told(time) + given.clock.day(time) for time in times)
+        ages = " to ".join(moments.lasting(abs(time)) for time in times)
+        yield f"report {at} is of {when}, {ages} {'before' if it.minutes <= 0 else 'after'} the begin of the search"
 
 
 def detections(shares):
@@ -83,37 +121,26 @@ def detections(shares):
             yield f"a look finds {least if least == most else f'{least} to {most}'} percent of what is {where}"
 
 
-def masses(sc):
-    """The shares by cell at the first and at the last look, where no look finds anything."""
-    first = [it / sc.parts[0] for it in sc.first]
-    last = first
-    for t in range(1, sc.horizon):
-        after = [0.0] * len(last)
-        for cell, mass in enumerate(last):
-            for to, part in sc.row(t, cell).items():
-                after[to] += mass * part / sc.parts[1]
-        last = after
-    return first, last
-
-
-def edge(shares, sc):
-    """What is in the cells at the border of the area, and what has left it."""
-    found = masses(sc)
-    border = [at for at, it in enumerate(shares.cells) if it != drifting.LOST and shares.grid.is_edge(it)]
-    first, last = (percent(sum(it[at] for at in border)) for it in found)
+def edge(shares, drift):
+    """What of the tracks is in the squares at the border of the area, and what has left it."""
+    states, count = drift.states, drift.tracks.count
+    border = {at for at, (square, _) in enumerate(states.parts) if shares.grid.is_edge(square)}
+    first, last = (percent(sum(look.get(it, 0) for it in border) / count) for look in (drift.looks[0], drift.looks[-1]))
     yield f"in the cells at the edge of the area are {first} percent at the first look, and {last} at the last, if no look finds anything"
-    if shares.given.is_lost:
-        yield f"{percent(found[1][shares.numbers[drifting.LOST]])} percent have left the area by the last look"
+    lost = drift.looks[-1].get(len(states.parts), 0)
+    if states.is_lost:
+        yield f"{percent(lost / count)} percent have left the area by the last look"
+    share = (lost + sum(drift.looks[-1].get(it, 0) for it in border)) / count
+    if share > margins.MUCH:
+        yield margins.note(shares.given, share)
 
 
 def warnings(shares, draft):
     """What the draft may not say well."""
-    given = shares.given
-    way = geometry.metres(given.searcher.speed, given.minutes)
-    if way < given.grid.side:
-        told = f"the searcher makes {decimal(way)} metres in a period, and its next cell is {decimal(given.grid.side)} metres away"
-        yield f"note: {told}; take longer periods or smaller cells"
     if any(it < detection.SURE for pair in shares.misses for it in pair if it is not None):
         yield "note: a look finds more than 99 percent; larger cells or shorter periods say more of such a searcher"
-    if max(draft.first, draft.drift, draft.look) > COARSE:
-        yield "note: that is a coarse rounding; fewer and longer periods round less"
+    if draft.look > COARSE:
+        yield f"note: looks are rounded coarsely; {ADVICE}"
+    if max(draft.off) > APART:
+        when = 1 + max(range(len(draft.off)), key=draft.off.__getitem__)
+        yield f"note: at look {when} the scenario has {percent(max(draft.off))} percent of the person elsewhere than the tracks; {ADVICE}"

@@ -5,6 +5,7 @@ A fault is a kind, as the program names it, and a text. They stand in the order 
 import math
 
 from desk import derived, forms, quoting, rounding, wording
+from desk.states import square_of
 
 # How many moves a position may have so that two searchers at it have no more than a position may.
 MOST_MOVES_EACH = math.isqrt(forms.MOST_MOVES)
@@ -31,7 +32,7 @@ def about_names(sc, names):
     for it in dict.fromkeys(names):
         if it in sc.positions:
             continue
-        meant = wording.near(it, sc.positions)
+        meant = square_of(it) if square_of(it) in sc.positions else wording.near(it, sc.positions)
         hint = f": is {quoting.name(meant)} meant?" if meant else ": it is a cell" if it in sc.names else ""
         yield "UnknownName", f"{quoting.field(it)} isn't a position{hint}"
 

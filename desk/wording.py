@@ -6,6 +6,7 @@ import re
 
 from desk import numerals, quoting
 from desk.forms import DECIMAL, MOST_CELLS, MOST_MOVES, MOST_PART, NAME
+from desk.states import square_of
 
 # The kinds of fault that a line's fields can have, in the order in which they are asked.
 KINDS = "BadLine BadNumber OverLimit UnknownName DoubleName DoubleRow WrongSum PartOver NoMove".split()
@@ -312,11 +313,19 @@ def by_line(at):
     return f" by line {at}" if at else ""
 
 
+def by_square(field, known):
+    """Where a square is named in the place of its parts, or a part in the place of its square: what to write."""
+    if square_of(field) != field:
+        return f", a part of {quoting.name(square_of(field))}" if square_of(field) in known else ""
+    parts = [quoting.name(it) for it in known if square_of(it) == field]
+    return f", and its parts are the cells {quoting.listed(parts)}" if parts else ""
+
+
 def unknown(field, known, other, noun, grid):
     """What is said of a name that nothing has, in the place of a cell or a position."""
     said = f"{quoting.field(field)} isn't a {noun}"
     if field in other:
-        return f"{said}: it is a {'cell' if noun == 'position' else 'position'}"
+        return f"{said}: it is a {'cell' if noun == 'position' else 'position'}{by_square(field, known)}"
     if grid and re.fullmatch(rb"r[0-9]+c[0-9]+", field):
         return f"{said}: the grid has r0c0 to r{grid[0] - 1}c{grid[1] - 1}, since rows and columns count from 0"
     if meant := near(field, known):

@@ -84,15 +84,19 @@ helpers=(
   'writes a scenario from a situation: times, reports, currents, wind, the searcher'
   './osp draft lake.toml -o lake.scenario'
 
+  'trial SITUATION.toml [PLAN ..] [--path NAME,NAME,..] [--pattern NAME] [--of SCENARIO] [--count N] [--seed N] [--json yes]'
+  'flies paths over simulated drifts, and says what they find beside what their plans say'
+  './osp trial lake.toml lake.plan --pattern all'
+
   'next SCENARIO PLAN [--flown K] [--horizon N]'
   'writes the scenario that goes on where the first K periods of the plan found nothing'
   './osp next lake.scenario lake.plan --flown 4 -o later.scenario'
 
-  'show SCENARIO [PLAN] [--of SCENARIO] [--from HH:MM --minutes N]'
+  'show SCENARIO [PLAN] [--of SCENARIO] [--trial FILE] [--from HH:MM --minutes N]'
   'writes a page for a browser: the map, the path, and the chances period by period'
   './osp show lake.scenario lake.plan -o lake.html'
 
-  'brief SCENARIO [PLAN] [--of SCENARIO] [--from HH:MM --minutes N]'
+  'brief SCENARIO [PLAN] [--of SCENARIO] [--trial FILE] [--from HH:MM --minutes N]'
   'writes the same as plain text, for a radio or a tasking form'
   './osp brief lake.scenario lake.plan --from 19:30 --minutes 15'
 

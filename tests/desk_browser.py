@@ -15,7 +15,8 @@ import unittest.mock
 sys.dont_write_bytecode = True
 sys.path.insert(0, os.path.dirname(os.path.realpath(__file__)))
 
-from made import GRID, paired  # noqa: E402
+import finer  # noqa: E402
+from made import GRID, paired, with_plan  # noqa: E402
 from pages import EXAMPLES, PLACES, PROGRAM, TOP, Room, example, read, tree  # noqa: E402
 
 from desk import accepted, brief, program, show  # noqa: E402
@@ -125,6 +126,27 @@ def pair_file(room):
     return room.write("pair.html", out.encode())
 
 
+def finer_file(room):
+    """The page of tests/finer.py, whose states are parts of squares."""
+    status, out, err = room.run_helper(show.main, [room.write("finer.scenario", with_plan(finer.TEXT))])
+    if status or err:
+        raise AssertionError(err)
+    return room.write("finer.html", out.encode())
+
+
+def tried_file(room):
+    """The page of a plan that was flown over three drifts, one of which is lost."""
+    scenario, plan = example("swath")
+    report = json.loads(read(f"{EXAMPLES}/swath.report.json"))
+    flown = {**{key: report[key] for key in ("path", "chance", "weight")}, "finds": 0.5, "error": 0.01, "is_off": False}
+    told = {"trial": 1, "count": 1000, "flown": [flown], "drifts": [[[750, 750], None, [250, 1250]]] * len(report["path"])}
+    files = [room.write("tried.scenario", PLACES.encode() + scenario), room.write("tried.plan", plan)]
+    status, out, err = room.run_helper(show.main, [*files, "--trial", room.write("tried.json", json.dumps(told).encode())])
+    if status or err:
+        raise AssertionError(err)
+    return room.write("tried.html", out.encode())
+
+
 def pages_for(room):
     """The pages that are opened in the browser, by what they are for."""
     plain, _ = page_file(room, "kayaker")
@@ -133,7 +155,8 @@ def pages_for(room):
     hostile, _ = page_file(room, "kayaker", "<svg onload=owned=4>.scenario", lambda it: COMMENTS + it)
     # A page as one would be that escapes nothing: it shows that the browser's logs would tell.
     broken = re.sub(r"<meta http-equiv[^>]*>", "", read(plain).decode()).replace("<h1>", f"<h1>{MARKUP.removeprefix('</title></script>')}")
-    pages = {"grid": plain, "table": table, "swath": swath, "pair": pair_file(room), "hostile": hostile}
+    pages = {"grid": plain, "table": table, "swath": swath, "pair": pair_file(room), "finer": finer_file(room), "hostile": hostile}
+    pages["tried"] = tried_file(room)
     return {**pages, "broken": room.write("broken.html", broken.encode())}
 
 
@@ -228,7 +251,7 @@ class Browser(unittest.TestCase):
         self.assertNotIn("Play", told)
 
     def test_a_phone_needs_no_sideways_move(self):
-        for name in ("grid", "table", "swath", "pair"):
+        for name in ("grid", "table", "swath", "pair", "finer", "tried"):
             self.assertEqual(self.seen[name]["phone"][0], 390, name)
             self.assertEqual(self.seen[name]["desktop"][0], 1280, name)
 
@@ -236,13 +259,25 @@ class Browser(unittest.TestCase):
         seen = self.seen["pair"]["keys"]["right"]
         self.assertEqual((seen["maps"], seen["told"]), (["after-2"], "After look 2, from r0c2 and r1c2"))
 
+    def test_states_are_small_squares_and_numbers_stand_by_squares(self):
+        """Two by two states make a square of tests/finer.py, which has seven squares and five parts of them. Another page has no parts."""
+        wide, shares = self.seen["finer"]["wide"], self.seen["finer"]["first"]["shares"]
+        self.assertEqual((len(wide["parts"]), len(wide["squares"]), len(shares)), (5, 7, 7))
+        self.assertTrue(all(0.47 < part / square < 0.5 for part in wide["parts"] for square in wide["squares"]), wide)
+        self.assertEqual(self.seen["grid"]["wide"]["parts"], [])
+        self.assertEqual(self.seen["finer"]["keys"]["end"]["shares"], ["12.500", "6.250", "6.250", "0", "0", "0", "0"])
+
+    def test_drifts_are_seen_where_the_box_is_ticked(self):
+        self.assertEqual(self.seen["tried"]["drifts"], [0, 1, 1, 0])
+        self.assertNotIn("drifts", self.seen["grid"])
+
     def test_a_page_without_places_is_a_table_alone(self):
         seen = self.seen["table"]
         self.assertIsNone(seen["first"]["slider"])
         self.assertIn("There is no map, since nothing says where the cell north-west lies.", seen["text"])
 
     def test_no_request_and_nothing_on_the_console(self):
-        for name in ("grid", "table", "swath", "pair", "hostile"):
+        for name in ("grid", "table", "swath", "pair", "finer", "tried", "hostile"):
             seen = self.seen[name]
             self.assertEqual({it.split("/")[0] for it in seen["asked"]}, {"file:"}, name)
             self.assertEqual(len(set(seen["asked"])), 1, name)

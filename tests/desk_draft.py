@@ -1,6 +1,5 @@
 """Tests `desk.writing`, and what `osp draft` makes of a situation. Values in comments are worked by hand."""
 import glob
-import math
 import os
 import re
 import subprocess
@@ -12,7 +11,7 @@ import unittest.mock
 from decimal import Decimal
 from fractions import Fraction
 
-from desk import detection, draft, drifting, forms, geometry, keys, moments, rounding, situation, verdict, writing
+from desk import detection, draft, forms, geometry, keys, moments, rounding, situation, verdict, writing
 
 TOP = os.path.dirname(os.path.dirname(os.path.realpath(__file__)))
 EXAMPLES = sorted(glob.glob(os.path.join(TOP, "examples", "*.scenario")))
@@ -141,23 +140,32 @@ class Writing(unittest.TestCase):
 
 SITUATIONS = sorted(glob.glob(os.path.join(TOP, "examples", "situations", "*.toml")))
 # A lake of 3 by 4 cells of 463 m, the way of 1 knot in 15 minutes (1852 / 4). The search begins at noon; its first look is at 12:15.
+# In 7.5 minutes the boat makes 1852 m.
 LAKE = """
 [search]
-begins = "12:00"
+begins = "2026-07-04 12:00"
 minutes = 15
 periods = 3
 [area]
 cell_size = 463
 rows = 3
 columns = 4
+edge = "stays"
 [[report]]
 cell = "r1c1"
-time = "12:15"
+time = "2026-07-04 12:15"
 [searcher]
 start = "r0c0"
-speed = 4
+speed = 8
 sweep_width = 231.5
+search_minutes = 7.5
+reaches = 4
+[tracks]
+count = 1000
+finer = 1
 """
+# The same, where the person may be in each of the cells.
+WIDE = LAKE.replace('cell = "r1c1"', "at = [926, 694.5]\nradius = 1250")
 
 
 def made(text):
@@ -166,35 +174,12 @@ def made(text):
     return read(scenario), scenario, list(lines)
 
 
-def with_report(cell="r1c1", time="12:15", more=""):
-    return LAKE.replace('cell = "r1c1"\ntime = "12:15"', f'cell = "{cell}"\ntime = "{time}"\n{more}')
-
-
-def firsts(sc):
-    """The first distribution by name, as shares."""
-    return {name.decode(): Fraction(part, sc.parts[0]) for name, part in zip(sc.names, sc.first) if part}
-
-
-def row(sc, t, cell):
-    """Where the target goes from a cell in the step after period t, by name, as shares."""
-    found = sc.row(t, sc.names.index(cell))
-    return {sc.names[to].decode(): Fraction(part, sc.parts[1]) for to, part in found.items()}
-
-
 class Geometry(unittest.TestCase):
-    def test_a_current_of_0_6_knots_towards_045_for_15_minutes_over_cells_of_500_metres(self):
-        # 0.6 * 1852 / 4 = 277.8 m; east and north 277.8 * 0.707106781 = 196.434264 m each; 196.434264 / 500 = 0.392868528 cells.
-        # To the north-east go 0.392868528^2 = 0.154345680, to the north and to the east 0.392868528 * 0.607131472 = 0.238522848
-        # each, and 0.607131472^2 = 0.368608624 stay.
+    def test_a_current_of_0_6_knots_towards_045_for_15_minutes(self):
+        # 0.6 * 1852 / 4 = 277.8 m; east and north 277.8 * 0.707106781 = 196.434264 m each.
         self.assertEqual(geometry.metres(Fraction("0.6"), 15), Fraction("277.8"))
         moved = geometry.displacement(Fraction("277.8"), 45)
         self.assertEqual(moved, (Fraction("196.4342637618"), -Fraction("196.4342637618")))
-        shares = drifting.kernel(moved, Fraction(0), Fraction(500))
-        self.assertEqual(sum(shares.values()), 1)
-        by_hand = {(-1, 1): 0.154345680, (-1, 0): 0.238522848, (0, 1): 0.238522848, (0, 0): 0.368608624}
-        self.assertEqual(shares.keys(), by_hand.keys())
-        for offset, share in by_hand.items():
-            self.assertAlmostEqual(float(shares[offset]), share, 8)
 
     def test_bearings_go_clockwise_from_north_and_rows_go_south(self):
         for towards, moved in ((0, (0, -1)), (90, (1, 0)), (180, (0, 1)), (270, (-1, 0)), (360, (0, -1))):
@@ -218,109 +203,6 @@ class Geometry(unittest.TestCase):
         self.assertEqual(grid.neighbours((0, 0), 8), [])
 
 
-class Drifting(unittest.TestCase):
-    def test_linear_interpolation_without_a_spread(self):
-        self.assertEqual(drifting.shares_along(Fraction(2, 5), Fraction(0)), {0: Fraction(3, 5), 1: Fraction(2, 5)})
-        self.assertEqual(drifting.shares_along(Fraction(-5, 4), Fraction(0)), {-1: Fraction(3, 4), -2: Fraction(1, 4)})
-        self.assertEqual(drifting.shares_along(Fraction(3), Fraction(0)), {3: 1})
-
-    def test_a_spread_of_half_a_cell(self):
-        # A cell moved by u has max(0, |u|) beyond its border. For u up to 1/2 to both sides, the mean to one side is 1/2 of 1/4.
-        self.assertEqual(drifting.shares_along(Fraction(0), Fraction(1, 2)), {-1: Fraction(1, 8), 0: Fraction(3, 4), 1: Fraction(1, 8)})
-        shares = drifting.shares_along(Fraction(3, 10), Fraction(1, 5))
-        self.assertEqual(shares, {0: Fraction(7, 10), 1: Fraction(3, 10)})
-
-    def test_shares_sum_to_one_and_have_the_mean_of_the_shift(self):
-        for shift, spread in ((Fraction(1, 7), Fraction(3, 4)), (Fraction(-9, 5), Fraction(1, 3)), (Fraction(0), Fraction(5, 2))):
-            shares = drifting.shares_along(shift, spread)
-            self.assertEqual(sum(shares.values()), 1)
-            self.assertEqual(sum(to * share for to, share in shares.items()), shift)
-            self.assertTrue(all(it > 0 for it in shares.values()))
-
-    def test_a_tide_that_turns_inside_a_period(self):
-        # The step after period 1 goes from 12:15 to 12:30, and the tide turns at 12:25: 10 minutes to the east at 0.6 knots are
-        # 185.2 m, 5 minutes to the west 92.6 m. 92.6 m are left, 0.2 of a cell of 463 m. The next step goes 277.8 m west, 0.6.
-        tide = '[[current]]\nknots = 0.6\ntowards = 90\n[[current]]\nbegins = "12:25"\nknots = 0.6\ntowards = 270\n'
-        sc, text, _ = made(LAKE + tide)
-        self.assertTrue(sc.parts[1] % 5 == 0)
-        self.assertEqual(row(sc, 1, b"r1c1"), {"r1c1": Fraction(4, 5), "r1c2": Fraction(1, 5)})
-        self.assertEqual(row(sc, 2, b"r1c1"), {"r1c1": Fraction(2, 5), "r1c0": Fraction(3, 5)})
-        self.assertIn(b"\nscenario 2\n", text)
-
-    def test_what_would_leave_the_area_stays_at_its_edge_or_is_lost(self):
-        current = "[[current]]\nknots = 1.5\ntowards = 90\n"
-        # 1.5 cells to the east: half goes one cell on, half two.
-        sc, text, lines = made(LAKE + current)
-        self.assertEqual(row(sc, 1, b"r1c1"), {"r1c2": Fraction(1, 2), "r1c3": Fraction(1, 2)})
-        self.assertEqual(row(sc, 1, b"r1c2"), {"r1c3": 1})
-        self.assertIn(b"\nscenario 1\n", text)
-        sc, text, lines = made(LAKE.replace("columns = 4", 'columns = 4\nedge = "lost"') + current)
-        self.assertEqual(row(sc, 1, b"r1c2"), {"r1c3": Fraction(1, 2), "lost": Fraction(1, 2)})
-        self.assertEqual(row(sc, 1, b"lost"), {"lost": 1})
-        self.assertEqual((len(sc.names), len(sc.positions)), (13, 12))
-        self.assertTrue(all(12 not in look for look in sc.looks.values()))
-        # From r1c1 all have left after two steps but a quarter, which went one cell on twice.
-        self.assertTrue(any(it.startswith("75.000 percent have left the area") for it in lines), lines)
-
-    def test_what_would_run_aground_stays_in_its_cell(self):
-        sc, _, _ = made(LAKE.replace("columns = 4", 'columns = 4\nland = ["r1c2", "r0c3..r2c3"]') + "[[current]]\nknots = 0.4\ntowards = 90\n")
-        self.assertEqual([it.decode() for it in sc.names], ["r0c0", "r0c1", "r0c2", "r1c0", "r1c1", "r2c0", "r2c1", "r2c2"])
-        self.assertEqual(row(sc, 1, b"r1c1"), {"r1c1": 1})
-        self.assertEqual(row(sc, 1, b"r1c0"), {"r1c0": Fraction(3, 5), "r1c1": Fraction(2, 5)})
-        self.assertEqual([sc.positions[it] for it in sc.moves[sc.positions.index(b"r1c1")]], [b"r0c1", b"r1c0", b"r1c1", b"r2c1"])
-
-    def test_wind_drives_by_its_leeway_from_where_it_blows(self):
-        # A south-west wind of 20 knots at a leeway of 2 percent drives with 0.4 knots to the north-east; a current of 0.4 knots
-        # towards 225 cancels it.
-        wind = "[[wind]]\nknots = 20\nfrom = 225\n[drift]\nleeway = 0.02\n"
-        sc, _, _ = made(LAKE + wind)
-        found = row(sc, 1, b"r1c1")
-        # 0.4 * 0.707107 = 0.282843 of a cell along both axes.
-        self.assertAlmostEqual(float(found["r0c2"]), 0.282843**2, 2)
-        self.assertAlmostEqual(float(found["r1c1"]), 0.717157**2, 2)
-        sc, _, _ = made(LAKE + wind + "[[current]]\nknots = 0.4\ntowards = 225\n")
-        self.assertEqual(row(sc, 1, b"r1c1"), {"r1c1": 1})
-
-    def test_a_report_drifts_to_the_first_look(self):
-        current = "[[current]]\nknots = 1\ntowards = 90\n"
-        # A cell in 15 minutes; the first look is at 12:15.
-        for time, cell in (("12:15", "r1c1"), ("12:00", "r1c2"), ("11:45", "r1c3"), ("11:30", "r1c3")):
-            self.assertEqual(firsts(made(with_report(time=time) + current)[0]), {cell: 1}, time)
-        # 12 minutes are 0.8 of a cell, and 0.8 of a cell that was anywhere in r1c1 are in r1c2 then.
-        self.assertEqual(firsts(made(with_report(time="12:03") + current)[0]), {"r1c1": Fraction(1, 5), "r1c2": Fraction(4, 5)})
-        # Of a tide that turned at noon the drift before and behind it cancels.
-        tide = '[[current]]\nknots = 1\ntowards = 90\n[[current]]\nbegins = "12:00"\nknots = 1\ntowards = 270\n'
-        self.assertEqual(firsts(made(with_report(time="11:45") + tide)[0]), {"r1c1": 1})
-
-    def test_a_report_spreads_by_the_root_of_its_age(self):
-        # A spread of s metres to each side has the variance s^2 / 3 in a period, and four times that in four periods. In squares of
-        # a fifth of a cell, 100 m here, each step adds what linear interpolation adds: nothing for a shift of whole squares.
-        area = LAKE.replace("cell_size = 463", "cell_size = 500").replace("rows = 3", "rows = 9").replace("columns = 4", "columns = 9")
-        for begins, periods in (("12:00", 1), ("11:15", 4), ("11:07:30", 4.5)):
-            text = area.replace('cell = "r1c1"', "at = [2250, 2250]").replace('"12:15"', f'"{begins}"') + "[drift]\nspread = 200\n"
-            given = situation.situation(text.encode())
-            masses = drifting.drifted(given, given.reports[0])
-            self.assertAlmostEqual(sum(masses.values()), 1)
-            variance = sum(mass * ((column - 4) * 500) ** 2 for (_, column), mass in masses.items())
-            # What lands in a square of 100 m adds 100^2 / 6 a step, and to tell cells of 500 m alone adds about 500^2 / 12.
-            steps = math.ceil(periods)
-            wanted = periods * 200**2 / 3 + steps * 100**2 / 6
-            self.assertLess(abs(variance - wanted), 500**2 / 12 + 100, (begins, variance, wanted))
-
-    def test_reports_weigh_as_they_say_and_a_circle_covers_its_area(self):
-        two = with_report(more="weight = 2\n[[report]]\ncell = \"r2c3\"\ntime = \"12:15\"\n")
-        sc = made(two)[0]
-        self.assertEqual(firsts(sc), {"r1c1": Fraction(2, 3), "r2c3": Fraction(1, 3)})
-        self.assertEqual(sc.parts[0], 3)
-        # A circle around the corner of four cells has a quarter in each; a point is in its cell alone.
-        circle = LAKE.replace('cell = "r1c1"', "at = [926, 463]\nradius = 300")
-        self.assertEqual(firsts(made(circle)[0]), dict.fromkeys(("r0c1", "r0c2", "r1c1", "r1c2"), Fraction(1, 4)))
-        self.assertEqual(firsts(made(circle.replace("300", "0"))[0]), {"r1c2": 1})
-        # What a circle covers of land counts for its cells of water.
-        land = circle.replace("columns = 4", 'columns = 4\nland = ["r0c1", "r0c2"]')
-        self.assertEqual(firsts(made(land)[0]), {"r1c1": Fraction(1, 2), "r1c2": Fraction(1, 2)})
-
-
 class Detection(unittest.TestCase):
     def test_koopmans_formula(self):
         # 5 knots for 12 minutes make 1852 m. With a sweep width of 135 m over 500 m by 500 m the coverage is 1.00008.
@@ -331,10 +213,17 @@ class Detection(unittest.TestCase):
         self.assertEqual(detection.miss(Fraction(10**9)), 0)
 
     def test_a_look_misses_by_the_formula(self):
-        # 4 knots make 1852 m in 15 minutes; 231.5 m wide they sweep 463 * 926 m: coverage 2, a miss of 0.135335.
-        sc = made(LAKE)[0]
-        self.assertEqual(set(map(str, sc.looks.values())), {str({at: sc.looks[0][0]}) for at in range(12)})
+        # 8 knots make 1852 m in 7.5 minutes; 231.5 m wide they sweep 463 * 926 m: coverage 2, a miss of 0.135335.
+        sc = made(WIDE)[0]
+        self.assertEqual(len(sc.names), 12)
+        self.assertEqual(sc.looks, {at: {at: sc.looks[0][0]} for at in range(12)})
         self.assertLess(abs(Fraction(sc.looks[0][0], sc.parts[2]) - Fraction("0.135335")), Fraction(1, 2 * sc.parts[2]))
+
+    def test_a_look_covers_all_states_of_its_square(self):
+        sc = made(WIDE.replace("finer = 1", "finer = 2") + "[parts]\nlook = 10\n")[0]
+        self.assertEqual(len(sc.names), 48)
+        self.assertEqual([sc.names[it] for it in sc.looks[5]], [b"r1c1-01", b"r1c1-02", b"r1c1-03", b"r1c1-04"])
+        self.assertEqual(set(sc.looks[5].values()), {1})
 
     def test_dark_and_haze_are_means_over_the_period(self):
         # Sunset is in the 10th of the 15 minutes of period 1: (10 + 5 * 0.4) / 15 = 0.8 of the width. Then 0.4.
@@ -346,7 +235,7 @@ class Detection(unittest.TestCase):
         self.assertAlmostEqual(float(detection.misses(given, 1)[0]), 0.201897, 6)
         self.assertAlmostEqual(float(detection.misses(given, 3)[0]), 0.449329, 6)
         # In parts of 10 these are 2 and 4.
-        sc, text, _ = made(LAKE + light + "[parts]\nlook = 10\n")
+        sc, text, _ = made(WIDE + light + "[parts]\nlook = 10\n")
         self.assertEqual([sc.look(t, 5) for t in (1, 2, 3)], [{5: 2}, {5: 4}, {5: 4}])
         self.assertIn(b"\nlook r1c1 r1c1 2\n", text)
         self.assertIn(b"\nlookin 3 r1c1 r1c1 4\n", text)
@@ -369,7 +258,7 @@ class Detection(unittest.TestCase):
     def test_a_swath_covers_the_cells_beside_the_course(self):
         swath = '[searcher.swath]\ncourse = "{}"\nsweep_width = 115.75\n'
         for course, cells in (("east-west", {"r0c1", "r1c1", "r2c1"}), ("north-south", {"r1c0", "r1c1", "r1c2"})):
-            sc = made(LAKE + swath.format(course))[0]
+            sc = made(WIDE + swath.format(course))[0]
             look = {sc.names[it].decode(): Fraction(part, sc.parts[2]) for it, part in sc.covered(1, sc.positions.index(b"r1c1")).items()}
             self.assertEqual(look.keys(), cells)
             # Half of the width: coverage 1, a miss of 0.367879.
@@ -403,37 +292,10 @@ class Rounding(unittest.TestCase):
             self.assertEqual(sum(parts.values()), whole)
             self.assertLess(rounding.largest_error(shares, parts, whole), Fraction(1, whole))
 
-    def test_denominators_fit_and_no_greater_common_one_does(self):
-        # e of the coverage isn't a fraction, so the looks take all the room that there is.
-        first, rows, misses = {0: Fraction(1)}, [{0: Fraction(1, 3), 1: Fraction(2, 3)}], [Fraction("0.36787944117")]
-        a, d, g = rounding.denominators(16, (None, None, None), first, rows, misses)
-        self.assertEqual((a, d), (1, 3))
-        # (T+10) * A * D^(T-1) * G^(T+1) < 2^127: 26 * 3^15 * G^17 < 2^127 holds for G = 55, and not for 56.
-        self.assertTrue(26 * 3**15 * 55**17 < 2**127 <= 26 * 3**15 * 56**17)
-        self.assertLessEqual(g, 55)
-        best = rounding.miss_error(misses[0], g)
-        self.assertTrue(all(rounding.miss_error(misses[0], it) >= best for it in range(1, 56)))
+    def test_how_many_periods_fit(self):
         self.assertEqual(rounding.most_periods((1, 10, 10)), 18)
         # 12 * 10^6 * 10^6 * 10^18 = 1.2e31, and 13 * 10^6 * 10^12 * 10^24 = 1.3e43; 2^127 = 1.7e38.
         self.assertEqual(rounding.most_periods((10**6, 10**6, 10**6)), 2)
-
-    def test_given_denominators_are_taken(self):
-        sc = made(LAKE + "[parts]\nfirst = 7\ndrift = 20\nlook = 10\n")[0]
-        self.assertEqual(sc.parts, (7, 20, 10))
-        # A miss of 0.135335 is 1 of 10.
-        self.assertEqual(sc.looks[0], {0: 1})
-        sc = made(LAKE + "[parts]\nlook = 10\n")[0]
-        self.assertEqual(sc.parts, (1, 1, 10))
-
-    def test_what_is_said_of_the_rounding(self):
-        lines = made(LAKE + "[[current]]\nknots = 0.3\ntowards = 90\n[parts]\nfirst = 10\ndrift = 4\nlook = 10\n")[2]
-        # 0.3 of a cell is 1 of 4, off by 0.05; a miss of 0.135335 is 1 of 10, off by 0.035335.
-        self.assertIn("parts 10 4 10: the largest rounding of the first distribution is 0.000 percent, of the drift 5.000, of the looks 3.534", lines)
-        # (T+10) * 10 * 4^(T-1) * 10^(T+1) < 2^127: 22 periods fit, 32 * 10 * 4^21 * 10^23 = 1.4e38; 23 don't.
-        self.assertTrue(32 * 10 * 4**21 * 10**23 < 2**127 <= 33 * 10 * 4**22 * 10**24)
-        self.assertTrue(any(it.startswith("with these parts 22 periods fit at most, 19 more") for it in lines), lines)
-        self.assertTrue(any("coarse" in it for it in lines), lines)
-
 
 class Times(unittest.TestCase):
     def minutes(self, begins, how, time, *rest):
@@ -445,9 +307,9 @@ class Times(unittest.TestCase):
         self.assertEqual(self.minutes("01:00", "nearest", "23:00"), -120)
         self.assertEqual(self.minutes("22:00", "after", "01:00"), 180)
         self.assertEqual(self.minutes("22:00", "after", "22:00"), 1440)
-        self.assertEqual(self.minutes("00:10", "before", "23:40", 15), -30)
-        self.assertEqual(self.minutes("00:10", "before", "00:25", 15), 15)
-        self.assertEqual(self.minutes("00:10", "before", "00:26", 15), 16 - 1440)
+        self.assertEqual(self.minutes("00:10", "past", "23:40"), -30)
+        self.assertEqual(self.minutes("00:10", "past", "00:10"), 0)
+        self.assertEqual(self.minutes("00:10", "past", "00:11"), 1 - 1440)
 
     def test_times_with_a_date_and_with_seconds(self):
         self.assertEqual(self.minutes("2026-02-28 23:30", "nearest", "2026-03-01T00:15:30"), Fraction("45.5"))
@@ -458,11 +320,11 @@ class Times(unittest.TestCase):
                 moments.moment(wrong)
 
     def test_toml_has_times_of_its_own(self):
-        for begins in ("12:00:00", "2026-07-04T12:00:00"):
-            text = LAKE.replace('"12:00"', begins)
+        for begins in ("2026-07-04 12:00:00", "2026-07-04T12:00:00"):
+            text = LAKE.replace('"2026-07-04 12:00"', begins)
             self.assertEqual(made(text)[0].key(), made(LAKE)[0].key())
         with self.assertRaisesRegex(keys.BadSituation, "without a zone"):
-            made(LAKE.replace('"12:00"', "2026-07-04T12:00:00Z"))
+            made(LAKE.replace('"2026-07-04 12:00"', "2026-07-04T12:00:00Z"))
 
     def test_periods_until_a_time(self):
         for until, periods in (("12:45", 3), ("12:59", 3), ("13:00", 4)):
@@ -476,15 +338,15 @@ class Times(unittest.TestCase):
 
 class Drafts(unittest.TestCase):
     def test_the_text_of_a_lake_line_by_line(self):
-        # No drift, one report, coverage 2: all by hand but the denominator of the looks, which is the best up to 1000.
+        # No drift, one report, coverage 2: all by hand but the denominator of the looks. The only state is the report's cell.
         sc, text, _ = made(LAKE)
         self.assertEqual(sc.parts[:2], (1, 1))
-        body = text[text.index(b"\nscenario 1\n") + 1 :]
+        body = text[text.index(b"\nscenario 2\n") + 1 :]
         self.assertEqual(body, writing.scenario_text(sc))
         lines = body.decode().splitlines()
         self.assertEqual(lines[1], "horizon 3")
-        self.assertEqual(lines[3], "cell r0c0")
-        for wanted in ("start r0c0", "first r1c1 1", "moves r1c1 r0c1 r1c0 r1c1 r1c2 r2c1", "moves r0c0 r0c0 r0c1 r1c0", "drift r1c1 r1c1 1"):
+        self.assertEqual([it for it in lines if it.startswith("cell")], ["cell r1c1"])
+        for wanted in ("start r0c0", "first r1c1 1", "moves r1c1 r0c1 r1c0 r1c1 r1c2 r2c1", "moves r0c0 r0c0 r0c1 r1c0", "drift r1c1 r1c1 1", "look r0c0"):
             self.assertIn(wanted, lines)
 
     def test_comments_have_the_situation_and_the_places(self):
@@ -500,7 +362,7 @@ class Drafts(unittest.TestCase):
         self.assertEqual(made("\ufeff" + LAKE)[0].key(), made(LAKE)[0].key())
 
     def test_who_reaches_what(self):
-        sc = made(LAKE.replace("speed = 4", "speed = 4\nreaches = 8\nstays = false"))[0]
+        sc = made(LAKE.replace("reaches = 4", "reaches = 8\nstays = false"))[0]
         self.assertEqual([sc.positions[it].decode() for it in sc.moves[0]], ["r0c1", "r1c0", "r1c1"])
 
     def test_a_base_outside_of_the_area(self):
@@ -529,14 +391,8 @@ class Drafts(unittest.TestCase):
                     row = re.search(rf"(?m)^\| `{os.path.basename(file)[:-5]}` \|.* records \| .*\|$", readme.read().split("## Situations")[1])[0]
                 self.assertTrue(row.endswith(f"; {plan.nodes:,} records | {plan.value * 100_000 // plan.weight / 1000:.3f} % |"), row)
 
-    def test_what_is_lost_is_drawn_apart(self):
-        text = made(LAKE.replace("columns = 4", 'columns = 4\nedge = "lost"'))[1]
-        # The area is 4 cells of 463 m wide and 3 high; the middles of cells beyond it by a cell are at 5.5 and 4.5 cells.
-        self.assertIn(b"# at lost 2546.5 2083.5\n", text)
-
     def test_what_is_noted(self):
         for old, new, note in (
-            ("speed = 4", "speed = 0.9", "note: the searcher makes 416.7 metres in a period, and its next cell is 463 metres away"),
             ("sweep_width = 231.5", "sweep_width = 600", "note: a look finds more than 99 percent"),
         ):
             self.assertFalse(any(it.startswith(note) for it in made(LAKE)[2]))
@@ -544,28 +400,21 @@ class Drafts(unittest.TestCase):
             self.assertTrue(any(it.startswith(note) for it in lines), lines)
 
     def test_what_is_at_the_edge(self):
-        # Of 4 by 3 cells r1c1 and r1c2 aren't at the edge. 0.4 of a cell to the north leave 0.36 in r1c1 after two steps.
-        lines = made(LAKE + "[[current]]\nknots = 0.4\ntowards = 0\n")[2]
-        told = "in the cells at the edge of the area are 0.000 percent at the first look, and 64.000 at the last, if no look finds anything"
-        self.assertIn(told, lines)
+        # Of 4 by 3 cells r1c1 and r1c2 aren't at the edge. The report is anywhere in r1c1; a knot is a cell in a period.
+        told = "in the cells at the edge of the area are {} percent at the first look, and {} at the last, if no look finds anything"
+        for towards, first, last in ((0, "0.000", "100.000"), (90, "0.000", "100.000"), (270, "0.000", "100.000")):
+            lines = made(LAKE + f"[[current]]\nknots = 1\ntowards = {towards}\n")[2]
+            self.assertIn(told.format(first, last), lines)
+        self.assertIn(told.format("0.000", "0.000"), made(LAKE)[2])
 
     def test_too_many_positions_no_way_and_a_long_text(self):
         area = LAKE.replace("rows = 3", "rows = 10").replace("columns = 4", "columns = 20")
         with self.assertRaisesRegex(keys.BadSituation, r"\[searcher\] base: with it there are 201 positions"):
             made(area.replace('start = "r0c0"', 'base = [-900, 700]\nenters = ["r0c0"]'))
         with self.assertRaisesRegex(keys.BadSituation, r"\[searcher\] stays: .* from r0c0"):
-            made(LAKE.replace("columns = 4", 'columns = 4\nland = ["r0c1", "r1c0"]').replace("speed = 4", "speed = 4\nstays = false"))
+            made(LAKE.replace("columns = 4", 'columns = 4\nland = ["r0c1", "r1c0"]').replace("speed = 8", "speed = 8\nstays = false"))
         with unittest.mock.patch.object(draft, "MOST_SCENARIO", 1000), self.assertRaisesRegex(keys.BadSituation, r"and 1,000 are the most"):
             made(LAKE)
-
-    def test_a_step_of_most_cells(self):
-        # 2 knots are 2 cells in a period.
-        made(LAKE + "[[current]]\nknots = 2\ntowards = 90\n")
-        with self.assertRaisesRegex(keys.BadSituation, r"\[search\] minutes: .* up to 2\.1 cells"):
-            made(LAKE + "[[current]]\nknots = 2.1\ntowards = 90\n")
-        # A report's drift is held against it, too: with one period there is no step.
-        with self.assertRaisesRegex(keys.BadSituation, r"\[search\] minutes: "):
-            made(with_report(time="12:00").replace("periods = 3", "periods = 1") + "[drift]\nspread = 100000\n")
 
 
 class Planning(unittest.TestCase):
@@ -583,6 +432,7 @@ class Planning(unittest.TestCase):
         "[light]": keys.LIGHT,
         "[[visibility]]": keys.VISIBILITY,
         "[parts]": keys.PARTS,
+        "[tracks]": keys.TRACKS,
     }
 
     def setUp(self):
@@ -646,13 +496,13 @@ class Wrong(unittest.TestCase):
             (LAKE.replace('"r0c0"', '"<b>r0c0</b>\\u001b[31m"'), "[searcher] start: it should be the name of a cell"),
             (LAKE.replace("463", "9" * 980), "[area] cell_size"),
             (LAKE.replace("463", "0x" + "f" * 970), "[area] cell_size"),
-            (LAKE.replace('"12:00"', '"9999-12-31 12:00"'), "[search] begins"),
+            (LAKE.replace('"2026-07-04 12:00"', '"9999-12-31 12:00"'), "[search] begins"),
             (LAKE.replace("463", "1e-999999999"), "[area] cell_size"),
             (LAKE.replace("463", "1e999999999"), "[area] cell_size"),
             (LAKE.replace("463", "nan"), "[area] cell_size"),
             (LAKE + "\0", "TOML"),
             ("", "[search] is lacking"),
-            (LAKE.replace('"12:00"', '"12:00\\u0000"'), "[search] begins"),
+            (LAKE.replace('"2026-07-04 12:00"', '"12:00\\u0000"'), "[search] begins"),
         ):
             with self.subTest(part or given[:20]):
                 self.assertIn(part, self.line_of(given))
@@ -666,7 +516,7 @@ class Wrong(unittest.TestCase):
 
     def test_each_key_of_a_wrong_type_is_named_with_an_example(self):
         tables = {"search": keys.SEARCH, "area": keys.AREA, "report": keys.REPORT, "current": keys.CURRENT, "wind": keys.WIND, "drift": keys.DRIFT,
-                  "searcher": keys.SEARCHER, "light": keys.LIGHT, "visibility": keys.VISIBILITY, "parts": keys.PARTS}
+                  "searcher": keys.SEARCHER, "light": keys.LIGHT, "visibility": keys.VISIBILITY, "parts": keys.PARTS, "tracks": keys.TRACKS}
         for name, its_keys in tables.items():
             for key in its_keys:
                 for value in ("{ a = 1 }", '"<b>"', "-7", "[[]]", "1979-05-27"):
@@ -690,8 +540,8 @@ class Wrong(unittest.TestCase):
 
     def test_a_time_without_quotes(self):
         for time in ("12:00", "2026-07-04 12:00", "9:30  # half past nine"):
-            self.says(LAKE.replace('"12:00"', time), 'line 3 has a time without quotes; it stands in them, as in begins = "19:30"')
-        self.assertNotIn("quotes", self.says(LAKE.replace('"12:00"', "noon")))
+            self.says(LAKE.replace('"2026-07-04 12:00"', time), 'line 3 has a time without quotes; it stands in them, as in begins = "19:30"')
+        self.assertNotIn("a time without quotes", self.says(LAKE.replace('"2026-07-04 12:00"', "noon")))
 
     def test_what_contradicts(self):
         current = '[[current]]\nbegins = "{}"\nknots = 1\ntowards = 0\n'
@@ -700,9 +550,8 @@ class Wrong(unittest.TestCase):
             ("periods = 3", "", "[search] periods: either it or until"),
             ("periods = 3", 'periods = 3\nuntil = "13:00"', "[search] periods: either it or until"),
             ("periods = 3", 'until = "12:10"', "[search] until: it should leave 1 to 32 periods"),
-            ("periods = 3", "perods = 3", "[search] 'perods': there is no such key; [search] has begins"),
+            ("periods = 3", "perods = 3", "[search] 'perods': there is no such key, and periods may be meant; [search] has begins"),
             ("rows = 3", "rows = 51", "[area] rows: rows times columns without land should be 1 to 200"),
-            ("rows = 3", "rows = 50\nedge = \"lost\"", "[area] rows: rows times columns without land should be 1 to 199"),
             ("rows = 3", "rows = 50", None),
             ("rows = 3", "rows = 200\nland = [\"r3c0..r199c3\"]", None),
             ("columns = 4", "columns = 200\nland = [\"r0c4..r2c199\"]", None),
@@ -713,13 +562,13 @@ class Wrong(unittest.TestCase):
             ("rows = 3", 'rows = 3\nland = ["r0c0"]', "[searcher] start: it should be in the area and not on land, and names r0c0"),
             ('cell = "r1c1"', 'cell = "r1c4"', "[[report]] 1 cell"),
             ('cell = "r1c1"', "at = [1852, 10]", "[[report]] 1 at"),
-            ('cell = "r1c1"', 'cell = "r1c1"\nat = [10, 10]', "[[report]] 1 cell: either it or at"),
-            ('"12:15"', '"2026-07-04 12:00"', "[[report]] 1 time: it has a date"),
+            ('cell = "r1c1"', 'cell = "r1c1"\nat = [10, 10]', "[[report]] 1 cell: one of it, at and track"),
+            ('"2026-07-04 12:00"', '"12:00"', "[[report]] 1 time: it has a date"),
             ('start = "r0c0"', "base = [10, 10]\nenters = [\"r0c0\"]", "[searcher] base: it should be outside"),
             ('start = "r0c0"', "base = [-10, 10]", "[searcher] enters"),
-            ("speed = 4", "speed = 4\nsearch_minutes = 16", "[searcher] search_minutes"),
+            ("search_minutes = 7.5", "search_minutes = 16", "[searcher] search_minutes"),
             ("[[report]]", '[[wind]]\nknots = 9\nfrom = 0\n[[report]]', "[drift] leeway is lacking"),
-            ("[[report]]", current.format("12:20") + "[[report]]", "[[current]] 1 begins: it should be at or before 12:15"),
+            ("[[report]]", current.format("12:20") + "[[report]]", "[[current]] 1 begins: it should be at or before 2026-07-04 12:15"),
             ("[[report]]", current.format("11:00") + current.format("10:00") + "[[report]]", "[[current]] 2 begins: rows should stand in the order"),
             ("[[report]]", "[light]\nnight = 0.5\n[[report]]", "[light] sunset: it or sunrise"),
             ("periods = 3", f"periods = 2\n{most}", None),

@@ -12,6 +12,7 @@ from unittest import mock
 sys.dont_write_bytecode = True
 sys.path.insert(0, os.path.dirname(os.path.realpath(__file__)))
 
+import finer  # noqa: E402
 from asking import Asked, module_of  # noqa: E402
 from pages import EXAMPLES, STAND_IN, TOP, example, read  # noqa: E402
 
@@ -69,6 +70,10 @@ look boat reef 1
 lookin 3 cliff
 end
 """
+
+
+# States that are parts of squares, and positions that are squares.
+FINER = finer.BODY.encode()
 
 
 def first_fault(text):
@@ -133,6 +138,8 @@ ONE = [
     (BAY, 16, b"look bota reef 1", 16, "UnknownName", "`bota` isn't a position: is boat meant?"),
     (BAY, 11, b"moves boat boat bay", 11, "UnknownName", "`bay` isn't a position: it is a cell"),
     (BAY, 16, b"look boat reef 1 ref 1", 16, "UnknownName", "is reef meant?"),
+    (FINER, 18, b"moves r0c0 r0c0 r0c1-01", 18, "UnknownName", "`r0c1-01` isn't a position: it is a cell, a part of r0c1"),
+    (FINER, 33, b"look r0c0 r0c0 1", 33, "UnknownName", "`r0c0` isn't a cell: it is a position, and its parts are the cells r0c0-01, r0c0-02, r0c0-04"),
     (LAKE, 5, b"cell b\ncell a", 6, "DoubleName", "the cell a is named already"),
     (LAKE, 8, b"first a 1 a 1", 8, "DoubleName", "as once it is a 2"),
     (LAKE, 10, b"moves b a b c b", 10, "DoubleName", "b stands twice: once is enough"),
@@ -534,6 +541,22 @@ class Warnings(unittest.TestCase):
         # A row of cells has two ends, and its sides are no edge.
         row = GRID.replace(b"grid 3 4", b"grid 1 9").replace(b"r1c1", b"r0c4")
         self.assertEqual(advice.edge(forms.read_scenario(row, True)[0]), {0, 8})
+
+    def test_squares_are_told_where_states_are_parts_of_them(self):
+        blind = FINER.replace(b"look r0c1 r0c1-01 1 r0c1-03 1", b"look r0c1")
+        self.has(blind, "no look from any position covers r0c1, where the target may be", FINER)
+        self.has(FINER.replace(b"look r0c1 r0c1-01 1 r0c1-03 1", b"look r0c1 r0c1-01 1"), "no look from any position covers part of r0c1, where", FINER)
+        # A square is told that the target never comes to; one part alone isn't, nor is what nobody is lost to.
+        part = FINER.replace(b"drift r0c0-04 r0c1-03 2", b"drift r0c0-04 r0c0-04 2").replace(b"driftin 2 r0c1-01 r0c1-03 2\n", b"")
+        self.has(part.replace(b"drift r0c0-02 r0c1-01 2", b"drift r0c0-02 r0c0-02 2"), "the target is never in r0c1: no drift leads there in time, or what does was rounded away", part)
+
+    def test_the_edge_of_squares_and_what_is_lost(self):
+        """By hand: 4 of 8 are in r0c0 in period 3, which is at the west edge of three columns, and 2 are lost."""
+        none_lost = FINER.replace(b"driftin 2 r0c1-03 lost 2\n", b"")
+        self.has(FINER, "75.000 percent of the target is at the edge of the grid or lost in the last period", none_lost)
+        self.has(none_lost, "50.000 percent of the target is at the edge", FINER)
+        self.assertEqual(advice.edge(forms.read_scenario(FINER, True)[0]), {0, 1, 2, 5})
+        self.assertEqual(advice.edge(forms.read_scenario(FINER.replace(b"lost", b"harbour"), True)[0]), set())
 
     def test_an_example_without_warnings(self):
         self.assertEqual(self.of(read(f"{EXAMPLES}/tide.scenario")), [])

@@ -11,10 +11,12 @@ from unittest import mock
 sys.dont_write_bytecode = True
 sys.path.insert(0, os.path.dirname(os.path.realpath(__file__)))
 
+import finer  # noqa: E402
 from asking import Asked  # noqa: E402
+from made import with_plan  # noqa: E402
 from pages import EXAMPLES, PLACES, STAND_IN, TOP, example, read  # noqa: E402
 
-from desk import accepted, following, forms, masses, onward, paths, program  # noqa: E402
+from desk import accepted, following, forms, layout, masses, onward, paths, program  # noqa: E402
 
 NAMES = sorted(it[:-7] for it in os.listdir(EXAMPLES) if it.endswith(".report"))
 
@@ -242,6 +244,41 @@ class Commands(Asked):
         self.assertEqual([it for it in text.decode().splitlines() if it.startswith("# at ")], [*PLACES.splitlines(), "# at base 3 4"])
         self.assertNotIn(b"a note", text)
         self.assertNotIn(b"nowhere", text)
+
+    def finer(self, *words, more=b""):
+        """The same for tests/finer.py, with more comments in front."""
+        both = with_plan(finer.TEXT)
+        return self.ran(self.write("s", more + finer.TEXT), self.write("p", both[len(finer.TEXT) :]), *words)
+
+    def test_states_that_are_parts_of_squares(self):
+        """Behind look 1 are 2 of 4, 1 of 4 and 1 of 4, by hand in tests/finer.py; the second step is the first one now. Its page is drawn."""
+        status, text, said = self.finer("--flown", "1")
+        self.assertEqual(status, 0, said)
+        lines = text.decode().splitlines()
+        self.assertEqual(lines[2:14], finer.COMMENTS.splitlines()[1:])
+        first, second = ("horizon 2", "parts 4 2 2", "start r0c0", "first r0c0-02 2 r0c1-01 1 r0c1-03 1"), ("drift r0c0-02 r0c0-02 1 r0c0-04 1", "drift r0c1-03 lost 2")
+        for it in (*first, *second, "drift r0c0-01 r0c0-02 2", "look r0c1 r0c1-01 1 r0c1-03 1"):
+            self.assertIn(it, lines)
+        self.assertNotIn(b"driftin", text)
+        told = layout.layout(scenario(text), text)
+        self.assertEqual((told.finer, told.side, told.cells[1]), (2, 500, (375, 125)))
+
+    def test_the_place_of_a_square_that_is_no_position_is_kept(self):
+        """A lookout sees all; the square r0c1 has parts, and no position."""
+        text = re.sub(rb"(?m)^(position|moves|look) r(0c1|0c2|1).*\n", b"", finer.TEXT).replace(b"start r1c0", b"start r0c0").replace(b"moves r0c0 r0c0 r0c1 r1c0", b"moves r0c0 r0c0")
+        both = with_plan(text)
+        status, out, said = self.ran(self.write("s", text), self.write("p", both[len(text) :]), "--flown", "1")
+        self.assertEqual(status, 0, said)
+        self.assertIn(b"# at r0c1 750 250\n", out)
+        self.assertNotIn(b"# at r1c1 ", out)
+
+    def test_behind_the_horizon_of_a_draft_there_are_no_tracks(self):
+        head = b"\n# The situation, from which osp draft made it:\n"
+        self.assertIn(head, read(f"{EXAMPLES}/situations/kayaker.scenario"))
+        for words, more, is_told in (((), head, True), ((), b"", False), (("--flown", "1"), head, False), (("--flown", "1", "--horizon", "3"), head, True)):
+            said = self.finer(*words, more=more)[2]
+            self.assertEqual("counted from tracks that end at period 3" in said, is_told, (words, more))
+        self.assertIn("draft the situation anew with more periods, and plan the rest by ./osp replan flown r0c0 r0c1 r0c0 < THAT_SCENARIO\n", self.finer(more=head)[2])
 
     def test_words(self):
         text, plan = (self.write(*it) for it in zip(("s", "p"), example("two-cells")))

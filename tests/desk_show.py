@@ -2,6 +2,7 @@
 hostile texts, and the page in a browser. `python3 -m unittest tests.desk_show`, or tests/desk."""
 import json
 import os
+import re
 import subprocess
 import sys
 import unittest
@@ -12,9 +13,11 @@ from fractions import Fraction
 sys.dont_write_bytecode = True
 sys.path.insert(0, os.path.dirname(os.path.realpath(__file__)))
 
+import finer  # noqa: E402
+from made import with_plan  # noqa: E402
 from pages import EXAMPLES, PLACES, Refusing, Room, example, read, tree, walks  # noqa: E402
 
-from desk import accepted, brief, clock, forms, layout, masses, page, picture, program, reports, show, tables  # noqa: E402
+from desk import accepted, brief, clock, forms, layout, masses, page, picture, program, reports, show, squares, tables  # noqa: E402
 
 NAMES = sorted(it[:-7] for it in os.listdir(EXAMPLES) if it.endswith(".report"))
 getcontext().prec = 120
@@ -134,6 +137,60 @@ class Places(unittest.TestCase):
 
     def test_a_later_line_counts_and_blanks_do_not(self):
         self.assertEqual(layout.places_told(b" # at a 1 2\n#\tat b -1.5 2 \r\n# at a 3 4\n# at c 1\n# at d 1 2 3\n"), {b"a": (3, 4), b"b": (-1.5, 2)})
+
+
+class Squares(unittest.TestCase):
+    """Cells that are parts of squares, in tests/finer.py."""
+
+    def layout(self, text):
+        return layout.layout(forms.read_scenario(text, alone=True)[0], text)
+
+    def test_cells_are_grouped_by_the_names_of_their_squares(self):
+        own = squares.squares(forms.read_scenario(finer.TEXT, alone=True)[0])
+        self.assertEqual(own.texts, ["r0c0", "r0c1", "lost", "r0c2", "r1c0", "r1c1", "r1c2"])
+        self.assertEqual((own.cells, own.split, own.noun), ([[0, 1, 2], [3, 4], [5], [], [], [], []], {0, 1}, "square"))
+        self.assertEqual((own.of_cells(), own.filled()), ([0, 0, 0, 1, 1, 2], [0, 1, 2]))
+        self.assertEqual([own.sums(it)[:3] for it in finer.LEFT], finer.BY_SQUARE)
+
+    def test_where_none_is_finer_they_are_the_cells(self):
+        for name in ("drifting-grid", "swath", "tide"):
+            sc, _ = forms.read_scenario(example(name)[0], alone=True)
+            own = squares.squares(sc)
+            self.assertEqual((own.names, own.cells, own.noun), (sc.names, [[it] for it in range(len(sc.names))], "cell"), name)
+
+    def test_a_position_that_is_named_as_a_square_is_one_without_cells(self):
+        sc, _ = forms.read_scenario(finer.TEXT.replace(b"r1c2", b"pier"), alone=True)
+        self.assertEqual(squares.squares(sc).texts[3:], ["r0c2", "r1c0", "r1c1"])
+
+    def test_states_lie_in_their_places(self):
+        told = self.layout(finer.TEXT)
+        self.assertEqual((told.side, told.metres, told.finer), (500, True, 2))
+        self.assertEqual(told.cells, [(125, 125), (375, 125), (375, 375), (625, 125), (625, 375), (2000, 750)])
+        self.assertEqual(told.squares[:3] + told.squares[-1:], [(250, 250), (750, 250), (2000, 750), (1250, 750)])
+
+    def test_how_many_parts_make_a_square(self):
+        """The middles of parts of 500 m, to two digits; what lies elsewhere isn't drawn in its place."""
+        for places, count in (
+            ((83.33, 250, 416.67), 3),
+            ((62.5, 187.5, 437.5), 4),
+            ((50, 150, 250), 5),
+            ((125, 250, 416.67), 1),
+            ((125, 375, 600), 1),
+        ):
+            names, rest = ("r0c0-01", "r0c0-02", "r0c0-04"), [it for it in finer.TEXT.decode().splitlines() if not re.match("# at r0c[01]-", it)]
+            lines = [f"# at {name} {it} {places[0]}" for name, it in zip(names, places)] + [f"# at r0c1-0{it} {500 + places[0]} {places[it // 3]}" for it in (1, 3)]
+            self.assertEqual(self.layout("\n".join([*lines, *rest]).encode()).finer, count, places)
+
+    def test_without_places_of_states_squares_are_drawn_by_their_names(self):
+        told = self.layout(finer.BODY.encode())
+        self.assertEqual((told.squares[0], told.squares[6], told.side, told.metres, told.finer), ((0, 0), (2, 1), 1, False, 1))
+        self.assertEqual(told.squares[2], (3.5, 1), "what is lost lies apart")
+        self.assertEqual(told.cells[:3], [(0, 0)] * 3)
+
+    def test_a_square_that_has_no_place(self):
+        with self.assertRaises(layout.NoPlaces) as raised:
+            self.layout(finer.BODY.replace("r0c1-01", "quay").encode())
+        self.assertEqual(str(raised.exception), "nothing says where the square quay lies")
 
 
 class Clocks(unittest.TestCase):
@@ -320,6 +377,80 @@ class Pages(Room):
             self.assertEqual({it for it in keys if it.startswith("on") or it in ("src", "href", "style", "action")}, set())
             self.assertNotIn("://", out)
             self.assertNotIn("@import", out)
+
+
+class FinerPages(Room):
+    """The page and the text of tests/finer.py: squares where one reads, states where a number is exact."""
+
+    def made(self, helper, text=finer.TEXT):
+        status, out, err = self.run_helper(helper.main, [self.write("s", with_plan(text))])
+        self.assertEqual((status, err), (0, ""))
+        return out
+
+    def page(self, text=finer.TEXT):
+        return tree(self.made(show, text))
+
+    def test_the_maps(self):
+        """256 is the whole. A state is a quarter of a square: 64 of it make a square's worth of 256, or 100 percent."""
+        for t, told in enumerate(self.page().all("figure")):
+            left, sums = finer.LEFT[t], [*finer.BY_SQUARE[t], 0, 0, 0, 0]
+            self.assertEqual([it.text() for it in told.all("text", class_="of-all")], [in_map(it, 256) for it in sums])
+            self.assertEqual([it.text() for it in told.all("text", class_="of-left")], [in_map(it, sum(sums)) for it in sums])
+            rects = list(told.one("g", class_="cells").all("rect"))
+            self.assertEqual([it.one("title").text().split("; ")[-1] for it in rects[:7]], [f"{it} of 256" for it in sums])
+            self.assertEqual([it.attributes["class"].split()[0] for it in rects[:2]], ["a0", "a0"], "below its states a square is white")
+            parts = {it.one("title").text().split(":")[0]: it for it in rects[7:]}
+            self.assertEqual(list(parts), ["r0c0-01", "r0c0-02", "r0c0-04", "r0c1-01", "r0c1-03"])
+            self.assertEqual([it.attributes["class"].split()[0] for it in parts.values()], [f"a{part_colour(it)}" for it in left[:5]])
+            self.assertEqual(parts["r0c0-04"].one("title").text(), f"r0c0-04: {in_map(left[2], 256)} % of all, {in_map(left[2], sum(sums))} % if nothing was found")
+            self.check_places(told, parts, t)
+
+    def check_places(self, figure, parts, t):
+        """Where states lie, and the outlines of squares and of what the look covers. A square is 100 units wide, and r0c0's middle is 0 0."""
+        side = (100 - picture.GAP) / 2 - picture.THIN_GAP
+        places = {name: tuple(round(float(it.attributes[key]) + side / 2) for key in "xy") for name, it in parts.items()}
+        self.assertEqual(places, {"r0c0-01": (-25, -25), "r0c0-02": (25, -25), "r0c0-04": (25, 25), "r0c1-01": (75, -25), "r0c1-03": (75, 25)})
+        borders = [(it.attributes["x"], it.attributes["y"]) for it in figure.one("g", class_="borders").all("rect")]
+        self.assertEqual(borders, [("-49", "-49"), ("51", "-49")])
+        seen = [(it.attributes["x"], it.attributes["y"]) for it in figure.one("g", class_="covers").all("rect")]
+        self.assertEqual(seen, [] if t == 0 else [("-45" if finer.PATH[t - 1] == "r0c0" else "55", "-45")])
+
+    def test_what_is_said_of_squares_and_states(self):
+        told, text = self.page(), self.page().text()
+        said = "a square is 500 m wide, and where they may be is counted in states, parts of it of 250 m."
+        for part in (said, "per square:", "3 squares in 6 states, 6 positions", "All squares together hold 25.000 % of all."):
+            self.assertIn(part, text)
+        self.assertIn("Likeliest now: r0c0 12.500\N{NO-BREAK SPACE}%, r0c1 6.250\N{NO-BREAK SPACE}%, lost 6.250", told.one("figure", id="after-3").text())
+        rows = [it.one("bdi").text() for it in told.one("section", class_="left").one("tbody").all("tr")]
+        self.assertEqual(rows, ["r0c0", "r0c1", "lost"])
+
+    def test_the_tables_of_all_looks(self):
+        by_square, by_state = (texts_of(it.one("table")) for it in self.page().all("details", class_="all"))
+        found = ["found so far", "0", "50.000", "62.500", "75.000"]
+        for texts, noun, names, left in (
+            (by_square, "Square", ["r0c0", "r0c1", "lost"], finer.BY_SQUARE),
+            (by_state, "State", ["r0c0-01", "r0c0-02", "r0c0-04", "r0c1-01", "r0c1-03", "lost"], finer.LEFT),
+        ):
+            self.assertEqual(texts[0], [noun, "before", "look 1", "look 2", "look 3"])
+            self.assertEqual(texts[1:], [*([name, *(in_map(it, 256) for it in row)] for name, row in zip(names, zip(*left))), found])
+
+    def test_without_places_of_states_the_map_is_of_squares(self):
+        told = self.page(finer.BODY.encode())
+        figure = told.one("figure", id="after-3")
+        self.assertEqual([it.attributes["class"].split()[0] for it in figure.one("g", class_="cells").all("rect")], ["a6", "a5", "a5", *["a0"] * 4])
+        self.assertEqual(list(figure.all("g", class_="borders")), [])
+        self.assertNotIn("per square:", told.text())
+
+    def test_the_brief(self):
+        lines = self.made(brief).splitlines()
+        at = lines.index("If nothing was found, they are after look 3 in")
+        due = ["square    of all  of what is left", "r0c0    12.500 %         50.000 %", "r0c1     6.250 %         25.000 %", "lost     6.250 %         25.000 %"]
+        self.assertEqual(lines[at + 1 : at + 6], [*due, ""])
+
+
+def part_colour(mass):
+    """The class of colour of a state of tests/finer.py, four of which make a square, by hand."""
+    return {0: 0, 16: 6, 32: 7, 64: 7, 128: 7}[mass]
 
 
 def texts_of(table):

@@ -11,6 +11,7 @@ from unittest import mock
 sys.dont_write_bytecode = True
 sys.path.insert(0, os.path.dirname(os.path.realpath(__file__)))
 
+import finer  # noqa: E402
 from asking import Asked  # noqa: E402
 from made import ROW  # noqa: E402
 from pages import EXAMPLES, TOP, example, read  # noqa: E402
@@ -37,6 +38,7 @@ FLOWN = [
     (ROW, "flown x", "UnknownName", ["`x` isn't a position"]),
     (example("swath")[0], "flown north", "UnknownName", ["`north` isn't a position: it is a cell"]),
     (example("tide")[0], "flown bouy", "UnknownName", ["`bouy` isn't a position: is buoy meant?"]),
+    (finer.TEXT, "flown r0c0-02", "UnknownName", ["`r0c0-02` isn't a position: is r0c0 meant?"]),
     (ROW, "flown b a", "NotLegal", ["period 1 goes from b to b, and the moves from b are a, c (the searcher starts at b; the first name is where it looks from in period 1)"]),
     (ROW, "flown a d", "NotLegal", ["period 2 goes from a to d, and the moves from a are a, b"]),
     (ROW, "flown a a a", "NotLegal", ["3 names stand here, and the horizon is 2 periods: leave out the last name"]),

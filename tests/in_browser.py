@@ -173,6 +173,18 @@ def played(visit):
     return {"seen": seen, "stopped": stopped, "later": visit.state()}
 
 
+def drifted(visit):
+    """In how many maps simulated drifts are to be seen: at look 1, with the box ticked, with another choice of numbers, with the box cleared."""
+    look = "return [...document.querySelectorAll('.frame:not([hidden]) .drifts')].filter((it) => getComputedStyle(it).display !== 'none').length"
+    visit.press(Keys.HOME, Keys.ARROW_RIGHT)
+    seen = [visit.run(look)]
+    for selector in ("#drifts", "input[value=of-left]", "#drifts"):
+        visit.element(selector).click()
+        seen.append(visit.run(look))
+    visit.element("input[value=of-all]").click()
+    return seen
+
+
 def slid(visit):
     """Moves the slider by the mouse to its end."""
     slider = visit.element("#period")
@@ -189,6 +201,8 @@ def visited(seen_by, page, folder):
     seen |= {"title": seen_by.title, "first": visit.state(), "stops": stops(visit), "printed": visit.printed()}
     seen["text"] = visit.run("return document.body.innerText")
     seen["made"] = visit.run("return [...document.querySelectorAll('script, img, iframe, object, link, a')].map((it) => it.tagName)")
+    wide = "return [...document.querySelectorAll('.frame:not([hidden]) .cells %s')].map((it) => it.getBoundingClientRect().width)"
+    seen["wide"] = {"parts": visit.run(wide % ".part"), "squares": visit.run(wide % "rect:not(.part)")}
     seen["owned"] = visit.run("return window.owned === undefined ? null : String(window.owned)")
     if seen["first"]["slider"] is not None:
         seen |= {"fraction": fraction(visit), "slid": slid(visit), "keys": by_keyboard(visit), "played": played(visit)}
@@ -196,6 +210,8 @@ def visited(seen_by, page, folder):
         visit.element("input[value=of-left]").click()
         seen["of_left"] = visit.state()
         visit.element("input[value=of-all]").click()
+    if visit.run("return document.getElementById('drifts') !== null"):
+        seen["drifts"] = drifted(visit)
     seen["desktop"] = visit.picture("desktop")
     visit.pdf()
     return seen | visit.logs()

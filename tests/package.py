@@ -14,7 +14,7 @@ from words import ROWS, as_nobody, written
 # The folders of the system alone: neither the kit nor an osp is there.
 SYSTEM = {"PATH": "/usr/bin:/bin", "LANG": "C.UTF-8"}
 COMMANDS = ["plan", "check", "report", "convert", "replan", "map", "duo", "make", "drill"]
-HELPERS = ["draft", "next", "show", "brief", "split", "join", "explain"]
+HELPERS = ["draft", "trial", "next", "show", "brief", "split", "join", "explain"]
 
 
 def furnished(house):

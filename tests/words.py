@@ -622,7 +622,7 @@ def _(house):
         ran = run([house.script, "next", *words], **{**house.how(with_rt=False), "cwd": folder})
         ran.gives(0, "next|" + "|".join(words) + f"\n{house.at}/desk {house.at} True\n", "")
     house.run("draft", "--help").gives(0, house.run("--help").out, "")
-    for name in ("draft", "show", "brief", "split", "join", "explain"):
+    for name in ("draft", "trial", "show", "brief", "split", "join", "explain"):
         house.run(name, "a").gives(0, f"{name}|a\n{house.at}/desk {house.at} True\n", "")
     want(sorted(os.listdir(f"{house.at}/desk")) == ["__main__.py"], os.listdir(f"{house.at}/desk"))
     want(house.calls() == [], f"rt was called: {house.calls()}")

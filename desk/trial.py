@@ -1,0 +1,304 @@
+"""./osp trial SITUATION.toml [PLAN ..] [--path NAME,NAME,..] [--pattern NAME] ..: flies paths over simulated drifts, and says what they
+find.
+
+What is found is held against what the plan says, and paths against each other. docs/PLANNING.md says how to read it.
+"""
+import dataclasses
+import hashlib
+import json
+import textwrap
+
+from desk import accepted, clock, flights, flying, keys, patterns, running, tracks
+from desk.accepted import Refused
+from desk.brief import rows_of
+from desk.situation import BadSituation, situation
+
+USAGE = (
+    "usage: osp trial SITUATION.toml [PLAN ..] [--path NAME,NAME,..] [--pattern NAME] [--of SCENARIO] [--count N] [--seed N] [--json yes]"
+    f"\nNAME of a pattern is {', '.join(patterns.PATTERNS)}, or all"
+)
+# Exit statuses of docs/FORMATS.md.
+WRONG, WRONG_WORDS = 1, 2
+# From which difference on, in parts of 1 and in standard errors, a scenario is called no good image.
+MOST_OFF, MOST_ERRORS = 0.02, 3
+# How many tracks the JSON has at most, for a page to draw.
+MOST_DRAWN = 500
+# How wide a name of a flight is in a table, and how wide the text is, in columns.
+NAME_WIDTH, WIDTH = 24, 80
+# The least part of a difference that is told, as a share of 1.
+LEAST_SHOWN = 0.00005
+
+
+@dataclasses.dataclass
+class Asked:
+    """What the words ask for: the situation's file, the plans' files, paths and patterns by their words, the file of the scenario or
+    None, how many drifts and from which seed (or None each), and whether the answer is JSON."""
+
+    situation: str
+    plans: list
+    paths: list
+    patterns: list
+    of: str | None
+    count: int | None
+    seed: int | None
+    is_json: bool
+
+
+def words_of(words):
+    """What the words ask for. Raises clock.BadWords."""
+    files, found = clock.sorted_words(words, ("--of", "--count", "--seed", "--json"), ("--path", "--pattern"))
+    if not files or len(files) + len(found["--path"]) + len(found["--pattern"]) < 2:
+        raise clock.BadWords("a situation is needed, and something to fly: a plan, --path or --pattern")
+    if [*files, found.get("--of")].count("-") > 1:
+        raise clock.BadWords("standard input can be read once, and stands for one file")
+    if found.get("--json", "yes") != "yes":
+        raise clock.BadWords("behind --json stands yes")
+    named = [each for it in found["--pattern"] for each in (patterns.PATTERNS if it == "all" else [it])]
+    if any(it not in patterns.PATTERNS for it in named):
+        raise clock.BadWords(f"behind --pattern stands {', '.join(patterns.PATTERNS)} or all")
+    count, seed = (taken(key, found.get(f"--{key.name}")) for key in keys.TRACKS[:2])
+    return Asked(files[0], files[1:], found["--path"], list(dict.fromkeys(named)), found.get("--of"), count, seed, "--json" in found)
+
+
+def taken(key, word):
+    """The number behind an option that is called as this key of [tracks]; None where it doesn't stand. Raises clock.BadWords."""
+    try:
+        return None if word is None else key.take(running.number(f"--{key.name}", word))
+    except (ValueError, clock.BadWords):
+        raise clock.BadWords(f"behind --{key.name} stands {key.what}, as in --{key.name} {key.example}") from None
+
+
+# ---- what is flown
+
+
+@dataclasses.dataclass
+class Cause:
+    """Why what is found isn't what is said, what helps, and how much of the difference it makes, as a share of 1."""
+
+    why: str
+    helps: str
+    part: float
+
+
+@dataclasses.dataclass
+class Flown:
+    """A flight, what it finds, how much less than the first of all, and (or None) where the difference to what its plan says comes from."""
+
+    flight: flights.Flight
+    finds: flying.Finds
+    less: flying.Estimate
+    causes: list | None
+
+    @property
+    def off(self):
+        """By how much more the plan says than is found."""
+        return float(self.flight.chance) - self.finds.total.mean
+
+    @property
+    def is_off(self):
+        """Whether that is more than can be let pass."""
+        return abs(self.off) > max(MOST_OFF, MOST_ERRORS * self.finds.total.error)
+
+
+@dataclasses.dataclass
+class Trial:
+    """A trial: the name and the bytes of the situation's file, the situation, its fresh tracks, what was flown, and the datum of the
+    patterns or None."""
+
+    name: str
+    text: bytes
+    given: object
+    tracks: tracks.Tracks
+    flown: list
+    datum: flights.Datum | None
+
+
+def causes(at, own, flight, fresh):
+    """Where the difference between what a plan says and what is found comes from: causes whose parts sum to it.
+
+    `own` are the draft's drifts. None where its scenario isn't the one of the field.
+    """
+    scenario = float(sum(flight.says))
+    finer = flying.finer_of(at.given, own, at.sc)
+    if finer is None:
+        return None
+    chain, halved = (own.found(flight.looks, it).total.mean for it in (finer, flying.HALVED[finer]))
+    same = own.found(flight.looks).total.mean
+    steps = (
+        ("a plan of another scenario", "draft and plan anew", float(flight.chance), scenario),
+        ("the rounding of the scenario", "[parts], or fewer periods", scenario, chain),
+        ("its states, beside ones of half their side", "[tracks] finer, or smaller cells", chain, halved),
+        ("what a chain of those still forgets of a drift", "go by what is found", halved, same),
+        ("the draft's own drifts, to which a plan fits", "[tracks] count", same, fresh.total.mean),
+    )
+    return [Cause(why, helps, before - after) for why, helps, before, after in steps]
+
+
+def tried(asked):
+    """The trial that is asked for. Raises Refused, BadSituation and clock.BadWords."""
+    text = accepted.read_file(asked.situation)
+    given = situation(text)
+    at = flights.field(given, text, asked.of)
+    listed = [flights.of_plan(at, it, accepted.read_file(it)) for it in asked.plans]
+    listed += [flights.of_path(at, f"path {it}", word) for it, word in enumerate(asked.paths, 1)]
+    seed = given.tracks.seed + 1 if asked.seed is None else asked.seed
+    made = tracks.simulated(given, asked.count or given.tracks.count, seed)
+    where = flights.datum(at, made) if asked.patterns else None
+    listed += [flights.of_pattern(at, it, where) for it in asked.patterns]
+    fresh = flying.Drifts(given, made)
+    found = [fresh.found(it.looks) for it in listed]
+    flown = [Flown(flight, finds, flying.less(found[0], finds), None) for flight, finds in zip(listed, found)]
+    off = [it for it in flown if it.is_off]
+    own = flying.Drifts(given, tracks.simulated(given)) if off else None
+    for it in off:
+        it.causes = causes(at, own, it.flight, it.finds)
+    return Trial(flights.told(asked.situation), text, given, made, flown, where)
+
+
+# ---- what is said
+
+
+def percent(share, digits=2):
+    """A share in percent."""
+    return f"{float(share) * 100:.{digits}f} %"
+
+
+def points(part):
+    """A difference of shares in points."""
+    return f"{part * 100:.2f}"
+
+
+def with_error(it):
+    """An estimate in percent with its standard error."""
+    return f"{it.mean * 100:.2f} ± {it.error * 100:.2f} %"
+
+
+def short(name):
+    """A name, cut where it is too long for a table."""
+    return name if len(name) <= NAME_WIDTH else name[: NAME_WIDTH - 1] + "…"
+
+
+def summary(trial):
+    """The table of all that was flown."""
+    lines = [["flown", "says", "finds", f"{short(trial.flown[0].flight.name)} finds more by"]]
+    for at, it in enumerate(trial.flown):
+        more = f"{it.less.mean * 100:.2f} ± {it.less.error * 100:.2f}" if at else ""
+        lines.append([short(it.flight.name), percent(it.flight.chance), with_error(it.finds.total), more])
+    return rows_of([it[: 4 if len(trial.flown) > 1 else 3] for it in lines], [True, False, False, False])
+
+
+def periods(trial, it):
+    """The table of a flight by period."""
+    given, flight = trial.given, it.flight
+    lines, so_far = [["period", "begins", "look from", "says", "finds", "says", "finds so far"]], 0
+    for t, (place, says, found, up_to) in enumerate(zip(flight.path, flight.says, it.finds.periods, it.finds.so_far), 1):
+        so_far += says
+        begins = given.clock.told(given.minutes * (t - 1)).split(" ")[-1]
+        lines.append([str(t), begins, place, percent(says), with_error(found), percent(so_far), with_error(up_to)])
+    return [f"{flight.name}, period by period:", *rows_of(lines, [False, True, True, False, False, False, False])]
+
+
+def wrapped(text):
+    """A text in lines of the width."""
+    return textwrap.wrap(text, WIDTH, subsequent_indent="  ", break_long_words=False, break_on_hyphens=False)
+
+
+def about_patterns(trial):
+    """What patterns are, and their paths."""
+    drawn = [it.flight for it in trial.flown if it.flight.name in patterns.PATTERNS]
+    if not drawn:
+        return []
+    row, column = trial.datum.setting.datum
+    told = (
+        f"The datum is r{row}c{column}: there is the mean place of the drifts at look {trial.datum.look}, the first at which the searcher "
+        "can be there. It goes from its start to a pattern's first square by the quickest way, and so around land, and looks from each "
+        "square on the way. A pattern that ends is begun again."
+    )
+    paths = (wrapped(" ".join([f"{it.name} ({patterns.PATTERNS[it.name].code}):", *it.path])) for it in drawn)
+    return ["", *wrapped(told), *(line for it in paths for line in it)]
+
+
+def about_off(it):
+    """What is said of a flight whose finds aren't what its plan says."""
+    where = "below" if it.off > 0 else "above"
+    told = f"{it.flight.name}: what it finds is {points(abs(it.off))} points {where} what is said, so the scenario is no good image of"
+    told += " these drifts."
+    if it.causes is None:
+        return ["", *wrapped(f"{told} The scenario isn't the one that draft makes of this situation now.")]
+    rows = [[f"  {each.why}", points(each.part), each.helps] for each in it.causes if abs(each.part) >= LEAST_SHOWN]
+    return ["", *wrapped(f"{told} Where the points of difference come from:"), *rows_of([["  cause", "points", "what helps"], *rows], [True, False, True])]
+
+
+def text_of(trial):
+    """The whole text."""
+    own = trial.given.tracks.seed
+    other = "which are the draft's own" if trial.tracks.seed == own else f"and not {own}, from which draft makes its own"
+    head = f"{trial.name}: {trial.tracks.count:,} simulated drifts from seed {trial.tracks.seed}, {other}."
+    lines = [*wrapped(f"{head} Behind ± stands the standard error."), "", *summary(trial)]
+    paths = [it for it in trial.flown if it.flight.name not in patterns.PATTERNS]
+    for it in paths:
+        lines += ["", *periods(trial, it)]
+        lines += [line for note in it.flight.notes for line in wrapped(f"note: {it.flight.name}: {note}")]
+    lines += [line for it in paths if it.is_off for line in about_off(it)]
+    lines += about_patterns(trial)
+    return "\n".join(lines) + "\n"
+
+
+# ---- the same as JSON
+
+
+def part(value):
+    """A share as JSON has it."""
+    return round(float(value), 6)
+
+
+def flown_json(it):
+    """A flight as JSON."""
+    flight = it.flight
+    rows = zip(flight.says, it.finds.periods)
+    return {
+        "name": flight.name,
+        "path": flight.path,
+        "chance": str(flight.value),
+        "weight": str(flight.weight),
+        "finds": part(it.finds.total.mean),
+        "error": part(it.finds.total.error),
+        "is_off": it.is_off,
+        "periods": [{"says": part(says), "finds": part(found.mean), "error": part(found.error)} for says, found in rows],
+        "less": {"finds": part(it.less.mean), "error": part(it.less.error)},
+        "causes": None if it.causes is None else [{"why": each.why, "part": part(each.part)} for each in it.causes],
+        "notes": list(flight.notes),
+    }
+
+
+def json_of(trial):
+    """The whole answer as one line of JSON."""
+    drawn = [[None if it is None else [round(it[0]), round(it[1])] for it in look[:MOST_DRAWN]] for look in trial.tracks.looks]
+    told = {
+        "trial": 1,
+        "situation": trial.name,
+        "sha256": hashlib.sha256(trial.text).hexdigest(),
+        "count": trial.tracks.count,
+        "seed": trial.tracks.seed,
+        "draft_seed": trial.given.tracks.seed,
+        "flown": [flown_json(it) for it in trial.flown],
+        "drifts": drawn,
+    }
+    return json.dumps(told, sort_keys=True, separators=(",", ":")) + "\n"
+
+
+def main(words):
+    """Runs the helper; answers its exit status."""
+    try:
+        asked = words_of(words)
+        trial = tried(asked)
+    except clock.BadWords as wrong:
+        running.say(f"osp trial: {wrong}\n{USAGE}")
+        return WRONG_WORDS
+    except BadSituation as wrong:
+        running.say(f"osp trial: {wrong}")
+        return WRONG
+    except Refused as why:
+        running.say(f"osp trial: {why.said}")
+        return why.status
+    return running.write(json_of(trial) if asked.is_json else text_of(trial))
