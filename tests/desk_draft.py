@@ -1,6 +1,8 @@
 """Tests `desk.writing`, and what `osp draft` makes of a situation. Values in comments are worked by hand."""
+import contextlib
 import glob
 import os
+import pty
 import re
 import subprocess
 import sys
@@ -594,6 +596,24 @@ class Wrong(unittest.TestCase):
         with open("/dev/full", "wb") as full:
             done = subprocess.run([*words, SITUATIONS[0]], stdout=full, stderr=subprocess.PIPE, cwd=TOP, timeout=60)
         self.assertEqual((done.returncode, done.stderr), (6, b"osp draft: the output can't be written: No space left on device\n"))
+
+
+class Progress(unittest.TestCase):
+    def test_a_terminal_alone_is_told_how_far_the_simulation_is(self):
+        words = [sys.executable, "-B", "-m", "desk", "draft", os.path.join(TOP, "examples", "situations", "aircraft.toml")]
+        reader, terminal = pty.openpty()
+        with subprocess.Popen(words, cwd=TOP, stdout=subprocess.DEVNULL, stderr=terminal) as running:
+            os.close(terminal)
+            told = b""
+            # What is read behind the end of the other side is an error here, and nothing elsewhere.
+            with contextlib.suppress(OSError):
+                while piece := os.read(reader, 4096):
+                    told += piece
+        os.close(reader)
+        self.assertEqual(running.returncode, 0, told)
+        self.assertIn(b"\rosp draft: 19,000 tracks\x1b[K\r\x1b[Kosp draft: ", told)
+        silent = subprocess.run(words, cwd=TOP, stdout=subprocess.DEVNULL, stderr=subprocess.PIPE, check=True).stderr
+        self.assertNotIn(b"\r", silent)
 
 
 if __name__ == "__main__":
