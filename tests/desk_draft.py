@@ -376,7 +376,7 @@ class Drafts(unittest.TestCase):
         self.assertIn(b"# at base -900 700\n", text)
 
     def test_each_situation_of_the_examples_drafts_the_scenario_beside_it(self):
-        self.assertGreaterEqual(len(SITUATIONS), 3)
+        self.assertGreaterEqual(len(SITUATIONS), 5)
         for file in SITUATIONS:
             with self.subTest(os.path.basename(file)):
                 scenario, _ = draft.drafted(bytes_of(file))
