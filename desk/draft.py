@@ -17,11 +17,12 @@ MOST_SCENARIO = 1_048_576
 WRONG_FILE, WRONG_WORDS, UNREADABLE, UNWRITABLE = 1, 2, 5, 6
 
 
-def drafted(text):
-    """The scenario's text for a situation's text, both as bytes, and the lines to say of it. Raises BadSituation."""
+def drafted(text, tell=None):
+    """The scenario's text for a situation's text, both as bytes, and the lines to say of it. Raises BadSituation. `tell` is told how far
+    the simulation is, in tracks."""
     given = situation(text)
     shares = Shares(given)
-    for drift in drifts(given, tracks.simulated(given)):
+    for drift in drifts(given, tracks.simulated(given, tell=tell)):
         draft = rounded(shares, drift)
         told = telling.facts(shares, drift, draft)
         scenario = writing.scenario_text(draft.scenario, telling.comments(text, shares, drift, told))
@@ -37,6 +38,22 @@ def say(line):
     print(f"osp draft: {line}", file=sys.stderr)
 
 
+def progress(done):
+    """A line on a terminal that the next one replaces."""
+    sys.stderr.write(f"\rosp draft: {done:,} tracks\033[K")
+    sys.stderr.flush()
+
+
+def drafted_aloud(text):
+    """What `drafted` makes, with a line of progress while standard error is a terminal."""
+    if not sys.stderr.isatty():
+        return drafted(text)
+    try:
+        return drafted(text, progress)
+    finally:
+        sys.stderr.write("\r\033[K")
+
+
 def main(words):
     """Runs the helper; answers its exit status."""
     if len(words) != 1 or words[0].startswith("-"):
@@ -49,7 +66,7 @@ def main(words):
         say(f"the file can't be read: {getattr(wrong, 'strerror', None) or 'no such name'}")
         return UNREADABLE
     try:
-        scenario, lines = drafted(text)
+        scenario, lines = drafted_aloud(text)
     except BadSituation as wrong:
         say(wrong)
         return WRONG_FILE

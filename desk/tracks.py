@@ -17,6 +17,8 @@ from desk.water import Water
 
 # The most steps before the first look. Where a report is older than so many periods, a step is several periods.
 MOST_BEFORE = 48
+# Behind how many tracks it is told how many there are.
+TOLD = 1000
 
 
 @dataclasses.dataclass(frozen=True)
@@ -149,8 +151,9 @@ def plain_moves(steps):
 # ---- tracks
 
 
-def simulated(given, count=None, seed=None):
-    """The tracks of a situation (desk.situation.Situation); count and seed as the situation says unless they are given."""
+def simulated(given, count=None, seed=None, tell=None):
+    """The tracks of a situation (desk.situation.Situation); count and seed as the situation says unless they are given. `tell` is told
+    from time to time how many there are."""
     count, seed = given.tracks.count if count is None else count, given.tracks.seed if seed is None else seed
     draw, water = random.Random(seed).random, Water(given.grid, given.is_lost)
     reports = [Reported(it, at, water) for at, it in enumerate(given.reports, 1)]
@@ -158,7 +161,9 @@ def simulated(given, count=None, seed=None):
     limits = [float(it / total) for it in itertools.accumulate(it.weight for it in given.reports)]
     drifts = Drifts(given)
     looks = tuple([] for _ in range(given.periods))
-    for _ in range(count):
+    for done in range(count):
+        if tell and done % TOLD == 0:
+            tell(done)
         report = reports[bisect.bisect_right(limits, draw())]
         begins, place = report.time(draw), report.place(draw)
         track(looks, place, drifts.moves(begins, draw), water, draw)

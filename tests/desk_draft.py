@@ -1,6 +1,8 @@
 """Tests `desk.writing`, and what `osp draft` makes of a situation. Values in comments are worked by hand."""
+import contextlib
 import glob
 import os
+import pty
 import re
 import subprocess
 import sys
@@ -374,7 +376,7 @@ class Drafts(unittest.TestCase):
         self.assertIn(b"# at base -900 700\n", text)
 
     def test_each_situation_of_the_examples_drafts_the_scenario_beside_it(self):
-        self.assertGreaterEqual(len(SITUATIONS), 3)
+        self.assertGreaterEqual(len(SITUATIONS), 5)
         for file in SITUATIONS:
             with self.subTest(os.path.basename(file)):
                 scenario, _ = draft.drafted(bytes_of(file))
@@ -389,7 +391,7 @@ class Drafts(unittest.TestCase):
                 self.assertLess(plan.nodes, 3000)
                 with open(os.path.join(TOP, "examples", "README.md"), encoding="utf-8") as readme:
                     row = re.search(rf"(?m)^\| `{os.path.basename(file)[:-5]}` \|.* records \| .*\|$", readme.read().split("## Situations")[1])[0]
-                self.assertTrue(row.endswith(f"; {plan.nodes:,} records | {plan.value * 100_000 // plan.weight / 1000:.3f} % |"), row)
+                self.assertIn(f"; {plan.nodes:,} records | {plan.value * 100_000 // plan.weight / 1000:.3f} %; finds ", row)
 
     def test_what_is_noted(self):
         for old, new, note in (
@@ -594,6 +596,24 @@ class Wrong(unittest.TestCase):
         with open("/dev/full", "wb") as full:
             done = subprocess.run([*words, SITUATIONS[0]], stdout=full, stderr=subprocess.PIPE, cwd=TOP, timeout=60)
         self.assertEqual((done.returncode, done.stderr), (6, b"osp draft: the output can't be written: No space left on device\n"))
+
+
+class Progress(unittest.TestCase):
+    def test_a_terminal_alone_is_told_how_far_the_simulation_is(self):
+        words = [sys.executable, "-B", "-m", "desk", "draft", os.path.join(TOP, "examples", "situations", "aircraft.toml")]
+        reader, terminal = pty.openpty()
+        with subprocess.Popen(words, cwd=TOP, stdout=subprocess.DEVNULL, stderr=terminal) as running:
+            os.close(terminal)
+            told = b""
+            # What is read behind the end of the other side is an error here, and nothing elsewhere.
+            with contextlib.suppress(OSError):
+                while piece := os.read(reader, 4096):
+                    told += piece
+        os.close(reader)
+        self.assertEqual(running.returncode, 0, told)
+        self.assertIn(b"\rosp draft: 19,000 tracks\x1b[K\r\x1b[Kosp draft: ", told)
+        silent = subprocess.run(words, cwd=TOP, stdout=subprocess.DEVNULL, stderr=subprocess.PIPE, check=True).stderr
+        self.assertNotIn(b"\r", silent)
 
 
 if __name__ == "__main__":

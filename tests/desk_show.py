@@ -278,7 +278,7 @@ class Pages(Room):
     def test_the_pages_of_the_situations_are_what_is_shown_of_them(self):
         # (who checked the plan is what the page says of the program that was asked, and stands on it once)
         checked = "Checked by stand-in-osp, in the place of ./osp.", "Checked by the proved program."
-        for name in (f"situations/{it}" for it in ("kayaker", "tide-and-night", "aircraft")):
+        for name in (f"situations/{it}" for it in ("aircraft", "coast-by-night", "harbour-and-dinghy", "kayaker", "tide-and-night")):
             status, out, err = self.run_helper(show.main, self.files(name))
             self.assertEqual((status, err, out.replace(*checked)), (0, "", read(f"{EXAMPLES}/{name}.html").decode()), name)
 
