@@ -6,10 +6,10 @@ ghost use Rattle.std.specs.List.Sorted.{IsPermutation};
 ghost use Rattle.period_rows.specs.Rows.{IsAscending};
 ghost use Rattle.drift_chain.specs.DriftRows.{part_in};
 
-use crate::changes::{ChangeFault, DriftChange, changes_over};
+use crate::changes::{ChangeFault, DriftChange, as_given, changes_over};
 use crate::faults::{DriftFault, put_in_order};
-use period_rows::{CellPart, RowChanges};
-use std::alloc::Global;
+use period_rows::{CellPart, GivenChange, RowChanges};
+use std::alloc::{AllocError, Global};
 use std::marker::Model;
 
 /// Per period and cell, its row: the parts of the next step, in ascending order of their cells. A cell has one row for
@@ -36,7 +36,7 @@ impl Model for Drift {
 impl Drift {
     ghost use Rattle.std.specs.Prelude.{Ok, Err, [], ◌⊎◌};
     ghost use Rattle.drift_chain.specs.DriftRows.{drift_cells, row_of, part_of, drift_over, drift_with, IsDrift};
-    ghost use Rattle.period_rows.specs.Changes.{IsSameChange};
+    ghost use Rattle.period_rows.specs.Changes.{change_of, IsSameChange};
     ghost use Rattle.drift_chain.specs.Faults.{HasFault, IsFirstFault};
     ghost use Rattle.drift_chain.specs.ChangeFaults.{row_change, HasChangeFault, IsRefusal};
     ghost use Rattle.drift_chain.specs.declared.changes.ChangeFault.TheVariants.{NoMemory};
@@ -69,6 +69,18 @@ impl Drift {
         })
     }
 
+    /// The drift of rows that are right as they stand.
+    pub fn of_right(denominator: u32, rows: Vec<Vec<CellPart>>) -> Drift
+        requires { IsDrift (drift_over denominator (map (λ row. row.items) rows.items)) }
+        ensures { result ≡ drift_over denominator (map (λ row. row.items) rows.items) }
+    {
+        Drift {
+            denominator,
+            rows,
+            changes: None,
+        }
+    }
+
     /// The drift with rows for single periods, 1 to 31, each of which it puts in ascending order of cells.
     ///
     /// The error is the fault of the first change that has one, and of its faults the first in the order of the
@@ -86,6 +98,28 @@ impl Drift {
         ensures kept { let given = drift_with self (map row_change changes.items) in
             IsDrift given → (result ≡ Ok given) ⊎ (result ≡ Err NoMemory) }
     {
+        let changes = as_given(alloc, changes)?;
+        self.with_rows(alloc, changes)
+    }
+
+    /// The drift with rows for single periods, 1 to 31, whose owners are cells. It puts each row in
+    /// ascending order of cells.
+    ///
+    /// The error is the fault of the first change that has one, and of its faults the first in the order of the
+    /// variants; or `NoMemory`.
+    pub fn with_rows(self, alloc: Global, changes: Vec<GivenChange>) -> Result<Drift, ChangeFault>
+        requires { self.changes ≡ [] }
+        ensures base { IfOk result (λ drift. drift ≡ drift_with self drift.changes) }
+        ensures made { let given = map change_of changes.items in IfOk result (λ drift.
+            AllZip IsSameChange given drift.changes) }
+        ensures sound { IfOk result IsDrift }
+        ensures faultless { let given = map change_of changes.items in
+            IsOk result → (fault : ChangeFault) → HasChangeFault self.denominator (drift_cells self) given fault → ⊥ }
+        ensures fault { let given = map change_of changes.items in
+            IfErr result (IsRefusal self.denominator (drift_cells self) given) }
+        ensures kept { let given = drift_with self (map change_of changes.items) in
+            IsDrift given → (result ≡ Ok given) ⊎ (result ≡ Err NoMemory) }
+    {
         if changes.is_empty() {
             return Ok(self);
         }
@@ -100,6 +134,29 @@ impl Drift {
             rows,
             changes: Some(changes),
         })
+    }
+
+    /// The drift with rows for single periods that have no fault. The only error is that no memory was found.
+    pub fn with_right_rows(
+        self,
+        alloc: Global,
+        changes: Vec<GivenChange>,
+    ) -> Result<Drift, AllocError>
+        requires steady { self.changes ≡ [] }
+        requires faultless { let given = map change_of changes.items in
+            (fault : ChangeFault) → HasChangeFault self.denominator (drift_cells self) given fault → ⊥ }
+        ensures base { IfOk result (λ drift. drift ≡ drift_with self drift.changes) }
+        ensures made { let given = map change_of changes.items in IfOk result (λ drift.
+            AllZip IsSameChange given drift.changes) }
+        ensures sound { IfOk result IsDrift }
+        ensures kept { let given = drift_with self (map change_of changes.items) in
+            IsDrift given → IfOk result (λ drift. drift ≡ given) }
+    {
+        match self.with_rows(alloc, changes) {
+            Ok(drift) => Ok(drift),
+            Err(ChangeFault::NoMemory) => Err(AllocError),
+            Err(_) => unreachable!(),
+        }
     }
 
     /// What the parts of each row sum to.

@@ -87,25 +87,27 @@ pub(crate) fn changes_over(
     alloc: Global,
     denominator: u32,
     cells: u8,
-    list: Vec<DriftChange>,
+    list: Vec<GivenChange>,
 ) -> Result<RowChanges, ChangeFault>
-    ensures made { let given = map row_change list.items in IfOk result (AllZip IsSameChange given) }
+    ensures made { let given = map change_of list.items in IfOk result (AllZip IsSameChange given) }
     ensures changes { IfOk result (AreChanges 31 cells) }
     ensures right { IfOk result (HaveRows (IsDriftRow denominator cells)) }
-    ensures faultless { let given = map row_change list.items in IsOk result → (fault : ChangeFault) →
+    ensures faultless { let given = map change_of list.items in IsOk result → (fault : ChangeFault) →
         HasChangeFault denominator cells given fault → ⊥ }
-    ensures fault { let given = map row_change list.items in IfErr result (IsRefusal denominator cells given) }
+    ensures fault { let given = map change_of list.items in IfErr result (IsRefusal denominator cells given) }
 {
-    let given = as_given(alloc, list)?;
     let row = DriftRow { denominator, cells };
-    match RowChanges::new(alloc, LAST_PERIOD, cells, &row, given) {
+    match RowChanges::new(alloc, LAST_PERIOD, cells, &row, list) {
         Ok(changes) => Ok(changes),
         Err(fault) => Err(ChangeFault::from(fault)),
     }
 }
 
-// Changes as rows of single periods.
-fn as_given(alloc: Global, list: Vec<DriftChange>) -> Result<Vec<GivenChange>, AllocError>
+/// Changes as rows of single periods, whose owners are cells.
+pub(crate) fn as_given(
+    alloc: Global,
+    list: Vec<DriftChange>,
+) -> Result<Vec<GivenChange>, AllocError>
     ensures { let changes = map row_change list.items in IfOk result (λ given. map change_of given.items ≡ changes) }
 {
     let mut given = Vec::new(alloc);

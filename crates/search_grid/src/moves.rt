@@ -48,6 +48,14 @@ impl Grid {
         Ok(Grid { rows })
     }
 
+    /// The grid of rows that are right as they stand.
+    pub fn of_right(rows: Vec<Vec<u8>>) -> Grid
+        requires { IsGrid (map (λ row. row.items) rows.items) }
+        ensures { result ≡ map (λ row. row.items) rows.items }
+    {
+        Grid { rows }
+    }
+
     /// Makes the grid of so many rows and columns, counted row by row from 0: from a cell the searcher stays, or goes
     /// one cell up, down, left or right.
     ///

@@ -88,25 +88,24 @@ pub(crate) fn changes_over(
     denominator: u32,
     cells: u8,
     positions: u8,
-    list: Vec<LookChange>,
+    list: Vec<GivenChange>,
 ) -> Result<RowChanges, LookChangeFault>
-    ensures same { let given = map change_of list.items in IfOk result (AllZip IsSameChange given) }
+    ensures same { let given = map given_change list.items in IfOk result (AllZip IsSameChange given) }
     ensures right { IfOk result (HaveRows (IsLookRow denominator cells)) }
-    ensures faultless { let given = map change_of list.items in IsOk result → (fault : LookChangeFault) →
+    ensures faultless { let given = map given_change list.items in IsOk result → (fault : LookChangeFault) →
         HasChangeFault denominator cells positions given fault → ⊥ }
-    ensures refusal { let given = map change_of list.items in
+    ensures refusal { let given = map given_change list.items in
         IfErr result (IsRefusal denominator cells positions given) }
 {
-    let given = as_given(alloc, list)?;
     let row = LookRow { denominator, cells };
-    match RowChanges::new(alloc, LAST_PERIOD, positions, &row, given) {
+    match RowChanges::new(alloc, LAST_PERIOD, positions, &row, list) {
         Ok(changes) => Ok(changes),
         Err(fault) => Err(LookChangeFault::from(fault)),
     }
 }
 
-// Changes as rows of single periods.
-fn as_given(alloc: Global, list: Vec<LookChange>) -> Result<Vec<GivenChange>, AllocError>
+/// Changes as rows of single periods, whose owners are positions.
+pub(crate) fn as_given(alloc: Global, list: Vec<LookChange>) -> Result<Vec<GivenChange>, AllocError>
     ensures { let changes = map change_of list.items in IfOk result (λ given.
         map given_change given.items ≡ changes) }
 {

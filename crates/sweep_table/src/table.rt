@@ -6,11 +6,11 @@ ghost use Rattle.std.specs.List.Sorted.{IsPermutation};
 ghost use Rattle.sweep_table.specs.LookParts.{IsSweep};
 ghost use Rattle.sweep_table.specs.Forms.{seen, prints_seen};
 
-use crate::changes::{LookChange, LookChangeFault, changes_over};
+use crate::changes::{LookChange, LookChangeFault, as_given, changes_over};
 use crate::faults::{LookFault, MOST_CELLS, SweepFault, first_over, put_in_order};
 use crate::footprints::{Footprints, factor_in_row, own_rows, row_in_force};
 use crate::look::Look;
-use period_rows::CellPart;
+use period_rows::{CellPart, GivenChange};
 use std::alloc::{AllocError, Global};
 use std::marker::Model;
 
@@ -45,7 +45,7 @@ impl Sweep {
     ghost use Rattle.std.specs.Prelude.{Ok};
     ghost use Rattle.sweep_table.specs.LookParts.{factor_of, look_row, misses, positions_of, cells_of, parts_over, looks_over, IsLookRow};
     ghost use Rattle.period_rows.specs.Rows.{IsAscending};
-    ghost use Rattle.period_rows.specs.Changes.{IsSameChange, HaveRows};
+    ghost use Rattle.period_rows.specs.Changes.{change_of as given_change, IsSameChange, HaveRows};
     ghost use Rattle.sweep_table.specs.Faults.{HasWrongCount, IsFirstOver, HasFault, IsFirstFault};
     ghost use Rattle.sweep_table.specs.Changes.{change_of, with_changes, HasChangeFault, IsRefusal};
 
@@ -109,6 +109,33 @@ impl Sweep {
         })
     }
 
+    /// The table of looks that each cover the searcher's own cell alone, of parts that are right.
+    pub fn of_right_parts(denominator: u32, overlook: Vec<u32>) -> Sweep
+        requires { IsSweep (parts_over denominator overlook.items) }
+        ensures { result ≡ parts_over denominator overlook.items }
+    {
+        Sweep {
+            denominator,
+            looks: Looks::Plain(overlook),
+        }
+    }
+
+    /// The table of looks over so many cells, of rows that are right as they stand.
+    pub fn of_right_rows(denominator: u32, cells: u8, rows: Vec<Vec<CellPart>>) -> Sweep
+        requires { IsSweep (looks_over denominator cells (map (λ row. row.items) rows.items)) }
+        ensures value { result ≡ looks_over denominator cells (map (λ row. row.items) rows.items) }
+        ensures sound { IsSweep result }
+    {
+        Sweep {
+            denominator,
+            looks: Looks::Footprints(Footprints {
+                cells,
+                rows,
+                changes: None,
+            }),
+        }
+    }
+
     /// Gives looks other rows in single periods, which it puts in ascending order of cells.
     ///
     /// The error is the fault of the first change that has one, and of its faults the first in the order of the variants,
@@ -131,6 +158,35 @@ impl Sweep {
         ensures kept { let given = map change_of changes.items in HaveRows IsAscending given →
             IfOk result (λ sweep. sweep ≡ with_changes self given) }
     {
+        let changes = as_given(alloc, changes)?;
+        self.with_rows(alloc, changes)
+    }
+
+    /// Gives looks other rows in single periods, whose owners are positions. It puts each row in ascending order of cells.
+    ///
+    /// The error is the fault of the first change that has one, and of its faults the first in the order of the variants,
+    /// or that memory ran out.
+    pub fn with_rows(
+        self,
+        alloc: Global,
+        changes: Vec<GivenChange>,
+    ) -> Result<Sweep, LookChangeFault>
+        requires { self.changes ≡ [] }
+        ensures base { IfOk result (λ sweep. sweep ≡ with_changes self sweep.changes) }
+        ensures made { let given = map given_change changes.items in IfOk result (λ sweep.
+            AllZip IsSameChange given sweep.changes) }
+        ensures right { IfOk result (λ sweep. HaveRows (IsLookRow self.denominator (cells_of self)) sweep.changes) }
+        ensures sound { IfOk result IsSweep }
+        ensures faultless { let given = map given_change changes.items in IsOk result → (fault : LookChangeFault) →
+            HasChangeFault self.denominator (cells_of self) (positions_of self) given fault → ⊥ }
+        ensures refusal { let given = map given_change changes.items in IfErr result
+            (IsRefusal self.denominator (cells_of self) (positions_of self) given) }
+        ensures kept { let given = map given_change changes.items in HaveRows IsAscending given →
+            IfOk result (λ sweep. sweep ≡ with_changes self given) }
+    {
+        if changes.is_empty() {
+            return Ok(self);
+        }
         let Sweep { denominator, looks } = self;
         let Footprints {
             cells,
@@ -146,6 +202,30 @@ impl Sweep {
                 changes: Some(changes),
             }),
         })
+    }
+
+    /// Gives looks rows in single periods that have no fault. The only error is that memory ran out.
+    pub fn with_right_rows(
+        self,
+        alloc: Global,
+        changes: Vec<GivenChange>,
+    ) -> Result<Sweep, AllocError>
+        requires steady { self.changes ≡ [] }
+        requires faultless { let given = map given_change changes.items in (fault : LookChangeFault) →
+            HasChangeFault self.denominator (cells_of self) (positions_of self) given fault → ⊥ }
+        ensures base { IfOk result (λ sweep. sweep ≡ with_changes self sweep.changes) }
+        ensures made { let given = map given_change changes.items in IfOk result (λ sweep.
+            AllZip IsSameChange given sweep.changes) }
+        ensures ascending { IfOk result (λ sweep. HaveRows IsAscending sweep.changes) }
+        ensures sound { IfOk result IsSweep }
+        ensures kept { let given = map given_change changes.items in HaveRows IsAscending given →
+            IfOk result (λ sweep. sweep ≡ with_changes self given) }
+    {
+        match self.with_rows(alloc, changes) {
+            Ok(sweep) => Ok(sweep),
+            Err(LookChangeFault::NoMemory) => Err(AllocError),
+            Err(_) => unreachable!(),
+        }
     }
 
     /// What the factors are parts of.

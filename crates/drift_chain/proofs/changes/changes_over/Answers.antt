@@ -9,7 +9,7 @@ pub new-requires-clause-any_order : goal.new-requires-clause-any_order
 new-requires-clause-any_order c = bad_row-permutation c.args.denominator c.args.cells
 
 pub returns-in-Ok-clause-faultless : goal.returns-in-Ok-clause-faultless
-returns-in-Ok-clause-faultless c = λ made fault has. c.in-Ok.ensures.faultless made (row_fault_of fault) (rw c.in_ok-given.ensures has)
+returns-in-Ok-clause-faultless c = λ made fault has. c.in-Ok.ensures.faultless made (row_fault_of fault) has
 
 pub returns-in-Err-clause-fault : goal.returns-in-Err-clause-fault
-returns-in-Err-clause-fault c = rw (c.from.ensures, ← c.in_ok-given.ensures) c.in-Err.ensures.refusal
+returns-in-Err-clause-fault c = rw c.from.ensures c.in-Err.ensures.refusal

@@ -9,7 +9,7 @@ pub new-requires-clause-any_order : goal.new-requires-clause-any_order
 new-requires-clause-any_order c = IsBadRow-permutation c.args.denominator c.args.cells
 
 pub returns-in-Ok-clause-faultless : goal.returns-in-Ok-clause-faultless
-returns-in-Ok-clause-faultless c = λ made fault has. c.in-Ok.ensures.faultless made (row_fault_of fault) (rw c.in_ok-given.ensures has)
+returns-in-Ok-clause-faultless c = λ made fault has. c.in-Ok.ensures.faultless made (row_fault_of fault) has
 
 pub returns-in-Err-clause-refusal : goal.returns-in-Err-clause-refusal
-returns-in-Err-clause-refusal c = rw (c.from.ensures, ← c.in_ok-given.ensures) c.in-Err.ensures.refusal
+returns-in-Err-clause-refusal c = rw c.from.ensures c.in-Err.ensures.refusal

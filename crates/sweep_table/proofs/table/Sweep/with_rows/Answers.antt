@@ -1,7 +1,7 @@
 use Rattle.std.proofs.Common.{◌≡◌, length, map, refl, arith}
-use Rattle.sweep_table.specs.Changes.{change_of}
+use Rattle.period_rows.specs.Changes.{change_of}
 use Rattle.sweep_table.proofs.MadeChanges.{made_faultless, made_right, made_sound, made_same}
-use Rattle.sweep_table.proofs.table.Sweep.in_periods.Goals as goal
+use Rattle.sweep_table.proofs.table.Sweep.with_rows.Goals as goal
 
 pub invariant_of-result : goal.invariant_of-result
 invariant_of-result c =
