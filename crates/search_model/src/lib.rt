@@ -7,6 +7,7 @@ mod name;
 mod path;
 mod plain_value;
 mod scenario;
+mod spreading;
 mod standing;
 
 pub use laws::{
@@ -17,4 +18,5 @@ pub use name::Name;
 pub use path::Path;
 pub use plain_value::value;
 pub use scenario::{ModelFault, Parts, Scenario};
+pub use spreading::spread_row;
 pub use standing::{Standing, better, starts};

@@ -185,6 +185,15 @@ impl Scenario {
         }
     }
 
+    /// The scenario of parts that are right.
+    pub fn of_right(parts: Parts) -> Scenario
+        requires { IsProblem (problem_of parts) }
+        ensures value { result ≡ problem_of parts }
+        ensures sound { IsProblem result }
+    {
+        Scenario { parts }
+    }
+
     ghost use Rattle.search_model.specs.Problem.{first_of, cell_name, position_name};
     ghost use Rattle.search_model.specs.Legal.{IsLegal, moves_after};
     ghost use Rattle.search_model.specs.Tracks.{whole_weight};
