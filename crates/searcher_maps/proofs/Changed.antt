@@ -1,13 +1,28 @@
 -- The rows of single periods that differ from those of period 1, and the table that they make.
 use Rattle.std.proofs.Common.{◌≡◌, ◌≢◌, ℕ, suc, ◌+◌, ◌-◌, ◌<◌, ◌≤◌, Bool, true, false, cond, List, [], ◌++◌, Option, Some, None, refl, sym, ap, ◌∙◌, arith, inl, inr, All, AllPairs, ◌⊎◌, max, map, append_assoc}
+use Rattle.std.specs.Prelude.{◌==◌}
 use Rattle.std.specs.List.{find, flat_map, range_with_len}
 use Rattle.std.specs.Option.{option_map_or}
-use Rattle.std.proofs.lemmas.Bool.{cases_lt}
+use Rattle.std.proofs.lemmas.Bool.{cases_lt, eq-eqb, ne_eqb, and_from, and_left, and_right}
 use Rattle.std.proofs.lemmas.List.{append-nil}
 use Rattle.list_laws.proofs.Changed.{flat_map-push}
 use Rattle.list_laws.proofs.Ranges.{range_more, range_with_len-suc}
-use Rattle.searcher_maps.specs.Differing.{differing_at, differing_in, differing}
+use Rattle.period_rows.specs.declared.part.CellPart.{CellPart}
+use Rattle.period_rows.specs.Changes.{is_for, IsSameKey}
+use Rattle.searcher_maps.specs.Differing.{change_to, differing_at, differing_in, differing}
 use Rattle.list_laws.proofs.Joined.{find_none, find_at, all_joined, pairs_joined, find_hit, find_miss, all_one, pairs_one}
+
+-- a change of a row is for its period and its owner alone
+pub own : (t o : ℕ) (row : List CellPart) → is_for t o (change_to t o row) ≡ true
+own t o row = and_from (t == t) (o == o) (eq-eqb t t refl) (eq-eqb o o refl)
+
+pub other : (t o u p : ℕ) (row : List CellPart) → (u ≢ t) ⊎ (p ≢ o) → is_for t o (change_to u p row) ≡ false
+other t o u p row (inl apart) = and_left (u == t) (p == o) (ne_eqb u t apart)
+other t o u p row (inr apart) = and_right (u == t) (p == o) (ne_eqb p o apart)
+
+pub apart : (t o u p : ℕ) (row other_row : List CellPart) → (t ≢ u) ⊎ (o ≢ p) → ¬ IsSameKey (change_to t o row) (change_to u p other_row)
+apart t o u p row other_row (inl periods) same = periods same.0
+apart t o u p row other_row (inr owners) same = owners same.1
 
 module _ {R C : Type 0} (same : R → R → Bool) (change : ℕ → ℕ → R → C) (row : ℕ → ℕ → R) where
   -- no owner, and one more

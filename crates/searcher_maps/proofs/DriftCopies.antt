@@ -1,9 +1,8 @@
 -- A drift of the rows of period 1 and of those of later periods that differ from them.
-use Rattle.std.proofs.Common.{◌≡◌, ◌≢◌, ℕ, ◌<◌, ◌≤◌, true, false, List, [], length, map, refl, sym, ap, ◌∙◌, arith, inl, inr, All, ◌⊎◌, max}
-use Rattle.std.specs.Prelude.{◌==◌, slice_index_or}
+use Rattle.std.proofs.Common.{◌≡◌, ℕ, ◌<◌, ◌≤◌, List, [], length, map, refl, sym, ap, ◌∙◌, arith, inl, inr, All, max}
+use Rattle.std.specs.Prelude.{slice_index_or}
 use Rattle.std.specs.List.{find, range_with_len}
 use Rattle.std.specs.Option.{option_map_or}
-use Rattle.std.proofs.lemmas.Bool.{eq-eqb, ne_eqb, and_from, and_left, and_right}
 use Rattle.std.proofs.lemmas.List.Elements.{All-contains}
 use Rattle.std.proofs.lemmas.List.FromFn.{get_or-map-range_with_len, length-map-range_with_len}
 use Rattle.list_laws.proofs.Firsts.{found_or_none}
@@ -12,21 +11,21 @@ use Rattle.period_rows.specs.Changes.{RowChange, is_for, IsSameKey, AreChanges}
 use Rattle.drift_chain.specs.DriftRows.{DriftRows, drift_cells, drift_over, drift_with, row_of, IsDriftRow, IsDrift}
 use Rattle.period_rows.specs.Rows.{row_at, is_same_row}
 use Rattle.drift_chain.proofs.Drifts.{IsDrift-from_rows}
-use Rattle.drift_chain.proofs.DriftChanges.{row_of-changed, row_of-base}
+use Rattle.drift_chain.specs.declared.changes.ChangeFault.{ChangeFault}
+use Rattle.drift_chain.specs.ChangeFaults.{row_fault_of, IsBadRow, HasChangeFault}
+use Rattle.drift_chain.proofs.ChangeFaults.{right_is_not_bad}
+use Rattle.drift_chain.proofs.DriftChanges.{row_of-changed, row_of-base, changes_right as rows_right}
+use Rattle.period_rows.proofs.ChangeFaults.{no_row_fault}
 use Rattle.searcher_maps.specs.Differing.{change_to, later_changes}
 use Rattle.period_rows.proofs.SameRows.{same_entries}
-use Rattle.searcher_maps.proofs.Changed.{all_changes, pairs_of_changes, in_force}
+use Rattle.searcher_maps.proofs.Changed.{all_changes, pairs_of_changes, in_force, own, other, apart}
 
-own : (t c : ℕ) (row : List CellPart) → is_for t c (change_to t c row) ≡ true
-own t c row = and_from (t == t) (c == c) (eq-eqb t t refl) (eq-eqb c c refl)
-
-other : (t c u d : ℕ) (row : List CellPart) → (u ≢ t) ⊎ (d ≢ c) → is_for t c (change_to u d row) ≡ false
-other t c u d row (inl apart) = and_left (u == t) (d == c) (ne_eqb u t apart)
-other t c u d row (inr apart) = and_right (u == t) (d == c) (ne_eqb d c apart)
-
-apart : (t c u d : ℕ) (row other_row : List CellPart) → (t ≢ u) ⊎ (c ≢ d) → ¬ IsSameKey (change_to t c row) (change_to u d other_row)
-apart t c u d row other_row (inl periods) same = periods same.0
-apart t c u d row other_row (inr cells) same = cells same.1
+-- the changes of a right drift have no fault over its other rows
+pub no_fault : (drift : DriftRows) (changes : List RowChange) → IsDrift (drift_with drift changes) → (fault : ChangeFault) → HasChangeFault drift.denominator (drift_cells drift) changes fault → ⊥
+no_fault drift changes h fault =
+    let g = drift.denominator in
+    let cells = drift_cells drift in
+    no_row_fault (IsDriftRow g cells) (IsBadRow g cells) (right_is_not_bad g cells) 31 cells changes h.changes (rows_right (drift_with drift changes) h) (row_fault_of fault)
 
 module _ (drift : DriftRows) (h : IsDrift drift) where
   -- the rows of period 1

@@ -1,7 +1,6 @@
 -- A table of the rows of looks of period 1 and of those of later periods that differ from them.
-use Rattle.std.proofs.Common.{◌≡◌, ◌≢◌, ℕ, ◌+◌, ◌-◌, ◌<◌, ◌≤◌, true, false, List, [], length, get_or, refl, sym, ap, subst, ◌∙◌, arith, inl, inr, ◌⊎◌, Vec, Global}
-use Rattle.std.specs.Prelude.{◌==◌, slice_index_or}
-use Rattle.std.proofs.lemmas.Bool.{eq-eqb, ne_eqb, and_from, and_left, and_right}
+use Rattle.std.proofs.Common.{◌≡◌, ℕ, ◌+◌, ◌-◌, ◌<◌, ◌≤◌, List, [], length, get_or, refl, sym, ap, subst, ◌∙◌, arith, Vec, Global}
+use Rattle.std.specs.Prelude.{slice_index_or}
 use Rattle.std.proofs.lemmas.List.{length-map}
 use Rattle.period_rows.specs.declared.part.CellPart.{CellPart}
 use Rattle.sweep_table.specs.declared.changes.LookChangeFault.{LookChangeFault}
@@ -16,19 +15,8 @@ use Rattle.sweep_table.proofs.Rows.{IsSweep-from_rows}
 use Rattle.searcher_maps.specs.Periods.{rows_by_period, positions_given, row_given, AreLookRows}
 use Rattle.searcher_maps.specs.Differing.{change_to, later_changes}
 use Rattle.period_rows.proofs.SameRows.{same_entries}
-use Rattle.searcher_maps.proofs.Changed.{all_changes, pairs_of_changes, in_force}
+use Rattle.searcher_maps.proofs.Changed.{all_changes, pairs_of_changes, in_force, own, other, apart}
 use Rattle.searcher_maps.proofs.GivenRows.{rows_in, period_at}
-
-own : (t a : ℕ) (row : List CellPart) → is_for t a (change_to t a row) ≡ true
-own t a row = and_from (t == t) (a == a) (eq-eqb t t refl) (eq-eqb a a refl)
-
-other : (t a u b : ℕ) (row : List CellPart) → (u ≢ t) ⊎ (b ≢ a) → is_for t a (change_to u b row) ≡ false
-other t a u b row (inl apart) = and_left (u == t) (b == a) (ne_eqb u t apart)
-other t a u b row (inr apart) = and_right (u == t) (b == a) (ne_eqb b a apart)
-
-apart : (t a u b : ℕ) (row other_row : List CellPart) → (t ≢ u) ⊎ (a ≢ b) → ¬ IsSameKey (change_to t a row) (change_to u b other_row)
-apart t a u b row other_row (inl periods) same = periods same.0
-apart t a u b row other_row (inr positions) same = positions same.1
 
 -- what is asked of the rows that are given
 pub record AreGiven (g cells : ℕ) (given : List (List (List CellPart))) : Type 0 where

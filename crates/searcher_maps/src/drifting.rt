@@ -1,20 +1,20 @@
 //! A copy of a drift, by its public calls: the rows of period 1, and those of later periods that differ from them.
 
-ghost use Rattle.std.specs.Prelude.{◌≡◌, ℕ, ◌<◌, ◌≤◌, ◌++◌, [], max, map, IfOk, OnOk};
+ghost use Rattle.std.specs.Prelude.{◌≡◌, ℕ, ◌<◌, ◌≤◌, ◌++◌, max, map, IfOk, OnOk};
 ghost use Rattle.std.specs.List.{range_with_len};
-ghost use Rattle.drift_chain.specs.DriftRows.{row_of, drift_cells, drift_over, drift_with, IsDrift};
-ghost use Rattle.drift_chain.specs.ChangeFaults.{row_change};
+ghost use Rattle.period_rows.specs.Changes.{change_of};
+ghost use Rattle.drift_chain.specs.DriftRows.{row_of, drift_cells};
 ghost use Rattle.searcher_maps.specs.Differing.{changes_at, changes_in, later_changes};
 
-use drift_chain::{ChangeFault, Drift, DriftChange, DriftPart};
+use drift_chain::{Drift, DriftPart};
 use exact_parts::NoMemory;
-use period_rows::is_same_row;
+use period_rows::{GivenChange, is_same_row};
 use std::alloc::Global;
 
 // Adds the change of a cell in one period, if its row isn't that of period 1.
 fn add_change(
     alloc: Global,
-    changes: &mut Vec<DriftChange>,
+    changes: &mut Vec<GivenChange>,
     drift: &Drift,
     t: u32,
     c: u8,
@@ -22,16 +22,16 @@ fn add_change(
     requires first { 1 ≤ t }
     requires last { t ≤ 31 }
     requires cell { c < drift_cells drift.now }
-    ensures { OnOk result (map row_change changes.new.items ≡
-        map row_change changes.old.items ++ changes_at (row_of drift.now) t c) }
+    ensures { OnOk result (map change_of changes.new.items ≡
+        map change_of changes.old.items ++ changes_at (row_of drift.now) t c) }
 {
     let row = drift.row(t, c);
     if is_same_row(row, drift.row(1, c)) {
         return Ok(());
     }
-    changes.push(DriftChange {
+    changes.push(GivenChange {
         period: t,
-        cell: c,
+        owner: c,
         row: Vec::from_slice(alloc, row)?,
     })?;
     Ok(())
@@ -40,14 +40,14 @@ fn add_change(
 // Adds the changes of one period to those of earlier ones.
 fn add_period(
     alloc: Global,
-    changes: &mut Vec<DriftChange>,
+    changes: &mut Vec<GivenChange>,
     drift: &Drift,
     t: u32,
 ) -> Result<(), NoMemory>
     requires first { 1 ≤ t }
     requires last { t ≤ 31 }
-    ensures { OnOk result (map row_change changes.new.items ≡
-        map row_change changes.old.items ++ changes_in (row_of drift.now) t (drift_cells drift.now)) }
+    ensures { OnOk result (map change_of changes.new.items ≡
+        map change_of changes.old.items ++ changes_in (row_of drift.now) t (drift_cells drift.now)) }
 {
     for c in 0..drift.cells() {
         add_change(alloc, changes, drift, t, c)?;
@@ -56,10 +56,10 @@ fn add_period(
 }
 
 // The rows of the periods up to before the end that aren't those of period 1.
-fn later_rows(alloc: Global, drift: &Drift, end: u32) -> Result<Vec<DriftChange>, NoMemory>
+fn later_rows(alloc: Global, drift: &Drift, end: u32) -> Result<Vec<GivenChange>, NoMemory>
     requires { end ≤ 32 }
     ensures { IfOk result (λ changes.
-        map row_change changes.items ≡ later_changes (row_of drift.now) (drift_cells drift.now) end) }
+        map change_of changes.items ≡ later_changes (row_of drift.now) (drift_cells drift.now) end) }
 {
     let mut changes = Vec::new(alloc);
     for t in 2..end {
@@ -80,30 +80,6 @@ fn first_rows(alloc: Global, drift: &Drift) -> Result<Vec<Vec<DriftPart>>, NoMem
     Ok(rows)
 }
 
-// The drift of these rows in every period.
-fn base_drift(denominator: u32, rows: Vec<Vec<DriftPart>>) -> Drift
-    requires { IsDrift (drift_over denominator (map (λ row. row.items) rows.items)) }
-    ensures { result ≡ drift_over denominator (map (λ row. row.items) rows.items) }
-{
-    match Drift::new(denominator, rows) {
-        Ok(drift) => drift,
-        Err(_) => unreachable!(),
-    }
-}
-
-// The drift with these rows in single periods.
-fn changed_drift(alloc: Global, drift: Drift, changes: Vec<DriftChange>) -> Result<Drift, NoMemory>
-    requires steady { drift.changes ≡ [] }
-    requires right { IsDrift (drift_with drift (map row_change changes.items)) }
-    ensures { IfOk result (λ changed. changed ≡ drift_with drift (map row_change changes.items)) }
-{
-    match drift.in_periods(alloc, changes) {
-        Ok(changed) => Ok(changed),
-        Err(ChangeFault::NoMemory) => Err(NoMemory),
-        Err(_) => unreachable!(),
-    }
-}
-
 /// A drift with the same rows after each period before the end, and after period 1.
 pub(crate) fn copy_of(alloc: Global, drift: &Drift, end: u32) -> Result<Drift, NoMemory>
     requires { end ≤ 32 }
@@ -112,7 +88,7 @@ pub(crate) fn copy_of(alloc: Global, drift: &Drift, end: u32) -> Result<Drift, N
     ensures rows { IfOk result (λ copy. (t c : ℕ) → 1 ≤ t → t < max 2 end → c < drift_cells drift.now →
         row_of copy t c ≡ row_of drift.now t c) }
 {
-    let base = base_drift(drift.denominator(), first_rows(alloc, drift)?);
+    let base = Drift::of_right(drift.denominator(), first_rows(alloc, drift)?);
     let changes = later_rows(alloc, drift, end)?;
-    changed_drift(alloc, base, changes)
+    Ok(base.with_right_rows(alloc, changes)?)
 }

@@ -1,19 +1,16 @@
 //! Looks that are given period by period.
 
-ghost use Rattle.std.specs.Prelude.{◌≡◌, ℕ, ◌+◌, ◌<◌, ◌≤◌, [], ◌++◌, length, map, IfOk, OnOk, All};
+ghost use Rattle.std.specs.Prelude.{◌≡◌, ℕ, ◌+◌, ◌<◌, ◌≤◌, ◌++◌, length, map, IfOk, OnOk, All};
 ghost use Rattle.period_rows.specs.declared.part.CellPart.{CellPart as LookPart};
-ghost use Rattle.sweep_table.specs.LookParts.{look_row, looks_over, positions_of, cells_of, IsSweep};
-ghost use Rattle.period_rows.specs.Changes.{HaveRows};
-ghost use Rattle.period_rows.specs.Rows.{IsAscending};
-ghost use Rattle.sweep_table.specs.Changes.{change_of, with_changes, HasChangeFault};
-ghost use Rattle.sweep_table.specs.declared.changes.LookChangeFault.{LookChangeFault as LookChangeFaultLem};
+ghost use Rattle.sweep_table.specs.LookParts.{look_row, positions_of, cells_of, IsSweep};
+ghost use Rattle.period_rows.specs.Changes.{change_of};
 ghost use Rattle.searcher_maps.specs.Periods.{rows_by_period, positions_given, row_given, AreLookRows};
 ghost use Rattle.searcher_maps.specs.Differing.{changes_at, changes_in, later_changes};
 
 use exact_parts::NoMemory;
-use period_rows::is_same_row;
-use std::alloc::{AllocError, Global};
-use sweep_table::{LookChange, LookChangeFault, LookPart, Sweep};
+use period_rows::{GivenChange, is_same_row};
+use std::alloc::Global;
+use sweep_table::{LookPart, Sweep};
 
 // The row from position `a` in period `t`.
 fn row_at(periods: &[Vec<Vec<LookPart>>], t: u32, a: u8) -> &[LookPart]
@@ -29,7 +26,7 @@ fn row_at(periods: &[Vec<Vec<LookPart>>], t: u32, a: u8) -> &[LookPart]
 // Adds the change of a position in one period, if its row isn't that of period 1.
 fn add_change(
     alloc: Global,
-    changes: &mut Vec<LookChange>,
+    changes: &mut Vec<GivenChange>,
     periods: &[Vec<Vec<LookPart>>],
     t: u32,
     a: u8,
@@ -45,9 +42,9 @@ fn add_change(
     if is_same_row(row, row_at(periods, 1, a)) {
         return Ok(());
     }
-    changes.push(LookChange {
+    changes.push(GivenChange {
         period: t,
-        position: a,
+        owner: a,
         row: Vec::from_slice(alloc, row)?,
     })?;
     Ok(())
@@ -56,7 +53,7 @@ fn add_change(
 // Adds the changes of one period to those of earlier ones.
 fn add_period(
     alloc: Global,
-    changes: &mut Vec<LookChange>,
+    changes: &mut Vec<GivenChange>,
     periods: &[Vec<Vec<LookPart>>],
     t: u32,
     positions: u8,
@@ -79,7 +76,7 @@ fn later_rows(
     alloc: Global,
     periods: &[Vec<Vec<LookPart>>],
     positions: u8,
-) -> Result<Vec<LookChange>, NoMemory>
+) -> Result<Vec<GivenChange>, NoMemory>
     requires few { length periods.now ≤ 32 }
     requires same { let given = rows_by_period periods.now in All (λ rows. length rows ≡ positions_given given) given }
     requires positions { positions ≡ positions_given (rows_by_period periods.now) }
@@ -91,39 +88,6 @@ fn later_rows(
         add_period(alloc, &mut changes, periods, t, positions)?;
     }
     Ok(changes)
-}
-
-// The table of these rows in every period.
-fn base_sweep(denominator: u32, cells: u8, rows: Vec<Vec<LookPart>>) -> Sweep
-    requires { IsSweep (looks_over denominator cells (map (λ row. row.items) rows.items)) }
-    ensures value { result ≡ looks_over denominator cells (map (λ row. row.items) rows.items) }
-    ensures sound { IsSweep result }
-{
-    match Sweep::footprints(denominator, cells, rows) {
-        Ok(sweep) => sweep,
-        Err(_) => unreachable!(),
-    }
-}
-
-// The table with these rows in single periods.
-fn changed_sweep(alloc: Global, sweep: Sweep, changes: Vec<LookChange>) -> Result<Sweep, NoMemory>
-    requires steady { sweep.changes ≡ [] }
-    requires sound { IsSweep sweep }
-    requires ascending { HaveRows IsAscending (map change_of changes.items) }
-    requires faultless { (fault : LookChangeFaultLem) →
-        HasChangeFault sweep.denominator (cells_of sweep) (positions_of sweep) (map change_of changes.items) fault →
-        ⊥ }
-    ensures value { IfOk result (λ changed. changed ≡ with_changes sweep (map change_of changes.items)) }
-    ensures sound { IfOk result IsSweep }
-{
-    if changes.is_empty() {
-        return Ok(sweep);
-    }
-    match sweep.in_periods(alloc, changes) {
-        Ok(changed) => Ok(changed),
-        Err(LookChangeFault::NoMemory) => Err(NoMemory),
-        Err(_) => unreachable!(),
-    }
 }
 
 /// The table of looks over so many cells whose row from position `a` in period `t` is `rows[t - 1][a]`, in each period
@@ -150,6 +114,6 @@ pub fn looks_by_period(
 {
     let positions = rows[0].len() as u8;
     let changes = later_rows(alloc, &rows, positions)?;
-    let base = base_sweep(denominator, cells, rows.swap_remove(0));
-    changed_sweep(alloc, base, changes)
+    let base = Sweep::of_right_rows(denominator, cells, rows.swap_remove(0));
+    Ok(base.with_right_rows(alloc, changes)?)
 }

@@ -1,4 +1,4 @@
-use Rattle.sweep_table.specs.Changes.{change_of}
+use Rattle.period_rows.specs.Changes.{change_of}
 use Rattle.searcher_maps.specs.Periods.{rows_by_period, row_given}
 use Rattle.searcher_maps.specs.Differing.{change_to}
 use Rattle.searcher_maps.proofs.Changed.{no_owner, owner_more}

@@ -1,5 +1,5 @@
 use Rattle.std.proofs.Common.{◌≡◌, ◌++◌, map}
-use Rattle.sweep_table.specs.Changes.{change_of}
+use Rattle.period_rows.specs.Changes.{change_of}
 use Rattle.searcher_maps.specs.Periods.{rows_by_period, row_given}
 use Rattle.searcher_maps.specs.Differing.{changes_in}
 use Rattle.searcher_maps.proofs.looks.add_period.Given as goal

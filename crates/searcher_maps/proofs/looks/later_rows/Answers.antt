@@ -1,6 +1,6 @@
 use Rattle.std.proofs.Common.{◌+◌, length, map, ap, sym, ◌∙◌, arith}
 use Rattle.period_rows.specs.Rows.{is_same_row}
-use Rattle.sweep_table.specs.Changes.{change_of}
+use Rattle.period_rows.specs.Changes.{change_of}
 use Rattle.searcher_maps.specs.Periods.{rows_by_period, row_given}
 use Rattle.searcher_maps.specs.Differing.{change_to}
 use Rattle.searcher_maps.proofs.Changed.{differing-none, differing-same, period_more}

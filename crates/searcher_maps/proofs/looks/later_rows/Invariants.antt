@@ -1,5 +1,5 @@
 use Rattle.std.proofs.Common.{◌≡◌, ◌≤◌, ◌+◌, ◌-◌, length, map}
-use Rattle.sweep_table.specs.Changes.{change_of}
+use Rattle.period_rows.specs.Changes.{change_of}
 use Rattle.searcher_maps.specs.Periods.{rows_by_period, row_given}
 use Rattle.searcher_maps.specs.Differing.{later_changes}
 use Rattle.searcher_maps.proofs.looks.later_rows.Given as goal
