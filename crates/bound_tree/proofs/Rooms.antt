@@ -1,6 +1,6 @@
 -- What a record makes expected is legal, and has room on the stack.
-use Rattle.std.proofs.Common.{subst, ◌≡◌, ℕ, ◌+◌, ◌*◌, ◌≤◌, ◌<◌, List, [], ◌∷◌, ◌++◌, map, reverse, length, refl, arith, length-append, get_or, All}
-use Rattle.std.proofs.lemmas.List.{length-map, reverse-append}
+use Rattle.std.proofs.Common.{subst, ◌≡◌, ℕ, ◌+◌, ◌*◌, ◌≤◌, ◌<◌, List, [], ◌∷◌, ◌++◌, map, reverse, length, refl, ap, ◌∙◌, arith, length-append, get_or, All}
+use Rattle.std.proofs.lemmas.List.{length-map, reverse-append, reverse-reverse}
 use Rattle.std.proofs.lemmas.List.Elements.{All-head, All-tail, All-nil, All-map, All-contains_itself}
 use Rattle.search_model.specs.Problem.{Problem, IsProblem}
 use Rattle.search_model.specs.Legal.{IsLegal, moves_after}
@@ -31,6 +31,10 @@ HasRoom-children q (m ∷ ms) qs few small room = (
 -- what was on top of a stack, and what was below it
 pub popped : (old new : List (List ℕ)) (q : List ℕ) → old ≡ new ++ q ∷ [] → reverse old ≡ q ∷ reverse new
 popped old new q e = rw e (reverse-append new (q ∷ []))
+
+-- what was put on a stack stands before what was there
+pub pushed_back : (old new qs : List (List ℕ)) → new ≡ old ++ reverse qs → reverse new ≡ qs ++ reverse old
+pushed_back old new qs e = rw e (reverse-append old (reverse qs) ∙ ap (λ (rs : List (List ℕ)). rs ++ reverse old) (reverse-reverse qs))
 
 -- what holds of the expected prefixes holds of the first and of the others
 pub split_legal : (p : Problem) (qs : List (List ℕ)) (q : List ℕ) (rest : List (List ℕ)) → qs ≡ q ∷ rest → All (IsLegal p) qs → IsLegal p q × All (IsLegal p) rest

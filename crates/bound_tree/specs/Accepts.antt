@@ -34,9 +34,13 @@ IsGood p s r = IsGoodKind p s r.prefix r.kind
 abbrev pub prefixes_of : List TreeNode → List (List ℕ)
 prefixes_of records = map (λ r. r.prefix) records
 
+-- the children of a prefix by some moves, in their order
+abbrev pub children_by : List ℕ → List ℕ → List (List ℕ)
+children_by q moves = map (λ a. q ++ a ∷ []) moves
+
 -- the legal children of a prefix, ascending
 abbrev pub children_of : Problem → List ℕ → List (List ℕ)
-children_of p q = map (λ a. q ++ a ∷ []) (moves_after p q)
+children_of p q = children_by q (moves_after p q)
 
 -- the prefixes that a record makes expected before all others: the children of a branch
 abbrev pub expected_by : Problem → List ℕ → Kind → List (List ℕ)

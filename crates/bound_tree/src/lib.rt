@@ -22,5 +22,5 @@ pub use laws::{
 };
 pub use node::{Kind, TreeNode};
 pub use plan::Plan;
-pub use stack::{extended, pop_prefix, push_expected, push_prefix};
+pub use stack::{extended, pop_prefix, push_children, push_expected, push_prefix};
 pub use tree::{BoundTree, MOST_NODES};

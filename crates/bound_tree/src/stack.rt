@@ -1,8 +1,8 @@
 //! The stack of expected prefixes, the next one on top.
 
-ghost use Rattle.std.specs.Prelude.{◌≡◌, ◌+◌, ◌<◌, ◌≤◌, ◌++◌, ◌∷◌, [], length, map, reverse, vec_len, vec_capacity, IfSome, IfNone};
+ghost use Rattle.std.specs.Prelude.{◌≡◌, ◌+◌, ◌<◌, ◌≤◌, ◌++◌, ◌∷◌, [], length, reverse, vec_len, vec_capacity, IfSome, IfNone};
 ghost use Rattle.search_model.specs.Legal.{IsLegal};
-ghost use Rattle.bound_tree.specs.Accepts.{expected_by};
+ghost use Rattle.bound_tree.specs.Accepts.{children_by, expected_by};
 
 use crate::node::Kind;
 use search_model::{Path, Scenario};
@@ -40,11 +40,11 @@ pub fn extended(prefix: &Path, d: u8) -> Path
     child
 }
 
-// Puts the children of a prefix by these moves on a stack that has room, the first on top.
-fn push_children(stack: &mut Vec<Path>, prefix: &Path, moves: &[u8])
-    requires short { length prefix.now < 32 }
+/// Puts the children of a prefix by these moves on a stack that has room, the first on top.
+pub fn push_children(stack: &mut Vec<Path>, prefix: &Path, moves: &[u8])
+    requires shorter { 0 < length moves.now → length prefix.now < 32 }
     requires room { vec_len stack.old + length moves.now ≤ vec_capacity stack.old }
-    ensures items { reverse stack.new.items ≡ map (λ d. prefix.now ++ d ∷ []) moves.now ++ reverse stack.old.items }
+    ensures items { stack.new.items ≡ stack.old.items ++ reverse (children_by prefix.now moves.now) }
     ensures capacity { vec_capacity stack.old ≤ vec_capacity stack.new }
 {
     for i in (0..moves.len()).rev() {
@@ -53,7 +53,7 @@ fn push_children(stack: &mut Vec<Path>, prefix: &Path, moves: &[u8])
 }
 
 /// Puts on the stack what a record makes expected.
-#[tactic(auto, using(search_model::proofs::Children::few_moves))]
+#[tactic(auto, using(search_model::proofs::Children::few_moves, crate::proofs::Rooms::pushed_back))]
 pub fn push_expected(stack: &mut Vec<Path>, sc: &Scenario, prefix: &Path, kind: &Kind)
     requires legal { IsLegal sc.now prefix.now }
     requires short { kind.now ≡ Kind.Branch → length prefix.now < sc.now.horizon }

@@ -1,16 +1,16 @@
 //! The machine.
 
-ghost use Rattle.std.specs.Prelude.{◌≡◌, ◌↔◌, ◌<◌, ◌≤◌, ◌++◌, ◌∷◌, [], ◌+◌, ℕ, List, map, length, vec_len, vec_capacity, slice_get, Some, IfOk, OnOk, OnErr, IsErrOf};
+ghost use Rattle.std.specs.Prelude.{◌≡◌, ◌↔◌, ◌<◌, ◌≤◌, ◌++◌, ◌∷◌, ◌+◌, ℕ, List, length, vec_len, vec_capacity, slice_get, Some, IfOk, OnOk, OnErr, IsErrOf};
 ghost use Rattle.search_model.specs.Legal.{IsLegal};
-ghost use Rattle.bound_tree.specs.Accepts.{expected_by};
+ghost use Rattle.bound_tree.specs.Accepts.{children_by, expected_by};
 ghost use Rattle.bound_tree.specs.Close.{IsExact};
 ghost use Rattle.search_core.specs.Counts.{SameItems};
 ghost use Rattle.search_core.specs.Balance.{IsBalanced};
 ghost use Rattle.search_core.specs.Steps.{started, IsAllowed, Goes, Steps, Answers, MissesPool, MissesHands, MissesStanding};
 
 use crate::event::{CoreEvent, CoreFault};
-use crate::lists::{place_of, push_children, take_out};
-use bound_tree::{Kind, TreeNode, push_prefix};
+use crate::lists::{place_of, take_out};
+use bound_tree::{Kind, TreeNode, push_children, push_prefix};
 use exact_parts::NoMemory;
 use search_model::{Path, Scenario, Standing};
 use std::alloc::{AllocError, Global};
@@ -57,8 +57,7 @@ fn go_over(from: &mut Vec<Path>, to: &mut Vec<Path>, place: usize) -> Result<(),
 // The moves to the children that a record makes expected: those of a Branch.
 fn moves_below<'a>(sc: &'a Scenario, node: &TreeNode) -> &'a [u8]
     requires { IsLegal sc.now node.now.prefix }
-    ensures children { map (λ d.
-        node.now.prefix ++ d ∷ []) result.now ≡ expected_by sc.now node.now.prefix node.now.kind }
+    ensures children { children_by node.now.prefix result.now ≡ expected_by sc.now node.now.prefix node.now.kind }
     ensures branch { 0 < length result.now → node.now.kind ≡ Kind.Branch }
 {
     match node.kind {
@@ -72,7 +71,7 @@ fn replace_held(hands: &mut Vec<Path>, place: usize, prefix: &Path, moves: &[u8]
     requires held { slice_get hands.old.items place ≡ Some prefix.now }
     requires shorter { 0 < length moves.now → length prefix.now < 32 }
     requires room { vec_len hands.old + length moves.now ≤ vec_capacity hands.old }
-    ensures { SameItems (hands.old.items ++ map (λ d. prefix.now ++ d ∷ []) moves.now) (prefix.now ∷ hands.new.items) }
+    ensures { SameItems (hands.old.items ++ children_by prefix.now moves.now) (prefix.now ∷ hands.new.items) }
 {
     take_out(hands, place);
     push_children(hands, prefix, moves);

@@ -1,5 +1,5 @@
-use Rattle.std.proofs.Common.{◌≡◌, ℕ, ◌<◌, List, [], length, arith, rules, Contains, map, ◌++◌, ◌∷◌}
-use Rattle.bound_tree.specs.Accepts.{expected_by}
+use Rattle.std.proofs.Common.{◌≡◌, ℕ, ◌<◌, List, length, arith, rules, Contains}
+use Rattle.bound_tree.specs.Accepts.{children_by, expected_by}
 use Rattle.search_core.proofs.Answered.{Contains-place, held_is_legal, held_is_short, close_refused}
 use Rattle.search_core.proofs.machine.CoreState.close.Goals as goal
 
@@ -35,7 +35,7 @@ returns c = (
   λ q.
       let old : List (List ℕ) = c.args.self.now.hands in
       let same : c.reserve.new.self.items ≡ old = search rules in
-      let children : map (λ d. c.args.node.now.prefix ++ d ∷ []) c.moves_below-moves.result.now ≡ expected_by c.args.sc.now c.args.node.now.prefix c.args.node.now.kind = c.moves_below-moves.ensures.children in
+      let children : children_by c.args.node.now.prefix c.moves_below-moves.result.now ≡ expected_by c.args.sc.now c.args.node.now.prefix c.args.node.now.kind = c.moves_below-moves.ensures.children in
       let made = c.replace_held.ensures q in
       rw (same, children) at made,
   search rules,
