@@ -3,27 +3,13 @@
 ghost use Rattle.std.specs.Prelude.{◌≡◌, ◌∷◌, map, All};
 ghost use Rattle.search_model.specs.Legal.{IsLegal};
 ghost use Rattle.search_model.specs.Bounds.{greatest};
-ghost use Rattle.bound_tree.specs.Gaps.{ceiling_of, open_number, open_numbers};
+ghost use Rattle.bound_tree.specs.Gaps.{open_number, open_numbers};
 ghost use Rattle.mean_bound.specs.Means.{IsMadeFor};
 ghost use Rattle.gap_plan.specs.Nodes.{numbered};
 
 use bound_tree::{GapKind, GapNode};
 use mean_bound::Mean;
-use search_model::{Path, Scenario};
-
-// What no path below a legal prefix exceeds: the value of a path, the mean bound of a shorter prefix.
-fn ceiling(mean: &mut Mean, sc: &Scenario, prefix: &Path) -> u128
-    requires made { IsMadeFor sc.now mean.old }
-    requires legal { IsLegal sc.now prefix.now }
-    ensures ceiling { result ≡ ceiling_of sc.now prefix.now }
-    ensures made { IsMadeFor sc.now mean.new }
-{
-    if prefix.len() == sc.horizon() as usize {
-        mean.value(sc, prefix)
-    } else {
-        mean.bound(sc, prefix)
-    }
-}
+use search_model::Scenario;
 
 // Sets the number of a node, where it waits, and answers the greater of it and `most`.
 fn set_number(mean: &mut Mean, sc: &Scenario, node: &mut GapNode, most: u128) -> u128
@@ -36,7 +22,7 @@ fn set_number(mean: &mut Mean, sc: &Scenario, node: &mut GapNode, most: u128) ->
     match node.kind {
         GapKind::Closed(_) => most,
         GapKind::Waiting(_) => {
-            let number = ceiling(mean, sc, &node.prefix);
+            let number = mean.ceiling(sc, &node.prefix);
             node.kind = GapKind::Waiting(number);
             most.max(number)
         }

@@ -69,11 +69,7 @@ impl BoundTables {
         ensures value { result ≡ ceiling_of sc.now prefix.now }
         ensures made { AreMadeFor sc.now self.new }
     {
-        if prefix.len() == sc.horizon() as usize {
-            self.value(sc, prefix)
-        } else {
-            self.mean_bound(sc, prefix)
-        }
+        self.mean.ceiling(sc, prefix)
     }
 
     /// The rate of all looks of the scenario that the tables were made for, where they have one. It was found when they
