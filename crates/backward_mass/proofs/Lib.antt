@@ -1,4 +1,3 @@
-pub mod Splits
 pub mod Meeting
 pub mod Examples
 pub mod RowSteps

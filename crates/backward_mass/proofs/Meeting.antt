@@ -5,12 +5,12 @@ use Rattle.sweep_table.specs.LookParts.{factor_of}
 use Rattle.search_model.specs.Problem.{Problem}
 use Rattle.search_model.specs.Tracks.{tracks, steps_product, weight_of, miss_of, miss_from, missed_weight}
 use Rattle.search_model.specs.Bounds.{factors_along, cell_in, gain_of}
-use Rattle.search_model.specs.Following.{after_of}
+use Rattle.search_model.specs.Following.{after_of, forward_of}
 use Rattle.list_laws.proofs.Sums.{sum_by-same, sum_by-times, sum_by-exchange, sum_by-filter}
 use Rattle.search_model.proofs.TrackSums.{sum_tracks-suc, sum_tracks-split, sum_tracks-same}
-use Rattle.backward_mass.specs.Masses.{forward_of, backward_of}
+use Rattle.backward_mass.specs.Masses.{backward_of}
 use Rattle.backward_mass.specs.Laws.{MissedByCell, LookApart, MissedInEachPeriod, GainByCell}
-use Rattle.backward_mass.proofs.Splits.{weight_of-split, miss_from-split, factors_along-last, cell_behind}
+use Rattle.search_model.proofs.Splits.{weight_of-split, miss_from-split, factors_along-last, cell_behind}
 
 -- the tracks that stand in c right behind a front of n cells: what leads to c, times what follows it
 through_cell : (p : Problem) (q : List ℕ) (h : ℕ → ℕ) (n m c : ℕ) → suc n ≤ length q →

@@ -6,7 +6,8 @@ use Rattle.sweep_table.specs.LookParts.{factor_of}
 use Rattle.search_model.specs.Problem.{Problem}
 use Rattle.search_model.specs.Tracks.{tracks, weight_of, miss_of, missed_weight}
 use Rattle.search_model.specs.Bounds.{cell_in, gain_of}
-use Rattle.backward_mass.specs.Masses.{forward_of, backward_of}
+use Rattle.search_model.specs.Following.{forward_of}
+use Rattle.backward_mass.specs.Masses.{backward_of}
 
 -- what a prefix misses, each track counted by a number of its cell in period t, is the sum over the cells of forward
 -- mass after the look of period t, number, and backward mass

@@ -1,7 +1,8 @@
 -- The masses of the small problems.
 use Rattle.std.specs.Prelude.{◌≡◌, [], ◌∷◌, map}
 use Rattle.search_model.specs.Worked.{two_cells, waiting_longer}
-use Rattle.backward_mass.specs.Masses.{forward_of, backward_of}
+use Rattle.search_model.specs.Following.{forward_of}
+use Rattle.backward_mass.specs.Masses.{backward_of}
 
 -- in each period the products of forward and backward masses sum to the missed weight, 4
 pub record TwoCellsMasses : Type 0 where

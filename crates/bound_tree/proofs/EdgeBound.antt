@@ -20,7 +20,7 @@ use Rattle.bound_tree.specs.Accepts.{Extends}
 use Rattle.bound_tree.specs.EdgeLaws.{EdgeIsAbove, EdgeIsWithinMean}
 use Rattle.search_model.proofs.TrackMembers.{IsTrack, sum_tracks-le}
 use Rattle.bound_tree.proofs.Continuing.{rest_of, whole_is, rest_size, rest_listed}
-use Rattle.bound_tree.proofs.Misses.{miss_of-append, miss_of-front, cell_in-after}
+use Rattle.search_model.proofs.Misses.{miss_of-append, miss_of-front, cell_in-after}
 
 -- the parts that each of some looks finds of a track after the look just before it, the first look being that of
 -- period t and the look before it that from position a

@@ -1,5 +1,4 @@
 pub mod Continuing
-pub mod Misses
 pub mod MeanBound
 pub mod Tangents
 pub mod Closing
@@ -11,6 +10,7 @@ pub mod Along
 pub mod Leaves
 pub mod Accepted
 pub mod EdgeBound
+pub mod Exchange
 pub mod Rooms
 pub mod Placing
 pub mod SamePlans

@@ -14,7 +14,7 @@ use Rattle.bound_tree.specs.Accepts.{Extends}
 use Rattle.bound_tree.specs.BoundLaws.{missed_by, TangentIsAbove}
 use Rattle.search_model.proofs.TrackMembers.{IsTrack, sum_tracks-le}
 use Rattle.bound_tree.proofs.Continuing.{rest_of, whole_is, front_short, rest_size, rest_within, rest_below}
-use Rattle.bound_tree.proofs.Misses.{miss_of-append, cell_in-after}
+use Rattle.search_model.proofs.Misses.{miss_of-append, cell_in-after}
 use Rattle.bound_tree.proofs.Convex.{looks_are_convex, one_look}
 
 -- how many of some looks cover a track, the first look being that of period t

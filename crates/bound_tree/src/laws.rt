@@ -4,6 +4,7 @@ ghost use Rattle.bound_tree.specs.BoundLaws.{MeanIsAbove, LooksAreConvex, Tangen
 ghost use Rattle.bound_tree.specs.CutLaws.{CutStays, FinerCutStays, UncutAbove, ClosedStays, MeanStays, BranchedBefore, ClosesOnce, ClosedIsGood};
 ghost use Rattle.bound_tree.specs.Eat.{EatenByEither};
 ghost use Rattle.bound_tree.specs.EdgeLaws.{EdgeIsAbove, EdgeIsWithinMean};
+ghost use Rattle.bound_tree.specs.ExchangeLaws.{ExchangeRulesOut};
 ghost use Rattle.bound_tree.specs.Laws.{AcceptedIsBest};
 ghost use Rattle.bound_tree.specs.Places.{EatenIsPlacedAndGood, EatenAreInPlace};
 ghost use Rattle.bound_tree.specs.SameLaws.{SameEitherWay, SameIsAlike, SameAccepts, SameCloses, SameLive, SameHasMoreLive};
@@ -95,6 +96,13 @@ pub fn closed_is_good()
 pub fn edge_is_between()
     ensures above { EdgeIsAbove }
     ensures within { EdgeIsWithinMean }
+{}
+
+/// No best path begins with a prefix for which another stands in: whatever goes on from both, the other makes the better
+/// path.
+#[tactic(auto, using(crate::proofs::Exchange::exchange_rules_out))]
+pub fn exchange_rules_out()
+    ensures { ExchangeRulesOut }
 {}
 
 /// Scenarios that are the same search have the same values, bounds, opening and best path, and a plan that is accepted

@@ -22,4 +22,8 @@ pub mod SameSearch
 pub mod Totals
 pub mod TrackMembers
 pub mod TrackSums
+pub mod Splits
+pub mod Misses
+pub mod MassRewards
+pub mod Behind
 pub mod WalkLemmas

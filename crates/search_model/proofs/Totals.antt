@@ -15,7 +15,7 @@ use Rattle.search_model.proofs.After.{after_of-by_row, after_of-le, missed_weigh
 use Rattle.search_model.specs.Following.{look_factor, after_of}
 
 -- the drift parts of all that may follow a cell in m more periods
-steps_sum : (p : Problem) → IsProblem p → (m t c : ℕ) → c < p.cells → sum_by (steps_product p t c) (tracks p.cells m) ≡ p.drift.denominator ^ m
+pub steps_sum : (p : Problem) → IsProblem p → (m t c : ℕ) → c < p.cells → sum_by (steps_product p t c) (tracks p.cells m) ≡ p.drift.denominator ^ m
 unfolding steps_product
 steps_sum p sound zero t c here = one_track (steps_product p t c) p.cells ∙ sym (pow-zero p.drift.denominator)
 steps_sum p sound (suc m) t c here =

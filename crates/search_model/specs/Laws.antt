@@ -1,11 +1,13 @@
 -- Laws over the definitions of tracks, walks, paths and bounds.
-use Rattle.std.specs.Prelude.{ℕ, ◌≡◌, ◌<◌, ◌≤◌, ◌+◌, ◌*◌, ◌^◌, ◌-◌, ◌↔◌, List, ◌++◌, map, length, drop, sum_by, Contains}
+use Rattle.std.specs.Prelude.{ℕ, suc, ◌≡◌, ◌<◌, ◌≤◌, ◌+◌, ◌*◌, ◌^◌, ◌-◌, ◌↔◌, List, ◌++◌, map, length, drop, sum_by, Contains}
+use Rattle.std.specs.List.{range_with_len}
 use Rattle.search_grid.specs.Moves.{IsGrid}
 use Rattle.search_model.specs.Problem.{Problem, IsProblem}
 use Rattle.search_model.specs.Legal.{IsLegal, IsPath, Follows, walks, continuations}
 use Rattle.search_model.specs.Tracks.{tracks, weight_of, missed_weight, whole_weight, value_of}
 use Rattle.search_model.specs.Order.{Starts, IsBest}
-use Rattle.search_model.specs.Bounds.{IsRate, sum_along, greatest, gain_of, mean_of, tangent_of}
+use Rattle.search_model.specs.Bounds.{IsRate, reward_of, sum_along, greatest, gain_of, mean_of, tangent_of}
+use Rattle.search_model.specs.Exchange.{missed_unit, reward_for, mass_behind}
 use Rattle.search_model.specs.Reference.{IsLeastBest}
 use Rattle.sweep_table.specs.LookParts.{IsOneRate}
 
@@ -53,3 +55,21 @@ NoTangentCutOff =
     (p : Problem) (rate : ℕ) (q whole : List ℕ) → IsPath p whole → Starts q whole →
     sum_along (gain_of p rate whole) (length q + 1) (drop (length q) whole)
     ≤ p.sweep.denominator * value_of p whole + greatest (map (sum_along (gain_of p rate whole) (length q + 1)) (continuations p q))
+
+-- all that masses in a period can lose, with m periods to come, is at most what looks miss of them and the sum of what each
+-- look finds alone (Martins 1993)
+abbrev pub MassesTogether : Type 0
+MassesTogether =
+    (p : Problem) → IsProblem p → (m s : ℕ) (masses : ℕ → ℕ) (y : List ℕ) → length y ≡ suc m → s + m ≡ p.horizon →
+    sum_by masses (range_with_len 0 p.cells) * (p.drift.denominator ^ m * p.sweep.denominator ^ suc m)
+    ≤ sum_by (λ c. masses c * missed_unit p s y m c) (range_with_len 0 p.cells) + sum_along (reward_for p s masses) s y
+
+-- the rewards of the mean bound are those of the masses behind the prefix
+abbrev pub MeanRewardsAre : Type 0
+MeanRewardsAre = (p : Problem) (q : List ℕ) (t a : ℕ) → IsProblem p → length q < t → t ≤ p.horizon → reward_of p q t a ≡ reward_for p (length q + 1) (mass_behind p q) t a
+
+-- what a prefix and some looks after it miss is what these looks miss of the masses behind the prefix
+abbrev pub MissedBehind : Type 0
+MissedBehind =
+    (p : Problem) (q y : List ℕ) → length q < p.horizon →
+    missed_weight p (q ++ y) ≡ sum_by (λ c. mass_behind p q c * missed_unit p (length q + 1) y (p.horizon - length q - 1) c) (range_with_len 0 p.cells)

@@ -1,5 +1,6 @@
 pub mod Bounds
 pub mod Edge
+pub mod Exchange
 pub mod Faults
 pub mod Following
 pub mod Grids

@@ -1,6 +1,7 @@
 -- The bounds of the small problems.
 use Rattle.std.specs.Prelude.{◌≡◌, [], ◌∷◌}
 use Rattle.search_model.specs.Bounds.{reward_of, mean_of, tangent_of}
+use Rattle.search_model.specs.Exchange.{mass_behind, lead_of, exchange_of}
 use Rattle.search_model.specs.Worked.{two_cells, waiting_target, waiting_longer}
 
 -- after a first look each second look finds 4 of 16 more; the tangent at the best path is a bound out of twice 16
@@ -18,7 +19,15 @@ pub record WaitingLongerBounds : Type 0 where
   pub means : (mean_of waiting_longer (0 ∷ []) ≡ 4) × (mean_of waiting_longer (1 ∷ []) ≡ 8) × (mean_of waiting_longer (2 ∷ []) ≡ 8) × (mean_of waiting_longer (2 ∷ 1 ∷ []) ≡ 6) × (mean_of waiting_longer (2 ∷ 2 ∷ []) ≡ 7)
   pub tangents : (tangent_of waiting_longer 1 (1 ∷ []) (1 ∷ 2 ∷ 2 ∷ []) ≡ 12) × (tangent_of waiting_longer 1 (2 ∷ []) (2 ∷ 2 ∷ 2 ∷ []) ≡ 14) × (tangent_of waiting_longer 1 (2 ∷ 2 ∷ []) (2 ∷ 2 ∷ 2 ∷ []) ≡ 14)
 
+-- two prefixes that end at the target: with one look at it half of the weight is left in its cell, with two a quarter, so
+-- the one leads the other by 1 there; a third look finds half of that, in parts of 8
+pub record WaitingLongerExchanges : Type 0 where
+  pub masses : (mass_behind waiting_longer (1 ∷ 2 ∷ []) 2 ≡ 2) × (mass_behind waiting_longer (2 ∷ 2 ∷ []) 2 ≡ 1)
+  pub leads : (lead_of waiting_longer (1 ∷ 2 ∷ []) (2 ∷ 2 ∷ []) 2 ≡ 1) × (lead_of waiting_longer (2 ∷ 2 ∷ []) (1 ∷ 2 ∷ []) 2 ≡ 0)
+  pub exchanges : (exchange_of waiting_longer (1 ∷ 2 ∷ []) (2 ∷ 2 ∷ []) ≡ 5) × (exchange_of waiting_longer (2 ∷ 2 ∷ []) (1 ∷ 2 ∷ []) ≡ 6)
+
 pub record WorkedBounds : Type 0 where
   pub two : TwoCellsBounds
   pub waiting : WaitingTargetBounds
   pub longer : WaitingLongerBounds
+  pub exchanges : WaitingLongerExchanges

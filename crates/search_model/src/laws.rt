@@ -1,6 +1,6 @@
 //! Laws over the definitions.
 
-ghost use Rattle.search_model.specs.Laws.{WeightsSum, NothingCutOff, WalksFollow, OneBest, OneLeastBest, OneRateIsRate, ContinuationsAre, MeanSize, TangentSize, NoTangentCutOff};
+ghost use Rattle.search_model.specs.Laws.{WeightsSum, NothingCutOff, WalksFollow, OneBest, OneLeastBest, OneRateIsRate, ContinuationsAre, MeanSize, TangentSize, NoTangentCutOff, MassesTogether, MeanRewardsAre, MissedBehind};
 
 /// The weights of all tracks sum to the total times the drift's denominators.
 pub fn weights_sum()
@@ -32,6 +32,14 @@ pub fn bound_sizes()
 /// The sum that a tangent bound takes off is at most what it takes it off, so none is cut off at 0.
 pub fn no_tangent_is_cut_off()
     ensures { NoTangentCutOff }
+{}
+
+/// What several looks find of masses together is at most the sum of what each of them finds alone (Martins 1993). The masses
+/// behind a prefix are such masses: by them goes what is missed after it, and by them go the rewards of its mean bound.
+pub fn masses_together()
+    ensures together { MassesTogether }
+    ensures missed { MissedBehind }
+    ensures rewards { MeanRewardsAre }
 {}
 
 /// There is a best path, and no second one.

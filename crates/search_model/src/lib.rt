@@ -11,8 +11,9 @@ mod spreading;
 mod standing;
 
 pub use laws::{
-    bound_sizes, continuations_are, no_tangent_is_cut_off, nothing_is_cut_off, one_best,
-    one_least_best, one_rate_is_rate, walks_follow, weights_sum, worked_bounds, worked_values,
+    bound_sizes, continuations_are, masses_together, no_tangent_is_cut_off, nothing_is_cut_off,
+    one_best, one_least_best, one_rate_is_rate, walks_follow, weights_sum, worked_bounds,
+    worked_values,
 };
 pub use name::Name;
 pub use path::Path;

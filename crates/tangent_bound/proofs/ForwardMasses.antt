@@ -7,7 +7,7 @@ use Rattle.list_laws.proofs.Sums.{sum_by-same}
 use Rattle.belief_update.specs.Masses.{mass_of, looks_to}
 use Rattle.belief_update.proofs.Looks.{looks_to-whole}
 use Rattle.belief_update.proofs.Rewards.{factors_along-looked}
-use Rattle.backward_mass.specs.Masses.{forward_of}
+use Rattle.search_model.specs.Following.{forward_of}
 
 -- a mass after looks in each period is the forward mass of these looks
 pub mass_of-looks : (p : Problem) (looks : List ℕ) (c : ℕ) → mass_of p (map Some looks) c ≡ forward_of p looks (length looks) c

@@ -7,7 +7,8 @@ use Rattle.search_model.specs.Legal.{IsPath}
 use Rattle.search_model.specs.Bounds.{gain_of}
 use Rattle.belief_update.specs.Belief.{BeliefState}
 use Rattle.belief_update.specs.Taken.{TakenState, IsBeside}
-use Rattle.backward_mass.specs.Masses.{forward_of, backward_of}
+use Rattle.search_model.specs.Following.{forward_of}
+use Rattle.backward_mass.specs.Masses.{backward_of}
 use Rattle.backward_mass.specs.Table.{BackwardTable, IsFilledFrom}
 use Rattle.longest_walk.specs.Sums.{entry_at}
 use Rattle.longest_walk.specs.Tables.{HasNear}
