@@ -1,5 +1,5 @@
 -- What looks find of masses together is at most the sum of what each finds alone (Martins 1993).
-use Rattle.std.proofs.Common.{ℕ, zero, suc, ◌+◌, ◌*◌, ◌-◌, ◌^◌, ◌<◌, ◌≤◌, ◌≡◌, List, [], ◌∷◌, length, sym, ap, ◌∙◌, arith, sum_by, mul-le-mul_left, mul-le-mul_right, pow-suc}
+use Rattle.std.proofs.Common.{ℕ, zero, suc, ◌+◌, ◌*◌, ◌-◌, ◌^◌, ◌<◌, ◌≤◌, ◌≡◌, List, [], ◌∷◌, length, refl, sym, ap, ◌∙◌, arith, sum_by, mul-le-mul_left, mul-le-mul_right, pow-suc}
 use Rattle.std.specs.List.{range_with_len}
 use Rattle.std.proofs.Math.Nat.{pow-zero}
 use Rattle.drift_chain.specs.DriftRows.{part_of}
@@ -10,8 +10,8 @@ use Rattle.search_model.specs.Legal.{last_of}
 use Rattle.search_model.specs.Tracks.{tracks, steps_product}
 use Rattle.search_model.specs.Bounds.{sum_along}
 use Rattle.search_model.specs.Following.{after_of}
-use Rattle.search_model.specs.Exchange.{missed_unit, unit_reward, reward_for}
-use Rattle.search_model.specs.Laws.{MassesTogether}
+use Rattle.search_model.specs.Exchange.{missed_unit, unit_reward, reward_for, drifted}
+use Rattle.search_model.specs.Laws.{MassesTogether, RewardsByDrift}
 use Rattle.list_laws.proofs.Sums.{sum_by-same, sum_by-times, sum_by-plus, sum_by-exchange, sum_by-range-le, sum_by-range-same}
 use Rattle.search_model.proofs.After.{after_of-zero, after_of-cons}
 use Rattle.search_model.proofs.DriftSums.{steps_total}
@@ -38,6 +38,36 @@ unit_reward-later p s c t a before =
     sum_by-same _ (λ z. found d z * part_of p.drift s c d) (tracks p.cells n) (λ z. omega arith)
     ∙ sum_by-times (found d) (part_of p.drift s c d) (tracks p.cells n)
     ∙ omega arith))
+
+-- what a look finds of masses that have drifted for n steps, and drift for m more
+found_within : (p : Problem) (s : ℕ) (masses : ℕ → ℕ) (n m t a : ℕ) → s + n + m ≡ t →
+    sum_by (λ c. masses c * unit_reward p s c t a) (range_with_len 0 p.cells) ≡ sum_by (λ d. drifted p s masses n d * unit_reward p (s + n) d t a) (range_with_len 0 p.cells)
+unfolding drifted
+found_within p s masses zero m t a is = let e : s + 0 ≡ s = omega arith in rw e refl
+found_within p s masses (suc n) m t a is =
+    let cells = range_with_len 0 p.cells in
+    let next : s + n + 1 ≡ s + suc n = omega arith in
+    let unit : ℕ → ℕ = λ d. unit_reward p (s + suc n) d t a in
+    let later : (c : ℕ) → unit_reward p (s + n) c t a ≡ sum_by (λ d. part_of p.drift (s + n) c d * unit d) cells =
+    λ c. unit_reward-later p (s + n) c t a (omega (arith, is)) ∙ rw next refl in
+    found_within p s masses n (suc m) t a (omega (arith, is))
+    ∙ sum_by-same _ _ cells (λ c.
+    ap (λ (k : ℕ). drifted p s masses n c * k) (later c)
+    ∙ sym (sum_by-same _ (λ d. part_of p.drift (s + n) c d * unit d * drifted p s masses n c) cells (λ d. omega arith)
+    ∙ sum_by-times (λ d. part_of p.drift (s + n) c d * unit d) (drifted p s masses n c) cells
+    ∙ omega arith))
+    ∙ sum_by-exchange (λ c d. drifted p s masses n c * part_of p.drift (s + n) c d * unit d) cells cells
+    ∙ sum_by-same _ _ cells (λ d. sum_by-times (λ c. drifted p s masses n c * part_of p.drift (s + n) c d) (unit d) cells)
+
+pub rewards_by_drift : RewardsByDrift
+unfolding reward_for
+rewards_by_drift p s masses t a order =
+    let n = t - s in
+    let is : s + n ≡ t = omega (arith, order) in
+    let cells = range_with_len 0 p.cells in
+    let here : sum_by (λ d. drifted p s masses n d * unit_reward p (s + n) d t a) cells ≡ sum_by (λ d. drifted p s masses n d * (p.sweep.denominator - factor_of p.sweep t a d)) cells =
+    sum_by-same _ _ cells (λ d. ap (λ (k : ℕ). drifted p s masses n d * k) (rw is (unit_reward-here p t d a))) in
+    rw (found_within p s masses n 0 t a (omega (arith, is)), here) refl
 
 module _ (p : Problem) (sound : IsProblem p) (s : ℕ) (masses : ℕ → ℕ) (a : ℕ) where
   -- what the look from a in period s misses of the masses, after the step

@@ -1,7 +1,8 @@
 -- Exchanges: what a prefix may find beyond another that ends where it does. The reward of a look is that of the mean bound
 -- (Martins 1993), for any masses; for those behind the prefix it is the mean bound's own.
-use Rattle.std.specs.Prelude.{ℕ, ◌+◌, ◌*◌, ◌-◌, ◌^◌, List, map, length, drop, sum_by}
+use Rattle.std.specs.Prelude.{ℕ, zero, suc, ◌+◌, ◌*◌, ◌-◌, ◌^◌, List, map, length, drop, sum_by}
 use Rattle.std.specs.List.{range_with_len}
+use Rattle.drift_chain.specs.DriftRows.{part_of}
 use Rattle.sweep_table.specs.LookParts.{factor_of}
 use Rattle.search_model.specs.Problem.{Problem}
 use Rattle.search_model.specs.Legal.{last_of, continuations}
@@ -20,6 +21,11 @@ unit_reward p s c t a = sum_by (λ z. steps_product p s c z * (p.sweep.denominat
 -- the reward of a look from position a in period t, for masses in period s before its look, after no other look
 unfoldable pub reward_for : Problem → ℕ → (ℕ → ℕ) → ℕ → ℕ → ℕ
 reward_for p s masses t a = sum_by (λ c. masses c * unit_reward p s c t a) (range_with_len 0 p.cells) * p.drift.denominator ^ (p.horizon - t) * p.sweep.denominator ^ (p.horizon - s)
+
+-- what the drift makes of masses in period s in so many steps, with no look between
+unfoldable pub drifted : Problem → ℕ → (ℕ → ℕ) → ℕ → ℕ → ℕ
+drifted p s masses zero d = masses d
+drifted p s masses (suc n) d = sum_by (λ c. drifted p s masses n c * part_of p.drift (s + n) c d) (range_with_len 0 p.cells)
 
 -- the mass behind a prefix in cell c, in the period after it and before the look of that period
 abbrev pub mass_behind : Problem → List ℕ → ℕ → ℕ

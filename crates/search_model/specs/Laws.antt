@@ -7,9 +7,9 @@ use Rattle.search_model.specs.Legal.{IsLegal, IsPath, Follows, walks, continuati
 use Rattle.search_model.specs.Tracks.{tracks, weight_of, missed_weight, whole_weight, value_of}
 use Rattle.search_model.specs.Order.{Starts, IsBest}
 use Rattle.search_model.specs.Bounds.{IsRate, reward_of, sum_along, greatest, gain_of, mean_of, tangent_of}
-use Rattle.search_model.specs.Exchange.{missed_unit, reward_for, mass_behind}
+use Rattle.search_model.specs.Exchange.{missed_unit, reward_for, drifted, mass_behind}
 use Rattle.search_model.specs.Reference.{IsLeastBest}
-use Rattle.sweep_table.specs.LookParts.{IsOneRate}
+use Rattle.sweep_table.specs.LookParts.{factor_of, IsOneRate}
 
 -- the weights of all tracks sum to the total times the drift's denominators
 abbrev pub WeightsSum : Type 0
@@ -73,3 +73,11 @@ abbrev pub MissedBehind : Type 0
 MissedBehind =
     (p : Problem) (q y : List ℕ) → length q < p.horizon →
     missed_weight p (q ++ y) ≡ sum_by (λ c. mass_behind p q c * missed_unit p (length q + 1) y (p.horizon - length q - 1) c) (range_with_len 0 p.cells)
+
+-- the reward of a look is what it finds of the masses that drifted on to its period, times the parts of what is to come
+abbrev pub RewardsByDrift : Type 0
+RewardsByDrift =
+    (p : Problem) (s : ℕ) (masses : ℕ → ℕ) (t a : ℕ) → s ≤ t →
+    reward_for p s masses t a
+    ≡ sum_by (λ d. drifted p s masses (t - s) d * (p.sweep.denominator - factor_of p.sweep t a d)) (range_with_len 0 p.cells)
+    * p.drift.denominator ^ (p.horizon - t) * p.sweep.denominator ^ (p.horizon - s)

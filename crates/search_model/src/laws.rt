@@ -1,6 +1,6 @@
 //! Laws over the definitions.
 
-ghost use Rattle.search_model.specs.Laws.{WeightsSum, NothingCutOff, WalksFollow, OneBest, OneLeastBest, OneRateIsRate, ContinuationsAre, MeanSize, TangentSize, NoTangentCutOff, MassesTogether, MeanRewardsAre, MissedBehind};
+ghost use Rattle.search_model.specs.Laws.{WeightsSum, NothingCutOff, WalksFollow, OneBest, OneLeastBest, OneRateIsRate, ContinuationsAre, MeanSize, TangentSize, NoTangentCutOff, MassesTogether, MeanRewardsAre, MissedBehind, RewardsByDrift};
 
 /// The weights of all tracks sum to the total times the drift's denominators.
 pub fn weights_sum()
@@ -35,11 +35,13 @@ pub fn no_tangent_is_cut_off()
 {}
 
 /// What several looks find of masses together is at most the sum of what each of them finds alone (Martins 1993). The masses
-/// behind a prefix are such masses: by them goes what is missed after it, and by them go the rewards of its mean bound.
+/// behind a prefix are such masses: by them goes what is missed after it, and by them go the rewards of its mean bound. A
+/// reward goes by the masses that drifted on to its period.
 pub fn masses_together()
     ensures together { MassesTogether }
     ensures missed { MissedBehind }
     ensures rewards { MeanRewardsAre }
+    ensures drifted { RewardsByDrift }
 {}
 
 /// There is a best path, and no second one.
