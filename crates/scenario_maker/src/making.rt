@@ -1,7 +1,6 @@
 //! The scenario of a number.
 
 ghost use Rattle.std.specs.Prelude.{◌≡◌, IfOk};
-ghost use Rattle.search_model.specs.Problem.{IsProblem};
 ghost use Rattle.search_model.specs.Parts.{problem_of};
 ghost use Rattle.scenario_maker.specs.Made.{made_problem};
 
@@ -31,17 +30,6 @@ fn parts_of(alloc: Global, number: u64) -> Result<Parts, NoMemory>
     })
 }
 
-// The scenario of parts that make a problem.
-fn scenario_of(parts: Parts) -> Scenario
-    requires { IsProblem (problem_of parts) }
-    ensures { result ≡ problem_of parts }
-{
-    match Scenario::new(parts) {
-        Ok(scenario) => scenario,
-        Err(_) => unreachable!(),
-    }
-}
-
 /// Makes the scenario of a number: 5 rows of 5 cells, 8 periods and the parts 60, 12 and 6, with a start, a first
 /// distribution, a drift to side neighbours and a rate that are drawn from the number.
 ///
@@ -50,5 +38,5 @@ pub fn make(alloc: Global, number: u64) -> Result<Scenario, NoMemory>
     ensures made { IfOk result (λ scenario. scenario ≡ made_problem number) }
 {
     let parts = parts_of(alloc, number)?;
-    Ok(scenario_of(parts))
+    Ok(Scenario::of_right(parts))
 }

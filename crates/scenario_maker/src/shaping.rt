@@ -1,17 +1,17 @@
 //! The grid of a made scenario, its names, its drift and its looks.
 
-ghost use Rattle.std.specs.Prelude.{◌≡◌, ◌≤◌, ◌<◌, ◌==◌, if◌then◌else◌, map, length, replicate, All, IfOk};
+ghost use Rattle.std.specs.Prelude.{◌≡◌, ◌≤◌, ◌<◌, map, length, replicate, All, IfOk};
 ghost use Rattle.search_grid.specs.Sides.{side_moves};
-ghost use Rattle.drift_chain.specs.DriftRows.{drift_over, IsDrift};
+ghost use Rattle.drift_chain.specs.DriftRows.{drift_over};
 ghost use Rattle.sweep_table.specs.LookParts.{parts_over};
-ghost use Rattle.search_model.specs.Grids.{grid_name as grid_name_lem, grid_names as grid_names_lem, rest_of as rest_lem, spread_row as spread_row_lem, spread_rows as spread_rows_lem};
+ghost use Rattle.search_model.specs.Grids.{grid_name as grid_name_lem, grid_names as grid_names_lem, spread_rows as spread_rows_lem};
 
 use crate::sizes::{CELLS, DRIFT, LOOK, SIDE};
 use drift_chain::{Drift, DriftPart};
 use exact_parts::NoMemory;
 use search_grid::Grid;
-use search_model::Name;
-use std::alloc::{AllocError, Global};
+use search_model::{Name, spread_row};
+use std::alloc::Global;
 use sweep_table::Sweep;
 
 // The name of a cell, and of the position of the same number.
@@ -46,43 +46,6 @@ pub fn grid(alloc: Global) -> Result<Grid, NoMemory>
     }
 }
 
-// What stays in a cell of so many moves, one of them to itself, where the part goes to each of the others.
-#[tactic(auto, using(crate::proofs::Cells::taken_few))]
-fn rest_of(part: u32, moves: usize) -> u32
-    requires part { part ≤ 3 }
-    requires some { 1 ≤ moves }
-    requires few { moves ≤ 5 }
-    ensures { result ≡ rest_lem DRIFT part moves }
-{
-    DRIFT - part * (moves as u32 - 1)
-}
-
-// The part that goes to cell `m` from cell `c`, in which the rest stays.
-fn part_to(c: u8, rest: u32, part: u32, m: u8) -> u32
-    ensures { result ≡ (if m == c then rest else part) }
-{
-    if m == c { rest } else { part }
-}
-
-// The drift row of cell `c` with these moves.
-#[tactic(auto, unfolding(search_model::specs::Grids::spread_row))]
-fn spread_row(alloc: Global, part: u32, c: u8, moves: &[u8]) -> Result<Vec<DriftPart>, AllocError>
-    requires part { part ≤ 3 }
-    requires some { 1 ≤ length moves.now }
-    requires few { length moves.now ≤ 5 }
-    ensures { IfOk result (λ row. row.items ≡ spread_row_lem DRIFT part c moves.now) }
-{
-    let rest = rest_of(part, moves.len());
-    moves
-        .iter()
-        .map(|m| DriftPart {
-            cell: *m,
-            part: part_to(c, rest, part, *m),
-        })
-        .filter(|entry| entry.part > 0)
-        .collect(alloc)
-}
-
 // The drift rows of all cells.
 fn spread_rows(alloc: Global, part: u32, grid: &Grid) -> Result<Vec<Vec<DriftPart>>, NoMemory>
     requires part { part ≤ 3 }
@@ -91,20 +54,9 @@ fn spread_rows(alloc: Global, part: u32, grid: &Grid) -> Result<Vec<Vec<DriftPar
 {
     let mut rows = Vec::new(alloc);
     for c in 0..grid.cells() {
-        rows.push(spread_row(alloc, part, c, grid.moves(c))?)?;
+        rows.push(spread_row(alloc, DRIFT, part, c, grid.moves(c))?)?;
     }
     Ok(rows)
-}
-
-// The drift of these rows.
-fn drift_of(rows: Vec<Vec<DriftPart>>) -> Drift
-    requires { IsDrift (drift_over DRIFT (map (λ row. row.items) rows.items)) }
-    ensures { result ≡ drift_over DRIFT (map (λ row. row.items) rows.items) }
-{
-    match Drift::new(DRIFT, rows) {
-        Ok(drift) => drift,
-        Err(_) => unreachable!(),
-    }
 }
 
 /// The part drifts from a cell to each side neighbour, and the rest stays.
@@ -115,7 +67,7 @@ pub fn drift(alloc: Global, part: u32, grid: &Grid) -> Result<Drift, NoMemory>
     ensures { IfOk result (λ drift. drift ≡ drift_over DRIFT (spread_rows_lem DRIFT part (side_moves SIDE SIDE))) }
 {
     let rows = spread_rows(alloc, part, grid)?;
-    Ok(drift_of(rows))
+    Ok(Drift::of_right(DRIFT, rows))
 }
 
 /// A look misses the part of a target in its cell, the same in all cells.
@@ -124,8 +76,5 @@ pub fn sweep(alloc: Global, part: u32) -> Result<Sweep, NoMemory>
     ensures { IfOk result (λ sweep. sweep ≡ parts_over LOOK (replicate CELLS part)) }
 {
     let overlook = vec![in alloc; part; CELLS as usize]?;
-    match Sweep::new(LOOK, overlook) {
-        Ok(sweep) => Ok(sweep),
-        Err(_) => unreachable!(),
-    }
+    Ok(Sweep::of_right_parts(LOOK, overlook))
 }

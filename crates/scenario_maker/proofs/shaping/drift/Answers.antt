@@ -11,11 +11,11 @@ spread_rows-requires-clause-few c =
     let P : List (List ℕ) → Type 0 = λ rows. All (λ row. length row ≤ 5) rows in
     subst P (sym c.requires.grid) few_moves
 
-pub drift_of-requires : goal.drift_of-requires
-drift_of-requires c =
+pub of_right-requires : goal.of_right-requires
+of_right-requires c =
     let P : List (List CellPart) → Type 0 = λ rows. IsDrift (drift_over 12 rows) in
     let made = c.in_ok-rows.ensures ∙ ap (spread_rows 12 c.args.part) c.requires.grid in
     subst P (sym made) (drift_right c.args.part c.requires.some c.requires.most)
 
 pub returns : goal.returns
-returns c = c.drift_of.ensures ∙ ap (drift_over 12) (c.in_ok-rows.ensures ∙ ap (spread_rows 12 c.args.part) c.requires.grid)
+returns c = c.of_right.ensures ∙ ap (drift_over 12) (c.in_ok-rows.ensures ∙ ap (spread_rows 12 c.args.part) c.requires.grid)

@@ -5,13 +5,13 @@ use Rattle.std.proofs.lemmas.List.FromFn.{map-range_with_len_more}
 use Rattle.period_rows.specs.declared.part.CellPart.{CellPart}
 use Rattle.search_grid.specs.Moves.{moves_from}
 use Rattle.search_model.specs.Grids.{spread_row}
-use Rattle.scenario_maker.proofs.Cells.{row_few}
+use Rattle.scenario_maker.proofs.Cells.{row_few, taken_few}
 use Rattle.scenario_maker.proofs.shaping.spread_rows.Goals as goal
 
-pub spread_row-requires-clause-few : goal.spread_row-requires-clause-few
-spread_row-requires-clause-few c =
+pub spread_row-requires : goal.spread_row-requires
+spread_row-requires c =
     let few = row_few c.args.grid.now 5 c.loop-c.c c.requires.few in
-    rw c.moves.ensures.value few
+    taken_few c.args.part _ c.requires.part (rw c.moves.ensures.value few)
 
 pub loop-c-preserved : goal.loop-c-preserved
 loop-c-preserved c =

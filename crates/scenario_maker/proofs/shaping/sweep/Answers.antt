@@ -3,9 +3,8 @@ use Rattle.sweep_table.specs.LookParts.{parts_over, IsSweep}
 use Rattle.scenario_maker.proofs.Problems.{IsSweep-same}
 use Rattle.scenario_maker.proofs.shaping.sweep.Goals as goal
 
-pub unreachable-requires : goal.unreachable-requires
-unreachable-requires c =
+pub of_right_parts-requires : goal.of_right_parts-requires
+of_right_parts-requires c =
     let same : c.in_ok-overlook.overlook.items ≡ replicate 25 c.args.part = search rules in
     let P : List ℕ → Type 0 = λ parts. IsSweep (parts_over 6 parts) in
-    let made = c.in-Err.ensures.right.1 (subst P (sym same) (IsSweep-same c.args.part (omega arith))) in
-    cc
+    subst P (sym same) (IsSweep-same c.args.part (omega arith))
