@@ -1,11 +1,11 @@
 -- Scenarios that are made of the same names are one search, and have as many live prefixes.
 use Rattle.std.proofs.Common.{ℕ, ◌≡◌, List, Some, sym, ap, subst, ◌∙◌}
 use Rattle.search_model.specs.declared.standing.Standing.{Standing}
+use Rattle.search_model.specs.Problem.{position_named}
 use Rattle.search_model.specs.Order.{standing_of}
 use Rattle.search_model.proofs.SameSearch.{AreSame-sym, opening_same, path_legal, value_same_legal}
 use Rattle.bound_tree.specs.Close.{HasMoreLive}
 use Rattle.bound_tree.proofs.SameLive.{more_live_same}
-use Rattle.tree_format.specs.Reading.{position_named}
 use Rattle.tree_format.proofs.Said.{position_named-name}
 use Rattle.residual_plan.specs.Forced.{IsForced}
 use Rattle.residual_plan.proofs.Carried.{forced_is_one}

@@ -9,9 +9,9 @@ use Rattle.list_laws.proofs.Members.{Contains-map_cases}
 use Rattle.exact_parts.specs.Width.{Fits}
 use Rattle.search_grid.specs.Moves.{moves_from}
 use Rattle.search_model.specs.Names.{IsRepeated, name_in}
-use Rattle.search_model.specs.Problem.{Problem, IsProblem, position_name}
+use Rattle.search_model.specs.Problem.{Problem, IsProblem, position_name, position_named}
 use Rattle.search_model.specs.Legal.{IsLegal}
-use Rattle.tree_format.specs.Reading.{all_of, position_named}
+use Rattle.tree_format.specs.Reading.{all_of}
 use Rattle.tree_format.proofs.Said.{all_of-map, position_named-name}
 use Rattle.residual_plan.specs.Forced.{forced_count, forced_name, forced_names, IsForced, IsNameTaken}
 use Rattle.residual_plan.proofs.NewNames.{count_names}

@@ -1,7 +1,6 @@
-//! Positions by their names, and the prefixes that words name.
+//! The prefixes that words name by their positions.
 
-ghost use Rattle.std.specs.Prelude.{◌≡◌, ◌≤◌, ◌<◌, length, map, string_bytes, IfOk, IfErr, IfSome, IfNone, Contains};
-ghost use Rattle.search_model.specs.Problem.{position_name};
+ghost use Rattle.std.specs.Prelude.{◌≡◌, ◌≤◌, length, map, string_bytes, IfOk, IfErr, IfSome, IfNone};
 ghost use Rattle.plan_command.specs.Whys.{flown_name_of};
 ghost use Rattle.plan_command.specs.Flown.{AreNamed, HasStranger, IsFlown, IsUnflown};
 
@@ -40,20 +39,6 @@ pub fn unflown(why: FlownWhy) -> Stop
     Stop::Refused(Refusal::BadFlown(why))
 }
 
-/// The number of the position that has this name.
-pub fn position_named(sc: &Scenario, name: &[u8]) -> Option<u8>
-    ensures position { IfSome result (λ a. a < sc.now.positions) }
-    ensures named { IfSome result (λ a. position_name sc.now a ≡ name.now) }
-    ensures none { IfNone result (¬ Contains sc.now.position_names name.now) }
-{
-    for a in 0..sc.positions() {
-        if sc.position(a).bytes() == name {
-            return Some(a);
-        }
-    }
-    None
-}
-
 // The positions of these names, where each is one's.
 fn positions_named(sc: &Scenario, names: &[String]) -> Option<Path>
     requires { length names.now ≤ 32 }
@@ -62,7 +47,7 @@ fn positions_named(sc: &Scenario, names: &[String]) -> Option<Path>
 {
     let mut flown = Path::empty();
     for name in names {
-        flown.push(position_named(sc, name.as_bytes())?);
+        flown.push(sc.position_named(name.as_bytes())?);
     }
     Some(flown)
 }

@@ -7,7 +7,6 @@ ghost use Rattle.plan_command.specs.Whys.{duo_name_of};
 ghost use Rattle.plan_command.specs.Duos.{Names, IsPaired, IsUnpairedFrom};
 ghost use Rattle.bound_tree.specs.declared.tree.TheConstants.{MOST_NODES};
 
-use crate::flown::position_named;
 use crate::made_plans::made_and_planned;
 use crate::status::{Refusal, Stop};
 use duo_search::{DuoFault, product};
@@ -95,7 +94,7 @@ pub fn pair<R: AllocGlobal + Threads + Wait + Sync, G: Gate>(
     requires nodes { (1 ≤ nodes) × (nodes ≤ MOST_NODES) }
     ensures { Gives (IsPaired nodes sc.now name.now) (IsUnpairedFrom nodes sc.now name.now) result }
 {
-    match position_named(sc, name.bytes()) {
+    match sc.position_named(name.bytes()) {
         Some(second) => pair_from(rt, sc, second, workers, nodes, gate),
         None => Err(unpaired(DuoWhy::UnknownName)),
     }

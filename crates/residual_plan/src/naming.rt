@@ -1,6 +1,6 @@
 //! The names of the positions of the scenario that forces a flown prefix.
 
-ghost use Rattle.std.specs.Prelude.{◌≡◌, ◌≤◌, ◌+◌, ◌++◌, ◌↔◌, length, IsTrue, IfOk, Contains};
+ghost use Rattle.std.specs.Prelude.{◌≡◌, ◌≤◌, ◌+◌, ◌++◌, ◌↔◌, length, IsTrue, IfOk};
 ghost use Rattle.search_model.specs.Names.{IsName};
 ghost use Rattle.residual_plan.specs.Forced.{forced_name as forced_name_lem, forced_names, IsNameTaken};
 
@@ -39,24 +39,12 @@ fn new_positions(flown: &Path) -> u8
     flown.len() as u8 + 1
 }
 
-// Whether a position has this name.
-fn is_position(sc: &Scenario, name: &Name) -> bool
-    ensures { IsTrue result ↔ Contains sc.now.position_names name.now }
-{
-    for a in 0..sc.positions() {
-        if sc.position(a).bytes() == name.bytes() {
-            return true;
-        }
-    }
-    false
-}
-
 /// Whether a position has a name that the forced scenario needs for a new one.
 pub(crate) fn is_name_taken(sc: &Scenario, flown: &Path) -> bool
     ensures { IsTrue result ↔ IsNameTaken sc.now flown.now }
 {
     for i in 0..new_positions(flown) {
-        if is_position(sc, &forced_name(i)) {
+        if sc.is_position(forced_name(i).bytes()) {
             return true;
         }
     }

@@ -13,6 +13,7 @@ pub mod LeastBest
 pub mod LegalLemmas
 pub mod LookRows
 pub mod NameLemmas
+pub mod NamedPositions
 pub mod Orders
 pub mod Places
 pub mod PlainSteps

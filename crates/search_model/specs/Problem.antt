@@ -1,5 +1,6 @@
 -- The search problem: what contracts see of a scenario.
-use Rattle.std.specs.Prelude.{ℕ, ◌≡◌, ◌<◌, ◌≤◌, List, length, slice_index, sum}
+use Rattle.std.specs.Prelude.{ℕ, ◌≡◌, ◌<◌, ◌≤◌, List, length, Option, position, slice_index, sum}
+use Rattle.std.specs.Str.{bytes_eq}
 use Rattle.exact_parts.specs.Width.{Fits}
 use Rattle.search_grid.specs.Moves.{IsGrid}
 use Rattle.drift_chain.specs.DriftRows.{DriftRows, drift_cells, IsDrift}
@@ -51,3 +52,7 @@ cell_name p c = name_in p.names c
 -- the name of a position
 abbrev pub position_name : Problem → ℕ → List ℕ
 position_name p a = name_in p.position_names a
+
+-- the position of a name
+abbrev pub position_named : Problem → List ℕ → Option ℕ
+position_named p name = position (λ n. bytes_eq n name) p.position_names

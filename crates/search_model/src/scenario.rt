@@ -194,7 +194,7 @@ impl Scenario {
         Scenario { parts }
     }
 
-    ghost use Rattle.search_model.specs.Problem.{first_of, cell_name, position_name};
+    ghost use Rattle.search_model.specs.Problem.{first_of, cell_name, position_name, position_named as position_named_lem};
     ghost use Rattle.search_model.specs.Legal.{IsLegal, moves_after};
     ghost use Rattle.search_model.specs.Tracks.{whole_weight};
 
@@ -268,6 +268,28 @@ impl Scenario {
         ensures sound { IsProblem self.now }
     {
         &self.parts.positions[p as usize]
+    }
+
+    /// The position that has this name.
+    pub fn position_named(&self, name: &[u8]) -> Option<u8>
+        ensures value { result ≡ position_named_lem self.now name.now }
+        ensures position { IfSome result (λ a. a < self.now.positions) }
+        ensures named { IfSome result (λ a. position_name self.now a ≡ name.now) }
+        ensures none { IfNone result (¬ Contains self.now.position_names name.now) }
+    {
+        for a in 0..self.positions() {
+            if self.position(a).bytes() == name {
+                return Some(a);
+            }
+        }
+        None
+    }
+
+    /// Whether a position has this name.
+    pub fn is_position(&self, name: &[u8]) -> bool
+        ensures { IsTrue result ↔ Contains self.now.position_names name.now }
+    {
+        self.position_named(name).is_some()
     }
 
     /// The searcher's moves.

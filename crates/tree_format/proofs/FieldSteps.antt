@@ -4,7 +4,6 @@ use Rattle.std.specs.Prelude.{◌||◌, ◌==◌}
 use Rattle.std.specs.List.{list_any}
 use Rattle.std.proofs.lemmas.List.{drop_all, append-nil}
 use Rattle.tree_format.specs.Reading.{in_front, all_of}
-use Rattle.list_laws.proofs.Firsts.{position-first, position-none}
 
 -- what was read, and what the rest says
 abbrev pub behind : List ℕ → Option (List ℕ) → Option (List ℕ)
@@ -50,5 +49,3 @@ none_empty fields i le = let gone : drop i fields ≡ [] = drop_all i fields le 
 pub ruleset empty_steps = (empty_at, none_empty)
 
 pub ruleset all_steps = (field_taken, field_refused, fields_read)
-
-pub ruleset name_steps = (position-first, position-none)

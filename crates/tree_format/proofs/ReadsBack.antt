@@ -12,7 +12,7 @@ use Rattle.text_rows.specs.Lines.{HasNoFeed, lines_text}
 use Rattle.text_rows.specs.LineMachine.{AreTaken}
 use Rattle.text_rows.specs.Fields.{is_word}
 use Rattle.text_rows.proofs.RowTexts.{IsField, AreFields, IsRow, exact_fields-row, row_free, row_fields, none_empty, word, field_by, IsField-decimal, AreFields-map, AreFields-append}
-use Rattle.search_model.specs.Problem.{Problem, IsProblem, position_name}
+use Rattle.search_model.specs.Problem.{Problem, IsProblem, position_name, position_named}
 use Rattle.bound_tree.specs.declared.node.Kind.TheVariants.{Branch, Whole, Mean, Tangent, Edge}
 use Rattle.bound_tree.specs.declared.node.TreeNode.{TreeNode}
 use Rattle.bound_tree.specs.declared.gap.GapKind.{GapKind}
@@ -41,7 +41,7 @@ use Rattle.tree_format.specs.declared.plan_line.Stage.TheVariants as due
 use Rattle.tree_format.specs.declared.plan_line.PlanLine.{PlanLine}
 use Rattle.tree_format.specs.declared.plan_line.PlanLine.TheVariants.{Version, Path, Chance, Ceiling, Count, Node, End}
 use Rattle.tree_format.specs.ReadingLaws.{PlanTextReadsBack, PlanText2ReadsBack, GapTextReadsBack, OnePlanAText, OneGapAText}
-use Rattle.tree_format.specs.Reading.{is_end, ending, all_of, place_in, position_named, most_positions, node_line, placed, stage_line, line_at, at_start, blank_plan, places_behind, next, taken, Progress, behind, plan_lines, text_at, as_plan, plan_at, gap_at}
+use Rattle.tree_format.specs.Reading.{is_end, ending, all_of, place_in, most_positions, node_line, placed, stage_line, line_at, at_start, blank_plan, places_behind, next, taken, Progress, behind, plan_lines, text_at, as_plan, plan_at, gap_at}
 use Rattle.tree_format.proofs.Said.{amount_in-decimal, place_in-decimal, position_named-name, all_of-map}
 use Rattle.tree_format.proofs.AtLines.{unended, at_end}
 use Rattle.tree_format.proofs.SpelledLines.{IsLettered, HasPlace}

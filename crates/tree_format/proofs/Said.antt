@@ -7,8 +7,8 @@ use Rattle.std.proofs.lemmas.Bool.{false_from_ne_true}
 use Rattle.std.proofs.lemmas.List.Elements.{All-head, All-tail}
 use Rattle.std.proofs.lemmas.Slice.Eq.{bytes_eq-Decides}
 use Rattle.exact_parts.proofs.Decimals.{number_at-decimal}
-use Rattle.search_model.specs.Problem.{Problem, IsProblem, position_name}
-use Rattle.tree_format.specs.Reading.{said, amount_in, place_in, position_named, all_of}
+use Rattle.search_model.specs.Problem.{Problem, IsProblem, position_name, position_named}
+use Rattle.tree_format.specs.Reading.{said, amount_in, place_in, all_of}
 use Rattle.list_laws.proofs.Firsts.{position-first}
 use Rattle.search_model.proofs.NameLemmas.{names_apart}
 

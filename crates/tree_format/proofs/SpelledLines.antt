@@ -7,7 +7,7 @@ use Rattle.std.proofs.lemmas.List.{length-map, take-append-drop}
 use Rattle.std.proofs.lemmas.List.Elements.{All-head}
 use Rattle.search_model.specs.Legal.{IsLegal}
 use Rattle.search_model.proofs.PlainSteps.{positions_follow}
-use Rattle.search_model.specs.Problem.{Problem, IsProblem, position_name}
+use Rattle.search_model.specs.Problem.{Problem, IsProblem, position_name, position_named}
 use Rattle.bound_tree.specs.declared.node.Kind.{Kind}
 use Rattle.bound_tree.specs.declared.node.Kind.TheVariants.{Branch, Whole, Mean, Tangent, Edge}
 use Rattle.bound_tree.specs.declared.gap.GapKind.{GapKind}
@@ -27,7 +27,7 @@ use Rattle.tree_format.specs.declared.plan_line.PlanLine.{PlanLine}
 use Rattle.tree_format.specs.declared.plan_line.PlanLine.TheVariants.{Version, Path, Chance, Ceiling, Count, Node, End}
 use Rattle.tree_format.specs.declared.record_lines.Bounded.{Bounded}
 use Rattle.tree_format.specs.PlanText.{numbers, node_fields, written, chance_row, ceiling_row, count_row, ArePositions, IsPrintableKind, IsPrintableRecord, IsNarrowNode, IsNoEdge}
-use Rattle.tree_format.specs.Reading.{all_of, amount_in, place_in, position_named, version_line, path_said, path_line, chance_said, chance_line, ceiling_said, ceiling_line, count_said, count_line, most_positions, branch_of, branch_line, bounded_of, bounded_line, node_of, tangent_of, tangent_line, node_line, placed, node_said, is_end, ending, end_said, record_line}
+use Rattle.tree_format.specs.Reading.{all_of, amount_in, place_in, version_line, path_said, path_line, chance_said, chance_line, ceiling_said, ceiling_line, count_said, count_line, most_positions, branch_of, branch_line, bounded_of, bounded_line, node_of, tangent_of, tangent_line, node_line, placed, node_said, is_end, ending, end_said, record_line}
 use Rattle.text_rows.specs.Fields.{is_word}
 use Rattle.tree_format.proofs.Told.{word_told, amount_told, places_told, names_told}
 use Rattle.text_rows.proofs.Results.{err_ok, same_ok, let_through}

@@ -13,7 +13,7 @@ use Rattle.exact_parts.specs.declared.number.Number.TheVariants.{NotPlain, Above
 use Rattle.exact_parts.specs.Decimal.{Spells, number_at}
 use Rattle.exact_parts.proofs.Decimals.{digits_fit, spells-number_at, spelled_text}
 use Rattle.search_model.specs.Names.{IsName}
-use Rattle.search_model.specs.Problem.{Problem, IsProblem}
+use Rattle.search_model.specs.Problem.{Problem, IsProblem, position_named}
 use Rattle.bound_tree.specs.declared.gap.GapNode.{GapNode}
 use Rattle.tree_format.specs.declared.kind.PlanKind.{PlanKind}
 use Rattle.tree_format.specs.declared.kind.PlanKind.TheVariants.{BadLine}
@@ -27,7 +27,7 @@ use Rattle.tree_format.specs.Dialects.{family_of, most_records, has_edges, has_o
 use Rattle.tree_format.specs.declared.plan_line.Stage.{Stage}
 use Rattle.tree_format.specs.declared.plan_line.Stage.TheVariants as due
 use Rattle.tree_format.specs.declared.plan_line.PlanLine.{PlanLine}
-use Rattle.tree_format.specs.Reading.{said, amount_in, place_in, position_named, all_of, version_line, path_line, chance_line, ceiling_line, count_line, most_positions, branch_line, bounded_line, tangent_line, node_line, is_end, record_line, stage_line, line_at}
+use Rattle.tree_format.specs.Reading.{said, amount_in, place_in, all_of, version_line, path_line, chance_line, ceiling_line, count_line, most_positions, branch_line, bounded_line, tangent_line, node_line, is_end, record_line, stage_line, line_at}
 use Rattle.text_rows.specs.Fields.{is_word}
 use Rattle.list_laws.proofs.Firsts.{position-none}
 use Rattle.tree_format.specs.ReadingLaws.{SummaryDecides}

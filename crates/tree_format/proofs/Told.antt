@@ -10,8 +10,8 @@ use Rattle.exact_parts.specs.declared.number.Number.{Number}
 use Rattle.exact_parts.specs.declared.number.Number.TheVariants.{NotPlain, Above, Of}
 use Rattle.exact_parts.specs.Decimal.{Spells, number_at}
 use Rattle.exact_parts.proofs.Decimals.{spells-number_at, spelled_text}
-use Rattle.search_model.specs.Problem.{Problem, IsProblem, position_name}
-use Rattle.tree_format.specs.Reading.{said, amount_in, place_in, position_named, in_front, all_of}
+use Rattle.search_model.specs.Problem.{Problem, IsProblem, position_name, position_named}
+use Rattle.tree_format.specs.Reading.{said, amount_in, place_in, in_front, all_of}
 use Rattle.text_rows.specs.Fields.{is_word}
 
 -- a field that is a word

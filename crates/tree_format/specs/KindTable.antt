@@ -1,7 +1,7 @@
 -- Where a line has each kind of fault, as a table: the first kind whose test holds decides.
 use Rattle.std.specs.Prelude.{ℕ, ◌≡◌, ◌+◌, Bool, false, not, ◌&&◌, ◌||◌, ◌==◌, nat_le, if◌then◌else◌, List, [], ◌∷◌, length, Option, is_none, unwrap_or, codes}
 use Rattle.std.specs.List.{list_any}
-use Rattle.search_model.specs.Problem.{Problem}
+use Rattle.search_model.specs.Problem.{Problem, position_named}
 use Rattle.bound_tree.specs.Places.{first_of}
 use Rattle.tree_format.specs.declared.due.Due.{Due}
 use Rattle.tree_format.specs.declared.plan_line.Dialect.{Dialect}
@@ -14,7 +14,7 @@ use Rattle.tree_format.specs.declared.plan_line.Stage.{Stage}
 use Rattle.tree_format.specs.declared.plan_line.Stage.TheVariants as due
 use Rattle.tree_format.specs.declared.kind.PlanKind.{PlanKind}
 use Rattle.tree_format.specs.declared.kind.PlanKind.TheVariants.{BadLine, BadNumber, UnknownName, TooManyNodes, WrongCount, NoPlace, StillOpen}
-use Rattle.tree_format.specs.Reading.{amount_in, place_in, position_named, most_positions, is_end, line_at}
+use Rattle.tree_format.specs.Reading.{amount_in, place_in, most_positions, is_end, line_at}
 use Rattle.text_rows.specs.Fields.{is_word, behind_first, first_alone}
 use Rattle.text_rows.specs.Kinds.{first_kind, fault_of}
 

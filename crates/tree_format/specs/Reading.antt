@@ -1,11 +1,10 @@
 -- Reading line by line: what each line says, or its first fault.
-use Rattle.std.specs.Prelude.{ℕ, ◌+◌, ◌-◌, Bool, true, false, ◌&&◌, ◌==◌, nat_le, if◌then◌else◌, List, [], ◌∷◌, ◌++◌, map, length, take, drop, Option, Some, None, position, Result, Ok, Err, codes}
+use Rattle.std.specs.Prelude.{ℕ, ◌+◌, ◌-◌, Bool, true, false, ◌&&◌, ◌==◌, nat_le, if◌then◌else◌, List, [], ◌∷◌, ◌++◌, map, length, take, drop, Option, Some, None, Result, Ok, Err, codes}
 use Rattle.std.specs.List.{list_any}
-use Rattle.std.specs.Str.{bytes_eq}
 use Rattle.exact_parts.specs.declared.number.Number.{Number}
 use Rattle.exact_parts.specs.declared.number.Number.TheVariants.{NotPlain, Above, Of}
 use Rattle.exact_parts.specs.Decimal.{number_at}
-use Rattle.search_model.specs.Problem.{Problem}
+use Rattle.search_model.specs.Problem.{Problem, position_named}
 use Rattle.bound_tree.specs.declared.node.Kind.TheVariants.{Branch, Whole, Mean, Tangent, Edge}
 use Rattle.bound_tree.specs.declared.plan.Plan.{Plan}
 use Rattle.bound_tree.specs.declared.gap.GapKind.{GapKind}
@@ -50,10 +49,6 @@ amount_in field = said (number_at 340282366920938463463374607431768211455 field)
 -- the number of a position
 abbrev pub place_in : Problem → List ℕ → Option ℕ
 place_in p field = said (number_at (p.positions - 1) field)
-
--- the position of a name
-abbrev pub position_named : Problem → List ℕ → Option ℕ
-position_named p name = position (λ n. bytes_eq n name) p.position_names
 
 -- what a field says, in front of what others say
 abbrev pub in_front : Option ℕ → Option (List ℕ) → Option (List ℕ)

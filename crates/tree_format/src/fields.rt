@@ -1,7 +1,8 @@
 //! Fields in the place of a number or a name.
 
 ghost use Rattle.std.specs.Prelude.{◌≡◌, ◌≤◌, ◌<◌, map, length};
-ghost use Rattle.tree_format.specs.Reading.{amount_in as amount_in_lem, place_in as place_in_lem, position_named as position_named_lem, all_of};
+ghost use Rattle.search_model.specs.Problem.{position_named};
+ghost use Rattle.tree_format.specs.Reading.{amount_in as amount_in_lem, place_in as place_in_lem, all_of};
 
 use exact_parts::{Number, number_of};
 use search_model::{Path, Scenario};
@@ -39,28 +40,15 @@ pub fn places_in(sc: &Scenario, fields: &[&[u8]]) -> Option<Path>
     Some(path)
 }
 
-// The position of a name.
-#[tactic(auto, using(crate::proofs::FieldSteps::name_steps))]
-fn position_named(sc: &Scenario, name: &[u8]) -> Option<u8>
-    ensures { result ≡ position_named_lem sc.now name.now }
-{
-    for q in 0..sc.positions() {
-        if sc.position(q).bytes() == name {
-            return Some(q);
-        }
-    }
-    None
-}
-
 /// The positions of these names, where each is one's.
 #[tactic(auto, using(crate::proofs::FieldSteps::all_steps))]
 pub fn positions_named(sc: &Scenario, names: &[&[u8]]) -> Option<Path>
     requires { length names.now ≤ 32 }
-    ensures { result ≡ all_of (position_named_lem sc.now) (map (λ f. f.now) names.now) }
+    ensures { result ≡ all_of (position_named sc.now) (map (λ f. f.now) names.now) }
 {
     let mut path = Path::empty();
     for name in names {
-        path.push(position_named(sc, name)?);
+        path.push(sc.position_named(name)?);
     }
     Some(path)
 }

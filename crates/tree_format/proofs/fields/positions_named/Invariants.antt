@@ -1,5 +1,6 @@
 use Rattle.std.proofs.Common.{◌≡◌, map, drop, length}
-use Rattle.tree_format.specs.Reading.{all_of, position_named}
+use Rattle.search_model.specs.Problem.{position_named}
+use Rattle.tree_format.specs.Reading.{all_of}
 use Rattle.tree_format.proofs.FieldSteps.{behind}
 use Rattle.tree_format.proofs.fields.positions_named.Given as goal
 

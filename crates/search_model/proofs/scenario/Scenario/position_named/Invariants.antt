@@ -1,6 +1,6 @@
 use Rattle.std.proofs.Common.{ℕ, ◌<◌, ◌≢◌}
 use Rattle.search_model.specs.Problem.{position_name}
-use Rattle.residual_plan.proofs.naming.is_position.Given as goal
+use Rattle.search_model.proofs.scenario.Scenario.position_named.Given as goal
 
 abbrev pub invariant-loop-a : goal.invariant-loop-a
-invariant-loop-a l = (k : ℕ) → k < l.a → position_name l.sc k ≢ l.name
+invariant-loop-a l = (k : ℕ) → k < l.a → position_name l.self k ≢ l.name
