@@ -21,12 +21,6 @@ version_row One = codes "plan" ∷ codes "1" ∷ []
 version_row Two = codes "plan" ∷ codes "2" ∷ []
 version_row Gap = codes "gap" ∷ codes "1" ∷ []
 
--- whether the line `ceiling N` stands behind `chance V W`
-abbrev pub has_ceiling : Dialect → Bool
-has_ceiling One = false
-has_ceiling Two = false
-has_ceiling Gap = true
-
 -- the most records that a text may have
 abbrev pub most_records : Family → ℕ
 most_records Plans = MOST_NODES
@@ -43,7 +37,7 @@ has_edges One = false
 has_edges Two = true
 has_edges Gap = true
 
--- whether it has the letter `O`
+-- whether nodes may wait: it has the letter `O`, and the line `ceiling N` stands behind `chance V W`
 abbrev pub has_open : Dialect → Bool
 has_open One = false
 has_open Two = false

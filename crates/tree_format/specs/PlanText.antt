@@ -20,7 +20,7 @@ use Rattle.tree_format.specs.declared.plan_line.Dialect.{Dialect}
 use Rattle.tree_format.specs.declared.plan_line.Dialect.TheVariants.{One, Two, Gap}
 use Rattle.tree_format.specs.declared.plan_line.Prefixes.{Prefixes}
 use Rattle.tree_format.specs.declared.plan_line.Prefixes.TheVariants.{Written, LeftOut}
-use Rattle.tree_format.specs.Dialects.{version_row, has_ceiling, prefixes_in}
+use Rattle.tree_format.specs.Dialects.{version_row, has_open, prefixes_in}
 use Rattle.tree_format.specs.declared.dialects.TheConstants.{MOST_GAP_NODES}
 use Rattle.bound_tree.specs.declared.tree.TheConstants.{MOST_NODES}
 
@@ -61,7 +61,7 @@ ceiling_row ceiling = codes "ceiling" ∷ decimal ceiling ∷ []
 
 -- `ceiling N`, where a text has it
 abbrev pub ceiling_rows : Dialect → ℕ → List (List (List ℕ))
-ceiling_rows v ceiling = if has_ceiling v then ceiling_row ceiling ∷ [] else []
+ceiling_rows v ceiling = if has_open v then ceiling_row ceiling ∷ [] else []
 
 abbrev pub count_row : ℕ → List (List ℕ)
 count_row n = codes "nodes" ∷ decimal n ∷ []

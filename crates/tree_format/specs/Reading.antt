@@ -19,7 +19,7 @@ use Rattle.tree_format.specs.declared.plan_line.Dialect.{Dialect}
 use Rattle.tree_format.specs.declared.plan_line.Dialect.TheVariants.{One, Two, Gap}
 use Rattle.tree_format.specs.declared.plan_line.Prefixes.{Prefixes}
 use Rattle.tree_format.specs.declared.plan_line.Prefixes.TheVariants.{Written, LeftOut}
-use Rattle.tree_format.specs.Dialects.{family_of, has_ceiling, most_records, has_edges, has_open, prefixes_in}
+use Rattle.tree_format.specs.Dialects.{family_of, most_records, has_edges, has_open, prefixes_in}
 use Rattle.tree_format.specs.declared.due.Due.{Due}
 use Rattle.tree_format.specs.declared.plan_line.Stage.{Stage}
 use Rattle.tree_format.specs.declared.plan_line.Stage.TheVariants as due
@@ -252,7 +252,7 @@ with_stage stage d = record { dialect = d.dialect; stage = stage; expected = d.e
 
 -- the line behind `chance V W`
 abbrev pub behind_chance : Dialect → Stage
-behind_chance v = if has_ceiling v then due.Ceiling else due.Count
+behind_chance v = if has_open v then due.Ceiling else due.Count
 
 -- what is due behind a line
 abbrev pub next : Problem → Due → PlanLine → Due

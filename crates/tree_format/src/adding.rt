@@ -5,7 +5,7 @@ ghost use Rattle.search_model.specs.Legal.{IsLegal};
 ghost use Rattle.tree_format.specs.Reading.{next, places_behind, behind_chance as behind_chance_lem, one_less as one_less_lem};
 ghost use Rattle.tree_format.specs.Dialects.{prefixes_in as prefixes_in_lem};
 
-use crate::dialects::{has_ceiling, prefixes_in};
+use crate::dialects::{has_open, prefixes_in};
 use crate::due::Due;
 use crate::plan_line::{Dialect, PlanLine, Prefixes, Stage};
 use bound_tree::GapKind;
@@ -44,7 +44,7 @@ fn pass_record(due: &mut Due, sc: &Scenario, kind: &GapKind)
 fn behind_chance(dialect: Dialect) -> Stage
     ensures { result ≡ behind_chance_lem dialect }
 {
-    if has_ceiling(dialect) {
+    if has_open(dialect) {
         Stage::Ceiling
     } else {
         Stage::Count

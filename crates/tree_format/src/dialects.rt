@@ -1,7 +1,7 @@
 //! What the dialects differ in.
 
 ghost use Rattle.std.specs.Prelude.{◌≡◌, ◌≤◌};
-ghost use Rattle.tree_format.specs.Dialects.{family_of as family_of_lem, most_records as most_records_lem, first_line as first_line_lem, has_ceiling as has_ceiling_lem, has_edges as has_edges_lem, has_open as has_open_lem, prefixes_in as prefixes_in_lem};
+ghost use Rattle.tree_format.specs.Dialects.{family_of as family_of_lem, most_records as most_records_lem, first_line as first_line_lem, has_edges as has_edges_lem, has_open as has_open_lem, prefixes_in as prefixes_in_lem};
 
 use crate::plan_line::{Dialect, Family, Prefixes};
 use bound_tree::MOST_NODES;
@@ -40,17 +40,7 @@ pub fn first_line(family: Family) -> u64
     }
 }
 
-/// Whether a text has the line `ceiling N`.
-pub fn has_ceiling(dialect: Dialect) -> bool
-    ensures { result ≡ has_ceiling_lem dialect }
-{
-    match dialect {
-        Dialect::One | Dialect::Two => false,
-        Dialect::Gap => true,
-    }
-}
-
-/// Whether it may have records of edge bounds.
+/// Whether a text may have records of edge bounds.
 pub fn has_edges(dialect: Dialect) -> bool
     ensures { result ≡ has_edges_lem dialect }
 {
@@ -60,7 +50,7 @@ pub fn has_edges(dialect: Dialect) -> bool
     }
 }
 
-/// Whether it may have nodes that wait.
+/// Whether it may have nodes that wait, and has the line `ceiling N`.
 pub fn has_open(dialect: Dialect) -> bool
     ensures { result ≡ has_open_lem dialect }
 {

@@ -7,7 +7,7 @@ ghost use Rattle.search_model.specs.Problem.{position_name};
 ghost use Rattle.tree_format.specs.Dialects.{version_row};
 ghost use Rattle.tree_format.specs.PlanText.{ArePositions, chance_row, ceiling_rows, head_rows};
 
-use crate::dialects::has_ceiling;
+use crate::dialects::has_open;
 use crate::plan_line::Dialect;
 use crate::writing::push_names;
 use exact_parts::{NoMemory, cut_if_refused};
@@ -72,7 +72,7 @@ fn push_ceiling(out: &mut Vec<u8>, dialect: Dialect, ceiling: u128) -> Result<()
     ensures ok { OnOk result (out.new.items ≡ out.old.items ++ text_of (ceiling_rows dialect ceiling)) }
     ensures err { OnErr result (Begins out.old.items out.new.items) }
 {
-    if has_ceiling(dialect) {
+    if has_open(dialect) {
         push_row(out, b"ceiling", &[Field::Number(ceiling)])
     } else {
         Ok(())
