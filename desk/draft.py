@@ -17,12 +17,17 @@ MOST_SCENARIO = 1_048_576
 WRONG_FILE, WRONG_WORDS, UNREADABLE, UNWRITABLE = 1, 2, 5, 6
 
 
-def drafted(text, tell=None):
+def drafted(text, tell=None, folder=""):
     """The scenario's text for a situation's text, both as bytes, and the lines to say of it. Raises BadSituation. `tell` is told how far
-    the simulation is, in tracks."""
-    given = situation(text)
+    the simulation is, in tracks; files that the situation names are in the folder."""
+    given = situation(text, folder)
+    return scenario_of(given, text, tracks.made(given, tell=tell))
+
+
+def scenario_of(given, text, made):
+    """The scenario's text for a situation, its text and its tracks, as bytes, and the lines to say of it. Raises BadSituation."""
     shares = Shares(given)
-    for drift in drifts(given, tracks.simulated(given, tell=tell)):
+    for drift in drifts(given, made):
         draft = rounded(shares, drift)
         told = telling.facts(shares, drift, draft)
         scenario = writing.scenario_text(draft.scenario, telling.comments(text, shares, drift, told))
@@ -44,12 +49,12 @@ def progress(done):
     sys.stderr.flush()
 
 
-def drafted_aloud(text):
+def drafted_aloud(text, folder):
     """What `drafted` makes, with a line of progress while standard error is a terminal."""
     if not sys.stderr.isatty():
-        return drafted(text)
+        return drafted(text, folder=folder)
     try:
-        return drafted(text, progress)
+        return drafted(text, progress, folder)
     finally:
         sys.stderr.write("\r\033[K")
 
@@ -66,7 +71,7 @@ def main(words):
         say(f"the file can't be read: {getattr(wrong, 'strerror', None) or 'no such name'}")
         return UNREADABLE
     try:
-        scenario, lines = drafted_aloud(text)
+        scenario, lines = drafted_aloud(text, os.path.dirname(words[0]))
     except BadSituation as wrong:
         say(wrong)
         return WRONG_FILE

@@ -88,10 +88,11 @@ def told(name):
     return accepted.shown(os.path.basename(name)) if name != "-" else "standard input"
 
 
-def field(given, text, of):
-    """The field of a situation and its text, with the scenario of the file `of` where one is named. Raises Refused, and BadSituation."""
+def field(given, text, of, own):
+    """The field of a situation and its text, with the scenario of the file `of` where one is named; `own` answers the tracks from which it
+    is drafted. Raises Refused, and BadSituation."""
     if of is None:
-        return Field(given, draft.drafted(text)[0])
+        return Field(given, draft.scenario_of(given, text, own())[0])
     try:
         found = Field(given, accepted.read_file(of))
     except forms.Fault as fault:

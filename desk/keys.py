@@ -183,6 +183,12 @@ def text(value):
     return value
 
 
+def track_file(value):
+    if not text(value).endswith((".csv", ".nc")):
+        raise ValueError("no name of a file of tracks")
+    return value
+
+
 def square(value):
     """A pair of row and column, of a name such as r2c3."""
     found = SQUARE.fullmatch(value) if isinstance(value, str) else None
@@ -305,6 +311,7 @@ TRACKS = (
     Key("count", "a whole number from 1000 to 200000", "20000", whole(1000, 200_000)),
     Key("seed", "a whole number from 1 to 1000000", "1", whole(1, MOST_PART)),
     Key("finer", "a whole number from 1 to 4", "2", whole(1, 4)),
+    Key("file", "the name of a file of tracks that ends in .csv or .nc", '"ensemble.csv"', track_file),
 )
 TABLES = {
     "[search]": SEARCH,

@@ -27,7 +27,9 @@ def without_edge(given):
         line = it.track and tuple(moved(place) for place in it.track)
         return dataclasses.replace(it, square=(it.square[0] + MARGIN, it.square[1] + MARGIN), place=moved(it.place), track=line)
 
-    return dataclasses.replace(given, grid=wide, is_lost=False, reports=tuple(shifted(it) for it in given.reports))
+    told = given.tracks.ensemble and given.tracks.ensemble.moved(float(away), float(away))
+    chosen = dataclasses.replace(given.tracks, ensemble=told)
+    return dataclasses.replace(given, grid=wide, is_lost=False, reports=tuple(shifted(it) for it in given.reports), tracks=chosen)
 
 
 def beyond(grid, place):
@@ -40,7 +42,7 @@ def beyond(grid, place):
 def lacking(given):
     """For each of SIDES and each track, how many squares more there should be for it to stay away from the edge: not over it at a
     look, and not at it at the last."""
-    looks = tracks.simulated(without_edge(given), COUNT).looks
+    looks = tracks.made(without_edge(given), COUNT).looks
     each = [[beyond(given.grid, place) for place in look] for look in looks]
     last = [tuple(it + 1 for it in place) for place in each[-1]]
     return [[max(its) for its in zip(*(([it[at] for it in look]) for look in (*each, last)))] for at in range(len(SIDES))]

@@ -2,12 +2,14 @@
 import dataclasses
 import datetime
 import functools
+import os
 import re
 import tomllib
 from decimal import Decimal, InvalidOperation
 from fractions import Fraction
 
-from desk import draws, geometry, keys, moments, ways
+from desk import draws, geometry, keys, moments, recorded, ways
+from desk.ensemble import Ensemble, at_looks
 from desk.forms import MOST_CELLS, MOST_MOVES
 from desk.keys import BadSituation, shown, take_key, take_table
 from desk.rounding import MOST_PERIODS
@@ -22,6 +24,8 @@ MOST_REPORTS = 20
 # How many tracks are simulated by default.
 COUNT = 20_000
 TOP = ("title", "search", "area", "report", "current", "wind", "drift", "searcher", "light", "visibility", "parts", "tracks")
+# The tables in whose place tracks of a file stand.
+DRIFTING = ("report", "current", "wind", "drift")
 # A time such as 19:30, which TOML takes with seconds alone.
 BARE_TIME = re.compile(rb"=\s*(?:\d{4}-\d\d-\d\d[ T])?\d{1,2}:\d\d\s*(?:#|$)")
 # What a line that isn't TOML may have, and how it should be.
@@ -105,11 +109,13 @@ class Searcher:
 
 @dataclasses.dataclass(frozen=True)
 class TrackChoice:
-    """How many tracks are simulated, from which seed, and how many states make the side of a square, or None where that is open."""
+    """How many tracks are simulated, from which seed, and how many states make the side of a square, or None where that is open. Or (None
+    where there is no file) the tracks of another drift model, in place of those."""
 
     count: int
     seed: int
     finer: int | None
+    ensemble: Ensemble | None = None
 
 
 @dataclasses.dataclass(frozen=True)
@@ -186,8 +192,8 @@ def rows_of(tables, name, most=MOST_ROWS):
     return rows
 
 
-def situation(given):
-    """The situation that a file given as bytes says. Raises BadSituation."""
+def situation(given, folder=""):
+    """The situation that a file given as bytes says; files that it names are in this folder. Raises BadSituation."""
     tables = parsed(given)
     for it in tables:
         need(it in TOP, shown(it), f"there is no such table{keys.meant(it, '', TOP)}; a situation has {', '.join(TOP)}")
@@ -198,7 +204,8 @@ def situation(given):
     clock, minutes = moments.Clock(search["begins"]), search["minutes"]
     periods = how_many(search, clock)
     grid, is_lost = area(tables["area"])
-    told = reports(tables, clock, grid, minutes)
+    chosen = track_choice(tables)
+    told = reports(tables, clock, grid, minutes) if chosen.count else ()
     found = Situation(
         title=title or "",
         clock=clock,
@@ -207,14 +214,17 @@ def situation(given):
         grid=grid,
         is_lost=is_lost,
         reports=told,
-        drift=drift(tables, clock, min(it.minutes for it in told)),
+        drift=drift(tables, clock, min((it.minutes for it in told), default=Fraction(0))),
         searcher=searcher(tables["searcher"], clock, grid, minutes),
         visibility=visibility(tables, clock, minutes * periods),
         parts=tuple(take_table(tables.get("parts", {}), "[parts]", keys.PARTS).values()),
-        tracks=track_choice(tables.get("tracks", {})),
+        tracks=chosen,
     )
     found.ways.check(clock)
-    return found
+    if chosen.count:
+        return found
+    told = recorded_at(os.path.join(folder, tables["tracks"]["file"]), found)
+    return dataclasses.replace(found, tracks=dataclasses.replace(chosen, ensemble=told))
 
 
 def minutes_of(key, how, it, *rest):
@@ -439,7 +449,20 @@ def check_half_day(key, since, clock, ends):
     need(ends <= since + moments.DAY // 2, f"[light] {other} is lacking", told)
 
 
-def track_choice(table):
-    """How tracks are simulated."""
-    it = take_table(table, "[tracks]", keys.TRACKS)
-    return TrackChoice(it["count"] or COUNT, it["seed"] or 1, it["finer"])
+def track_choice(tables):
+    """How tracks are simulated; with a count of 0 where a file has them."""
+    it = take_table(tables.get("tracks", {}), "[tracks]", keys.TRACKS)
+    if it["file"] is None:
+        return TrackChoice(it["count"] or COUNT, it["seed"] or 1, it["finer"])
+    other = next((key for key in ("count", "seed") if it[key]), None)
+    need(other is None, f"[tracks] {other}", "it shouldn't stand with file, since the tracks of a file are taken as they are")
+    for name in DRIFTING:
+        told = "it shouldn't stand with [tracks] file, whose tracks say where the person was and how they drift"
+        need(name not in tables, f"[{name}]" if name == "drift" else f"[[{name}]]", told)
+    return TrackChoice(0, 0, it["finer"])
+
+
+def recorded_at(path, given):
+    """The Ensemble of the file of a path at the looks of a situation. Raises BadSituation."""
+    looks = [float(given.look_time(t)) for t in range(1, given.periods + 1)]
+    return at_looks(os.path.basename(path), recorded.recorded(path, given.clock), given.clock, looks)

@@ -71,7 +71,8 @@ def truth(drift, draft):
     inside = [count for look in drift.looks for count in look.values()]
     finer = f"parts of a cell ({states.finer} by {states.finer})" if states.finer > 1 else "cells"
     told = f"on average {sum(inside) // len(inside):,} tracks are in one that has any at a look, and {min(inside):,} at least"
-    yield f"{tracks.count:,} tracks from seed {tracks.seed}, counted in {len(states.parts)} {finer}{' and lost' * states.is_lost}: {told}"
+    yield from tracks.said[:1]
+    yield f"{tracks.count:,} tracks {tracks.origin}, counted in {len(states.parts)} {finer}{' and lost' * states.is_lost}: {told}"
     told = " ".join(f"{float(it):.3f}" for it in draft.off)
     yield f"total variation between the scenario's drift and the tracks, look by look: {told}"
     last = draft.scenario.horizon
@@ -91,6 +92,7 @@ def lines(shares, drift, draft, told):
     """The lines to say: what is `told` first of all (facts), how many periods would fit, detection, what is at the edge, and warnings."""
     sc = draft.scenario
     yield from told
+    yield from (f"{drift.tracks.file}: {it}" for it in drift.tracks.said[1:])
     yield from reports(shares.given)
     yield from shares.given.ways.lines(shares.given.clock)
     most = rounding.most_periods(sc.parts)

@@ -1,4 +1,5 @@
-"""Simulated drifts of a situation: the tracks of single persons in continuous places, from which everything else is counted.
+"""Drifts of a situation: the tracks of single persons in continuous places, from which everything else is counted. They are simulated, or
+are those of another drift model's file.
 
 Places are pairs of floats, in metres east and south of the area's north-west corner. All draws come from `random.Random(seed).random()`,
 one track after the other, so the same situation has the same tracks on every machine.
@@ -23,12 +24,20 @@ TOLD = 1000
 
 @dataclasses.dataclass(frozen=True)
 class Tracks:
-    """Simulated drifts of a situation. `looks[t - 1]` has, for each track, its place at the look of period t: metres east and south of
-    the north-west corner as a pair of floats, or None where it has left the area and is lost."""
+    """Drifts of a situation. `looks[t - 1]` has, for each track, its place at the look of period t: metres east and south of
+    the north-west corner as a pair of floats, or None where it has left the area and is lost. They were simulated from `seed`, or where that
+    is None are those of the `file` of a name, of which `said` are lines to say."""
 
     count: int
-    seed: int
+    seed: int | None
     looks: tuple
+    file: str | None = None
+    said: tuple = ()
+
+    @property
+    def origin(self):
+        """Where they come from, in words."""
+        return f"from seed {self.seed}" if self.file is None else f"of {self.file}"
 
 
 class Leg(NamedTuple):
@@ -151,9 +160,18 @@ def plain_moves(steps):
 # ---- tracks
 
 
+def made(given, count=None, seed=None, tell=None):
+    """The tracks of a situation (desk.situation.Situation): those of its file where it names one, and else simulated ones."""
+    told = given.tracks.ensemble
+    if told is None:
+        return simulated(given, count, seed, tell)
+    looks, said = told.within(Water(given.grid, given.is_lost))
+    return Tracks(told.count, None, looks, told.name, said)
+
+
 def simulated(given, count=None, seed=None, tell=None):
-    """The tracks of a situation (desk.situation.Situation); count and seed as the situation says unless they are given. `tell` is told
-    from time to time how many there are."""
+    """Simulated tracks of a situation; count and seed as it says unless they are given. `tell` is told from time to time how many there
+    are."""
     count, seed = given.tracks.count if count is None else count, given.tracks.seed if seed is None else seed
     draw, water = random.Random(seed).random, Water(given.grid, given.is_lost)
     reports = [Reported(it, at, water) for at, it in enumerate(given.reports, 1)]

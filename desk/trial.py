@@ -4,17 +4,20 @@ find.
 What is found is held against what the plan says, and paths against each other. docs/PLANNING.md says how to read it.
 """
 import dataclasses
+import functools
 import hashlib
 import json
+import os
 import textwrap
 
 from desk import accepted, clock, flights, flying, keys, patterns, running, tracks
 from desk.accepted import Refused
 from desk.brief import rows_of
-from desk.situation import BadSituation, situation
+from desk.situation import BadSituation, recorded_at, situation
 
 USAGE = (
-    "usage: osp trial SITUATION.toml [PLAN ..] [--path NAME,NAME,..] [--pattern NAME] [--of SCENARIO] [--count N] [--seed N] [--json yes]"
+    "usage: osp trial SITUATION.toml [PLAN ..] [--path NAME,NAME,..] [--pattern NAME] [--of SCENARIO] [--count N] [--seed N] [--tracks FILE]"
+    " [--json yes]"
     f"\nNAME of a pattern is {', '.join(patterns.PATTERNS)}, or all"
 )
 # Exit statuses of docs/FORMATS.md.
@@ -32,7 +35,8 @@ LEAST_SHOWN = 0.00005
 @dataclasses.dataclass
 class Asked:
     """What the words ask for: the situation's file, the plans' files, paths and patterns by their words, the file of the scenario or
-    None, how many drifts and from which seed (or None each), and whether the answer is JSON."""
+    None, how many drifts and from which seed (or None each), the file of the tracks that are flown over or None, and whether the answer is
+    JSON."""
 
     situation: str
     plans: list
@@ -41,12 +45,13 @@ class Asked:
     of: str | None
     count: int | None
     seed: int | None
+    tracks: str | None
     is_json: bool
 
 
 def words_of(words):
     """What the words ask for. Raises clock.BadWords."""
-    files, found = clock.sorted_words(words, ("--of", "--count", "--seed", "--json"), ("--path", "--pattern"))
+    files, found = clock.sorted_words(words, ("--of", "--count", "--seed", "--tracks", "--json"), ("--path", "--pattern"))
     if not files or len(files) + len(found["--path"]) + len(found["--pattern"]) < 2:
         raise clock.BadWords("a situation is needed, and something to fly: a plan, --path or --pattern")
     if [*files, found.get("--of")].count("-") > 1:
@@ -57,7 +62,8 @@ def words_of(words):
     if any(it not in patterns.PATTERNS for it in named):
         raise clock.BadWords(f"behind --pattern stands {', '.join(patterns.PATTERNS)} or all")
     count, seed = (taken(key, found.get(f"--{key.name}")) for key in keys.TRACKS[:2])
-    return Asked(files[0], files[1:], found["--path"], list(dict.fromkeys(named)), found.get("--of"), count, seed, "--json" in found)
+    told = found.get("--tracks")
+    return Asked(files[0], files[1:], found["--path"], list(dict.fromkeys(named)), found.get("--of"), count, seed, told, "--json" in found)
 
 
 def taken(key, word):
@@ -102,8 +108,8 @@ class Flown:
 
 @dataclasses.dataclass
 class Trial:
-    """A trial: the name and the bytes of the situation's file, the situation, its fresh tracks, what was flown, and the datum of the
-    patterns or None."""
+    """A trial: the name and the bytes of the situation's file, the situation, its fresh tracks, what was flown, the datum of the
+    patterns or None, and whether the tracks are those of another file than the situation's."""
 
     name: str
     text: bytes
@@ -111,6 +117,7 @@ class Trial:
     tracks: tracks.Tracks
     flown: list
     datum: flights.Datum | None
+    is_other: bool
 
 
 def causes(at, own, flight, fresh):
@@ -134,25 +141,38 @@ def causes(at, own, flight, fresh):
     return [Cause(why, helps, before - after) for why, helps, before, after in steps]
 
 
+def fresh_tracks(asked, given, own):
+    """The tracks that are flown over: those of a file, or of another seed than the draft's `own`. Raises BadSituation and clock.BadWords."""
+    is_recorded = asked.tracks is not None or given.tracks.ensemble is not None
+    if is_recorded and (asked.count or asked.seed):
+        raise clock.BadWords("--count and --seed are of simulated drifts, and the tracks of a file are taken as they are")
+    if asked.tracks is not None:
+        told = recorded_at(asked.tracks, given)
+        return tracks.made(dataclasses.replace(given, tracks=dataclasses.replace(given.tracks, ensemble=told)))
+    if is_recorded:
+        return own()
+    return tracks.simulated(given, asked.count, given.tracks.seed + 1 if asked.seed is None else asked.seed)
+
+
 def tried(asked):
     """The trial that is asked for. Raises Refused, BadSituation and clock.BadWords."""
     text = accepted.read_file(asked.situation)
-    given = situation(text)
-    at = flights.field(given, text, asked.of)
+    given = situation(text, os.path.dirname(asked.situation))
+    own = functools.cache(lambda: tracks.made(given))
+    made = fresh_tracks(asked, given, own)
+    at = flights.field(given, text, asked.of, own)
     listed = [flights.of_plan(at, it, accepted.read_file(it)) for it in asked.plans]
     listed += [flights.of_path(at, f"path {it}", word) for it, word in enumerate(asked.paths, 1)]
-    seed = given.tracks.seed + 1 if asked.seed is None else asked.seed
-    made = tracks.simulated(given, asked.count or given.tracks.count, seed)
     where = flights.datum(at, made) if asked.patterns else None
     listed += [flights.of_pattern(at, it, where) for it in asked.patterns]
     fresh = flying.Drifts(given, made)
     found = [fresh.found(it.looks) for it in listed]
     flown = [Flown(flight, finds, flying.less(found[0], finds), None) for flight, finds in zip(listed, found)]
     off = [it for it in flown if it.is_off]
-    own = flying.Drifts(given, tracks.simulated(given)) if off else None
+    drafted = flying.Drifts(given, own()) if off else None
     for it in off:
-        it.causes = causes(at, own, it.flight, it.finds)
-    return Trial(flights.told(asked.situation), text, given, made, flown, where)
+        it.causes = causes(at, drafted, it.flight, it.finds)
+    return Trial(flights.told(asked.situation), text, given, made, flown, where, asked.tracks is not None)
 
 
 # ---- what is said
@@ -229,12 +249,21 @@ def about_off(it):
     return ["", *wrapped(f"{told} Where the points of difference come from:"), *rows_of([["  cause", "points", "what helps"], *rows], [True, False, True])]
 
 
+def head(trial):
+    """What was flown over."""
+    made, own = trial.tracks, trial.given.tracks
+    if made.file is None:
+        other = "which are the draft's own" if made.seed == own.seed else f"and not {own.seed}, from which draft makes its own"
+        return [f"{trial.name}: {made.count:,} simulated drifts {made.origin}, {other}. Behind ± stands the standard error."]
+    told = f"{trial.name}: {made.count:,} tracks {made.origin}"
+    if not trial.is_other:
+        told += ", which are the draft's own; --tracks FILE flies over others"
+    return [f"{told}. Behind ± stands the standard error.", *(f"{made.file}: {it}" for it in made.said[1:])]
+
+
 def text_of(trial):
     """The whole text."""
-    own = trial.given.tracks.seed
-    other = "which are the draft's own" if trial.tracks.seed == own else f"and not {own}, from which draft makes its own"
-    head = f"{trial.name}: {trial.tracks.count:,} simulated drifts from seed {trial.tracks.seed}, {other}."
-    lines = [*wrapped(f"{head} Behind ± stands the standard error."), "", *summary(trial)]
+    lines = [*(line for it in head(trial) for line in wrapped(it)), "", *summary(trial)]
     paths = [it for it in trial.flown if it.flight.name not in patterns.PATTERNS]
     for it in paths:
         lines += ["", *periods(trial, it)]
@@ -281,6 +310,8 @@ def json_of(trial):
         "count": trial.tracks.count,
         "seed": trial.tracks.seed,
         "draft_seed": trial.given.tracks.seed,
+        "file": trial.tracks.file,
+        "said": list(trial.tracks.said),
         "flown": [flown_json(it) for it in trial.flown],
         "drifts": drawn,
     }

@@ -16,6 +16,7 @@ class Water:
     def __init__(self, grid, is_lost):
         self.is_lost, self.side, self.columns = is_lost, float(grid.side), grid.columns
         self.width, self.height = float(grid.columns * grid.side), float(grid.rows * grid.side)
+        self.cells = grid.cells()
         # By square, and by squares of a ring around the area: whether it isn't land.
         self.ring = [(row, column) not in grid.land for row in range(-1, grid.rows + 1) for column in range(-1, grid.columns + 1)]
         # By square: how many metres one may go from anywhere in it along both axes, and come to no land. Nobody is on land.
@@ -45,6 +46,13 @@ class Water:
         if self.is_lost:
             return None
         return min(max(x, 0.0), self.width - INSIDE), min(max(y, 0.0), self.height - INSIDE)
+
+    def nearest(self, x, y):
+        """The place that isn't on land nearest to one in the area, a little inside of its square; of equal ones that of the first square."""
+        low, high = INSIDE, self.side - INSIDE
+        near = ((min(max(x, column * self.side + low), column * self.side + high), row * self.side) for row, column in self.cells)
+        near = ((east, min(max(y, south + low), south + high)) for east, south in near)
+        return min(near, key=lambda it: (it[0] - x) * (it[0] - x) + (it[1] - y) * (it[1] - y))
 
     def gone(self, place, east, south):
         """Where a track ends that would go straight so many metres from a place; None where it leaves the area and is lost.

@@ -84,7 +84,7 @@ helpers=(
   'writes a scenario from a situation: times, reports, currents, wind, the searcher'
   './osp draft lake.toml -o lake.scenario'
 
-  'trial SITUATION.toml [PLAN ..] [--path NAME,NAME,..] [--pattern NAME] [--of SCENARIO] [--count N] [--seed N] [--json yes]'
+  'trial SITUATION.toml [PLAN ..] [--path NAME,NAME,..] [--pattern NAME] [--of SCENARIO] [--count N] [--seed N] [--tracks FILE] [--json yes]'
   'flies paths over simulated drifts, and says what they find beside what their plans say'
   './osp trial lake.toml lake.plan --pattern all'
 

@@ -402,7 +402,7 @@ class Data(unittest.TestCase):
     def field(self, *changes):
         text = changed(LINE, (b"rows = 1", b"rows = 3"), (b"periods = 2", b"periods = 3"), *changes)
         it = situation.situation(text)
-        return flights.field(it, text, None), it
+        return flights.field(it, text, None, lambda: tracks.made(it)), it
 
     def at(self, *squares):
         return [None if it is None else (1852 * (it[1] + 0.5), 1852 * (it[0] + 0.5)) for it in squares]
