@@ -1,40 +1,33 @@
-"""The time of day at which each period begins, where the caller gives it: --from HH:MM --minutes N."""
+"""The words of helpers that read a scenario and its plan, with the times of its periods: --from HH:MM --minutes N."""
 import dataclasses
 import re
+from fractions import Fraction
 
-DAY = 24 * 60
+from desk import moments
+
+# A time of day whose hour has one digit.
+SHORT = re.compile(r"[0-9]:", re.ASCII)
 
 
 class BadWords(Exception):
     """The words of a command spell nothing that it takes. It says why."""
 
 
-@dataclasses.dataclass
-class Clock:
-    """When period 1 begins, in minutes after midnight, and how many minutes a period takes."""
-
-    begins: int
-    minutes: int
-
-    def at(self, period):
-        """When a period begins, as in 19:45; on a later day with the days behind it, as in 00:15+1."""
-        days, minute = divmod(self.begins + (period - 1) * self.minutes, DAY)
-        return f"{minute // 60:02}:{minute % 60:02}" + (f"+{days}" if days else "")
-
-
-def clock(options):
-    """The clock of the options by name, or None where there are none of them."""
+def times(options):
+    """The times of the options by name, or None where there are none of them. --from is a time of day, or a date and a time, and with a Z
+    in UTC. Raises BadWords."""
     if not options:
         return None
     if len(options) < 2:
         raise BadWords("--from and --minutes stand together, as in --from 19:30 --minutes 15")
-    begins = re.fullmatch(r"([01]?[0-9]|2[0-3]):([0-5][0-9])", options["--from"], re.ASCII)
-    minutes = re.fullmatch(r"[1-9][0-9]{0,3}", options["--minutes"], re.ASCII)
-    if not begins:
-        raise BadWords("--from is a time of day from 00:00 to 23:59, as in --from 19:30")
-    if not minutes or int(minutes[0]) > DAY:
+    word, minutes = options["--from"], re.fullmatch(r"[1-9][0-9]{0,3}", options["--minutes"], re.ASCII)
+    try:
+        begins = moments.moment("0" * bool(SHORT.match(word)) + word)
+    except ValueError:
+        raise BadWords("--from is a time from 00:00 to 23:59, as in --from 19:30 or --from 2026-07-04T19:30Z") from None
+    if not minutes or int(minutes[0]) > moments.DAY:
         raise BadWords("--minutes is a whole number from 1 to 1440, as in --minutes 15")
-    return Clock(int(begins[1]) * 60 + int(begins[2]), int(minutes[0]))
+    return moments.Times(moments.Clock(begins), Fraction(int(minutes[0])))
 
 
 def sorted_words(words, once, many=()):
@@ -61,11 +54,11 @@ def sorted_words(words, once, many=()):
 @dataclasses.dataclass
 class Words:
     """What words say: the files of a scenario and its plan, or the one that has both; the file of the scenario that it was made of, or
-    None; the clock, or None; the file of a trial, or None."""
+    None; the times of its periods, or None; the file of a trial, or None."""
 
     files: list
     of: str | None
-    times: Clock | None
+    times: moments.Times | None
     trial: str | None = None
 
 
@@ -83,4 +76,4 @@ def taken(words):
     of, trial = options.pop("--of", None), options.pop("--trial", None)
     if [*files, of, trial].count("-") > 1:
         raise BadWords("standard input can be read once, and stands for one file")
-    return Words(files, of, clock(options), trial)
+    return Words(files, of, times(options), trial)

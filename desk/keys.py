@@ -1,5 +1,6 @@
 """The keys of a situation: the tables of its TOML file, what each value should be, an example of it, and what takes it."""
 import dataclasses
+import datetime
 import difflib
 import re
 from decimal import Decimal
@@ -16,9 +17,11 @@ MOST_PLACES = 50
 SQUARE = re.compile(r"r(\d{1,3})c(\d{1,3})", re.ASCII)
 
 
-# Values as people write them: a number in quotes, perhaps with a comma; a time such as 7:30 or 19.30; what stands between two squares.
+# Values as people write them: a number in quotes, perhaps with a comma; a time such as 7:30 or 19.30; UTC as it is named; what stands between two
+# squares.
 PLAIN = re.compile(r"\s*-?\d{1,12}(?:[.,]\d{1,12})?\s*", re.ASCII)
 CLOCK = re.compile(r"\b(\d{1,2})[:.h](\d\d)\b|\b(\d\d)(\d\d)\Z", re.ASCII)
+ZONE = re.compile(r"\s*(?:UTC|GMT|[zZ]|\+00:?00)\s*\Z", re.ASCII)
 BETWEEN = re.compile(r"\s*(?:\.{1,3}|\u2026|-|\u2013|:|\bto\b)\s*")
 
 
@@ -95,7 +98,10 @@ def take_key(table, where, key):
 def likely(value):
     """What a wrong value was perhaps meant to be: without quotes or brackets, or with them, in small letters, with two dots between the
     squares of a block, with a colon and two digits in a time."""
+    if isinstance(value, datetime.datetime) and value.tzinfo:
+        yield f"{value.astimezone(datetime.timezone.utc):%Y-%m-%d %H:%M:%S}Z"
     if isinstance(value, str) and len(value) <= 40:
+        yield ZONE.sub("Z", value)
         yield from (Decimal(it) for it in [value.strip().replace(",", ".")] if PLAIN.fullmatch(it))
         yield from (meaning for word, meaning in (("true", True), ("yes", True), ("false", False), ("no", False)) if word == value.lower())
         yield CLOCK.sub(lambda it: f"{int(it[1] or it[3]):02}:{it[2] or it[4]}", value)
@@ -236,7 +242,7 @@ def places(value):
 
 
 TITLE = Key("title", "a text of one line, up to 200 characters", '"Kayaker off the point"', text)
-TIME = "a local time, or a date and a time, without a zone"
+TIME = "a time, or a date and a time, local or (with Z) in UTC"
 SEARCH = (
     Key("begins", TIME, '"19:30"', moments.moment, True),
     Key("minutes", "the minutes of a period, from 1 to 1440", "15", number(1, 1440), True),

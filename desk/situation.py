@@ -27,7 +27,7 @@ TOP = ("title", "search", "area", "report", "current", "wind", "drift", "searche
 # The tables in whose place tracks of a file stand.
 DRIFTING = ("report", "current", "wind", "drift")
 # A time such as 19:30, which TOML takes with seconds alone.
-BARE_TIME = re.compile(rb"=\s*(?:\d{4}-\d\d-\d\d[ T])?\d{1,2}:\d\d\s*(?:#|$)")
+BARE_TIME = re.compile(rb"=\s*(?:\d{4}-\d\d-\d\d[ T])?\d{1,2}:\d\dZ?\s*(?:#|$)")
 # What a line that isn't TOML may have, and how it should be.
 AT_LINE = re.compile(r"at line (\d+)")
 SLIPS = (
@@ -228,11 +228,11 @@ def situation(given, folder=""):
 
 
 def minutes_of(key, how, it, *rest):
-    """The minutes of a moment by one of the clock's ways. Raises BadSituation where it has a date and the begin has none."""
+    """The minutes of a moment by one of the clock's ways. Raises BadSituation where it has a date or a zone that the begin lacks."""
     try:
         return how(it, *rest)
-    except ValueError:
-        raise BadSituation(f'{key}: it has a date, so [search] begins should have one, as in begins = "2026-07-04 19:30"') from None
+    except moments.Unclear as why:
+        raise BadSituation(f"{key}: {why}") from None
 
 
 def past(where, key, clock, it):
@@ -240,8 +240,9 @@ def past(where, key, clock, it):
     date = (clock.begins.date or datetime.date(2026, 7, 5)) - datetime.timedelta(days=1)
     written = f'{key} = "{date} {moments.Clock(it).told(0)}"' + ("" if clock.begins.date else ", in begins too")
     told = f"it is later than the search's begin at {clock.told(0)}; where it was on the day before, write the date, as in {written}"
+    minutes = minutes_of(f"{where} {key}", clock.past, it)
     need(not clock.is_ahead(it), f"{where} {key}", f"{told}; else let the search begin later")
-    return minutes_of(f"{where} {key}", clock.past, it)
+    return minutes
 
 
 def how_many(search, clock):

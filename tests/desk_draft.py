@@ -317,7 +317,7 @@ class Times(unittest.TestCase):
         self.assertEqual(self.minutes("2026-02-28 23:30", "nearest", "2026-03-01T00:15:30"), Fraction("45.5"))
         with self.assertRaises(ValueError):
             self.minutes("23:30", "nearest", "2026-03-01 00:15")
-        for wrong in ("24:00", "19.30", "7:30", "2026-13-01 10:00", "", "19:30Z", "2026-07-04"):
+        for wrong in ("24:00", "19.30", "7:30", "2026-13-01 10:00", "", "19:30z", "19:30+01:00", "2026-07-04"):
             with self.assertRaises(ValueError, msg=wrong):
                 moments.moment(wrong)
 
@@ -325,8 +325,31 @@ class Times(unittest.TestCase):
         for begins in ("2026-07-04 12:00:00", "2026-07-04T12:00:00"):
             text = LAKE.replace('"2026-07-04 12:00"', begins)
             self.assertEqual(made(text)[0].key(), made(LAKE)[0].key())
-        with self.assertRaisesRegex(keys.BadSituation, "without a zone"):
-            made(LAKE.replace('"2026-07-04 12:00"', "2026-07-04T12:00:00Z"))
+
+    def test_times_in_utc(self):
+        """Where the begin has Z all times are UTC, with or without it; where it has none, none may have it."""
+        in_utc = made(LAKE.replace('"2026-07-04 12:00"', "2026-07-04T12:00:00Z"))
+        self.assertEqual(in_utc[0].key(), made(LAKE)[0].key())
+        self.assertIn("# 3 periods of 15 minutes from 2026-07-04 12:00Z to 2026-07-04 12:45Z; a look counts at the end of its period, the first at 2026-07-04 12:15Z", in_utc[1].decode())
+        begins = '"2026-07-04 12:00"'
+        rows = (
+            ('"2026-07-04 12:00Z"', '"11:30Z"', None),
+            ('"12:00Z"', '"11:30Z"', None),
+            ('"12:00Z"', '"11:30"', None),
+            (begins, '"11:30Z"', r"\[\[report\]\] 1 time: it is UTC, so \[search\] begins should be, too, as in begins = "),
+            (begins, '"2026-07-04 11:30Z"', r"\[\[report\]\] 1 time: it is UTC, so "),
+            ('"12:00Z"', '"2026-07-04 11:30Z"', r'it has a date, so .* should have one, as in begins = "2026-07-04 19:30Z"'),
+            ('"2026-07-04 12:00 UTC"', '"11:30"', 'write begins = "2026-07-04 12:00Z"$'),
+            ("2026-07-04T12:00:00+02:00", '"11:30"', r"local or \(with Z\) in UTC, .* write begins = \"2026-07-04 10:00:00Z\"$"),
+        )
+        for of_search, of_report, refused in rows:
+            text = LAKE.replace(begins, of_search).replace('time = "2026-07-04 12:15"', f"time = {of_report}")
+            with self.subTest(begins=of_search, time=of_report):
+                if refused is None:
+                    self.assertEqual(made(text)[0].key(), made(LAKE)[0].key())
+                else:
+                    with self.assertRaisesRegex(keys.BadSituation, refused):
+                        made(text)
 
     def test_periods_until_a_time(self):
         for until, periods in (("12:45", 3), ("12:59", 3), ("13:00", 4)):

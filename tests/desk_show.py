@@ -17,7 +17,7 @@ import finer  # noqa: E402
 from made import with_plan  # noqa: E402
 from pages import EXAMPLES, PLACES, Refusing, Room, example, read, tree, walks  # noqa: E402
 
-from desk import accepted, brief, clock, forms, layout, masses, page, picture, program, reports, show, squares, tables  # noqa: E402
+from desk import accepted, brief, clock, forms, layout, masses, moments, page, picture, program, reports, show, squares, tables  # noqa: E402
 
 NAMES = sorted(it[:-7] for it in os.listdir(EXAMPLES) if it.endswith(".report"))
 getcontext().prec = 120
@@ -193,6 +193,10 @@ class Squares(unittest.TestCase):
         self.assertEqual(str(raised.exception), "nothing says where the square quay lies")
 
 
+# From one o'clock on, 5 minutes each.
+FROM_ONE = moments.Times(moments.Clock(moments.Moment(Fraction(60))), Fraction(5))
+
+
 class Clocks(unittest.TestCase):
     def test_times(self):
         given = clock.taken(["a", "--minutes", "45", "b", "--from", "9:30"])
@@ -204,7 +208,16 @@ class Clocks(unittest.TestCase):
         self.assertEqual(clock.taken(["a"]), clock.Words(["a"], None, None))
         self.assertEqual(clock.taken(["--of", "b", "a"]), clock.Words(["a"], "b", None))
         self.assertEqual(clock.taken(["-", "--of", "--of"]), clock.Words(["-"], "--of", None))
-        self.assertEqual(clock.taken(["a", "-", "--of", "b", "--from", "1:00", "--minutes", "5"]), clock.Words(["a", "-"], "b", clock.Clock(60, 5)))
+        self.assertEqual(clock.taken(["a", "-", "--of", "b", "--from", "1:00", "--minutes", "5"]), clock.Words(["a", "-"], "b", FROM_ONE))
+
+    def test_dates_and_utc(self):
+        given = clock.taken(["a", "--from", "2026-12-31T23:50Z", "--minutes", "15"]).times
+        self.assertEqual([given.at(it) for it in (1, 2)], ["23:50", "00:05+1"])
+        self.assertEqual(str(given.utc(2)), "2027-01-01 00:05:00+00:00")
+        self.assertEqual(given.about(), ["Times are UTC, from 2026-12-31 on."])
+        for word, about in (("19:30", []), ("19:30Z", ["Times are UTC."]), ("2026-07-04 19:30", ["Times are local, from 2026-07-04 on."])):
+            given = clock.taken(["a", "--from", word, "--minutes", "15"]).times
+            self.assertEqual((given.about(), given.utc(1)), (about, None))
 
     def test_bad_words(self):
         times = "24:00 --minutes 1", "1:60 --minutes 1", "1:00 --minutes 0", "1:00 --minutes 1441", "1:00 --minutes 1.5", "1:00 --from 1:00", "١:00 --minutes 5"
