@@ -5,7 +5,7 @@ The scenario goes to standard output; what was rounded, and what to look at, to 
 import os
 import sys
 
-from desk import telling, tracks, writing
+from desk import packages, telling, tracks, writing
 from desk.chain import drifts
 from desk.rounded import rounded
 from desk.shares import Shares
@@ -14,7 +14,7 @@ from desk.situation import LONGEST, BadSituation, situation
 USAGE = "usage: osp draft SITUATION.toml > SCENARIO"
 # The longest text of a scenario, in bytes, and the exit statuses (docs/FORMATS.md).
 MOST_SCENARIO = 1_048_576
-WRONG_FILE, WRONG_WORDS, UNREADABLE, UNWRITABLE = 1, 2, 5, 6
+WRONG_FILE, WRONG_WORDS, UNREADABLE, UNWRITABLE, FAILED = 1, 2, 5, 6, 70
 
 
 def drafted(text, tell=None, folder=""):
@@ -75,6 +75,9 @@ def main(words):
     except BadSituation as wrong:
         say(wrong)
         return WRONG_FILE
+    except packages.Lacking as lacking:
+        say(lacking)
+        return FAILED
     try:
         sys.stdout.buffer.write(scenario)
         sys.stdout.buffer.flush()

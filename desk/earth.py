@@ -15,6 +15,7 @@ says it exactly.
 import dataclasses
 import math
 import re
+import typing
 from fractions import Fraction
 
 from desk import packages
@@ -33,6 +34,18 @@ THOUSANDTHS = 60_000
 NEEDS = "places on the earth need the package"
 
 
+# A comment of a scenario that says where a place of its area is: its latitude, its longitude, its metres east and south.
+NUMBER = r"[ \t]+(-?[0-9]{1,9}(?:\.[0-9]{1,12})?)"
+LINE = re.compile(f"#[ \t]*earth{NUMBER}{NUMBER}(?:{NUMBER}{NUMBER})?".encode("ascii"))
+
+
+class Place(typing.NamedTuple):
+    """A place on the earth, in degrees."""
+
+    latitude: Fraction
+    longitude: Fraction
+
+
 def degrees(groups):
     """The degrees of the groups of an ANGLE, exactly. Raises ValueError where minutes or seconds are 60 or more."""
     whole, part, minutes, of_minute, seconds = (Fraction(it or 0) for it in groups)
@@ -41,16 +54,21 @@ def degrees(groups):
     return whole + part + (minutes + of_minute) / 60 + seconds / 3600
 
 
+def is_place(latitude, longitude):
+    """Whether two numbers can be a latitude and a longitude: from -90 to 90, and from -180 to 180."""
+    return -90 <= latitude <= 90 and -180 <= longitude <= 180
+
+
 def checked(latitude, longitude):
-    """A place whose latitude is from -90 to 90 and its longitude from -180 to 180. Raises ValueError."""
-    if not (-90 <= latitude <= 90 and -180 <= longitude <= 180):
+    """The Place of a latitude and a longitude. Raises ValueError where they can't be such."""
+    if not is_place(latitude, longitude):
         raise ValueError("no latitude and longitude")
-    return latitude, longitude
+    return Place(latitude, longitude)
 
 
 def spelled(text):
-    """The latitude and the longitude of a text such as 57°43.5'N 10°35.0'E, 57-43-30N 010-35-00E or 57.725, 10.583, as Fractions of
-    degrees. Raises ValueError at another text."""
+    """The Place of a text such as 57°43.5'N 10°35.0'E, 57-43-30N 010-35-00E or 57.725, 10.583, exactly. Raises ValueError at another
+    text."""
     plain = " ".join(text.translate(SIGNS).replace("''", '"').upper().split())
     if found := PLAIN.fullmatch(plain):
         return checked(*map(Fraction, found.groups()))
@@ -117,3 +135,21 @@ def way(one, other):
     """
     found = geodesics().Inverse(*map(float, one), *map(float, other))
     return found["azi1"] % 360, found["s12"]
+
+
+def short(value, digits):
+    """A number with up to so many digits behind the point."""
+    return f"{round(value, digits) + 0.0:.{digits}f}".rstrip("0").rstrip(".")
+
+
+def line(frame):
+    """The comment of a scenario, without its number sign, that says where its area lies on the earth: degrees to a tenth of a
+    millimetre, metres to a millimetre."""
+    return " ".join(["earth", *(short(it, 9) for it in (frame.latitude, frame.longitude)), *(short(it, 3) for it in (frame.east, frame.south))])
+
+
+def frame_of(text):
+    """The Frame that the comments of a scenario's text, as bytes, say; None where there is none. The last such line counts."""
+    found = [it for it in (LINE.fullmatch(line.strip(b" \t\r")) for line in text.split(b"\n")) if it]
+    places = [Frame(*(float(each or 0) for each in it.groups())) for it in found]
+    return next((it for it in reversed(places) if is_place(it.latitude, it.longitude)), None)

@@ -31,12 +31,14 @@ def displacement(length, towards):
 
 @dataclasses.dataclass(frozen=True)
 class Grid:
-    """Squares of a side in metres, in rows and columns. Those of land, as pairs (row, column), are no cells."""
+    """Squares of a side in metres, in rows and columns. Those of land, as pairs (row, column), are no cells. `frame` says where they lie
+    on the earth (desk.earth.Frame), or is None."""
 
     rows: int
     columns: int
     side: Fraction
     land: frozenset = frozenset()
+    frame: object = None
 
     def cells(self):
         """The squares that aren't land, row by row."""
@@ -69,7 +71,7 @@ class Grid:
     def finer(self, count):
         """The same area in squares of which `count` by `count` make one of these."""
         land = frozenset((row * count + it // count, column * count + it % count) for row, column in self.land for it in range(count * count))
-        return Grid(self.rows * count, self.columns * count, self.side / count, land)
+        return Grid(self.rows * count, self.columns * count, self.side / count, land, self.frame)
 
     def neighbours(self, square, ways):
         """The cells beside a square, 4 by its sides or 8 by its sides and corners. None is reached between two corners of land."""

@@ -6,7 +6,7 @@ import re
 from decimal import Decimal
 from fractions import Fraction
 
-from desk import moments
+from desk import earth, moments
 from desk.forms import MOST_CELLS, MOST_PART
 from desk.rounding import MOST_PERIODS
 
@@ -223,12 +223,23 @@ def squares(value):
     return frozenset(found)
 
 
-def place(value):
-    """A pair of metres east and south of the north-west corner."""
+def pair(value, *ranges):
+    """Two numbers of a list, each in its range."""
     if not isinstance(value, list) or len(value) != 2:
         raise ValueError("no pair")
-    take = number(-1_000_000, 1_000_000)
-    return take(value[0]), take(value[1])
+    return tuple(number(*ends)(it) for it, ends in zip(value, ranges))
+
+
+def place(value):
+    """A pair of metres east and south of the north-west corner, or of numbers that an area on the earth takes as degrees; or the
+    earth.Place of a text."""
+    metres = -1_000_000, 1_000_000
+    return earth.spelled(value) if isinstance(value, str) else pair(value, metres, metres)
+
+
+def on_earth(value):
+    """The earth.Place of a pair of a latitude and a longitude in degrees, or of a text."""
+    return earth.spelled(value) if isinstance(value, str) else earth.Place(*pair(value, (-90, 90), (-180, 180)))
 
 
 def places(value):
@@ -249,6 +260,7 @@ SEARCH = (
     Key("periods", "a whole number from 1 to 32", "8", whole(1, MOST_PERIODS)),
     Key("until", TIME, '"21:30"', moments.moment),
 )
+ON_EARTH = "a latitude and a longitude: a pair of degrees, north and east positive, or a text"
 LAND = '["r0c0", "r5c4..r6c6"]'
 AREA = (
     Key("cell_size", "the side of a cell in metres, from 1 to 100000", "500", number(1, 100_000), True),
@@ -256,12 +268,14 @@ AREA = (
     Key("columns", "a whole number from 1 to 200", "7", whole(1, MOST_CELLS), True),
     Key("land", "a list of cells, or of blocks of cells from the north-west one to the south-east one", LAND, squares),
     Key("edge", '"lost" or "stays"', '"lost"', one_of("stays", "lost")),
+    Key("north_west", ON_EARTH, "[57.725, 10.58]", on_earth),
+    Key("centre", ON_EARTH, '"57-43.5N 10-35.0E"', on_earth),
 )
-PLACE = "a pair of metres east and south of the area's north-west corner"
+PLACE = "a pair of metres east and south of the area's north-west corner, or in an area on the earth a latitude and a longitude"
 REPORT = (
     Key("cell", "the name of a cell", '"r2c3"', square),
     Key("at", PLACE, "[1750, 1250]", place),
-    Key("track", "a list of 2 to 50 such pairs, one after the other", "[[400, 3100], [2600, 1200]]", places),
+    Key("track", "a list of 2 to 50 such places, one after the other", "[[400, 3100], [2600, 1200]]", places),
     Key("radius", "metres from 0 to 100000", "400", number(0, 100_000)),
     Key("probable_error", "metres above 0 and up to 100000", "300", number(0, 100_000, True)),
     Key("weight", "a number above 0 and up to 1000000", "2", number(0, 1_000_000, True)),

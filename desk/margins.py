@@ -18,7 +18,7 @@ def without_edge(given):
     """The same situation, with water around its area, and the north-west corner of that."""
     grid, away = given.grid, MARGIN * given.grid.side
     land = frozenset((row + MARGIN, column + MARGIN) for row, column in grid.land)
-    wide = dataclasses.replace(grid, rows=grid.rows + 2 * MARGIN, columns=grid.columns + 2 * MARGIN, land=land)
+    wide = dataclasses.replace(grid, rows=grid.rows + 2 * MARGIN, columns=grid.columns + 2 * MARGIN, land=land, frame=None)
 
     def moved(place):
         return place[0] + away, place[1] + away

@@ -8,7 +8,7 @@ import tomllib
 from decimal import Decimal, InvalidOperation
 from fractions import Fraction
 
-from desk import draws, geometry, keys, moments, recorded, ways
+from desk import draws, geometry, keys, moments, placing, recorded, ways
 from desk.ensemble import Ensemble, at_looks
 from desk.forms import MOST_CELLS, MOST_MOVES
 from desk.keys import BadSituation, shown, take_key, take_table
@@ -270,7 +270,7 @@ def area(table):
     count = squares - len(land)
     told = f"rows times columns without land should be 1 to {MOST_CELLS} cells, {AS_IN}, and is {count}"
     need(1 <= count <= MOST_CELLS, "[area] rows", told)
-    return grid, is_lost
+    return dataclasses.replace(grid, frame=placing.frame(it, grid)), is_lost
 
 
 def reports(tables, clock, grid, minutes):
@@ -282,7 +282,7 @@ def reports(tables, clock, grid, minutes):
 
 def report(table, where, clock, grid, minutes):
     """A report. Raises BadSituation where it is of another time than it may be, or not in a cell."""
-    it = take_table(table, where, keys.REPORT)
+    it = placing.placed(take_table(table, where, keys.REPORT), where, grid)
     named = [key for key in ("cell", "at", "track") if it[key] is not None]
     need(len(named) == 1, f"{where} cell", 'one of it, at and track should stand, as in cell = "r2c3" or at = [1750, 1250]')
     is_one = it["radius"] is None or it["probable_error"] is None
@@ -371,7 +371,7 @@ def known(named, clock, earliest):
 
 def searcher(table, clock, grid, minutes):
     """The searcher. Raises BadSituation where its place, its ways or its times contradict the area and the periods."""
-    it = take_table(table, "[searcher]", keys.SEARCHER)
+    it = placing.placed(take_table(table, "[searcher]", keys.SEARCHER), "[searcher]", grid)
     swath = {} if it["swath"] is None else take_table(it["swath"], "[searcher.swath]", keys.SWATH)
     check_places(it, grid)
     is_within = it["search_minutes"] is None or it["search_minutes"] <= minutes

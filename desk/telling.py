@@ -1,7 +1,7 @@
 """What a draft says of itself: the comments of its scenario, and the lines on standard error."""
 import math
 
-from desk import detection, margins, moments, rounding, twofold
+from desk import detection, margins, moments, placing, rounding, twofold
 from desk.chain import deviations
 from desk.geometry import decimal
 from desk.rounded import name_of
@@ -36,6 +36,7 @@ def comments(text, shares, drift, told):
     for line in text.splitlines():
         yield b"| " + line
     yield from told
+    yield from placing.comments(shares.grid)
     yield naming(drift.states)
     for name, (east, south) in places(shares, drift.states).items():
         yield b"at %s %s %s" % (name, decimal(east).encode("ascii"), decimal(south).encode("ascii"))
@@ -93,6 +94,7 @@ def lines(shares, drift, draft, told):
     sc = draft.scenario
     yield from told
     yield from (f"{drift.tracks.file}: {it}" for it in drift.tracks.said[1:])
+    yield from placing.notes(shares.grid)
     yield from reports(shares.given)
     yield from shares.given.ways.lines(shares.given.clock)
     most = rounding.most_periods(sc.parts)

@@ -10,7 +10,7 @@ import json
 import os
 import textwrap
 
-from desk import accepted, clock, flights, flying, keys, patterns, running, tracks
+from desk import accepted, clock, flights, flying, keys, packages, patterns, running, tracks
 from desk.accepted import Refused
 from desk.brief import rows_of
 from desk.situation import BadSituation, recorded_at, situation
@@ -332,4 +332,7 @@ def main(words):
     except Refused as why:
         running.say(f"osp trial: {why.said}")
         return why.status
+    except packages.Lacking as lacking:
+        running.say(f"osp trial: {lacking}")
+        return accepted.FAILED
     return running.write(json_of(trial) if asked.is_json else text_of(trial))
