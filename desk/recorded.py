@@ -1,27 +1,36 @@
-"""Reads files of tracks of another drift model: CSV with the columns id, time and x, y or lat, lon. docs/PLANNING.md has what they hold."""
+"""Reads files of tracks of another drift model: CSV with the columns id, time and x, y or lat, lon, and netCDF as OpenDrift writes it.
+docs/PLANNING.md has what they hold."""
 import array
 import csv
 import dataclasses
 import datetime
+import functools
 import hashlib
 import math
 import os
 import re
 from fractions import Fraction
 
+from desk import moments, packages
 from desk.ensemble import Course, wrong
-from desk.keys import BadSituation, shown
+from desk.keys import shown
 
 # The most tracks of a file, and the most places of all of them.
 MOST_TRACKS, MOST_PLACES = 200_000, 10_000_000
 # The columns of a CSV file: those of places in metres or in degrees, and the least and the greatest number of each.
 NEEDED = ("id", "time")
-PAIRS = {("x", "y"): ((-1e7, 1e7), (-1e7, 1e7)), ("lon", "lat"): ((-540.0, 540.0), (-90.0, 90.0))}
+METRES, DEGREES = ("x", "y"), ("lon", "lat")
+LIMITS = {"x": (-1e7, 1e7), "y": (-1e7, 1e7), "lon": (-720.0, 720.0), "lat": (-90.0, 90.0)}
 COLUMNS = "its first line should name the columns id, time and x, y in metres of the area, or id, time, lat, lon"
+VARIABLES = "it should have the dimensions trajectory and time, the variables lon and lat over both, and time, as OpenDrift writes them"
 TIME = re.compile(r"\d{4}-\d\d-\d\d[T ]\d\d:\d\d(?::\d\d(?:[.,]\d{1,9})?)?(?:Z|[+-]\d\d(?::?\d\d)?)?", re.ASCII)
-MICROSECOND = datetime.timedelta(microseconds=1)
+WRITTEN = "time should be in ISO 8601, as in 2026-07-04T19:30:00"
 # What stands for no number.
 NO_NUMBERS = ("", "nan", "--")
+# Of how many tracks a netCDF file is read at once.
+AT_ONCE = 1000
+# How many nodes of a lattice are in a degree, and from which latitude on there is none.
+IN_DEGREE, POLAR = 100, 89.9
 
 
 @dataclasses.dataclass(frozen=True)
@@ -37,40 +46,108 @@ class Recorded:
     digest: str
 
 
-def recorded(path, clock):
-    """What the file of a path has, in minutes of a clock. Raises BadSituation."""
+def recorded(path, clock, frame=None):
+    """What the file of a path has, in minutes of a clock; degrees become metres by an earth.Frame. Raises BadSituation."""
     name = os.path.basename(path)
     try:
         with open(path, "rb") as file:
             digest = hashlib.file_digest(file, "sha256").hexdigest()
+        if name.endswith(".nc"):
+            return of_netcdf(name, path, clock, frame, digest)
         with open(path, encoding="utf-8-sig", newline="") as file:
-            return Table(name, csv.reader(file), clock).recorded(digest)
+            return Table(name, csv.reader(file), clock, frame).recorded(digest)
     except OSError as why:
         raise wrong(name, f"it can't be read: {why.strerror}") from None
     except (UnicodeDecodeError, csv.Error):
         raise wrong(name, "it isn't a CSV file in UTF-8") from None
+    except packages.Lacking as lacking:
+        raise wrong(name, str(lacking)) from None
 
 
-def in_metres(x, y):
-    """Coordinates that are metres already."""
-    return x, y
+# ---- places and times
+
+
+class Lattice:
+    """Metres of an area for many places in degrees: those of an earth.Frame at the nodes of a lattice of a hundredth of a degree, and
+    linear along both axes between them. What is second in the coordinates is left out: by that it is off by 2 centimetres at most."""
+
+    def __init__(self, frame):
+        self.frame = frame
+        self.node = functools.cache(lambda row, column: frame.to_area(row / IN_DEGREE, column / IN_DEGREE))
+
+    def metres(self, longitude, latitude):
+        """The metres east and south of a place."""
+        if abs(latitude) > POLAR:
+            return self.frame.to_area(latitude, longitude)
+        row, column = math.floor(latitude * IN_DEGREE), math.floor(longitude * IN_DEGREE)
+        north, east = latitude * IN_DEGREE - row, longitude * IN_DEGREE - column
+        nodes = (self.node(row, column), self.node(row, column + 1), self.node(row + 1, column), self.node(row + 1, column + 1))
+        shares = ((1 - north) * (1 - east), (1 - north) * east, north * (1 - east), north * east)
+        return tuple(math.fsum(share * it[axis] for share, it in zip(shares, nodes)) for axis in (0, 1))
+
+
+def in_metres(name, frame, pair):
+    """What makes metres of the two coordinates of a file's places. Raises BadSituation where these are degrees and there is no frame."""
+    if pair == METRES:
+        return lambda x, y: (x, y)
+    if frame is None:
+        why = "its places are latitudes and longitudes, and the area has none; give it one, as in [area] north_west = [57.725, 10.583]"
+        raise wrong(name, why)
+    return Lattice(frame).metres
+
+
+def unwrapped(longitudes):
+    """The longitudes of a track, each by whole turns as near to the one before it as can be."""
+    found = []
+    for it in longitudes:
+        found.append(it - 360 * round((it - found[-1]) / 360) if found else it)
+    return found
+
+
+def course(pair, minutes, easts, souths, status=""):
+    """The course of a track with these coordinates."""
+    return Course(minutes, unwrapped(easts) if pair == DEGREES else easts, souths, status)
+
+
+def minute_of(name, clock, moment):
+    """The minutes from the begin of the search to a moment (datetime.datetime, in UTC or local). Raises BadSituation where the begin lacks a
+    date or is local, and the moment isn't."""
+    is_utc = moment.tzinfo is not None
+    if is_utc:
+        moment = moment.astimezone(datetime.timezone.utc).replace(tzinfo=None)
+    of_day = moment - datetime.datetime.combine(moment.date(), datetime.time())
+    minute = Fraction(of_day // datetime.timedelta(microseconds=1), 60_000_000)
+    try:
+        return float(clock.dated(moments.Moment(minute, moment.date(), is_utc)))
+    except moments.Unclear as why:
+        raise wrong(name, f"time: {why}") from None
+
+
+def many(name, tracks, places):
+    """Raises BadSituation where there are too many tracks or places."""
+    if tracks > MOST_TRACKS or places > MOST_PLACES:
+        raise wrong(name, f"it has too many tracks or places: {MOST_TRACKS:,} tracks and {MOST_PLACES:,} places are the most")
+
+
+# ---- CSV
 
 
 class Table:
     """The rows of a CSV file of a name, in minutes of a clock."""
 
-    def __init__(self, name, rows, clock):
-        self.name, self.rows, self.clock = name, rows, clock
+    def __init__(self, name, rows, clock, frame):
+        self.name, self.rows, self.clock, self.frame = name, rows, clock, frame
         self.tracks, self.times, self.count = {}, {}, 0
         names = [it.strip().lower() for it in next(rows, [])]
-        pairs = [pair for pair in PAIRS if all(names.count(it) == 1 for it in (*NEEDED, *pair))]
+        pairs = [pair for pair in (METRES, DEGREES) if all(names.count(it) == 1 for it in (*NEEDED, *pair))]
         if len(pairs) != 1:
             raise wrong(name, COLUMNS)
-        self.pair, self.limits = pairs[0], PAIRS[pairs[0]]
+        self.pair = pairs[0]
         self.at = [names.index(it) for it in (*NEEDED, *self.pair)]
 
     def recorded(self, digest):
         """What the rows have."""
+        metres = in_metres(self.name, self.frame, self.pair)
         for row in self.rows:
             if row:
                 self.take(row)
@@ -78,7 +155,7 @@ class Table:
             raise wrong(self.name, "it has no track")
         courses = [self.course(name, *it) for name, it in self.tracks.items() if it[0]]
         times = self.times.values()
-        return Recorded(courses, len(self.tracks) - len(courses), min(times), max(times), in_metres, digest)
+        return Recorded(courses, len(self.tracks) - len(courses), min(times), max(times), metres, digest)
 
     def fault(self, why):
         return wrong(self.name, f"line {self.rows.line_num}: {why}")
@@ -93,31 +170,31 @@ class Table:
         if any(it.lower() in NO_NUMBERS for it in pair):
             return
         self.count += 1
-        if self.count > MOST_PLACES or len(self.tracks) > MOST_TRACKS:
-            raise wrong(self.name, f"it has too many tracks or places: {MOST_TRACKS:,} tracks and {MOST_PLACES:,} places are the most")
-        for to, value in zip(track, (minute, *map(self.number, self.pair, pair, self.limits))):
+        many(self.name, len(self.tracks), self.count)
+        for to, value in zip(track, (minute, *map(self.number, self.pair, pair))):
             to.append(value)
 
     def minute(self, text):
         """The minutes of a time."""
         if text not in self.times:
-            if not TIME.fullmatch(text):
-                raise self.fault(f"time should be in ISO 8601, as in 2026-07-04T19:30:00, and is {shown(text)}")
             try:
-                moment = datetime.datetime.fromisoformat(text)
+                moment = datetime.datetime.fromisoformat(text) if TIME.fullmatch(text) else None
             except ValueError:
-                raise self.fault(f"time should be in ISO 8601, as in 2026-07-04T19:30:00, and is {shown(text)}") from None
-            self.times[text] = minute_of(self.clock, moment)
+                moment = None
+            if moment is None:
+                raise self.fault(f"{WRITTEN}, and is {shown(text)}")
+            self.times[text] = minute_of(self.name, self.clock, moment)
         return self.times[text]
 
-    def number(self, column, text, limits):
+    def number(self, column, text):
         """The number of a column."""
         try:
             value = float(text)
         except ValueError:
             value = math.nan
-        if not limits[0] <= value <= limits[1]:
-            raise self.fault(f"{column} should be a number from {limits[0]:.0f} to {limits[1]:.0f}, and is {shown(text)}")
+        least, most = LIMITS[column]
+        if not least <= value <= most:
+            raise self.fault(f"{column} should be a number from {least:.0f} to {most:.0f}, and is {shown(text)}")
         return value
 
     def course(self, name, minutes, easts, souths):
@@ -127,14 +204,101 @@ class Table:
         twice = next((one for one, other in zip(times, times[1:]) if one == other), None)
         if twice is not None:
             raise wrong(self.name, f"track {shown(name)} has two places at {self.clock.told(twice)}")
-        return Course(times, [easts[it] for it in order], [souths[it] for it in order])
+        return course(self.pair, times, [easts[it] for it in order], [souths[it] for it in order])
 
 
-def minute_of(clock, moment):
-    """The minutes from the begin of the search to a moment (datetime.datetime). Raises BadSituation where the begin has no date."""
-    if clock.begins.date is None:
-        raise BadSituation('[search] begins: tracks of a file have dates, so it should have one, as in begins = "2026-07-04 19:30"')
-    if moment.tzinfo:
-        raise BadSituation("[search] begins: the times of the file of tracks have a zone, and this has none")
-    midnight = datetime.datetime.combine(clock.begins.date, datetime.time())
-    return float(Fraction((moment - midnight) // MICROSECOND, 60_000_000) - clock.begins.minute)
+# ---- netCDF
+
+
+def of_netcdf(name, path, clock, frame, digest):
+    """What a netCDF file of a name and a checksum has. Raises BadSituation and packages.Lacking."""
+    netcdf = packages.module("netCDF4", "python3-netcdf4", "a netCDF file of tracks needs the package")
+    metres = in_metres(name, frame, DEGREES)
+    try:
+        with netcdf.Dataset(os.path.abspath(path)) as data:
+            file = Variables(name, data, minutes_of(name, netcdf, data, clock))
+            courses, empty = file.courses()
+    except (OSError, RuntimeError):
+        # (So it says that a file is none, or that it is cut.)
+        raise wrong(name, "it isn't a whole netCDF file") from None
+    return Recorded(courses, empty, file.minutes[0], file.minutes[-1], metres, digest)
+
+
+def minutes_of(name, netcdf, data, clock):
+    """The times of a netCDF file in minutes of a clock. By the conventions for such files (CF) they are UTC."""
+    time = data.variables.get("time")
+    if time is None or time.dimensions != ("time",) or not time.size:
+        raise wrong(name, VARIABLES)
+    try:
+        calendar = getattr(time, "calendar", "standard")
+        found = netcdf.num2date(time[:].tolist(), time.units, calendar, only_use_cftime_datetimes=False, only_use_python_datetimes=True)
+    except (AttributeError, TypeError, ValueError, OverflowError):
+        raise wrong(name, "time should be in units such as seconds since 1970-01-01 00:00:00, without a gap") from None
+    minutes = [minute_of(name, clock, it.replace(tzinfo=datetime.timezone.utc)) for it in found]
+    if any(one >= other for one, other in zip(minutes, minutes[1:])):
+        raise wrong(name, "time should ascend")
+    return minutes
+
+
+class Variables:
+    """The variables of a netCDF file, at times in minutes."""
+
+    def __init__(self, name, data, minutes):
+        self.name, self.minutes = name, minutes
+        self.places = [self.over_both(data, it) for it in DEGREES]
+        self.status = data.variables.get("status") and self.over_both(data, "status")
+        self.count = data.dimensions["trajectory"].size
+        many(name, self.count, self.count * len(minutes))
+        self.meanings = meanings(self.status)
+
+    def over_both(self, data, name):
+        """The variable of a name, which is over trajectories and times."""
+        found = data.variables.get(name)
+        if found is None or sorted(found.dimensions) != ["time", "trajectory"]:
+            raise wrong(self.name, VARIABLES)
+        return found
+
+    @staticmethod
+    def rows(variable, begin):
+        """The values of some tracks from a number on, by track and time; None where one is masked."""
+        ends = begin + AT_ONCE
+        found = variable[begin:ends] if variable.dimensions[0] == "trajectory" else variable[:, begin:ends].T
+        return found.tolist()
+
+    def courses(self):
+        """The courses of all tracks that have a place, and how many have none."""
+        found, empty = [], 0
+        for begin in range(0, self.count, AT_ONCE):
+            lons, lats = (self.rows(it, begin) for it in self.places)
+            states = self.rows(self.status, begin) if self.status is not None else [[None] * len(self.minutes)] * len(lons)
+            for track, rows in enumerate(zip(lons, lats, states), begin):
+                kept = [it for it in zip(self.minutes, *rows) if is_number(it[1]) and is_number(it[2])]
+                self.check(track, kept)
+                empty += not kept
+                if kept:
+                    minutes, easts, norths, states_of = map(list, zip(*kept))
+                    found.append(course(DEGREES, minutes, easts, norths, self.meanings.get(states_of[-1], "")))
+        return found, empty
+
+    def check(self, track, kept):
+        """Raises BadSituation where a place of a track isn't one on the earth."""
+        for at, name in enumerate(DEGREES, 1):
+            least, most = LIMITS[name]
+            other = next((it[at] for it in kept if not least <= it[at] <= most), None)
+            if other is not None:
+                why = f"{name} should be a number from {least:.0f} to {most:.0f}, and is {shown(other)}"
+                raise wrong(self.name, f"trajectory {track} (the first is 0): {why}")
+
+
+def is_number(value):
+    """Whether a value of a variable is there: neither masked nor not a number."""
+    return value is not None and value == value
+
+
+def meanings(status):
+    """What the numbers of the variable status mean, by its flag_values and flag_meanings; nothing where these don't fit each other."""
+    words = str(getattr(status, "flag_meanings", "")).split()
+    values = getattr(status, "flag_values", range(len(words)))
+    values = values.tolist() if hasattr(values, "tolist") else values
+    values = [values] if isinstance(values, int) else list(values)
+    return dict(zip(values, words)) if len(values) == len(words) else {}

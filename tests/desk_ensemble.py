@@ -179,7 +179,7 @@ class Refused(File):
             ("[tracks]", "[tracks]\ncount = 2000", "[tracks] count: it shouldn't stand with file"),
             ("ensemble.csv", "ensemble.txt", "[tracks] file: it should be the name of a file of tracks that ends in .csv or .nc"),
             ("ensemble.csv", "other.csv", "[tracks] file: other.csv: it can't be read: No such file or directory"),
-            ('"2026-07-04 12:00"', '"12:00"', "[search] begins: tracks of a file have dates, so it should have one"),
+            ('"2026-07-04 12:00"', '"12:00"', "[tracks] file: ensemble.csv: time: it has a date, so [search] begins should have one"),
             ('file = "ensemble.csv"', "", "[[report]] is lacking"),
         ):
             with self.subTest(new):

@@ -1,0 +1,196 @@
+"""Tests of files of tracks whose places are degrees: netCDF in the shape that OpenDrift documents, and CSV. Places and times are worked by
+hand, or by a second computation."""
+import csv
+import os
+import random
+import sys
+import unittest
+
+sys.dont_write_bytecode = True
+sys.path.insert(0, os.path.dirname(os.path.realpath(__file__)))
+
+import opendrift  # noqa: E402
+from opendrift import epoch  # noqa: E402
+from packaged import needing, on_earth, without  # noqa: E402
+from pages import Room  # noqa: E402
+
+from desk import earth, moments, recorded  # noqa: E402
+from desk.ensemble import at_looks  # noqa: E402
+from desk.keys import BadSituation  # noqa: E402
+
+# The search begins at 12:00 UTC; looks are at 12:15, 12:30 and 12:45.
+CLOCK = moments.Clock(moments.moment("2026-07-04 12:00Z"))
+LOOKS = [15.0, 30.0, 45.0]
+TIMES = [epoch(f"2026-07-04T{it}") for it in ("12:00", "12:20", "12:40", "13:00")]
+with_netcdf = needing("netCDF4", "python3-netcdf4")
+
+
+class Plane:
+    """A frame in which a thousandth of a degree is 100 m along each axis, from 10 east and 57 north on."""
+
+    @staticmethod
+    def to_area(latitude, longitude):
+        return ((longitude - 10 + 180) % 360 - 180) * 100_000, (57 - latitude) * 100_000
+
+
+def degrees(x, y, turns=0):
+    """The longitude and the latitude of a place of that frame."""
+    return 10 + x / 100_000 + 360 * turns, 57 - y / 100_000
+
+
+class File(Room):
+    def ensemble(self, name, clock=CLOCK, frame=Plane):
+        path = os.path.join(self.room, name)
+        return at_looks(name, recorded.recorded(path, clock, frame), clock, LOOKS)
+
+    def netcdf(self, tracks, times=None, **more):
+        """The ensemble of a file with these tracks: places in metres with a status, or None where it is masked."""
+        made = [[it and (*degrees(*it[:2]), it[2]) for it in track] for track in tracks]
+        opendrift.write(os.path.join(self.room, "ensemble.nc"), TIMES if times is None else times, made, **more)
+        return self.ensemble("ensemble.nc")
+
+    def refused(self, make, *words, **more):
+        with self.assertRaises(BadSituation) as caught:
+            make(*words, **more)
+        return str(caught.exception)
+
+    def assert_places(self, looks, wanted):
+        """That looks have these places, to a centimetre."""
+        for look, places in zip(looks, wanted, strict=True):
+            for place, its in zip(look, places, strict=True):
+                for one, other in zip(place, its):
+                    self.assertAlmostEqual(one, other, 2)
+
+
+@with_netcdf
+class OpenDrift(File):
+    # Goes 400 m east in each 20 minutes: 300, 600 and 900 m at the looks.
+    EAST = [(400 * it, 100, 0) for it in range(4)]
+
+    def test_times_that_dont_meet_the_looks(self):
+        wanted = [[(300, 100)], [(600, 100)], [(900, 100)]]
+        for more in ({}, {"is_turned": True}, {"has_status": False}):
+            with self.subTest(more):
+                found = self.netcdf([self.EAST], **more)
+                self.assert_places(found.looks, wanted)
+                self.assertEqual((found.gone, len(found.said)), ((None,), 1))
+        # The same times in other units.
+        hours = self.netcdf([self.EAST], [10, 10 + 1 / 3, 10 + 2 / 3, 11], units="hours since 2026-07-04 02:00:00")
+        self.assert_places(hours.looks, wanted)
+        self.assertTrue(hours.said[0].startswith("ensemble.nc has 1 tracks from 2026-07-04 12:00Z to 2026-07-04 13:00Z; sha256 "))
+
+    def test_stranded_outside_late_and_empty(self):
+        stranded = [(0, 500, 0), (200, 500, 1), None, None]
+        outside = [(0, 600, 0), (200, 600, 0), (400, 600, 2), None]
+        late = [None, (0, 700, 0), (0, 700, 0), (0, 700, 0)]
+        empty = [None] * 4
+        found = self.netcdf([self.EAST, stranded, late, outside, empty])
+        # Where stranded and outside are at 12:15: three quarters of 200 m. Outside is known until 12:40, so not at the third look.
+        self.assert_places(found.looks, [[(300, 100), (150, 500), (150, 600)], [(600, 100), (200, 500), (300, 600)], [(900, 100), (200, 500), (400, 600)]])
+        self.assertEqual(found.gone, (None, None, 3))
+        self.assertEqual(list(found.said[1:]), [
+            "1 have no place at any time, and are left out",
+            "1 begin after the first look, which is at 2026-07-04 12:15Z, and are left out",
+            "1 leave the region of their model (outside) before the last look, and are lost from then on",
+            "1 end before the last look (as stranded), and stay where they were last",
+        ])
+
+    def test_other_numbers_of_statuses(self):
+        # By flag_values 7 is outside here, and 2 retired.
+        tracks = [[(0, 500, 4), (200, 500, last), None, None] for last in (7, 2)] + [self.EAST]
+        found = self.netcdf(tracks, values=[4, 2, 7], meanings=["active", "retired", "outside"])
+        self.assertEqual(found.gone, (2, None, None))
+        self.assertIn("1 end before the last look (as retired), and stay where they were last", found.said)
+        # Where the meanings don't fit the numbers, none is known.
+        self.assertEqual(self.netcdf(tracks, values=[4, 2], meanings=["active", "retired", "outside"]).gone, (None,) * 3)
+        self.assertEqual(self.netcdf([self.EAST], values=[0], meanings=["active"]).gone, (None,))
+
+    def test_longitudes_that_are_shifted_by_a_turn(self):
+        moved = [[(*degrees(*it[:2], turns=turns), 0) for it, turns in zip(self.EAST, row)] for row in ((1, 1, 1, 1), (-1, -1, -1, -1), (0, 1, 0, 1))]
+        opendrift.write(os.path.join(self.room, "ensemble.nc"), TIMES, moved)
+        self.assert_places(self.ensemble("ensemble.nc").looks, [[(300, 100)] * 3, [(600, 100)] * 3, [(900, 100)] * 3])
+
+    def test_more_tracks_than_are_read_at_once(self):
+        many = [[(it, 10 * at, 0) for at in range(4)] for it in range(2 * recorded.AT_ONCE + 3)]
+        for is_turned in (False, True):
+            found = self.netcdf(many, is_turned=is_turned)
+            self.assert_places(found.looks[:1], [[(it, 7.5) for it in range(len(many))]])
+
+    def test_none_and_what_is_wrong(self):
+        for tracks, more, wanted in (
+            ([], {}, "it has no track with a place"),
+            ([[None] * 4], {}, "it has no track with a place"),
+            ([[(0, 0, 0)] * 3], {"times": TIMES[:3]}, "it ends at 2026-07-04 12:40Z, and the last look is at 2026-07-04 12:45Z"),
+            ([[None, (0, 0, 0), (0, 0, 0), (0, 0, 0)]], {}, "all of its tracks begin after the first look"),
+            ([self.EAST], {"times": TIMES[::-1]}, "time should ascend"),
+            ([self.EAST], {"units": "fortnights"}, "time should be in units such as seconds since 1970-01-01 00:00:00"),
+            ([], {"times": []}, "it should have the dimensions trajectory and time, the variables lon and lat over both, and time"),
+            ([[(0, 15e6, 0)] * 4], {}, "trajectory 0 (the first is 0): lat should be a number from -90 to 90, and is -93.0"),
+        ):
+            with self.subTest(wanted):
+                said = self.refused(self.netcdf, tracks, **more)
+                self.assertTrue(said.startswith(f"[tracks] file: ensemble.nc: {wanted}"), said)
+
+    def test_files_that_are_none(self):
+        self.netcdf([self.EAST] * 2000)
+        with open(os.path.join(self.room, "ensemble.nc"), "rb") as file:
+            whole = file.read()
+        for text in (b"", b"id,time,x,y\n", whole[: len(whole) // 2]):
+            self.write("ensemble.nc", text)
+            self.assertIn("it isn't a whole netCDF file", self.refused(self.ensemble, "ensemble.nc"))
+        self.assertIn("it can't be read: No such file", self.refused(self.ensemble, "none.nc"))
+
+    def test_a_begin_that_is_local_and_an_area_without_a_place(self):
+        self.netcdf([self.EAST])
+        local = moments.Clock(moments.moment("2026-07-04 12:00"))
+        self.assertIn("time: it is UTC, so [search] begins should be, too", self.refused(self.ensemble, "ensemble.nc", local))
+        said = self.refused(self.ensemble, "ensemble.nc", frame=None)
+        self.assertIn("its places are latitudes and longitudes, and the area has none; give it one, as in [area] north_west", said)
+
+
+class Lacking(File):
+    def test_without_the_package(self):
+        self.write("ensemble.nc", b"")
+        with without("netCDF4"):
+            self.assertIn("ensemble.nc: a netCDF file of tracks needs the package python3-netcdf4", self.refused(self.ensemble, "ensemble.nc"))
+
+
+class Degrees(File):
+    """CSV with latitudes and longitudes."""
+
+    def table(self, rows):
+        with open(os.path.join(self.room, "ensemble.csv"), "w", encoding="utf-8", newline="") as file:
+            csv.writer(file).writerows([("id", "time", "lat", "lon"), *rows])
+
+    def test_zones_and_turns(self):
+        east = [degrees(400 * it, 100, turns=it % 2) for it in range(4)]
+        for times in (("12:00Z", "12:20Z", "12:40Z", "13:00Z"), ("14:00+02:00", "12:20", "09:10:00-03:30", "13:00+00")):
+            self.table([(7, f"2026-07-04T{time}", lat, lon) for time, (lon, lat) in zip(times, east)])
+            self.assert_places(self.ensemble("ensemble.csv").looks, [[(300, 100)], [(600, 100)], [(900, 100)]])
+        for row, wanted in (((1, "2026-07-04T12:00Z", 91, 10), "line 2: lat should be a number from -90 to 90"), ((1, "2026-07-04T12:00Z", 57, 721), "line 2: lon should")):
+            self.table([row])
+            self.assertIn(wanted, self.refused(self.ensemble, "ensemble.csv"))
+        self.assertIn("the area has none; give it one", self.refused(self.ensemble, "ensemble.csv", frame=None))
+
+    def test_a_turn_is_unwrapped(self):
+        for longitudes, wanted in (([179.9, -179.9], [179.9, 180.1]), ([-179, 179, 541], [-179, -181, -179]), ([10], [10])):
+            for one, other in zip(recorded.unwrapped(longitudes), wanted, strict=True):
+                self.assertAlmostEqual(one, other, 9)
+
+
+@on_earth
+class Lattices(unittest.TestCase):
+    def test_it_is_off_by_no_more_than_two_centimetres(self):
+        draw = random.Random(3)
+        for latitude, longitude in ((57.725, 10.58), (45, 0), (-33.5, -179.999), (0, 0), (80, 179.9), (89.5, 30)):
+            frame = earth.Frame(latitude, longitude, 4000, 3000)
+            lattice = recorded.Lattice(frame)
+            for _ in range(12):
+                lat, lon = frame.to_earth(draw.uniform(-50_000, 50_000), draw.uniform(-50_000, 50_000))
+                for turns in (0, 360):
+                    for one, other in zip(lattice.metres(lon + turns, lat), frame.to_area(lat, lon)):
+                        self.assertLess(abs(one - other), 0.02, (latitude, lat, lon))
+
+
+if __name__ == "__main__":
+    unittest.main()
