@@ -94,7 +94,8 @@ class Situation:
 
 
 class Person:
-    """One drift of a situation: where it begins and when, and what stays with it."""
+    """One drift of a situation: where it begins and when, what stays with it, and its way so far, as pairs of a minute and a place. The
+    last place of who is lost is outside of the area."""
 
     def __init__(self, of, rng):
         self.of, drift = of, of.drift
@@ -102,6 +103,7 @@ class Person:
         first = of.since(report["time"], "before")
         last = first if "until" not in report else first + (of.since(report["until"]) - first) % DAY
         self.minute, self.place = rng.uniform(first, last), self.begin(report, rng)
+        self.way, self.left = [(self.minute, self.place)], None
         error = drift.get("current_error", 0) * KNOT
         self.water_error = rng.gauss(0, error), rng.gauss(0, error)
         error = drift.get("wind_error", 0) * KNOT
@@ -163,6 +165,7 @@ class Person:
             water, air = Situation.now(of.current, middle, (0, 0)), self.blown(middle)
             self.step([(water[at] + self.water_error[at] + air[at]) * step + random_way[at] / count for at in (0, 1)])
             self.minute += step
+            self.way.append((self.minute, self.place or self.left))
 
     def step(self, way):
         """Goes a short way in a straight line, or stays where land is on it."""
@@ -170,7 +173,7 @@ class Person:
         x, y = x + way[0], y + way[1]
         if of.square((x, y)) is None:
             if of.is_lost:
-                self.place = None
+                self.place, self.left = None, (x, y)
                 return
             x, y = (min(max(it, 0), most * of.side - 1e-6) for it, most in ((x, of.columns), (y, of.rows)))
         if self.is_open((x, y)):
@@ -201,7 +204,17 @@ def along(line, share):
 
 def drifts(of, count, seed):
     """For each of so many persons the squares at the looks of all periods; None where the person is lost."""
-    rng, found = random.Random(seed), []
+    return [squares for _, squares in simulated(of, count, seed)]
+
+
+def ways(of, count, seed):
+    """For each of so many persons its way, as Person has it."""
+    return [who.way for who, _ in simulated(of, count, seed)]
+
+
+def simulated(of, count, seed):
+    """So many persons who have drifted until the last look, each with its squares at the looks."""
+    rng = random.Random(seed)
     spread = of.drift.get("spread", 0)
     for _ in range(count):
         who, at_looks = Person(of, rng), []
@@ -214,8 +227,7 @@ def drifts(of, count, seed):
                 who.go(until, (rng.uniform(-scale, scale), rng.uniform(-scale, scale)), rng)
             if until >= of.minutes - 1e-9:
                 at_looks.append(of.square(who.place) if who.place else None)
-        found.append(at_looks[-of.periods :])
-    return found
+        yield who, at_looks[-of.periods :]
 
 
 # ---- looks

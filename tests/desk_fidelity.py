@@ -39,6 +39,13 @@ class Flown(unittest.TestCase):
             with self.subTest(os.path.basename(file)):
                 self.hold(text_of(file), 2)
 
+    def test_a_draft_from_a_file_of_tracks_within_two_points(self):
+        """The file has drifts of the second simulation, and the plan is flown over others of it."""
+        text = text_of(os.path.join(TOP, "examples", "situations", "kayaker.toml"))
+        says, finds, error = fidelity.flown(text, 5000, SEED)
+        self.assertLess(error, 0.7)
+        self.assertLess(abs(says - finds), 2, (says, finds, error))
+
     def test_two_seeds_differ_by_no_more_than_their_drifts_do(self):
         text, count = text_of(os.path.join(TOP, "examples", "situations", "kayaker.toml")), 20_000
         said = []

@@ -1,7 +1,9 @@
 """How true a drafted scenario is: its plan's chance beside what the path finds of drifts that tests/adrift.py simulates."""
 import dataclasses
+import datetime
 import math
 import os
+import re
 import subprocess
 import sys
 import tempfile
@@ -41,12 +43,15 @@ def square(name):
     return None if name == "base" else next(iter(adrift.squares_of([name])))
 
 
-def drafted(text):
-    """The scenario that `draft` makes of a situation's text, as bytes, and what it said."""
-    with tempfile.NamedTemporaryFile("w", suffix=".toml", encoding="utf-8") as file:
-        file.write(text)
-        file.flush()
-        done = subprocess.run([sys.executable, "-m", "desk", "draft", file.name], cwd=TOP, capture_output=True, check=False)
+def drafted(text, table=None):
+    """The scenario that `draft` makes of a situation's text, as bytes, and what it said. The situation may name a `table` of tracks, a text,
+    by tracks.csv."""
+    with tempfile.TemporaryDirectory() as room:
+        for name, each in (("situation.toml", text), ("tracks.csv", table or "")):
+            with open(os.path.join(room, name), "w", encoding="utf-8") as file:
+                file.write(each)
+        words = ["draft", os.path.join(room, "situation.toml")]
+        done = subprocess.run([sys.executable, "-m", "desk", *words], cwd=TOP, capture_output=True, check=False)
     if done.returncode:
         raise Unplanned(done.stderr.decode().strip())
     return done.stdout, done.stderr.decode()
@@ -72,6 +77,33 @@ def search_minutes(of):
     who = of.told["searcher"]
     way = (1 if who.get("reaches") == 4 else math.sqrt(2)) * of.side / (who["speed"] * adrift.KNOT)
     return who.get("search_minutes") or math.floor((of.minutes - way) * 100) / 100
+
+
+def recorded(of, count, seed):
+    """Ways of so many drifts of an adrift.Situation as a table of tracks, whose times hold where the search begins on 2026-07-04."""
+    midnight = datetime.datetime(2026, 7, 4)
+    rows = ["id,time,x,y"]
+    for name, way in enumerate(adrift.ways(of, count, seed)):
+        moments = (midnight + datetime.timedelta(minutes=of.begins[0] + minute) for minute, _ in way)
+        rows += [f"{name},{moment.isoformat()},{x!r},{y!r}" for moment, (_, (x, y)) in zip(moments, way)]
+    return "\n".join(rows)
+
+
+def with_tracks(text):
+    """A situation's text whose reports, currents, wind and drift are the tracks of tracks.csv."""
+    tables = re.split(r"(?m)^(?=\[)", text)
+    kept = [it for it in tables if not it.startswith(("[[report]]", "[[current]]", "[[wind]]", "[drift]", "[tracks]"))]
+    return re.sub(r'(?m)^begins = "', 'begins = "2026-07-04 ', "".join(kept), count=1) + '\n[tracks]\nfile = "tracks.csv"\n'
+
+
+def flown(text, count, seed):
+    """What a plan says of a draft from a file of so many drifts, and what its path finds of as many others, with its standard error, in
+    percent. Raises Unplanned."""
+    of = adrift.Situation(text)
+    plan = planned(drafted(with_tracks(text), recorded(of, count, seed))[0])
+    path = [square(it) for it in plan.split("\n", 2)[1].split()[1:]]
+    finds, error = adrift.flown(adrift.drifts(of, count, seed + 1), adrift.looks(of, search_minutes(of)), path)
+    return 100 * chance(plan), 100 * finds, 100 * error
 
 
 def measured(text, count, seed, width):
