@@ -11,7 +11,7 @@ import os
 import re
 from fractions import Fraction
 
-from desk import moments, packages
+from desk import moments, packages, placing
 from desk.ensemble import Course, wrong
 from desk.keys import shown
 
@@ -47,7 +47,8 @@ class Recorded:
 
 
 def recorded(path, clock, frame=None):
-    """What the file of a path has, in minutes of a clock; degrees become metres by an earth.Frame. Raises BadSituation."""
+    """What the file of a path has, in minutes of a clock; degrees become metres by an earth.Frame. Raises BadSituation, and
+    packages.Lacking."""
     name = os.path.basename(path)
     try:
         with open(path, "rb") as file:
@@ -60,8 +61,6 @@ def recorded(path, clock, frame=None):
         raise wrong(name, f"it can't be read: {why.strerror}") from None
     except (UnicodeDecodeError, csv.Error):
         raise wrong(name, "it isn't a CSV file in UTF-8") from None
-    except packages.Lacking as lacking:
-        raise wrong(name, str(lacking)) from None
 
 
 # ---- places and times
@@ -69,7 +68,8 @@ def recorded(path, clock, frame=None):
 
 class Lattice:
     """Metres of an area for many places in degrees: those of an earth.Frame at the nodes of a lattice of a hundredth of a degree, and
-    linear along both axes between them. What is second in the coordinates is left out: by that it is off by 2 centimetres at most."""
+    linear along both axes between them. What is second in the coordinates is left out: within 100 km of the frame's place it is off by 2
+    centimetres at most (tested). The metres are rounded, so that the last digits of a library are in no draft."""
 
     def __init__(self, frame):
         self.frame = frame
@@ -77,6 +77,10 @@ class Lattice:
 
     def metres(self, longitude, latitude):
         """The metres east and south of a place."""
+        return tuple(round(it * placing.PART) / placing.PART for it in self.exactly(longitude, latitude))
+
+    def exactly(self, longitude, latitude):
+        """The same, not rounded."""
         if abs(latitude) > POLAR:
             return self.frame.to_area(latitude, longitude)
         row, column = math.floor(latitude * IN_DEGREE), math.floor(longitude * IN_DEGREE)
@@ -91,7 +95,7 @@ def in_metres(name, frame, pair):
     if pair == METRES:
         return lambda x, y: (x, y)
     if frame is None:
-        why = "its places are latitudes and longitudes, and the area has none; give it one, as in [area] north_west = [57.725, 10.583]"
+        why = "its places are latitudes and longitudes, and the area has none; give it one, as in [area] north_west = [57.725, 10.58]"
         raise wrong(name, why)
     return Lattice(frame).metres
 

@@ -14,7 +14,7 @@ from opendrift import epoch  # noqa: E402
 from packaged import needing, on_earth, without  # noqa: E402
 from pages import Room  # noqa: E402
 
-from desk import earth, moments, recorded  # noqa: E402
+from desk import draft, earth, forms, moments, packages, recorded  # noqa: E402
 from desk.ensemble import at_looks  # noqa: E402
 from desk.keys import BadSituation  # noqa: E402
 
@@ -151,8 +151,8 @@ class OpenDrift(File):
 class Lacking(File):
     def test_without_the_package(self):
         self.write("ensemble.nc", b"")
-        with without("netCDF4"):
-            self.assertIn("ensemble.nc: a netCDF file of tracks needs the package python3-netcdf4", self.refused(self.ensemble, "ensemble.nc"))
+        with without("netCDF4"), self.assertRaisesRegex(packages.Lacking, "a netCDF file of tracks needs the package python3-netcdf4"):
+            self.ensemble("ensemble.nc")
 
 
 class Degrees(File):
@@ -176,6 +176,50 @@ class Degrees(File):
         for longitudes, wanted in (([179.9, -179.9], [179.9, 180.1]), ([-179, 179, 541], [-179, -181, -179]), ([10], [10])):
             for one, other in zip(recorded.unwrapped(longitudes), wanted, strict=True):
                 self.assertAlmostEqual(one, other, 9)
+
+
+SEA = """
+[search]
+begins = 2026-07-04T12:00:00Z
+minutes = 15
+periods = 3
+[area]
+{}
+cell_size = 1000
+rows = 3
+columns = 4
+[searcher]
+start = "r0c0"
+speed = 40
+sweep_width = 200
+[tracks]
+file = "ensemble.nc"
+finer = 1
+"""
+
+
+@on_earth
+@with_netcdf
+class Situations(Room):
+    """A file of OpenDrift's shape beside a situation."""
+
+    def drafted(self, area, status=0):
+        ended, out, err = self.run_helper(draft.main, [self.write("sea.toml", SEA.format(area).encode())])
+        self.assertEqual(ended, status, err)
+        return out if status == 0 else err
+
+    def test_tracks_over_the_antimeridian(self):
+        """From the corner at 179.99 east on the equator a degree of longitude is 111,319.491 m, and one of latitude 110,574.389 m: three
+        tracks stay 2.5 squares east and 0.5, 1.5 and 2.5 south, beyond 180 degrees, one of them as 182 to 180 and the others as -178 to -180."""
+        east = 179.99 + 2500 / 111_319.491
+        tracks = [[(east - 360 * (row > 0), -(row + 0.5) * 1000 / 110_574.389, 0)] * 4 for row in range(3)]
+        opendrift.write(os.path.join(self.room, "ensemble.nc"), TIMES, tracks)
+        sc = forms.read_scenario(self.drafted("north_west = [0, 179.99]").encode(), True)[0]
+        self.assertEqual((sc.names, sc.first[:3], sc.parts[0]), ([b"r0c2", b"r1c2", b"r2c2", b"lost"], [1, 1, 1], 3))
+
+    def test_an_area_without_a_place(self):
+        opendrift.write(os.path.join(self.room, "ensemble.nc"), TIMES, [[(10, 57, 0)] * 4])
+        self.assertIn("ensemble.nc: its places are latitudes and longitudes, and the area has none", self.drafted("", status=1))
 
 
 @on_earth

@@ -80,8 +80,8 @@ def search_minutes(of):
 
 
 def recorded(of, count, seed):
-    """Ways of so many drifts of an adrift.Situation as a table of tracks, whose times hold where the search begins on 2026-07-04."""
-    midnight = datetime.datetime(2026, 7, 4)
+    """Ways of so many drifts of an adrift.Situation as a table of tracks. Where the search's begin has no date, it is on 2026-07-04."""
+    midnight = datetime.datetime.combine(of.begins[1] or datetime.date(2026, 7, 4), datetime.time())
     rows = ["id,time,x,y"]
     for name, way in enumerate(adrift.ways(of, count, seed)):
         moments = (midnight + datetime.timedelta(minutes=of.begins[0] + minute) for minute, _ in way)
@@ -93,7 +93,7 @@ def with_tracks(text):
     """A situation's text whose reports, currents, wind and drift are the tracks of tracks.csv."""
     tables = re.split(r"(?m)^(?=\[)", text)
     kept = [it for it in tables if not it.startswith(("[[report]]", "[[current]]", "[[wind]]", "[drift]", "[tracks]"))]
-    return re.sub(r'(?m)^begins = "', 'begins = "2026-07-04 ', "".join(kept), count=1) + '\n[tracks]\nfile = "tracks.csv"\n'
+    return re.sub(r'(?m)^begins = "(?=\d\d:)', 'begins = "2026-07-04 ', "".join(kept), count=1) + '\n[tracks]\nfile = "tracks.csv"\n'
 
 
 def flown(text, count, seed):
