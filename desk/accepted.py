@@ -103,10 +103,11 @@ def notes_and_rest(said):
     return ["\n".join(it for it in lines if it.startswith(UNPROVED) == wanted) for wanted in (True, False)]
 
 
-def asked(word, given, *behind):
-    """What the program answers to one of its commands, and its note on an unproved run. Raises Refused where it doesn't end well."""
+def asked(word, given, *behind, seconds=None):
+    """What the program answers to one of its commands, and its note on an unproved run. Raises Refused where it doesn't end well, and
+    program.OutOfTime where it doesn't end in so many seconds, if there are any."""
     try:
-        answer = program.ask([word, *behind], given)
+        answer = program.ask([word, *behind], given, seconds)
     except OSError as why:
         raise Refused(FAILED, f"cannot run {shown(program.OSP)}: {why.strerror or why}") from None
     note, said = notes_and_rest(answer.err)

@@ -3,28 +3,38 @@ import os
 import re
 import sys
 
-from desk import accepted, clock
+from desk import accepted, clock, outfile
+from desk.status import Status
 
-# Exit statuses of docs/FORMATS.md.
-WRONG_WORDS, UNWRITABLE = 2, 6
+
+def silence(descriptor):
+    """Lets what is still written to a stream go nowhere: what is left in its buffer would fail again when the interpreter ends."""
+    os.dup2(os.open(os.devnull, os.O_WRONLY), descriptor)
 
 
 def say(line):
-    """A line on standard error."""
-    print(line, file=sys.stderr)
+    """A line on standard error, where that takes it."""
+    try:
+        if sys.stderr is not None:
+            print(line, file=sys.stderr)
+    except OSError:
+        silence(2)
+
+
+def write_bytes(text):
+    """Writes a text, as bytes, to standard output, and answers the exit status."""
+    try:
+        outfile.to_output(text)
+        return Status.WRITTEN
+    except OSError as why:
+        say(f"write fault: {why.strerror}")
+        silence(1)
+        return Status.UNWRITABLE
 
 
 def write(text):
     """Writes a text to standard output, and answers the exit status."""
-    try:
-        sys.stdout.buffer.write(text.encode("utf-8"))
-        sys.stdout.buffer.flush()
-        return 0
-    except OSError as why:
-        say(f"write fault: {why.strerror}")
-        # What is left in the buffer would fail again when the interpreter ends.
-        os.dup2(os.open(os.devnull, os.O_WRONLY), 1)
-        return UNWRITABLE
+    return write_bytes(text.encode("utf-8"))
 
 
 def number(option, word):
@@ -46,7 +56,7 @@ def run(name, more, make, words):
         given = clock.taken(words)
     except clock.BadWords as wrong:
         say(f"osp {name}: {wrong}\nusage: osp {name} SCENARIO [PLAN] [--of SCENARIO] [--trial FILE] [--from HH:MM --minutes N]{more}")
-        return WRONG_WORDS
+        return Status.WRONG_WORDS
     try:
         text, note = make(given)
     except accepted.Refused as refused:

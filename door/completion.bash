@@ -11,18 +11,24 @@ first_words() {
   for ((at = 0; at < ${#rows[@]}; at += $2)); do printf '%s ' "${rows[at]%% *}"; done
 }
 
-# What may stand behind the first words of a table's rows.
-completion_rows() {
+# The options in the rows of a table whose first word is this.
+options_of() {
   local -n rows=$1
-  local at offered
+  local at
   for ((at = 0; at < ${#rows[@]}; at += $2)); do
-    offered=$(options_in "${rows[at]#* }")
-    printf "    %s) offered='%s-o' ;;\n" "${rows[at]%% *}" "$offered"
+    [ "${rows[at]%% *}" != "$3" ] || options_in "${rows[at]#* }"
   done
 }
 
+# What may stand behind a first word, of which a command and a helper may have a row each.
+completion_row() {
+  local offered
+  offered=$({ options_of commands 4 "$1"; options_of helpers 3 "$1"; } | tr ' ' '\n' | awk 'NF && !seen[$0]++ { printf "%s ", $0 }')
+  printf "    %s) offered='%s-o' ;;\n" "$1" "$offered"
+}
+
 completion_text() {
-  local at words
+  local at words each
   echo '# Completion of the words of osp. Files are completed by bash.'
   echo '_osp() {'
   # shellcheck disable=SC2016 # (The text is for another shell.)
@@ -30,8 +36,8 @@ completion_text() {
   echo '  COMPREPLY=()'
   # shellcheck disable=SC2016
   echo '  case $COMP_CWORD/${COMP_WORDS[1]}/$before in'
-  words="$(first_words commands 4)$(first_words helpers 3)$(first_words own 3)"
-  printf "    1/*) offered='%s' ;;\n" "${words% }"
+  words=$({ first_words commands 4; first_words helpers 3; } | tr ' ' '\n' | awk 'NF && !seen[$0]++')
+  printf "    1/*) offered='%s' ;;\n" "$(paste -sd ' ' <<< "$words") $(first_words own 3 | sed 's/ $//')"
   echo '    */-o) ;;'
   for ((at = 0; at < ${#values[@]}; at += 4)); do
     [[ ${values[at]} != *'--'* ]] || completion_value "${values[at]}"
@@ -48,8 +54,7 @@ completion_text() {
   echo '_osp_options() {'
   # shellcheck disable=SC2016
   echo '  case $1 in'
-  completion_rows commands 4
-  completion_rows helpers 3
+  for each in $words; do completion_row "$each"; done
   echo '  esac'
   echo '}'
   echo 'complete -o default -F _osp osp ./osp'

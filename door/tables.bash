@@ -88,6 +88,10 @@ helpers=(
   'flies paths over simulated drifts, and says what they find beside what their plans say'
   './osp trial lake.toml lake.plan --pattern all'
 
+  'plan --seconds N | --minutes N [SCENARIO] [--workers N] [--json yes]'
+  'writes the best plan that can be had in so long, or a gap plan with a ceiling that no path exceeds'
+  './osp plan --seconds 60 lake.scenario -o lake.plan'
+
   'next SCENARIO PLAN [--flown K] [--horizon N]'
   'writes the scenario that goes on where the first K periods of the plan found nothing'
   './osp next lake.scenario lake.plan --flown 4 -o later.scenario'
@@ -150,6 +154,8 @@ statuses=(
   9 'the input is too long'
   10 'the scenario has no such positions behind flown, or none that can be forced; one word says the cause'
   11 'the scenario has no such position behind start, or is too large for two searchers; one word says the cause'
+  12 'plan --seconds: the time is over, and what was written is a gap plan, which checkgap accepts'
+  13 'plan --seconds: the time was over before there was anything to write'
   70 'not the program, but the script failed, and one line says why'
 )
 

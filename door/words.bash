@@ -210,6 +210,19 @@ sort_words() {
   words=("$command" "${taken[@]}" "${given[@]}" "${rest[@]}")
 }
 
+# Whether these are the words of `plan` that say how long it may take, which a helper of that name answers.
+is_timed() {
+  local each
+  [ "$1" = plan ] || return 1
+  for each in "${@:2}"; do
+    case $each in
+      --) return 1 ;;
+      --seconds | --seconds=* | --minutes | --minutes=*) return 0 ;;
+    esac
+  done
+  return 1
+}
+
 # Sorts the words of a helper, which answers for its own words: `target` is written to.
 sort_helper_words() {
   words=("$1")

@@ -21,10 +21,10 @@ def module_of(name, path):
 stand_in, by_process = module_of("stand_in_osp", STAND_IN), program.ask
 
 
-def ask(words, given):
+def ask(words, given, seconds=None):
     """As desk.program.ask. The stand-in is called here; any other program gets its process."""
     if program.OSP != STAND_IN:
-        return by_process(words, given)
+        return by_process(words, given, seconds)
     try:
         stand_in.answer(words, given)
     except stand_in.Ends as ends:

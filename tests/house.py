@@ -60,7 +60,8 @@ if sys.argv[-1:] == ["faults"]:
     print("line 3 is wrong")
     sys.exit(3)
 print(*sys.argv[1:], sep="|")
-print(os.path.dirname(os.path.realpath(__file__)), os.environ["PYTHONPATH"], sys.flags.safe_path)
+desk = os.path.dirname(os.path.realpath(__file__))
+print(desk, os.path.dirname(desk), bool(sys.flags.isolated))
 """
 
 
