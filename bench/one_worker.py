@@ -7,10 +7,10 @@ scout flies first. Where only so many records may be made, the prefixes that are
 """
 import collections
 
+from bench.scouting import moves, opening, reached, scout
 from desk import derived, paths, verdict
 from desk.forms import read_scenario
 from desk.writing import scenario_text
-from scouting import moves, opening, reached, scout
 
 # From so many periods on a scout flies.
 SCOUTED_FROM = 4

@@ -3,7 +3,7 @@ import os
 import re
 import tempfile
 
-from house import EXAMPLES, TOP, Ran, Wrong, read, run, want
+from tests.house import EXAMPLES, TOP, Ran, Wrong, read, run, want
 
 
 # The command whose plans stand beside the scenarios of examples/: by one worker the tree is always the same.

@@ -5,9 +5,8 @@ import importlib.util
 import io
 from unittest import mock
 
-from pages import STAND_IN, Room
-
 from desk import program
+from tests.pages import STAND_IN, Room
 
 
 def module_of(name, path):

@@ -12,14 +12,10 @@ import tempfile
 import unittest
 import unittest.mock
 
-sys.dont_write_bytecode = True
-sys.path.insert(0, os.path.dirname(os.path.realpath(__file__)))
-
-import finer  # noqa: E402
-from made import GRID, paired, with_plan  # noqa: E402
-from pages import EXAMPLES, PLACES, PROGRAM, TOP, Room, example, read, tree  # noqa: E402
-
-from desk import accepted, brief, program, show  # noqa: E402
+from desk import accepted, brief, program, show
+from tests import finer
+from tests.made import GRID, paired, with_plan
+from tests.pages import EXAMPLES, PLACES, PROGRAM, TOP, Room, example, read, tree
 
 # The Python that has Debian's python3-selenium, the script for it, and its status where there is no browser.
 PYTHON, SCRIPT, LACKING = "/usr/bin/python3", os.path.join(TOP, "tests", "in_browser.py"), 77

@@ -1,16 +1,11 @@
 """Tests of `desk.states`, `desk.chain` and of what `osp draft` makes of tracks. Values in comments are worked by hand."""
 import dataclasses
-import os
 import random
-import sys
 import unittest
 import unittest.mock
 from fractions import Fraction
 
-sys.dont_write_bytecode = True
-sys.path.insert(0, os.path.dirname(os.path.dirname(os.path.realpath(__file__))))
-
-from desk import chain, draft, forms, geometry, keys, rounding, situation, states, tracks, writing  # noqa: E402
+from desk import chain, geometry, keys, rounding, states, tracks
 
 # Two rows and three columns of 100 m.
 GRID = geometry.Grid(2, 3, Fraction(100))

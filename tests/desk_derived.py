@@ -1,25 +1,16 @@
 """Tests of `desk.derived`: worked scenarios, and on small scenarios every path against the scenario that it is made of.
 `python3 -m unittest tests.desk_derived`, or tests/desk."""
 import itertools
-import os
 import random
-import sys
 import unittest
 from fractions import Fraction
 
-sys.dont_write_bytecode = True
-sys.path.insert(0, os.path.dirname(os.path.realpath(__file__)))
-
-from pages import TOP, example, walks  # noqa: E402
-
-sys.path.insert(0, os.path.join(TOP, "bench"))
-
-from answers import MADE  # noqa: E402
-from house import EXAMPLES, read as bytes_of  # noqa: E402
-from made import ROW, read  # noqa: E402
-from one_worker import made_text  # noqa: E402
-
-from desk import derived, forms, paths, writing  # noqa: E402
+from bench.one_worker import made_text
+from desk import derived, forms, paths, writing
+from tests.answers import MADE
+from tests.house import EXAMPLES, read as bytes_of
+from tests.made import ROW, read
+from tests.pages import example, walks
 
 # What is made of the four cells in a row, worked by hand.
 FORCED = b"""scenario 2

@@ -9,14 +9,10 @@ import sys
 import unittest
 from unittest import mock
 
-sys.dont_write_bytecode = True
-sys.path.insert(0, os.path.dirname(os.path.realpath(__file__)))
-
-import finer  # noqa: E402
-from asking import Asked, module_of  # noqa: E402
-from pages import EXAMPLES, STAND_IN, TOP, example, read  # noqa: E402
-
-from desk import advice, explain, faults, forms, program, quoting, rejection  # noqa: E402
+from desk import advice, explain, faults, forms, program, quoting, rejection
+from tests import finer
+from tests.asking import Asked, module_of
+from tests.pages import EXAMPLES, STAND_IN, TOP, example, read
 
 BUILT = os.path.join(TOP, "crates", "osp", "out", "osp")
 

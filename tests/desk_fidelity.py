@@ -4,9 +4,8 @@ import math
 import os
 import unittest
 
-import fidelity
-import situations
-from fidelity import TOP
+from tests import fidelity, situations
+from tests.fidelity import TOP
 
 # How many situations are made, of the seeds from 0 on; and how many drifts are flown, from which seed.
 MADE, COUNT, SEED = 20, 2500, 1000

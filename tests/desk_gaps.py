@@ -1,16 +1,10 @@
 """Tests of gap plans as the desk reads and checks them: texts worked by hand, each kind of fault and each reason, and that plans and gap
 plans are two families of one grammar. `python3 -m unittest tests.desk_gaps`, or tests/desk."""
-import os
-import sys
 import unittest
 
-sys.dont_write_bytecode = True
-sys.path.insert(0, os.path.dirname(os.path.realpath(__file__)))
-
-from made import ROW  # noqa: E402
-from pages import Room, Tree, example  # noqa: E402
-
-from desk import brief, following, forms, paths, show, verdict  # noqa: E402
+from desk import brief, following, forms, paths, show, verdict
+from tests.made import ROW
+from tests.pages import Room, Tree, example
 
 CELLS, LONGER = example("two-cells")[0], example("waiting-longer")[0]
 

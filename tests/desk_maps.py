@@ -2,16 +2,11 @@
 `python3 -m unittest tests.desk_maps`, or tests/desk."""
 import json
 import os
-import sys
 import unittest
 from unittest import mock
 
-sys.dont_write_bytecode = True
-sys.path.insert(0, os.path.dirname(os.path.realpath(__file__)))
-
-from pages import EXAMPLES, STAND_IN, Room, example, read, tree  # noqa: E402
-
-from desk import accepted, brief, derived, forms, paths, program, reports, show  # noqa: E402
+from desk import accepted, brief, derived, forms, paths, program, reports, show
+from tests.pages import EXAMPLES, STAND_IN, Room, example, read, tree
 
 NAMES = sorted(it[:-7] for it in os.listdir(EXAMPLES) if it.endswith(".report"))
 # Four cells in a row; the boat looks at the first one, and finds three of nine. Worked by hand, as in docs/FORMATS.md.

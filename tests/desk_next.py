@@ -8,15 +8,11 @@ import unittest
 from fractions import Fraction
 from unittest import mock
 
-sys.dont_write_bytecode = True
-sys.path.insert(0, os.path.dirname(os.path.realpath(__file__)))
-
-import finer  # noqa: E402
-from asking import Asked  # noqa: E402
-from made import with_plan  # noqa: E402
-from pages import EXAMPLES, PLACES, STAND_IN, TOP, example, read  # noqa: E402
-
-from desk import accepted, following, forms, layout, masses, onward, paths, program  # noqa: E402
+from desk import accepted, following, forms, layout, masses, onward, paths, program
+from tests import finer
+from tests.asking import Asked
+from tests.made import with_plan
+from tests.pages import EXAMPLES, PLACES, STAND_IN, TOP, example, read
 
 NAMES = sorted(it[:-7] for it in os.listdir(EXAMPLES) if it.endswith(".report"))
 

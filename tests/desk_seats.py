@@ -1,16 +1,11 @@
 """Tests of what `osp show` and `osp brief` make of scenarios that `replan` and `duo` made: flown positions by their names and places,
 two searchers beside each other. Their plans are by bench/tree. `python3 -m unittest tests.desk_seats`, or tests/desk."""
 import os
-import sys
 import unittest
 
-sys.dont_write_bytecode = True
-sys.path.insert(0, os.path.dirname(os.path.realpath(__file__)))
-
-from made import GRID, again, forced, paired, read, with_plan  # noqa: E402
-from pages import EXAMPLES, PLACES, Refusing, Room, example, tree  # noqa: E402
-
-from desk import accepted, brief, derived, forms, masses, reports, seats, show, writing  # noqa: E402
+from desk import accepted, brief, derived, forms, masses, reports, seats, show, writing
+from tests.made import GRID, again, forced, paired, read, with_plan
+from tests.pages import EXAMPLES, PLACES, Refusing, Room, example, tree
 
 NAMES = sorted(it[:-7] for it in os.listdir(EXAMPLES) if it.endswith(".report"))
 # From p and q nothing is seen; the searcher may go anywhere.

@@ -10,14 +10,10 @@ import unittest.mock
 from decimal import ROUND_DOWN, Decimal, getcontext
 from fractions import Fraction
 
-sys.dont_write_bytecode = True
-sys.path.insert(0, os.path.dirname(os.path.realpath(__file__)))
-
-import finer  # noqa: E402
-from made import with_plan  # noqa: E402
-from pages import EXAMPLES, PLACES, Refusing, Room, example, read, tree, walks  # noqa: E402
-
-from desk import accepted, brief, clock, forms, layout, masses, moments, page, picture, program, reports, show, squares, tables  # noqa: E402
+from desk import accepted, brief, clock, forms, layout, masses, moments, page, picture, program, reports, show, squares, tables
+from tests import finer
+from tests.made import with_plan
+from tests.pages import EXAMPLES, PLACES, Refusing, Room, example, read, tree, walks
 
 NAMES = sorted(it[:-7] for it in os.listdir(EXAMPLES) if it.endswith(".report"))
 getcontext().prec = 120

@@ -9,15 +9,11 @@ import sys
 import unittest
 from unittest import mock
 
-sys.dont_write_bytecode = True
-sys.path.insert(0, os.path.dirname(os.path.realpath(__file__)))
-
-from asking import Asked  # noqa: E402
-from desk_derived import ROW, small  # noqa: E402
-from pages import STAND_IN, TOP, example, read  # noqa: E402
-from replanned import replanned  # noqa: E402
-
-from desk import accepted, forms, join, masses, paths, program, split, writing  # noqa: E402
+from desk import accepted, forms, join, masses, paths, program, split, writing
+from tests.asking import Asked
+from tests.desk_derived import ROW, small
+from tests.pages import STAND_IN, TOP, example, read
+from tests.replanned import replanned
 
 
 def scenario(text):

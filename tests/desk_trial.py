@@ -3,19 +3,13 @@ and `brief` say of a trial. `python3 -m unittest tests.desk_trial`, or tests/des
 import dataclasses
 import json
 import math
-import os
 import random
-import sys
 import unittest
 from fractions import Fraction
 
-sys.dont_write_bytecode = True
-sys.path.insert(0, os.path.dirname(os.path.realpath(__file__)))
-
-from made import forced, paired, with_plan  # noqa: E402
-from pages import Refusing, Room, tree  # noqa: E402
-
-from desk import accepted, brief, draft, flights, flying, forms, patterns, show, situation, tracks, trial, tried  # noqa: E402
+from desk import accepted, brief, draft, flights, flying, forms, patterns, show, situation, tracks, trial, tried
+from tests.made import forced, paired, with_plan
+from tests.pages import Refusing, Room, tree
 
 HALF, QUARTER = Fraction(1, 2), Fraction(1, 4)
 # Squares of a nautical mile and periods of an hour: with two knots, half an hour and a sweep width of a square's side a look's coverage

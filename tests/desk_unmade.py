@@ -4,19 +4,14 @@ import os
 import random
 import re
 import stat
-import sys
 import unittest
 from unittest import mock
 
-sys.dont_write_bytecode = True
-sys.path.insert(0, os.path.dirname(os.path.realpath(__file__)))
-
-import finer  # noqa: E402
-from asking import Asked  # noqa: E402
-from made import ROW  # noqa: E402
-from pages import EXAMPLES, TOP, example, read  # noqa: E402
-
-from desk import derived, explain, forms, program, unmade, writing  # noqa: E402
+from desk import derived, explain, forms, program, unmade, writing
+from tests import finer
+from tests.asking import Asked
+from tests.made import ROW
+from tests.pages import EXAMPLES, TOP, example, read
 
 NAMES = sorted(it[:-7] for it in os.listdir(EXAMPLES) if it.endswith(".report"))
 TAKEN = ROW.replace(b" d", b" flown-1")

@@ -8,8 +8,8 @@ import subprocess
 import sys
 import tempfile
 
-import adrift
 from desk import forms
+from tests import adrift
 
 TOP = os.path.dirname(os.path.dirname(os.path.realpath(__file__)))
 OSP = os.environ.get("OSP", os.path.join(TOP, "osp"))

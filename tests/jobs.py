@@ -7,10 +7,10 @@ import shutil
 import signal
 import subprocess
 
-from answers import is_built
-from desk_derived import ROW
-from house import EXAMPLES, TOP, Skipped, at_start, case, left_in, read, run, stopped_by, until, want
-from replanned import forms, replanned
+from tests.answers import is_built
+from tests.made import ROW
+from tests.house import EXAMPLES, TOP, Skipped, at_start, case, left_in, read, run, stopped_by, until, want
+from tests.replanned import forms, replanned
 
 # In the place of the program: it notes where and what it is asked, or stops half-way.
 PROGRAM = """#!/bin/sh

@@ -5,9 +5,8 @@ import subprocess
 import sys
 import tempfile
 
-from pages import TOP
-
 from desk import derived, forms, writing
+from tests.pages import TOP
 
 # Three by four cells, where two searchers come from two corners.
 GRID = b"""scenario 1

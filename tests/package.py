@@ -7,9 +7,9 @@ import subprocess
 import tarfile
 import tempfile
 
-from answers import MADE
-from house import EXAMPLES, TOP, Skipped, case, read, run, want
-from words import ROWS, as_nobody, written
+from tests.answers import MADE
+from tests.house import EXAMPLES, TOP, Skipped, case, read, run, want
+from tests.words import ROWS, as_nobody, written
 
 # The folders of the system alone: neither the kit nor an osp is there.
 SYSTEM = {"PATH": "/usr/bin:/bin", "LANG": "C.UTF-8"}

@@ -3,18 +3,15 @@ import contextlib
 import io
 import os
 import shutil
-import sys
 import tempfile
 import unittest
 from fractions import Fraction
 from html.parser import HTMLParser
 from unittest import mock
 
+from desk import program
+
 TOP = os.path.dirname(os.path.dirname(os.path.realpath(__file__)))
-sys.path.insert(0, TOP)
-
-from desk import program  # noqa: E402
-
 EXAMPLES = os.path.join(TOP, "examples")
 STAND_IN = os.path.join(TOP, "tests", "stand-in-osp")
 # The program where it is built, else the stand-in: both have to give the reports of examples/.

@@ -6,7 +6,7 @@ import stat
 import subprocess
 import time
 
-from house import UNPROVED, Skipped, at_start, case, read, run, stopped_by, want
+from tests.house import UNPROVED, Skipped, at_start, case, read, run, stopped_by, want
 
 NOBODY = 65534
 SCENARIO, PLAN = "the scenario\n", "the plan\n"
