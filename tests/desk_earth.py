@@ -3,7 +3,7 @@ import math
 import unittest
 from fractions import Fraction
 
-from packaged import on_earth, without
+from tests.packaged import on_earth, without
 
 from desk import earth, packages
 

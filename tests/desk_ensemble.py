@@ -5,18 +5,14 @@ Files are made here, and values in comments are worked by hand. `python3 -m unit
 import json
 import os
 import random
-import sys
 import unittest
 
-sys.dont_write_bytecode = True
-sys.path.insert(0, os.path.dirname(os.path.realpath(__file__)))
+from tests.pages import Room
 
-from pages import Room  # noqa: E402
-
-from desk import draft, forms, geometry, tracks, trial  # noqa: E402
-from desk.keys import BadSituation  # noqa: E402
-from desk.situation import situation  # noqa: E402
-from desk.water import Water  # noqa: E402
+from desk import draft, forms, geometry, tracks, trial
+from desk.keys import BadSituation
+from desk.situation import situation
+from desk.water import Water
 
 # Three looks, at 12:15, 12:30 and 12:45, in an area of 3 by 4 squares of 1 km.
 OPEN = """

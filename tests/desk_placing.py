@@ -7,7 +7,7 @@ import tempfile
 import unittest
 from fractions import Fraction
 
-from packaged import on_earth, without
+from tests.packaged import on_earth, without
 
 from desk import draft, earth, forms, keys, placing, situation
 

@@ -3,20 +3,16 @@ hand, or by a second computation."""
 import csv
 import os
 import random
-import sys
 import unittest
 
-sys.dont_write_bytecode = True
-sys.path.insert(0, os.path.dirname(os.path.realpath(__file__)))
+from tests import opendrift
+from tests.opendrift import epoch
+from tests.packaged import needing, on_earth, without
+from tests.pages import Room
 
-import opendrift  # noqa: E402
-from opendrift import epoch  # noqa: E402
-from packaged import needing, on_earth, without  # noqa: E402
-from pages import Room  # noqa: E402
-
-from desk import draft, earth, forms, moments, packages, recorded  # noqa: E402
-from desk.ensemble import at_looks  # noqa: E402
-from desk.keys import BadSituation  # noqa: E402
+from desk import draft, earth, forms, moments, packages, recorded
+from desk.ensemble import at_looks
+from desk.keys import BadSituation
 
 # The search begins at 12:00 UTC; looks are at 12:15, 12:30 and 12:45.
 CLOCK = moments.Clock(moments.moment("2026-07-04 12:00Z"))
