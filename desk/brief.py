@@ -1,13 +1,19 @@
 """brief SCENARIO [PLAN] [--of SCENARIO] [--trial FILE] [--from HH:MM --minutes N]: writes an accepted plan as plain text for a radio or a
 tasking form."""
+import re
 import textwrap
 
-from desk import accepted, masses, running, tables, tried
+from desk import accepted, comments, earth, geometry, masses, running, steering, tables, tried
 
 # How wide the text is where names allow it, in columns.
 WIDTH = 60
 # How many squares are told at the end.
 MOST_LEFT = 5
+# The columns whose cells stand to the left, and the sign of a way around land.
+TEXTS = ("begins", "look from", "first from", "second from", "middle")
+AROUND = "*"
+# A number with its unit.
+UNIT = re.compile(r"(\d) (m|NM|knots|minutes)\b")
 
 
 def row(cells, widths):
@@ -26,22 +32,65 @@ def percent(part, whole):
     return f"{masses.percent(part, whole)} %"
 
 
+def wrapped(sentence):
+    """A sentence as lines, none of which ends between a number and its unit."""
+    bound = UNIT.sub("\\1\N{NO-BREAK SPACE}\\2", sentence)
+    return [it.replace("\N{NO-BREAK SPACE}", " ") for it in textwrap.wrap(bound, WIDTH)]
+
+
 def looked_from(search, frame):
     """Where each searcher looks from in a period; behind the last of them it says whether that is flown."""
     *most, last = search.seats.names[frame.position]
     return [*most, last + (" (flown)" if frame.period <= search.seats.flown else "")]
 
 
+def begins(frame, times):
+    """When a period begins, as a list of one cell or none."""
+    return [times.at(frame.period)] if times else []
+
+
 def periods(search, times):
     """A line for each period: when it begins, where the searchers look from, what these looks find, what is found so far."""
     whole = search.report.weight
-    begins = ["begins"] if times else []
     heads = ["look from", "finds"] if search.seats.count == 1 else ["first from", "second from", "find"]
-    lines = [["period", *begins, *heads, "so far"]]
+    lines = [["period", *(["begins"] if times else []), *heads, "so far"]]
     for it in search.frames[1:]:
-        time = [times.at(it.period)] if times else []
-        lines.append([str(it.period), *time, *looked_from(search, it), percent(it.found, whole), percent(it.so_far, whole)])
-    return rows_of(lines, [False, *(True for _ in begins), *(True for _ in range(search.seats.count)), False, False])
+        lines.append([str(it.period), *begins(it, times), *looked_from(search, it), percent(it.found, whole), percent(it.so_far, whole)])
+    return rows_of(lines, [head in TEXTS for head in lines[0]])
+
+
+def way(one, other, given):
+    """The course and the length of the way between two stops, as cells. What goes around land has a star."""
+    leg = steering.leg(one, other, given)
+    if leg is None or leg.is_stay:
+        return ["-" if leg is None else "stay", ""]
+    miles = (leg.around or leg.metres) / geometry.NAUTICAL_MILE
+    return [f"{round(leg.course) % 360:03}°", f"{AROUND if leg.around else ''}{miles:.2f} NM"]
+
+
+def steered(search, told, who):
+    """Where a searcher goes, a line for each period behind an empty one and a head: when it begins, where the searcher looks from, the
+    middle of that on the earth, course and length of the way there. No lines where no place is known."""
+    stops = steering.stops(search, told, who)
+    if all(it.metres is None for it in stops[1:]):
+        return []
+    lines = [["period", *(["begins"] if told.times else []), "look from", *(["middle"] if told.frame else []), "course", "way"]]
+    for frame, before, it in zip(search.frames[1:], stops, stops[1:]):
+        middle = [earth.told(*it.on_earth) if it.on_earth else "-"] if told.frame else []
+        lines.append([str(it.period), *begins(frame, told.times), looked_from(search, frame)[who], *middle, *way(before, it, told.given)])
+    head = "Where to go:" if search.seats.count == 1 else f"Where the {('first', 'second')[who]} searcher goes:"
+    return ["", head, *rows_of(lines, [it in TEXTS for it in lines[0]])]
+
+
+def about_searching(search, told):
+    """How squares are searched, and what is to say of courses, as lines behind an empty one; none where nothing is known."""
+    said, stops = steering.searching(told, search.sc.horizon), [steering.stops(search, told, it) for it in range(search.seats.count)]
+    legs = [it for its in stops for ends in zip(its, its[1:]) if (it := steering.leg(*ends, told.given))]
+    if any(not it.is_stay for it in legs):
+        said.append("Courses are true, and lead to the middle of the square; 1 NM is 1852 m.")
+    if any(it.around for it in legs):
+        said.append(f"{AROUND} The straight way is closed by land: the length is that of the way around it.")
+    return ["", *(line for it in said for line in wrapped(it))] if said else []
 
 
 def left(search):
@@ -59,7 +108,7 @@ def left(search):
     return [head, *rows_of(lines, [True, False, False]), *([f"and in {more} more: {percent(rest, whole)} of all"] if more > 0 else [])]
 
 
-def text_of(search, times):
+def text_of(search, told):
     """The whole text."""
     looks, start = tables.plural(search.sc.horizon, "look"), search.seats.where(search.sc.start)
     begin = [f"{looks}, from {start}"] if search.seats.count == 1 else [f"{looks} each", f"from {start}"]
@@ -70,10 +119,13 @@ def text_of(search, times):
         f"Chance to find them: {search.report.percent} %, {begin[0]}",
         *begin[1:],
         *(line for it in tables.about_trial(search) for line in textwrap.wrap(it, WIDTH)),
+        *(told.times.about() if told.times else []),
         *tables.about_flown(search),
         *tables.about_names(search),
         "",
-        *periods(search, times),
+        *periods(search, told.times),
+        *(line for who in range(search.seats.count) for line in steered(search, told, who)),
+        *about_searching(search, told),
         "",
         *left(search),
         "",
@@ -88,8 +140,9 @@ def text_of(search, times):
 def brief_of(given):
     """The text of what the words say, and what the program said on standard error. Raises accepted.Refused."""
     search = tried.with_trial(accepted.load(given.files, given.of), given.trial)
+    told, said = comments.read(search, given.times)
     # Of a gap plan the program makes no report, and so its map is asked.
-    return text_of(search if search.ceiling is None else accepted.mapped(search), given.times), search.note
+    return text_of(search if search.ceiling is None else accepted.mapped(search), told), running.noted(search.note, "brief", said)
 
 
 def main(words):

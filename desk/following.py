@@ -6,8 +6,9 @@ mean, to standard error.
 import math
 import shlex
 
-from desk import accepted, clock, derived, forms, layout, masses, onward, quoting, rounding, running, telling, writing
+from desk import accepted, clock, derived, forms, layout, masses, onward, quoting, rounding, running, writing
 from desk.accepted import Refused
+from desk.comments import SITUATION
 from desk.squares import squares
 
 USAGE = "usage: osp next SCENARIO PLAN [--flown K] [--horizon N]"
@@ -16,7 +17,7 @@ MOST_SCENARIO = 1_048_576
 # Exit statuses of docs/FORMATS.md.
 WRONG_WORDS, TOO_LONG, FAILED = 2, 9, 70
 # The line of a scenario that `draft` made, before those of its situation.
-DRAFTED = b"\n# " + telling.SITUATION.encode("ascii") + b"\n"
+DRAFTED = b"\n# " + SITUATION + b"\n"
 # From what share of the mass that is left on the rounding is called coarse.
 COARSE = (1, 1000)
 

@@ -50,6 +50,11 @@ def files_and_numbers(words, options):
     return files, {it: number(it, found.get(it)) for it in options}
 
 
+def noted(note, name, said):
+    """The program's note, and behind it the lines that a helper of a name says."""
+    return "\n".join([*filter(None, [note]), *(f"osp {name}: {it}" for it in said)])
+
+
 def run(name, more, make, words):
     """Writes what `make` makes of what the words say, and answers the exit status. `more` ends the usage line."""
     try:

@@ -135,6 +135,11 @@ class Situation:
     parts: tuple
     tracks: TrackChoice
 
+    @property
+    def times(self):
+        """When its periods are."""
+        return moments.Times(self.clock, self.minutes)
+
     def look_time(self, t):
         """When the look of period t counts as made: at the end of the period."""
         return self.minutes * t
@@ -193,7 +198,8 @@ def rows_of(tables, name, most=MOST_ROWS):
 
 
 def situation(given, folder=""):
-    """The situation that a file given as bytes says; files that it names are in this folder. Raises BadSituation."""
+    """The situation that a file given as bytes says; files that it names are in this folder, or aren't read where that is None. Raises
+    BadSituation, and packages.Lacking."""
     tables = parsed(given)
     for it in tables:
         need(it in TOP, shown(it), f"there is no such table{keys.meant(it, '', TOP)}; a situation has {', '.join(TOP)}")
@@ -221,7 +227,7 @@ def situation(given, folder=""):
         tracks=chosen,
     )
     found.ways.check(clock)
-    if chosen.count:
+    if chosen.count or folder is None:
         return found
     told = recorded_at(os.path.join(folder, tables["tracks"]["file"]), found)
     return dataclasses.replace(found, tracks=dataclasses.replace(chosen, ensemble=told))

@@ -55,10 +55,12 @@ def best(search):
 
 
 def verdict(search):
-    """What the program accepted, as a sentence: that nothing is better, or a ceiling of what the others find."""
+    """What the program accepted, as a sentence: that nothing is better, or a ceiling of what the others find, if it is below the whole."""
     if search.ceiling is None:
         return f"Accepted: no {best(search)} is better."
     more = search.ceiling > search.report.value
+    if more and search.ceiling >= search.report.weight:
+        return "Accepted, but nothing is shown yet: the ceiling is 100 %."
     than = f" than {masses.percent_up(search.ceiling, search.report.weight)} %" if more else ""
     return f"Accepted: no {best(search)} finds more{than}."
 

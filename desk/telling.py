@@ -3,6 +3,7 @@ import math
 
 from desk import detection, margins, moments, placing, rounding, twofold
 from desk.chain import deviations
+from desk.comments import OF_SITUATION, SITUATION, of_times
 from desk.geometry import decimal
 from desk.rounded import name_of
 from desk.shares import BASE
@@ -11,8 +12,6 @@ from desk.shares import BASE
 COARSE = 0.02
 APART = 0.1
 ADVICE = "fewer and longer periods leave more room for denominators, and so do smaller ones in [parts] for what you know less well"
-# The comment before the lines of the situation.
-SITUATION = "The situation, from which osp draft made it:"
 
 
 def percent(share):
@@ -34,7 +33,7 @@ def comments(text, shares, drift, told):
     yield shares.given.title or "A scenario by osp draft."
     yield SITUATION
     for line in text.splitlines():
-        yield b"| " + line
+        yield OF_SITUATION + b" " + line
     yield from told
     yield from placing.comments(shares.grid)
     yield naming(drift.states)
@@ -48,14 +47,6 @@ def naming(states):
     if states.finer > 1:
         told += f"; of each square, parts 01 to {states.finer**2} row by row from its north-west"
     return told + ". Metres east and south of the north-west corner:"
-
-
-def times(given):
-    """When the periods and their looks are."""
-    told = [given.clock.told(it) for it in (0, given.look_time(given.periods), given.look_time(1))]
-    count = f"{given.periods} periods" if given.periods > 1 else "1 period"
-    looks = f"a look counts at the end of its period, the first at {told[2]}"
-    return f"{count} of {decimal(given.minutes)} minutes from {told[0]} to {told[1]}; {looks}"
 
 
 def parts(draft):
@@ -86,7 +77,7 @@ def truth(drift, draft):
 
 def facts(shares, drift, draft):
     """What comments and lines both say: times, denominators and rounding, and how true they are."""
-    return [times(shares.given), parts(draft), *truth(drift, draft)]
+    return [of_times(shares.given.times, shares.given.periods), parts(draft), *truth(drift, draft)]
 
 
 def lines(shares, drift, draft, told):

@@ -1,8 +1,9 @@
 """Tests of gap plans as the desk reads and checks them: texts worked by hand, each kind of fault and each reason, and that plans and gap
 plans are two families of one grammar. `python3 -m unittest tests.desk_gaps`, or tests/desk."""
+import dataclasses
 import unittest
 
-from desk import brief, following, forms, paths, show, verdict
+from desk import accepted, brief, following, forms, paths, show, tables, verdict
 from tests.made import ROW
 from tests.pages import Room, Tree, example
 
@@ -185,7 +186,7 @@ class Helpers(Room):
 
     def test_a_brief_says_the_ceiling_rounded_up(self):
         rows = (
-            (LONGER, WAITS, "Accepted: no path finds more than 100.000 %.", "Chance to find them: 75.000 %, 3 looks, from b"),
+            (LONGER, WAITS, "Accepted, but nothing is shown yet: the ceiling is 100 %.", "Chance to find them: 75.000 %, 3 looks, from b"),
             (ROW, ACCEPTED[0][1], "Accepted: no path finds more than 66.667 %.", "Chance to find them: 33.333 %, 2 looks, from b"),
             (CELLS, ACCEPTED[8][1], "Accepted: no path finds more.", "Chance to find them: 75.000 %, 2 looks, from a"),
         )
@@ -196,11 +197,21 @@ class Helpers(Room):
                 self.assertEqual([out.split("\n")[it] for it in (1, 3)], wanted)
                 self.assertIn("\nPercent are cut off after three digits.\nThat of the ceiling is rounded up.\n", out)
 
+    def test_a_ceiling_from_the_whole_on_shows_nothing(self):
+        """The path finds 6 of 8."""
+        search = accepted.load(self.given(LONGER, WAITS))
+        nothing = "Accepted, but nothing is shown yet: the ceiling is 100 %."
+        rows = (6, "Accepted: no path finds more."), (7, "Accepted: no path finds more than 87.500 %."), (8, nothing), (9, nothing), (10**30, nothing)
+        for ceiling, told in rows:
+            with self.subTest(ceiling=ceiling):
+                found = tables.verdict(dataclasses.replace(search, ceiling=ceiling))
+                self.assertEqual(found, told)
+
     def test_a_page_has_the_ceiling_and_the_masses_of_the_map(self):
         status, out, err = self.run_helper(show.main, self.given(LONGER, BELOW))
         self.assertEqual(status, 0, err)
         page = Tree(out).open[0]
-        self.assertTrue(page.one(class_="accepted").text().startswith("Accepted: no path finds more than 100.000 %."))
+        self.assertTrue(page.one(class_="accepted").text().startswith("Accepted, but nothing is shown yet: the ceiling is 100 %."))
         self.assertIn("cut off after three digits, that of the ceiling is rounded up.", page.one("header").text())
         numbers = page.one("section", class_="numbers").text()
         for part in ("Chance6 of 8", "Ceiling8 of 8: rounded up in percent", "Gap plan8 records: they show that no path finds more than the ceiling"):
