@@ -1,10 +1,12 @@
 """The texts that the documents and the examples say an answer of, and what the program answers to them."""
+import functools
 import os
 import re
 import tempfile
+import unittest
 
-from tests.house import EXAMPLES, TOP, Ran, Wrong, read, run, want
-
+from tests.house import EXAMPLES, TOP, Ran, read, run
+from tests.words import ROWS
 
 # The command whose plans stand beside the scenarios of examples/: by one worker the tree is always the same.
 PLAN = ["plan", "--workers", "1"]
@@ -21,15 +23,30 @@ MADE = {
 }
 
 
-class Text:
-    """An input for the program, and what it has to answer. What the script is asked for it, where that names files, is `asked`."""
+class Text(unittest.TestCase):
+    """A case: an input for the program, and what it has to answer. What the script is asked for it, where that names files, is `asked`."""
 
     def __init__(self, name, words, given, status, out=None, err="", asked=None):
+        super().__init__()
         self.name, self.words, self.given, self.status, self.out, self.err, self.asked = name, words, given, status, out, err, asked
 
-    def holds(self, ran):
-        ran.gives(self.status, self.out)
-        want(ran.err == self.err, f"err {self.err!r} is wanted, and it is {ran.err!r}")
+    def shortDescription(self):
+        return self.name
+
+    @property
+    def compiles(self):
+        """Whether the case compiles the sources."""
+        return not is_built()
+
+    def answer(self):
+        """What is answered: by the script, or else by what `rt try` answered before."""
+        if not is_built() and not is_the_scripts(self):
+            return TRIED[tuple(self.words), self.given]
+        return run([f"{TOP}/osp", *(self.asked or self.words)], b"" if self.asked else self.given, cwd=TOP)
+
+    def runTest(self):
+        ran = self.answer().gives(self.status, self.out)
+        self.assertEqual(ran.err, self.err)
 
 
 class Shown(Text):
@@ -39,10 +56,10 @@ class Shown(Text):
         super().__init__(name, words, given, None, asked=asked)
         self.lines, self.shown = lines, shown
 
-    def holds(self, ran):
+    def runTest(self):
+        ran = self.answer()
         lines = (ran.out + ran.err).splitlines(True)
-        wrote = "".join(lines[: self.lines or None])
-        want(wrote == self.shown, f"it is shown with {self.shown!r}, and it writes {wrote!r}")
+        self.assertEqual("".join(lines[: self.lines or None]), self.shown)
 
 
 class Spelled(Text):
@@ -52,12 +69,17 @@ class Spelled(Text):
         super().__init__(f"the program's words: {' '.join(words)}", words, b"", None)
         self.is_command = is_command
 
-    def holds(self, ran):
+    def answer(self):
+        """What the program answers, without the script."""
+        return run([f"{TOP}/crates/osp/out/osp", *self.words]) if is_built() else super().answer()
+
+    def runTest(self):
+        ran = self.answer()
         if self.is_command:
-            want(ran.status != 2 and "usage" not in ran.err, f"status {ran.status}, {ran.err!r}")
+            self.assertNotEqual(ran.status, 2)
+            self.assertNotIn("usage", ran.err)
         else:
-            ran.gives(2, "")
-            want(ran.err == f"{USAGE}\n", f"the usage line is wanted, and it is {ran.err!r}")
+            self.assertEqual((ran.status, ran.out, ran.err), (2, "", f"{USAGE}\n"))
 
 
 LAKE = b"""scenario 1
@@ -209,15 +231,11 @@ def texts_of_documents():
     return texts
 
 
+@functools.cache
 def is_built():
     """Whether ./osp runs a program that was built from these sources: that needs no rt."""
     ran = run([f"{TOP}/osp", "plan"], read(f"{EXAMPLES}/one-cell.scenario"), env={"PATH": "/usr/bin:/bin"})
     return ran.status == 0 and ran.err == ""
-
-
-def texts_of_words(rows):
-    """Words for the program itself: it takes those that the script takes, and no others."""
-    return [Spelled(words, is_command) for words, is_command in rows]
 
 
 def is_the_scripts(text):
@@ -225,32 +243,36 @@ def is_the_scripts(text):
     return isinstance(text, Shown) and text.shown.startswith("osp: ")
 
 
-def answer_of_script(text):
-    if text.asked:
-        return run([f"{TOP}/osp", *text.asked], cwd=TOP)
-    return run([f"{TOP}/osp", *text.words], text.given, cwd=TOP)
+def texts_of_words():
+    """Words for the program itself: it takes those that the script takes, and no others. (By `rt try` each text takes seconds: there one
+    answer to wrong words is enough.)"""
+    return [Spelled(it.words, not it.wrong) for it in ROWS] if is_built() else [Spelled(["fly"], False)]
 
 
-def answers_built(texts):
-    """What the built program answers to each text."""
-    return [run([f"{TOP}/crates/osp/out/osp", *it.words], it.given) if isinstance(it, Spelled) else answer_of_script(it) for it in texts]
+@functools.cache
+def texts():
+    """All texts."""
+    return [*texts_of_rows()[0], *texts_of_examples()[0], *texts_of_made()[0], *texts_of_limits(), *texts_of_words(), *texts_of_documents()]
 
 
-def answers_tried(texts):
-    """The same by one call of `rt try`, which compiles once."""
-    tried = iter(answers_of_program([it for it in texts if not is_the_scripts(it)]))
-    return [answer_of_script(it) if is_the_scripts(it) else next(tried) for it in texts]
+# What `rt try` answers to the words and the input of each text, where there is no built program.
+TRIED = {}
 
 
-def answers_of_program(texts):
+def setUpModule():
+    """Lets `rt try`, which compiles once for all, answer the texts of this module where there is no built program."""
+    if is_built():
+        return
+    asked = [it for it in texts() if not is_the_scripts(it)]
     with tempfile.TemporaryDirectory(prefix="front-door-") as folder:
-        for at, text in enumerate(texts):
+        for at, text in enumerate(asked):
             for ending, what in (("", text.given), (".args", "".join(f"{it}\n" for it in text.words).encode())):
                 with open(f"{folder}/case-{at:03}{ending}", "wb") as file:
                     file.write(what)
         done = run(["rt", "try", "--cases", folder], cwd=f"{TOP}/crates/osp")
     outs = re.split(r"^== case-\d+\n", done.out, flags=re.M)[1:]
     errs = re.findall(r"((?:.*\n)*?)case=case-\d+ run=ended status=(\d+) .*\n", done.err)
-    if not len(texts) == len(outs) == len(errs):
-        raise Wrong(f"rt try answered {len(outs)} of {len(texts)} texts: {done.err[-600:]}")
-    return [Ran(int(status), out.encode(), err.encode()) for out, (err, status) in zip(outs, errs)]
+    if not len(asked) == len(outs) == len(errs):
+        raise AssertionError(f"rt try answered {len(outs)} of {len(asked)} texts: {done.err[-600:]}")
+    for text, out, (err, status) in zip(asked, outs, errs):
+        TRIED[tuple(text.words), text.given] = Ran(int(status), out.encode(), err.encode())

@@ -1,15 +1,22 @@
-"""What the tests of the front door share: runs, signals, and a made repository with stand-ins for rt and the program."""
+"""What the tests of the front door share: runs, signals, and a made repository with stand-ins for rt and the program, in which a case is."""
 import os
 import shutil
 import signal
 import subprocess
+import tempfile
 import time
+import unittest
 
 TOP = os.path.dirname(os.path.dirname(os.path.realpath(__file__)))
 EXAMPLES = os.path.join(TOP, "examples")
 # How the script begins the line that says that a run is unproved, and its status where it failed itself.
 UNPROVED = "osp: unproved run, since "
 FAILED = 70
+# Those that a terminal or a session sends.
+SIGNALS = (signal.SIGTERM, signal.SIGINT, signal.SIGHUP)
+NOBODY = 65534
+# What holds outside of a case.
+HOLDS = unittest.TestCase()
 
 # In the place of `rt`: it notes its words, and does as its mood says.
 STAND_IN_RT = r"""#!/bin/sh
@@ -65,32 +72,6 @@ print(desk, os.path.dirname(desk), bool(sys.flags.isolated))
 """
 
 
-class Wrong(Exception):
-    """What a case found."""
-
-
-class Skipped(Exception):
-    """Why a case can't be tried on this machine."""
-
-
-CASES = []
-
-
-def case(name):
-    """A case in a house of its own."""
-
-    def note(body):
-        CASES.append((name, body))
-        return body
-
-    return note
-
-
-def want(holds, why):
-    if not holds:
-        raise Wrong(why)
-
-
 class Ran:
     """What a run came to."""
 
@@ -100,17 +81,24 @@ class Ran:
     def gives(self, status, out=None, err=None):
         """Holds it against a status, a whole output, and a part of what it says ("" for nothing)."""
         said = f"status {self.status}, out {self.out[:300]!r}, err {self.err[:400]!r}"
-        want(self.status == status, f"status {status} is wanted: {said}")
-        want(out is None or self.out == out, f"out {out!r} is wanted: {said}")
-        want(err is None or (err in self.err if err else self.err == ""), f"err {err!r} is wanted: {said}")
+        HOLDS.assertEqual(self.status, status, said)
+        HOLDS.assertTrue(out is None or self.out == out, f"out {out!r} is wanted: {said}")
+        HOLDS.assertTrue(err is None or (err in self.err if err else self.err == ""), f"err {err!r} is wanted: {said}")
+        return self
+
+    def says_one_line(self):
+        """Holds what it says against one line of the script's own, but for the line that a run is unproved."""
+        lines = [it for it in self.err.splitlines() if not it.startswith(UNPROVED)]
+        HOLDS.assertTrue(len(lines) == 1 and lines[0].startswith("osp: "), f"one line of the script's own is wanted: {self.err!r}")
         return self
 
     def fails(self, part):
         """Holds it against a failure of the script: nothing is written, and one line says what happened."""
-        self.gives(FAILED, None, part)
-        lines = [it for it in self.err.splitlines() if not it.startswith(UNPROVED)]
-        want(len(lines) == 1 and lines[0].startswith("osp: "), f"one line of the script's own is wanted: {self.err!r}")
-        return self
+        return self.gives(FAILED, None, part).says_one_line()
+
+    def refuses(self, part):
+        """Holds it against a refusal of its words: status 2, and one line that names the wrong one."""
+        return self.gives(2, "", part).says_one_line()
 
 
 def at_start(closed):
@@ -126,9 +114,9 @@ def at_start(closed):
 
 
 def run(words, given=b"", closed=(), out=subprocess.PIPE, **how):
-    """Runs words on an input, with some of the streams 0, 1, 2 closed."""
-    how.setdefault("timeout", 200)
-    done = subprocess.run(words, input=given, stdout=out, stderr=subprocess.PIPE, preexec_fn=at_start(closed), **how)
+    """Runs words on an input, bytes or an open file, with some of the streams 0, 1, 2 closed."""
+    how = {"timeout": 200, "input" if isinstance(given, bytes) else "stdin": given, **how}
+    done = subprocess.run(words, stdout=out, stderr=subprocess.PIPE, preexec_fn=at_start(closed), **how)
     return Ran(done.returncode, done.stdout or b"", done.stderr or b"")
 
 
@@ -159,14 +147,11 @@ def stopped_by(number, words, begun, folder, given=subprocess.DEVNULL, **how):
     how = {"stdout": subprocess.PIPE, "stderr": subprocess.PIPE, "preexec_fn": at_start(()), **how}
     with subprocess.Popen(words, stdin=given, start_new_session=True, **how) as started:
         try:
-            want(until(begun, 60), "it didn't begin")
+            HOLDS.assertTrue(until(begun, 60), "it didn't begin")
             started.send_signal(number)
-            try:
-                started.communicate(timeout=30)
-            except subprocess.TimeoutExpired:
-                raise Wrong("it goes on after the signal") from None
-            want(started.returncode == -number, f"it ended with {started.returncode}, not by signal {number}")
-            want(until(lambda: not left_in(folder)), f"left running: {left_in(folder)}")
+            started.communicate(timeout=30)
+            HOLDS.assertEqual(started.returncode, -number, "it didn't end by the signal")
+            HOLDS.assertTrue(until(lambda: not left_in(folder)), f"left running: {left_in(folder)}")
         finally:
             try:
                 os.killpg(started.pid, signal.SIGKILL)
@@ -203,7 +188,7 @@ class House:
     def add_row(self, row):
         """Puts a row before the others of the script's table of commands."""
         text = read(f"{self.at}/door/tables.bash").decode()
-        want(text.count("\ncommands=(\n") == 1, "door/tables.bash has no table of commands")
+        HOLDS.assertEqual(text.count("\ncommands=(\n"), 1, "door/tables.bash has no table of commands")
         self.write("door/tables.bash", text.replace("\ncommands=(\n", f"\ncommands=(\n  {row}\n", 1))
 
     def write(self, name, text, mode=0o644):
@@ -220,6 +205,11 @@ class House:
 
     def run(self, *words, given=b"", closed=(), out=subprocess.PIPE, **how):
         return run([self.script, *words], given, closed, out, **self.how(**how))
+
+    def stops(self, number, *words, begun=None, given=subprocess.DEVNULL, mood="well", **how):
+        """Runs the script, and wants a signal to end it and all that it started."""
+        self.forget()
+        stopped_by(number, [self.script, *words], begun or self.has_begun, self.at, given, **{**self.how(mood=mood), **how})
 
     def built(self):
         """The same, with a program that was built from its sources."""
@@ -245,7 +235,36 @@ class House:
         return os.path.exists(f"{self.at}/pid")
 
     def leaves_nothing(self):
-        want(os.listdir(self.tmp) == [], f"left among the temporary files: {os.listdir(self.tmp)}")
+        HOLDS.assertEqual(os.listdir(self.tmp), [], "left among the temporary files")
+
+
+class InHouse(unittest.TestCase):
+    """Cases in a house of their own."""
+
+    def setUp(self):
+        room = tempfile.TemporaryDirectory(prefix="front-door-")
+        self.addCleanup(room.cleanup)
+        self.house = House(room.name)
+
+    def as_nobody(self):
+        """How a run is made for which permissions bind, which they don't for root."""
+        how = self.house.how()
+        if os.geteuid() == 0:
+            for folder in (os.path.dirname(os.path.dirname(self.house.at)), os.path.dirname(self.house.at), self.house.at):
+                os.chmod(folder, 0o755)
+            os.chmod(self.house.tmp, 0o1777)
+            how.update(user=NOBODY, group=NOBODY, extra_groups=[])
+        return how
+
+    def out_folder(self):
+        """A new folder for what is written, open to all."""
+        folder = f"{self.house.at}/out put"
+        os.makedirs(folder)
+        return folder
+
+    def assertWritten(self, path, text):
+        """A file has this text."""
+        self.assertEqual(read(path).decode(), text, path)
 
 
 def read(path):
