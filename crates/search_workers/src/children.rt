@@ -1,8 +1,8 @@
 //! What a worker does with the children of a prefix.
 
-ghost use Rattle.std.specs.Prelude.{◌≡◌, ◌+◌, ◌*◌, ◌<◌, ◌≤◌, ◌++◌, ◌∷◌, [], length, map, nat_lt, reverse};
+ghost use Rattle.std.specs.Prelude.{◌≡◌, ◌+◌, ◌*◌, ◌<◌, ◌≤◌, ◌++◌, length, nat_lt, reverse};
 ghost use Rattle.search_model.specs.Legal.{IsLegal};
-ghost use Rattle.bound_tree.specs.Accepts.{children_of};
+ghost use Rattle.bound_tree.specs.Accepts.{children_by, children_of};
 ghost use Rattle.steal_pool.specs.Kits.{put_of};
 ghost use Rattle.search_workers.specs.Children.{Puts, Shares, OnlyPut, Disposes};
 
@@ -11,17 +11,6 @@ use bound_tree::extended;
 use path_node::children;
 use search_model::{Path, Scenario};
 use steal_pool::Kit;
-
-// Puts the children of a prefix by these moves on a private stack, so that the first is taken first.
-fn push_children(stack: &mut Stack, prefix: &Path, moves: &[u8])
-    requires short { length prefix.now < 32 }
-    requires room { length stack.old + length moves.now ≤ 2048 }
-    ensures { stack.new ≡ stack.old ++ reverse (map (λ d. prefix.now ++ d ∷ []) moves.now) }
-{
-    for i in (0..moves.len()).rev() {
-        stack.push(extended(prefix, moves[i]));
-    }
-}
 
 /// Puts all children of a prefix on a private stack, so that the least is taken first.
 #[tactic(auto, using(search_model::proofs::Children::few_moves))]
@@ -32,7 +21,7 @@ pub fn stack_children(stack: &mut Stack, sc: &Scenario, prefix: &Path)
     ensures { stack.new ≡ stack.old ++ reverse (children_of sc.now prefix.now) }
 {
     sc.recall_sound();
-    push_children(stack, prefix, children(sc, prefix));
+    stack.push_children(prefix, children(sc, prefix));
 }
 
 // Puts the children of a prefix by these moves into the own deque, in their order. Those that it hands back go to the
@@ -40,7 +29,7 @@ pub fn stack_children(stack: &mut Stack, sc: &Scenario, prefix: &Path)
 fn put_children(kit: &mut Kit<Path>, stack: &mut Stack, prefix: &Path, moves: &[u8])
     requires short { length prefix.now < 32 }
     requires room { length stack.old + length moves.now ≤ 2048 }
-    ensures puts { Puts (map (λ d. prefix.now ++ d ∷ []) moves.now) (put_of kit.old) stack.old (put_of kit.new)
+    ensures puts { Puts (children_by prefix.now moves.now) (put_of kit.old) stack.old (put_of kit.new)
         stack.new }
     ensures kit { OnlyPut kit.old kit.new }
 {

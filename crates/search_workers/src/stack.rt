@@ -1,7 +1,9 @@
 //! A worker's private stack.
 
-ghost use Rattle.std.specs.Prelude.{◌≡◌, ◌<◌, ◌++◌, ◌∷◌, [], ◌↔◌, length, IfOk, IfSome, IfNone, IsTrue};
+ghost use Rattle.std.specs.Prelude.{◌≡◌, ◌+◌, ◌<◌, ◌≤◌, ◌++◌, ◌∷◌, [], ◌↔◌, length, reverse, IfOk, IfSome, IfNone, IsTrue};
+ghost use Rattle.bound_tree.specs.Accepts.{children_by};
 
+use bound_tree::{push_children, push_prefix};
 use exact_parts::NoMemory;
 use search_model::Path;
 use std::alloc::Global;
@@ -50,9 +52,16 @@ impl Stack {
         requires { length self.old < 2048 }
         ensures { self.new ≡ self.old ++ prefix ∷ [] }
     {
-        let Ok(()) = self.prefixes.push(prefix) else {
-            unreachable!()
-        };
+        push_prefix(&mut self.prefixes, prefix);
+    }
+
+    /// Puts the children of a prefix by these moves last, so that the first of them is taken first.
+    pub fn push_children(&mut self, prefix: &Path, moves: &[u8])
+        requires short { length prefix.now < 32 }
+        requires room { length self.old + length moves.now ≤ 2048 }
+        ensures { self.new ≡ self.old ++ reverse (children_by prefix.now moves.now) }
+    {
+        push_children(&mut self.prefixes, prefix, moves);
     }
 
     /// Takes the last prefix.
