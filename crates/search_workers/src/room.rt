@@ -11,8 +11,9 @@ use search_model::Path;
 use std::alloc::Global;
 use steal_pool::Kit;
 
-/// Room for the kits, the desks and the seats of all workers. It is taken before they go, so that all can be joined at the
-/// end even where memory has run out.
+/// Room for the kits, the desks and the seats of all workers. It is taken before they go, so that the tickets and the board
+/// can be closed with all their seats at the end even where memory has run out. The passes of the deques are joined by
+/// `settle`, which takes memory of its own, and are dropped where it is refused.
 #[derive(Drop)]
 pub struct Room {
     pub kits: Vec<Kit<Path>>,
