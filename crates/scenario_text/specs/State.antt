@@ -2,12 +2,12 @@
 use Rattle.std.specs.Prelude.{ℕ, Bool, false, List, [], map, Option}
 use Rattle.std.specs.Option.{option_map}
 use Rattle.period_rows.specs.declared.part.CellPart.{CellPart}
+use Rattle.period_rows.specs.declared.changes.GivenChange.{GivenChange}
 use Rattle.scenario_text.specs.declared.draft.Stage.{Stage}
 use Rattle.scenario_text.specs.declared.draft.Stage.TheVariants.{Version}
 use Rattle.scenario_text.specs.declared.draft.TextVersion.{TextVersion}
 use Rattle.scenario_text.specs.declared.draft.TextVersion.TheVariants.{One, Two}
 use Rattle.scenario_text.specs.declared.draft.Draft.{Draft}
-use Rattle.scenario_text.specs.declared.draft.RowIn.{RowIn}
 
 -- a row of a cell's drift, or of a position's look, that is in force in one period alone
 pub record PeriodRow : Type 0 where
@@ -68,8 +68,8 @@ blank_state = record {
 }
 
 -- a row of one period
-abbrev pub period_row_of : RowIn → PeriodRow
-period_row_of r = record { period = r.period; own = r.own; row = r.row.items }
+abbrev pub period_row_of : GivenChange → PeriodRow
+period_row_of r = record { period = r.period; own = r.owner; row = r.row.items }
 
 -- what a draft says
 abbrev pub state_of : Draft → State

@@ -11,7 +11,6 @@ ghost use Rattle.period_rows.specs.Changes.{IsSameChange};
 ghost use Rattle.sweep_table.specs.LookParts.{IsSweep};
 ghost use Rattle.search_model.specs.Names.{IsName};
 ghost use Rattle.search_model.specs.Parts.{problem_of};
-ghost use Rattle.search_model.specs.Problem.{IsProblem};
 ghost use Rattle.scenario_text.specs.declared.draft.Stage.{Stage};
 ghost use Rattle.scenario_text.specs.State.{state_of, positions_in, period_row_of};
 ghost use Rattle.scenario_text.specs.Sound.{IsSound, AreEntries};
@@ -72,16 +71,6 @@ fn grid_of(rows: Vec<Vec<u8>>) -> Grid
 {
     match Grid::new(rows) {
         Ok(grid) => grid,
-        Err(_) => unreachable!(),
-    }
-}
-
-fn scenario_of(parts: Parts) -> Scenario
-    requires { IsProblem (problem_of parts) }
-    ensures { result ≡ problem_of parts }
-{
-    match Scenario::new(parts) {
-        Ok(scenario) => scenario,
         Err(_) => unreachable!(),
     }
 }
@@ -237,5 +226,5 @@ pub fn assemble(alloc: Global, draft: &mut Draft) -> Result<Scenario, AllocError
     ensures { IfOk result (Says (state_of draft.old)) }
 {
     let parts = model_parts(alloc, draft)?;
-    Ok(scenario_of(parts))
+    Ok(Scenario::of_right(parts))
 }

@@ -1,5 +1,6 @@
 use drift_chain::DriftPart;
 use indexmap::IndexSet;
+use period_rows::GivenChange;
 
 /// The version of a text.
 #[derive(Clone, Copy, Debug, PartialEq, Eq)]
@@ -29,14 +30,6 @@ pub enum Stage {
     Ended,
 }
 
-/// A row of a cell's drift, or of a position's look, that is in force in one period alone.
-#[derive(Drop)]
-pub struct RowIn {
-    pub period: u32,
-    pub own: u8,
-    pub row: Vec<DriftPart>,
-}
-
 /// What was read so far. The number of a cell, or of a position, is its name's place in its set. `moves` has an element
 /// a position, `parts` and, in version 1, `overlook` one a cell, and, in version 2, `looks` one a position; one that has
 /// no row of moves or of parts yet has an empty one, which no line gives.
@@ -59,6 +52,7 @@ pub struct Draft {
     pub parts: Vec<Vec<DriftPart>>,
     pub overlook: Vec<Option<u32>>,
     pub looks: Vec<Option<Vec<DriftPart>>>,
-    pub drift_rows: Vec<RowIn>,
-    pub look_rows: Vec<RowIn>,
+    /// The rows of single periods, whose owners are cells and positions.
+    pub drift_rows: Vec<GivenChange>,
+    pub look_rows: Vec<GivenChange>,
 }

@@ -13,7 +13,7 @@ ghost use Rattle.scenario_text.specs.Fields.{are_even, are_pairs, number_in as n
 ghost use Rattle.scenario_text.specs.ByCells.{pairs_of};
 
 use crate::cell_names::{cell_named, positions_of};
-use crate::draft::{Draft, RowIn};
+use crate::draft::Draft;
 use crate::kind::TextKind;
 use crate::line::Line;
 use crate::number_field::{is_bad, is_over, number_at, number_in};
@@ -21,14 +21,15 @@ use crate::pairs::{Scan, row_owner, scan_pairs, scan_some_pairs, total_of};
 use crate::rows::any_above;
 use crate::stop::LineStop;
 use exact_parts::Number;
+use period_rows::GivenChange;
 use std::alloc::Global;
 use text_rows::after_field;
 
 // Whether one of the rows is of this period and this cell or position.
-fn has_row_in(rows: &[RowIn], period: u32, own: u8) -> bool
-    ensures { result ≡ list_any (λ r. r.period == period && r.own == own) rows.now }
+fn has_row_in(rows: &[GivenChange], period: u32, own: u8) -> bool
+    ensures { result ≡ list_any (λ r. r.period == period && r.owner == own) rows.now }
 {
-    rows.iter().any(|r| r.period == period && r.own == own)
+    rows.iter().any(|r| r.period == period && r.owner == own)
 }
 
 fn add_drift_row(
@@ -54,9 +55,9 @@ fn add_drift_row(
     if total_of(&pairs.entries) != u128::from(draft.drift) {
         return Err(LineStop::Fault(TextKind::WrongSum));
     }
-    draft.drift_rows.push(RowIn {
+    draft.drift_rows.push(GivenChange {
         period,
-        own,
+        owner: own,
         row: pairs.entries,
     })?;
     Ok(())
@@ -125,9 +126,9 @@ fn add_look_row(
     if any_above(&pairs.entries, draft.look) {
         return Err(LineStop::Fault(TextKind::PartOver));
     }
-    draft.look_rows.push(RowIn {
+    draft.look_rows.push(GivenChange {
         period,
-        own,
+        owner: own,
         row: pairs.entries,
     })?;
     Ok(())

@@ -1,10 +1,10 @@
 //! Lines that say something of all cells at once: `grid`, `spread` and `rate`.
 
-ghost use Rattle.std.specs.Prelude.{◌≡◌, ◌≤◌, ◌+◌, ◌*◌, ◌-◌, ◌==◌, ◌++◌, ◌∷◌, [], nat_lt, if◌then◌else◌, map, filter, replicate, length, is_some, true, false, Ok, IfOk, OnOk};
+ghost use Rattle.std.specs.Prelude.{◌≡◌, ◌≤◌, ◌+◌, ◌*◌, ◌-◌, ◌++◌, ◌∷◌, [], nat_lt, map, replicate, length, is_some, true, false, Ok, IfOk, OnOk};
 ghost use Rattle.std.specs.Fmt.{decimal};
 ghost use Rattle.std.specs.List.{list_any, range_with_len};
 ghost use Rattle.search_grid.specs.Sides.{side_moves};
-ghost use Rattle.search_model.specs.Grids.{grid_name as grid_name_lem, grid_names as grid_names_lem, rest_of as rest_lem, spread_row as spread_row_lem, spread_rows as spread_rows_lem};
+ghost use Rattle.search_model.specs.Grids.{grid_name as grid_name_lem, grid_names as grid_names_lem, spread_rows as spread_rows_lem};
 ghost use Rattle.scenario_text.specs.State.{state_of};
 ghost use Rattle.scenario_text.specs.Sound.{IsSound};
 ghost use Rattle.scenario_text.specs.Gives.{TakesLine};
@@ -20,6 +20,7 @@ use crate::taking::push_no_parts;
 use drift_chain::DriftPart;
 use indexmap::IndexSet;
 use search_grid::Grid;
+use search_model::spread_row;
 use std::alloc::{AllocError, Global};
 
 // The most rows, and columns, of a grid.
@@ -173,56 +174,6 @@ fn any_parts(rows: &[Vec<DriftPart>]) -> bool
     ensures { result ≡ list_any (λ row. nat_lt 0 (length row.items)) rows.now }
 {
     rows.iter().any(|row| !row.is_empty())
-}
-
-// What stays in a cell of so many moves.
-fn rest_of(denominator: u32, part: u32, moves: usize) -> u32
-    requires { part * (moves - 1) ≤ denominator }
-    ensures { result ≡ rest_lem denominator part moves }
-{
-    let taken = u128::from(part) * (moves.saturating_sub(1) as u128);
-    (u128::from(denominator) - taken) as u32
-}
-
-// The part that a move takes in the row of a cell, to which the rest goes.
-fn part_to(c: u8, rest: u32, part: u32, m: u8) -> u32
-    ensures { result ≡ (if m == c then rest else part) }
-{
-    if m == c { rest } else { part }
-}
-
-// Adds an entry, unless its part is 0.
-fn push_part(row: &mut Vec<DriftPart>, entry: DriftPart) -> Result<(), AllocError>
-    ensures { OnOk result (row.new.items ≡ row.old.items ++ filter (λ e. nat_lt 0 e.part) (entry ∷ [])) }
-{
-    if entry.part > 0 {
-        row.push(entry)?;
-    }
-    Ok(())
-}
-
-fn spread_row(
-    alloc: Global,
-    denominator: u32,
-    part: u32,
-    c: u8,
-    moves: &[u8],
-) -> Result<Vec<DriftPart>, AllocError>
-    requires { part * (length moves.now - 1) ≤ denominator }
-    ensures { IfOk result (λ row. row.items ≡ spread_row_lem denominator part c moves.now) }
-{
-    let rest = rest_of(denominator, part, moves.len());
-    let mut row = Vec::new(alloc);
-    for m in moves {
-        push_part(
-            &mut row,
-            DriftPart {
-                cell: *m,
-                part: part_to(c, rest, part, *m),
-            },
-        )?;
-    }
-    Ok(row)
 }
 
 fn spread_rows(

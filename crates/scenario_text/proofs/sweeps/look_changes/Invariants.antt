@@ -1,5 +1,5 @@
 use Rattle.std.proofs.Common.{◌≡◌, map, take}
-use Rattle.sweep_table.specs.Changes.{change_of}
+use Rattle.period_rows.specs.Changes.{change_of}
 use Rattle.scenario_text.specs.State.{period_row_of}
 use Rattle.scenario_text.specs.Scenarios.{look_change_of}
 use Rattle.scenario_text.proofs.sweeps.look_changes.Given as goal
