@@ -8,7 +8,7 @@ ghost use Rattle.tree_gather.specs.Hauls.{AreJoined};
 ghost use Rattle.node_tickets.specs.Seats.{AreAllSeats as AreAllTickets, numbers_of};
 ghost use Rattle.incumbent_board.specs.Boards.{AreAllSeats};
 ghost use Rattle.search_workers.specs.Seen.{desk_view};
-ghost use Rattle.search_workers.specs.Crew.{IsComplete, MayGo, HasGone, LeaveTogether};
+ghost use Rattle.search_workers.specs.Crew.{IsComplete, MayGo, HasGone};
 ghost use Rattle.search_workers.specs.Settled.{IsSettled, EndsSearch, WithMemory};
 ghost use Rattle.search_workers.specs.Harvests.{EndsHarvest};
 ghost use Rattle.search_workers.specs.Search.{plan_of, IfFull, StopsAtLimit};
@@ -26,13 +26,13 @@ use crate::muster::{Crew, muster};
 use incumbent_board::Board;
 use node_tickets::Tickets;
 use search_model::{Path, Scenario, Standing};
-use std::alloc::{AllocGlobal, Global};
+use std::alloc::AllocGlobal;
 use std::sync::Wait;
 use std::thread::Threads;
 use steal_pool::Kit;
 use tree_gather::gather;
 
-// All workers go, beside each other: how they left together.
+// All workers go, beside each other.
 fn work_together<R: Threads + Wait + Sync, G: Gate>(
     rt: &R,
     sc: &Scenario,
@@ -40,27 +40,23 @@ fn work_together<R: Threads + Wait + Sync, G: Gate>(
     board: &Board,
     gate: &G,
     members: &mut Vec<Member>,
-) -> Left
+)
     requires complete { IsComplete tickets.now board.now members.old.items }
     requires ready { All (λ m. MayGo sc.now tickets.now board.now m.worker) members.old.items }
     ensures complete { IsComplete tickets.now board.now members.new.items }
     ensures gone { All (HasGone sc.now board.now.first) members.new.items }
-    ensures left { LeaveTogether members.new.items result }
     ensures many { length members.new.items ≡ length members.old.items }
 {
     go_all(rt, sc, tickets, board, gate, members.as_mut_slice());
-    left_together(members)
 }
 
 // Settles the kits and goes on over the tasks left: how the search ended, the desks of all workers, and the tasks that
 // are left still. Where memory runs out for the tasks, no desk is missing.
-fn wind_up<R: Wait>(
+fn wind_up<R: Wait + AllocGlobal>(
     rt: &R,
-    alloc: Global,
     sc: &Scenario,
     tickets: &Tickets,
     board: &Board,
-    left: Left,
     members: Vec<Member>,
     kits: Vec<Kit<Path>>,
     desks: Vec<Desk>,
@@ -69,7 +65,6 @@ fn wind_up<R: Wait>(
     requires some { 0 < length members.items }
     requires complete { IsComplete tickets.now board.now members.items }
     requires gone { All (HasGone sc.now board.now.first) members.items }
-    requires left { LeaveTogether members.items left }
     requires empty { (kits.items ≡ []) × (desks.items ≡ []) }
     requires room { (length members.items ≤ vec_capacity kits) × (length members.items ≤ vec_capacity desks) }
     ensures many { length result.1.items ≡ length members.items }
@@ -80,6 +75,8 @@ fn wind_up<R: Wait>(
     ensures ends { EndsSearch result.0 result.2.items (map desk_view result.1.items) }
 {
     sc.recall_sound();
+    let alloc = rt.alloc();
+    let left = left_together(&members);
     let (mut desks, tasks_left) = settle_all(alloc, members, kits, desks);
     let Ok(mut tasks) = tasks_left else {
         return (Left::NoMemory, desks, Vec::new(alloc));
@@ -99,7 +96,7 @@ fn fell_short(left: Left, harvest: &Harvest) -> bool
     }
 }
 
-// Takes all seats back where memory ran out, and drops what was brought in.
+// Closes the tickets and the board where memory ran out, and drops what was brought in. No clause tells of the closing.
 fn give_up<R: Wait>(
     rt: &R,
     tickets: Tickets,
@@ -123,7 +120,7 @@ fn give_up<R: Wait>(
     Err(SearchStop::NoMemory)
 }
 
-// Takes all seats back, and answers what was brought in.
+// Closes the tickets and the board, and answers what was brought in.
 fn conclude<R: Wait>(
     rt: &R,
     sc: &Scenario,
@@ -202,18 +199,8 @@ pub fn search<R: Threads + Wait + Sync + AllocGlobal, G: Gate>(
         mut members,
         room,
     } = muster(rt.alloc(), sc, first, workers, nodes)?;
-    let left = work_together(rt, sc, &tickets, &board, gate, &mut members);
-    let (end, desks, tasks) = wind_up(
-        rt,
-        rt.alloc(),
-        sc,
-        &tickets,
-        &board,
-        left,
-        members,
-        room.kits,
-        room.desks,
-    );
+    work_together(rt, sc, &tickets, &board, gate, &mut members);
+    let (end, desks, tasks) = wind_up(rt, sc, &tickets, &board, members, room.kits, room.desks);
     let harvest = bring_in(rt.alloc(), first, tasks, desks, room.tickets, room.seats);
     if fell_short(end, &harvest) {
         return give_up(rt, tickets, board, harvest);

@@ -1,4 +1,6 @@
 use Rattle.std.proofs.Common.{List, map, sym, subst}
+use Rattle.search_workers.specs.declared.crew.Member.{Member}
+use Rattle.search_workers.specs.Crew.{LeaveTogether}
 use Rattle.search_workers.specs.Desks.{DeskView}
 use Rattle.search_workers.specs.Seen.{desk_view}
 use Rattle.search_workers.specs.Settled.{IsSettled, LeaveDesks}
@@ -21,8 +23,10 @@ finish-end-requires-clause-left g c =
     let tasks = c.in-Ok.tasks.items in
     let crew = c.args.members.items in
     let settled = settled_crew p t b crew tasks c.requires.complete c.requires.gone c.requires.some (rw c.in-Ok.is at c.settle_all-desks.ensures.left) in
-    subst (LeaveDesks c.args.left) (sym c.settle_all-desks.ensures.desks)
-    (left_desks p t b crew tasks c.args.left c.recall_sound.ensures c.requires.gone settled c.requires.left)
+    let left = c.left_together-left.result in
+    let together : LeaveTogether crew left = subst (λ (ms : List Member). LeaveTogether ms left) c.deref.ensures.value c.left_together-left.ensures in
+    subst (LeaveDesks left) (sym c.settle_all-desks.ensures.desks)
+    (left_desks p t b crew tasks left c.recall_sound.ensures c.requires.gone settled together)
 
 pub returns-in_default-clause-tickets : goal.returns-in_default-clause-tickets
 returns-in_default-clause-tickets g c =

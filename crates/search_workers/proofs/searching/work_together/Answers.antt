@@ -2,7 +2,7 @@ use Rattle.std.proofs.Common.{List, All, sym, subst, ◌∙◌}
 use Rattle.std.specs.List.{AllZip}
 use Rattle.std.proofs.lemmas.List.{with_items_is}
 use Rattle.search_workers.specs.declared.crew.Member.{Member}
-use Rattle.search_workers.specs.Crew.{IsComplete, HasGone, LeaveTogether}
+use Rattle.search_workers.specs.Crew.{IsComplete, HasGone}
 use Rattle.search_workers.specs.Runs.{Runs}
 use Rattle.search_workers.proofs.Gone.{complete_after, gone_after}
 use Rattle.search_workers.proofs.searching.work_together.Goals as goal
@@ -24,6 +24,3 @@ returns-clause-gone g c =
     let stored = with_items_is c.args.members.now c.go_all.new.crew (c.go_all.auto.crew ∙ c.as_mut_slice.ensures.len) in
     subst (All (HasGone p b.first)) (sym stored) (gone_after p b.first c.args.members.now.items c.go_all.new.crew
     (subst (λ (old : List Member). AllZip (Runs p b.first) old c.go_all.new.crew) c.as_mut_slice.ensures.value c.go_all.ensures))
-
-pub returns-clause-left : goal.returns-clause-left
-returns-clause-left g c = subst (λ (crew : List Member). LeaveTogether crew c.left_together.result) c.deref.ensures.value c.left_together.ensures
