@@ -1,5 +1,5 @@
 -- A worker stays ready.
-use Rattle.std.proofs.Common.{◌≡◌, ◌≢◌, ℕ, zero, suc, ◌+◌, ◌*◌, ◌<◌, ◌≤◌, Bool, false, None, List, [], ◌∷◌, ◌++◌, length, get_or, refl, sym, ap, ◌∙◌, subst, arith, All, length-append, append-nil}
+use Rattle.std.proofs.Common.{◌≡◌, ◌≢◌, ℕ, zero, suc, ◌+◌, ◌*◌, ◌<◌, ◌≤◌, Bool, false, None, List, [], ◌∷◌, ◌++◌, length, get_or, refl, sym, ap, ◌∙◌, subst, arith, All, Contains, length-append, append-nil}
 use Rattle.std.proofs.lemmas.List.{length-map}
 use Rattle.std.proofs.Math.Seq.{get_or-append_seam}
 use Rattle.std.proofs.lemmas.List.Elements.{All-nil, All-cons, All-contains, All-contains_itself, All-map, Contains-append_left}
@@ -14,14 +14,14 @@ use Rattle.search_core.specs.Counts.{count_of}
 use Rattle.steal_pool.specs.Kits.{KitView, put_of, taken_of}
 use Rattle.node_tickets.specs.Seats.{MayDraw}
 use Rattle.search_workers.specs.Children.{Disposes}
-use Rattle.search_workers.specs.Desks.{DeskView, HasRoom, IsInOrder, IsSameDesk}
-use Rattle.search_workers.specs.Steps.{Records}
-use Rattle.search_workers.specs.declared.left.Left.TheVariants.{Idle}
+use Rattle.search_workers.specs.Desks.{DeskView, HasRoom, IsInOrder, IsSameDesk, DrewFull}
+use Rattle.search_workers.specs.Steps.{Records, Stays}
+use Rattle.search_workers.specs.declared.left.Left.TheVariants.{Idle, Full, NoMemory}
 use Rattle.search_workers.specs.Turns.{OnlyTook, HasWork, Turns}
 use Rattle.search_workers.specs.Workers.{begun_by, IsReady, IsSameWorker, Went}
 use Rattle.search_model.proofs.Children.{few_moves}
 use Rattle.list_laws.proofs.Wholes.{Contains-last}
-use Rattle.search_workers.proofs.Balanced.{new_balanced, took_balanced, closed_balanced, expects_nothing}
+use Rattle.search_workers.proofs.Balanced.{new_balanced, took_balanced, closed_balanced, expects_nothing, stays_balanced}
 use Rattle.search_workers.proofs.Disposed.{waits, disposed_same, disposed_kit, all_wait, room_wait}
 use Rattle.search_model.proofs.Children.{child_is_legal}
 
@@ -116,6 +116,29 @@ took_same kit kit' d ws took = record {
   place = took.place;
   desk = record { tickets = (refl, refl); stands_for = refl; seat = (refl, refl) };
 }
+
+-- a step that records nothing is the last
+module _ (p : Problem) (first : Standing) (kit : KitView (List ℕ)) (d d' : DeskView)
+    (ready : IsReady p first (record { kit = kit; desk = d })) (order : IsInOrder p first d') (same : IsSameDesk d d') (stays : Stays d d') where
+  -- at the limit a legal prefix waits
+  pub turned_full : 0 < length d.waiting → DrewFull d'.ticket → Went p first (record { kit = kit; desk = d }) Full (record { kit = kit; desk = d' })
+  turned_full some drew =
+      let q = get_or d.waiting 0 [] in
+      record {
+        same = record { pool = refl; place = refl; desk = same };
+        balanced = stays_balanced p kit d d' ready.balanced stays;
+        order = order;
+        leaves = (drew, (q, subst (λ ws. Contains ws q) (sym stays.waiting) (All-contains_itself d.waiting 0 [] some), ready.legal 0 [] some));
+      }
+
+  -- and where memory ran out
+  pub turned_short : MayDraw d'.ticket → Went p first (record { kit = kit; desk = d }) NoMemory (record { kit = kit; desk = d' })
+  turned_short may = record {
+    same = record { pool = refl; place = refl; desk = same };
+    balanced = stays_balanced p kit d d' ready.balanced stays;
+    order = order;
+    leaves = may;
+  }
 
 module _ (p : Problem) (first : Standing) (kit kit' : KitView (List ℕ)) (d : DeskView) (ws : List (List ℕ))
     (ready : IsReady p first (record { kit = kit; desk = d })) (took : OnlyTook kit d.waiting kit' ws) (room : HasRoom ws) where

@@ -1,8 +1,6 @@
-use Rattle.std.proofs.Common.{nat_lt, length, ◌*◌, [], get_or, refl, sym, subst, Contains}
-use Rattle.std.proofs.lemmas.List.Elements.{All-contains_itself}
+use Rattle.std.proofs.Common.{nat_lt, length, ◌*◌}
 use Rattle.search_workers.specs.Seen.{desk_view}
-use Rattle.search_workers.proofs.Balanced.{stays_balanced}
-use Rattle.search_workers.proofs.Ready.{turned_end, turned_branch}
+use Rattle.search_workers.proofs.Ready.{turned_end, turned_branch, turned_full, turned_short}
 use Rattle.search_workers.proofs.run.step.Goals as goal
 
 pub returns-in-Ends : goal.returns-in-Ends
@@ -23,12 +21,11 @@ returns-in-Branches g c =
 pub returns-in-Full : goal.returns-in-Full
 returns-in-Full g c =
     let closes = c.in-Full.ensures.closes in
-    let p = c.args.sc.now in
-    let waiting = c.args.desk.now.stack in
-    let q = get_or waiting 0 [] in
-    record {
-      same = record { pool = refl; place = refl; desk = c.in-Full.ensures.same };
-      balanced = stays_balanced p c.args.kit.now (desk_view c.args.desk.now) (desk_view c.close_last.new.self) c.requires.ready.balanced closes.0;
-      order = c.in-Full.ensures.order;
-      leaves = (closes.1, (q, subst (λ ws. Contains ws q) (sym closes.0.waiting) (All-contains_itself waiting 0 [] c.requires.some), c.requires.ready.legal 0 [] c.requires.some));
-    }
+    turned_full c.args.sc.now c.args.board.now.first c.args.kit.now (desk_view c.args.desk.now) (desk_view c.close_last.new.self)
+    c.requires.ready c.in-Full.ensures.order c.in-Full.ensures.same closes.0 c.requires.some closes.1
+
+pub returns-in-NoMemory : goal.returns-in-NoMemory
+returns-in-NoMemory g c =
+    let closes = c.in-NoMemory.ensures.closes in
+    turned_short c.args.sc.now c.args.board.now.first c.args.kit.now (desk_view c.args.desk.now) (desk_view c.close_last.new.self)
+    c.requires.ready c.in-NoMemory.ensures.order c.in-NoMemory.ensures.same closes.0 closes.1
