@@ -20,6 +20,7 @@ HELPERS = {
     "split": "desk.split",
     "join": "desk.join",
     "trial": "desk.trial",
+    "vary": "desk.vary",
 }
 
 

@@ -19,17 +19,9 @@ def without_edge(given):
     grid, away = given.grid, MARGIN * given.grid.side
     land = frozenset((row + MARGIN, column + MARGIN) for row, column in grid.land)
     wide = dataclasses.replace(grid, rows=grid.rows + 2 * MARGIN, columns=grid.columns + 2 * MARGIN, land=land, frame=None)
-
-    def moved(place):
-        return place[0] + away, place[1] + away
-
-    def shifted(it):
-        line = it.track and tuple(moved(place) for place in it.track)
-        return dataclasses.replace(it, square=(it.square[0] + MARGIN, it.square[1] + MARGIN), place=moved(it.place), track=line)
-
     told = given.tracks.ensemble and given.tracks.ensemble.moved(float(away), float(away))
     chosen = dataclasses.replace(given.tracks, ensemble=told)
-    return dataclasses.replace(given, grid=wide, is_lost=False, reports=tuple(shifted(it) for it in given.reports), tracks=chosen)
+    return dataclasses.replace(given, grid=wide, is_lost=False, reports=tuple(it.moved(away, away, grid.side) for it in given.reports), tracks=chosen)
 
 
 def beyond(grid, place):

@@ -15,7 +15,7 @@ class Square:
     """Anywhere in a square of a side in metres, given by its row and its column."""
 
     def __init__(self, square, side):
-        (self.row, self.column), self.side = square, side
+        (self.row, self.column), self.side = map(float, square), side
 
     def drawn(self, draw):
         return (self.column + draw()) * self.side, (self.row + draw()) * self.side

@@ -64,6 +64,12 @@ class Report:
     def is_square(self):
         return self.radius is None and self.probable_error is None and self.track is None
 
+    def moved(self, east, south, side):
+        """The same report, so many metres farther east and south. Its square, of this side, may then lie between those of the area."""
+        line = self.track and tuple((x + east, y + south) for x, y in self.track)
+        square, place = (self.square[0] + south / side, self.square[1] + east / side), (self.place[0] + east, self.place[1] + south)
+        return dataclasses.replace(self, square=square, place=place, track=line)
+
 
 @dataclasses.dataclass(frozen=True)
 class Drift:

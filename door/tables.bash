@@ -88,6 +88,10 @@ helpers=(
   'flies paths over simulated drifts, and says what they find beside what their plans say'
   './osp trial lake.toml lake.plan --pattern all'
 
+  'vary SITUATION.toml PLAN [--nodes N] [--json yes]'
+  'says what a plan finds where the situation is otherwise, and what it costs to be wrong'
+  './osp vary lake.toml lake.plan'
+
   'plan --seconds N | --minutes N [SCENARIO] [--workers N] [--json yes]'
   'writes the best plan that can be had in so long, or a gap plan with a ceiling that no path exceeds'
   './osp plan --seconds 60 lake.scenario -o lake.plan'
