@@ -81,9 +81,9 @@ class Ensemble:
             yield f"note: {self.count:,} track{'s are' if self.count > 1 else ' is'} few, and shares are rough; {FEW:,} or more are better"
 
 
-def at_looks(name, recorded, clock, times):
-    """The Ensemble of what a file of a name has (desk.recorded.Recorded), at the times of the looks. Raises BadSituation."""
-    first, last = clock.told(times[0]), clock.told(times[-1])
+def at_looks(recorded, clock, times):
+    """The Ensemble of what a file has (desk.recorded.Recorded), at the times of the looks. Raises BadSituation."""
+    name, first, last = recorded.name, clock.told(times[0]), clock.told(times[-1])
     if not recorded.courses:
         raise wrong(name, "it has no track with a place")
     if recorded.ends < times[-1]:

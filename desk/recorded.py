@@ -11,7 +11,7 @@ import os
 import re
 from fractions import Fraction
 
-from desk import moments, packages, placing
+from desk import accepted, moments, packages, placing
 from desk.ensemble import Course, wrong
 from desk.keys import shown
 
@@ -35,9 +35,10 @@ IN_DEGREE, POLAR = 100, 89.9
 
 @dataclasses.dataclass(frozen=True)
 class Recorded:
-    """What a file has: the courses of its tracks, but for those without any place, and how many these are; its first and its last time in
+    """What the file of a name has: the courses of its tracks, but for those without any place, and how many these are; its first and its last time in
     minutes after the begin of the search; what makes metres of two coordinates; and the file's checksum."""
 
+    name: str
     courses: list
     empty: int
     begins: float
@@ -49,11 +50,11 @@ class Recorded:
 def recorded(path, clock, frame=None):
     """What the file of a path has, in minutes of a clock; degrees become metres by an earth.Frame. Raises BadSituation, and
     packages.Lacking."""
-    name = os.path.basename(path)
+    name = accepted.shown(os.path.basename(path))
     try:
         with open(path, "rb") as file:
             digest = hashlib.file_digest(file, "sha256").hexdigest()
-        if name.endswith(".nc"):
+        if path.endswith(".nc"):
             return of_netcdf(name, path, clock, frame, digest)
         with open(path, encoding="utf-8-sig", newline="") as file:
             return Table(name, csv.reader(file), clock, frame).recorded(digest)
@@ -159,7 +160,7 @@ class Table:
             raise wrong(self.name, "it has no track")
         courses = [self.course(name, *it) for name, it in self.tracks.items() if it[0]]
         times = self.times.values()
-        return Recorded(courses, len(self.tracks) - len(courses), min(times), max(times), metres, digest)
+        return Recorded(self.name, courses, len(self.tracks) - len(courses), min(times), max(times), metres, digest)
 
     def fault(self, why):
         return wrong(self.name, f"line {self.rows.line_num}: {why}")
@@ -225,7 +226,7 @@ def of_netcdf(name, path, clock, frame, digest):
     except (OSError, RuntimeError):
         # (So it says that a file is none, or that it is cut.)
         raise wrong(name, "it isn't a whole netCDF file") from None
-    return Recorded(courses, empty, file.minutes[0], file.minutes[-1], metres, digest)
+    return Recorded(name, courses, empty, file.minutes[0], file.minutes[-1], metres, digest)
 
 
 def minutes_of(name, netcdf, data, clock):

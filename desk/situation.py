@@ -478,4 +478,4 @@ def track_choice(tables):
 def recorded_at(path, given):
     """The Ensemble of the file of a path at the looks of a situation. Raises BadSituation, and packages.Lacking."""
     looks = [float(given.look_time(t)) for t in range(1, given.periods + 1)]
-    return at_looks(os.path.basename(path), recorded.recorded(path, given.clock, given.grid.frame), given.clock, looks)
+    return at_looks(recorded.recorded(path, given.clock, given.grid.frame), given.clock, looks)

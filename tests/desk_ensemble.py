@@ -257,6 +257,8 @@ class Whole(File):
         out = self.trial("--tracks", other).replace("\n  ", " ")
         self.assertIn("whole.toml: 2 tracks of other.csv. Behind", out)
         self.assertIn("other.csv: note: 2 tracks are few", out)
+        odd = self.write(b"o\xff\n.csv", (HEAD + STAYS).encode())
+        self.assertIn("1 tracks of o\N{REPLACEMENT CHARACTER}\N{REPLACEMENT CHARACTER}.csv", self.trial("--tracks", odd))
         self.assertIn("--count and --seed are of simulated drifts", self.trial("--seed", "4", status=2))
         self.assertIn("osp trial: [tracks] file: none.csv: it can't be read", self.trial("--tracks", "none.csv", status=1))
 

@@ -37,7 +37,7 @@ def degrees(x, y, turns=0):
 class File(Room):
     def ensemble(self, name, clock=CLOCK, frame=Plane):
         path = os.path.join(self.room, name)
-        return at_looks(name, recorded.recorded(path, clock, frame), clock, LOOKS)
+        return at_looks(recorded.recorded(path, clock, frame), clock, LOOKS)
 
     def netcdf(self, tracks, times=None, **more):
         """The ensemble of a file with these tracks: places in metres with a status, or None where it is masked."""
