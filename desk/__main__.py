@@ -16,6 +16,7 @@ HELPERS = {
     "next": "desk.following",
     "show": "desk.show",
     "brief": "desk.brief",
+    "chart": "desk.chart",
     "explain": "desk.explain",
     "split": "desk.split",
     "join": "desk.join",

@@ -59,13 +59,27 @@ def periods(search, times):
     return rows_of(lines, [head in TEXTS for head in lines[0]])
 
 
+def course_of(leg):
+    """The true course of a leg, as in 045°."""
+    return f"{round(leg.course) % 360:03}°"
+
+
+def miles_of(leg):
+    """The length of a leg, as in 0.38 NM; around land with a star."""
+    return f"{AROUND if leg.around else ''}{(leg.around or leg.metres) / geometry.NAUTICAL_MILE:.2f} NM"
+
+
+def place_of(stop):
+    """The middle of a stop's square on the earth; a dash where it isn't known."""
+    return earth.told(*stop.on_earth) if stop.on_earth else "-"
+
+
 def way(one, other, given):
-    """The course and the length of the way between two stops, as cells. What goes around land has a star."""
+    """The course and the length of the way between two stops, as cells."""
     leg = steering.leg(one, other, given)
     if leg is None or leg.is_stay:
         return ["-" if leg is None else "stay", ""]
-    miles = (leg.around or leg.metres) / geometry.NAUTICAL_MILE
-    return [f"{round(leg.course) % 360:03}°", f"{AROUND if leg.around else ''}{miles:.2f} NM"]
+    return [course_of(leg), miles_of(leg)]
 
 
 def steered(search, told, who):
@@ -76,7 +90,7 @@ def steered(search, told, who):
         return []
     lines = [["period", *(["begins"] if told.times else []), "look from", *(["middle"] if told.frame else []), "course", "way"]]
     for frame, before, it in zip(search.frames[1:], stops, stops[1:]):
-        middle = [earth.told(*it.on_earth) if it.on_earth else "-"] if told.frame else []
+        middle = [place_of(it)] if told.frame else []
         lines.append([str(it.period), *begins(frame, told.times), looked_from(search, frame)[who], *middle, *way(before, it, told.given)])
     head = "Where to go:" if search.seats.count == 1 else f"Where the {('first', 'second')[who]} searcher goes:"
     return ["", head, *rows_of(lines, [it in TEXTS for it in lines[0]])]

@@ -108,6 +108,10 @@ helpers=(
   'writes the same as plain text, for a radio or a tasking form'
   './osp brief lake.scenario lake.plan --from 19:30 --minutes 15'
 
+  'chart SCENARIO [PLAN] [--of SCENARIO] [--from TIME --minutes N] [--form NAME]'
+  'writes the path for a plotter or a map, as GPX, KML or GeoJSON by the ending of the name behind -o'
+  './osp chart lake.scenario lake.plan -o lake.gpx'
+
   'split DEPTH SCENARIO FOLDER [--jobs N]'
   'makes a folder of jobs for several machines: a part of the plan for each way to begin with DEPTH looks'
   './osp split 2 lake.scenario lake.parts'
