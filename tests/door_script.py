@@ -44,6 +44,7 @@ class Help(InHouse):
         self.assertIn("  ./osp linger NUMBER [--workers N]\n      waits so long\n      as in  ./osp linger 7\n", self.house.run("--help").out, "the help lacks it")
         self.house.run("linger").gives(2, "", "linger needs NUMBER")
         self.house.run("linger", "7", "--workers", "17").gives(2, "", "17 cannot stand for --workers N")
+        self.assertEqual(self.house.calls(), [])
         self.house.stops(signal.SIGTERM, "linger", "7", given=subprocess.PIPE, mood="hangs")
         self.assertEqual(self.house.calls(), ["osp try -- linger 7"])
 

@@ -86,19 +86,18 @@ class Ran:
         HOLDS.assertTrue(err is None or (err in self.err if err else self.err == ""), f"err {err!r} is wanted: {said}")
         return self
 
-    def says_one_line(self):
-        """Holds what it says against one line of the script's own, but for the line that a run is unproved."""
+    def fails(self, part):
+        """Holds it against a failure of the script: nothing is written, and one line says what happened."""
+        self.gives(FAILED, None, part)
         lines = [it for it in self.err.splitlines() if not it.startswith(UNPROVED)]
         HOLDS.assertTrue(len(lines) == 1 and lines[0].startswith("osp: "), f"one line of the script's own is wanted: {self.err!r}")
         return self
 
-    def fails(self, part):
-        """Holds it against a failure of the script: nothing is written, and one line says what happened."""
-        return self.gives(FAILED, None, part).says_one_line()
-
     def refuses(self, part):
         """Holds it against a refusal of its words: status 2, and one line that names the wrong one."""
-        return self.gives(2, "", part).says_one_line()
+        self.gives(2, "", part)
+        HOLDS.assertTrue(self.err.startswith("osp: ") and self.err.count("\n") == 1, f"one line is wanted: {self.err!r}")
+        return self
 
 
 def at_start(closed):
