@@ -53,7 +53,7 @@ UNREACHED = {
     "rattle_env_at": "i64 (i64, ptr, i64)",
 }
 # How much memory the module has from the start, and at most (osp.mjs has the same, in pages), and how much of it is its stack.
-FIRST, MOST, STACK = 16 << 20, 1 << 30, 8 << 20
+FIRST, MOST, STACK = 9 << 20, 1 << 30, 8 << 20
 # WebAssembly as all browsers have it since 2021.
 TARGET = [f"--target={narrow.NEW_TRIPLE}", "-mcpu=mvp", "-mbulk-memory", "-msign-ext", "-mnontrapping-fptoint", "-mmutable-globals"]
 MODULE_FLAGS = ["-O3", "-ffunction-sections", "-mllvm", "-trap-unreachable", "-mllvm", "-no-trap-after-noreturn"]

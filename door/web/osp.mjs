@@ -8,7 +8,7 @@ const NO_MEMORY = 7;
 const STOPPED = 70;
 const EAGAIN = 11;
 // How many pages of 64 KiB the program has from the start, and may have: those that its module is linked with (build.py).
-const [FIRST_PAGES, MOST_PAGES] = [256, 16384];
+const [FIRST_PAGES, MOST_PAGES] = [144, 16384];
 const [NO_WORD, NO_ROOM] = [-1n, -2n];
 
 // How the program ends: by a call that doesn't come back.

@@ -1,0 +1,255 @@
+"""Tests of the program as a module of WebAssembly: how it is made of LLVM's module, the functions of door/web/host.c, and that it answers
+as the program for Linux does. `python3 -m unittest tests.desk_web`, or tests/desk."""
+import json
+import os
+import random
+import subprocess
+import sys
+import tempfile
+import unittest
+
+sys.dont_write_bytecode = True
+sys.path.insert(0, os.path.dirname(os.path.realpath(__file__)))
+
+from tests import answers, web  # noqa: E402
+from tests.web import TOP, Answer, Case  # noqa: E402
+
+sys.path.insert(0, os.path.join(TOP, "door", "web"))
+import build  # noqa: E402
+import narrow  # noqa: E402
+
+HEAD = f'target datalayout = "{narrow.LAYOUT}"\ntarget triple = "{narrow.TRIPLE}"\n'
+NEW_HEAD = f'target datalayout = "{narrow.NEW_LAYOUT}"\ntarget triple = "{narrow.NEW_TRIPLE}"\n'
+
+# Lines of LLVM's text, and what they become.
+NARROWED = [
+    ("  %r1 = alloca ptr, align 8", "  %r1 = alloca i64, align 8"),
+    ("  %r1 = alloca [24 x i8], align 8", None),
+    ("  %r2 = load ptr, ptr %r1, align 8, !noundef !1", None),
+    ("  store ptr %r2, ptr %r1, align 8", "  store ptr %r2, ptr %r1, align 8\n  %w2 = getelementptr i8, ptr %r1, i64 4\n  store i32 0, ptr %w2"),
+    ("  store i64 -1, ptr %r1, align 8", None),
+    ("  %r3 = load { i8, i64 }, ptr %r1, align 8", None),
+    (
+        "  %r3 = load { i8, ptr }, ptr %r1, align 8",
+        "  %w2.a = load i8, ptr %r1\n  %w2.g = getelementptr i8, ptr %r1, i64 8\n  %w2.b = load ptr, ptr %w2.g\n"
+        "  %w2.i = insertvalue { i8, ptr } poison, i8 %w2.a, 0\n  %r3 = insertvalue { i8, ptr } %w2.i, ptr %w2.b, 1",
+    ),
+    (
+        "  store { ptr, i64 } %r3, ptr %r1, align 8",
+        "  %w2.a = extractvalue { ptr, i64 } %r3, 0\n  %w2.b = extractvalue { ptr, i64 } %r3, 1\n  %w2.g = getelementptr i8, ptr %r1, i64 8\n"
+        "  store ptr %w2.a, ptr %r1\n  %w2.a.u = getelementptr i8, ptr %r1, i64 4\n  store i32 0, ptr %w2.a.u\n  store i64 %w2.b, ptr %w2.g",
+    ),
+    ("  %r4 = ptrtoaddr ptr %r1 to i64", "  %r4 = ptrtoint ptr %r1 to i64"),
+    ("  call void @llvm.x86.sse2.pause()", ""),
+    (
+        '@static.1 = private constant <{ [8 x i8], ptr, [2 x i8] }> <{ [8 x i8] zeroinitializer, ptr getelementptr (i8, ptr @static.1, i64 16), [2 x i8] c", " }>, align 16',
+        "@static.1 = private constant <{ [8 x i8], ptr, [4 x i8], [2 x i8] }> <{ [8 x i8] zeroinitializer, "
+        'ptr getelementptr (i8, ptr @static.1, i64 16), [4 x i8] zeroinitializer, [2 x i8] c", " }>, align 16',
+    ),
+    ('@static.2 = private constant [5 x i8] c" ptr ", align 1', None),
+    (
+        'attributes #0 = { nounwind "frame-pointer"="all" "probe-stack"="inline-asm" "stack-probe-size"="3072" "target-cpu"="x86-64" }',
+        'attributes #0 = { nounwind "frame-pointer"="all" }',
+    ),
+]
+
+# Lines that aren't known to mean the same, so that nothing is made of a module that has one.
+REFUSED = [
+    'target triple = "x86_64-unknown-linux-musl"',
+    'target datalayout = "e-m:e-i64:64"',
+    "attributes #0 = { nounwind sspstrong }",
+    'attributes #0 = { nounwind "target-abi"="x" }',
+    "@static.1 = private constant [2 x ptr] [ptr @a, ptr @b], align 8",
+    "@static.1 = private constant { i8, ptr } { i8 1, ptr @static.2 }, align 8",
+    "  %r1 = alloca { ptr, i64 }, align 8",
+    "  %r1 = alloca [2 x ptr], align 8",
+    "  %r1 = load <2 x ptr>, ptr %r0, align 16",
+    "  %r1 = load { ptr, { i8, i8 } }, ptr %r0, align 8",
+    "  %r1 = load { i8, i64, ptr }, ptr %r0, align 8",
+    "  store { ptr, float } %r1, ptr %r0, align 8",
+    "  %r1 = getelementptr ptr, ptr %r0, i64 1",
+    "  %r1 = getelementptr { i64, ptr }, ptr %r0, i64 0, i32 1",
+    "  store ptr getelementptr (i64, ptr @static.1, i64 1), ptr %r0, align 8",
+    "  %r1 = inttoptr i64 %r0 to ptr",
+    "  store ptr inttoptr (i64 8 to ptr), ptr %r0, align 8",
+    "  %r1 = cmpxchg ptr %r0, ptr %r2, ptr %r3 seq_cst seq_cst, align 8",
+    "  %r1 = atomicrmw xchg ptr %r0, ptr %r2 seq_cst, align 8",
+    "  %r1 = va_arg ptr %r0, i64",
+    "  %r1 = call i64 @f(ptr byval([16 x i8]) %r0)",
+    "declare void @f(ptr sret([16 x i8]))",
+    "module asm \"nop\"",
+    "%struct.a = type { ptr, i8 }",
+]
+
+ROUND = 2**128
+# The pages that the module has from the start, and what it answers where it has too few.
+FIRST = build.FIRST >> 16
+NO_MEMORY = Answer(7, b"", b"no memory\n")
+
+
+def bits(rng):
+    """A number of 128 bits, with many of its bits alike, or few."""
+    return rng.choice([0, 1, 2, 3, 10, 2**32, 2**63, 2**64, 2**127, ROUND - 1, rng.randrange(2**rng.randrange(1, 129))]) ^ rng.choice([0, 0, 1])
+
+
+def arithmetic(rng):
+    """Calls of 128-bit functions, with what comes of them."""
+    made = []
+    for _ in range(3000):
+        a, b, by = bits(rng), bits(rng), rng.randrange(128)
+        made += [("__multi3", a, b, a * b % ROUND), ("__ashlti3", a, by, (a << by) % ROUND), ("__lshrti3", a, by, a >> by)]
+        if b:
+            made += [("__udivti3", a, b, a // b), ("__umodti3", a, b, a % b)]
+    return made
+
+
+class Making(unittest.TestCase):
+    """LLVM's text for x86-64, and for wasm32."""
+
+    def test_lines(self):
+        for line, wanted in NARROWED:
+            with self.subTest(line):
+                made = narrow.narrowed(f"{HEAD}{line}\n")
+                self.assertEqual(made, f"{NEW_HEAD}{line if wanted is None else wanted}\n".replace(f"{NEW_HEAD}\n", NEW_HEAD))
+
+    def test_refused(self):
+        for line in REFUSED:
+            with self.subTest(line), self.assertRaises(narrow.Unknown):
+                narrow.narrowed(f"{line}\n")
+
+    def test_calls(self):
+        """A module that declares another function, or one with other types, is refused."""
+        main = "define internal void @f() {\n}\n\ndefine i32 @main() #0 {\n}\n"
+        known = f"declare noundef i64 @read(i32 noundef, ptr noundef, i64 noundef) #3\ndeclare void @llvm.trap() #4\n{main}"
+        self.assertEqual(build.declared(known), {"read": "i64 (i32, ptr, i64)"})
+        build.same_calls(known)
+        for text in (known.replace("@read", "@pread"), known.replace("i64 noundef)", "i32 noundef)"), known.replace("@main", "@start")):
+            with self.subTest(text), self.assertRaises(build.Stop):
+                build.same_calls(text)
+
+
+@unittest.skipUnless(web.NODE, "node isn't installed (Debian's package nodejs)")
+class Host(unittest.TestCase):
+    """Each function of door/web/host.c, compiled as it is for the module."""
+
+    ARITHMETIC = ["__multi3", "__udivti3", "__umodti3", "__ashlti3", "__lshrti3"]
+    # Four pages are there from the start, of which one is the stack, and eight may be.
+    SIZES = ["-z", "stack-size=65536", f"--initial-memory={4 << 16}", f"--max-memory={8 << 16}"]
+
+    @classmethod
+    def setUpClass(cls):
+        cls.room = tempfile.TemporaryDirectory()
+        cls.addClassCleanup(cls.room.cleanup)
+        try:
+            tools = f"{build.kit()}/toolchain/bin"
+        except build.Stop as why:
+            raise unittest.SkipTest(str(why)) from None
+        made, linked = f"{cls.room.name}/host.o", f"{cls.room.name}/host.wasm"
+        names = [*cls.ARITHMETIC, *build.MEMORY]
+        build.call([f"{tools}/clang", *build.TARGET, *build.HOST_FLAGS, "-Werror", "--no-default-config", "-c", f"{TOP}/door/web/host.c", "-o", made])
+        build.call([f"{tools}/ld.lld", "-flavor", "wasm", "--no-entry", "--stack-first", *cls.SIZES, *(f"--export={it}" for it in names), made, "-o", linked])
+
+    def asked(self, calls):
+        given = [[name, *(str(it) if name in self.ARITHMETIC else it for it in more)] for name, *more in calls]
+        words = [web.NODE, f"{TOP}/tests/host_in_node.mjs", f"{self.room.name}/host.wasm"]
+        done = subprocess.run(words, input=json.dumps(given), stdout=subprocess.PIPE, text=True, check=True)
+        return json.loads(done.stdout)
+
+    def test_arithmetic(self):
+        """All five functions, against Python's numbers."""
+        rows = arithmetic(random.Random(7))
+        for (name, a, b, wanted), told in zip(rows, self.asked([it[:3] for it in rows]), strict=True):
+            self.assertEqual(int(told), wanted, (name, a, b))
+
+    def test_blocks(self):
+        """Blocks are aligned, lie apart, and keep their bytes, in a random order of all calls; what was given back is used again."""
+        rng, calls, sizes, live = random.Random(11), [], [], {}
+        for at in range(4000):
+            old = rng.choice(sorted(live)) if live else None
+            if old is None or len(live) < 12 and rng.random() < 0.5:
+                old, size = len(sizes), rng.choice([0, 1, 15, 16, 17, 100, 1000, 5000])
+                calls.append(rng.choice([("alloc", size, rng.choice([1, 2, 4, 8, 16])), ("malloc", size)]))
+                sizes.append(size)
+            elif rng.random() < 0.4:
+                calls += [("bytes", old, live[old][0]), (rng.choice(["dealloc", "free"]), old)]
+                del live[old]
+                continue
+            else:
+                size = rng.choice([0, 3, 16, 40, 700, 6000])
+                kept = min(size, live[old][0])
+                calls += [("realloc", old, kept, size), ("bytes", old, kept)]
+            calls.append(("fill", old, size, at % 251))
+            live[old] = (size, at % 251)
+        self.follow(calls, self.asked(calls))
+
+    def follow(self, calls, told):
+        """Holds what was answered to the calls against a list of the blocks."""
+        blocks, number = {}, 0
+        for (name, *given), said in zip(calls, told, strict=True):
+            if name in ("alloc", "malloc", "realloc"):
+                self.assertIsNotNone(said, "no memory")
+                block, size = (given[0], given[2]) if name == "realloc" else (number, given[0])
+                number += name != "realloc"
+                self.assertEqual(said % 16, 0)
+                before = blocks.pop(block, (0, 0, None))
+                self.assertFalse([it for it in blocks.values() if said < it[0] + it[1] and it[0] < said + size], (name, given))
+                blocks[block] = (said, size, before[2])
+            elif name == "fill":
+                blocks[given[0]] = (*blocks[given[0]][:2], given[2])
+            elif name == "bytes":
+                self.assertLessEqual(set(said), {blocks[given[0]][2]})
+            else:
+                del blocks[given[0]]
+
+    def test_refused_memory(self):
+        """Of seven pages and less the first five blocks of 64 KiB have each their head; then there is none, and a block stays as it is."""
+        asks = [("alloc", 65_536, 8)] * 8 + [("fill", 0, 65_536, 5), ("realloc", 0, 65_536, 70_000), ("bytes", 0, 65_536), ("malloc", 2**40), ("alloc", 8, 32)]
+        told = self.asked([*asks, ("dealloc", 0), ("alloc", 65_000, 8), ("free", None)])
+        given = [it for it in told[:8] if it is not None]
+        self.assertTrue(5 <= len(given) <= 6, given)
+        self.assertEqual(told[len(given) : 8], [None] * (8 - len(given)))
+        self.assertEqual(told[8:13], [None, None, [5], None, None])
+        self.assertEqual(told[13:], [None, given[0], None])
+
+
+@unittest.skipIf(web.lacking(), web.lacking())
+class Answers(unittest.TestCase):
+    """The module answers as the program for Linux does, byte for byte."""
+
+    def same(self, cases):
+        self.assertFalse(web.differing(cases))
+
+    def test_module(self):
+        """The module of the built program, which calls what is known here and nothing else."""
+        script = "const m = new WebAssembly.Module(fs.readFileSync(process.argv[1])); console.log(JSON.stringify([WebAssembly.Module.imports(m), WebAssembly.Module.exports(m)]))"
+        done = subprocess.run([web.NODE, "-e", script, web.MODULE], stdout=subprocess.PIPE, check=True)
+        asked, given = json.loads(done.stdout)
+        self.assertLessEqual({(it["module"], it["kind"], it["name"]) for it in asked}, {("env", "function", it) for it in build.CALLS} | {("env", "memory", "memory")})
+        self.assertEqual(given, [{"name": "osp", "kind": "function"}])
+
+    def test_rows(self):
+        """Every row of the tests of the front door. Where several workers search, which here is one, the records may be others."""
+        rows = [*answers.texts_of_rows()[0], *answers.texts_of_examples()[0], *answers.texts_of_made()[0], *answers.texts_of_limits(), *answers.texts_of_documents()]
+        rows = [it for it in rows if not answers.is_the_scripts(it)]
+        by_one = lambda words: "--workers" in words or words[:1] not in (["plan"], ["gap"], ["replan"], ["duo"])
+        self.assertGreater(len(rows), 100)
+        self.same([Case(it.words, it.given) for it in rows if by_one(it.words)])
+        others = [it for it in rows if not by_one(it.words)]
+        told = zip(others, web.in_node([Case(it.words, it.given) for it in others]), strict=True)
+        for row, taken in told:
+            there = web.native([Case([*row.words[:1], "--workers", "1", *row.words[1:]], row.given)])[0]
+            self.assertEqual(taken.answer, there, row.name)
+
+    def test_words(self):
+        """Words that spell no command, names that are no ASCII, and an input that isn't UTF-8."""
+        texts = [["plan", "--workers", "17"], [], ["check", "x"], ["map", "flown", "größe"], ["replan", "flown", *["a"] * 40], ["make", "7"], ["drill", "3", "--workers", "1"]]
+        self.same([Case(words, given) for words in texts for given in (b"", b"\xff\xfe\n", answers.LAKE)])
+
+    def test_memory(self):
+        """However few pages there are, it ends with status 7 and writes nothing, or answers as it does with enough of them."""
+        row = answers.texts_of_limits()[0]
+        for words, given in ((["plan", "--workers", "1"], row.given), (["check"], row.given + row.out.encode())):
+            told = [it.answer for it in web.in_node([Case(words, given, FIRST + more) for more in (0, 1, 3, 6, 10, 20, 30, 40, 44, 45, 60)])]
+            whole = web.native([Case(words, given)])[0]
+            self.assertEqual((told[0], told[-1], whole.status), (NO_MEMORY, whole, 0))
+            self.assertLessEqual(set(told), {whole, NO_MEMORY})
