@@ -26,7 +26,7 @@ class Refused(Exception):
 class Search:
     """A scenario and its accepted plan, or gap plan.
 
-    `name` is the file's, `text` the scenario's bytes; `sc` and `path` as in desk.forms; `version` and `records` of the plan's
+    `name` is the file's, `text` the scenario's bytes and `plan` the plan's; `sc` and `path` as in desk.forms; `version` and `records` of the plan's
     text; `ceiling` what no path exceeds, of a gap plan alone; `report` the program's own, or for a gap plan, of which it makes none,
     that of these masses; `frames` those of desk.masses, which agree with it, or with the program's map, too, where it
     `is_mapped`; the checksums those of the two texts. `note` is what the program said on standard error. `seats` says who is where,
@@ -48,6 +48,7 @@ class Search:
     seats: seats.Seats
     told_by: bytes
     ceiling: int | None = None
+    plan: bytes = b""
     is_mapped: bool = False
     trial: object = None
 
@@ -206,7 +207,7 @@ def load(names, of=None):
     name = "of standard input" if names[0] == "-" else shown(os.path.basename(names[0]))
     version, told_by = 1 if begun.dialect.has_prefixes else 2, scenario if old is None else old
     ceiling = begun.ceiling if is_gap else None
-    return Search(name, scenario, sc, begun.path, version, begun.nodes, report, frames, *sums, note, who, told_by, ceiling)
+    return Search(name, scenario, sc, begun.path, version, begun.nodes, report, frames, *sums, note, who, told_by, ceiling, plan)
 
 
 def mapped(search):

@@ -5,7 +5,7 @@ import math
 import os
 from html import escape
 
-from desk import masses, picture, tables
+from desk import carried, masses, picture, tables
 
 HERE = os.path.dirname(os.path.realpath(__file__))
 # The least width of a square on a screen, in pixels: below it a map can be moved sideways.
@@ -44,7 +44,15 @@ def comment(text):
     return clean if len(clean) <= MOST_COMMENT else clean[:MOST_COMMENT] + " …"
 
 
-def header(search):
+def verdict(search, module):
+    """What was accepted, and by whom; with a module, what that module finds when the page is opened."""
+    said = tables.verdict(search)
+    if module:
+        return carried.verdict(search, said, module)
+    return f'<p class="accepted">{escape(said)}<small>{escape(search.checked_by)}</small></p></div>'
+
+
+def header(search, module):
     """The name of the scenario, the verdict, the chance, and what the scenario says of itself."""
     said, looks = comment(search.told_by), tables.plural(search.sc.horizon, "look")
     each = "" if search.seats.count == 1 else " each"
@@ -54,8 +62,7 @@ def header(search):
     own = f"<details><summary>What the scenario says of itself</summary><pre>{escape(said)}</pre></details>" if said else ""
     return (
         f'<header><h1>Search plan <bdi>{escape(search.name)}</bdi></h1><div class="verdict">'
-        f'<p class="chance"><strong>{search.report.percent}&nbsp;%</strong> chance to find them in {looks}{each}</p>'
-        f'<p class="accepted">{escape(tables.verdict(search))}<small>{escape(search.checked_by)}</small></p></div>'
+        f'<p class="chance"><strong>{search.report.percent}&nbsp;%</strong> chance to find them in {looks}{each}</p>{verdict(search, module)}'
         f'<p class="note">Percentages are cut off after three digits{up}. '
         "The chance is exact for the numbers of the scenario, and as good as they are.</p>"
         f"{more}{own}</header>"
@@ -206,14 +213,19 @@ def main_part(search, drawn, why, clock):
     return f'<main class="with-map">{first}{tables.all_cells(search, False, drawn.layout.finer)}{tables.numbers(search)}</main>'
 
 
-def document(search, drawn, why, clock=None):
-    """The page of a search: `drawn` is its Picture, or None with the reason `why` there is none."""
+def document(search, drawn, why, clock=None, module=None):
+    """The page of a search: `drawn` is its Picture, or None with the reason `why` there is none. With a module of WebAssembly of the
+    program it carries that, and checks itself."""
     css, script = style(drawn), asset("page.js") + (asset("drifts.js") if search.trial else "")
-    policy = f"default-src 'none'; style-src '{checksum(css)}'; script-src '{checksum(script)}'; base-uri 'none'; form-action 'none'"
+    scripts, more, blocks = "", "", ""
+    if module:
+        css, script, blocks = css + carried.style(), script + carried.script(), carried.blocks(search, module)
+        scripts, more = carried.SCRIPTS, carried.MORE
+    policy = f"default-src 'none'; style-src '{checksum(css)}'; script-src '{checksum(script)}'{scripts};{more} base-uri 'none'; form-action 'none'"
     return (
         '<!DOCTYPE html>\n<html lang="en">\n<head>\n<meta charset="utf-8">\n'
         f'<meta http-equiv="Content-Security-Policy" content="{policy}">\n'
         '<meta name="viewport" content="width=device-width, initial-scale=1">\n'
         f"<title>Search plan {escape(search.name)}</title>\n<style>{css}</style>\n</head>\n<body>\n"
-        f"{header(search)}\n{main_part(search, drawn, why, clock)}\n<script>{script}</script>\n</body>\n</html>\n"
+        f"{header(search, module)}\n{main_part(search, drawn, why, clock)}\n{blocks}<script>{script}</script>\n</body>\n</html>\n"
     )

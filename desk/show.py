@@ -1,5 +1,5 @@
 """show SCENARIO [PLAN] [--of SCENARIO] [--trial FILE] [--from HH:MM --minutes N]: writes a page that shows an accepted plan."""
-from desk import accepted, layout, page, picture, running, tried
+from desk import accepted, carried, layout, page, picture, running, tried
 
 
 def page_of(given):
@@ -9,7 +9,7 @@ def page_of(given):
         drawn, why = picture.Picture(search, layout.layout(search.seats.of, search.told_by)), None
     except layout.NoPlaces as lacking:
         drawn, why = None, str(lacking)
-    return page.document(search, drawn, why, given.times), search.note
+    return page.document(search, drawn, why, given.times, carried.module(search)), search.note
 
 
 def main(words):

@@ -123,11 +123,23 @@ step() {
   fi
 }
 
+# Whether the module of WebAssembly beside the program is that program's.
+is_web_whole() {
+  [ -f "$program.wasm" ] && [ -f "$program.wasm.sums" ] &&
+    [ "$(cat "$program.wasm.sums")" = "$(program_sum && sha256sum < "$program.wasm" | cut -d ' ' -f 1)" ]
+}
+
+# Makes the module beside the program, which the pages of show carry, and says what came of it. Without it nothing else is lacking.
+build_web() {
+  is_web_whole || PYTHONDONTWRITEBYTECODE=1 python3 "$here/door/web/build.py" "$program.wasm" < /dev/null 2>&1 || echo 'so the pages of show carry no program'
+}
+
 build() {
   local names count at before how edits note
   ! is_release || fail 'this program is proved and built already; its sources come with the repository'
   if edits=$(changed) && [ -z "$edits" ]; then
     echo "crates/osp/out/osp is built from these sources: $(sed -n 1p "$program.sums")" 2> /dev/null || cannot_write
+    build_web
     return
   fi
   need_rt 'nothing was built'
@@ -151,6 +163,7 @@ build() {
   how="proved and built by $(kit) on $(date '+%Y-%m-%d %H:%M'), in $(time_of "$SECONDS")"
   record "$how" || fail 'crates/osp/out cannot be written'
   echo "crates/osp/out/osp is $how"
+  build_web
 }
 
 # ---- what stands here

@@ -24,6 +24,11 @@ copy_folder() {
 
 copy_file() { install -m "$1" -- "$2" "$3"; }
 
+# The program as a module of WebAssembly, where it is built.
+put_web() {
+  ! is_web_whole || { copy_file 644 "$program.wasm" "$1.wasm" && copy_file 644 "$program.wasm.sums" "$1.wasm.sums"; }
+}
+
 # What runs.
 put_program() {
   local to=$1 name
@@ -33,6 +38,7 @@ put_program() {
   for name in VERSION KIT GATE; do
     copy_file 644 "$here/$name" "$to/$name" || return
   done
+  put_web "$to/program/osp" || return
   printf 'version %s\ncommit %s\n' "$(version)" "$(commit)" > "$to/RELEASE"
 }
 

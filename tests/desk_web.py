@@ -3,16 +3,21 @@ as the program for Linux does. `python3 -m unittest tests.desk_web`, or tests/de
 import json
 import os
 import random
+import re
+import shutil
 import subprocess
 import sys
 import tempfile
 import unittest
+from unittest import mock
 
 sys.dont_write_bytecode = True
 sys.path.insert(0, os.path.dirname(os.path.realpath(__file__)))
 
-from tests import answers, web  # noqa: E402
+from tests import answers, pages, web  # noqa: E402
 from tests.web import TOP, Answer, Case  # noqa: E402
+
+from desk import carried, show  # noqa: E402
 
 sys.path.insert(0, os.path.join(TOP, "door", "web"))
 import build  # noqa: E402
@@ -82,6 +87,8 @@ REFUSED = [
 ]
 
 ROUND = 2**128
+# Where pages find the module, which other tests don't want in theirs.
+PLACES = list(carried.PLACES)
 # The pages that the module has from the start, and what it answers where it has too few.
 FIRST = build.FIRST >> 16
 NO_MEMORY = Answer(7, b"", b"no memory\n")
@@ -253,3 +260,93 @@ class Answers(unittest.TestCase):
             whole = web.native([Case(words, given)])[0]
             self.assertEqual((told[0], told[-1], whole.status), (NO_MEMORY, whole, 0))
             self.assertLessEqual(set(told), {whole, NO_MEMORY})
+
+
+def embedded(page, name, content):
+    """A page with other bytes in one of its templates."""
+    return re.sub(f'(<template id="carried-{name}">)[^<]*', lambda it: it[1] + carried.packed(content), page)
+
+
+@unittest.skipIf(web.lacking() or not pages.IS_BUILT, web.lacking() or "no program is built: its pages carry none")
+class Pages(pages.Room):
+    """Pages that carry the program and check themselves, in headless Chromium."""
+
+    PYTHON, SCRIPT, LACKING = "/usr/bin/python3", f"{TOP}/tests/web_in_browser.py", 77
+    HERE = re.compile(r"Checked here, just now, by the proved program \(\d+\.\d\d s\)\.")
+
+    def setUp(self):
+        super().setUp()
+        for patch in (mock.patch.object(carried, "PLACES", PLACES),):
+            patch.start()
+            self.addCleanup(patch.stop)
+
+    def page(self, *files):
+        status, out, err = self.run_helper(show.main, files)
+        self.assertEqual((status, err), (0, ""))
+        return out
+
+    def made(self):
+        """The pages by name: as they are made, with a plan that was changed, and for a browser without WebAssembly."""
+        grid, cells = (self.page(*self.files(it)) for it in ("drifting-grid", "two-cells"))
+        plan = pages.example("drifting-grid")[1]
+        return {
+            "grid": grid,
+            "gap": self.page(f"{pages.EXAMPLES}/two-cells.scenario", f"{pages.EXAMPLES}/two-cells.gap"),
+            "better": embedded(grid, "plan", plan.replace(b"chance 2", b"chance 3")),
+            "lacking": embedded(cells, "plan", pages.read(f"{pages.EXAMPLES}/two-cells-lacking.plan")),
+            "unread": embedded(grid, "plan", plan.replace(b"nodes", b"node")),
+            "scenario": embedded(grid, "scenario", b"scenario 3\n"),
+            "broken": embedded(grid, "program", b"\0asm"),
+            "without": grid,
+        }
+
+    def visit(self, made):
+        """What the browser saw of these pages. Pictures are kept in the folder DESK_PICTURES, if it is set."""
+        files = [self.write(f"{name}.html", text.encode()) for name, text in made.items()]
+        done = subprocess.run([self.PYTHON, self.SCRIPT, os.environ.get("DESK_PICTURES", self.room), *files], capture_output=True, check=False)
+        if done.returncode == self.LACKING:
+            self.skipTest(done.stderr.decode().strip())
+        self.assertEqual(done.returncode, 0, done.stderr.decode()[-2000:])
+        return {name.removesuffix(".html"): it for name, it in json.loads(done.stdout).items()}
+
+    def test_verdicts(self):
+        """The verdict on opening, and nothing asked of a network, nor said on the console."""
+        seen = self.visit(self.made())
+        # (A chance that is greater by 10 ** 16 or more isn't that of the path; of the plan that lacks a node, docs/FORMATS.md has the reason.)
+        wanted = {
+            "grid": ("Accepted: no path is better.", None),
+            "gap": ("Accepted: no path finds more.", None),
+            "better": ("Rejected: line 3 of the plan, ValueWrong.", None),
+            "lacking": ("Rejected: line 8 of the plan, MissingChild.", None),
+            "unread": ("Not accepted: bad plan: line 4 BadLine.", None),
+            "scenario": ("Not accepted: bad scenario: line 1 BadLine.", None),
+            "broken": ("Accepted: no path is better.", "Not checked here: the browser stopped it ("),
+            "without": ("Accepted: no path is better.", "Not checked here: this browser runs no WebAssembly. When this page was made: Checked by the proved program."),
+        }
+        for name, (said, by) in wanted.items():
+            for screen in ("desktop", "tablet"):
+                with self.subTest(name, screen=screen):
+                    told = seen[name][screen]
+                    self.assertEqual((told["said"], told["wide"]), (said, 0))
+                    if by is None:
+                        self.assertRegex(told["by"], self.HERE)
+                    else:
+                        self.assertTrue(told["by"].startswith(by), told["by"])
+                        self.assertTrue(told["by"].endswith("When this page was made: Checked by the proved program."), told["by"])
+                    self.assertIn(carried.sum_of(pages.read(web.MODULE)), told["worth"])
+            self.assertEqual(seen[name]["console"], [], name)
+            self.assertEqual([it for it in seen[name]["asked"] if not it.startswith(("file://", "blob:null/"))], [], name)
+
+    def test_without_a_module(self):
+        """Where the module isn't built, or isn't the program's, the page is that of before."""
+        with mock.patch.object(carried, "PLACES", []):
+            plain = self.page(*self.files("two-cells"))
+        self.assertNotIn("carried", plain)
+        self.assertNotIn("wasm", plain)
+        for name, content in (("osp", b"another program"), ("osp.wasm", b"another module"), ("osp.wasm.sums", b"unknown\n")):
+            with tempfile.TemporaryDirectory() as folder:
+                for each in ("osp", "osp.wasm", "osp.wasm.sums"):
+                    shutil.copy(os.path.join(os.path.dirname(web.MODULE), each), folder)
+                with open(f"{folder}/{name}", "wb") as file:
+                    file.write(content)
+                self.assertIsNone(carried.beside(os.path.relpath(f"{folder}/osp", TOP)), name)

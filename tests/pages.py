@@ -9,7 +9,7 @@ from fractions import Fraction
 from html.parser import HTMLParser
 from unittest import mock
 
-from desk import program
+from desk import carried, program
 
 TOP = os.path.dirname(os.path.dirname(os.path.realpath(__file__)))
 EXAMPLES = os.path.join(TOP, "examples")
@@ -52,14 +52,14 @@ def walks(sc):
 
 
 class Room(unittest.TestCase):
-    """A folder for files of a test, and the program that it asks."""
+    """A folder for files of a test, and the program that it asks. Pages carry no program, where a test doesn't want it."""
 
     def setUp(self):
         self.room = tempfile.mkdtemp()
         self.addCleanup(shutil.rmtree, self.room)
-        patch = mock.patch.object(program, "OSP", PROGRAM)
-        patch.start()
-        self.addCleanup(patch.stop)
+        for patch in (mock.patch.object(program, "OSP", PROGRAM), mock.patch.object(carried, "PLACES", [])):
+            patch.start()
+            self.addCleanup(patch.stop)
 
     def write(self, name, text):
         """The path of a new file in the folder."""

@@ -195,7 +195,7 @@ def main(words):
     except (Stop, OSError) as why:
         print(f"no module of WebAssembly was made: {why}", file=sys.stderr)
         return 1
-    print(f"{words[0]}: {size} bytes")
+    print(f"{os.path.relpath(words[0], TOP)} is the program as WebAssembly, in {size} bytes")
     return 0
 
 
