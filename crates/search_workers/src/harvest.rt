@@ -97,15 +97,17 @@ fn add_desk(harvest: &mut Harvest, desk: Desk)
     let Desk {
         ticket,
         incumbent,
-        scratch: _,
+        scratch,
         stack,
         records,
     } = desk;
+    drop(scratch);
     let Incumbent {
         standing: _,
         seat,
-        belief: _,
+        belief,
     } = incumbent;
+    drop(belief);
     add_seats(&mut harvest.tickets, &mut harvest.seats, ticket, seat);
     add_or_note(harvest, records, stack.into_prefixes());
 }
