@@ -1,5 +1,5 @@
 -- What is made of the text of a scenario alone, said of the words and the request that ask it.
-use Rattle.std.proofs.Common.{ℕ, ◌≡◌, List, Result, Ok, Err, refl, sym, ap, subst}
+use Rattle.std.proofs.Common.{ℕ, ◌≡◌, List, [], Some, None, Result, Ok, Err, refl, sym, ap, ◌∙◌, subst}
 use Rattle.std.specs.Global.{Vec}
 use Rattle.std.specs.declared.option.Option.{Option}
 use Rattle.search_model.specs.Problem.{Problem}
@@ -17,7 +17,8 @@ use Rattle.plan_command.specs.declared.status.Refusal.TheVariants as refusals
 use Rattle.plan_command.specs.declared.status.Stop.{Stop}
 use Rattle.plan_command.specs.declared.status.Stop.TheVariants as stops
 use Rattle.tree_format.specs.declared.plan_line.Family.TheVariants.{Plans, Gaps}
-use Rattle.plan_command.specs.Words.{Family, of_scenario, family_of}
+use Rattle.plan_command.specs.declared.request.TheConstants.{MOST_SCENARIO, MOST_JUDGED}
+use Rattle.plan_command.specs.Words.{Family, of_scenario, family_of, limit_at, limit_of}
 use Rattle.plan_command.specs.Gives.{Gives}
 use Rattle.plan_command.specs.Replans.{IsReplanned, IsUnreplanned, IsMapped, IsUnmapped}
 use Rattle.plan_command.specs.Commands.{MakesText, IsUnmade, AnswersAs, RefusesAs}
@@ -25,7 +26,7 @@ use Rattle.plan_command.specs.Inputs.{Source, Course, InputOf, ReadsAnd}
 use Rattle.plan_command.specs.Intakes.{JudgesAs}
 use Rattle.plan_command.specs.Asked.{Asks, GivesFor, request_of, task_of}
 use Rattle.plan_command.specs.Makes.{MakesOf, IsDone}
-use Rattle.plan_command.proofs.Inputs.{lacks_refuses, stopped_alike}
+use Rattle.plan_command.proofs.Inputs.{lacks_refuses, stopped_alike, made_read}
 
 -- the request reads the text of a scenario alone
 reads_alone : (words : List (List ℕ)) (request : Request) (asked : ScenarioRequest) → Asks words request asked → family_of request ≡ of_scenario
@@ -34,6 +35,38 @@ reads_alone words request (alone.Gap workers nodes) asks = ap family_of asks
 reads_alone words request (alone.Replan workers nodes names) (flown, asks, same) = ap family_of asks
 reads_alone words request (alone.Map names) (flown, asks, same) = ap family_of asks
 reads_alone words request (alone.Duo workers nodes second) asks = ap family_of asks
+
+-- so it is read, and what is made of it
+pub read_alone : (words : List (List ℕ)) (request : Request) (asked : ScenarioRequest) → Asks words request asked → (Went : Course → Type 0) (before after : Source) (result : Result Answer Stop) →
+    ReadsAnd Went (Some MOST_SCENARIO) before after (MakesOf words request) result → ReadsAnd Went (limit_of request) before after (MakesOf words request) result
+read_alone words request asked asks Went before after result read =
+    subst (λ (family : Family). ReadsAnd Went (limit_at family) before after (MakesOf words request) result) (sym (reads_alone words request asked asks)) read
+
+pub alone_reads : (words : List (List ℕ)) (request : Request) (asked : ScenarioRequest) → Asks words request asked → limit_of request ≡ None → ⊥
+alone_reads words request asked asks none = let bad : Some MOST_SCENARIO ≡ None = sym (ap limit_at (reads_alone words request asked asks)) ∙ none in cc
+
+-- and of a scenario and what stands behind it
+judged_limit : (asked : JudgedRequest) → limit_of (request_of asked) ≡ Some MOST_JUDGED
+judged_limit judged.Check = refl
+judged_limit judged.CheckGap = refl
+judged_limit (judged.Report json) = refl
+judged_limit judged.Convert = refl
+
+pub read_judged : (words : List (List ℕ)) (request : Request) (asked : JudgedRequest) → request ≡ request_of asked → (Went : Course → Type 0) (before after : Source) (result : Result Answer Stop) →
+    ReadsAnd Went (Some MOST_JUDGED) before after (MakesOf words (request_of asked)) result → ReadsAnd Went (limit_of request) before after (MakesOf words request) result
+read_judged words request asked is Went before after result read =
+    subst (λ (r : Request). ReadsAnd Went (limit_of r) before after (MakesOf words r) result) (sym is)
+    (subst (λ (limit : Option ℕ). ReadsAnd Went limit before after (MakesOf words (request_of asked)) result) (sym (judged_limit asked)) read)
+
+pub judged_reads : (request : Request) (asked : JudgedRequest) → request ≡ request_of asked → limit_of request ≡ None → ⊥
+judged_reads request asked is none = let bad : Some MOST_JUDGED ≡ None = sym (judged_limit asked) ∙ sym (ap limit_of is) ∙ none in cc
+
+-- and of nothing
+pub read_nothing : (words : List (List ℕ)) (request other : Request) → request ≡ other → limit_of other ≡ None → (Went : Course → Type 0) (source : Source) (result : Result Answer Stop) →
+    MakesOf words other [] result → ReadsAnd Went (limit_of request) source source (MakesOf words request) result
+read_nothing words request other is none Went source result makes =
+    subst (λ (r : Request). ReadsAnd Went (limit_of r) source source (MakesOf words r) result) (sym is)
+    (subst (λ (limit : Option ℕ). ReadsAnd Went limit source source (MakesOf words other) result) (sym none) (made_read Went words other None source source [] result (record { empty = refl; same = refl }) makes))
 
 -- what is made for what is asked is made for the request
 given_so : (words : List (List ℕ)) (request : Request) (asked : ScenarioRequest) (p : Problem) (made : Result (Vec ℕ) Stop) → Asks words request asked → GivesFor asked p made → Gives (MakesText words request p) (IsUnmade words request p) made

@@ -8,12 +8,14 @@ use Rattle.plan_command.specs.declared.asked.ScenarioRequest.{ScenarioRequest}
 use Rattle.plan_command.specs.declared.asked.ScenarioRequest.TheVariants as alone
 use Rattle.plan_command.specs.declared.asked.JudgedRequest.{JudgedRequest}
 use Rattle.plan_command.specs.declared.asked.JudgedRequest.TheVariants as judged
+use Rattle.plan_command.specs.declared.asked.Asked.{Asked}
+use Rattle.plan_command.specs.declared.asked.Asked.TheVariants as asked
 use Rattle.plan_command.specs.declared.judge.Task.{Task}
 use Rattle.plan_command.specs.declared.request.Request.{Request}
-use Rattle.plan_command.specs.declared.request.Request.TheVariants.{Plan, Check, Report, Convert, Gap, CheckGap, Replan, Map, Duo}
+use Rattle.plan_command.specs.declared.request.Request.TheVariants.{Plan, Check, Report, Make, Drill, Convert, Gap, CheckGap, Replan, Map, Duo}
 use Rattle.plan_command.specs.declared.request.TheConstants.{MOST_CLOSED}
 use Rattle.plan_command.specs.declared.status.Stop.{Stop}
-use Rattle.plan_command.specs.Words.{AreFlown, names_behind}
+use Rattle.plan_command.specs.Words.{IsCrew, AreFlown, names_behind}
 use Rattle.plan_command.specs.Gives.{Gives}
 use Rattle.plan_command.specs.Plans.{IsPlanOf, IsUnplanned}
 use Rattle.plan_command.specs.GapPlans.{IsGapOf, IsUngapped}
@@ -61,3 +63,10 @@ task_of judged.Check = keeping_none Plans
 task_of judged.CheckGap = keeping_none Gaps
 task_of (judged.Report json) = keeping_none Plans
 task_of judged.Convert = keeping_plans
+
+-- with these words the request asks this, within the limits of its numbers
+abbrev pub IsFor : List (List ℕ) → Request → Asked → Type 0
+IsFor words request (asked.Alone scenario) = Asks words request scenario × IsAskable scenario
+IsFor words request (asked.Judged plan) = request ≡ request_of plan
+IsFor words request (asked.Make number) = request ≡ Make number
+IsFor words request (asked.Drill number workers) = (request ≡ Drill number workers) × IsCrew workers

@@ -1,6 +1,13 @@
 //! What is asked, by what it reads. The names that words have stand in it.
 
+ghost use Rattle.std.specs.Prelude.{◌≡◌, map, string_bytes};
+ghost use Rattle.plan_command.specs.Words.{names_behind};
+ghost use Rattle.plan_command.specs.Makes.{IsAsked};
+ghost use Rattle.plan_command.specs.Asked.{IsFor};
+
 use crate::judge::Task;
+use crate::options::cut;
+use crate::request::Request;
 use search_model::Name;
 use tree_format::Family;
 
@@ -48,6 +55,19 @@ pub enum JudgedRequest {
     Convert,
 }
 
+/// What is asked, by what it reads.
+#[derive(Clone, Copy)]
+pub enum Asked<'a> {
+    /// It reads the text of a scenario alone.
+    Alone(ScenarioRequest<'a>),
+    /// It reads a scenario, and the plan or gap plan behind it.
+    Judged(JudgedRequest),
+    /// It reads nothing: the scenario that is made from a number.
+    Make { number: u64 },
+    /// It reads nothing: a drill of that scenario.
+    Drill { number: u64, workers: u32 },
+}
+
 impl JudgedRequest {
     ghost use Rattle.std.specs.Prelude.{◌≡◌};
     ghost use Rattle.plan_command.specs.Asked.{task_of};
@@ -70,5 +90,51 @@ impl JudgedRequest {
                 keeps: true,
             },
         }
+    }
+}
+
+// The words from this place on.
+fn names_from(words: &[String], at: usize) -> &[String]
+    ensures { map string_bytes result.now ≡ names_behind at (map string_bytes words.now) }
+{
+    let (_, names) = cut(words, at);
+    names
+}
+
+/// What a request asks, with the names of its words.
+pub fn asked_by(words: &[String], request: Request) -> Asked<'_>
+    requires { IsAsked (map string_bytes words.now) request }
+    ensures { IsFor (map string_bytes words.now) request result }
+{
+    match request {
+        Request::Check => Asked::Judged(JudgedRequest::Check),
+        Request::CheckGap => Asked::Judged(JudgedRequest::CheckGap),
+        Request::Report { json } => Asked::Judged(JudgedRequest::Report { json }),
+        Request::Convert => Asked::Judged(JudgedRequest::Convert),
+        Request::Make { number } => Asked::Make { number },
+        Request::Drill { number, workers } => Asked::Drill { number, workers },
+        Request::Plan { workers, nodes } => Asked::Alone(ScenarioRequest::Plan { workers, nodes }),
+        Request::Gap { workers, nodes } => Asked::Alone(ScenarioRequest::Gap { workers, nodes }),
+        Request::Replan {
+            workers,
+            nodes,
+            flown,
+        } => Asked::Alone(ScenarioRequest::Replan {
+            workers,
+            nodes,
+            names: names_from(words, flown),
+        }),
+        Request::Map { flown } => Asked::Alone(ScenarioRequest::Map {
+            names: names_from(words, flown),
+        }),
+        Request::Duo {
+            workers,
+            nodes,
+            second,
+        } => Asked::Alone(ScenarioRequest::Duo {
+            workers,
+            nodes,
+            second,
+        }),
     }
 }

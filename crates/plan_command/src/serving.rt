@@ -6,14 +6,13 @@ ghost use Rattle.byte_ports.specs.Causes.{Rose};
 ghost use Rattle.byte_ports.specs.Taken.{AppendsPrefix};
 ghost use Rattle.plan_command.specs.Inputs.{source_view, went, ReadsAnd};
 ghost use Rattle.plan_command.specs.Makes.{MakesOf, IsAsked};
-ghost use Rattle.plan_command.specs.Words.{Spells, limit_of, names_behind};
+ghost use Rattle.plan_command.specs.Words.{Spells, limit_of};
 ghost use Rattle.plan_command.specs.Run.{call, Ends, ending_of};
 
 use crate::answer::Answer;
-use crate::asked::{JudgedRequest, ScenarioRequest};
+use crate::asked::{Asked, asked_by};
 use crate::drilling::{answer_drill, answer_make};
 use crate::input::{judged_input, scenario_input};
-use crate::options::cut;
 use crate::request::Request;
 use crate::status::{Status, Stop};
 use byte_ports::{Sink, Source, WriteStop, write_all};
@@ -36,15 +35,7 @@ fn deliver<K: Sink>(out: &mut K, answer: &Answer) -> Result<Status, Stop>
     }
 }
 
-// The words from this place on.
-fn names_from(words: &[String], at: usize) -> &[String]
-    ensures { map string_bytes result.now ≡ names_behind at (map string_bytes words.now) }
-{
-    let (_, names) = cut(words, at);
-    names
-}
-
-// What the request that the words spell makes of its input. What is asked goes on without the words.
+// What the request that the words spell makes of its input.
 fn answer_for<R: AllocGlobal + Threads + Wait + Sync, S: Source, G: Gate>(
     rt: &R,
     words: &[String],
@@ -58,52 +49,11 @@ fn answer_for<R: AllocGlobal + Threads + Wait + Sync, S: Source, G: Gate>(
         (MakesOf (map string_bytes words.now) request) result }
     ensures unread { limit_of request ≡ None → source.new ≡ source.old }
 {
-    match request {
-        Request::Check => judged_input(rt.alloc(), JudgedRequest::Check, source),
-        Request::CheckGap => judged_input(rt.alloc(), JudgedRequest::CheckGap, source),
-        Request::Report { json } => judged_input(
-            rt.alloc(),
-            JudgedRequest::Report { json },
-            source,
-        ),
-        Request::Convert => judged_input(rt.alloc(), JudgedRequest::Convert, source),
-        Request::Make { number } => answer_make(rt.alloc(), number),
-        Request::Drill { number, workers } => answer_drill(rt, number, workers, gate),
-        Request::Plan { workers, nodes } => {
-            scenario_input(rt, &ScenarioRequest::Plan { workers, nodes }, source, gate)
-        }
-        Request::Gap { workers, nodes } => {
-            scenario_input(rt, &ScenarioRequest::Gap { workers, nodes }, source, gate)
-        }
-        Request::Replan {
-            workers,
-            nodes,
-            flown,
-        } => {
-            let names = names_from(words, flown);
-            let asked = ScenarioRequest::Replan {
-                workers,
-                nodes,
-                names,
-            };
-            scenario_input(rt, &asked, source, gate)
-        }
-        Request::Map { flown } => {
-            let names = names_from(words, flown);
-            scenario_input(rt, &ScenarioRequest::Map { names }, source, gate)
-        }
-        Request::Duo {
-            workers,
-            nodes,
-            second,
-        } => {
-            let asked = ScenarioRequest::Duo {
-                workers,
-                nodes,
-                second,
-            };
-            scenario_input(rt, &asked, source, gate)
-        }
+    match asked_by(words, request) {
+        Asked::Alone(asked) => scenario_input(rt, &asked, source, gate),
+        Asked::Judged(asked) => judged_input(rt.alloc(), asked, source),
+        Asked::Make { number } => answer_make(rt.alloc(), number),
+        Asked::Drill { number, workers } => answer_drill(rt, number, workers, gate),
     }
 }
 
