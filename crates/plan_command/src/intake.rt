@@ -9,7 +9,6 @@ ghost use Rattle.plan_command.specs.Intakes.{HasGathered, GathersOn, HasTakenRes
 use crate::hearing::Head;
 use crate::judge::{Judge, Task};
 use crate::scenario_end::ends_with_end;
-use crate::spaces::rest_from;
 use crate::status::{Refusal, Stop};
 use bound_tree::{BoundTree, Plan, TreeNode};
 use byte_ports::Receiver;
@@ -18,6 +17,7 @@ use scenario_text::{TextStop, read_scenario};
 use search_model::Scenario;
 use std::alloc::Global;
 use std::mem::replace;
+use text_rows::rest_from;
 use tree_checker::GapVerdict;
 use tree_format::{PlanFault, PlanStop};
 

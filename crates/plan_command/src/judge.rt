@@ -10,11 +10,12 @@ ghost use Rattle.plan_command.specs.declared.judge.Task.{Task as TaskLem};
 ghost use Rattle.plan_command.specs.Intakes.{records_kept, kept_by, nodes_in, IsNextItem, HasHeard, HasTakenText, HasTakenRest, KeepsWhereShort, TellsRest};
 
 use crate::hearing::{Head, hear_head, hear_node};
-use crate::spaces::{rest_from, skip_spaces};
+use crate::spaces::skip_spaces;
 use bound_tree::{GapNode, TreeNode};
 use exact_parts::NoMemory;
 use search_model::{Path, Scenario, Standing};
 use std::alloc::Global;
+use text_rows::rest_from;
 use tree_checker::{Checker, GapVerdict};
 use tree_format::{Family, Fed, PlanFault, PlanFeed, PlanItem, PlanStop, Step, record_of};
 
