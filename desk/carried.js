@@ -1,12 +1,9 @@
 "use strict";
-// The program that the page carries checks the plan that it carries, in a worker, and the head of the page says what came of it.
-(function () {
-  const verdict = document.getElementById("verdict");
-  const [said, by] = [verdict.querySelector("span"), verdict.querySelector("small")];
-  const made = by.textContent;
-  const ACCEPTED = 0;
-  const REJECTED = 1;
-  const UNREAD = [3, 4];
+// The program that the page carries, in a worker, so that the page stays alive.
+const carried = (function () {
+  let worker = null;
+  let last = Promise.resolve();
+  let refuse = null;
 
   // What a template holds, as bytes.
   async function unpacked(name) {
@@ -25,25 +22,6 @@
     return whole;
   }
 
-  function unchecked(why) {
-    by.textContent = `Not checked here: ${why}. When this page was made: ${made}`;
-  }
-
-  function judge(answer) {
-    const here = `Checked here, just now, by the proved program (${answer.seconds.toFixed(2)} s).`;
-    const told = (answer.out || answer.err).trim();
-    if (answer.status === ACCEPTED) {
-      by.textContent = here;
-    } else if (answer.status === REJECTED || UNREAD.includes(answer.status)) {
-      const reason = told.replace(/^rejected (\d+) /, "line $1 of the plan, ");
-      said.textContent = answer.status === REJECTED ? `Rejected: ${reason}.` : `Not accepted: ${told}.`;
-      by.textContent = here;
-      document.querySelector(".verdict").classList.add("refused");
-    } else {
-      unchecked(`the program ended with status ${answer.status} (${told})`);
-    }
-  }
-
   // What this browser lacks, if anything.
   function lacking() {
     if (typeof WebAssembly !== "object") {
@@ -52,33 +30,40 @@
     return typeof DecompressionStream === "function" && typeof Worker === "function" ? "" : "this browser is too old for it";
   }
 
-  async function check() {
-    if (lacking()) {
-      unchecked(lacking());
-      return;
+  // What the worker answers to a message.
+  function answer(message) {
+    return new Promise((resolve, reject) => {
+      refuse = reject;
+      worker.onerror = (event) => reject(new Error(event.message || "no worker"));
+      worker.onmessage = (event) => (event.data.failed === undefined ? resolve(event.data) : reject(new Error(event.data.failed)));
+      worker.postMessage(message);
+    });
+  }
+
+  async function answered(words, input) {
+    if (worker === null) {
+      const program = await unpacked("program");
+      worker = new Worker(URL.createObjectURL(new Blob([WORKER], { type: "text/javascript" })));
+      await answer({ program });
     }
-    by.textContent = "Being checked here …";
-    try {
-      const [program, scenario, plan] = await Promise.all(["program", "scenario", "plan"].map(unpacked));
-      const worker = new Worker(URL.createObjectURL(new Blob([WORKER], { type: "text/javascript" })));
-      worker.onerror = (event) => unchecked(`the browser stopped it (${event.message || "no worker"})`);
-      worker.onmessage = (event) => {
-        if (event.data.ready) {
-          worker.postMessage({ words: [verdict.dataset.word], input: joined(scenario, plan) });
-          return;
-        }
-        worker.terminate();
-        if (event.data.failed) {
-          unchecked(`the browser stopped it (${event.data.failed})`);
-        } else {
-          judge(event.data);
-        }
-      };
-      worker.postMessage({ program });
-    } catch (why) {
-      unchecked(`the browser stopped it (${why.message})`);
+    return answer({ words, input });
+  }
+
+  // Runs the program on an input (bytes): its status, what it wrote, and how many seconds it took. One run comes behind the other.
+  function ask(words, input) {
+    const mine = last.then(() => answered(words, input));
+    last = mine.catch(() => null);
+    return mine;
+  }
+
+  // Ends the run at hand, which then fails.
+  function stop() {
+    if (worker !== null) {
+      worker.terminate();
+      worker = null;
+      refuse(new Error("it was stopped"));
     }
   }
 
-  check();
+  return { unpacked, joined, lacking, ask, stop };
 }());

@@ -10,7 +10,7 @@ import os
 import zlib
 from html import escape
 
-from desk import accepted, program
+from desk import accepted, onscene, program
 
 HERE = os.path.dirname(os.path.realpath(__file__))
 # Where the module stands beside the program, in a checkout and in a release.
@@ -66,12 +66,13 @@ def worker():
 
 def script():
     """What the page's script does with the module: no letter of it comes from a scenario or a plan."""
-    return f"const WORKER = {json.dumps(worker()).replace('<', chr(92) + 'u003c')};\n{asset('carried.js')}"
+    parts = "".join(map(asset, ("carried.js", "checked.js", "onscene.js")))
+    return f"const WORKER = {json.dumps(worker()).replace('<', chr(92) + 'u003c')};\n{parts}"
 
 
 def style():
-    """The style of the verdict."""
-    return asset("carried.css")
+    """The style of the verdict, and of the part for what was flown."""
+    return asset("carried.css") + asset("onscene.css")
 
 
 def verdict(search, said, content):
@@ -84,6 +85,6 @@ def verdict(search, said, content):
 
 
 def blocks(search, content):
-    """The templates that hold the module, the scenario and the plan."""
+    """What stands behind the rest of a page: the part for what was flown, and the templates that hold the module, the scenario and the plan."""
     parts = {"program": content, "scenario": search.text, "plan": search.plan}
-    return "".join(f'<template id="carried-{name}">{packed(it)}</template>\n' for name, it in parts.items())
+    return onscene.section(search) + "".join(f'<template id="carried-{name}">{packed(it)}</template>\n' for name, it in parts.items())

@@ -13,7 +13,7 @@ onmessage = async (event) => {
     const began = performance.now();
     const { status, out, err } = run(module, words, input);
     const decoder = new TextDecoder();
-    postMessage({ status, out: decoder.decode(out), err: decoder.decode(err), seconds: (performance.now() - began) / 1000 });
+    postMessage({ status, out: decoder.decode(out), err: decoder.decode(err), bytes: out, seconds: (performance.now() - began) / 1000 });
   } catch (why) {
     postMessage({ failed: String(why.message) });
   }

@@ -1,0 +1,218 @@
+// On scene the searcher is not where the plan says: what was flown is marked, and the program plans the rest.
+(function () {
+  const part = document.getElementById("onscene");
+  if (part === null || carried.lacking()) {
+    return;
+  }
+  const [NOT_PERIOD, PERCENT, SVG] = [/[^0-9a-z]/gi, 100000n, "http://www.w3.org/2000/svg"];
+  // A class of colour begins at each of these shares, in thousandths of a percent, as on the maps above.
+  const CLASSES = JSON.parse(part.dataset.classes).map(BigInt);
+  const [positions, planned, name] = [new Set(JSON.parse(part.dataset.positions)), JSON.parse(part.dataset.path), part.dataset.name];
+  const at = (id) => document.getElementById(`onscene-${id}`);
+  let flown = [];
+  let address = null;
+
+  // A new element with a text, or with others in it.
+  function element(kind, inner, ...classes) {
+    const made = document.createElement(kind);
+    made.classList.add(...classes);
+    if (Array.isArray(inner)) {
+      made.append(...inner);
+    } else {
+      made.textContent = inner;
+    }
+    return made;
+  }
+
+  // A part of a whole in percent, cut off after three digits, as reports have it.
+  function percent(of, whole) {
+    const thousandths = (of * PERCENT) / whole;
+    return `${thousandths / 1000n}.${String(thousandths % 1000n).padStart(3, "0")} %`;
+  }
+
+  function say(text, isWrong) {
+    at("said").textContent = text;
+    at("said").classList.toggle("wrong", Boolean(isWrong));
+  }
+
+  // Takes away what was planned for other looks.
+  function forget() {
+    at("found").hidden = true;
+    if (address !== null) {
+      URL.revokeObjectURL(address);
+      address = null;
+    }
+  }
+
+  // Shows what is marked as flown.
+  function show() {
+    forget();
+    at("flown").replaceChildren(...flown.map((it) => element("li", it)));
+    at("none").hidden = flown.length > 0;
+    at("undo").disabled = at("clear").disabled = at("plan").disabled = flown.length === 0;
+    at("next").disabled = flown.length === planned.length;
+  }
+
+  function add(position) {
+    if (flown.length === planned.length) {
+      say(`The plan has ${planned.length} looks, and all are flown.`, true);
+    } else if (positions.has(position)) {
+      flown.push(position);
+      say(`Look ${flown.length} was from ${position}.`);
+      show();
+    } else {
+      say(`${position} is no place to look from.`, true);
+    }
+  }
+
+  // The place to look from that a square of a map stands for.
+  function place(square) {
+    const cell = square.querySelector("title").textContent.split(": ")[0];
+    return positions.has(cell) ? cell : cell.replace(/-\d+$/, "");
+  }
+
+  // The looks of a report, or of a map: for each period its position, a number, and the masses that are left.
+  function lines(text) {
+    const looks = [];
+    const left = new Map();
+    for (const [kind, ...words] of text.split("\n").map((it) => it.split(" "))) {
+      if (kind === "period") {
+        looks.push({ position: words[1], value: words[2] === undefined ? 0n : BigInt(words[2]), left: new Map() });
+      } else if (kind === "left") {
+        (looks.length && words.length ? looks[looks.length - 1].left : left).set(words[0], BigInt(words[1]));
+      }
+    }
+    return looks;
+  }
+
+  // A row for each look of the new plan.
+  function table(looks, whole) {
+    let before = 0n;
+    const rows = looks.map((it, index) => {
+      const found = it.value - before;
+      before = it.value;
+      const from = index < flown.length ? `${flown[index]} (flown)` : it.position;
+      return element("tr", [element("th", String(index + 1)), element("td", from), element("td", percent(found, whole), "number"), element("td", percent(it.value, whole), "number")]);
+    });
+    return rows;
+  }
+
+  // Colours a copy of a map by where they may be now, and draws the path over it: what was flown, and what comes.
+  function map(left, whole, path) {
+    const drawn = document.querySelector(".frame svg.map");
+    const squares = drawn === null ? [] : Array.from(drawn.querySelectorAll(".cells rect"));
+    if (squares.length === 0 || squares.some((it) => !left.has(it.querySelector("title").textContent.split(": ")[0]))) {
+      return null;
+    }
+    const copy = drawn.cloneNode(true);
+    copy.querySelectorAll("g:not(.cells):not(.texts):not(.texts g)").forEach((it) => it.remove());
+    const texts = Array.from(copy.querySelectorAll(".texts > g"));
+    const places = new Map();
+    copy.querySelectorAll(".cells rect").forEach((square, index) => {
+      const cell = square.querySelector("title").textContent.split(": ")[0];
+      const mass = left.get(cell);
+      const share = mass * PERCENT;
+      const colour = mass === 0n ? 0 : Math.max(1, CLASSES.filter((it) => share >= it * whole).length - 1);
+      square.setAttribute("class", `a${colour} b${colour}`);
+      square.querySelector("title").textContent = `${cell}: ${percent(mass, whole)} of all`;
+      places.set(cell, [Number(square.getAttribute("x")) + 49, Number(square.getAttribute("y")) + 49]);
+      if (texts[index]) {
+        texts[index].setAttribute("class", `a${colour} b${colour}`);
+        texts[index].querySelectorAll(".of-all, .of-left").forEach((it) => { it.textContent = mass === 0n ? "0" : percent(mass, whole).slice(0, -2); });
+      }
+    });
+    copy.setAttribute("aria-label", `Map after look ${flown.length}`);
+    draw(copy, path.map((it) => places.get(it)));
+    return copy;
+  }
+
+  // The legs between the looks of a path, where each has a place: those flown drawn through, those to come dotted.
+  function draw(copy, points) {
+    for (let index = 1; index < points.length; index += 1) {
+      const [from, to] = [points[index - 1], points[index]];
+      if (from && to) {
+        const group = document.createElementNS(SVG, "g");
+        const leg = document.createElementNS(SVG, "path");
+        group.setAttribute("class", index < flown.length ? "gone" : "coming");
+        leg.setAttribute("d", `M ${from.join(" ")} L ${to.join(" ")}`);
+        group.append(leg);
+        copy.insertBefore(group, copy.querySelector(".texts"));
+      }
+    }
+  }
+
+  // What is read out: the verdict, the chance, and the places in their order.
+  function words(chance, path, now) {
+    const told = path.map((it, index) => `${String(index + 1).padStart(3)}  ${it}${index < flown.length ? " (flown)" : ""}`);
+    return [`SEARCH PLAN ${name}, replanned behind look ${flown.length}`, "Accepted: no path that begins as flown is better.", `Chance to find them: ${chance}`, now, "", ...told, ""].join("\n");
+  }
+
+  // The made scenario and its plan, as the program wrote it, to be saved.
+  function save(bytes) {
+    address = URL.createObjectURL(new Blob([bytes], { type: "text/plain" }));
+    at("save").href = address;
+    at("save").download = `${name.replace(NOT_PERIOD, "-")}-flown-${flown.length}.made`;
+  }
+
+  async function tell(made, seconds) {
+    const scenario = await carried.unpacked("scenario");
+    const report = await carried.ask(["report"], made.bytes);
+    const [, value, whole] = report.out.match(/^chance (\d+) (\d+) /m).map((it, index) => (index ? BigInt(it) : it));
+    const looks = lines(report.out);
+    const path = looks.map((it, index) => (index < flown.length ? flown[index] : it.position));
+    const mapped = lines((await carried.ask(["map", "flown", ...path], scenario)).out);
+    const left = mapped[flown.length - 1].left;
+    const missed = [...left.values()].reduce((sum, it) => sum + it, 0n);
+    const rest = value - looks[flown.length - 1].value;
+    const now = missed === 0n ? "They are found for certain by what was flown." : `If what was flown found nothing, the rest finds them: ${percent(rest, missed)}.`;
+    const likely = [...left].filter((it) => it[1] > 0n).sort((a, b) => (a[1] < b[1] ? 1 : a[1] > b[1] ? -1 : 0)).slice(0, 5);
+    at("verdict").textContent = `Accepted: no path that begins as flown is better. Checked here, just now, by the proved program (${seconds.toFixed(2)} s).`;
+    at("chance").textContent = `${percent(value, whole)} chance to find them, what was flown included. ${now}`;
+    at("rows").replaceChildren(...table(looks, whole));
+    at("now").textContent = likely.length ? `Likeliest now, of what is left: ${likely.map((it) => `${it[0]} ${percent(it[1], missed)}`).join(", ")}.` : "";
+    at("map").replaceChildren(...[map(left, whole, path)].filter(Boolean));
+    at("radio").textContent = words(percent(value, whole), path, now);
+    save(made.bytes);
+    at("found").hidden = false;
+  }
+
+  // Plans the rest, has the plan checked, and shows it.
+  async function plan() {
+    forget();
+    at("plan").disabled = true;
+    at("stop").hidden = false;
+    say("Planning …");
+    try {
+      const made = await carried.ask(["replan", "--workers", "1", "flown", ...flown], await carried.unpacked("scenario"));
+      const checked = made.status === 0 ? await carried.ask(["check"], made.bytes) : made;
+      if (made.status === 0 && checked.status === 0) {
+        await tell(made, checked.seconds);
+        say(`Planned in ${made.seconds.toFixed(2)} s.`);
+      } else {
+        say(`Nothing is planned: ${(checked.out || checked.err).trim()}.`, true);
+      }
+    } catch (why) {
+      say(`Nothing is planned: ${why.message}.`, true);
+    }
+    at("stop").hidden = true;
+    at("plan").disabled = flown.length === 0;
+  }
+
+  function mark(event) {
+    const square = event.target.closest(".cells rect");
+    if (square !== null && at("mark").getAttribute("aria-pressed") === "true") {
+      add(place(square));
+    }
+  }
+
+  part.hidden = false;
+  at("next").addEventListener("click", () => add(planned[flown.length]));
+  at("undo").addEventListener("click", () => { flown.pop(); say("The last mark is taken back."); show(); });
+  at("clear").addEventListener("click", () => { flown = []; say("The plan is as it was made."); show(); });
+  at("plan").addEventListener("click", plan);
+  at("stop").addEventListener("click", () => carried.stop());
+  at("mark").addEventListener("click", () => at("mark").setAttribute("aria-pressed", String(at("mark").getAttribute("aria-pressed") !== "true")));
+  at("form").addEventListener("submit", (event) => { event.preventDefault(); add(at("name").value.trim()); at("name").value = ""; });
+  document.querySelectorAll(".figures .map").forEach((it) => it.addEventListener("click", mark));
+  show();
+}());
