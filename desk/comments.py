@@ -12,6 +12,7 @@ from desk.geometry import decimal
 
 # The comment before the lines of a situation, and what each of these begins with.
 SITUATION = b"The situation, from which osp draft made it:"
+OLD_SITUATION = b"The situation, from which osp draft made the scenario of the periods before:"
 OF_SITUATION = b"|"
 # The comment that says when the periods are.
 TIMES = re.compile(rb"\d{1,2} periods? of (\d{1,4}(?:\.\d{1,2})?) minutes from (\S+(?: \d\S*)?) to \S.*; a look counts at the end of its period, .*")
@@ -68,11 +69,29 @@ def times_of(told):
     return None
 
 
+def of_situation(told):
+    """The comments that have the lines of a situation, those behind the first head of one."""
+    at = next((at for at, it in enumerate(told) if it in (SITUATION, OLD_SITUATION)), len(told))
+    return [it for it in told[at:] if it.startswith(OF_SITUATION)]
+
+
+def carried(text, flown, horizon):
+    """The comments, without their number signs, that a scenario takes over which goes on behind so many periods of that of a text: its own
+    times, the situation, and where the area lies on the earth."""
+    told = lines(text)
+    times, its = times_of(told), of_situation(told)
+    return [
+        *([of_times(times.behind(flown), horizon)] if times else []),
+        *([OLD_SITUATION, *its] if its else []),
+        *earth.comments(earth.frame_of(text)),
+    ]
+
+
 def situation_of(told):
     """The situation whose lines stand in comments; None where there is none, or it can't be read here. Tracks of files aren't read."""
-    if SITUATION not in told:
+    its = [it[1:].removeprefix(b" ") for it in of_situation(told)]
+    if not its:
         return None
-    its = [it[1:].removeprefix(b" ") for it in told[told.index(SITUATION) + 1 :] if it.startswith(OF_SITUATION)]
     try:
         return situation.situation(b"\n".join(its), folder=None)
     except (situation.BadSituation, packages.Lacking):

@@ -148,6 +148,13 @@ def line(frame):
     return " ".join(["earth", *(short(it, 9) for it in (frame.latitude, frame.longitude)), *(short(it, 3) for it in (frame.east, frame.south))])
 
 
+def comments(frame):
+    """The comments of a scenario, without their number signs, that say where its area lies; none where nothing says it."""
+    if frame is not None:
+        yield "Latitude and longitude (WGS 84) of a place, and its metres east and south of the north-west corner:"
+        yield line(frame)
+
+
 def frame_of(text):
     """The Frame that the comments of a scenario's text, as bytes, say; None where there is none. The last such line counts."""
     found = [it for it in (LINE.fullmatch(line.strip(b" \t\r")) for line in text.split(b"\n")) if it]

@@ -6,9 +6,8 @@ mean, to standard error.
 import math
 import shlex
 
-from desk import accepted, clock, derived, forms, layout, masses, onward, quoting, rounding, running, writing
+from desk import accepted, clock, comments, derived, forms, layout, masses, onward, quoting, rounding, running, writing
 from desk.accepted import Refused
-from desk.comments import SITUATION
 from desk.squares import squares
 
 USAGE = "usage: osp next SCENARIO PLAN [--flown K] [--horizon N]"
@@ -17,7 +16,7 @@ MOST_SCENARIO = 1_048_576
 # Exit statuses of docs/FORMATS.md.
 WRONG_WORDS, TOO_LONG, FAILED = 2, 9, 70
 # The line of a scenario that `draft` made, before those of its situation.
-DRAFTED = b"\n# " + SITUATION + b"\n"
+DRAFTED = b"\n# " + comments.SITUATION + b"\n"
 # From what share of the mass that is left on the rounding is called coarse.
 COARSE = (1, 1000)
 
@@ -108,7 +107,7 @@ def text_of(sc, old, flown, it):
     """The text of the scenario from there on, read again and found to be that scenario."""
     head = f"From behind period {flown} of a plan of {quoting.counted(sc.horizon, 'period')}, whose looks found nothing until then (osp next)."
     given = f"Chances hold given that. These looks find the target with {masses.percent(it.found.numerator, it.found.denominator)} percent."
-    text = writing.scenario_text(it.sc, [head.encode("ascii"), given.encode("ascii"), *places(old, sc)])
+    text = writing.scenario_text(it.sc, [head, given, *comments.carried(old, flown, it.sc.horizon), *places(old, sc)])
     if len(text) > MOST_SCENARIO:
         raise Refused(TOO_LONG, f"the new text has {len(text):,} bytes, and {MOST_SCENARIO:,} are the most: take a smaller --horizon")
     if forms.read_scenario(text, True)[0].key() != it.sc.key():
@@ -145,4 +144,4 @@ def main(words):
         return why.status
     for line in said:
         running.say(line)
-    return running.write(text.decode("ascii"))
+    return running.write_bytes(text)

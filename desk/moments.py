@@ -108,6 +108,13 @@ class Times:
         days, minute = divmod(self.clock.begins.minute + self.since(period), DAY)
         return of_day(minute) + (f"+{days}" if days else "")
 
+    def behind(self, flown):
+        """The times of the periods that follow so many flown ones, which are counted from 1 again."""
+        days, minute = divmod(self.clock.begins.minute + flown * self.minutes, DAY)
+        date = self.clock.begins.date
+        begins = Moment(minute, date and date + datetime.timedelta(days=int(days)), self.clock.begins.is_utc)
+        return Times(Clock(begins), self.minutes)
+
     def since(self, period):
         """The minutes from the begin of period 1 to that of a period."""
         return (period - 1) * self.minutes

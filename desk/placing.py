@@ -102,10 +102,3 @@ def sides_of(grid, square):
     x, y = square[1] * grid.side, square[0] * grid.side
     around = [grid.frame.to_earth(x + east * grid.side, y + south * grid.side) for east, south in ((0, 0), (1, 0), (1, 1), (0, 1))]
     return [earth.way(one, other)[1] for one, other in zip(around, around[1:] + around[:1])]
-
-
-def comments(grid):
-    """The comments of a scenario that say where its area lies on the earth; none where nothing says it."""
-    if grid.frame is not None:
-        yield "Latitude and longitude (WGS 84) of a place, and its metres east and south of the north-west corner:"
-        yield earth.line(grid.frame)

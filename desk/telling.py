@@ -1,7 +1,7 @@
 """What a draft says of itself: the comments of its scenario, and the lines on standard error."""
 import math
 
-from desk import detection, margins, moments, placing, rounding, twofold
+from desk import detection, earth, margins, moments, placing, rounding, twofold
 from desk.chain import deviations
 from desk.comments import OF_SITUATION, SITUATION, of_times
 from desk.geometry import decimal
@@ -35,7 +35,7 @@ def comments(text, shares, drift, told):
     for line in text.splitlines():
         yield OF_SITUATION + b" " + line
     yield from told
-    yield from placing.comments(shares.grid)
+    yield from earth.comments(shares.grid.frame)
     yield naming(drift.states)
     for name, (east, south) in places(shares, drift.states).items():
         yield b"at %s %s %s" % (name, decimal(east).encode("ascii"), decimal(south).encode("ascii"))

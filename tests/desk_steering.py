@@ -3,8 +3,8 @@
 import unittest
 from fractions import Fraction
 
-from desk import brief, comments, moments, situation, steering
-from tests.made import GRID, paired
+from desk import brief, comments, earth, following, moments, situation, steering
+from tests.made import GRID, forced, paired, with_plan
 from tests.packaged import on_earth, without
 from tests.pages import Room, example
 
@@ -159,6 +159,44 @@ class Briefs(Room):
             rows = self.table(out.splitlines(), f"Where the {who} searcher goes:")[1:]
             wanted = zip("123", names.split(), courses)
             self.assertEqual(rows, [[*it, "0.54 NM"] for it in wanted])
+
+
+    @on_earth
+    def test_next_goes_on_by_the_same_clock_and_places(self):
+        """Behind 3 of 6 periods of 15 minutes from 23:20 it is 00:05 of the next day, and the sweep width is halved; behind another period,
+        00:20."""
+        told = TIMES + CORNER + PLACES + LAND.replace('"23:20"', '"2026-07-04 23:20Z"').replace("0\"\n# | [searcher]", "0Z\"\n# | [searcher]")
+        scenario, plan = example("night")
+        names = [self.write("s.scenario", told.encode() + scenario), self.write("s.plan", plan)]
+        status, later, err = self.run_helper(following.main, [*names, "--flown", "3"])
+        self.assertEqual(status, 0, err)
+        both = self.write("later", with_plan(later.encode()))
+        lines = self.run_helper(brief.main, [both])[1].splitlines()
+        self.assertIn("Times are UTC, from 2026-07-05 on.", lines)
+        self.assertEqual([it[:4] for it in self.table(lines)[1:]], [
+            ["1", "00:05", "bay", "57°43.338'N 010°32.786'E"],
+            ["2", "00:20", "mouth", "57°43.096'N 010°35.052'E"],
+            ["3", "00:35", "bay", "57°43.338'N 010°32.786'E"],
+        ])
+        self.assertIn("The sweep width is 45 m.", lines)
+        names = [self.write("later.scenario", later.encode()), self.write("later.plan", with_plan(later.encode())[len(later.encode()) :])]
+        last = self.run_helper(following.main, [*names, "--flown", "1"])[1].encode()
+        found = comments.lines(last)
+        self.assertEqual(comments.times_of(found).clock.told(0), "2026-07-05 00:20Z")
+        self.assertEqual(earth.frame_of(last), earth.Frame(57.725, 10.58))
+        self.assertEqual(comments.situation_of(found), comments.situation_of(comments.lines(told.encode())))
+
+    @on_earth
+    def test_a_made_file_has_the_places_of_the_scenario_behind_of(self):
+        """A boat that flew cliff, landing: the looks flown are told with their places, and so are those to come."""
+        scenario, _ = example("night")
+        of = (TIMES + CORNER + PLACES).encode() + scenario
+        status, out, err = self.run_helper(brief.main, [self.write("made", forced(of, "cliff landing")), "--of", self.write("s.scenario", of)])
+        self.assertEqual((status, err), (0, ""))
+        rows = self.table(out.splitlines())
+        self.assertEqual(rows[2], ["2", "23:35", "landing (flown)", "57°39.832'N 010°47.210'E", "117°", "7.30 NM"])
+        self.assertEqual({it[2]: it[3] for it in rows[3:] if it[2] == "bay"}, {"bay": "57°43.338'N 010°32.786'E"})
+        self.assertNotIn("-", {it[3] for it in rows[1:]})
 
 
 class Legs(unittest.TestCase):
