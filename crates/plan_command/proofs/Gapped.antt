@@ -1,9 +1,7 @@
 -- A gap plan that the search gives from the opening is as it is owed, and can be written.
-use Rattle.std.proofs.Common.{ℕ, ◌≡◌, ◌≤◌, List, [], ◌∷◌, Result, Ok, Err, map, length, inl, inr, refl, sym, ap, ◌∙◌, subst, arith, IsPermutation}
-use Rattle.std.specs.Prelude.{IfOk}
+use Rattle.std.proofs.Common.{ℕ, ◌≡◌, ◌≤◌, List, [], ◌∷◌, map, length, inl, inr, refl, sym, ap, ◌∙◌, subst, arith, IsPermutation}
 use Rattle.std.proofs.lemmas.List.Elements.{All-weaker}
 use Rattle.std.proofs.lemmas.List.Sorted.{All-permutation, length_permutation}
-use Rattle.exact_parts.specs.declared.no_memory.NoMemory.{NoMemory}
 use Rattle.search_model.specs.declared.standing.Standing.{Standing}
 use Rattle.search_model.specs.Problem.{Problem, IsProblem}
 use Rattle.search_model.specs.Legal.{IsPath}
@@ -79,17 +77,6 @@ module _ (nodes : ℕ) (p : Problem) (sound : IsProblem p) (first : Standing) (o
       (All-permutation (λ (r : TreeNode). r.kind ≡ Branch → IsClosed p first r.prefix Branch) closed (closed_in plan.nodes) same branches)
       (omega (arith, used))
       (λ some. record { used = used; more = more_live p first nodes exact more })
-
-  -- the same of what is made of them, unless memory ran out
-  pub found_made : (made : Result GapPlan NoMemory) (plan : Plan) → IsBest p plan.standing.path → Accepts p plan → LetsBranch p first plan.tree → length plan.tree ≤ nodes →
-      IfOk made (λ gap. gap ≡ gap_of plan) → IfOk made (λ gap. IsGapped nodes p gap)
-  found_made (Ok gap) plan best accepts branches few same = subst (IsGapped nodes p) (sym same) (found_gapped plan best accepts branches few)
-  found_made (Err none) plan best accepts branches few same = tt
-
-  pub full_made : (made : Result GapPlan NoMemory) (closed : List TreeNode) (best : Standing) → IsAtLeast best first → LetsBranch p first closed → length closed ≡ nodes → HasMoreLive p first nodes →
-      IfOk made (GapAccepts p) → IfOk made (λ gap. gap.standing ≡ best) → IfOk made (λ gap. IsPermutation closed (closed_in gap.nodes)) → IfOk made (λ gap. IsGapped nodes p gap)
-  full_made (Ok gap) closed best up branches all more accepts standing same = full_gapped gap closed accepts (subst (λ (t : Standing). IsAtLeast t first) (sym standing) up) branches same all more
-  full_made (Err none) closed best up branches all more accepts standing same = tt
 
 -- a good node can be written
 node_printable : (p : Problem) (s : Standing) (q : List ℕ) (kind : GapKind) → IsProblem p → IsGoodOpenKind p s q kind → IsPrintableKind p (shape_of_kind kind)

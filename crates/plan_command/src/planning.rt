@@ -20,8 +20,8 @@ use std::sync::Wait;
 use std::thread::Threads;
 use tree_format::print_plan_2;
 
-// The plan of what a search found.
-fn plan_found(sc: &Scenario, found: Found) -> Plan
+/// The plan of what a search found.
+pub fn plan_found(sc: &Scenario, found: Found) -> Plan
     ensures { result ≡ plan_of sc.now found }
 {
     Plan {

@@ -21,3 +21,4 @@ pub mod Placements
 pub mod SameTexts
 pub mod TextLengths
 pub mod ItemsKept
+pub mod ClosedNodes

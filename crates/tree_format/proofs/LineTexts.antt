@@ -1,8 +1,9 @@
 -- Texts as the pieces that are written one after the other.
-use Rattle.std.proofs.Common.{◌≡◌, ℕ, List, [], ◌∷◌, ◌++◌, map, length, codes, refl, sym, ◌∙◌, ap, append_assoc}
+use Rattle.std.proofs.Common.{◌≡◌, ℕ, List, [], ◌∷◌, ◌++◌, map, length, codes, sym, ◌∙◌, ap, append_assoc}
 use Rattle.std.specs.Fmt.{decimal}
 use Rattle.std.proofs.lemmas.List.Concat.{flat_map-append}
 use Rattle.std.proofs.lemmas.List.{append-nil, length-map}
+use Rattle.list_laws.proofs.Mapped.{map-map}
 use Rattle.text_rows.specs.Rows.{text_of, spaced}
 use Rattle.text_rows.proofs.RowLemmas.{join-fields, text_of-append}
 use Rattle.search_model.specs.Problem.{Problem}
@@ -10,7 +11,6 @@ use Rattle.bound_tree.specs.declared.node.Kind.TheVariants.{Branch, Whole, Mean,
 use Rattle.bound_tree.specs.declared.gap.GapKind.{GapKind}
 use Rattle.bound_tree.specs.declared.gap.GapKind.TheVariants.{Closed, Waiting}
 use Rattle.bound_tree.specs.declared.gap.GapPlan.{GapPlan}
-use Rattle.bound_tree.specs.declared.node.TreeNode.{TreeNode}
 use Rattle.bound_tree.specs.declared.plan.Plan.{Plan}
 use Rattle.bound_tree.specs.Gaps.{closed_node, gap_of}
 use Rattle.search_model.specs.declared.standing.Standing.{Standing}
@@ -53,14 +53,9 @@ gap_parts v p plan =
     let ending : List (List (List ℕ)) = (codes "end" ∷ []) ∷ [] in
     text_of-append head (records ++ ending) ∙ ap (λ (x : List ℕ). text_of head ++ x) (text_of-append records ending)
 
--- the rows of the records of a plan
-closed_rows : (v : Dialect) (rs : List TreeNode) → map (node_row v) (map closed_node rs) ≡ map (λ r. node_row v (closed_node r)) rs
-closed_rows v [] = refl
-closed_rows v (r ∷ rs) = ap (λ (rows : List (List (List ℕ))). node_row v (closed_node r) ∷ rows) (closed_rows v rs)
-
 pub plan_parts : (v : Dialect) (p : Problem) (plan : Plan) → text_in v p (gap_of plan)
     ≡ text_of (head_rows v p plan.standing plan.weight plan.standing.value (length plan.tree)) ++ (text_of (map (λ r. node_row v (closed_node r)) plan.tree) ++ (codes "end" ++ 10 ∷ []))
 plan_parts v p plan =
     gap_parts v p (gap_of plan)
     ∙ ap (λ (n : ℕ). text_of (head_rows v p plan.standing plan.weight plan.standing.value n) ++ (text_of (map (node_row v) (map closed_node plan.tree)) ++ (codes "end" ++ 10 ∷ []))) (length-map plan.tree closed_node)
-    ∙ ap (λ (rows : List (List (List ℕ))). text_of (head_rows v p plan.standing plan.weight plan.standing.value (length plan.tree)) ++ (text_of rows ++ (codes "end" ++ 10 ∷ []))) (closed_rows v plan.tree)
+    ∙ ap (λ (rows : List (List (List ℕ))). text_of (head_rows v p plan.standing plan.weight plan.standing.value (length plan.tree)) ++ (text_of rows ++ (codes "end" ++ 10 ∷ []))) (map-map (node_row v) closed_node plan.tree)

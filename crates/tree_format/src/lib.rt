@@ -43,6 +43,6 @@ pub use laws::{
 pub use placing::{are_in_place, has_no_edge};
 pub use plan_item::{Fed, PlanItem, Step};
 pub use plan_line::Family;
-pub use printing::{print_gap, print_plan, print_plan_2};
+pub use printing::{print_gap, print_plan, print_plan_2, print_plan_as_gap};
 pub use reading::{read_gap, read_plan};
 pub use stop::PlanStop;

@@ -77,6 +77,25 @@ pub fn print_plan_2(out: &mut Vec<u8>, sc: &Scenario, plan: &Plan) -> Result<(),
     cut_if_refused(out, len, appended)
 }
 
+/// Appends the text of the gap plan that a plan is, whose records have the prefixes that are expected: all nodes are closed,
+/// and the ceiling is the value. It reads back as that gap plan.
+///
+/// # Errors
+///
+/// `NoMemory`: `out` is then as it was.
+#[tactic(auto, using(crate::proofs::ClosedNodes::closed_text))]
+pub fn print_plan_as_gap(out: &mut Vec<u8>, sc: &Scenario, plan: &Plan) -> Result<(), NoMemory>
+    requires printable { IsPrintable sc.now plan.now }
+    requires in_place { AreInPlace sc.now ([] ∷ []) plan.now.tree }
+    ensures ok { OnOk result (out.new.items ≡ out.old.items ++ gap_text sc.now (gap_of plan.now)) }
+    ensures err { OnErr result (out.new.items ≡ out.old.items) }
+    ensures spelled { OnOk result (IsGapText sc.now (gap_of plan.now) (gap_text sc.now (gap_of plan.now))) }
+{
+    let len = out.len();
+    let appended = push_plan(out, Dialect::Gap, sc, plan);
+    cut_if_refused(out, len, appended)
+}
+
 // Appends the text of a gap plan.
 fn push_gap(out: &mut Vec<u8>, sc: &Scenario, plan: &GapPlan) -> Result<(), NoMemory>
     requires { IsPrintableGap sc.now plan.now }
