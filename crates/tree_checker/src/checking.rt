@@ -32,7 +32,9 @@ fn verdict(alloc: Global, sc: &Scenario, plan: &Plan) -> Result<Verdict, NoMemor
     ensures { IfOk result (λ v. v ≡ verdict_of (first_reason sc.now plan.now)) }
 {
     let mut checker = Checker::tables(alloc, sc)?;
-    Ok(judged(&mut checker, sc, plan))
+    let verdict = judged(&mut checker, sc, plan);
+    drop(checker);
+    Ok(verdict)
 }
 
 /// Whether a plan is accepted; else the first reason against it. A record uses the beliefs
@@ -63,7 +65,9 @@ fn gap_verdict(alloc: Global, sc: &Scenario, plan: &GapPlan) -> Result<GapVerdic
     ensures { IfOk result (λ v. v ≡ gap_verdict_of (gap_reason sc.now plan.now)) }
 {
     let mut checker = Checker::tables(alloc, sc)?;
-    Ok(gap_judged(&mut checker, sc, plan))
+    let verdict = gap_judged(&mut checker, sc, plan);
+    drop(checker);
+    Ok(verdict)
 }
 
 /// Whether a gap plan is accepted; else the first reason against it. The nodes are tested as the records of a plan, and
