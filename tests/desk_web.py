@@ -303,7 +303,8 @@ class Pages(pages.Room):
     def visit(self, made):
         """What the browser saw of these pages. Pictures are kept in the folder DESK_PICTURES, if it is set."""
         files = [self.write(f"{name}.html", text.encode()) for name, text in made.items()]
-        done = subprocess.run([self.PYTHON, self.SCRIPT, os.environ.get("DESK_PICTURES", self.room), *files], capture_output=True, check=False)
+        self.folder = os.environ.get("DESK_PICTURES", self.room)
+        done = subprocess.run([self.PYTHON, self.SCRIPT, self.folder, *files], capture_output=True, check=False)
         if done.returncode == self.LACKING:
             self.skipTest(done.stderr.decode().strip())
         self.assertEqual(done.returncode, 0, done.stderr.decode()[-2000:])
@@ -336,6 +337,33 @@ class Pages(pages.Room):
                     self.assertIn(carried.sum_of(pages.read(web.MODULE)), told["worth"])
             self.assertEqual(seen[name]["console"], [], name)
             self.assertEqual([it for it in seen[name]["asked"] if not it.startswith(("file://", "blob:null/"))], [], name)
+
+    def test_on_scene(self):
+        """What is planned behind three clicks is what `replan` writes, and its numbers are those of examples/; by keys alone, too."""
+        seen = self.visit({"scene": self.page(*self.files("drifting-grid"))})["scene"]
+        clicks, grid = seen["clicks"], pages.example("drifting-grid")[0]
+        self.assertEqual(clicks["flown"], ["r0c1", "r0c2", "r0c3"])
+        self.assertEqual(pages.read(os.path.join(self.folder, clicks["file"])), pages.read(f"{pages.EXAMPLES}/drifting-grid-flown.made"))
+        self.assertEqual(clicks["file"], "drifting-grid-scenario-flown-3.made")
+        self.assertRegex(clicks["verdict"], f"^Accepted: no path that begins as flown is better\\. {self.HERE.pattern}$")
+        # (README.md has this chance. The first three looks find nothing, since nobody is there.)
+        self.assertTrue(clicks["chance"].startswith("16.296 % chance to find them"), clicks["chance"])
+        looks = web.native([Case(["map", "flown", *"r0c1 r0c2 r0c3".split()], grid)])[0].out.decode().split("period ")[3].splitlines()
+        masses = [it.split()[1:] for it in looks if it.startswith("left")]
+        self.assertEqual(clicks["cells"], [f"{cell}: {share} % of all" for cell, _, share in masses])
+        self.assertEqual(clicks["legs"], [2, 5])
+        path = "r0c1 (flown),r0c2 (flown),r0c3 (flown),r1c3,r2c3,r3c3,r3c3,r4c3".split(",")
+        self.assertEqual([it[1] for it in clicks["rows"]], path)
+        self.assertEqual([it[3] for it in clicks["rows"]][-1], "16.296 %")
+        self.assertEqual(re.findall(r"^ +\d+  (.*)$", clicks["radio"], re.M), path)
+        self.assertEqual((seen["undone"]["flown"], seen["undone"]["found"]), (["r0c1", "r0c2"], False))
+        self.assertEqual((seen["wrong"]["flown"], seen["wrong"]["said"]), (["r0c1", "r0c2"], "r9c9 is no place to look from."))
+        self.assertEqual((seen["illegal"]["flown"], seen["refused"]["found"]), (["r0c1", "r0c2", "r6c6"], False))
+        self.assertEqual(seen["refused"]["said"], f"Nothing is planned: {web.native([Case(['replan', 'flown', 'r0c1', 'r0c2', 'r6c6'], grid)])[0].err.decode().strip()}.")
+        self.assertEqual((seen["cleared"]["flown"], seen["cleared"]["found"]), ([], False))
+        self.assertEqual((seen["planned"]["flown"], seen["planned"]["chance"][:8]), (["r0c1"], "17.557 %"))
+        self.assertEqual((seen["console"], seen["wide"]), ([], 0))
+        self.assertEqual([it for it in seen["asked"] if not it.startswith(("file://", "blob:null/"))], [])
 
     def test_without_a_module(self):
         """Where the module isn't built, or isn't the program's, the page is that of before."""
