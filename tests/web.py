@@ -29,7 +29,7 @@ class Answer(NamedTuple):
 
 
 class Taken(NamedTuple):
-    """An answer of the module, with the bytes of memory that it had at its end, and its seconds."""
+    """An answer of the module, with the bytes of memory that it had at its end, and the seconds of a processor that it took."""
 
     answer: Answer
     memory: int

@@ -78,7 +78,10 @@ def kit():
     found = shutil.which("rt")
     if not found:
         raise Stop("rt isn't on the PATH; it comes with the Rattle kit")
-    return os.path.dirname(os.path.dirname(os.path.realpath(found)))
+    folder = os.path.dirname(os.path.dirname(os.path.realpath(found)))
+    if not os.path.exists(f"{folder}/toolchain/bin/clang"):
+        raise Stop(f"the kit of this rt has no toolchain/bin/clang: {folder}")
+    return folder
 
 
 def words_of(folder):
