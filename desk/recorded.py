@@ -15,8 +15,8 @@ from desk import accepted, moments, packages, placing
 from desk.ensemble import Course, wrong
 from desk.keys import shown
 
-# The most tracks of a file, and the most places of all of them.
-MOST_TRACKS, MOST_PLACES = 200_000, 10_000_000
+# The most tracks of a file, the most places of all of them, and the most times of a netCDF file.
+MOST_TRACKS, MOST_PLACES, MOST_TIMES = 200_000, 10_000_000, 100_000
 # The columns of a CSV file: those of places in metres or in degrees, and the least and the greatest number of each.
 NEEDED = ("id", "time")
 METRES, DEGREES = ("x", "y"), ("lon", "lat")
@@ -118,6 +118,8 @@ def minute_of(name, clock, moment):
     """The minutes from the begin of the search to a moment (datetime.datetime, in UTC or local). Raises BadSituation where the begin lacks a
     date or is local, and the moment isn't."""
     is_utc = moment.tzinfo is not None
+    if not 1900 <= moment.year < 2200:
+        raise wrong(name, f"time should be of a year from 1900 to 2199, and is of {moment.year}")
     if is_utc:
         moment = moment.astimezone(datetime.timezone.utc).replace(tzinfo=None)
     of_day = moment - datetime.datetime.combine(moment.date(), datetime.time())
@@ -232,8 +234,10 @@ def of_netcdf(name, path, clock, frame, digest):
 def minutes_of(name, netcdf, data, clock):
     """The times of a netCDF file in minutes of a clock. By the conventions for such files (CF) they are UTC."""
     time = data.variables.get("time")
-    if time is None or time.dimensions != ("time",) or not time.size:
+    if time is None or time.dimensions != ("time",) or not time.size or not is_numeric(time):
         raise wrong(name, VARIABLES)
+    if time.size > MOST_TIMES:
+        raise wrong(name, f"it has {time.size:,} times, and {MOST_TIMES:,} are the most")
     try:
         calendar = getattr(time, "calendar", "standard")
         found = netcdf.num2date(time[:].tolist(), time.units, calendar, only_use_cftime_datetimes=False, only_use_python_datetimes=True)
@@ -259,7 +263,7 @@ class Variables:
     def over_both(self, data, name):
         """The variable of a name, which is over trajectories and times."""
         found = data.variables.get(name)
-        if found is None or sorted(found.dimensions) != ["time", "trajectory"]:
+        if found is None or sorted(found.dimensions) != ["time", "trajectory"] or not is_numeric(found):
             raise wrong(self.name, VARIABLES)
         return found
 
@@ -293,6 +297,11 @@ class Variables:
             if other is not None:
                 why = f"{name} should be a number from {least:.0f} to {most:.0f}, and is {shown(other)}"
                 raise wrong(self.name, f"trajectory {track} (the first is 0): {why}")
+
+
+def is_numeric(variable):
+    """Whether the values of a variable are numbers."""
+    return getattr(variable.dtype, "kind", None) in ("f", "i", "u")
 
 
 def is_number(value):

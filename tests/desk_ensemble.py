@@ -158,6 +158,7 @@ class Refused(File):
             (HEAD + STAYS + "a,yesterday,1,1\n", "line 4: time should be in ISO 8601, as in 2026-07-04T19:30:00, and is 'yesterday'"),
             (HEAD + "a,2026-02-30T12:00,1,1\n", "line 2: time should be in ISO 8601"),
             (HEAD + "a,2026-07-04,1,1\n", "line 2: time should be in ISO 8601"),
+            (HEAD + "a,0001-01-01T00:00+05:00,1,1\n", "time should be of a year from 1900 to 2199, and is of 1"),
             (HEAD + "a,2026-07-04T12:00,east,1\n", "line 2: x should be a number from -10000000 to 10000000, and is 'east'"),
             (HEAD + "a,2026-07-04T12:00,1,inf\n", "line 2: y should be a number from -10000000 to 10000000, and is 'inf'"),
             (HEAD + STAYS + STAYS, "track 'stays' has two places at 2026-07-04 12:00"),

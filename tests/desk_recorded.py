@@ -120,6 +120,7 @@ class OpenDrift(File):
             ([[None, (0, 0, 0), (0, 0, 0), (0, 0, 0)]], {}, "all of its tracks begin after the first look"),
             ([self.EAST], {"times": TIMES[::-1]}, "time should ascend"),
             ([self.EAST], {"units": "fortnights"}, "time should be in units such as seconds since 1970-01-01 00:00:00"),
+            ([], {"times": list(range(100_001))}, "it has 100,001 times, and 100,000 are the most"),
             ([], {"times": []}, "it should have the dimensions trajectory and time, the variables lon and lat over both, and time"),
             ([[(0, 15e6, 0)] * 4], {}, "trajectory 0 (the first is 0): lat should be a number from -90 to 90, and is -93.0"),
         ):
