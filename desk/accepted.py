@@ -5,13 +5,11 @@ import hashlib
 import os
 
 from desk import forms, masses, paths, program, reports, seats, squares
+from desk.limits import MOST_INPUT
+from desk.status import Status
 
-# The longest input of `check`, in bytes (docs/FORMATS.md, status 9).
-MOST_INPUT = 336_592_896
 # How ./osp says that a run is unproved.
 UNPROVED = "osp: unproved run"
-# Exit statuses of docs/FORMATS.md.
-NOT_ACCEPTED, WRONG_WORDS, BAD_SCENARIO, UNREADABLE, TOO_LONG, FAILED = 1, 2, 3, 5, 9, 70
 
 
 class Refused(Exception):
@@ -87,9 +85,9 @@ def read_file(name):
         with open(0 if name == "-" else name, "rb", closefd=name != "-") as file:
             text = file.read(MOST_INPUT + 1)
     except (OSError, ValueError) as why:
-        raise Refused(UNREADABLE, f"cannot read {shown(name)}: {getattr(why, 'strerror', None) or why}") from None
+        raise Refused(Status.UNREADABLE, f"cannot read {shown(name)}: {getattr(why, 'strerror', None) or why}") from None
     if len(text) > MOST_INPUT:
-        raise Refused(TOO_LONG, f"{shown(name)}: input too long")
+        raise Refused(Status.TOO_LONG, f"{shown(name)}: input too long")
     return text
 
 
@@ -110,13 +108,13 @@ def asked(word, given, *behind, seconds=None):
     try:
         answer = program.ask([word, *behind], given, seconds)
     except OSError as why:
-        raise Refused(FAILED, f"cannot run {shown(program.OSP)}: {why.strerror or why}") from None
+        raise Refused(Status.FAILED, f"cannot run {shown(program.OSP)}: {why.strerror or why}") from None
     note, said = notes_and_rest(answer.err)
-    if answer.status == NOT_ACCEPTED:
+    if answer.status == Status.WRONG:
         reason = answer.out.decode("ascii", "replace").strip() or said
-        raise Refused(NOT_ACCEPTED, f"the plan isn't accepted: {reason}", note)
+        raise Refused(Status.WRONG, f"the plan isn't accepted: {reason}", note)
     if answer.status != 0:
-        status = answer.status if 0 < answer.status < 128 else FAILED
+        status = answer.status if 0 < answer.status < 128 else Status.FAILED
         raise Refused(status, said or f"osp {word} ended with status {answer.status}", note)
     return answer.out, "\n".join(it for it in (note, said) if it)
 
@@ -161,9 +159,9 @@ def seated(sc, of, text):
     try:
         return seats.seats(sc, forms.read_scenario(text, alone=False)[0])
     except forms.Fault as fault:
-        raise Refused(BAD_SCENARIO, f"{shown(of)} isn't a scenario: line {fault.line} {fault.kind}") from None
+        raise Refused(Status.BAD_SCENARIO, f"{shown(of)} isn't a scenario: line {fault.line} {fault.kind}") from None
     except seats.NotOf as why:
-        raise Refused(WRONG_WORDS, f"--of {shown(of)}: {why}") from None
+        raise Refused(Status.WRONG_WORDS, f"--of {shown(of)}: {why}") from None
 
 
 def check_of(plan):
@@ -175,7 +173,7 @@ def accept(given, plan):
     """The program's note, where it accepts the plan behind a scenario. Raises Refused where it doesn't."""
     verdict, note = asked(check_of(plan), given)
     if verdict != b"accepted\n":
-        raise Refused(FAILED, f"osp {check_of(plan)} answered neither accepted nor a reason: {verdict[:80]!r}")
+        raise Refused(Status.FAILED, f"osp {check_of(plan)} answered neither accepted nor a reason: {verdict[:80]!r}")
     return note
 
 
@@ -193,15 +191,15 @@ def load(names, of=None):
         begun = head(behind + given[len(scenario) :], sc)
         report = None if is_gap else reports.read(told)
     except forms.Fault as fault:
-        raise Refused(BAD_SCENARIO, f"{shown(names[0])} isn't a whole scenario: line {fault.line} {fault.kind}") from None
+        raise Refused(Status.BAD_SCENARIO, f"{shown(names[0])} isn't a whole scenario: line {fault.line} {fault.kind}") from None
     except (forms.Wrong, AttributeError, reports.NoReport) as why:
-        raise Refused(FAILED, f"what osp answered isn't understood: {why}") from None
+        raise Refused(Status.FAILED, f"what osp answered isn't understood: {why}") from None
     frames = masses.frames(sc, begun.path)
     if is_gap:
         places, cells = ([it.decode("ascii") for it in names] for names in ([sc.positions[it] for it in begun.path], sc.names))
         report = reports.of_frames(begun.value, begun.weight, places, cells, frames)
     if not agree(sc, report, frames):
-        raise Refused(FAILED, f"this helper's numbers aren't those of osp {'gap' if is_gap else 'report'}; please tell the project, with both files")
+        raise Refused(Status.FAILED, f"this helper's numbers aren't those of osp {'gap' if is_gap else 'report'}; please tell the project, with both files")
     who = seated(sc, of, old)
     sums = [hashlib.sha256(it).hexdigest() for it in (scenario, plan)]
     name = "of standard input" if names[0] == "-" else shown(os.path.basename(names[0]))
@@ -219,14 +217,14 @@ def mapped(search):
         told, _ = asked("map", text, "flown", *names)
         looks = reports.read_map(told, search.report.weight)
     except Refused as refused:
-        if refused.status in (WRONG_WORDS, TOO_LONG):
+        if refused.status in (Status.WRONG_WORDS, Status.TOO_LONG):
             return search
         raise
     except reports.NoReport as why:
-        raise Refused(FAILED, f"what osp map answered isn't understood: {why}") from None
+        raise Refused(Status.FAILED, f"what osp map answered isn't understood: {why}") from None
     said = [(it.name, [(row.name, row.value) for row in it.left]) for it in looks]
     if said != [(name, list(zip(search.cells, it.left))) for name, it in zip(names, search.frames[1:])]:
-        raise Refused(FAILED, "this helper's masses aren't those of osp map; please tell the project, with both files")
+        raise Refused(Status.FAILED, "this helper's masses aren't those of osp map; please tell the project, with both files")
     own, *frames = search.frames
     frames = [dataclasses.replace(it, left=[row.value for row in look.left]) for it, look in zip(frames, looks)]
     return dataclasses.replace(search, frames=[own, *frames], is_mapped=True)

@@ -1,5 +1,5 @@
 """Warnings of a scenario that is right and perhaps not meant. Numbers are exact; shares are printed in percent, cut off."""
-from desk import masses, paths, quoting, verdict
+from desk import paths, percent, quoting, verdict
 from desk.squares import row_and_column, squares
 from desk.states import LOST
 
@@ -82,7 +82,7 @@ def about_reach(sc, covered, mass):
         yield "no look can find the target: the searcher is never where a look covers a cell that the target may be in. Look at `moves` and `start`"
         return
     if 2 * lost > whole:
-        yield f"at most {masses.percent(whole - lost, whole)} percent can be found: the rest is never in a cell that a look can cover in time"
+        yield f"at most {percent.cut(whole - lost, whole)} percent can be found: the rest is never in a cell that a look can cover in time"
     there = {cell for here in mass for cell, it in enumerate(here) if it and sc.names[cell] != LOST}
     missed = there - ever_seen(sc)
     if missed:
@@ -126,7 +126,7 @@ def about_edge(sc, mass):
     if part * EDGE[1] > whole * EDGE[0]:
         where = "at the edge of the grid or lost" if LOST in sc.names else "at the edge of the grid"
         yield (
-            f"{masses.percent(part, whole)} percent of the target is {where} in the last period, if nobody looks: "
+            f"{percent.cut(part, whole)} percent of the target is {where} in the last period, if nobody looks: "
             "where the water goes on there, take in a margin"
         )
 

@@ -3,7 +3,7 @@ tasking form."""
 import re
 import textwrap
 
-from desk import accepted, comments, earth, geometry, masses, running, steering, tables, tried
+from desk import accepted, comments, earth, geometry, masses, percent, running, steering, tables, tried
 
 # How wide the text is where names allow it, in columns.
 WIDTH = 60
@@ -27,9 +27,9 @@ def rows_of(lines, is_text):
     return [row(it, widths) for it in lines]
 
 
-def percent(part, whole):
+def share(part, whole):
     """A share in percent with its sign."""
-    return f"{masses.percent(part, whole)} %"
+    return f"{percent.cut(part, whole)} %"
 
 
 def wrapped(sentence):
@@ -55,7 +55,7 @@ def periods(search, times):
     heads = ["look from", "finds"] if search.seats.count == 1 else ["first from", "second from", "find"]
     lines = [["period", *(["begins"] if times else []), *heads, "so far"]]
     for it in search.frames[1:]:
-        lines.append([str(it.period), *begins(it, times), *looked_from(search, it), percent(it.found, whole), percent(it.so_far, whole)])
+        lines.append([str(it.period), *begins(it, times), *looked_from(search, it), share(it.found, whole), share(it.so_far, whole)])
     return rows_of(lines, [head in TEXTS for head in lines[0]])
 
 
@@ -116,10 +116,10 @@ def left(search):
         return ["If nothing was found: nowhere, these looks find them."]
     head = f"If nothing was found, they are after look {last.period} in"
     lines = [[search.squares.noun, "of all", "of what is left"]]
-    lines += [[names[it], percent(sums[it], whole), percent(sums[it], last.missed)] for it in order[:MOST_LEFT]]
+    lines += [[names[it], share(sums[it], whole), share(sums[it], last.missed)] for it in order[:MOST_LEFT]]
     more = len(order) - MOST_LEFT
     rest = sum(sums[it] for it in order[MOST_LEFT:])
-    return [head, *rows_of(lines, [True, False, False]), *([f"and in {more} more: {percent(rest, whole)} of all"] if more > 0 else [])]
+    return [head, *rows_of(lines, [True, False, False]), *([f"and in {more} more: {share(rest, whole)} of all"] if more > 0 else [])]
 
 
 def text_of(search, told):

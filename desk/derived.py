@@ -1,11 +1,9 @@
 """Scenarios that are made of a scenario, and the map of where the target may be, from docs/FORMATS.md and docs/DEFINITIONS.md alone."""
 import copy
 
-from desk import masses, paths
-from desk.forms import MOST_CELLS, MOST_MOVES, MOST_PART, is_narrow
-
-# The most positions of which all pairs are positions.
-MOST_IN_PAIRS = 14
+from desk import masses, paths, percent
+from desk.forms import is_narrow
+from desk.limits import MOST_CELLS, MOST_IN_PAIRS, MOST_MOVES, MOST_PART
 
 
 class Refused(Exception):
@@ -85,5 +83,5 @@ def map_text(sc, flown):
     whole, lines = paths.weight(sc), [b"map 1"]
     for frame in masses.frames(sc, flown)[1:]:
         lines.append(b"period %d %s" % (frame.period, sc.positions[frame.position]))
-        lines += [b"left %s %d %s" % (name, mass, masses.percent(mass, whole).encode()) for name, mass in zip(sc.names, frame.left)]
+        lines += [b"left %s %d %s" % (name, mass, percent.cut(mass, whole).encode()) for name, mass in zip(sc.names, frame.left)]
     return b"".join(it + b"\n" for it in [*lines, b"end"])

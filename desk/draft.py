@@ -7,14 +7,13 @@ import sys
 
 from desk import packages, telling, tracks, writing
 from desk.chain import drifts
+from desk.limits import MOST_SCENARIO
 from desk.rounded import rounded
 from desk.shares import Shares
 from desk.situation import LONGEST, BadSituation, situation
+from desk.status import Status
 
 USAGE = "usage: osp draft SITUATION.toml > SCENARIO"
-# The longest text of a scenario, in bytes, and the exit statuses (docs/FORMATS.md).
-MOST_SCENARIO = 1_048_576
-WRONG_FILE, WRONG_WORDS, UNREADABLE, UNWRITABLE, FAILED = 1, 2, 5, 6, 70
 
 
 def drafted(text, tell=None, folder=""):
@@ -63,21 +62,21 @@ def main(words):
     """Runs the helper; answers its exit status."""
     if len(words) != 1 or words[0].startswith("-"):
         print(USAGE, file=sys.stderr)
-        return WRONG_WORDS
+        return Status.WRONG_WORDS
     try:
         with open(words[0], "rb") as file:
             text = file.read(LONGEST + 1)
     except (OSError, ValueError) as wrong:
         say(f"the file can't be read: {getattr(wrong, 'strerror', None) or 'no such name'}")
-        return UNREADABLE
+        return Status.UNREADABLE
     try:
         scenario, lines = drafted_aloud(text, os.path.dirname(words[0]))
     except BadSituation as wrong:
         say(wrong)
-        return WRONG_FILE
+        return Status.WRONG
     except packages.Lacking as lacking:
         say(lacking)
-        return FAILED
+        return Status.FAILED
     try:
         sys.stdout.buffer.write(scenario)
         sys.stdout.buffer.flush()
@@ -85,7 +84,7 @@ def main(words):
         # What Python would still write at its end goes nowhere.
         os.dup2(os.open(os.devnull, os.O_WRONLY), sys.stdout.fileno())
         say(f"the output can't be written: {wrong.strerror}")
-        return UNWRITABLE
+        return Status.UNWRITABLE
     for line in lines:
         say(line)
     return 0

@@ -7,12 +7,10 @@ import os
 import re
 
 from desk import accepted, advice, faults, forms, program, quoting, rejection, running, unmade
+from desk.limits import MOST_SCENARIO
+from desk.status import Status
 
 USAGE = "usage: osp explain SCENARIO [PLAN | flown NAME .. | start NAME]"
-# The longest input of `plan`, in bytes (docs/FORMATS.md, status 9).
-MOST_SCENARIO = 1_048_576
-# Exit statuses of docs/FORMATS.md.
-RIGHT, REJECTED, BAD_WORDS, BAD_SCENARIO, BAD_PLAN, TOO_MANY, TOO_LONG, BAD_FLOWN, BAD_DUO, FAILED = 0, 1, 2, 3, 4, 8, 9, 10, 11, 70
 # How many lines with faults are shown, and how many faults of one line.
 MOST_SHOWN = 200
 MOST_IN_LINE = 6
@@ -26,14 +24,14 @@ def asked(words, given, told):
     try:
         answer = program.ask(words, given)
     except OSError as why:
-        raise accepted.Refused(FAILED, f"cannot run {accepted.shown(program.OSP)}: {why.strerror or why}") from None
+        raise accepted.Refused(Status.FAILED, f"cannot run {accepted.shown(program.OSP)}: {why.strerror or why}") from None
     lines = answer.err.decode("utf-8", "replace").splitlines()
     for it in lines:
         if it.startswith("osp: ") and it not in told:
             told.append(it)
             running.say(it)
-    if not 0 <= answer.status < FAILED:
-        raise accepted.Refused(FAILED, f"the program gave no answer to {words[0]}")
+    if not 0 <= answer.status < Status.FAILED:
+        raise accepted.Refused(Status.FAILED, f"the program gave no answer to {words[0]}")
     own = [it for it in lines if not it.startswith("osp: ")]
     return answer.status, answer.out.decode("ascii", "replace").split("\n")[0] if answer.out else "".join(own[-1:])
 
@@ -47,10 +45,10 @@ def program_verdict(scenario, plan):
     told = []
     if plan is not None:
         status, line = asked([accepted.check_of(plan)], accepted.joined(scenario, plan), told)
-        if status != BAD_SCENARIO:
+        if status != Status.BAD_SCENARIO:
             return status, line
     status, line = asked(["plan", "--workers", "1", "--nodes", "1"], scenario[: MOST_SCENARIO + 1], told)
-    return (RIGHT, "the scenario is right") if status in (RIGHT, TOO_MANY) else (status, line)
+    return (Status.DONE, "the scenario is right") if status in (Status.DONE, Status.TOO_MANY_RECORDS) else (status, line)
 
 
 def names_verdict(scenario, names):
@@ -58,7 +56,7 @@ def names_verdict(scenario, names):
     `replan` and `duo` are quick, too."""
     words = [unmade.COMMANDS[names[0]], "--workers", "1", "--nodes", "1", *names]
     status, line = asked(words, scenario[: MOST_SCENARIO + 1], [])
-    return (RIGHT, "the scenario is right, and so are the names") if status in (RIGHT, TOO_MANY) else (status, line)
+    return (Status.DONE, "the scenario is right, and so are the names") if status in (Status.DONE, Status.TOO_MANY_RECORDS) else (status, line)
 
 
 # ---- what is printed
@@ -123,7 +121,7 @@ def of_plan(scenario, plan, status, line):
     if not found:
         return []
     at, why = int(found[1]), found[2]
-    says = rejection.because(sc, plan, at, why) if status == REJECTED else [rejection.no_plan(sc, plan, at, why)]
+    says = rejection.because(sc, plan, at, why) if status == Status.WRONG else [rejection.no_plan(sc, plan, at, why)]
     return ["of the plan's file:", *of_line(plan.split(b"\n"), at, says)]
 
 
@@ -150,13 +148,13 @@ def of_words(names):
 
 def explained(scenario, plan, status, line):
     """All that is said behind the verdict."""
-    if status == RIGHT:
+    if status == Status.DONE:
         return of_right(scenario, plan)
-    if status == BAD_SCENARIO:
+    if status == Status.BAD_SCENARIO:
         return of_scenario(scenario, line)
-    if status in (REJECTED, BAD_PLAN):
+    if status in (Status.WRONG, Status.BAD_PLAN):
         return of_plan(scenario, plan, status, line)
-    if status == TOO_LONG and len(scenario) > MOST_SCENARIO:
+    if status == Status.TOO_LONG and len(scenario) > MOST_SCENARIO:
         return [f"a scenario has at most {MOST_SCENARIO:,} bytes, and this one has more"]
     return []
 
@@ -173,9 +171,9 @@ def told_of(files, names):
     """The exit status and all lines for these files and names."""
     scenario, plan = [*map(accepted.read_file, files), None][:2]
     status, line = names_verdict(scenario, names) if names else program_verdict(scenario, plan)
-    if status in (BAD_FLOWN, BAD_DUO):
+    if status in (Status.BAD_FLOWN, Status.BAD_PAIR):
         return status, [line, *of_names(scenario, names, line)]
-    if status == BAD_WORDS and names:
+    if status == Status.WRONG_WORDS and names:
         return status, [line or "these are no words of the program", *of_words(names)]
     return status, [line, *explained(scenario, plan, status, line)]
 
@@ -185,7 +183,7 @@ def main(words):
     given = taken(words)
     if given is None:
         running.say(USAGE)
-        return BAD_WORDS
+        return Status.WRONG_WORDS
     try:
         status, lines = told_of(*given)
     except accepted.Refused as why:

@@ -3,7 +3,7 @@ import dataclasses
 import difflib
 import functools
 
-from desk import forms, quoting, rounding, wording
+from desk import forms, limits, quoting, rounding, wording
 from desk.wording import KEPT, UNKNOWN, split
 
 # The order of the kinds of fault, for those at one line (docs/FORMATS.md).
@@ -67,7 +67,7 @@ def text_alone(line):
 
 def finest_part(horizon, parts, at):
     """The greatest number in the place `at` (0 to 2: A, D, G) of the denominators with which the horizon fits, or 0."""
-    return rounding.greatest(forms.MOST_PART, lambda it: forms.is_narrow(horizon, (*parts[:at], it, *parts[at + 1 :])))
+    return rounding.greatest(limits.MOST_PART, lambda it: forms.is_narrow(horizon, (*parts[:at], it, *parts[at + 1 :])))
 
 
 class Survey(forms.ScenarioReader):
@@ -388,7 +388,7 @@ class Survey(forms.ScenarioReader):
 
     def give_up_parts(self, fields):
         taken = [*fields, b"", b"", b""][:3]
-        fit = (wording.is_number(it, 1) and not wording.over(it, forms.MOST_PART) and len(fields) == 3 for it in taken)
+        fit = (wording.is_number(it, 1) and not wording.over(it, limits.MOST_PART) and len(fields) == 3 for it in taken)
         self.sc.parts = tuple(int(it) if right else UNKNOWN for it, right in zip(taken, fit))
         self.due = [b"cell", b"grid"] if self.version == 1 else [b"cell"]
 

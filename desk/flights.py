@@ -5,12 +5,11 @@ import math
 import os
 from fractions import Fraction
 
-from desk import accepted, draft, forms, geometry, masses, paths, patterns, seats
+from desk import accepted, draft, forms, geometry, masses, paths, patterns, percent, seats
 from desk.accepted import Refused
+from desk.status import Status
 from desk.ways import BASE
 
-# Exit statuses of docs/FORMATS.md.
-WRONG, BAD_SCENARIO, BAD_PLAN = 1, 3, 4
 # What a name of a position should be.
 POSITIONS = "the positions are its squares without land, as r5c2, and base where the searcher comes from one"
 
@@ -62,10 +61,10 @@ class Field:
         """Raises Refused where names of positions aren't those of the situation, or aren't one for each period."""
         other = next((it for it in names if it not in self.squares), None)
         if other is not None:
-            raise Refused(WRONG, f"{whose} isn't one of this situation: it names {shown(other)}, and {POSITIONS}")
+            raise Refused(Status.WRONG, f"{whose} isn't one of this situation: it names {shown(other)}, and {POSITIONS}")
         if len(names) != self.given.periods:
             counts = f"its path has {len(names)} periods, and the situation {self.given.periods}"
-            raise Refused(WRONG, f"{whose} isn't one of this situation: {counts}")
+            raise Refused(Status.WRONG, f"{whose} isn't one of this situation: {counts}")
 
     def legs(self, path):
         """A note on the first leg of a path that is no move of the scenario, or none."""
@@ -96,10 +95,10 @@ def field(given, text, of, own):
     try:
         found = Field(given, accepted.read_file(of))
     except forms.Fault as fault:
-        raise Refused(BAD_SCENARIO, f"--of {told(of)} isn't a scenario: line {fault.line} {fault.kind}") from None
+        raise Refused(Status.BAD_SCENARIO, f"--of {told(of)} isn't a scenario: line {fault.line} {fault.kind}") from None
     names = {it.decode("ascii") for it in found.sc.positions}
     if names != set(found.squares) or found.sc.horizon != given.periods:
-        raise Refused(WRONG, f"--of {told(of)} isn't a scenario of this situation: {given.periods} periods, and {POSITIONS}")
+        raise Refused(Status.WRONG, f"--of {told(of)} isn't a scenario of this situation: {given.periods} periods, and {POSITIONS}")
     return found
 
 
@@ -126,7 +125,7 @@ def of_plan(at, name, text):
         sc, behind = forms.read_scenario(text, alone=False)
     except forms.Fault as fault:
         why = f"line {fault.line} {fault.kind}"
-        raise Refused(BAD_SCENARIO, f"{whose} is neither a plan nor a scenario with its plan behind it: {why}") from None
+        raise Refused(Status.BAD_SCENARIO, f"{whose} is neither a plan nor a scenario with its plan behind it: {why}") from None
     plan = head(whose, sc, behind.lstrip(b" \t\r\n"))
     try:
         return in_seats(at, whose, sc, seats.seats(sc, at.sc), plan, lambda _: ())
@@ -140,9 +139,9 @@ def head(whose, sc, text):
         plan = accepted.head(text, sc)
         length, is_whole = len(plan.path), plan.weight > 0
     except (forms.Wrong, AttributeError) as why:
-        raise Refused(BAD_PLAN, f"{whose} isn't a plan of this scenario: {why if isinstance(why, forms.Wrong) else 'EarlyEnd'}") from None
+        raise Refused(Status.BAD_PLAN, f"{whose} isn't a plan of this scenario: {why if isinstance(why, forms.Wrong) else 'EarlyEnd'}") from None
     if length != sc.horizon or not is_whole:
-        raise Refused(BAD_PLAN, f"{whose} isn't a plan of this scenario: its path has {length} periods, and the scenario {sc.horizon}")
+        raise Refused(Status.BAD_PLAN, f"{whose} isn't a plan of this scenario: its path has {length} periods, and the scenario {sc.horizon}")
     return plan
 
 
@@ -150,14 +149,14 @@ def in_seats(at, whose, sc, who, plan, legs):
     """The flight of a plan of a scenario whose seats are these."""
     if who.is_numbered:
         why = "the places of its two searchers have numbers, since it wasn't made of the scenario that was taken here"
-        raise Refused(WRONG, f"{whose} isn't one of this situation: {why}; --of SCENARIO names another one")
+        raise Refused(Status.WRONG, f"{whose} isn't one of this situation: {why}; --of SCENARIO names another one")
     places = tuple(who.names[it] for it in plan.path)
     for searcher in range(who.count):
         at.check([it[searcher] for it in places], whose)
     value, whole, says = sums(sc, plan.path)
     notes = legs(plan.path)
     if Fraction(value, whole) != Fraction(plan.value, plan.weight):
-        cut = masses.percent(value, whole)
+        cut = percent.cut(value, whole)
         notes += (f"the plan is of another scenario: by the sums of the one that was taken here its path finds {cut} percent",)
     return Flight(whose, places, at_squares(at, places), plan.value, plan.weight, says, True, notes)
 
@@ -210,7 +209,7 @@ def datum(at, tracks):
         steps = square and patterns.way(sc.moves, sc.start, sc.positions.index(geometry.name_of(square).encode("ascii")))
         if steps is not None and len(steps) <= t:
             return Datum(setting(at, tracks, means, square, t), t)
-    raise Refused(WRONG, "no pattern can be flown: the searcher doesn't come to the mean place of the drifts in these periods")
+    raise Refused(Status.WRONG, "no pattern can be flown: the searcher doesn't come to the mean place of the drifts in these periods")
 
 
 def side_of(east, south):
@@ -245,5 +244,5 @@ def of_pattern(at, name, where):
     targets = [sc.positions.index(geometry.name_of(it).encode("ascii")) for it in squares]
     path = patterns.flown(sc.moves, sc.start, targets, sc.horizon)
     if path is None:
-        raise Refused(WRONG, f"the pattern {name} can't be flown: the searcher doesn't come to its squares")
+        raise Refused(Status.WRONG, f"the pattern {name} can't be flown: the searcher doesn't come to its squares")
     return of_numbers(at, name, path)

@@ -6,15 +6,13 @@ mean, to standard error.
 import math
 import shlex
 
-from desk import accepted, clock, comments, derived, forms, layout, masses, onward, quoting, rounding, running, writing
+from desk import accepted, clock, comments, derived, forms, layout, limits, onward, percent, quoting, running, writing
 from desk.accepted import Refused
+from desk.limits import MOST_SCENARIO
 from desk.squares import squares
+from desk.status import Status
 
 USAGE = "usage: osp next SCENARIO PLAN [--flown K] [--horizon N]"
-# The longest text of a scenario, in bytes (docs/FORMATS.md, status 9).
-MOST_SCENARIO = 1_048_576
-# Exit statuses of docs/FORMATS.md.
-WRONG_WORDS, TOO_LONG, FAILED = 2, 9, 70
 # The line of a scenario that `draft` made, before those of its situation.
 DRAFTED = b"\n# " + comments.SITUATION + b"\n"
 # From what share of the mass that is left on the rounding is called coarse.
@@ -26,9 +24,9 @@ def options(words):
     try:
         files, found = running.files_and_numbers(words, ("--flown", "--horizon"))
     except clock.BadWords:
-        raise Refused(WRONG_WORDS, USAGE) from None
-    if len(files) != 2 or (found["--horizon"] or 1) > rounding.MOST_PERIODS:
-        raise Refused(WRONG_WORDS, USAGE)
+        raise Refused(Status.WRONG_WORDS, USAGE) from None
+    if len(files) != 2 or (found["--horizon"] or 1) > limits.MOST_PERIODS:
+        raise Refused(Status.WRONG_WORDS, USAGE)
     return *files, found["--flown"], found["--horizon"]
 
 
@@ -36,7 +34,7 @@ def periods(sc, flown, horizon):
     """How many periods were flown, how many follow, and why so many."""
     flown = sc.horizon if flown is None else flown
     if flown > sc.horizon:
-        raise Refused(WRONG_WORDS, f"--flown is 1 to {sc.horizon}, the periods of the plan")
+        raise Refused(Status.WRONG_WORDS, f"--flown is 1 to {sc.horizon}, the periods of the plan")
     if horizon is not None:
         return flown, horizon, "as --horizon says"
     if flown < sc.horizon:
@@ -81,7 +79,7 @@ def told(sc, path, flown, why, it, is_draft):
                 f"situation anew with more periods, and plan the rest by {replan(sc, path[:flown], 'THAT_SCENARIO')}"
             )
     p2 = f"{p1} + {1 - p1}*P2"
-    yield f"P1, the chance that the {quoting.counted(flown, 'period')} flown find the target, is {masses.percent(p1.numerator, p1.denominator)} percent: {p1}"
+    yield f"P1, the chance that the {quoting.counted(flown, 'period')} flown find the target, is {percent.cut(p1.numerator, p1.denominator)} percent: {p1}"
     yield f"chances from here (P2) hold given that nothing was found; together they are P1 + (1 - P1)*P2 = {p2}"
     a = f"A is {new.parts[0]:,}"
     if it.moved == 0:
@@ -106,12 +104,12 @@ def exactly(sc, path, flown, name):
 def text_of(sc, old, flown, it):
     """The text of the scenario from there on, read again and found to be that scenario."""
     head = f"From behind period {flown} of a plan of {quoting.counted(sc.horizon, 'period')}, whose looks found nothing until then (osp next)."
-    given = f"Chances hold given that. These looks find the target with {masses.percent(it.found.numerator, it.found.denominator)} percent."
+    given = f"Chances hold given that. These looks find the target with {percent.cut(it.found.numerator, it.found.denominator)} percent."
     text = writing.scenario_text(it.sc, [head, given, *comments.carried(old, flown, it.sc.horizon), *places(old, sc)])
     if len(text) > MOST_SCENARIO:
-        raise Refused(TOO_LONG, f"the new text has {len(text):,} bytes, and {MOST_SCENARIO:,} are the most: take a smaller --horizon")
+        raise Refused(Status.TOO_LONG, f"the new text has {len(text):,} bytes, and {MOST_SCENARIO:,} are the most: take a smaller --horizon")
     if forms.read_scenario(text, True)[0].key() != it.sc.key():
-        raise Refused(FAILED, "the new text isn't what it should be; please tell the project, with both files")
+        raise Refused(Status.FAILED, "the new text isn't what it should be; please tell the project, with both files")
     return text
 
 
@@ -123,7 +121,7 @@ def followed(scenario, plan, flown, horizon, name):
         sc, behind = forms.read_scenario(given, False)
         path = forms.read_plan(behind.lstrip(b" \t\r\n"), sc, forms.family_of(plan)).path
     except forms.Fault as fault:
-        raise Refused(FAILED, f"what osp {accepted.check_of(plan)} accepted isn't understood: {fault}") from None
+        raise Refused(Status.FAILED, f"what osp {accepted.check_of(plan)} accepted isn't understood: {fault}") from None
     flown, horizon, why = periods(sc, flown, horizon)
     try:
         it = onward.onward(sc, path, flown, horizon)

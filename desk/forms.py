@@ -2,15 +2,12 @@
 import re
 from typing import NamedTuple
 
+from desk.limits import LONGEST_NAME, MOST_CELLS, MOST_GAP_NODES, MOST_MOVES, MOST_NODES, MOST_PART, MOST_PERIODS
+
 # What any line may hold that says something.
 TEXT = frozenset(range(0x20, 0x7F)) | {9, 13}
 DECIMAL = re.compile(rb"(?:0|[1-9][0-9]*)\Z")
 NAME = re.compile(rb"[A-Za-z0-9_-]*\Z")
-MOST_PART = 1_000_000
-MOST_CELLS = 200
-MOST_MOVES = 64
-MOST_NODES = 1_048_576
-MOST_GAP_NODES = 4_194_305
 
 
 class Fault(Exception):
@@ -142,7 +139,7 @@ class ScenarioReader:
         self.due = [b"horizon"]
 
     def take_horizon(self, fields):
-        (self.sc.horizon,) = numbers(fields, 1, 32)
+        (self.sc.horizon,) = numbers(fields, 1, MOST_PERIODS)
         self.due = [b"parts"]
 
     def take_parts(self, fields):
@@ -161,7 +158,7 @@ class ScenarioReader:
     def add_named(fields, numbers, names):
         (name,) = fields
         need(NAME.match(name), "BadLine")
-        need(len(name) <= 24 and len(names) < MOST_CELLS, "OverLimit")
+        need(len(name) <= LONGEST_NAME and len(names) < MOST_CELLS, "OverLimit")
         need(name not in numbers, "DoubleName")
         numbers[name] = len(names)
         names.append(name)
@@ -365,7 +362,7 @@ class PlanReader:
             self.take_record(word, fields)
 
     def take_path(self, fields):
-        need(1 <= len(fields) <= 32, "BadLine")
+        need(1 <= len(fields) <= MOST_PERIODS, "BadLine")
         need(all(it in self.sc.positions for it in fields), "UnknownName")
         self.plan.path = [self.sc.positions.index(it) for it in fields]
 

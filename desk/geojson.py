@@ -2,7 +2,7 @@
 import json
 import math
 
-from desk import masses, meridian, steering
+from desk import meridian, percent, steering
 from desk.states import LOST
 
 # Degrees are written with so many digits: one of the last is a centimetre.
@@ -86,7 +86,7 @@ def stop(chart, number, before, it):
     if before:
         leg = steering.leg(before, it, chart.told.given)
         told |= {} if leg.is_stay else {"course": round(leg.course, 1), "metres": round(leg.around or leg.metres)}
-        told |= {"finds": float(masses.percent(frame.found, whole)), "so_far": float(masses.percent(frame.so_far, whole))}
+        told |= {"finds": float(percent.cut(frame.found, whole)), "so_far": float(percent.cut(frame.so_far, whole))}
     (place,) = rounded([point(it.on_earth)])
     return feature({"type": "Point", "coordinates": place}, kind="stop", **told)
 
@@ -102,8 +102,8 @@ def squares(chart):
     for frame in search.frames:
         at = {"time": time(times, frame.period + 1)} if times else {}
         for name, mass in zip(names, own.sums(frame.left)):
-            told = at | {"mass": str(mass), "of": str(whole), "percent": float(masses.percent(mass, whole))}
-            told["percent_if_missed"] = float(masses.percent(mass, frame.missed)) if frame.missed else None
+            told = at | {"mass": str(mass), "of": str(whole), "percent": float(percent.cut(mass, whole))}
+            told["percent_if_missed"] = float(percent.cut(mass, frame.missed)) if frame.missed else None
             yield feature(drawn[name], kind="square", name=name, period=frame.period, **told)
 
 

@@ -7,12 +7,11 @@ import concurrent.futures
 import dataclasses
 import os
 
-from desk import accepted, derived, forms, masses, parts, paths, running
+from desk import accepted, derived, forms, parts, paths, percent, running
 from desk.accepted import Refused, shown
+from desk.status import Status
 
 USAGE = "usage: osp join FOLDER"
-# Exit statuses of docs/FORMATS.md.
-LACKING, WRONG_WORDS, BAD_SCENARIO, BAD_PLAN, UNREADABLE, FAILED = 1, 2, 3, 4, 5, 70
 # How the names of files begin that a job was writing when it was cut off.
 HALF = ".osp-"
 
@@ -46,11 +45,11 @@ def judged(text, notes):
     try:
         verdict, note = accepted.asked("check", text)
     except Refused as why:
-        if why.status in (accepted.NOT_ACCEPTED, BAD_SCENARIO, BAD_PLAN):
+        if why.status in (Status.WRONG, Status.BAD_SCENARIO, Status.BAD_PLAN):
             raise Unfit(why.said) from None
         raise
     if verdict != b"accepted\n":
-        raise Refused(FAILED, f"osp check answered neither accepted nor a reason: {verdict[:80]!r}")
+        raise Refused(Status.FAILED, f"osp check answered neither accepted nor a reason: {verdict[:80]!r}")
     notes.update(filter(None, [note]))
 
 
@@ -65,12 +64,12 @@ def part(folder, name, sc, prefix, notes):
         made, rest = forms.read_scenario(text, False)
         plan = accepted.head(rest, made)
     except (forms.Fault, forms.Wrong, AttributeError) as why:
-        raise Refused(FAILED, f"{name}: what osp check accepted isn't understood: {why}") from None
+        raise Refused(Status.FAILED, f"{name}: what osp check accepted isn't understood: {why}") from None
     if made.key() != derived.forced(sc, prefix).key():
         raise Unfit("of another scenario than the one that forces this prefix")
     path = derived.unforced(sc, prefix, plan.path)
     if (paths.value(sc, path), paths.weight(sc)) != (plan.value, plan.weight):
-        raise Refused(FAILED, f"{name}: this helper's numbers aren't those of the plan; please tell the project, with the folder")
+        raise Refused(Status.FAILED, f"{name}: this helper's numbers aren't those of the plan; please tell the project, with the folder")
     return Part(name, path, plan.value)
 
 
@@ -88,10 +87,10 @@ def opened(folder):
     _, sc = parts.scenario(os.path.join(folder, parts.SCENARIO))
     length = parts.length(sc, accepted.read_file(os.path.join(folder, parts.DEPTH)).decode("ascii", "replace").strip())
     if length is None or parts.count(sc, length) > parts.MOST:
-        raise Refused(UNREADABLE, f"{strange}: its file {parts.DEPTH} doesn't say how long prefixes are")
+        raise Refused(Status.UNREADABLE, f"{strange}: its file {parts.DEPTH} doesn't say how long prefixes are")
     prefixes = parts.named(sc, length)
     if why := parts.not_forced(sc, prefixes):
-        raise Refused(UNREADABLE, f"{strange}: {why}")
+        raise Refused(Status.UNREADABLE, f"{strange}: {why}")
     return sc, prefixes
 
 
@@ -100,7 +99,7 @@ def strangers(folder, prefixes):
     try:
         names = sorted(os.listdir(os.path.join(folder, parts.PARTS)))
     except OSError as why:
-        raise Refused(UNREADABLE, f"cannot read {shown(os.path.join(folder, parts.PARTS))}: {why.strerror}") from None
+        raise Refused(Status.UNREADABLE, f"cannot read {shown(os.path.join(folder, parts.PARTS))}: {why.strerror}") from None
     return [it for it in (f"{parts.PARTS}/{name}" for name in names if not name.startswith(HALF)) if it not in prefixes]
 
 
@@ -125,7 +124,7 @@ def survey(folder, sc, prefixes):
 def told(sc, found):
     """The best of the parts, as a text: of equal ones the one with the smaller path by the numbers of positions."""
     best, whole = min(found, key=lambda it: (-it.value, it.path)), paths.weight(sc)
-    chance = f"chance {best.value} {whole} {masses.percent(best.value, whole)}"
+    chance = f"chance {best.value} {whole} {percent.cut(best.value, whole)}"
     return f"path {parts.words(sc, best.path)}\n{chance}\npart {best.name}\n{len(found)} of {len(found)} prefixes\n"
 
 
@@ -133,7 +132,7 @@ def main(words):
     """Runs the helper; answers its exit status."""
     if len(words) != 1 or words[0].startswith("--"):
         running.say(USAGE)
-        return WRONG_WORDS
+        return Status.WRONG_WORDS
     try:
         sc, prefixes = opened(words[0])
         found, wrong, notes = survey(words[0], sc, prefixes)
@@ -145,5 +144,5 @@ def main(words):
     if wrong:
         for it in [*wrong, f"{len(found)} of {len(prefixes)} prefixes"]:
             running.say(f"osp join: {it}")
-        return LACKING
+        return Status.WRONG
     return running.write(told(sc, found))

@@ -7,8 +7,7 @@ from decimal import Decimal
 from fractions import Fraction
 
 from desk import earth, moments
-from desk.forms import MOST_CELLS, MOST_PART
-from desk.rounding import MOST_PERIODS
+from desk.limits import MOST_CELLS, MOST_PART, MOST_PERIODS
 
 # The most squares of an area, with its land.
 MOST_SQUARES = 1000

@@ -3,7 +3,7 @@ import dataclasses
 from fractions import Fraction
 
 from desk import tracks
-from desk.forms import MOST_CELLS
+from desk.limits import MOST_CELLS
 
 # How many squares of water are put around the area, and how many tracks are simulated there.
 MARGIN = 20

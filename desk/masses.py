@@ -42,17 +42,6 @@ def frames(sc, path):
     return told
 
 
-def percent(part, whole):
-    """A share in percent with three digits, cut off, as a report has it (docs/FORMATS.md). The whole isn't 0."""
-    thousandths = part * 100_000 // whole
-    return f"{thousandths // 1000}.{thousandths % 1000:03}"
-
-
-def percent_up(part, whole):
-    """The same, rounded up: for what nothing exceeds."""
-    return percent(-(-part * 100_000 // whole), 100_000)
-
-
 def greatest(masses):
     """The numbers of the cells that hold something, where most is first; of equal masses the smaller number."""
     return sorted((cell for cell, mass in enumerate(masses) if mass), key=lambda cell: (-masses[cell], cell))

@@ -7,11 +7,10 @@ import dataclasses
 import math
 from fractions import Fraction
 
-from desk import forms, paths, rounding, verdict
+from desk import forms, limits, paths, rounding, verdict
+from desk.status import Status
 
 
-# Exit statuses of docs/FORMATS.md.
-NOTHING_LEFT, WRONG_WORDS = 1, 2
 
 
 class NoWay(Exception):
@@ -68,10 +67,10 @@ def moved_up(longer, flown):
 
 def denominator(masses, horizon, parts):
     """The new A: with which nothing is rounded, where it fits into 128 bits; else the finest that fits. And the finest."""
-    finest = rounding.greatest(forms.MOST_PART, lambda it: forms.is_narrow(horizon, (it, *parts[1:])))
+    finest = rounding.greatest(limits.MOST_PART, lambda it: forms.is_narrow(horizon, (it, *parts[1:])))
     if finest == 0:
         most = rounding.most_periods((1, *parts[1:]))
-        raise NoWay(WRONG_WORDS, f"{horizon} periods don't fit into 128 bits with D {parts[1]} and G {parts[2]}; {most} would")
+        raise NoWay(Status.WRONG_WORDS, f"{horizon} periods don't fit into 128 bits with D {parts[1]} and G {parts[2]}; {most} would")
     return min(sum(masses) // math.gcd(*masses), finest), finest
 
 
@@ -80,7 +79,7 @@ def onward(sc, path, flown, horizon):
     longer = extended(sc, flown + horizon)
     value, masses = verdict.after(longer, path[:flown])
     if not any(masses):
-        raise NoWay(NOTHING_LEFT, f"the looks of {flown} periods find the target for certain: nothing is left to search")
+        raise NoWay(Status.WRONG, f"the looks of {flown} periods find the target for certain: nothing is left to search")
     new = moved_up(longer, flown)
     whole, finest = denominator(masses, horizon, sc.parts)
     new.parts, new.start = (whole, *sc.parts[1:]), path[flown - 1]

@@ -5,7 +5,7 @@ import math
 import os
 from html import escape
 
-from desk import carried, masses, picture, tables
+from desk import carried, masses, percent, picture, tables
 
 HERE = os.path.dirname(os.path.realpath(__file__))
 # The least width of a square on a screen, in pixels: below it a map can be moved sideways.
@@ -76,7 +76,7 @@ def likeliest(search, frame):
     sums, told = search.squares.sums(frame.left), []
     for sort, whole in (("of-all", search.report.weight), ("of-left", frame.missed)):
         greatest = masses.greatest(sums)[:MOST_LIKELIEST]
-        names = ", ".join(f"{escape(search.squares.texts[it])} {masses.percent(sums[it], whole)}&nbsp;%" for it in greatest)
+        names = ", ".join(f"{escape(search.squares.texts[it])} {percent.cut(sums[it], whole)}&nbsp;%" for it in greatest)
         told.append(f'<span class="{sort}">Likeliest now: {names}.</span>')
     return "".join(told)
 
@@ -86,7 +86,7 @@ def caption(search, frame, clock):
     whole = search.report.weight
     time = f" ({clock.at(frame.period)} to {clock.at(frame.period + 1)})" if clock and frame.period else ""
     head = escape(picture.when(search, frame))
-    found = f"{tables.finds(search)} {masses.percent(frame.found, whole)}&nbsp;%; found so far {masses.percent(frame.so_far, whole)}&nbsp;%. "
+    found = f"{tables.finds(search)} {percent.cut(frame.found, whole)}&nbsp;%; found so far {percent.cut(frame.so_far, whole)}&nbsp;%. "
     said = f"{found if frame.period else ''}{likeliest(search, frame)}"
     return f"<figcaption><strong>{head[0].upper()}{head[1:]}{time}</strong>{said}</figcaption>"
 

@@ -5,26 +5,25 @@ import re
 
 from desk import accepted, derived, forms, paths
 from desk.accepted import Refused
-from desk.following import MOST_SCENARIO
+from desk.limits import MOST_SCENARIO
+from desk.status import Status
 
 # What is in the folder: the scenario as it was given, how long the prefixes are, the script of a job, a line for each job, and the
 # folder of the parts.
 SCENARIO, DEPTH, JOB, JOBS, PARTS = "scenario", "depth", "job", "jobs", "parts"
 # The most parts.
 MOST = 1_000_000
-# Exit statuses of docs/FORMATS.md.
-BAD_SCENARIO, TOO_LONG = 3, 9
 
 
 def scenario(name):
     """The text of a scenario's file, as bytes, and the scenario. Raises Refused."""
     text = accepted.read_file(name)
     if len(text) > MOST_SCENARIO:
-        raise Refused(TOO_LONG, f"{accepted.shown(name)}: input too long")
+        raise Refused(Status.TOO_LONG, f"{accepted.shown(name)}: input too long")
     try:
         return text, forms.read_scenario(text, True)[0]
     except forms.Fault as fault:
-        raise Refused(BAD_SCENARIO, f"{accepted.shown(name)}: bad scenario: line {fault.line} {fault.kind}") from None
+        raise Refused(Status.BAD_SCENARIO, f"{accepted.shown(name)}: bad scenario: line {fault.line} {fault.kind}") from None
 
 
 def length(sc, word):

@@ -3,7 +3,7 @@ the searcher's place."""
 import math
 from html import escape
 
-from desk import masses
+from desk import percent
 
 # The side of a square and the margin around the squares, in units of the picture; and the gap between squares, and between parts of one.
 SIDE, MARGIN = 100, 14
@@ -42,7 +42,7 @@ def share(part, whole):
     """A share as it stands in a cell: percent as in a report, nothing as 0, and a dash where there is no whole."""
     if whole == 0:
         return "–"
-    return masses.percent(part, whole) if part else "0"
+    return percent.cut(part, whole) if part else "0"
 
 
 def short(name):

@@ -2,7 +2,7 @@
 import dataclasses
 import re
 
-from desk import masses
+from desk import percent
 
 NAME = r"([A-Za-z0-9_-]{1,24})"
 NUMBER = r"(0|[1-9][0-9]{0,38})"
@@ -80,8 +80,8 @@ def read(text):
     """The report that a text (bytes) is. Raises NoReport at another text, also where its shares aren't those of its numbers."""
     lines = Lines(text)
     lines.need("report 1")
-    value, weight, percent = lines.need(f"chance {NUMBER} {SHARE}")
-    report = Report(int(value), int(weight), percent, [], [])
+    value, weight, share = lines.need(f"chance {NUMBER} {SHARE}")
+    report = Report(int(value), int(weight), share, [], [])
     while row := lines.take(f"period {len(report.periods) + 1} {NAME} {SHARE}"):
         report.periods.append(Row(row[0], int(row[1]), row[2]))
     report.left = lines.rows(LEFT)
@@ -93,9 +93,9 @@ def read(text):
 def of_frames(value, weight, path, cells, frames):
     """The report of a path that is known to find so much of the whole weight: `path` are its positions and `cells` all cells, by name,
     and `frames` those of desk.masses."""
-    periods = [Row(name, it.so_far, masses.percent(it.so_far, weight)) for name, it in zip(path, frames[1:])]
-    left = [Row(name, mass, masses.percent(mass, weight)) for name, mass in zip(cells, frames[-1].left)]
-    return Report(value, weight, masses.percent(value, weight), periods, left)
+    periods = [Row(name, it.so_far, percent.cut(it.so_far, weight)) for name, it in zip(path, frames[1:])]
+    left = [Row(name, mass, percent.cut(mass, weight)) for name, mass in zip(cells, frames[-1].left)]
+    return Report(value, weight, percent.cut(value, weight), periods, left)
 
 
 def read_map(text, whole):
@@ -113,7 +113,7 @@ def read_map(text, whole):
 
 def are_cut(rows, whole):
     """Whether the percent of each row are those of its number out of the whole weight."""
-    return all(it.percent == masses.percent(it.value, whole) for it in rows)
+    return all(it.percent == percent.cut(it.value, whole) for it in rows)
 
 
 def shares_hold(report):

@@ -3,8 +3,8 @@ import math
 from fractions import Fraction
 
 from desk.forms import is_narrow
+from desk.limits import MOST_PERIODS
 
-MOST_PERIODS = 32
 # The finest denominator that is chosen: no share is known better than to a thousandth. Those of the drift that are tried.
 MOST_TRIED = 1000
 TRIED = (2, 3, 4, 5, 6, 7, 8, 10, 12, 15, 20, 30, 50)

@@ -25,7 +25,7 @@ def write_bytes(text):
     """Writes a text, as bytes, to standard output, and answers the exit status."""
     try:
         outfile.to_output(text)
-        return Status.WRITTEN
+        return Status.DONE
     except OSError as why:
         say(f"write fault: {why.strerror}")
         silence(1)

@@ -7,7 +7,7 @@ import copy
 import dataclasses
 import math
 
-from desk import derived, forms
+from desk import derived, forms, limits
 
 
 class NotOf(Exception):
@@ -122,7 +122,7 @@ def forces(own, flown, sc):
 def root(part):
     """The square root of a part that two searchers at one position miss, or one more than the greatest where it has none."""
     found = math.isqrt(part)
-    return found if found * found == part else forms.MOST_PART + 1
+    return found if found * found == part else limits.MOST_PART + 1
 
 
 def one_of_two(sc, count):

@@ -1,6 +1,6 @@
 """What a situation comes to for the searcher, before anything is rounded: its positions and moves, and how often its looks miss."""
 from desk import detection, ways
-from desk.forms import MOST_CELLS
+from desk.limits import MOST_CELLS
 from desk.situation import BadSituation
 from desk.ways import BASE
 

@@ -10,9 +10,8 @@ from fractions import Fraction
 
 from desk import draws, geometry, keys, moments, placing, recorded, ways
 from desk.ensemble import Ensemble, at_looks
-from desk.forms import MOST_CELLS, MOST_MOVES
+from desk.limits import MOST_CELLS, MOST_MOVES, MOST_PERIODS
 from desk.keys import BadSituation, shown, take_key, take_table
-from desk.rounding import MOST_PERIODS
 
 # The longest file that is read, in bytes; no situation needs more, and the scenario repeats it. The longest line: the time that
 # tomllib takes for a key a.b.c grows by the square of its length, and a key stands on one line.

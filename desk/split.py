@@ -8,12 +8,11 @@ import tempfile
 
 from desk import accepted, clock, parts, program, quoting, running
 from desk.accepted import Refused
+from desk.status import Status
 
 USAGE = "usage: osp split DEPTH SCENARIO FOLDER [--jobs N]"
 # How many jobs there may be where --jobs doesn't say.
 FEW = 1000
-# Exit statuses of docs/FORMATS.md.
-WRONG_WORDS, UNWRITABLE, NOT_FORCED = 2, 6, 10
 # The script of a job, with the place of the program that stands here. Its -o is what leaves a file whole or not at all.
 SCRIPT = """\
 #!/bin/sh
@@ -35,7 +34,7 @@ def options(words):
     except clock.BadWords:
         files = []
     if len(files) != 3 or not all(files) or not re.fullmatch("[0-9]{1,20}", files[0], re.ASCII):
-        raise Refused(WRONG_WORDS, USAGE)
+        raise Refused(Status.WRONG_WORDS, USAGE)
     return *files, found["--jobs"] or FEW
 
 
@@ -43,12 +42,12 @@ def length(sc, word, most):
     """The length of prefixes that DEPTH says, where there are at most so many of them. Raises Refused."""
     said = parts.length(sc, word)
     if said is None:
-        raise Refused(WRONG_WORDS, f"{word} cannot stand for DEPTH: a whole number from 1 to {sc.horizon}, the periods of the scenario, can")
+        raise Refused(Status.WRONG_WORDS, f"{word} cannot stand for DEPTH: a whole number from 1 to {sc.horizon}, the periods of the scenario, can")
     count = parts.count(sc, said)
     if count > parts.MOST:
-        raise Refused(WRONG_WORDS, f"that would be {count:,} jobs, and {parts.MOST:,} are the most: take a smaller DEPTH")
+        raise Refused(Status.WRONG_WORDS, f"that would be {count:,} jobs, and {parts.MOST:,} are the most: take a smaller DEPTH")
     if count > most:
-        raise Refused(WRONG_WORDS, f"that would be {count:,} jobs, and {most:,} are allowed: take a smaller DEPTH, or write --jobs {count}")
+        raise Refused(Status.WRONG_WORDS, f"that would be {count:,} jobs, and {most:,} are allowed: take a smaller DEPTH, or write --jobs {count}")
     return said
 
 
@@ -56,7 +55,7 @@ def prefixes(sc, word, most):
     """The prefixes by the names of their parts, at most so many. Raises Refused, also where no scenario forces them."""
     found = parts.named(sc, length(sc, word, most))
     if why := parts.not_forced(sc, found):
-        raise Refused(NOT_FORCED, why)
+        raise Refused(Status.BAD_FLOWN, why)
     return found
 
 
@@ -82,7 +81,7 @@ def put(folder, contents):
         os.rename(beside, end)
     except OSError as why:
         shutil.rmtree(beside or "", ignore_errors=True)
-        raise Refused(UNWRITABLE, f"the folder {accepted.shown(folder)} cannot be made: {why.strerror}") from None
+        raise Refused(Status.UNWRITABLE, f"the folder {accepted.shown(folder)} cannot be made: {why.strerror}") from None
 
 
 def told(folder, count):

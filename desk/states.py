@@ -8,7 +8,7 @@ import re
 from fractions import Fraction
 
 from desk import geometry
-from desk.forms import MOST_CELLS
+from desk.limits import MOST_CELLS
 from desk.keys import BadSituation
 
 LOST = b"lost"

@@ -6,9 +6,9 @@ class Status(enum.IntEnum):
     """The exit statuses of all helpers. A helper that asks the program hands on its statuses, too."""
 
     # The answer was written.
-    WRITTEN = 0
+    DONE = 0
     # What was given is no good: a plan that isn't accepted, a wrong situation, parts that are missing, nothing left to search.
-    NOT_GOOD = 1
+    WRONG = 1
     WRONG_WORDS = 2
     BAD_SCENARIO = 3
     BAD_PLAN = 4

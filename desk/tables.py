@@ -2,7 +2,7 @@
 import dataclasses
 from html import escape
 
-from desk import masses, picture
+from desk import masses, percent, picture
 
 # How many squares the table of what is left names.
 MOST_LEFT = 10
@@ -24,14 +24,14 @@ def table(caption, heads, rows):
 def exact(name, part, whole):
     """A share in percent, with the exact fraction in a box that hover and focus show. The name makes it one of its own."""
     return (
-        f'<span class="exact" tabindex="0" aria-describedby="{name}">{masses.percent(part, whole)}&nbsp;%'
+        f'<span class="exact" tabindex="0" aria-describedby="{name}">{percent.cut(part, whole)}&nbsp;%'
         f'<span class="tip" role="tooltip" id="{name}">exactly {part} of {whole}</span></span>'
     )
 
 
 def bar(part, whole):
     """A bar beside a number that says the same."""
-    width = masses.percent(part, whole)
+    width = percent.cut(part, whole)
     return (
         '<svg class="bar" viewBox="0 0 100 8" preserveAspectRatio="none" aria-hidden="true"><rect width="100" height="8"/>'
         f'<rect class="part" width="{width}" height="8"/></svg>'
@@ -61,7 +61,7 @@ def verdict(search):
     more = search.ceiling > search.report.value
     if more and search.ceiling >= search.report.weight:
         return "Accepted, but nothing is shown yet: the ceiling is 100 %."
-    than = f" than {masses.percent_up(search.ceiling, search.report.weight)} %" if more else ""
+    than = f" than {percent.up(search.ceiling, search.report.weight)} %" if more else ""
     return f"Accepted: no {best(search)} finds more{than}."
 
 
@@ -76,7 +76,7 @@ def about_flown(search):
     head, these = ("The first look is flown.", "it") if k == 1 else (f"The first {k} looks are flown.", "these")
     if not missed:
         return [head, f"They are found for certain by {these}."]
-    return [head, f"If {these} found nothing, those to come find them: {masses.percent(search.report.value - found, missed)} %."]
+    return [head, f"If {these} found nothing, those to come find them: {percent.cut(search.report.value - found, missed)} %."]
 
 
 def about_trial(search):
@@ -132,10 +132,10 @@ def left(search):
     if not order:
         return f'<section class="left">{head}<p>Nowhere: these looks find them for certain.</p></section>'
     heads = [(noun.capitalize(), False), ("Share of all", True), ("If nothing was found", True)]
-    caption = f"After look {last.period}. All {noun}s together hold {masses.percent(last.missed, whole)} % of all."
+    caption = f"After look {last.period}. All {noun}s together hold {percent.cut(last.missed, whole)} % of all."
     rows = [left_row(search, it, sums[it]) for it in order[:MOST_LEFT]]
     rest = sum(sums[it] for it in order[MOST_LEFT:])
-    others = f"The rest, in {plural(len(order) - MOST_LEFT, noun)}: {masses.percent(rest, whole)} % of all."
+    others = f"The rest, in {plural(len(order) - MOST_LEFT, noun)}: {percent.cut(rest, whole)} % of all."
     more = f'<p class="note">{others}</p>' if rest else ""
     return f'<section class="left">{head}{table(caption, heads, rows)}{more}</section>'
 

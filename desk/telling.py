@@ -1,7 +1,5 @@
 """What a draft says of itself: the comments of its scenario, and the lines on standard error."""
-import math
-
-from desk import detection, earth, margins, moments, placing, rounding, twofold
+from desk import detection, earth, margins, moments, percent, placing, rounding, twofold
 from desk.chain import deviations
 from desk.comments import OF_SITUATION, SITUATION, of_times
 from desk.geometry import decimal
@@ -12,12 +10,6 @@ from desk.shares import BASE
 COARSE = 0.02
 APART = 0.1
 ADVICE = "fewer and longer periods leave more room for denominators, and so do smaller ones in [parts] for what you know less well"
-
-
-def percent(share):
-    """A share in percent, with three digits, rounded up, but for what floats are wrong by."""
-    thousandths = math.ceil(round(float(share) * 100_000, 6))
-    return f"{thousandths // 1000}.{thousandths % 1000:03}"
 
 
 def places(shares, states):
@@ -52,7 +44,7 @@ def naming(states):
 def parts(draft):
     """The denominators, and the largest rounding by each."""
     a, d, g = draft.scenario.parts
-    largest = [percent(it) for it in (draft.first, draft.drift, draft.look)]
+    largest = [percent.up_of(it) for it in (draft.first, draft.drift, draft.look)]
     told = f"of the first distribution is {largest[0]} percent, of the drift {largest[1]}, of the looks {largest[2]}"
     return f"parts {a} {d} {g}: the largest rounding {told}"
 
@@ -112,7 +104,7 @@ def detections(shares):
     for at, where in ((0, "in its own cell"), (1, "in each cell beside its course")):
         found = [1 - it[at] for it in shares.misses if it[at] is not None]
         if found:
-            least, most = percent(min(found)), percent(max(found))
+            least, most = percent.up_of(min(found)), percent.up_of(max(found))
             yield f"a look finds {least if least == most else f'{least} to {most}'} percent of what is {where}"
 
 
@@ -120,11 +112,11 @@ def edge(shares, drift):
     """What of the tracks is in the squares at the border of the area, and what has left it."""
     states, count = drift.states, drift.tracks.count
     border = {at for at, (square, _) in enumerate(states.parts) if shares.grid.is_edge(square)}
-    first, last = (percent(sum(look.get(it, 0) for it in border) / count) for look in (drift.looks[0], drift.looks[-1]))
+    first, last = (percent.up_of(sum(look.get(it, 0) for it in border) / count) for look in (drift.looks[0], drift.looks[-1]))
     yield f"in the cells at the edge of the area are {first} percent at the first look, and {last} at the last, if no look finds anything"
     lost = drift.looks[-1].get(len(states.parts), 0)
     if states.is_lost:
-        yield f"{percent(lost / count)} percent have left the area by the last look"
+        yield f"{percent.up_of(lost / count)} percent have left the area by the last look"
     share = (lost + sum(drift.looks[-1].get(it, 0) for it in border)) / count
     if share > margins.MUCH:
         yield margins.note(shares.given, share)
@@ -138,4 +130,4 @@ def warnings(shares, draft):
         yield f"note: looks are rounded coarsely; {ADVICE}"
     if max(draft.off) > APART:
         when = 1 + max(range(len(draft.off)), key=draft.off.__getitem__)
-        yield f"note: at look {when} the scenario has {percent(max(draft.off))} percent of the person elsewhere than the tracks; {ADVICE}"
+        yield f"note: at look {when} the scenario has {percent.up_of(max(draft.off))} percent of the person elsewhere than the tracks; {ADVICE}"

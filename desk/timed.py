@@ -8,13 +8,13 @@ import json
 import sys
 import time
 
-from desk import accepted, forms, masses, outfile, program, running, stopping
+from desk import accepted, forms, limits, outfile, percent, program, running, stopping
 from desk.accepted import Refused
 from desk.status import Status
 from desk.words import BadWords, Words
 
-# How many records the first round may have, and the last one of `gap` (docs/FORMATS.md); behind it comes `plan`.
-FEWEST, MOST = 64, 65_536
+# How many records the first round may have.
+FEWEST = 64
 # The longest time, in seconds: a week.
 LONGEST = 604_800
 WORDS = Words(
@@ -105,10 +105,10 @@ class Timed:
             if not it.waiting:
                 yield dataclasses.replace(it, text=self.closed(it.text))
                 return
-            if records == MOST:
-                yield self.round(number + 1, "plan", forms.MOST_NODES)
+            if records == limits.MOST_GAP_RECORDS:
+                yield self.round(number + 1, "plan", limits.MOST_NODES)
                 return
-            number, records = number + 1, min(2 * records, MOST)
+            number, records = number + 1, min(2 * records, limits.MOST_GAP_RECORDS)
 
     def closed(self, gap):
         """The text of the plan that a gap plan is in which nothing waits, and which `check` accepts. Raises as `ask` does."""
@@ -128,8 +128,8 @@ class Timed:
 
 def shares(it):
     """What a round finds and its ceiling, in percent."""
-    up = masses.percent_up if it.plan.ceiling > it.plan.value else masses.percent
-    return f"chance {masses.percent(it.plan.value, it.plan.weight)} % ceiling {up(it.plan.ceiling, it.plan.weight)} %"
+    up = percent.up if it.plan.ceiling > it.plan.value else percent.cut
+    return f"chance {percent.cut(it.plan.value, it.plan.weight)} % ceiling {up(it.plan.ceiling, it.plan.weight)} %"
 
 
 def line_of(it):
@@ -175,7 +175,7 @@ class Keeper:
         self.told = it.number
         if sys.stderr is not None and sys.stderr.isatty():
             running.say(line_of(it))
-        if self.asked.is_json and running.write(json_of(it)) != Status.WRITTEN:
+        if self.asked.is_json and running.write(json_of(it)) != Status.DONE:
             raise Refused(Status.UNWRITABLE, "")
 
     def write(self, text):
@@ -192,8 +192,8 @@ class Keeper:
         rounds ended."""
         if self.best.is_gap:
             running.say(told(self.best, why))
-        written = Status.WRITTEN if self.asked.target is not None else running.write_bytes(self.best.text)
-        return written or (Status.GAP_WRITTEN if self.best.is_gap else Status.WRITTEN)
+        written = Status.DONE if self.asked.target is not None else running.write_bytes(self.best.text)
+        return written or (Status.GAP_WRITTEN if self.best.is_gap else Status.DONE)
 
 
 def searched(asked, keeper):
@@ -227,7 +227,7 @@ def taken(words):
     ((option, word),) = times
     each = 60 if option == "--minutes" else 1
     seconds = each * WORDS.number(option, word, 1, LONGEST // each)
-    workers = WORDS.number("--workers", found["--workers"] or "4", 1, 16)
+    workers = WORDS.number("--workers", found["--workers"] or "4", 1, limits.MOST_WORKERS)
     if found["--json"] not in (None, "yes"):
         raise BadWords("behind --json stands yes")
     if found["--json"] and found["-o"] is None:

@@ -10,18 +10,17 @@ import json
 import os
 import textwrap
 
-from desk import accepted, clock, flights, flying, keys, packages, patterns, running, tracks
+from desk import accepted, clock, flights, flying, keys, packages, patterns, percent, running, tracks
 from desk.accepted import Refused
 from desk.brief import rows_of
 from desk.situation import BadSituation, recorded_at, situation
+from desk.status import Status
 
 USAGE = (
     "usage: osp trial SITUATION.toml [PLAN ..] [--path NAME,NAME,..] [--pattern NAME] [--of SCENARIO] [--count N] [--seed N] [--tracks FILE]"
     " [--json yes]"
     f"\nNAME of a pattern is {', '.join(patterns.PATTERNS)}, or all"
 )
-# Exit statuses of docs/FORMATS.md.
-WRONG, WRONG_WORDS = 1, 2
 # From which difference on, in parts of 1 and in standard errors, a scenario is called no good image.
 MOST_OFF, MOST_ERRORS = 0.02, 3
 # How many tracks the JSON has at most, for a page to draw.
@@ -178,19 +177,14 @@ def tried(asked):
 # ---- what is said
 
 
-def percent(share, digits=2):
-    """A share in percent."""
-    return f"{float(share) * 100:.{digits}f} %"
-
-
-def points(part):
-    """A difference of shares in points."""
-    return f"{part * 100:.2f}"
+def signed(share):
+    """A share in percent with its sign."""
+    return f"{percent.near(share)} %"
 
 
 def with_error(it):
     """An estimate in percent with its standard error."""
-    return f"{it.mean * 100:.2f} ± {it.error * 100:.2f} %"
+    return f"{percent.near(it.mean)} ± {percent.near(it.error)} %"
 
 
 def short(name):
@@ -202,8 +196,8 @@ def summary(trial):
     """The table of all that was flown."""
     lines = [["flown", "says", "finds", f"{short(trial.flown[0].flight.name)} finds more by"]]
     for at, it in enumerate(trial.flown):
-        more = f"{it.less.mean * 100:.2f} ± {it.less.error * 100:.2f}" if at else ""
-        lines.append([short(it.flight.name), percent(it.flight.chance), with_error(it.finds.total), more])
+        more = f"{percent.near(it.less.mean)} ± {percent.near(it.less.error)}" if at else ""
+        lines.append([short(it.flight.name), signed(it.flight.chance), with_error(it.finds.total), more])
     return rows_of([it[: 4 if len(trial.flown) > 1 else 3] for it in lines], [True, False, False, False])
 
 
@@ -214,7 +208,7 @@ def periods(trial, it):
     for t, (place, says, found, up_to) in enumerate(zip(flight.path, flight.says, it.finds.periods, it.finds.so_far), 1):
         so_far += says
         begins = given.clock.told(given.minutes * (t - 1)).split(" ")[-1]
-        lines.append([str(t), begins, place, percent(says), with_error(found), percent(so_far), with_error(up_to)])
+        lines.append([str(t), begins, place, signed(says), with_error(found), signed(so_far), with_error(up_to)])
     return [f"{flight.name}, period by period:", *rows_of(lines, [False, True, True, False, False, False, False])]
 
 
@@ -241,11 +235,11 @@ def about_patterns(trial):
 def about_off(it):
     """What is said of a flight whose finds aren't what its plan says."""
     where = "below" if it.off > 0 else "above"
-    told = f"{it.flight.name}: what it finds is {points(abs(it.off))} points {where} what is said, so the scenario is no good image of"
+    told = f"{it.flight.name}: what it finds is {percent.near(abs(it.off))} points {where} what is said, so the scenario is no good image of"
     told += " these drifts."
     if it.causes is None:
         return ["", *wrapped(f"{told} The scenario isn't the one that draft makes of this situation now.")]
-    rows = [[f"  {each.why}", points(each.part), each.helps] for each in it.causes if abs(each.part) >= LEAST_SHOWN]
+    rows = [[f"  {each.why}", percent.near(each.part), each.helps] for each in it.causes if abs(each.part) >= LEAST_SHOWN]
     return ["", *wrapped(f"{told} Where the points of difference come from:"), *rows_of([["  cause", "points", "what helps"], *rows], [True, False, True])]
 
 
@@ -325,14 +319,14 @@ def main(words):
         trial = tried(asked)
     except clock.BadWords as wrong:
         running.say(f"osp trial: {wrong}\n{USAGE}")
-        return WRONG_WORDS
+        return Status.WRONG_WORDS
     except BadSituation as wrong:
         running.say(f"osp trial: {wrong}")
-        return WRONG
+        return Status.WRONG
     except Refused as why:
         running.say(f"osp trial: {why.said}")
         return why.status
     except packages.Lacking as lacking:
         running.say(f"osp trial: {lacking}")
-        return accepted.FAILED
+        return Status.FAILED
     return running.write(json_of(trial) if asked.is_json else text_of(trial))

@@ -3,13 +3,13 @@ import dataclasses
 import json
 import math
 
-from desk import accepted
+from desk import accepted, limits, percent
 from desk.accepted import Refused
+from desk.status import Status
 
-# The exit status (docs/FORMATS.md), the longest text of a trial that is read, in bytes, and the most drifts and looks of it.
-WRONG_WORDS = 2
+# The exit status (docs/FORMATS.md), the longest text of a trial that is read, in bytes, and the most drifts of it.
 LONGEST = 16_000_000
-MOST_DRIFTS, MOST_LOOKS = 500, 32
+MOST_DRIFTS = 500
 
 
 class NoTrial(Exception):
@@ -31,7 +31,7 @@ class Tried:
     def sentences(self):
         """What is said of it: both numbers, and whether they fit."""
         digits = 1 if self.error >= 0.0005 else 2
-        says, finds, error = (f"{it * 100:.{digits}f}" for it in (self.says, self.finds, self.error))
+        says, finds, error = (percent.near(it, digits) for it in (self.says, self.finds, self.error))
         told = [f"{says} % by the plan's own sums; {finds} ± {error} % of {self.count:,} simulated drifts."]
         return told + ["So the scenario is no good image of these drifts: osp trial says why."] * self.is_off
 
@@ -60,7 +60,7 @@ def parsed(text):
         if told["trial"] != 1 or type(told["count"]) is not int or told["count"] < 1:
             raise NoTrial("a trial")
         drifts = [[place(it) for it in look] for look in told["drifts"]]
-        if len(drifts) > MOST_LOOKS or any(len(it) > MOST_DRIFTS for it in drifts):
+        if len(drifts) > limits.MOST_PERIODS or any(len(it) > MOST_DRIFTS for it in drifts):
             raise NoTrial("few drifts")
         return told, drifts
     except (ValueError, KeyError, TypeError, RecursionError) as why:
@@ -93,7 +93,7 @@ def with_trial(search, name):
     try:
         tried = found(text[:LONGEST], search)
     except NoTrial:
-        raise Refused(WRONG_WORDS, f"--trial {accepted.shown(name)} isn't what osp trial writes with --json yes") from None
+        raise Refused(Status.WRONG_WORDS, f"--trial {accepted.shown(name)} isn't what osp trial writes with --json yes") from None
     if tried is None:
-        raise Refused(WRONG_WORDS, f"--trial {accepted.shown(name)}: this plan wasn't flown there: none has its path and its chance")
+        raise Refused(Status.WRONG_WORDS, f"--trial {accepted.shown(name)}: this plan wasn't flown there: none has its path and its chance")
     return dataclasses.replace(search, trial=tried)

@@ -4,17 +4,15 @@ from fractions import Fraction
 
 from desk import rounding
 from desk.forms import is_narrow
-
-# The most positions, pairs of moves, and parts of a look for two searchers.
-MOST_POSITIONS, MOST_PAIRS, MOST_LOOK = 14, 64, 1000
+from desk.limits import FINEST_LOOK, MOST_IN_PAIRS, MOST_MOVES
 
 
 def line(given, sc):
     """Whether two searchers can fly a scenario (desk.forms.Scenario) that was drafted of a situation, in one line."""
     (a, d, g), pairs = sc.parts, max(len(it) for it in sc.moves.values()) ** 2
-    look = rounding.greatest(MOST_LOOK, lambda it: is_narrow(sc.horizon, (a, d, it * it)))
-    lacks = [f"{len(sc.positions)} positions, and {MOST_POSITIONS} are the most"] * (len(sc.positions) > MOST_POSITIONS)
-    lacks += [f"{pairs} pairs of moves, and {MOST_PAIRS} are the most"] * (pairs > MOST_PAIRS)
+    look = rounding.greatest(FINEST_LOOK, lambda it: is_narrow(sc.horizon, (a, d, it * it)))
+    lacks = [f"{len(sc.positions)} positions, and {MOST_IN_PAIRS} are the most"] * (len(sc.positions) > MOST_IN_PAIRS)
+    lacks += [f"{pairs} pairs of moves, and {MOST_MOVES} are the most"] * (pairs > MOST_MOVES)
     changes = [cells(given)] * bool(lacks)
     if g > look:
         lacks.append(f"{g} parts of a look, and {look or 'none'} fit twice")
@@ -26,7 +24,7 @@ def line(given, sc):
 
 def cells(given):
     """The smallest cells over the same area with which there are few enough positions and moves, as keys of a situation."""
-    grid, most = given.grid, MOST_POSITIONS - (given.searcher.base is not None)
+    grid, most = given.grid, MOST_IN_PAIRS - (given.searcher.base is not None)
     # By the side in metres that so many rows and columns need.
     found = min(
         (max(grid.rows * grid.side / rows, grid.columns * grid.side / columns), rows, columns)

@@ -2,16 +2,10 @@
 
 A fault is a kind, as the program names it, and a text. They stand in the order in which the program asks for their kinds.
 """
-import math
-
-from desk import derived, forms, quoting, rounding, wording
+from desk import forms, limits, quoting, rounding, wording
+from desk.limits import FINEST_LOOK, LONGEST_NAME, MOST_MOVES_EACH, MOST_NAMES
 from desk.states import square_of
 
-# How many moves a position may have so that two searchers at it have no more than a position may.
-MOST_MOVES_EACH = math.isqrt(forms.MOST_MOVES)
-# The greatest look denominator whose square one may be.
-FINEST_LOOK = math.isqrt(forms.MOST_PART)
-MOST_NAMES = 32
 
 
 def of_words(word, names):
@@ -22,7 +16,7 @@ def of_words(word, names):
     if len(names) > MOST_NAMES:
         told.append(f"at most {MOST_NAMES} names stand behind `flown`, and here are {len(names):,}")
     for it in dict.fromkeys(names):
-        if not (forms.NAME.match(it) and 1 <= len(it) <= 24):
+        if not (forms.NAME.match(it) and 1 <= len(it) <= LONGEST_NAME):
             told.append(f"{quoting.field(it)} can't be a name: names have 1 to 24 letters, digits, `_` and `-`")
     return told
 
@@ -62,10 +56,10 @@ def about_flown(sc, names):
     yield from about_names(sc, names)
     yield from about_moves(sc, names)
     count, more = len(sc.positions), len(names) + 1
-    if count + more > forms.MOST_CELLS:
-        room = forms.MOST_CELLS - count - 1
+    if count + more > limits.MOST_CELLS:
+        room = limits.MOST_CELLS - count - 1
         fit = f"{quoting.counted(room, 'flown period')} would fit" if room > 0 else "none would fit; `next` needs no more positions"
-        yield "TooManyPositions", f"{count} positions and {more} flown ones are {count + more}, and {forms.MOST_CELLS} are the most: {fit}"
+        yield "TooManyPositions", f"{count} positions and {more} flown ones are {count + more}, and {limits.MOST_CELLS} are the most: {fit}"
     taken = [it for it in (b"flown-%d" % at for at in range(more)) if it in sc.positions]
     if taken:
         who, (verb, them) = quoting.listed([quoting.name(it) for it in taken]), ("is", "it") if len(taken) == 1 else ("are", "them")
@@ -76,13 +70,13 @@ def about_pair(sc, names):
     """All faults of a second searcher's start and of the scenario that two searchers are asked of."""
     yield from about_names(sc, names)
     count, (a, d, g) = len(sc.positions), sc.parts
-    if count > derived.MOST_IN_PAIRS:
-        most = f"two searchers can have {derived.MOST_IN_PAIRS} at most"
+    if count > limits.MOST_IN_PAIRS:
+        most = f"two searchers can have {limits.MOST_IN_PAIRS} at most"
         yield "TooManyPositions", f"there are {count} positions, and {most}: take larger cells, or leave positions out"
     for at in range(count):
         moves = len(sc.moves[at])
         if moves > MOST_MOVES_EACH:
-            told = f"two searchers there {moves * moves} together, and {forms.MOST_MOVES} are the most: at most {MOST_MOVES_EACH} each"
+            told = f"two searchers there {moves * moves} together, and {limits.MOST_MOVES} are the most: at most {MOST_MOVES_EACH} each"
             yield "TooManyMoves", f"{quoting.name(sc.positions[at])} has {moves} moves, {told}"
     if g > FINEST_LOOK:
         yield "TooFine", f"G is {g:,}, and with two searchers at most {FINEST_LOOK:,}: take a smaller third number of `parts`, and smaller parts of looks"

@@ -9,7 +9,7 @@ import math
 from fractions import Fraction
 
 from desk import geometry
-from desk.forms import MOST_MOVES
+from desk.limits import MOST_MOVES
 from desk.geometry import decimal
 from desk.keys import BadSituation
 

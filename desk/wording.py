@@ -5,7 +5,8 @@ import difflib
 import re
 
 from desk import numerals, quoting
-from desk.forms import DECIMAL, MOST_CELLS, MOST_MOVES, MOST_PART, NAME
+from desk.forms import DECIMAL, NAME
+from desk.limits import LONGEST_NAME, MOST_CELLS, MOST_MOVES, MOST_PART, MOST_PERIODS
 from desk.states import square_of
 
 # The kinds of fault that a line's fields can have, in the order in which they are asked.
@@ -245,7 +246,7 @@ class Words:
         self.tell("BadLine", f"the version is 1 or 2, and not {quoting.field(self.fields[0])}")
 
     def about_horizon(self):
-        self.number(self.fields[0], 1, 32, "the number of periods")
+        self.number(self.fields[0], 1, MOST_PERIODS, "the number of periods")
 
     def about_parts(self):
         for field, letter in zip(self.fields, "ADG"):
@@ -268,7 +269,7 @@ class Words:
         (name,), noun = self.fields, self.word.decode("ascii")
         if not NAME.match(name):
             self.tell("BadLine", f"a name has letters, digits, `_` and `-` alone, and {quoting.field(name)} has something else")
-        if len(name) > 24:
+        if len(name) > LONGEST_NAME:
             self.tell("OverLimit", f"a name has at most 24 letters, and this one has {len(name):,}")
         if len(names) >= MOST_CELLS:
             self.tell("OverLimit", f"there are at most {MOST_CELLS} {noun}s, and this is one more")
@@ -330,6 +331,6 @@ def unknown(field, known, other, noun, grid):
         return f"{said}: the grid has r0c0 to r{grid[0] - 1}c{grid[1] - 1}, since rows and columns count from 0"
     if meant := near(field, known):
         return f"{said}: is {quoting.name(meant)} meant?"
-    if not NAME.match(field) or len(field) > 24:
+    if not NAME.match(field) or len(field) > LONGEST_NAME:
         return f"{said}, and can't be: names have at most 24 letters, digits, `_` and `-`"
     return f"{said}: it needs a line `{noun} {quoting.name(field)}`, or is another one meant?"

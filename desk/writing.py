@@ -1,5 +1,6 @@
 """Writes scenarios: the canonical text that docs/FORMATS.md defines, of version 1 where that can say the scenario."""
-from desk.forms import MOST_CELLS, MOST_MOVES, MOST_PART, NAME, is_narrow
+from desk.forms import NAME, is_narrow
+from desk.limits import LONGEST_NAME, MOST_CELLS, MOST_MOVES, MOST_PART, MOST_PERIODS
 
 
 def scenario_text(sc, comments=()):
@@ -96,8 +97,8 @@ def check(sc):
     """Raises ValueError, with a reason, where no text says the scenario."""
     for names in (sc.names, sc.positions):
         need(1 <= len(names) <= MOST_CELLS and len(set(names)) == len(names), "there are 1 to 200 names, each once")
-        need(all(NAME.match(it) and 1 <= len(it) <= 24 for it in names), "a name has 1 to 24 bytes of a-z A-Z 0-9 _ -")
-    need(1 <= sc.horizon <= 32, "the horizon is 1 to 32")
+        need(all(NAME.match(it) and 1 <= len(it) <= LONGEST_NAME for it in names), "a name has 1 to 24 bytes of a-z A-Z 0-9 _ -")
+    need(1 <= sc.horizon <= MOST_PERIODS, "the horizon is 1 to 32")
     need(all(1 <= it <= MOST_PART for it in sc.parts), "denominators are 1 to 1,000,000")
     need(is_narrow(sc.horizon, sc.parts), "the scenario is too wide for 128 bits")
     need(len(sc.first) == len(sc.names) and min(sc.first) >= 0 and sum(sc.first) == sc.parts[0], "the first distribution sums to A")

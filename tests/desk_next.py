@@ -8,7 +8,7 @@ import unittest
 from fractions import Fraction
 from unittest import mock
 
-from desk import accepted, following, forms, layout, masses, onward, paths, program
+from desk import accepted, following, forms, layout, masses, onward, paths, percent, program
 from tests import finer
 from tests.asking import Asked
 from tests.made import with_plan
@@ -73,7 +73,7 @@ class Chains(unittest.TestCase):
     def test_drifting_grid_behind_period_4_is_exact(self):
         it, got, whole = self.together("drifting-grid", 4)
         self.assertEqual((it.moved, it.sc.parts, got), (0, (3020, 20, 10), whole))
-        self.assertEqual(masses.percent(whole.numerator, whole.denominator), "17.557")
+        self.assertEqual(percent.cut(whole.numerator, whole.denominator), "17.557")
 
     def test_what_is_left_before_the_drift_gives_another_number(self):
         """The lines `left` of a report, taken as the next `first`, are one drift too early."""
@@ -82,7 +82,7 @@ class Chains(unittest.TestCase):
         left = masses.frames(sc, path)[4].left
         it.sc.first, it.sc.parts = left, (sum(left), *sc.parts[1:])
         wrong = it.found + (1 - it.found) * chance(it.sc, path[4:])
-        self.assertEqual(masses.percent(wrong.numerator, wrong.denominator), "22.060")
+        self.assertEqual(percent.cut(wrong.numerator, wrong.denominator), "22.060")
 
     def test_the_tide_turns_where_it_did(self):
         sc, path = searched("tide")

@@ -3,7 +3,7 @@ two searchers beside each other. Their plans are by bench/tree. `python3 -m unit
 import os
 import unittest
 
-from desk import accepted, brief, derived, forms, masses, reports, seats, show, writing
+from desk import accepted, brief, derived, forms, percent, reports, seats, show, writing
 from tests.made import GRID, again, forced, paired, read, with_plan
 from tests.pages import EXAMPLES, PLACES, Refusing, Room, example, tree
 
@@ -202,7 +202,7 @@ class Texts(Room):
             self.assertEqual([list(it) for it in zip(*shown)], [[row.value for row in it.left] for it in looks])
             so_far = [it.one("td", class_="so-far").one(role="tooltip").text() for it in told.one("section", class_="periods").one("tbody").all("tr")]
             self.assertEqual(so_far, [f"exactly {it.value} of {report.weight}" for it in report.periods])
-            self.assertEqual(told.one(class_="chance").one("strong").text(), f"{masses.percent(report.value, report.weight)}\N{NO-BREAK SPACE}%")
+            self.assertEqual(told.one(class_="chance").one("strong").text(), f"{percent.cut(report.value, report.weight)}\N{NO-BREAK SPACE}%")
 
 
 class Maps(Room):

@@ -10,7 +10,7 @@ import unittest.mock
 from decimal import ROUND_DOWN, Decimal, getcontext
 from fractions import Fraction
 
-from desk import accepted, brief, clock, forms, layout, masses, moments, page, picture, program, reports, show, squares, tables
+from desk import accepted, brief, clock, forms, layout, masses, moments, page, percent, picture, program, reports, show, squares, tables
 from tests import finer
 from tests.made import with_plan
 from tests.pages import EXAMPLES, PLACES, Refusing, Room, example, read, tree, walks
@@ -64,7 +64,7 @@ class Masses(unittest.TestCase):
     def test_percent_is_cut_off(self):
         rows = (2, 3, "66.666"), (1, 1, "100.000"), (0, 7, "0.000"), (1, 10**5, "0.001"), (1, 10**5 + 1, "0.000"), (999_999, 10**6, "99.999")
         for part, whole, text in rows:
-            self.assertEqual(masses.percent(part, whole), text)
+            self.assertEqual(percent.cut(part, whole), text)
             self.assertEqual(cut(part, whole), text)
 
     def test_greatest_first_and_of_equals_the_smaller_number(self):

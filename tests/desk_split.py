@@ -9,7 +9,7 @@ import sys
 import unittest
 from unittest import mock
 
-from desk import accepted, forms, join, masses, paths, program, split, writing
+from desk import accepted, forms, join, paths, percent, program, split, writing
 from tests.asking import Asked
 from tests.desk_derived import ROW, small
 from tests.pages import STAND_IN, TOP, example, read
@@ -163,7 +163,7 @@ class Join(Parts):
                 number = 1 + every_prefix(sc, depth).index(path[:depth])
                 status, out, said = self.joined(folder)
                 names = " ".join(sc.positions[it].decode() for it in path)
-                chance = f"chance {value} {whole} {masses.percent(value, whole)}"
+                chance = f"chance {value} {whole} {percent.cut(value, whole)}"
                 part = f"part parts/{number:0{len(str(count))}}"
                 self.assertEqual((status, out, said), (0, f"path {names}\n{chance}\n{part}\n{count} of {count} prefixes\n", ""))
                 shutil.rmtree(folder)
