@@ -22,6 +22,8 @@ HELPERS = {
     "join": "desk.join",
     "trial": "desk.trial",
     "vary": "desk.vary",
+    # (The front door's own, for files that have a scenario and its plan.)
+    "alone": "desk.alone",
 }
 
 

@@ -6,9 +6,10 @@ import dataclasses
 import re
 from fractions import Fraction
 
-from desk import accepted, earth, layout, moments, packages, situation
+from desk import earth, layout, moments, packages, situation
 from desk.accepted import Refused
 from desk.geometry import decimal
+from desk.status import Status
 
 # The comment before the lines of a situation, and what each of these begins with.
 SITUATION = b"The situation, from which osp draft made it:"
@@ -109,7 +110,7 @@ def agreed(told, given):
     if not is_one_time or not is_one_day or other.is_utc and not mine.is_utc:
         why = f"--from and --minutes say {decimal(given.minutes)} minutes from {given.clock.told(0)}"
         why += f", and the scenario's comments {decimal(told.minutes)} minutes from {told.clock.told(0)}"
-        raise Refused(accepted.WRONG_WORDS, f"{why}: leave both out, or change the comment")
+        raise Refused(Status.WRONG_WORDS, f"{why}: leave both out, or change the comment")
     return moments.Times(moments.Clock(dataclasses.replace(mine, date=mine.date or other.date)), told.minutes)
 
 

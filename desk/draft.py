@@ -5,15 +5,21 @@ The scenario goes to standard output; what was rounded, and what to look at, to 
 import os
 import sys
 
-from desk import packages, telling, tracks, writing
+from desk import packages, running, telling, tracks, writing
 from desk.chain import drifts
 from desk.limits import MOST_SCENARIO
 from desk.rounded import rounded
 from desk.shares import Shares
 from desk.situation import LONGEST, BadSituation, situation
 from desk.status import Status
+from desk.words import BadWords, Words
 
-USAGE = "usage: osp draft SITUATION.toml > SCENARIO"
+WORDS = Words(
+    "draft",
+    "draft SITUATION.toml",
+    "writes a scenario from a situation: times, reports, currents, wind, the searcher",
+    ("SITUATION.toml", "the file of the situation; docs/PLANNING.md has its keys"),
+)
 
 
 def drafted(text, tell=None, folder=""):
@@ -39,7 +45,8 @@ def scenario_of(given, text, made):
 
 
 def say(line):
-    print(f"osp draft: {line}", file=sys.stderr)
+    """A line on standard error."""
+    running.say(f"osp draft: {line}")
 
 
 def progress(done):
@@ -50,7 +57,7 @@ def progress(done):
 
 def drafted_aloud(text, folder):
     """What `drafted` makes, with a line of progress while standard error is a terminal."""
-    if not sys.stderr.isatty():
+    if not running.is_terminal():
         return drafted(text, folder=folder)
     try:
         return drafted(text, progress, folder)
@@ -60,31 +67,25 @@ def drafted_aloud(text, folder):
 
 def main(words):
     """Runs the helper; answers its exit status."""
-    if len(words) != 1 or words[0].startswith("-"):
-        print(USAGE, file=sys.stderr)
-        return Status.WRONG_WORDS
     try:
-        with open(words[0], "rb") as file:
+        name = WORDS.one_file(words, "a situation")
+        with open(name, "rb") as file:
             text = file.read(LONGEST + 1)
+    except BadWords as wrong:
+        return WORDS.refuse(wrong)
     except (OSError, ValueError) as wrong:
         say(f"the file can't be read: {getattr(wrong, 'strerror', None) or 'no such name'}")
         return Status.UNREADABLE
     try:
-        scenario, lines = drafted_aloud(text, os.path.dirname(words[0]))
+        scenario, lines = drafted_aloud(text, os.path.dirname(name))
     except BadSituation as wrong:
         say(wrong)
         return Status.WRONG
     except packages.Lacking as lacking:
         say(lacking)
         return Status.FAILED
-    try:
-        sys.stdout.buffer.write(scenario)
-        sys.stdout.buffer.flush()
-    except OSError as wrong:
-        # What Python would still write at its end goes nowhere.
-        os.dup2(os.open(os.devnull, os.O_WRONLY), sys.stdout.fileno())
-        say(f"the output can't be written: {wrong.strerror}")
-        return Status.UNWRITABLE
-    for line in lines:
-        say(line)
-    return 0
+    written = running.write_bytes(scenario)
+    if written == Status.DONE:
+        for line in lines:
+            say(line)
+    return written

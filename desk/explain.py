@@ -3,17 +3,30 @@ and `duo`, all of it, and what to write; and what may not be meant.
 
 The first line is the program's own verdict, and the exit status is that of its answer. All below it is this helper's.
 """
+import collections
+import math
 import os
 import re
 
-from desk import accepted, advice, faults, forms, program, quoting, rejection, running, unmade
+from desk import accepted, advice, alone, faults, forms, paths, program, quoting, rejection, running, unmade, wording
 from desk.limits import MOST_SCENARIO
 from desk.status import Status
+from desk.words import BadWords, Words
 
-USAGE = "usage: osp explain SCENARIO [PLAN | flown NAME .. | start NAME]"
+WORDS = Words(
+    "explain",
+    "explain SCENARIO [PLAN | flown NAME .. | start NAME]",
+    "says what is wrong with a scenario, a plan, or names of positions, and what to write",
+    ("SCENARIO", "the scenario's file"),
+    ("PLAN", "the file of a plan or of a gap plan"),
+    ("flown NAME ..", "the names of the positions looked from so far, as replan and map take them; nothing stands behind them"),
+    ("start NAME", "the name of the position where another searcher starts, as duo takes it"),
+)
 # How many lines with faults are shown, and how many faults of one line.
 MOST_SHOWN = 200
 MOST_IN_LINE = 6
+# Of which kinds faults are told together, and from how many on.
+ALIKE, MANY = ("BadNumber", "OverLimit", "WrongSum", "PartOver", "DoubleName"), 3
 # What is said where this helper has another opinion than the program.
 OWN = "(this helper's own verdict is: {}. The program's holds; please tell the project, with the file)"
 
@@ -69,12 +82,31 @@ def of_line(text_lines, line, says):
     return [head, *(f"    {it}" for it in says)]
 
 
+def families(found, text_lines):
+    """The faults, those of one kind in lines of one keyword together where they are many: numbers and sums that are wrong alike."""
+    told = {}
+    for it in found:
+        word = wording.split(text_lines[it.line - 1])[:1] if it.kind in ALIKE and it.line <= len(text_lines) else None
+        told.setdefault((it.kind, *word) if word else id(it), []).append(it)
+    for family in told.values():
+        yield from [family] if len(family) >= MANY else ([it] for it in family)
+
+
+def of_family(family):
+    """What is said of faults that are told together: the first of them, and how many more there are."""
+    first, *more = family
+    same = f" (the same in {quoting.lines(first.more)})" if first.more else ""
+    if more:
+        lines = sorted({line for it in more for line in (it.line, *it.more)})
+        same += f" (and {quoting.counted(len(lines), 'more line')} such as this: {quoting.lines(lines)})"
+    return f"{first.kind}: {first.says}{same}"
+
+
 def of_faults(found, text_lines):
     """All faults: each line with what is wrong with it."""
     by_line = {}
-    for it in found:
-        also = f" (the same in {quoting.lines(it.more)})" if it.more else ""
-        by_line.setdefault(it.line, []).append(f"{it.kind}: {it.says}{also}")
+    for family in families(found, text_lines):
+        by_line.setdefault(family[0].line, []).append(of_family(family))
     told = []
     for line, says in list(by_line.items())[:MOST_SHOWN]:
         more = len(says) - MOST_IN_LINE
@@ -96,18 +128,38 @@ def of_scenario(text, line):
     return told
 
 
+# The letters of records, and what stands behind their count.
+RECORDS = {
+    b"B": ("branch", "branches"),
+    b"W": ("whole path", "whole paths"),
+    b"M": ("mean bound", "mean bounds"),
+    b"T": ("tangent bound", "tangent bounds"),
+    b"E": ("edge bound", "edge bounds"),
+    b"O": ("prefix that waits", "prefixes that wait"),
+}
+
+
+def sizes(sc, plan):
+    """How many legal prefixes a scenario has, by counting the walks of each length, and how many records of each kind a plan has."""
+    counts, kinds = paths.counts(sc, math.inf), collections.Counter(letter for letter, *_ in plan.records)
+    told = [quoting.counted(kinds[letter], *names) for letter, names in RECORDS.items() if kinds[letter]]
+    yield f"legal prefixes: {sum(counts):,}, from the empty one to {counts[-1]:,} whole paths of {quoting.counted(sc.horizon, 'period')}"
+    yield f"records: {len(plan.records):,}, of them {', '.join(told)}"
+
+
 def of_right(text, plan=None):
-    """The warnings of a right scenario, and those of its accepted plan."""
+    """The warnings of a right scenario, and of its accepted plan its size and its warnings."""
     try:
         sc, _ = forms.read_scenario(text, plan is None)
     except forms.Fault as fault:
         return [OWN.format(f"bad scenario: {fault}")]
-    told = advice.warnings(sc)
+    told, size = advice.warnings(sc), []
     if plan and len(plan) < rejection.MOST_BYTES:
         read = forms.read_plan(plan, sc, forms.family_of(plan))
+        size = sizes(sc, read)
         # Of a gap plan whose path may not be the best nothing is said.
         told += advice.about_plan(sc, read) if read.ceiling == read.value else []
-    return [f"perhaps not meant: {it}" for it in told]
+    return [*size, *(f"perhaps not meant: {it}" for it in told)]
 
 
 def of_plan(scenario, plan, status, line):
@@ -160,16 +212,25 @@ def explained(scenario, plan, status, line):
 
 
 def taken(words):
-    """The files and the names of the words, or None where they are others. A plan of the name `flown` or `start` is given as ./flown."""
-    if len(words) > 2 and words[1] in unmade.COMMANDS:
-        return words[:1], words[1:]
-    is_right = len(words) in (1, 2) and not any(it.startswith("--") for it in words) and words[1:] != ["flown"] and words[1:] != ["start"]
-    return (words, []) if is_right else None
+    """The files and the names of the words. A plan of the name `flown` or `start` is given as ./flown. Raises BadWords."""
+    at = 1 if words[1:2] and words[1] in unmade.COMMANDS else len(words)
+    files, names = WORDS.taken(words[:at])[0], words[at:]
+    if len(names) == 1:
+        raise BadWords(f"names of positions stand behind {names[0]}")
+    if not 1 <= len(files) <= (1 if names else 2):
+        raise BadWords(f"one scenario is explained, perhaps with one plan, and here are {len(files)} files")
+    return files, names
+
+
+def is_made(name):
+    """Whether a file has a plan behind its scenario."""
+    return name != "-" and accepted.texts([name])[1].startswith((b"plan ", b"gap "))
 
 
 def told_of(files, names):
     """The exit status and all lines for these files and names."""
-    scenario, plan = [*map(accepted.read_file, files), None][:2]
+    # (With names the plan behind a scenario, as replan writes it, is left out.)
+    scenario, plan = (alone.scenario_of(files[0])[0], None) if names and is_made(files[0]) else [*map(accepted.read_file, files), None][:2]
     status, line = names_verdict(scenario, names) if names else program_verdict(scenario, plan)
     if status in (Status.BAD_FLOWN, Status.BAD_PAIR):
         return status, [line, *of_names(scenario, names, line)]
@@ -180,12 +241,10 @@ def told_of(files, names):
 
 def main(words):
     """Runs the helper; answers its exit status."""
-    given = taken(words)
-    if given is None:
-        running.say(USAGE)
-        return Status.WRONG_WORDS
     try:
-        status, lines = told_of(*given)
+        status, lines = told_of(*taken(words))
+    except BadWords as wrong:
+        return WORDS.refuse(wrong)
     except accepted.Refused as why:
         running.say(f"osp explain: {why.said}")
         return why.status

@@ -30,6 +30,8 @@ NEEDED = {
 # How often a line is read again after a repair, and from how many faults on no spelling is looked for.
 TRIES = 5
 MOST_GUESSES = 500
+# For how many unknown names a name is looked for that is spelled like them.
+MOST_NEAR = 100
 
 
 @dataclasses.dataclass
@@ -85,6 +87,7 @@ class Survey(forms.ScenarioReader):
         self.rows_at, self.once_at, self.unplaced = {}, {}, []
         self.second, self.open, self.forgiven, self.unsure, self.late, self.behind = False, False, set(), set(), set(), []
         self.grid_size = None
+        self.guesses = {}
         self.sc.parts, self.sc.horizon, self.sc.first, self.sc.start = (UNKNOWN,) * 3, UNKNOWN, [], 0
         words = [split(it) for it in lines]
         self.word_at = {}
@@ -174,6 +177,12 @@ class Survey(forms.ScenarioReader):
         if len(row) == 1 or number is None:
             return number
         return (int(row[0]), number) if wording.is_number(row[0], 1) and len(row[0]) < 8 else None
+
+    def near(self, name, names):
+        """The name that is spelled most like another one, or None. Many are looked for no more."""
+        if name not in self.guesses and len(self.guesses) < MOST_NEAR:
+            self.guesses[name] = wording.near(name, names)
+        return self.guesses.get(name)
 
     def known(self, positions, cells):
         """As in the reader; names that a wrong line may have given are taken."""
@@ -480,7 +489,7 @@ class Survey(forms.ScenarioReader):
         """A row with an unknown name is most likely that of a name that lacks one, which then isn't told as missing, too."""
         for rows, name, fault in self.unplaced:
             names = lacking.get(rows, [])
-            meant = wording.near(name, names) if len(self.found) < MOST_GUESSES else None
+            meant = wording.near(name, names) if len(self.found) < MOST_NEAR else None
             if meant is None and names:
                 meant = names[0] if len(names) == 1 else None
             if meant is not None:

@@ -7,11 +7,17 @@ import concurrent.futures
 import dataclasses
 import os
 
-from desk import accepted, derived, forms, parts, paths, percent, running
+from desk import accepted, derived, forms, parts, paths, percent, program, running, stopping
 from desk.accepted import Refused, shown
 from desk.status import Status
+from desk.words import BadWords, Words
 
-USAGE = "usage: osp join FOLDER"
+WORDS = Words(
+    "join",
+    "join FOLDER",
+    "checks the parts that these jobs wrote, sees that none is missing, and says the best path and its chance",
+    ("FOLDER", "the folder that split made, and in which the jobs ran"),
+)
 # How the names of files begin that a job was writing when it was cut off.
 HALF = ".osp-"
 
@@ -108,14 +114,19 @@ def survey(folder, sc, prefixes):
     Refused where the program gives no answer."""
     found, wrong, notes = [], [], set()
     with concurrent.futures.ThreadPoolExecutor(os.cpu_count()) as pool:
-        asked = [(name, pool.submit(tried, folder, name, sc, prefix, notes)) for name, prefix in prefixes.items()]
         try:
+            asked = [(name, pool.submit(tried, folder, name, sc, prefix, notes)) for name, prefix in prefixes.items()]
             for name, answer in asked:
                 it, why = answer.result()
                 found += [it] if it else []
                 wrong += [f"{name} ({parts.words(sc, prefixes[name])}): {why}"] if why else []
         except Refused:
             pool.shutdown(cancel_futures=True)
+            raise
+        except stopping.Stopped:
+            # The runs that go on would be waited for.
+            pool.shutdown(wait=False, cancel_futures=True)
+            program.RUNS.end_all()
             raise
     wrong += [f"{shown(it)}: no part of this plan" for it in strangers(folder, prefixes)]
     return found, wrong, notes
@@ -130,12 +141,12 @@ def told(sc, found):
 
 def main(words):
     """Runs the helper; answers its exit status."""
-    if len(words) != 1 or words[0].startswith("--"):
-        running.say(USAGE)
-        return Status.WRONG_WORDS
     try:
-        sc, prefixes = opened(words[0])
-        found, wrong, notes = survey(words[0], sc, prefixes)
+        folder = WORDS.one_file(words, "a folder of split")
+        sc, prefixes = opened(folder)
+        found, wrong, notes = survey(folder, sc, prefixes)
+    except BadWords as not_words:
+        return WORDS.refuse(not_words)
     except Refused as why:
         running.say(f"{why.note}\nosp join: {why.said}".lstrip())
         return why.status

@@ -5,7 +5,7 @@ import math
 import os
 from html import escape
 
-from desk import carried, masses, percent, picture, tables
+from desk import carried, layout, masses, percent, picture, tables
 
 HERE = os.path.dirname(os.path.realpath(__file__))
 # The least width of a square on a screen, in pixels: below it a map can be moved sideways.
@@ -37,7 +37,7 @@ def comment(text):
         if line and not line.startswith(b"#"):
             break
         words = line.lstrip(b"#").strip()
-        if words and not words.startswith(b"at "):
+        if words and not layout.AT.fullmatch(line):
             told.append(words)
     said = b"\n".join(told)[: 4 * MOST_COMMENT].decode("utf-8", "replace")
     clean = "".join(it if it == "\n" or it.isprintable() else "\N{REPLACEMENT CHARACTER}" for it in said)

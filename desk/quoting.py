@@ -1,10 +1,33 @@
 """Bytes and lists of a user's text as words on a line: nothing that is quoted can end the line or steer a terminal."""
+import os
+import shlex
 
 # The longest piece of a line and of a field that is quoted, in characters.
 MOST_LINE = 100
 MOST_FIELD = 40
 # How many names or line numbers stand in a list before it is cut short.
 MOST_LISTED = 8
+# What turns the direction of letters around.
+DIRECTIONS = {0x061C, 0x200E, 0x200F, *range(0x202A, 0x202F), *range(0x2066, 0x206A)}
+
+
+def harmless(text):
+    """A text with a mark in the place of what steers a terminal: control characters but line feeds and tabs, and those that turn the
+    direction of letters around."""
+    return "".join("\N{REPLACEMENT CHARACTER}" if ord(it) in DIRECTIONS or is_control(it) else it for it in text)
+
+
+def shell(name):
+    """A file's name as a word for bash; where it holds what can't be printed, in escapes."""
+    given = os.fsencode(name)
+    if given.decode("utf-8", "surrogateescape").isprintable():
+        return shlex.quote(given.decode("utf-8"))
+    return "$'" + "".join(chr(it) if 32 <= it < 127 and it not in b"\\'" else f"\\x{it:02x}" for it in given) + "'"
+
+
+def is_control(letter):
+    """Whether a character is a control character other than a line feed or a tab."""
+    return letter not in "\n\t" and (letter < " " or "\x7f" <= letter <= "\x9f")
 
 
 def plain(text, most):

@@ -3,7 +3,7 @@ import os
 import re
 import sys
 
-from desk import accepted, clock, outfile
+from desk import accepted, clock, outfile, quoting
 from desk.status import Status
 
 
@@ -16,9 +16,14 @@ def say(line):
     """A line on standard error, where that takes it."""
     try:
         if sys.stderr is not None:
-            print(line, file=sys.stderr)
+            print(quoting.harmless(str(line)), file=sys.stderr)
     except OSError:
         silence(2)
+
+
+def is_terminal():
+    """Whether lines on standard error are shown on a terminal."""
+    return sys.stderr is not None and sys.stderr.isatty()
 
 
 def write_bytes(text):

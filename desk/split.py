@@ -6,13 +6,24 @@ import shlex
 import shutil
 import tempfile
 
-from desk import accepted, clock, parts, program, quoting, running
+from desk import accepted, outfile, parts, program, quoting, running, stopping
 from desk.accepted import Refused
 from desk.status import Status
+from desk.words import BadWords, Words
 
-USAGE = "usage: osp split DEPTH SCENARIO FOLDER [--jobs N]"
+WORDS = Words(
+    "split",
+    "split DEPTH SCENARIO FOLDER [--jobs N]",
+    "makes a folder of jobs for several machines: a part of the plan for each way to begin with DEPTH looks",
+    ("DEPTH", "how many looks of a path its prefix has, 1 to the periods of the scenario"),
+    ("SCENARIO", "the scenario's file"),
+    ("FOLDER", "the folder that is made; it may be there already where it is empty"),
+    ("--jobs N", "how many jobs there may be; 1000 where it is not given"),
+)
 # How many jobs there may be where --jobs doesn't say.
 FEW = 1000
+# The greatest number that may stand behind --jobs: there are fewer jobs than that in any case (desk.parts).
+MOST_SAID = 9_999_999
 # The script of a job, with the place of the program that stands here. Its -o is what leaves a file whole or not at all.
 SCRIPT = """\
 #!/bin/sh
@@ -28,14 +39,13 @@ exec "${OSP:-$(command -v %(osp)s || echo osp)}" replan %(scenario)s --workers 1
 
 
 def options(words):
-    """DEPTH, SCENARIO, FOLDER and N of the words. Raises Refused."""
-    try:
-        files, found = running.files_and_numbers(words, ("--jobs",))
-    except clock.BadWords:
-        files = []
-    if len(files) != 3 or not all(files) or not re.fullmatch("[0-9]{1,20}", files[0], re.ASCII):
-        raise Refused(Status.WRONG_WORDS, USAGE)
-    return *files, found["--jobs"] or FEW
+    """DEPTH, SCENARIO, FOLDER and N of the words. Raises BadWords."""
+    files, found = WORDS.taken(words)
+    if len(files) != 3 or not all(files):
+        raise BadWords(f"DEPTH, SCENARIO and FOLDER are needed, and here {'is' if len(files) == 1 else 'are'} {len(files)} of them")
+    if not re.fullmatch("[0-9]{1,20}", files[0], re.ASCII):
+        raise BadWords(f"DEPTH is a whole number, and not {ascii(files[0])[1:-1]}")
+    return *files, FEW if found["--jobs"] is None else WORDS.number("--jobs", found["--jobs"], 1, MOST_SAID)
 
 
 def length(sc, word, most):
@@ -68,25 +78,25 @@ def files(text, sc, word, found):
 
 def put(folder, contents):
     """Makes a folder of these files, and an empty one for the parts, whole or not at all. Raises Refused."""
-    end, beside, mask = os.path.realpath(folder), None, os.umask(0)
-    os.umask(mask)
-    try:
-        beside = tempfile.mkdtemp(prefix=".osp-", dir=os.path.dirname(end))
-        os.mkdir(os.path.join(beside, parts.PARTS))
-        for name, text in contents.items():
-            with open(os.path.join(beside, name), "wb") as file:
-                file.write(text)
-        os.chmod(beside, 0o777 & ~mask)
-        # (An empty folder is replaced, and no other one.)
-        os.rename(beside, end)
-    except OSError as why:
-        shutil.rmtree(beside or "", ignore_errors=True)
-        raise Refused(Status.UNWRITABLE, f"the folder {accepted.shown(folder)} cannot be made: {why.strerror}") from None
+    end, beside = os.path.realpath(folder), None
+    with stopping.held():
+        try:
+            beside = tempfile.mkdtemp(prefix=".osp-", dir=os.path.dirname(end))
+            os.mkdir(os.path.join(beside, parts.PARTS))
+            for name, text in contents.items():
+                with open(os.path.join(beside, name), "wb") as file:
+                    file.write(text)
+            os.chmod(beside, 0o777 & ~outfile.mask())
+            # (An empty folder is replaced, and no other one.)
+            os.rename(beside, end)
+        except OSError as why:
+            shutil.rmtree(beside or "", ignore_errors=True)
+            raise Refused(Status.UNWRITABLE, f"the folder {accepted.shown(folder)} cannot be made: {why.strerror}") from None
 
 
 def told(folder, count):
     """What is said of the jobs, and of what comes next."""
-    name, jobs = shlex.quote(accepted.shown(folder)), quoting.counted(count, "job")
+    name, jobs = quoting.shell(folder), quoting.counted(count, "job")
     return f"{jobs} in {name}: to run them, there:\n  xargs -d '\\n' -n 1 -P $(nproc) sh -c < {parts.JOBS}\nthen, here:\n  osp join {name}\n"
 
 
@@ -94,10 +104,13 @@ def main(words):
     """Runs the helper; answers its exit status."""
     try:
         word, scenario, folder, most = options(words)
+    except BadWords as wrong:
+        return WORDS.refuse(wrong)
+    try:
         text, sc = parts.scenario(scenario)
         found = prefixes(sc, word, most)
         put(folder, files(text, sc, word, found))
     except Refused as why:
-        running.say(why.said if why.said == USAGE else f"osp split: {why.said}")
+        running.say(f"osp split: {why.said}")
         return why.status
     return running.write(told(folder, len(found)))

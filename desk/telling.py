@@ -1,4 +1,6 @@
 """What a draft says of itself: the comments of its scenario, and the lines on standard error."""
+import re
+
 from desk import detection, earth, margins, moments, percent, placing, rounding, twofold
 from desk.chain import deviations
 from desk.comments import OF_SITUATION, SITUATION, of_times
@@ -22,7 +24,7 @@ def places(shares, states):
 
 def comments(text, shares, drift, told):
     """The comments of a scenario: what it stands for, the situation line by line, what is `told` first of all (facts), and its places."""
-    yield shares.given.title or "A scenario by osp draft."
+    yield titled(shares.given.title) if shares.given.title else "A scenario by osp draft."
     yield SITUATION
     for line in text.splitlines():
         yield OF_SITUATION + b" " + line
@@ -31,6 +33,11 @@ def comments(text, shares, drift, told):
     yield naming(drift.states)
     for name, (east, south) in places(shares, drift.states).items():
         yield b"at %s %s %s" % (name, decimal(east).encode("ascii"), decimal(south).encode("ascii"))
+
+
+def titled(title):
+    """A title as a comment: in quotes where it begins as another comment that is read, of places, times or the situation."""
+    return f'"{title}"' if re.match(r"at\b|earth\b|\d+ periods? of|\||The situation, from", title.strip()) else title
 
 
 def naming(states):

@@ -5,7 +5,6 @@ over. What the best round wrote is kept: a gap plan, which `checkgap` accepts, o
 """
 import dataclasses
 import json
-import sys
 import time
 
 from desk import accepted, forms, limits, outfile, percent, program, running, stopping
@@ -173,7 +172,7 @@ class Keeper:
         if it.number == self.told:
             return
         self.told = it.number
-        if sys.stderr is not None and sys.stderr.isatty():
+        if running.is_terminal():
             running.say(line_of(it))
         if self.asked.is_json and running.write(json_of(it)) != Status.DONE:
             raise Refused(Status.UNWRITABLE, "")

@@ -10,16 +10,26 @@ import json
 import os
 import textwrap
 
-from desk import accepted, clock, flights, flying, keys, packages, patterns, percent, running, tracks
+from desk import accepted, flights, flying, keys, packages, patterns, percent, running, tracks
 from desk.accepted import Refused
 from desk.brief import rows_of
 from desk.situation import BadSituation, recorded_at, situation
 from desk.status import Status
+from desk.words import BadWords, Words
 
-USAGE = (
-    "usage: osp trial SITUATION.toml [PLAN ..] [--path NAME,NAME,..] [--pattern NAME] [--of SCENARIO] [--count N] [--seed N] [--tracks FILE]"
-    " [--json yes]"
-    f"\nNAME of a pattern is {', '.join(patterns.PATTERNS)}, or all"
+WORDS = Words(
+    "trial",
+    "trial SITUATION.toml [PLAN ..] [--path NAME,NAME,..] [--pattern NAME] [--of SCENARIO] [--count N] [--seed N] [--tracks FILE] [--json yes]",
+    "flies paths over simulated drifts, and says what they find beside what their plans say",
+    ("SITUATION.toml", "the file of the situation, as draft reads it"),
+    ("PLAN ..", "files of plans, of gap plans, or of a scenario with its plan behind it"),
+    ("--path NAME,NAME,..", "the positions of a path, one for each period; it may stand several times", True),
+    ("--pattern NAME", f"{', '.join(patterns.PATTERNS)}, or all; it may stand several times", True),
+    ("--of SCENARIO", "the scenario whose sums stand beside what is found, where it is not the one that draft makes"),
+    ("--count N", "how many drifts are simulated, 1000 to 200000"),
+    ("--seed N", "from which seed, 1 to 1000000"),
+    ("--tracks FILE", "a file of tracks that are flown over in place of simulated ones"),
+    ("--json yes", "the answer as one line of JSON, which show and brief take"),
 )
 # From which difference on, in parts of 1 and in standard errors, a scenario is called no good image.
 MOST_OFF, MOST_ERRORS = 0.02, 3
@@ -49,28 +59,28 @@ class Asked:
 
 
 def words_of(words):
-    """What the words ask for. Raises clock.BadWords."""
-    files, found = clock.sorted_words(words, ("--of", "--count", "--seed", "--tracks", "--json"), ("--path", "--pattern"))
+    """What the words ask for. Raises BadWords."""
+    files, found = WORDS.taken(words)
     if not files or len(files) + len(found["--path"]) + len(found["--pattern"]) < 2:
-        raise clock.BadWords("a situation is needed, and something to fly: a plan, --path or --pattern")
-    if [*files, found.get("--of")].count("-") > 1:
-        raise clock.BadWords("standard input can be read once, and stands for one file")
-    if found.get("--json", "yes") != "yes":
-        raise clock.BadWords("behind --json stands yes")
+        raise BadWords("a situation is needed, and something to fly: a plan, --path or --pattern")
+    if [*files, found["--of"]].count("-") > 1:
+        raise BadWords("standard input can be read once, and stands for one file")
+    if found["--json"] not in (None, "yes"):
+        raise BadWords("behind --json stands yes")
     named = [each for it in found["--pattern"] for each in (patterns.PATTERNS if it == "all" else [it])]
     if any(it not in patterns.PATTERNS for it in named):
-        raise clock.BadWords(f"behind --pattern stands {', '.join(patterns.PATTERNS)} or all")
-    count, seed = (taken(key, found.get(f"--{key.name}")) for key in keys.TRACKS[:2])
-    told = found.get("--tracks")
-    return Asked(files[0], files[1:], found["--path"], list(dict.fromkeys(named)), found.get("--of"), count, seed, told, "--json" in found)
+        raise BadWords(f"behind --pattern stands {', '.join(patterns.PATTERNS)} or all")
+    count, seed = (taken(key, found[f"--{key.name}"]) for key in keys.TRACKS[:2])
+    more = found["--of"], count, seed, found["--tracks"], found["--json"] is not None
+    return Asked(files[0], files[1:], found["--path"], list(dict.fromkeys(named)), *more)
 
 
 def taken(key, word):
-    """The number behind an option that is called as this key of [tracks]; None where it doesn't stand. Raises clock.BadWords."""
+    """The number behind an option that is called as this key of [tracks]; None where it doesn't stand. Raises BadWords."""
     try:
         return None if word is None else key.take(running.number(f"--{key.name}", word))
-    except (ValueError, clock.BadWords):
-        raise clock.BadWords(f"behind --{key.name} stands {key.what}, as in --{key.name} {key.example}") from None
+    except (ValueError, BadWords):
+        raise BadWords(f"behind --{key.name} stands {key.what}, as in --{key.name} {key.example}") from None
 
 
 # ---- what is flown
@@ -141,10 +151,10 @@ def causes(at, own, flight, fresh):
 
 
 def fresh_tracks(asked, given, own):
-    """The tracks that are flown over: those of a file, or of another seed than the draft's `own`. Raises BadSituation and clock.BadWords."""
+    """The tracks that are flown over: those of a file, or of another seed than the draft's `own`. Raises BadSituation and BadWords."""
     is_recorded = asked.tracks is not None or given.tracks.ensemble is not None
     if is_recorded and (asked.count or asked.seed):
-        raise clock.BadWords("--count and --seed are of simulated drifts, and the tracks of a file are taken as they are")
+        raise BadWords("--count and --seed are of simulated drifts, and the tracks of a file are taken as they are")
     if asked.tracks is not None:
         told = recorded_at(asked.tracks, given)
         return tracks.made(dataclasses.replace(given, tracks=dataclasses.replace(given.tracks, ensemble=told)))
@@ -154,7 +164,7 @@ def fresh_tracks(asked, given, own):
 
 
 def tried(asked):
-    """The trial that is asked for. Raises Refused, BadSituation and clock.BadWords."""
+    """The trial that is asked for. Raises Refused, BadSituation and BadWords."""
     text = accepted.read_file(asked.situation)
     given = situation(text, os.path.dirname(asked.situation))
     own = functools.cache(lambda: tracks.made(given))
@@ -317,9 +327,8 @@ def main(words):
     try:
         asked = words_of(words)
         trial = tried(asked)
-    except clock.BadWords as wrong:
-        running.say(f"osp trial: {wrong}\n{USAGE}")
-        return Status.WRONG_WORDS
+    except BadWords as wrong:
+        return WORDS.refuse(wrong)
     except BadSituation as wrong:
         running.say(f"osp trial: {wrong}")
         return Status.WRONG

@@ -7,7 +7,6 @@ from desk.limits import FINEST_LOOK, LONGEST_NAME, MOST_MOVES_EACH, MOST_NAMES
 from desk.states import square_of
 
 
-
 def of_words(word, names):
     """What is wrong with names behind `flown` or `start` before any scenario is asked: a list of texts."""
     told = []
@@ -51,10 +50,18 @@ def about_moves(sc, names):
         yield "NotLegal", f"{quoting.counted(len(names), 'name')} stand here, and the horizon is {quoting.counted(sc.horizon, 'period')}: leave out {out}"
 
 
+def elsewhere(names):
+    """What to do where the searcher was where no move leads."""
+    said = ",".join(map(quoting.name, names))
+    return f"where it was there all the same, `./osp next SCENARIO --flown {said}` goes on from there: it takes any positions"
+
+
 def about_flown(sc, names):
     """All faults of a flown prefix that `replan` is asked to force."""
     yield from about_names(sc, names)
-    yield from about_moves(sc, names)
+    moves, is_known = list(about_moves(sc, names)), all(it in sc.positions for it in names)
+    for kind, says in moves:
+        yield kind, f"{says}; {elsewhere(names)}" if (kind, says) == moves[0] and is_known and len(names) <= sc.horizon else says
     count, more = len(sc.positions), len(names) + 1
     if count + more > limits.MOST_CELLS:
         room = limits.MOST_CELLS - count - 1

@@ -10,23 +10,22 @@ import os
 import sys
 from fractions import Fraction
 
-from desk import accepted, draft, flights, packages, running, tracks, varied
+from desk import accepted, draft, flights, packages, percent, running, tracks, varied
 from desk.accepted import Refused
 from desk.brief import rows_of
+from desk.limits import MOST_GAP_RECORDS
 from desk.situation import BadSituation, situation
 from desk.status import Status
-from desk.trial import percent, points, wrapped
+from desk.trial import signed, wrapped
 from desk.words import BadWords, Words
 
-# The most records that `gap` writes before prefixes wait.
-MOST_NODES = 65_536
 WORDS = Words(
     "vary",
     "vary SITUATION.toml PLAN [--nodes N] [--json yes]",
     "says what a plan finds where the situation is otherwise, and what it costs to be wrong",
     ("SITUATION.toml", "the situation's file"),
     ("PLAN", "the file of a plan or a gap plan of it; - for one of both is standard input"),
-    ("--nodes N", f"how many records the best plan of each draft may take, 1 to {MOST_NODES}; {MOST_NODES} where it is not given"),
+    ("--nodes N", f"how many records the best plan of each draft may take, 1 to {MOST_GAP_RECORDS}; {MOST_GAP_RECORDS} where it is not given"),
     ("--json yes", "the same as one line of JSON"),
 )
 # The situation as the file says it.
@@ -55,7 +54,7 @@ def words_of(words):
         raise BadWords("standard input can be read once, and stands for one file")
     if found["--json"] not in (None, "yes"):
         raise BadWords("behind --json stands yes")
-    nodes = MOST_NODES if found["--nodes"] is None else WORDS.number("--nodes", found["--nodes"], 1, MOST_NODES)
+    nodes = MOST_GAP_RECORDS if found["--nodes"] is None else WORDS.number("--nodes", found["--nodes"], 1, MOST_GAP_RECORDS)
     return Asked(*files, nodes, found["--json"] is not None)
 
 
@@ -152,7 +151,7 @@ def found(asked):
     at = field_of(own, text, made)
     flight = flights.of_plan(at, asked.plan, plan)
     if len(flight.places[0]) > 1:
-        raise Refused(Status.NOT_GOOD, f"{flight.name} is a plan of two searchers; vary takes plans of one")
+        raise Refused(Status.WRONG, f"{flight.name} is a plan of two searchers; vary takes plans of one")
     names = [name for (name,) in flight.places]
     rows, notes, all_of = [], [], varied.variations(given)
     for number, variation in enumerate((own, *all_of)):
@@ -173,7 +172,7 @@ def found(asked):
 
 def span(least, most, unit=""):
     """Two shares in points, or one where they are the same to two digits."""
-    low, high = points(float(least)), points(float(most))
+    low, high = percent.near(float(least)), percent.near(float(most))
     return f"{low}{unit}" if low == high else f"{low} to {high}{unit}"
 
 
@@ -182,7 +181,7 @@ def cells(it):
     if it.why is not None:
         return [it.name, "no draft", "", ""]
     least, most = (Fraction(value, it.weight) for value in (it.best, it.ceiling))
-    return [it.name, percent(Fraction(it.value, it.weight)), span(least, most, " %"), span(it.costs, it.costs_at_most)]
+    return [it.name, signed(Fraction(it.value, it.weight)), span(least, most, " %"), span(it.costs, it.costs_at_most)]
 
 
 def about(things):
@@ -198,7 +197,7 @@ def about_most(it):
     if most is None:
         yield "None of these is known to cost anything."
     else:
-        yield f"What costs most is {most.name}: there the best plan is known to find {points(float(most.costs))} points more."
+        yield f"What costs most is {most.name}: there the best plan is known to find {percent.near(float(most.costs))} points more."
     open_ones = [row for row in drafted if row.ceiling > row.best and row.costs_at_most > (most.costs if most else 0) and row is not most]
     if open_ones:
         names = ", ".join(row.name for row in open_ones)
@@ -255,7 +254,7 @@ def main(words):
         return WORDS.refuse(wrong)
     except BadSituation as wrong:
         running.say(f"osp vary: {wrong}")
-        return Status.NOT_GOOD
+        return Status.WRONG
     except Refused as why:
         running.say(running.noted(why.note, "vary", [why.said]))
         return why.status

@@ -185,7 +185,7 @@ class Words:
         for fields, known, other, noun in self.places():
             for field in dict.fromkeys(fields):
                 if field not in known:
-                    self.tell("UnknownName", unknown(field, known, other, noun, self.reader.grid_size))
+                    self.tell("UnknownName", unknown(field, known, other, noun, self.reader))
 
     def places(self):
         """The fields in the places of positions and of cells, with the names that are known there and elsewhere."""
@@ -322,14 +322,15 @@ def by_square(field, known):
     return f", and its parts are the cells {quoting.listed(parts)}" if parts else ""
 
 
-def unknown(field, known, other, noun, grid):
-    """What is said of a name that nothing has, in the place of a cell or a position."""
+def unknown(field, known, other, noun, reader):
+    """What is said of a name that nothing has, in the place of a cell or a position. `reader` guesses what is meant."""
+    grid = reader.grid_size
     said = f"{quoting.field(field)} isn't a {noun}"
     if field in other:
         return f"{said}: it is a {'cell' if noun == 'position' else 'position'}{by_square(field, known)}"
     if grid and re.fullmatch(rb"r[0-9]+c[0-9]+", field):
         return f"{said}: the grid has r0c0 to r{grid[0] - 1}c{grid[1] - 1}, since rows and columns count from 0"
-    if meant := near(field, known):
+    if meant := reader.near(field, known):
         return f"{said}: is {quoting.name(meant)} meant?"
     if not NAME.match(field) or len(field) > LONGEST_NAME:
         return f"{said}, and can't be: names have at most 24 letters, digits, `_` and `-`"

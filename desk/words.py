@@ -92,6 +92,13 @@ class Words:
         found = vars(self.parser.parse_args(options))
         return files, {it: found[it] if found[it] is not None or not is_many else [] for it, is_many in self.many.items()}
 
+    def one_file(self, words, what):
+        """The one file that the words name, which may not be - . Raises BadWords."""
+        files, _ = self.taken(words)
+        if len(files) != 1 or files[0] == "-":
+            raise BadWords(f"{what} is needed, as the name of one file")
+        return files[0]
+
     @staticmethod
     def number(option, word, least, most):
         """The whole number that a word behind an option says. Raises BadWords."""

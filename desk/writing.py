@@ -1,4 +1,5 @@
 """Writes scenarios: the canonical text that docs/FORMATS.md defines, of version 1 where that can say the scenario."""
+from desk import quoting
 from desk.forms import NAME, is_narrow
 from desk.limits import LONGEST_NAME, MOST_CELLS, MOST_MOVES, MOST_PART, MOST_PERIODS
 
@@ -88,8 +89,9 @@ def entries(sc, row):
 
 
 def comment_line(text):
-    """A comment on one line, whatever its text holds."""
+    """A comment on one line, whatever its text holds; nothing in it steers a terminal."""
     text = text if isinstance(text, bytes) else text.encode("utf-8", "replace")
+    text = quoting.harmless(text.decode("utf-8", "surrogateescape")).encode("utf-8", "surrogateescape")
     return (b"# " + b" ".join(text.splitlines())).rstrip()
 
 

@@ -39,6 +39,9 @@ program_sum() { sha256sum < "$program" | cut -d ' ' -f 1; }
 # Whether the program is the one that its sums were written for.
 is_whole() { [ -x "$program" ] && [ -f "$program.sums" ] && [ "$(sed -n 2p "$program.sums")" = "$(program_sum)" ]; }
 
+# Whether the program plans the smallest example as it has to.
+plans_one_cell() { "$program" plan < "$here/examples/one-cell.scenario" 2> /dev/null | cmp -s - "$here/examples/one-cell.plan"; }
+
 # Writes beside the program what it was built from: a line on how, the program's own checksum, and those of the files.
 record() {
   { printf '%s\n' "$1" && program_sum && sums; } > "$program.new-sums" && mv "$program.new-sums" "$program.sums"

@@ -96,8 +96,8 @@ helpers=(
   'writes the best plan that can be had in so long, or a gap plan with a ceiling that no path exceeds'
   './osp plan --seconds 60 lake.scenario -o lake.plan'
 
-  'next SCENARIO PLAN [--flown K] [--horizon N]'
-  'writes the scenario that goes on where the first K periods of the plan found nothing'
+  'next SCENARIO [PLAN] [--flown K | --flown NAME,NAME,..] [--horizon N]'
+  'writes the scenario that goes on where the first K periods of the plan, or looks from these positions, found nothing'
   './osp next lake.scenario lake.plan --flown 4 -o later.scenario'
 
   'show SCENARIO [PLAN] [--of SCENARIO] [--trial FILE] [--from HH:MM --minutes N]'

@@ -25,6 +25,14 @@ usage_of() {
   printf '%s' "$words"
 }
 
+# The same with -o, which comes before names of positions.
+whole_usage() {
+  local usage behind
+  usage=$(usage_of "$1")
+  read_row "$1"
+  printf '%s' "${usage%" $behind"} [-o FILE]${behind:+ $behind}"
+}
+
 # What a value says, and which numbers it may be.
 value_text() {
   local least most
@@ -55,6 +63,64 @@ help_text() {
   printf 'helper writes goes to that file, whole or not at all, and else to standard output. Behind flown and start stand\n'
   printf 'names of positions alone: files and options come before.\n'
   printf '%s/FORMATS.md has the texts, and what each exit status says.\n' "$(documents)"
+}
+
+# The rows of the values that stand among words.
+values_in() {
+  local command=$1 words=$2 row at shown=' '
+  for ((at = 0; at < ${#values[@]}; at += 4)); do
+    case $words in
+      *"${values[at]#"$command "}"*) find_value "$command" "${values[at]#"$command "}" ;;
+      *) continue ;;
+    esac
+    [[ $shown != *" $row "* ]] || continue
+    shown+="$row "
+    printf '  %-14s%s\n' "${values[row]#"$command "}" "$(value_text "$row")"
+  done
+}
+
+# The page of a command, or of one of the script's own words.
+page_text() {
+  local row
+  if find_row commands 4 "$1"; then
+    as_called "usage: ./osp $(whole_usage "$row")"$'\n\n'"$1 ${commands[row + 2]}"
+    echo
+    values_in "$1" "${commands[row]}"
+    printf '  %-14s%s\n' '-o FILE' 'what is written goes to this file, whole or not at all, and else to standard output'
+    [ -z "${commands[row + 1]}" ] || printf '\nIt reads %s; without the name of a file standard input, and the name - stands for it.\n' "${commands[row + 1]/ /, then }"
+    as_called $'\n'"as in  ${commands[row + 3]}"
+    ! find_row helpers 3 "$1" || as_called $'\n'"./osp ${helpers[row]}"$'\n'"${helpers[row + 1]}"$'\n'"as in  ${helpers[row + 2]}"
+  elif find_row own 3 "$1"; then
+    as_called "usage: ./osp ${own[row]}"$'\n\n'"${own[row + 1]}"$'\n'"as in  ${own[row + 2]}"
+  fi
+}
+
+# The word of the tables that is spelled most like another word, within two letters, or nothing.
+meant() {
+  local at
+  {
+    for ((at = 0; at < ${#commands[@]}; at += 4)); do echo "${commands[at]%% *}"; done
+    for ((at = 0; at < ${#helpers[@]}; at += 3)); do echo "${helpers[at]%% *}"; done
+    for ((at = 0; at < ${#own[@]}; at += 3)); do echo "${own[at]%% *}"; done
+  } | word="${1:0:40}" awk '
+    # The number of letters that are put in, left out, changed, or swapped with the next one.
+    function apart(a, b,   n, m, i, j, d, least) {
+      n = length(a); m = length(b)
+      for (i = 0; i <= n; i++) d[i, 0] = i
+      for (j = 0; j <= m; j++) d[0, j] = j
+      for (i = 1; i <= n; i++) for (j = 1; j <= m; j++) {
+        least = d[i - 1, j - 1] + (substr(a, i, 1) != substr(b, j, 1))
+        if (d[i - 1, j] + 1 < least) least = d[i - 1, j] + 1
+        if (d[i, j - 1] + 1 < least) least = d[i, j - 1] + 1
+        if (i > 1 && j > 1 && substr(a, i, 1) == substr(b, j - 1, 1) && substr(a, i - 1, 1) == substr(b, j, 1) && d[i - 2, j - 2] + 1 < least)
+          least = d[i - 2, j - 2] + 1
+        d[i, j] = least
+      }
+      return d[n, m]
+    }
+    BEGIN { best = 3 }
+    { far = apart(tolower(ENVIRON["word"]), $0); if (far < best && far * 2 < length($0)) { best = far; found = $0 } }
+    END { if (found) print found }'
 }
 
 # ---- the words of a command
@@ -172,15 +238,14 @@ take_target() {
 # Sorts the words of a command by its row: `words` are the program's, `files` are read, and `target` is written to.
 sort_words() {
   local command=$2 usage taken=() given=() rest=() seen=' ' option
-  usage=$(usage_of "$1")
   read_row "$1"
-  usage="${usage%" $behind"} [-o FILE]${behind:+ $behind}"
+  usage=$(whole_usage "$1")
   shift 2
   while [ "$#" -gt 0 ]; do
     option=$1
     shift
     if [ "$option" = --help ] || [ "$option" = -h ]; then
-      give_help
+      give_page "$command"
     elif [ "$option" = -o ]; then
       take_target "$@"
       shift
@@ -204,7 +269,8 @@ sort_words() {
     fi
   done
   [ "${#taken[@]}" -eq "${#needed[@]}" ] || wrong "$command needs ${needed[${#taken[@]}]}: it is spelled $(called) $usage"
-  [ "${#files[@]}" -eq 0 ] || [ "${#files[@]}" -eq "${#inputs[@]}" ] ||
+  # (One file may have both, as replan and duo write it.)
+  [ "${#files[@]}" -eq 0 ] || [ "${#files[@]}" -eq "${#inputs[@]}" ] || has_plan "${files[0]}" ||
     wrong "$command reads ${inputs[*]}, and $(shown "${files[0]}") is one file alone: name all, or - for standard input"
   [ -z "$tail" ] || take_names "${rest[@]:1}"
   words=("$command" "${taken[@]}" "${given[@]}" "${rest[@]}")
@@ -227,9 +293,12 @@ is_timed() {
 sort_helper_words() {
   words=("$1")
   shift
-  case ${1-} in --help | -h) give_help ;; esac
   while [ "$#" -gt 0 ]; do
-    if [ "$1" = -o ]; then
+    if [ "${words[*]:0:1}/${#words[@]}" = explain/2 ] && [[ $1 = flown || $1 = start ]]; then
+      # Names of positions stand behind it, and nothing else.
+      words+=("$@")
+      break
+    elif [ "$1" = -o ]; then
       shift
       take_target "$@"
     elif [ "$1" = -- ]; then

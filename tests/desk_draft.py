@@ -608,9 +608,10 @@ class Wrong(unittest.TestCase):
                     self.says(text, wanted)
 
     def test_words(self):
-        for words in ([], ["a", "b"], ["--help"]):
+        for words in ([], ["a", "b"], ["-"], ["--what"]):
             done = subprocess.run([sys.executable, "-B", "-m", "desk", "draft", *words], cwd=TOP, capture_output=True, timeout=60)
-            self.assertEqual((done.returncode, done.stdout, done.stderr), (2, b"", b"usage: osp draft SITUATION.toml > SCENARIO\n"))
+            self.assertEqual((done.returncode, done.stdout), (2, b""))
+            self.assertRegex(done.stderr.decode(), r"\Aosp draft: .+\nusage: osp draft SITUATION.toml\n\Z")
 
     def test_a_file_that_cannot_be_read_and_an_output_that_is_full(self):
         words = [sys.executable, "-B", "-m", "desk", "draft"]
@@ -618,7 +619,7 @@ class Wrong(unittest.TestCase):
         self.assertEqual((done.returncode, done.stderr), (5, b"osp draft: the file can't be read: No such file or directory\n"))
         with open("/dev/full", "wb") as full:
             done = subprocess.run([*words, SITUATIONS[0]], stdout=full, stderr=subprocess.PIPE, cwd=TOP, timeout=60)
-        self.assertEqual((done.returncode, done.stderr), (6, b"osp draft: the output can't be written: No space left on device\n"))
+        self.assertEqual((done.returncode, done.stderr), (6, b"write fault: No space left on device\n"))
 
 
 class Progress(unittest.TestCase):

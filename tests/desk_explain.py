@@ -419,7 +419,9 @@ class Verdicts(Asked):
     def test_with_a_plan(self):
         text, plan = example("two-cells")
         names = self.write("s", text), self.write("p", plan)
-        self.assertEqual(self.ran(*names), (0, "accepted\n"))
+        # (By hand, as docs/FORMATS.md goes through this plan.)
+        size = "legal prefixes: 7, from the empty one to 4 whole paths of 2 periods\nrecords: 5, of them 2 branches, 2 whole paths, 1 mean bound\n"
+        self.assertEqual(self.ran(*names), (0, f"accepted\n{size}"))
         status, out = self.ran(self.write("s", text.replace(b"drift a a 1 b 1", b"drift a a 1 b 2")), names[1])
         self.assertEqual((status, out.split("\n")[0]), (3, "bad scenario: line 12 WrongSum"))
 
@@ -645,7 +647,9 @@ class Rejections(Asked):
         """A text that begins as one of a gap plan is asked of `checkgap`, and its records begin a line later."""
         gap = read(f"{EXAMPLES}/two-cells.gap")
         status, out = self.ran(self.write("s", self.TWO), self.write("p", gap))
-        self.assertEqual((status, out), (0, "accepted\n"))
+        # (By hand: the empty prefix, two of one position, four paths; the gap plan is one branch, and both below it wait.)
+        size = "legal prefixes: 7, from the empty one to 4 whole paths of 2 periods\nrecords: 3, of them 1 branch, 2 prefixes that wait\n"
+        self.assertEqual((status, out), (0, f"accepted\n{size}"))
         self.said(self.TWO, gap.replace(b"ceiling 12", b"ceiling 13"), "rejected 4 CeilingWrong", "line 4: ceiling 13", "states 13, and the greatest", "is 12")
         self.said(self.TWO, gap.replace(b"O 12\nend", b"O 11\nend"), "rejected 8 WaitingWrong", "line 8: O 11", "the paths that begin with b wait with the number 11", "exceeds is 12", "less: a better path")
         self.said(self.TWO, gap.replace(b"O 12\nend", b"M 11\nend"), "rejected 8 BoundWrong", "the right one is 12")

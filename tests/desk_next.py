@@ -282,7 +282,9 @@ class Commands(Asked):
                       (text, plan, "--flown", "1", "--flown", "1"), (text, plan, "--horizon", "33"), (text, plan, "--other"),
                       (text, plan, "--horizon", "-1"), (text, plan, "--horizon", "1.5")):  # fmt: skip
             with self.subTest(words=words):
-                self.assertEqual(self.ran(*words), (2, b"", following.USAGE + "\n"))
+                status, out, said = self.ran(*words)
+                self.assertEqual((status, out), (2, b""))
+                self.assertRegex(said, rf"\Aosp next: .+\n{re.escape(following.WORDS.usage)}\n\Z")
         status, out, said = self.ran(text, plan, "--flown", "3")
         self.assertEqual((status, out), (2, b""))
         self.assertIn("--flown is 1 to 2", said)

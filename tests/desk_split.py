@@ -2,6 +2,7 @@
 are missing, refused, exchanged or of another scenario. `python3 -m unittest tests.desk_split`, or tests/desk split."""
 import itertools
 import os
+import re
 import shutil
 import stat
 import subprocess
@@ -104,7 +105,9 @@ class Split(Parts):
                       ("1", row, folder, "--jobs"), ("1", row, folder, "--jobs", "0"), ("1", row, folder, "--jobs", "3", "--jobs", "3"),
                       ("1", row, folder, "--workers", "3"), ("\N{ARABIC-INDIC DIGIT ONE}", row, folder)):  # fmt: skip
             with self.subTest(words=words):
-                self.refused(2, split.USAGE, *words)
+                status, out, said = self.called(split.main, *words)
+                self.assertEqual((status, out, os.listdir(self.room)), (2, b"", ["s"]))
+                self.assertRegex(said, rf"\Aosp split: .+\n{re.escape(split.WORDS.usage)}\n\Z")
         for depth in ("0", "3", "33", "100000000000", "01"):
             self.refused(2, f"{depth} cannot stand for DEPTH: a whole number from 1 to 2", depth, row, folder)
 
@@ -285,7 +288,9 @@ class Join(Parts):
 
     def test_words(self):
         for words in ((), ("a", "b"), ("--jobs",)):
-            self.assertEqual(self.called(join.main, *words), (2, b"", f"{join.USAGE}\n"))
+            status, out, said = self.called(join.main, *words)
+            self.assertEqual((status, out), (2, b""))
+            self.assertRegex(said, rf"\Aosp join: .+\n{re.escape(join.WORDS.usage)}\n\Z")
 
     def test_a_program_that_gives_no_answer(self):
         folder = self.filled(ROW, 1)

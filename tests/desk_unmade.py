@@ -138,8 +138,11 @@ class Told(Asked):
 
     def test_usage(self):
         name = self.write("s", ROW)
-        for words in ((name, "flown"), (name, "start"), (name, "plan", "flown", "a"), ("flown",) * 0, (name, "--flown", "a"), ("--", name)):
-            self.assertEqual(self.called(explain.main, *words), (2, b"", explain.USAGE + "\n"), words)
+        for words in ((name, "flown"), (name, "start"), (name, "plan", "flown", "a"), ("flown",) * 0, (name, "--flown", "a"), ("--",)):
+            status, out, said = self.called(explain.main, *words)
+            self.assertEqual((status, out), (2, b""), words)
+            self.assertRegex(said, rf"\Aosp explain: .+\n{re.escape(explain.WORDS.usage)}\n\Z")
+        self.assertEqual(self.called(explain.main, "--", name)[0], 0)
         self.assertEqual(self.called(explain.main, name, "flown", "--workers")[0], 10)
 
     def test_hostile_texts(self):

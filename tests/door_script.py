@@ -12,10 +12,20 @@ class Help(InHouse):
     """`--help`, and all that answers it."""
 
     def test_help_is_on_standard_output(self):
-        """--help, -h, help and `plan --help` answer on standard output, with no call of rt"""
+        """--help, -h and help answer on standard output, and behind a command its own page, with no call of rt"""
         first = self.house.run("--help").gives(0, None, "").out
-        for words in (["-h"], ["help"], ["plan", "--help"], ["check", "-h"]):
+        for words in (["-h"], ["help"]):
             self.house.run(*words).gives(0, first, "")
+        for words, usage in (
+            (["plan", "--help"], "plan [SCENARIO] [--workers N] [--nodes N] [-o FILE]"),
+            (["check", "-h"], "check [SCENARIO PLAN] [-o FILE]"),
+            (["replan", "lake", "--help"], "replan [SCENARIO] [--workers N] [--nodes N] [-o FILE] flown NAME .."),
+            (["make", "--help"], "make NUMBER [-o FILE]"),
+            (["build", "-h"], "build"),
+        ):
+            page = self.house.run(*words).gives(0, None, "").out
+            self.assertTrue(page.startswith(f"usage: ./osp {usage}\n\n"), page)
+            self.assertLess(len(page), len(first) / 3)
         self.assertEqual(self.house.calls(), [])
 
     def test_no_words(self):

@@ -122,7 +122,7 @@ class Helpers(InHouse):
         for folder in (self.house.tmp, f"{self.house.at}/elsewhere"):
             ran = run([self.house.script, "next", *words], **{**self.house.how(with_rt=False), "cwd": folder})
             ran.gives(0, "next|" + "|".join(words) + f"\n{self.house.at}/desk {self.house.at} True\n", "")
-        self.house.run("draft", "--help").gives(0, self.house.run("--help").out, "")
+        self.house.run("draft", "--help").gives(0, f"draft|--help\n{self.house.at}/desk {self.house.at} True\n", "")
         for name in ("draft", "trial", "vary", "show", "brief", "chart", "split", "join", "explain"):
             self.house.run(name, "a").gives(0, f"{name}|a\n{self.house.at}/desk {self.house.at} True\n", "")
         self.assertEqual(sorted(os.listdir(f"{self.house.at}/desk")), ["__main__.py"])
