@@ -56,7 +56,7 @@ def ways_of(search, told):
     ways = [steering.stops(search, told, it) for it in range(search.seats.count)]
     lacking = next((it for way in ways for it in way if it.on_earth is None), None)
     if lacking is not None:
-        raise Refused(Status.NOT_GOOD, f"nothing says where the position {lacking.name} lies: a comment # at {lacking.name} EAST SOUTH does")
+        raise Refused(Status.WRONG, f"nothing says where the position {lacking.name} lies: a comment # at {lacking.name} EAST SOUTH does")
     return ways
 
 
@@ -73,7 +73,7 @@ def charted(files, of, times):
     """The Chart of the files, and what to say. Raises Refused."""
     search = accepted.load(files, of)
     if earth.frame_of(search.told_by) is None:
-        raise Refused(Status.NOT_GOOD, NO_PLACE)
+        raise Refused(Status.WRONG, NO_PLACE)
     told, lacking = comments.read(search, times)
     if lacking:
         raise Refused(Status.FAILED, lacking[0])
@@ -88,7 +88,7 @@ def written(text, target):
         return running.write(text)
     try:
         outfile.replace(target, text.encode("utf-8"))
-        return Status.WRITTEN
+        return Status.DONE
     except OSError as why:
         running.say(f"osp chart: -o {accepted.shown(target)} cannot be written: {why.strerror}")
         return Status.UNWRITABLE
