@@ -3,7 +3,6 @@
 The scenario goes to standard output; what was rounded, and what to look at, to standard error.
 """
 import os
-import sys
 
 from desk import packages, running, telling, tracks, writing
 from desk.chain import drifts
@@ -49,22 +48,6 @@ def say(line):
     running.say(f"osp draft: {line}")
 
 
-def progress(done):
-    """A line on a terminal that the next one replaces."""
-    sys.stderr.write(f"\rosp draft: {done:,} tracks\033[K")
-    sys.stderr.flush()
-
-
-def drafted_aloud(text, folder):
-    """What `drafted` makes, with a line of progress while standard error is a terminal."""
-    if not running.is_terminal():
-        return drafted(text, folder=folder)
-    try:
-        return drafted(text, progress, folder)
-    finally:
-        sys.stderr.write("\r\033[K")
-
-
 def main(words):
     """Runs the helper; answers its exit status."""
     try:
@@ -77,7 +60,8 @@ def main(words):
         say(f"the file can't be read: {getattr(wrong, 'strerror', None) or 'no such name'}")
         return Status.UNREADABLE
     try:
-        scenario, lines = drafted_aloud(text, os.path.dirname(name))
+        with running.progress("draft") as show:
+            scenario, lines = drafted(text, lambda done: show(f"{done:,} tracks"), os.path.dirname(name))
     except BadSituation as wrong:
         say(wrong)
         return Status.WRONG

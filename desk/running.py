@@ -1,4 +1,5 @@
 """How a helper that makes a text of a scenario and its plan runs: its words, its output, its exit status."""
+import contextlib
 import os
 import re
 import sys
@@ -24,6 +25,23 @@ def say(line):
 def is_terminal():
     """Whether lines on standard error are shown on a terminal."""
     return sys.stderr is not None and sys.stderr.isatty()
+
+
+@contextlib.contextmanager
+def progress(name):
+    """While standard error is a terminal, what this gives shows a line there, in the place of the one before it; at the end the last one is
+    gone. Elsewhere it shows nothing."""
+    is_shown = is_terminal()
+
+    def show(text):
+        if is_shown:
+            sys.stderr.write(text)
+            sys.stderr.flush()
+
+    try:
+        yield lambda line: show(f"\rosp {name}: {line}\033[K")
+    finally:
+        show("\r\033[K")
 
 
 def write_bytes(text):

@@ -7,7 +7,6 @@ import dataclasses
 import hashlib
 import json
 import os
-import sys
 from fractions import Fraction
 
 from desk import accepted, draft, flights, packages, percent, running, tracks, varied
@@ -134,15 +133,8 @@ def row(variation, at, names, whose, nodes):
     return Row(variation, value, max(found, value), ceiling, weight), note
 
 
-def progress(at, count, name):
-    """A line on a terminal that the next one replaces, and none elsewhere."""
-    if sys.stderr.isatty():
-        sys.stderr.write(f"\rosp vary: {at} of {count}: {name}\033[K" if name else "\r\033[K")
-        sys.stderr.flush()
-
-
-def found(asked):
-    """What comes of the words. Raises Refused, BadSituation and packages.Lacking."""
+def found(asked, show=lambda line: None):
+    """What comes of the words; `show` is told how far it is. Raises Refused, BadSituation and packages.Lacking."""
     text = accepted.read_file(asked.situation)
     plan = accepted.read_file(asked.plan)
     given = situation(text, os.path.dirname(asked.situation))
@@ -155,7 +147,7 @@ def found(asked):
     names = [name for (name,) in flight.places]
     rows, notes, all_of = [], [], varied.variations(given)
     for number, variation in enumerate((own, *all_of)):
-        progress(number, len(all_of), f"{variation.what} {variation.way}")
+        show(f"{number} of {len(all_of)}: {variation.what} {variation.way}")
         try:
             here = at if variation is own else field_of(variation, text, made)
         except BadSituation as why:
@@ -249,7 +241,8 @@ def main(words):
     """Runs the helper; answers its exit status."""
     try:
         asked = words_of(words)
-        it = found(asked)
+        with running.progress("vary") as show:
+            it = found(asked, show)
     except BadWords as wrong:
         return WORDS.refuse(wrong)
     except BadSituation as wrong:
@@ -261,8 +254,6 @@ def main(words):
     except packages.Lacking as lacking:
         running.say(f"osp vary: {lacking}")
         return Status.FAILED
-    finally:
-        progress(0, 0, "")
     if it.note:
         running.say(it.note)
     return running.write(json_of(it) if asked.is_json else text_of(it))
