@@ -17,6 +17,7 @@ HELPERS = {
     "show": "desk.show",
     "brief": "desk.brief",
     "chart": "desk.chart",
+    "page": "desk.planner",
     "explain": "desk.explain",
     "split": "desk.split",
     "join": "desk.join",

@@ -15,6 +15,8 @@ from desk import accepted, onscene, program
 HERE = os.path.dirname(os.path.realpath(__file__))
 # Where the module stands beside the program, in a checkout and in a release.
 PLACES = ["crates/osp/out/osp", "program/osp"]
+# The parts of the script of a page of a plan.
+PARTS = ["checked.js", "told.js", "onscene.js"]
 # What the policy of a page allows beside its own script: to compile WebAssembly, and a worker of the page's own making.
 SCRIPTS, MORE = " 'wasm-unsafe-eval'", " worker-src blob:;"
 
@@ -41,11 +43,16 @@ def beside(place):
     return module if sums.decode("ascii", "replace").split() == [sum_of(whole), sum_of(module)] else None
 
 
+def built():
+    """The module of WebAssembly of the program that stands here, or None."""
+    return next((it for it in map(beside, PLACES) if it is not None), None)
+
+
 def module(search):
     """The module of WebAssembly of the program that accepted a search's plan; None where that isn't the proved program, or has none."""
     if program.OSP != os.path.join(program.TOP, "osp") or accepted.UNPROVED in search.note:
         return None
-    return next((it for it in map(beside, PLACES) if it is not None), None)
+    return built()
 
 
 def packed(content):
@@ -64,9 +71,9 @@ def worker():
     return asset("../door/web/osp.mjs").replace("\nexport function run", "\nfunction run") + asset("worker.js")
 
 
-def script():
-    """What the page's script does with the module: no letter of it comes from a scenario or a plan."""
-    parts = "".join(map(asset, ("carried.js", "checked.js", "onscene.js")))
+def script(*parts):
+    """What a page's script does with the module, by the files of its parts: no letter of it comes from a scenario or a plan."""
+    parts = "".join(map(asset, ("carried.js", *parts)))
     return f"const WORKER = {json.dumps(worker()).replace('<', chr(92) + 'u003c')};\n{parts}"
 
 
@@ -75,16 +82,27 @@ def style():
     return asset("carried.css") + asset("onscene.css")
 
 
-def verdict(search, said, content):
-    """The verdict in the head of a page: what was said when it was made, which the script replaces by what it finds, and what it is worth."""
+def worth(content):
+    """What a verdict of the module is worth."""
     return (
-        f'<p class="accepted" id="verdict" data-word="{accepted.check_of(search.plan)}"><span>{escape(said)}</span><small>{escape(search.checked_by)}</small></p></div>'
         '<p class="note worth">What this is worth: it guards against a wrong plan, not against a forged page. '
         f"Compare the SHA-256 of the program in this page with that of a release: <code>{sum_of(content)}</code></p>"
     )
 
 
+def templates(parts):
+    """Templates that hold bytes, by name."""
+    return "".join(f'<template id="carried-{name}">{packed(it)}</template>\n' for name, it in parts.items())
+
+
+def verdict(search, said, content):
+    """The verdict in the head of a page: what was said when it was made, which the script replaces by what it finds, and what it is worth."""
+    return (
+        f'<p class="accepted" id="verdict" data-word="{accepted.check_of(search.plan)}"><span>{escape(said)}</span><small>{escape(search.checked_by)}</small></p></div>'
+        f"{worth(content)}"
+    )
+
+
 def blocks(search, content):
     """What stands behind the rest of a page: the part for what was flown, and the templates that hold the module, the scenario and the plan."""
-    parts = {"program": content, "scenario": search.text, "plan": search.plan}
-    return onscene.section(search) + "".join(f'<template id="carried-{name}">{packed(it)}</template>\n' for name, it in parts.items())
+    return onscene.section(search) + templates({"program": content, "scenario": search.text, "plan": search.plan})

@@ -4,31 +4,12 @@
   if (part === null || carried.lacking()) {
     return;
   }
-  const [NOT_PERIOD, PERCENT, SVG] = [/[^0-9a-z]/gi, 100000n, "http://www.w3.org/2000/svg"];
+  const [NO_LETTER, SVG] = [/[^0-9a-z]/gi, "http://www.w3.org/2000/svg"];
   // A class of colour begins at each of these shares, in thousandths of a percent, as on the maps above.
   const CLASSES = JSON.parse(part.dataset.classes).map(BigInt);
   const [positions, planned, name] = [new Set(JSON.parse(part.dataset.positions)), JSON.parse(part.dataset.path), part.dataset.name];
   const at = (id) => document.getElementById(`onscene-${id}`);
   let flown = [];
-  let address = null;
-
-  // A new element with a text, or with others in it.
-  function element(kind, inner, ...classes) {
-    const made = document.createElement(kind);
-    made.classList.add(...classes);
-    if (Array.isArray(inner)) {
-      made.append(...inner);
-    } else {
-      made.textContent = inner;
-    }
-    return made;
-  }
-
-  // A part of a whole in percent, cut off after three digits, as reports have it.
-  function percent(of, whole) {
-    const thousandths = (of * PERCENT) / whole;
-    return `${thousandths / 1000n}.${String(thousandths % 1000n).padStart(3, "0")} %`;
-  }
 
   function say(text, isWrong) {
     at("said").textContent = text;
@@ -38,16 +19,12 @@
   // Takes away what was planned for other looks.
   function forget() {
     at("found").hidden = true;
-    if (address !== null) {
-      URL.revokeObjectURL(address);
-      address = null;
-    }
   }
 
   // Shows what is marked as flown.
   function show() {
     forget();
-    at("flown").replaceChildren(...flown.map((it) => element("li", it)));
+    at("flown").replaceChildren(...flown.map((it) => told.element("li", it)));
     at("none").hidden = flown.length > 0;
     at("undo").disabled = at("clear").disabled = at("plan").disabled = flown.length === 0;
     at("next").disabled = flown.length === planned.length;
@@ -71,32 +48,6 @@
     return positions.has(cell) ? cell : cell.replace(/-\d+$/, "");
   }
 
-  // The looks of a report, or of a map: for each period its position, a number, and the masses that are left.
-  function lines(text) {
-    const looks = [];
-    const left = new Map();
-    for (const [kind, ...words] of text.split("\n").map((it) => it.split(" "))) {
-      if (kind === "period") {
-        looks.push({ position: words[1], value: words[2] === undefined ? 0n : BigInt(words[2]), left: new Map() });
-      } else if (kind === "left") {
-        (looks.length && words.length ? looks[looks.length - 1].left : left).set(words[0], BigInt(words[1]));
-      }
-    }
-    return looks;
-  }
-
-  // A row for each look of the new plan.
-  function table(looks, whole) {
-    let before = 0n;
-    const rows = looks.map((it, index) => {
-      const found = it.value - before;
-      before = it.value;
-      const from = index < flown.length ? `${flown[index]} (flown)` : it.position;
-      return element("tr", [element("th", String(index + 1)), element("td", from), element("td", percent(found, whole), "number"), element("td", percent(it.value, whole), "number")]);
-    });
-    return rows;
-  }
-
   // Colours a copy of a map by where they may be now, and draws the path over it: what was flown, and what comes.
   function map(left, whole, path) {
     const drawn = document.querySelector(".frame svg.map");
@@ -111,14 +62,13 @@
     copy.querySelectorAll(".cells rect").forEach((square, index) => {
       const cell = square.querySelector("title").textContent.split(": ")[0];
       const mass = left.get(cell);
-      const share = mass * PERCENT;
-      const colour = mass === 0n ? 0 : Math.max(1, CLASSES.filter((it) => share >= it * whole).length - 1);
+      const colour = told.colour(mass, whole, CLASSES);
       square.setAttribute("class", `a${colour} b${colour}`);
-      square.querySelector("title").textContent = `${cell}: ${percent(mass, whole)} of all`;
+      square.querySelector("title").textContent = `${cell}: ${told.percent(mass, whole)} of all`;
       places.set(cell, [Number(square.getAttribute("x")) + 49, Number(square.getAttribute("y")) + 49]);
       if (texts[index]) {
         texts[index].setAttribute("class", `a${colour} b${colour}`);
-        texts[index].querySelectorAll(".of-all, .of-left").forEach((it) => { it.textContent = mass === 0n ? "0" : percent(mass, whole).slice(0, -2); });
+        texts[index].querySelectorAll(".of-all, .of-left").forEach((it) => { it.textContent = mass === 0n ? "0" : told.percent(mass, whole).slice(0, -2); });
       }
     });
     copy.setAttribute("aria-label", `Map after look ${flown.length}`);
@@ -143,36 +93,26 @@
 
   // What is read out: the verdict, the chance, and the places in their order.
   function words(chance, path, now) {
-    const told = path.map((it, index) => `${String(index + 1).padStart(3)}  ${it}${index < flown.length ? " (flown)" : ""}`);
-    return [`SEARCH PLAN ${name}, replanned behind look ${flown.length}`, "Accepted: no path that begins as flown is better.", `Chance to find them: ${chance}`, now, "", ...told, ""].join("\n");
-  }
-
-  // The made scenario and its plan, as the program wrote it, to be saved.
-  function save(bytes) {
-    address = URL.createObjectURL(new Blob([bytes], { type: "text/plain" }));
-    at("save").href = address;
-    at("save").download = `${name.replace(NOT_PERIOD, "-")}-flown-${flown.length}.made`;
+    const places = path.map((it, index) => `${String(index + 1).padStart(3)}  ${it}${index < flown.length ? " (flown)" : ""}`);
+    return [`SEARCH PLAN ${name}, replanned behind look ${flown.length}`, "Accepted: no path that begins as flown is better.", `Chance to find them: ${chance}`, now, "", ...places, ""].join("\n");
   }
 
   async function tell(made, seconds) {
     const scenario = await carried.unpacked("scenario");
     const report = await carried.ask(["report"], made.bytes);
-    const [, value, whole] = report.out.match(/^chance (\d+) (\d+) /m).map((it, index) => (index ? BigInt(it) : it));
-    const looks = lines(report.out);
+    const [value, whole] = told.chance(report.out);
+    const looks = told.looks(report.out);
     const path = looks.map((it, index) => (index < flown.length ? flown[index] : it.position));
-    const mapped = lines((await carried.ask(["map", "flown", ...path], scenario)).out);
-    const left = mapped[flown.length - 1].left;
-    const missed = [...left.values()].reduce((sum, it) => sum + it, 0n);
-    const rest = value - looks[flown.length - 1].value;
-    const now = missed === 0n ? "They are found for certain by what was flown." : `If what was flown found nothing, the rest finds them: ${percent(rest, missed)}.`;
-    const likely = [...left].filter((it) => it[1] > 0n).sort((a, b) => (a[1] < b[1] ? 1 : a[1] > b[1] ? -1 : 0)).slice(0, 5);
+    const left = told.looks((await carried.ask(["map", "flown", ...path], scenario)).out)[flown.length - 1].left;
+    const [missed, rest] = [told.sum(left), value - looks[flown.length - 1].value];
+    const now = missed === 0n ? "They are found for certain by what was flown." : `If what was flown found nothing, the rest finds them: ${told.percent(rest, missed)}.`;
     at("verdict").textContent = `Accepted: no path that begins as flown is better. Checked here, just now, by the proved program (${seconds.toFixed(2)} s).`;
-    at("chance").textContent = `${percent(value, whole)} chance to find them, what was flown included. ${now}`;
-    at("rows").replaceChildren(...table(looks, whole));
-    at("now").textContent = likely.length ? `Likeliest now, of what is left: ${likely.map((it) => `${it[0]} ${percent(it[1], missed)}`).join(", ")}.` : "";
+    at("chance").textContent = `${told.percent(value, whole)} chance to find them, what was flown included. ${now}`;
+    at("rows").replaceChildren(...told.rows(looks.map((it) => it.value), path.map((it, index) => (index < flown.length ? `${it} (flown)` : it)), whole));
+    at("now").textContent = missed === 0n ? "" : `Likeliest now, of what is left: ${told.likeliest(left)}.`;
     at("map").replaceChildren(...[map(left, whole, path)].filter(Boolean));
-    at("radio").textContent = words(percent(value, whole), path, now);
-    save(made.bytes);
+    at("radio").textContent = words(told.percent(value, whole), path, now);
+    told.save(at("save"), made.bytes, `${name.replace(NO_LETTER, "-")}-flown-${flown.length}.made`);
     at("found").hidden = false;
   }
 

@@ -219,7 +219,7 @@ def document(search, drawn, why, clock=None, module=None):
     css, script = style(drawn), asset("page.js") + (asset("drifts.js") if search.trial else "")
     scripts, more, blocks = "", "", ""
     if module:
-        css, script, blocks = css + carried.style(), script + carried.script(), carried.blocks(search, module)
+        css, script, blocks = css + carried.style(), script + carried.script(*carried.PARTS), carried.blocks(search, module)
         scripts, more = carried.SCRIPTS, carried.MORE
     policy = f"default-src 'none'; style-src '{checksum(css)}'; script-src '{checksum(script)}'{scripts};{more} base-uri 'none'; form-action 'none'"
     return (

@@ -112,6 +112,10 @@ helpers=(
   'writes the path for a plotter or a map, as GPX, KML or GeoJSON by the ending of the name behind -o'
   './osp chart lake.scenario lake.plan -o lake.gpx'
 
+  'page'
+  'writes a page to plan in: one file for any browser, which carries the proved program'
+  './osp page -o osp.html'
+
   'split DEPTH SCENARIO FOLDER [--jobs N]'
   'makes a folder of jobs for several machines: a part of the plan for each way to begin with DEPTH looks'
   './osp split 2 lake.scenario lake.parts'

@@ -17,7 +17,7 @@ sys.path.insert(0, os.path.dirname(os.path.realpath(__file__)))
 from tests import answers, pages, web  # noqa: E402
 from tests.web import TOP, Answer, Case  # noqa: E402
 
-from desk import carried, show  # noqa: E402
+from desk import carried, planner, show  # noqa: E402
 
 sys.path.insert(0, os.path.join(TOP, "door", "web"))
 import build  # noqa: E402
@@ -362,6 +362,34 @@ class Pages(pages.Room):
         self.assertEqual(seen["refused"]["said"], f"Nothing is planned: {web.native([Case(['replan', 'flown', 'r0c1', 'r0c2', 'r6c6'], grid)])[0].err.decode().strip()}.")
         self.assertEqual((seen["cleared"]["flown"], seen["cleared"]["found"]), ([], False))
         self.assertEqual((seen["planned"]["flown"], seen["planned"]["chance"][:8]), (["r0c1"], "17.557 %"))
+        self.assertEqual((seen["console"], seen["wide"]), ([], 0))
+        self.assertEqual([it for it in seen["asked"] if not it.startswith(("file://", "blob:null/"))], [])
+
+    def test_planner(self):
+        """What a page to plan in plans is what `plan --workers 1` writes, `gap` where the records run out, and wrong texts are told."""
+        status, out, err = self.run_helper(planner.main, [])
+        self.assertEqual((status, err), (0, ""))
+        scenario, plan = pages.example("two-cells")
+        folder = os.environ.get("DESK_PICTURES", self.room)
+        for name, content in (("two.scenario", scenario), ("two.plan", pages.read(f"{pages.EXAMPLES}/two-cells-lacking.plan"))):
+            with open(os.path.join(folder, name), "wb") as file:
+                file.write(content)
+        seen = self.visit({"osp": out})["osp"]
+        self.assertEqual(seen["nothing"]["said"], "There is no scenario: open one, paste it, or take an example.")
+        grid, written = pages.example("drifting-grid")[1], seen["example"]
+        self.assertEqual(written["files"], ["drifting-grid.plan", "drifting-grid.report"])
+        self.assertEqual(pages.read(os.path.join(self.folder, "drifting-grid.plan")), grid)
+        self.assertEqual(pages.read(os.path.join(self.folder, "drifting-grid.report")), pages.read(f"{pages.EXAMPLES}/drifting-grid.report"))
+        self.assertRegex(written["verdict"], f"^Accepted: no path is better\\. {self.HERE.pattern}$")
+        self.assertEqual(written["chance"], "17.557 % chance to find them in 8 looks: 22473449177088000 of 128000000000000000.")
+        report = [it.split() for it in pages.read(f"{pages.EXAMPLES}/drifting-grid.report").decode().splitlines()]
+        self.assertEqual([[it[1], it[3]] for it in written["rows"]], [[it[2], f"{it[4]} %"] for it in report if it[0] == "period"])
+        self.assertEqual(written["cells"], [f"{it[1]}: {it[3]} % of all" for it in report if it[0] == "left"])
+        self.assertEqual((seen["checked"]["said"], seen["checked"]["found"]), ("Not accepted: rejected 8 MissingChild.", False))
+        few = web.native([Case(["gap", "--workers", "1", "--nodes", "1"], scenario)])[0].out
+        self.assertEqual(pages.read(os.path.join(self.folder, "two.gap")), few)
+        self.assertRegex(seen["few"]["verdict"], "^Accepted: no path finds more\\. ")
+        self.assertEqual((seen["wrong"]["said"], seen["wrong"]["found"]), ("Nothing is planned: bad scenario: line 2 BadNumber: horizon two", False))
         self.assertEqual((seen["console"], seen["wide"]), ([], 0))
         self.assertEqual([it for it in seen["asked"] if not it.startswith(("file://", "blob:null/"))], [])
 

@@ -2,7 +2,7 @@
 
 It is run by /usr/bin/python3: web_in_browser.py FOLDER PAGE.html ... The folder takes the pictures, on a desktop and on a tablet. From a
 page whose name begins with "without" WebAssembly is taken away first; on one whose name begins with "scene" looks are marked as flown,
-and the rest is planned. It ends as in_browser.py does where there is no browser.
+and the rest is planned; in one whose name begins with "osp" scenarios are planned. It ends as in_browser.py does where there is no browser.
 """
 import json
 import os
@@ -105,10 +105,65 @@ def on_scene(seen_by, page, folder):
     return seen | {"wide": visit.run("return document.documentElement.scrollWidth - window.innerWidth")} | visit.logs()
 
 
+def planned(visit):
+    """What a page to plan in says, once the program has ended."""
+    ends = time.monotonic() + SECONDS
+    while visit.run("return !document.getElementById('planner-stop').hidden") and time.monotonic() < ends:
+        time.sleep(0.1)
+    return visit.run(
+        """
+        const part = (it) => document.getElementById(`planner-${it}`);
+        return {
+          said: part("said").textContent, found: !part("found").hidden, verdict: part("verdict").textContent, chance: part("chance").textContent,
+          rows: [...part("rows").children].map((row) => [...row.children].map((it) => it.textContent)), now: part("now").textContent,
+          cells: [...part("map").querySelectorAll("rect")].map((it) => it.textContent), files: [part("save").download, part("report").download],
+        };"""
+    )
+
+
+def press(visit, button):
+    """Clicks a button of a page to plan in."""
+    visit.element(f"#planner-{button}").click()
+    return planned(visit)
+
+
+def taken(visit, text):
+    """Puts a text where a scenario is pasted, and plans it."""
+    visit.run("const it = document.getElementById('planner-text'); it.value = arguments[0]; it.dispatchEvent(new Event('input'))", text)
+    return press(visit, "plan")
+
+
+def in_planner(seen_by, page, folder):
+    """Plans an example, at a tablet's width; the same from a file, with a plan that is checked; with few records; and texts that are wrong."""
+    seen_by.execute_cdp_cmd("Browser.setDownloadBehavior", {"behavior": "allow", "downloadPath": folder})
+    visit = Visit(seen_by, page, folder)
+    visit.open(TABLET)
+    seen = {"nothing": press(visit, "plan")}
+    visit.element("#planner-example").send_keys("drifting-grid")
+    seen["example"] = press(visit, "plan")
+    for link in ("save", "report"):
+        visit.element(f"#planner-{link}").click()
+    visit.picture("planned")
+    for name in ("file", "file-of-plan"):
+        visit.element(f"#planner-{name}").send_keys(os.path.join(folder, {"file": "two.scenario", "file-of-plan": "two.plan"}[name]))
+    time.sleep(1)
+    seen["checked"] = press(visit, "check")
+    visit.run("document.getElementById('planner-nodes').value = '1'")
+    seen["few"] = press(visit, "plan")
+    visit.element("#planner-save").click()
+    seen["wrong"] = taken(visit, "scenario 1\nhorizon two\n")
+    visit.open(DESKTOP)
+    visit.picture("desktop")
+    time.sleep(1)
+    return seen | {"wide": visit.run("return document.documentElement.scrollWidth - window.innerWidth")} | visit.logs()
+
+
 def opened(seen_by, page, folder):
     """The same for a page from which WebAssembly may be taken away."""
     if os.path.basename(page).startswith("scene"):
         return on_scene(seen_by, page, folder)
+    if os.path.basename(page).startswith("osp"):
+        return in_planner(seen_by, page, folder)
     if not os.path.basename(page).startswith("without"):
         return visited(seen_by, page, folder)
     taken = seen_by.execute_cdp_cmd("Page.addScriptToEvaluateOnNewDocument", {"source": "delete window.WebAssembly"})

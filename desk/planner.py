@@ -1,0 +1,80 @@
+"""page: writes a page to plan in: one HTML file, for any browser, that carries the proved program and asks no network for anything."""
+import os
+import sys
+from html import escape
+
+from desk import carried, page, picture, program, running
+
+# The examples that the page offers, by their files.
+EXAMPLES = ["two-cells", "small-lake", "drifting-grid", "lake-with-island", "swath"]
+# The most records of a plan where the page isn't told another number, and the most that it may be told.
+NODES, MOST_NODES = 200_000, 1_048_576
+FAILED, WRONG_WORDS = 70, 2
+
+
+def example(name):
+    """The bytes of an example's scenario, or None where it isn't there."""
+    return carried.read(program.TOP, "examples", f"{name}.scenario") or carried.read(program.TOP, "..", "..", "share", "doc", "osp", "examples", f"{name}.scenario")
+
+
+def button(name, text, more=""):
+    """A button of the page."""
+    return f'<button type="button" id="planner-{name}"{more}>{text}</button>'
+
+
+def intake(names):
+    """Where a scenario goes in."""
+    options = "".join(f"<option>{escape(it)}</option>" for it in names)
+    return (
+        '<section><h2>The scenario</h2><div class="controls"><label>Open a file <input type="file" id="planner-file"></label>'
+        f'<label>or take an example <select id="planner-example"><option value="" disabled selected>choose</option>{options}</select></label></div>'
+        '<p><label for="planner-text">or paste it here:</label></p><textarea id="planner-text" spellcheck="false"></textarea>'
+        f'<div class="controls">{button("plan", "Plan", " disabled")}<label>with at most <input type="number" id="planner-nodes" value="{NODES}" min="1" max="{MOST_NODES}"> records</label>'
+        f'{button("stop", "Stop", " hidden")}</div>'
+        f'<div class="controls">{button("check", "Check a plan", " disabled")}<label>from the file <input type="file" id="planner-file-of-plan"></label></div>'
+        '<p id="planner-said" role="status" aria-live="polite"></p></section>'
+    )
+
+
+def answer():
+    """Where the answer stands."""
+    heads = "".join(f"<th>{it}</th>" for it in ("Period", "Look from", "This look finds", "Found so far"))
+    return (
+        '<section id="planner-found" hidden><h2>The plan</h2><p id="planner-verdict"></p><p id="planner-chance"></p>'
+        '<p><a id="planner-save">Save the plan</a> &nbsp; <a id="planner-report">Save the report</a></p>'
+        f'<div class="scroll"><table><thead><tr>{heads}</tr></thead><tbody id="planner-rows"></tbody></table></div>'
+        '<h3>Where they may be, if nothing was found so far</h3><label>Behind look <input type="range" id="planner-look" min="1" max="1" step="1"></label>'
+        '<p id="planner-now"></p><div id="planner-map" class="scroll of-all"></div></section>'
+    )
+
+
+def document(module, examples):
+    """The page: `module` is the program as WebAssembly, `examples` the bytes of scenarios by name."""
+    css = page.asset("page.css") + page.asset("planner.css")
+    script = carried.script("told.js", "planner.js")
+    policy = f"default-src 'none'; style-src '{page.checksum(css)}'; script-src '{page.checksum(script)}'{carried.SCRIPTS};{carried.MORE} base-uri 'none'; form-action 'none'"
+    blocks = {"program": module, **{f"example-{name}": it for name, it in examples.items()}}
+    return (
+        '<!DOCTYPE html>\n<html lang="en">\n<head>\n<meta charset="utf-8">\n'
+        f'<meta http-equiv="Content-Security-Policy" content="{policy}">\n'
+        '<meta name="viewport" content="width=device-width, initial-scale=1">\n'
+        f"<title>Plan a search</title>\n<style>{css}</style>\n</head>\n<body>\n<header><h1>Plan a search</h1>"
+        "<p>A scenario goes in; out comes the best path, its exact chance, and records that show why no path is better. All of it stays in this browser. "
+        "docs/FORMATS.md of osp says how a scenario is written.</p>"
+        f"{carried.worth(module)}</header>\n"
+        f'<main class="planner" id="planner-part" data-classes="{escape(str(picture.CLASSES))}">{intake(examples)}{answer()}</main>\n'
+        f"{carried.templates(blocks)}<script>{script}</script>\n</body>\n</html>\n"
+    )
+
+
+def main(words):
+    """Runs `osp page` and answers its exit status."""
+    if words:
+        print("usage: osp page > PAGE.html", file=sys.stderr)
+        return WRONG_WORDS
+    module = carried.built()
+    if module is None:
+        running.say("osp page: the program isn't built as WebAssembly: ./osp build does it")
+        return FAILED
+    found = {it: example(it) for it in EXAMPLES}
+    return running.write(document(module, {name: it for name, it in found.items() if it is not None}))

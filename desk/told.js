@@ -1,0 +1,77 @@
+// What the program's texts say, and how it is shown: shared by the parts of a page in which the program runs.
+const told = (function () {
+  const PERCENT = 100000n;
+
+  // A new element with a text, or with others in it.
+  function element(kind, inner, ...classes) {
+    const made = document.createElement(kind);
+    made.classList.add(...classes);
+    if (Array.isArray(inner)) {
+      made.append(...inner);
+    } else {
+      made.textContent = inner;
+    }
+    return made;
+  }
+
+  // A part of a whole in percent, cut off after three digits, as reports have it.
+  function percent(of, whole) {
+    const thousandths = (of * PERCENT) / whole;
+    return `${thousandths / 1000n}.${String(thousandths % 1000n).padStart(3, "0")} %`;
+  }
+
+  // The class of colour of a share: 0 for nothing, 1 for what is below the first limit, and so on.
+  function colour(part, whole, limits) {
+    return part === 0n ? 0 : Math.max(1, limits.filter((it) => part * PERCENT >= it * whole).length - 1);
+  }
+
+  // The looks of a report, or of a map: the position of each, what is found up to it (of a report), and the masses behind it (of a map).
+  function looks(text) {
+    const found = [];
+    for (const [kind, ...words] of text.split("\n").map((it) => it.split(" "))) {
+      if (kind === "period") {
+        found.push({ position: words[1], value: words[2] === undefined ? 0n : BigInt(words[2]), left: new Map() });
+      } else if (kind === "left") {
+        found[found.length - 1].left.set(words[0], BigInt(words[1]));
+      }
+    }
+    return found;
+  }
+
+  // The value and the whole behind `chance` in a report, a plan or a gap plan.
+  function chance(text) {
+    return text.match(/^chance (\d+) (\d+)/m).slice(1).map(BigInt);
+  }
+
+  // All that masses hold.
+  function sum(left) {
+    return [...left.values()].reduce((all, it) => all + it, 0n);
+  }
+
+  // A row for each look: its number, from where, what it finds, and what is found so far.
+  function rows(values, names, whole) {
+    return values.map((value, index) => {
+      const found = value - (index ? values[index - 1] : 0n);
+      const [each, all] = [percent(found, whole), percent(value, whole)].map((it) => element("td", it, "number"));
+      return element("tr", [element("th", String(index + 1)), element("td", names[index]), each, all]);
+    });
+  }
+
+  // The likeliest cells, as shares of what is left.
+  function likeliest(left) {
+    const missed = sum(left);
+    const order = [...left].filter((it) => it[1] > 0n).sort((a, b) => (a[1] < b[1] ? 1 : a[1] > b[1] ? -1 : 0)).slice(0, 5);
+    return order.map((it) => `${it[0]} ${percent(it[1], missed)}`).join(", ");
+  }
+
+  // Lets a link save bytes under a name.
+  function save(link, bytes, name) {
+    if (link.href) {
+      URL.revokeObjectURL(link.href);
+    }
+    link.href = URL.createObjectURL(new Blob([bytes], { type: "text/plain" }));
+    link.download = name;
+  }
+
+  return { element, percent, colour, looks, chance, sum, rows, likeliest, save };
+}());
