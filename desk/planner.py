@@ -1,15 +1,16 @@
 """page: writes a page to plan in: one HTML file, for any browser, that carries the proved program and asks no network for anything."""
 import os
-import sys
 from html import escape
 
-from desk import carried, page, picture, program, running
+from desk import carried, limits, page, picture, program, running
+from desk.status import Status
+from desk.words import BadWords, Words
 
 # The examples that the page offers, by their files.
 EXAMPLES = ["two-cells", "small-lake", "drifting-grid", "lake-with-island", "swath"]
-# The most records of a plan where the page isn't told another number, and the most that it may be told.
-NODES, MOST_NODES = 200_000, 1_048_576
-FAILED, WRONG_WORDS = 70, 2
+# The most records of a plan where the page isn't told another number.
+NODES = 200_000
+WORDS = Words("page", "page", "writes a page to plan in: one file for any browser, which carries the proved program")
 
 
 def example(name):
@@ -29,7 +30,7 @@ def intake(names):
         '<section><h2>The scenario</h2><div class="controls"><label>Open a file <input type="file" id="planner-file"></label>'
         f'<label>or take an example <select id="planner-example"><option value="" disabled selected>choose</option>{options}</select></label></div>'
         '<p><label for="planner-text">or paste it here:</label></p><textarea id="planner-text" spellcheck="false"></textarea>'
-        f'<div class="controls">{button("plan", "Plan", " disabled")}<label>with at most <input type="number" id="planner-nodes" value="{NODES}" min="1" max="{MOST_NODES}"> records</label>'
+        f'<div class="controls">{button("plan", "Plan", " disabled")}<label>with at most <input type="number" id="planner-nodes" value="{NODES}" min="1" max="{limits.MOST_NODES}"> records</label>'
         f'{button("stop", "Stop", " hidden")}</div>'
         f'<div class="controls">{button("check", "Check a plan", " disabled")}<label>from the file <input type="file" id="planner-file-of-plan"></label></div>'
         '<p id="planner-said" role="status" aria-live="polite"></p></section>'
@@ -69,12 +70,14 @@ def document(module, examples):
 
 def main(words):
     """Runs `osp page` and answers its exit status."""
-    if words:
-        print("usage: osp page > PAGE.html", file=sys.stderr)
-        return WRONG_WORDS
+    try:
+        if WORDS.taken(words)[0]:
+            raise BadWords("it takes no file")
+    except BadWords as wrong:
+        return WORDS.refuse(wrong)
     module = carried.built()
     if module is None:
         running.say("osp page: the program isn't built as WebAssembly: ./osp build does it")
-        return FAILED
+        return Status.FAILED
     found = {it: example(it) for it in EXAMPLES}
     return running.write(document(module, {name: it for name, it in found.items() if it is not None}))
