@@ -69,7 +69,7 @@ def finds(chart, first, last):
     """What the looks of some periods find, in words."""
     frames, whole = chart.search.frames, chart.search.report.weight
     found = sum(it.found for it in frames[first : last + 1])
-    return f"finds {brief.percent(found, whole)}, so far {brief.percent(frames[last].so_far, whole)}"
+    return f"finds {brief.share(found, whole)}, so far {brief.share(frames[last].so_far, whole)}"
 
 
 def described(chart, number, first, last, stop):
