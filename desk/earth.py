@@ -39,6 +39,10 @@ NUMBER = r"[ \t]+(-?[0-9]{1,9}(?:\.[0-9]{1,12})?)"
 LINE = re.compile(f"#[ \t]*earth{NUMBER}{NUMBER}(?:{NUMBER}{NUMBER})?".encode("ascii"))
 
 
+# The sentence that leads to it.
+HEAD = b"Latitude and longitude (WGS 84) of a place, and its metres east and south of the north-west corner:"
+
+
 class Place(typing.NamedTuple):
     """A place on the earth, in degrees."""
 
@@ -151,8 +155,8 @@ def line(frame):
 def comments(frame):
     """The comments of a scenario, without their number signs, that say where its area lies; none where nothing says it."""
     if frame is not None:
-        yield "Latitude and longitude (WGS 84) of a place, and its metres east and south of the north-west corner:"
-        yield line(frame)
+        yield HEAD
+        yield line(frame).encode("ascii")
 
 
 def frame_of(text):

@@ -5,6 +5,8 @@ import re
 from desk.squares import row_and_column, squares
 from desk.states import LOST
 
+# The sentence that leads to the comments of places.
+HEAD = b"Metres east and south of the north-west corner:"
 AT = re.compile(rb"#[ \t]*at[ \t]+([A-Za-z0-9_-]{1,24})[ \t]+(-?[0-9]{1,9}(?:\.[0-9]{1,9})?)[ \t]+(-?[0-9]{1,9}(?:\.[0-9]{1,9})?)")
 # How many sides of a square a map may be long or wide.
 MOST_ACROSS = 200

@@ -10,12 +10,16 @@ NOTHING = 1e-9
 POLE = 90.0
 
 
+def nearest(longitude, other):
+    """A longitude with whole turns added to it, so that it is within half a turn of another one."""
+    return longitude + 360 * round((other - longitude) / 360)
+
+
 def unwrapped(points):
-    """The same points with whole turns added to longitudes, so that each is less than half a turn from the one before it."""
+    """The same points with whole turns added to longitudes, so that each is within half a turn of the one before it."""
     found = []
     for longitude, latitude in points:
-        turns = round((found[-1][0] - longitude) / 360) if found else 0
-        found.append((longitude + 360 * turns, latitude))
+        found.append((nearest(longitude, found[-1][0]) if found else longitude, latitude))
     return found
 
 

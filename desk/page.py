@@ -5,7 +5,7 @@ import math
 import os
 from html import escape
 
-from desk import carried, layout, masses, percent, picture, tables
+from desk import carried, compass, earth, layout, masses, percent, picture, tables
 
 HERE = os.path.dirname(os.path.realpath(__file__))
 # The least width of a square on a screen, in pixels: below it a map can be moved sideways.
@@ -30,14 +30,14 @@ def checksum(text):
 
 
 def comment(text):
-    """What the comments at the front of a scenario say, without those that say places."""
+    """What the comments at the front of a scenario say, without those that say places, and without what leads to them."""
     told = []
     for line in text.split(b"\n"):
         line = line.strip(b" \t\r")
         if line and not line.startswith(b"#"):
             break
-        words = line.lstrip(b"#").strip()
-        if words and not layout.AT.fullmatch(line):
+        words = line.lstrip(b"#").strip().removesuffix(layout.HEAD).rstrip()
+        if words and words != earth.HEAD and not layout.AT.fullmatch(line) and not earth.LINE.fullmatch(line):
             told.append(words)
     said = b"\n".join(told)[: 4 * MOST_COMMENT].decode("utf-8", "replace")
     clean = "".join(it if it == "\n" or it.isprintable() else "\N{REPLACEMENT CHARACTER}" for it in said)
@@ -52,11 +52,11 @@ def verdict(search, module):
     return f'<p class="accepted">{escape(said)}<small>{escape(search.checked_by)}</small></p></div>'
 
 
-def header(search, module):
+def header(search, times, module):
     """The name of the scenario, the verdict, the chance, and what the scenario says of itself."""
     said, looks = comment(search.told_by), tables.plural(search.sc.horizon, "look")
     each = "" if search.seats.count == 1 else " each"
-    told = " ".join([*tables.about_trial(search), *tables.about_flown(search), *tables.about_names(search)])
+    told = " ".join([*(times.about() if times else []), *tables.about_trial(search), *tables.about_flown(search), *tables.about_names(search)])
     more = f'<p class="note">{escape(told)}</p>' if told else ""
     up = "" if search.ceiling is None else ", that of the ceiling is rounded up"
     own = f"<details><summary>What the scenario says of itself</summary><pre>{escape(said)}</pre></details>" if said else ""
@@ -155,31 +155,32 @@ def controls(search):
     )
 
 
-def sides(drawn):
-    """How wide squares and their parts are, where that is known, and what the colour of a part says."""
+def sides(drawn, frame):
+    """Where north is, how wide squares and their parts are, where that is known, and what the colour of a part says."""
     side, finer = drawn.layout.side, drawn.layout.finer
     if not drawn.layout.metres:
         return ""
+    north = compass.north(drawn, frame)
     if not drawn.parted:
-        return f" North is up; a square is {side:g} m wide."
+        return f" {north}; a square is {side:g} m wide."
     part = side / finer
     return (
-        f" North is up; a square is {side:g} m wide, and where they may be is counted in states, parts of it of {part:.{0 if part >= 100 else 1}f} m. "
+        f" {north}; a square is {side:g} m wide, and where they may be is counted in states, parts of it of {part:.{0 if part >= 100 else 1}f} m. "
         "The number in a square is the sum of its states. Colours are per square: a state has that of a square whose states are all as likely as it."
     )
 
 
-def map_section(search, drawn, clock):
+def map_section(search, drawn, told):
     """The maps with all that belongs to them."""
     off = drawn.not_drawn()
     lacking = f" Not on the map: {escape(', '.join(sorted(off)))}." if off else ""
     note = (
         "Shares of all and what was found so far sum to 100&nbsp;%. If nothing was found, the shares of what is left do. "
-        f'<span class="on-screen">Arrow keys go from period to period.</span>{sides(drawn)}{lacking}'
+        f'<span class="on-screen">Arrow keys go from period to period.</span>{sides(drawn, told.frame)}{lacking}'
     )
     return (
         f'<section id="map" class="of-all"><h2>Where they may be</h2>{controls(search)}'
-        f'<div class="with-scale">{figures(search, drawn, clock)}{scale(drawn)}</div>{signs(search.seats.count)}<p class="note">{note}</p></section>'
+        f'<div class="with-scale">{figures(search, drawn, told.times)}{scale(drawn)}</div>{drawn.where}{signs(search.seats.count)}<p class="note">{note}</p></section>'
     )
 
 
@@ -196,27 +197,28 @@ def style(drawn):
     if drawn is None:
         return asset("page.css")
     width = f"@media screen {{ .figures .map {{ min-width: {math.ceil(drawn.columns() * LEAST_CELL)}px; }} }}"
-    wanted = {"pair.css": drawn.search.seats.count > 1, "drifts.css": drawn.search.trial, "states.css": drawn.parted}
+    wanted = {"pair.css": drawn.search.seats.count > 1, "drifts.css": drawn.search.trial, "states.css": drawn.parted, "compass.css": drawn.below}
     more = "".join(asset(name) for name, is_wanted in wanted.items() if is_wanted)
     side = f"{drawn.part_side():.2f}px"
     part = f".map .cells .part {{ width: {side}; height: {side}; }}\n" if drawn.parted else ""
     return f"{asset('page.css')}{more}{width}\n.map .texts .name {{ font-size: {drawn.name_size():.1f}px; }}\n{part}"
 
 
-def main_part(search, drawn, why, clock):
+def main_part(search, drawn, why, told):
     """All below the header: with a map where there is one, else the table of all cells."""
-    periods = tables.periods(search, clock, drawn is not None)
+    periods = tables.periods(search, told.times, drawn is not None)
     if drawn is None:
         return f"<main>{periods}{tables.left(search)}{tables.all_cells(search, True)}{no_map(why, search.squares.noun)}{tables.numbers(search)}</main>"
     two = " two" if drawn.columns() <= MOST_BESIDE else ""
-    first = f'<div class="columns{two}">{map_section(search, drawn, clock)}<div class="beside">{periods}{tables.left(search)}</div></div>'
+    first = f'<div class="columns{two}">{map_section(search, drawn, told)}<div class="beside">{periods}{tables.left(search)}</div></div>'
     return f'<main class="with-map">{first}{tables.all_cells(search, False, drawn.layout.finer)}{tables.numbers(search)}</main>'
 
 
-def document(search, drawn, why, clock=None, module=None):
-    """The page of a search: `drawn` is its Picture, or None with the reason `why` there is none. With a module of WebAssembly of the
-    program it carries that, and checks itself."""
-    css, script = style(drawn), asset("page.js") + (asset("drifts.js") if search.trial else "")
+def document(search, drawn, why, told, module=None):
+    """The page of a search: `drawn` is its Picture, or None with the reason `why` there is none; `told` are its desk.comments.Comments.
+    With a module of WebAssembly of the program it carries that, and checks itself."""
+    names = ["page.js", *["drifts.js"] * bool(search.trial), *["where.js"] * bool(drawn and drawn.where)]
+    css, script = style(drawn), "".join(map(asset, names))
     scripts, more, blocks = "", "", ""
     if module:
         css, script, blocks = css + carried.style(), script + carried.script(*carried.PARTS), carried.blocks(search, module)
@@ -227,5 +229,5 @@ def document(search, drawn, why, clock=None, module=None):
         f'<meta http-equiv="Content-Security-Policy" content="{policy}">\n'
         '<meta name="viewport" content="width=device-width, initial-scale=1">\n'
         f"<title>Search plan {escape(search.name)}</title>\n<style>{css}</style>\n</head>\n<body>\n"
-        f"{header(search, module)}\n{main_part(search, drawn, why, clock)}\n{blocks}<script>{script}</script>\n</body>\n</html>\n"
+        f"{header(search, told.times, module)}\n{main_part(search, drawn, why, told)}\n{blocks}<script>{script}</script>\n</body>\n</html>\n"
     )

@@ -70,6 +70,8 @@ class Picture:
         self.low = [min(it) - SIDE / 2 - MARGIN for it in zip(*drawn)]
         self.size = [max(it) + SIDE / 2 + MARGIN - low for it, low in zip(zip(*drawn), self.low)]
         self.legs = self.all_legs()
+        # What is drawn below the squares of each map, and the line that says where the pointer is (desk.compass).
+        self.below = self.where = ""
 
     def point(self, place):
         """A place in units of the picture."""
@@ -121,7 +123,7 @@ class Picture:
         who = range(len(self.ways))
         ways = "".join(self.of(it, self.path(it, frame)) for it in who)
         signs = "".join(self.of(it, self.labels(it, frame) + self.searcher(it, frame)) for it in who)
-        parts = [self.colours(frame), self.borders(), self.outlines(frame), self.drifts(frame), ways, self.texts(frame), signs]
+        parts = [self.colours(frame), self.borders(), self.outlines(frame), self.drifts(frame), ways, self.texts(frame), signs, self.below]
         return f'<svg class="map" role="img" aria-label="{escape(label)}" viewBox="{box}">{"".join(parts)}</svg>'
 
     def classes(self, frame, mass, parts=1):

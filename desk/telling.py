@@ -1,7 +1,7 @@
 """What a draft says of itself: the comments of its scenario, and the lines on standard error."""
 import re
 
-from desk import detection, earth, margins, moments, percent, placing, rounding, twofold
+from desk import detection, earth, layout, margins, moments, percent, placing, rounding, twofold
 from desk.chain import deviations
 from desk.comments import OF_SITUATION, SITUATION, of_times
 from desk.geometry import decimal
@@ -45,7 +45,7 @@ def naming(states):
     told = "Names by row and column: r0 is the northmost row, c0 the westmost column"
     if states.finer > 1:
         told += f"; of each square, parts 01 to {states.finer**2} row by row from its north-west"
-    return told + ". Metres east and south of the north-west corner:"
+    return f"{told}. {layout.HEAD.decode('ascii')}"
 
 
 def parts(draft):

@@ -3,6 +3,7 @@
 `python3 -m unittest tests.desk_browser`, or tests/desk. The pictures of the pages are kept in the folder DESK_PICTURES, if it is set.
 """
 import json
+import math
 import os
 import re
 import shutil
@@ -12,9 +13,10 @@ import tempfile
 import unittest
 import unittest.mock
 
-from desk import accepted, brief, program, show
+from desk import accepted, brief, earth, program, show
 from tests import finer
 from tests.made import GRID, paired, with_plan
+from tests.packaged import on_earth
 from tests.pages import EXAMPLES, PLACES, PROGRAM, TOP, Room, example, read, tree
 
 # The Python that has Debian's python3-selenium, the script for it, and its status where there is no browser.
@@ -153,6 +155,7 @@ def pages_for(room):
     broken = re.sub(r"<meta http-equiv[^>]*>", "", read(plain).decode()).replace("<h1>", f"<h1>{MARKUP.removeprefix('</title></script>')}")
     pages = {"grid": plain, "table": table, "swath": swath, "pair": pair_file(room), "finer": finer_file(room), "hostile": hostile}
     pages["tried"] = tried_file(room)
+    pages["earth"], _ = page_file(room, "swath", "swath-earth.scenario", lambda it: b"# earth 57.725 10.58\n" + PLACES.encode() + it)
     return {**pages, "broken": room.write("broken.html", broken.encode())}
 
 
@@ -247,7 +250,7 @@ class Browser(unittest.TestCase):
         self.assertNotIn("Play", told)
 
     def test_a_phone_needs_no_sideways_move(self):
-        for name in ("grid", "table", "swath", "pair", "finer", "tried"):
+        for name in ("grid", "table", "swath", "pair", "finer", "tried", "earth"):
             self.assertEqual(self.seen[name]["phone"][0], 390, name)
             self.assertEqual(self.seen[name]["desktop"][0], 1280, name)
 
@@ -267,13 +270,32 @@ class Browser(unittest.TestCase):
         self.assertEqual(self.seen["tried"]["drifts"], [0, 1, 1, 0])
         self.assertNotIn("drifts", self.seen["grid"])
 
+    @on_earth
+    def test_the_line_says_where_the_pointer_is(self):
+        """By PROJ 9.1.1 (+proj=aeqd +ellps=WGS84); the pointer stands on a whole pixel, which is some 3 m wide."""
+        seen = self.seen["earth"]["where"]
+        wanted = {
+            "north-west": (57.722755217, 10.584195391),
+            "north": (57.722754661, 10.592586172),
+            "middle": (57.718265231, 10.592584614),
+            "south-east": (57.713774686, 10.600971760),
+        }
+        for name, (latitude, longitude) in wanted.items():
+            north, east = (float(it) for it in earth.spelled(seen[name]))
+            away = math.radians(math.hypot(north - latitude, (east - longitude) * math.cos(math.radians(latitude)))) * 6_371_000
+            self.assertLess(away, 5, (name, seen[name]))
+        self.assertEqual(len(set(seen.values())), 10, "each of nine cells has its own place")
+        self.assertEqual(seen["before"], seen["behind"])
+        self.assertIn("The area's north-west corner is at 57°43.500'N 010°34.800'E.", seen["before"])
+        self.assertNotIn("where", self.seen["swath"])
+
     def test_a_page_without_places_is_a_table_alone(self):
         seen = self.seen["table"]
         self.assertIsNone(seen["first"]["slider"])
         self.assertIn("There is no map, since nothing says where the cell north-west lies.", seen["text"])
 
     def test_no_request_and_nothing_on_the_console(self):
-        for name in ("grid", "table", "swath", "pair", "finer", "tried", "hostile"):
+        for name in ("grid", "table", "swath", "pair", "finer", "tried", "earth", "hostile"):
             seen = self.seen[name]
             self.assertEqual({it.split("/")[0] for it in seen["asked"]}, {"file:"}, name)
             self.assertEqual(len(set(seen["asked"])), 1, name)

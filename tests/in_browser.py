@@ -185,6 +185,19 @@ def drifted(visit):
     return seen
 
 
+def pointed(visit):
+    """What the line says of places: before the pointer comes, over each square of the map that is seen, by what begins its title, and
+    behind it."""
+    look = "return document.getElementById('where').textContent"
+    seen = {"before": visit.run(look)}
+    for square in visit.browser.find_elements(By.CSS_SELECTOR, ".frame:not([hidden]) .cells rect"):
+        ActionChains(visit.browser).move_to_element(square).perform()
+        name = visit.run("return arguments[0].querySelector('title').textContent.split(':')[0]", square)
+        seen[name] = visit.run(look)
+    ActionChains(visit.browser).move_to_element(visit.element("h1")).perform()
+    return seen | {"behind": visit.run(look)}
+
+
 def slid(visit):
     """Moves the slider by the mouse to its end."""
     slider = visit.element("#period")
@@ -212,6 +225,8 @@ def visited(seen_by, page, folder):
         visit.element("input[value=of-all]").click()
     if visit.run("return document.getElementById('drifts') !== null"):
         seen["drifts"] = drifted(visit)
+    if visit.run("return document.getElementById('where') !== null"):
+        seen["where"] = pointed(visit)
     seen["desktop"] = visit.picture("desktop")
     visit.pdf()
     return seen | visit.logs()
