@@ -131,11 +131,9 @@ class Commands(Walk):
         path = [it[2] for it in first]
         self.is_where_it_should_be(first, path)
         self.typed("chart", "strait.scenario", "strait.plan", "-o", "strait.gpx")
-        # The third look is flown where the second was.
-        flown = [*path[:2], path[1]]
-        self.typed("replan", "strait.scenario", "-o", "later.made", "flown", *flown)
+        self.typed("replan", "strait.scenario", "-o", "later.made", "flown", *path[:3])
         later = self.rows(self.typed("brief", "later.made", "--of", "strait.scenario"))
-        self.is_where_it_should_be(later, [*flown, later[3][2]])
+        self.is_where_it_should_be(later, path)
         self.assertEqual([it[3] for it in later], [" (flown)"] * 3 + [""])
 
 

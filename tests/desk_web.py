@@ -83,6 +83,7 @@ REFUSED = [
     "  %r1 = call i64 @f(ptr byval([16 x i8]) %r0)",
     "declare void @f(ptr sret([16 x i8]))",
     "module asm \"nop\"",
+    "  %r1 = call <16 x i8> @llvm.x86.sse41.pblendvb(<16 x i8> %r0, <16 x i8> %r2, <16 x i8> %r3)",
     "%struct.a = type { ptr, i8 }",
 ]
 
@@ -126,13 +127,19 @@ class Making(unittest.TestCase):
 
     def test_calls(self):
         """A module that declares another function, or one with other types, is refused."""
-        main = "define internal void @f() {\n}\n\ndefine i32 @main() #0 {\n}\n"
+        main = 'define internal void @f() {\n}\n\ndefine i32 @main() #0 {\n  %r0 = call i64 @__sysv_signal(i32 13, i64 1)\n  %r1 = call i32 @"+threads::entry"()\n  ret i32 %r1\n}\n'
         known = f"declare noundef i64 @read(i32 noundef, ptr noundef, i64 noundef) #3\ndeclare void @llvm.trap() #4\n{main}"
         self.assertEqual(build.declared(known), {"read": "i64 (i32, ptr, i64)"})
         build.same_calls(known)
-        for text in (known.replace("@read", "@pread"), known.replace("i64 noundef)", "i32 noundef)"), known.replace("@main", "@start")):
+        self.assertEqual(
+            build.without_main(known), known.split("\ndefine i32 @main")[0] + '\ndefine i32 @osp() {\n  %r0 = call i32 @"+threads::entry"()\n  ret i32 %r0\n}\n'
+        )
+        for text in (known.replace("@read", "@pread"), known.replace("i64 noundef)", "i32 noundef)")):
             with self.subTest(text), self.assertRaises(build.Stop):
                 build.same_calls(text)
+        for text in (known.replace("@main", "@start"), known.replace("@__sysv_signal", "@setup"), known.replace("threads::entry", "threads::start")):
+            with self.subTest(text), self.assertRaises(build.Stop):
+                build.without_main(text)
 
 
 @unittest.skipUnless(web.NODE, "node isn't installed (Debian's package nodejs)")

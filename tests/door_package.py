@@ -15,7 +15,7 @@ from tests.words import ROWS
 # The folders of the system alone: neither the kit nor an osp is there.
 SYSTEM = {"PATH": "/usr/bin:/bin", "LANG": "C.UTF-8"}
 COMMANDS = ["plan", "check", "report", "convert", "replan", "map", "duo", "make", "drill"]
-HELPERS = ["draft", "trial", "vary", "next", "show", "brief", "chart", "split", "join", "explain"]
+HELPERS = ["draft", "trial", "vary", "next", "show", "brief", "chart", "page", "split", "join", "explain"]
 
 
 def version():

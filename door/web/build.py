@@ -7,6 +7,7 @@ file (text, or bitcode) instead, for trials. OUT.sums has the checksums of the p
 import hashlib
 import os
 import re
+import shlex
 import shutil
 import subprocess
 import sys
@@ -26,7 +27,6 @@ CALLS = {
     "rattle_arg": "i64 (i64, ptr, i64)",
     "rattle_errno": "i32 ()",
     "rattle_set_errno": "void (i32)",
-    "__sysv_signal": "i64 (i32, i64)",
     "_exit": "void (i32)",
     "abort": "void ()",
     "sched_yield": "i32 ()",
@@ -46,7 +46,15 @@ MEMORY = {
     "malloc": "ptr (i64)",
     "free": "void (ptr)",
 }
-# What the kit's library may declare besides, and the program doesn't reach.
+# What is declared besides: what `main` calls before it calls the program, to ignore a signal, and to see that the processor of x86-64
+# has what it needs; and what the program doesn't reach.
+OF_MAIN = {
+    "__sysv_signal": "i64 (i32, i64)",
+    "__x86_get_cpuid_feature_leaf": "ptr (i32)",
+    "__write": "i64 (i32, ptr, i64)",
+}
+ENTRY = '"+threads::entry"'
+MAIN = re.compile(r"\ndefine i32 @main\(\)[^\n]*\{\n(.*?)\n\}\n", re.S)
 UNREACHED = {
     "pthread_attr_setstacksize": "i32 (ptr, i64)",
     "rattle_env": "i64 (ptr, ptr, i64)",
@@ -96,22 +104,33 @@ def words_of(folder):
         raise Stop(f"this kit's rt isn't the one that is known here: {why}") from None
 
 
+# In the place of clang: it keeps the module that it is handed, and hands it on. (rattle runs it without an environment.)
+KEEPER = """#!/bin/sh
+for word in "$@"; do
+  case $word in *.bc) /bin/cp "$word" {kept}/ || exit ;; esac
+done
+exec {clang} "$@"
+"""
+
+
 def keep(room):
     """A toolchain's folder whose clang keeps what it is handed in the folder `kept`."""
-    tools = f"{kit()}/toolchain"
+    tools, kept = f"{kit()}/toolchain", f"{room}/kept"
     os.makedirs(f"{room}/tools/bin")
-    os.makedirs(f"{room}/kept")
+    os.makedirs(kept)
     os.symlink(f"{tools}/lib", f"{room}/tools/lib")
-    for name in os.listdir(f"{tools}/bin"):
-        os.symlink(os.path.join(HERE, "clang") if name == "clang" else f"{tools}/bin/{name}", f"{room}/tools/bin/{name}")
-    return f"{room}/tools", {**os.environ, "OSP_KEPT": f"{room}/kept", "OSP_CLANG": f"{tools}/bin/clang"}
+    for name in sorted({*os.listdir(f"{tools}/bin")} - {"clang"}):
+        os.symlink(f"{tools}/bin/{name}", f"{room}/tools/bin/{name}")
+    with open(f"{room}/tools/bin/clang", "w", encoding="utf-8") as file:
+        file.write(KEEPER.format(kept=shlex.quote(kept), clang=shlex.quote(f"{tools}/bin/clang")))
+    os.chmod(file.name, 0o755)
+    return f"{room}/tools"
 
 
 def module_of_program(room):
     """LLVM's module of the built program. Raises Stop where the kit, from that module, makes another object file than the program's."""
     folder = os.path.dirname(os.path.dirname(PROGRAM))
-    tools, env = keep(room)
-    call([*words_of(folder), "--toolchain", tools, "-o", f"{room}/osp.o"], cwd=folder, env=env)
+    call([*words_of(folder), "--toolchain", keep(room), "-o", f"{room}/osp.o"], cwd=folder)
     kept = os.listdir(f"{room}/kept")
     if len(kept) != 1:
         raise Stop(f"rattle handed clang {len(kept)} modules, and one is known here")
@@ -131,10 +150,19 @@ def declared(text):
 
 def same_calls(text):
     """Raises Stop where the module declares another function than those above, or with other types."""
-    known = {**CALLS, **MEMORY, **UNREACHED}
+    known = {**CALLS, **MEMORY, **OF_MAIN, **UNREACHED}
     odd = [f"{name}: {kind}" for name, kind in declared(text).items() if known.get(name) != kind]
-    if odd or not text.count("\ndefine i32 @main()"):
-        raise Stop(f"the module calls what isn't known here: {', '.join(sorted(odd)) or 'it has no main'}")
+    if odd:
+        raise Stop(f"the module calls what isn't known here: {', '.join(sorted(odd))}")
+
+
+def without_main(text):
+    """The text with a function `osp`, which calls the program as `main` does, in the place of `main`. Raises Stop where main does more."""
+    found = MAIN.findall(text)
+    called = re.findall(r"\bcall [^@]*@(\"[^\"]*\"|[\w.]+)\(", found[0]) if len(found) == 1 else []
+    if called.count(ENTRY) != 1 or not {*called} <= {ENTRY, *OF_MAIN}:
+        raise Stop(f"main isn't the one that is known here: it calls {', '.join(called) or 'nothing'}")
+    return MAIN.sub(lambda _: f"\ndefine i32 @osp() {{\n  %r0 = call i32 @{ENTRY}()\n  ret i32 %r0\n}}\n", text)
 
 
 def text_of(module, clang, room):
@@ -150,11 +178,11 @@ def link(module, room):
     text = text_of(module, f"{tools}/clang", room)
     same_calls(text)
     try:
-        text = narrow.narrowed(text)
+        text = narrow.narrowed(without_main(text))
     except narrow.Unknown as line:
         raise Stop(f"the module has a line that isn't known here: {str(line).strip()[:200]}") from None
     with open(f"{room}/narrow.ll", "w", encoding="utf-8") as file:
-        file.write(text.replace("\ndefine i32 @main()", "\ndefine i32 @osp()"))
+        file.write(text)
     with open(f"{room}/calls", "w", encoding="utf-8") as file:
         file.write("".join(f"{it}\n" for it in CALLS))
     flags = [*TARGET, "--no-default-config", "-Werror", "-c"]

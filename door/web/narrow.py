@@ -13,8 +13,10 @@ NEW_TRIPLE = "wasm32-unknown-unknown"
 NEW_LAYOUT = "e-m:e-p:32:32-p10:8:8-p20:8:8-i64:64-i128:128-n32:64-S128-ni:1:10:20"
 # What attributes say of the processor, of its stack, and of who made a function: none of it is said of a module of WebAssembly.
 ATTRIBUTES = re.compile(r' "(?:target-cpu|target-features|tune-cpu|probe-stack|stack-probe-size|rattle-sig)"="[^"]*"')
-# The one instruction of x86-64 that the program asks for by name: a pause of a worker that waits. There it is nothing.
+# The two instructions of x86-64 that the program asks for by name: a pause of a worker that waits, which is nothing there, and a choice
+# of bytes by sixteen numbers, of which the lowest four bits count, and a negative one chooses 0.
 PAUSE = "@llvm.x86.sse2.pause()"
+CHOICE, NEW_CHOICE = "@llvm.x86.ssse3.pshuf.b.128", "@osp.choice"
 # Instructions that touch no memory, or whose operands are numbers.
 PLAIN = frozenset(
     "add and ashr bitcast br call extractelement extractvalue fadd fcmp fdiv fence fmul freeze fsub icmp insertelement insertvalue lshr mul or phi "
@@ -39,11 +41,14 @@ OPERATION = re.compile(r"  (?:%[\w.]+ = )?(?:(?:tail|musttail|notail) )?(?P<name
 AROUND = re.compile(r"(?:    i\d+ -?\d+, label %[\w.]+|  \]|[\w.]+:.*|\"[^\"]+\":.*|\}|;.*|source_filename = .*|!.*|)")
 # The attributes that may be left: none says how anything stands in memory.
 LEFT = re.compile(
-    r"attributes #\d+ = \{(?: (?:nounwind|nobuiltin|cold|noreturn|nocallback|nofree|nosync|willreturn|speculatable|nocreateundeforpoison"
+    r"attributes #\d+ = \{(?: (?:nounwind|noinline|alwaysinline|inlinehint|nobuiltin|cold|noreturn|nocallback|nofree|nosync|willreturn|speculatable|nocreateundeforpoison"
     r'|memory\([\w: ,]*\)|"frame-pointer"="all"))* \}'
 )
 # What isn't known: arguments with a form in memory, numbers as pointers, and addresses that are counted in other units than bytes.
-NEVER = re.compile(r"\b(?:byval|sret|inalloca|preallocated|elementtype|addrspace)\(|\binttoptr\b|getelementptr (?:inbounds |nuw )*\((?!i8, )| x ptr\b")
+NEVER = re.compile(
+    r"\b(?:byval|sret|inalloca|preallocated|elementtype|addrspace)\(|\binttoptr\b|getelementptr (?:inbounds |nuw )*\((?!i8, )| x ptr\b"
+    r"|@llvm\.x86\.(?!sse2\.pause\(|ssse3\.pshuf\.b\.128\()"
+)
 STATIC = re.compile(r"(?P<head>@[\w.]+ = [\w ]+ (?:constant|global)) <\{ (?P<types>[^}]*) \}> <\{ (?P<parts>.*) \}>(?P<tail>, align \d+)")
 PART = re.compile(r'(?:\[\d+ x i8\] (?:zeroinitializer|c"[^"]*")|ptr (?:@[\w.]+|getelementptr \(i8, ptr @[\w.]+, i64 \d+\)))(?:, |$)')
 
@@ -145,7 +150,22 @@ def other(line):
         wanted = line if AROUND.fullmatch(line) or LEFT.fullmatch(new) else None
     if line != wanted:
         raise Unknown(line)
-    return [] if PAUSE in line else [new]
+    return [] if PAUSE in line or line.startswith("declare ") and CHOICE in line else [new]
+
+
+def choice():
+    """The lines of a function that chooses bytes of its first argument, as the instruction of x86-64 does."""
+    told = [f"define internal <16 x i8> {NEW_CHOICE}(<16 x i8> %from, <16 x i8> %by) {{"]
+    for at in range(16):
+        told += [
+            f"  %n{at} = extractelement <16 x i8> %by, i32 {at}",
+            f"  %i{at} = and i8 %n{at}, 15",
+            f"  %z{at} = icmp slt i8 %n{at}, 0",
+            f"  %c{at} = extractelement <16 x i8> %from, i8 %i{at}",
+            f"  %b{at} = select i1 %z{at}, i8 0, i8 %c{at}",
+            f"  %v{at} = insertelement <16 x i8> {f'%v{at - 1}' if at else 'zeroinitializer'}, i8 %b{at}, i32 {at}",
+        ]
+    return [*told, "  ret <16 x i8> %v15", "}", ""]
 
 
 def narrowed(text):
@@ -154,4 +174,4 @@ def narrowed(text):
     for at, line in enumerate(text.split("\n")):
         is_instruction = line.startswith("  ") and not AROUND.fullmatch(line)
         told += instruction(line, f"%w{at}") if is_instruction else other(line)
-    return "\n".join(told)
+    return "\n".join(told + (choice() if CHOICE in text else [])).replace(f"{CHOICE}(", f"{NEW_CHOICE}(")

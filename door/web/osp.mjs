@@ -69,8 +69,6 @@ function calls(memory, words, input, outputs) {
     rattle_errno: () => errno,
     rattle_set_errno(to) { errno = to; },
     _exit(status) { throw new Ended(status); },
-    // A signal of a closed pipe, which isn't here, is to be ignored.
-    __sysv_signal: () => 0n,
     sched_yield: () => 0,
     pthread_attr_init: () => 0,
     pthread_attr_setguardsize: () => 0,
