@@ -8,6 +8,7 @@ import collections
 import dataclasses
 
 from desk.keys import BadSituation
+from desk.quoting import counted
 
 # Fewer tracks than so many are called few: it is the least number that is simulated.
 FEW = 1000
@@ -56,8 +57,11 @@ class Ensemble:
     def within(self, water):
         """The places at each look in an area (desk.water.Water), None for what is lost; and the lines to say of the tracks.
 
-        A place outside of the area is lost, or else held at its edge. A place in a square of land is taken to the nearest water.
+        A place outside of the area is lost, or else held at its edge. A place in a square of land is taken to the nearest water. Raises
+        BadSituation where no track is in the area at any look.
         """
+        if not any(water.is_inside(*place) for look in self.looks for place in look):
+            raise wrong(self.name, f"no track is in the area at any look; at the first one they are {self.about()}")
         outside, ashore, found = set(), set(), tuple([] for _ in self.looks)
         for track, gone in enumerate(self.gone):
             for t, (look, places) in enumerate(zip(found, self.looks), 1):
@@ -71,14 +75,20 @@ class Ensemble:
                 look.append(place)
         return found, (*self.said, *self.near_edges(len(outside), len(ashore), water.is_lost))
 
+    def about(self):
+        """Where the tracks are at the first look, in words."""
+        easts, souths = zip(*self.looks[0])
+        sides = (f"{min(its):,.0f} to {max(its):,.0f} m {side}" for its, side in ((easts, "east"), (souths, "south")))
+        return f"{' and '.join(sides)} of its north-west corner"
+
     def near_edges(self, outside, ashore, is_lost):
         """What to say of so many tracks that are outside of the area, and so many in squares of land."""
         if outside:
-            yield f"{outside:,} are outside of the area at some look, and " + ("no look finds them there" if is_lost else "are held at its edge")
+            yield f"{counted(outside, 'track')} outside of the area at some look, {'and found by none there' if is_lost else 'held at its edge'}"
         if ashore:
-            yield f"{ashore:,} are in a square of land at some look, and are taken to be in the nearest water"
+            yield f"{counted(ashore, 'track')} in a square of land at some look, taken to the nearest water"
         if self.count < FEW:
-            yield f"note: {self.count:,} track{'s are' if self.count > 1 else ' is'} few, and shares are rough; {FEW:,} or more are better"
+            yield f"note: no more than {counted(self.count, 'track')}: shares are rough, and {FEW:,} or more are better"
 
 
 def at_looks(recorded, clock, times):
@@ -94,11 +104,11 @@ def at_looks(recorded, clock, times):
     looks = tuple([recorded.metres(*it.at(time)) for it in kept] for time in times)
     gone = tuple(next((t for t, time in enumerate(times, 1) if it.status == OUTSIDE and time > it.minutes[-1]), None) for it in kept)
     span = f"from {clock.told(recorded.begins)} to {clock.told(recorded.ends)}"
-    said = [f"{name} has {len(recorded.courses) + recorded.empty:,} tracks {span}; sha256 {recorded.digest}"]
+    said = [f"{name} has {counted(len(recorded.courses) + recorded.empty, 'track')} {span}; sha256 {recorded.digest}"]
     if recorded.empty:
-        said.append(f"{recorded.empty:,} have no place at any time, and are left out")
+        said.append(f"{counted(recorded.empty, 'track')} without a place at any time, left out")
     if len(kept) < len(recorded.courses):
-        said.append(f"{len(recorded.courses) - len(kept):,} begin after the first look, which is at {first}, and are left out")
+        said.append(f"{counted(len(recorded.courses) - len(kept), 'track')} begun after the first look, which is at {first}, left out")
     return Ensemble(name, looks, gone, (*said, *ended(kept, times[-1])))
 
 
@@ -107,10 +117,10 @@ def ended(courses, last):
     counts = collections.Counter(it.status for it in courses if it.minutes[-1] < last)
     for status, count in sorted(counts.items()):
         if status == OUTSIDE:
-            yield f"{count:,} leave the region of their model (outside) before the last look, and are lost from then on"
+            yield f"{counted(count, 'track')} gone from the region of the model (outside) before the last look, lost from then on"
         else:
             why = f"as {status}" if status else "by no status"
-            yield f"{count:,} end before the last look ({why}), and stay where they were last"
+            yield f"{counted(count, 'track')} ended before the last look ({why}), taken to stay at the last place"
 
 
 def wrong(name, why):

@@ -1,7 +1,7 @@
 """What a draft says of itself: the comments of its scenario, and the lines on standard error."""
 import re
 
-from desk import detection, earth, layout, margins, moments, percent, placing, rounding, twofold
+from desk import detection, earth, layout, margins, moments, percent, placing, quoting, rounding, twofold
 from desk.chain import deviations
 from desk.comments import OF_SITUATION, SITUATION, of_times
 from desk.geometry import decimal
@@ -63,7 +63,7 @@ def truth(drift, draft):
     finer = f"parts of a cell ({states.finer} by {states.finer})" if states.finer > 1 else "cells"
     told = f"on average {sum(inside) // len(inside):,} tracks are in one that has any at a look, and {min(inside):,} at least"
     yield from tracks.said[:1]
-    yield f"{tracks.count:,} tracks {tracks.origin}, counted in {len(states.parts)} {finer}{' and lost' * states.is_lost}: {told}"
+    yield f"{quoting.counted(tracks.count, 'track')} {tracks.origin}, counted in {len(states.parts)} {finer}{' and lost' * states.is_lost}: {told}"
     told = " ".join(f"{float(it):.3f}" for it in draft.off)
     yield f"total variation between the scenario's drift and the tracks, look by look: {told}"
     last = draft.scenario.horizon

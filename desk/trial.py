@@ -10,7 +10,7 @@ import json
 import os
 import textwrap
 
-from desk import accepted, flights, flying, keys, packages, patterns, percent, running, tracks
+from desk import accepted, flights, flying, keys, packages, patterns, percent, quoting, running, tracks
 from desk.accepted import Refused
 from desk.brief import rows_of
 from desk.situation import BadSituation, recorded_at, situation
@@ -145,7 +145,7 @@ def causes(at, own, flight, fresh):
         ("the rounding of the scenario", "[parts], or fewer periods", scenario, chain),
         ("its states, beside ones of half their side", "[tracks] finer, or smaller cells", chain, halved),
         ("what a chain of those still forgets of a drift", "go by what is found", halved, same),
-        ("the draft's own drifts, to which a plan fits", "[tracks] count", same, fresh.total.mean),
+        ("the draft's own drifts, to which a plan fits", "[tracks] count" if at.given.tracks.ensemble is None else "more tracks", same, fresh.total.mean),
     )
     return [Cause(why, helps, before - after) for why, helps, before, after in steps]
 
@@ -259,7 +259,7 @@ def head(trial):
     if made.file is None:
         other = "which are the draft's own" if made.seed == own.seed else f"and not {own.seed}, from which draft makes its own"
         return [f"{trial.name}: {made.count:,} simulated drifts {made.origin}, {other}. Behind ± stands the standard error."]
-    told = f"{trial.name}: {made.count:,} tracks {made.origin}"
+    told = f"{trial.name}: {quoting.counted(made.count, 'track')} {made.origin}"
     if not trial.is_other:
         told += ", which are the draft's own; --tracks FILE flies over others"
     return [f"{told}. Behind ± stands the standard error.", *(f"{made.file}: {it}" for it in made.said[1:])]

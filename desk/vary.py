@@ -9,7 +9,7 @@ import json
 import os
 from fractions import Fraction
 
-from desk import accepted, draft, flights, packages, percent, running, tracks, varied
+from desk import accepted, draft, flights, packages, percent, quoting, running, tracks, varied
 from desk.accepted import Refused
 from desk.brief import rows_of
 from desk.limits import MOST_GAP_RECORDS
@@ -198,7 +198,7 @@ def about_most(it):
 
 def text_of(it):
     """The whole text."""
-    head = f"{it.name}: what {it.flight.name} finds where the situation is otherwise; each draft is of {it.made.count:,} tracks {it.made.origin}."
+    head = f"{it.name}: what {it.flight.name} finds where the situation is otherwise; each draft is of {quoting.counted(it.made.count, 'track')} {it.made.origin}."
     lines = [*wrapped(head), ""]
     lines += rows_of([["", "the plan finds", "the best plan finds", "to be wrong costs"], *map(cells, it.rows)], [True, False, False, False])
     lines += ["", *(line for told in about_most(it) for line in wrapped(told)), ""]

@@ -90,7 +90,7 @@ class Places(File):
         table = HEAD + STAYS + at(("12:00", (1500, 500)), ("12:20", (1700, 700)), name="ends")
         looks = self.looks(table)
         self.assertEqual([look[1] for look in looks[1:]], [(1700, 700)] * 2)
-        self.assertIn("1 end before the last look (by no status), and stay where they were last", self.said(table))
+        self.assertIn("1 track ended before the last look (by no status), taken to stay at the last place", self.said(table))
 
     def test_late_and_empty_tracks_are_left_out_and_told(self):
         late = at(("12:16", (1500, 500)), ("12:45", (1700, 700)), name="late")
@@ -99,8 +99,8 @@ class Places(File):
         self.assertEqual([look for look in self.looks(HEAD + late + STAYS + empty + in_time)], [[(500, 500), (2500, 500 + it)] for it in (0, 150, 300)])
         said = self.said(HEAD + late + STAYS + empty + in_time)
         self.assertTrue(said[0].startswith("ensemble.csv has 4 tracks from 2026-07-04 12:00 to 2026-07-04 12:45; sha256 "))
-        self.assertIn("1 begin after the first look, which is at 2026-07-04 12:15, and are left out", said)
-        self.assertIn("1 have no place at any time, and are left out", said)
+        self.assertIn("1 track begun after the first look, which is at 2026-07-04 12:15, left out", said)
+        self.assertIn("1 track without a place at any time, left out", said)
         # What has no place at a time is where the line between the others is.
         masked = at(("12:00", (100, 500)), ("12:15", ("", "")), ("12:30", ("nan", 7)), ("12:45", (1000, 500)))
         self.assertEqual([look[0] for look in self.looks(HEAD + masked)], [(400, 500), (700, 500), (1000, 500)])
@@ -109,10 +109,10 @@ class Places(File):
         # Out by the north at the second look, and in again at the third.
         table = HEAD + at(("12:15", (1500, 500)), ("12:30", (1500, -100)), ("12:45", (1600, 700))) + STAYS
         self.assertEqual([look[0] for look in self.looks(table)], [(1500, 500), None, (1600, 700)])
-        self.assertIn("1 are outside of the area at some look, and no look finds them there", self.said(table))
+        self.assertIn("1 track outside of the area at some look, and found by none there", self.said(table))
         held = OPEN.replace('edge = "lost"', 'edge = "stays"')
         self.assertEqual(self.looks(table, held)[1][0], (1500, 0))
-        self.assertIn("1 are outside of the area at some look, and are held at its edge", self.said(table, held))
+        self.assertIn("1 track outside of the area at some look, held at its edge", self.said(table, held))
 
     def test_in_a_square_of_land(self):
         # r1c1 is land. 100 m inside of its west and 300 m of its north: the nearest water is to the west. In r1c2 nobody is on land.
@@ -121,10 +121,10 @@ class Places(File):
         looks = self.looks(table, land)
         self.assertEqual(([round(it, 2) for it in looks[1][0]], looks[2][0]), ([1000, 1300], (2100, 1300)))
         self.assertLess(looks[1][0][0], 1000)
-        self.assertIn("1 are in a square of land at some look, and are taken to be in the nearest water", self.said(table, land))
+        self.assertIn("1 track in a square of land at some look, taken to the nearest water", self.said(table, land))
 
     def test_few_are_called_few(self):
-        for count, note in ((1, "note: 1 track is few, and"), (3, "note: 3 tracks are few, and"), (1000, None)):
+        for count, note in ((1, "note: no more than 1 track: shares"), (3, "note: no more than 3 tracks: shares"), (1000, None)):
             table = HEAD + "".join(STAYS.replace("stays", str(it)) for it in range(count))
             found = [it for it in self.said(table) if it.startswith("note")]
             self.assertEqual([it[: len(note or "")] for it in found], [note] if note else [])
@@ -154,6 +154,8 @@ class Refused(File):
             (HEAD + at(("12:00", ("", "")), ("12:45", ("", ""))), "it has no track with a place"),
             (HEAD + at(("12:20", (1, 1)), ("12:50", (1, 1))), "all of its tracks begin after the first look, which is at 2026-07-04 12:15"),
             (HEAD + at(("12:00", (1, 1)), ("12:44", (1, 1))), "it ends at 2026-07-04 12:44, and the last look is at 2026-07-04 12:45"),
+            (HEAD + at(("12:00", (-200, 90)), ("12:45", (-350, 60))) + at(("12:15", (-7, 3000)), ("12:45", (-7, 3000)), name="b"),
+             "no track is in the area at any look; at the first one they are -250 to -7 m east and 80 to 3,000 m south of its north-west corner"),
             (HEAD + "a,2026-07-04T12:00,1\n", "line 2: it has 3 columns, and the first line has more"),
             (HEAD + STAYS + "a,yesterday,1,1\n", "line 4: time should be in ISO 8601, as in 2026-07-04T19:30:00, and is 'yesterday'"),
             (HEAD + "a,2026-02-30T12:00,1,1\n", "line 2: time should be in ISO 8601"),
@@ -213,7 +215,7 @@ class Whole(File):
         self.assertEqual((row(1, "r1c0"), row(2, "r1c1"), row(2, "r2c0"), row(1, "r2c1")), ({"r1c1": 1}, {"r1c2": 1}, {"r2c1": 1}, {"lost": 1}))
         lines = list(lines)
         self.assertIn("1,000 tracks of ensemble.csv, counted in 6 cells and lost", "\n".join(lines))
-        self.assertIn("ensemble.csv: 100 are outside of the area at some look, and no look finds them there", lines)
+        self.assertIn("ensemble.csv: 100 tracks outside of the area at some look, and found by none there", lines)
         self.assertIn("10.000 percent have left the area by the last look", lines)
         # The comments tell the file and its checksum.
         self.assertIn(b"# ensemble.csv has 1,000 tracks from 2026-07-04 12:15 to 2026-07-04 12:45; sha256 ", scenario)
@@ -242,7 +244,7 @@ class Whole(File):
     def test_a_trial_flies_over_the_tracks(self):
         out = self.trial().replace("\n  ", " ")
         self.assertIn("whole.toml: 1,000 tracks of ensemble.csv, which are the draft's own; --tracks FILE flies over others.", out)
-        self.assertIn("ensemble.csv: 100 are outside of the area at some look", out)
+        self.assertIn("ensemble.csv: 100 tracks outside of the area at some look", out)
         miss = 1 - self.finds("r0c0,r0c0,r0c0") / 0.4
         # Looks find r0c0's in period 1 and the second kind in periods 2 and 3.
         once = miss ** (1 / 3)
@@ -257,9 +259,9 @@ class Whole(File):
         other = self.write("other.csv", (HEAD + STAYS + at(("12:00", (1500, 1500)), ("12:45", (1500, 1500)), name="b")).encode())
         out = self.trial("--tracks", other).replace("\n  ", " ")
         self.assertIn("whole.toml: 2 tracks of other.csv. Behind", out)
-        self.assertIn("other.csv: note: 2 tracks are few", out)
+        self.assertIn("other.csv: note: no more than 2 tracks", out)
         odd = self.write(b"o\xff\n.csv", (HEAD + STAYS).encode())
-        self.assertIn("1 tracks of o\N{REPLACEMENT CHARACTER}\N{REPLACEMENT CHARACTER}.csv", self.trial("--tracks", odd))
+        self.assertIn("1 track of o\N{REPLACEMENT CHARACTER}\N{REPLACEMENT CHARACTER}.csv", self.trial("--tracks", odd))
         self.assertIn("--count and --seed are of simulated drifts", self.trial("--seed", "4", status=2))
         self.assertIn("osp trial: [tracks] file: none.csv: it can't be read", self.trial("--tracks", "none.csv", status=1))
 

@@ -73,7 +73,7 @@ class OpenDrift(File):
         # The same times in other units.
         hours = self.netcdf([self.EAST], [10, 10 + 1 / 3, 10 + 2 / 3, 11], units="hours since 2026-07-04 02:00:00")
         self.assert_places(hours.looks, wanted)
-        self.assertTrue(hours.said[0].startswith("ensemble.nc has 1 tracks from 2026-07-04 12:00Z to 2026-07-04 13:00Z; sha256 "))
+        self.assertTrue(hours.said[0].startswith("ensemble.nc has 1 track from 2026-07-04 12:00Z to 2026-07-04 13:00Z; sha256 "))
 
     def test_stranded_outside_late_and_empty(self):
         stranded = [(0, 500, 0), (200, 500, 1), None, None]
@@ -85,10 +85,10 @@ class OpenDrift(File):
         self.assert_places(found.looks, [[(300, 100), (150, 500), (150, 600)], [(600, 100), (200, 500), (300, 600)], [(900, 100), (200, 500), (400, 600)]])
         self.assertEqual(found.gone, (None, None, 3))
         self.assertEqual(list(found.said[1:]), [
-            "1 have no place at any time, and are left out",
-            "1 begin after the first look, which is at 2026-07-04 12:15Z, and are left out",
-            "1 leave the region of their model (outside) before the last look, and are lost from then on",
-            "1 end before the last look (as stranded), and stay where they were last",
+            "1 track without a place at any time, left out",
+            "1 track begun after the first look, which is at 2026-07-04 12:15Z, left out",
+            "1 track gone from the region of the model (outside) before the last look, lost from then on",
+            "1 track ended before the last look (as stranded), taken to stay at the last place",
         ])
 
     def test_other_numbers_of_statuses(self):
@@ -96,7 +96,7 @@ class OpenDrift(File):
         tracks = [[(0, 500, 4), (200, 500, last), None, None] for last in (7, 2)] + [self.EAST]
         found = self.netcdf(tracks, values=[4, 2, 7], meanings=["active", "retired", "outside"])
         self.assertEqual(found.gone, (2, None, None))
-        self.assertIn("1 end before the last look (as retired), and stay where they were last", found.said)
+        self.assertIn("1 track ended before the last look (as retired), taken to stay at the last place", found.said)
         # Where the meanings don't fit the numbers, none is known.
         self.assertEqual(self.netcdf(tracks, values=[4, 2], meanings=["active", "retired", "outside"]).gone, (None,) * 3)
         self.assertEqual(self.netcdf([self.EAST], values=[0], meanings=["active"]).gone, (None,))
