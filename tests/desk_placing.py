@@ -5,7 +5,6 @@ import math
 import os
 import tempfile
 import unittest
-from fractions import Fraction
 
 from tests.packaged import on_earth, without
 
