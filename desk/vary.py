@@ -189,7 +189,8 @@ def about_most(it):
     if most is None:
         yield "None of these is known to cost anything."
     else:
-        yield f"What costs most is {most.name}: there the best plan is known to find {percent.near(float(most.costs))} points more."
+        finds = "finds" if most.ceiling == most.best else "is known to find"
+        yield f"What costs most is {most.name}: there the best plan {finds} {percent.near(float(most.costs))} points more."
     open_ones = [row for row in drafted if row.ceiling > row.best and row.costs_at_most > (most.costs if most else 0) and row is not most]
     if open_ones:
         names = ", ".join(row.name for row in open_ones)

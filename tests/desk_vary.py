@@ -118,7 +118,7 @@ class ByHand(Table):
         for line in ("as it is 86.46 % 86.46 % 0.00", "current more 0.00 % 86.46 % 86.46", "current less 86.46 % 86.46 % 0.00", "places south no draft"):
             self.assertIn(line.split(), lines)
         flat = " ".join(out.split())
-        self.assertIn("What costs most is current more: there the best plan is known to find 86.46 points more.", flat)
+        self.assertIn("What costs most is current more: there the best plan finds 86.46 points more.", flat)
         self.assertIn("current: 20 % more and less (a default, since no key states it).", flat)
         self.assertIn("places: 926 m to each side (half the side of a cell by default).", flat)
         self.assertIn("places south: there is no draft. [[report]] 1", flat)
