@@ -3,8 +3,9 @@ tasking form."""
 import re
 import textwrap
 
-from desk import accepted, comments, earth, geometry, masses, percent, running, steering, tables, tried
+from desk import accepted, clock, comments, earth, geometry, masses, percent, running, steering, tables, tried
 
+WORDS = clock.words_of("brief", "writes the same as plain text, for a radio or a tasking form")
 # How wide the text is where names allow it, in columns.
 WIDTH = 60
 # How many squares are told at the end.
@@ -161,4 +162,4 @@ def brief_of(given):
 
 def main(words):
     """Runs `osp brief` with these words, and answers its exit status."""
-    return running.run("brief", "", brief_of, words)
+    return clock.run(WORDS, brief_of, words)

@@ -14,8 +14,8 @@ from desk.words import BadWords, Words
 FORMS = {"gpx": route.gpx, "kml": route.kml, "geojson": geojson.geojson}
 WORDS = Words(
     "chart",
-    "chart SCENARIO [PLAN] [--of SCENARIO] [--from TIME --minutes N] [--form NAME] -o FILE",
-    "writes an accepted plan for a plotter or a map: its path, and as GeoJSON where the target may be",
+    "chart SCENARIO [PLAN] [--of SCENARIO] [--from TIME --minutes N] [--form NAME]",
+    "writes the path for a plotter or a map, as GPX, KML or GeoJSON by the ending of the name behind -o",
     ("SCENARIO", "the scenario's file, or one with its plan behind it; - for standard input"),
     ("PLAN", "the plan's file, or that of a gap plan"),
     ("--of SCENARIO", "the scenario that replan or duo made this one of"),

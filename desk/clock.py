@@ -3,14 +3,11 @@ import dataclasses
 import re
 from fractions import Fraction
 
-from desk import moments
+from desk import accepted, moments, running, words
+from desk.words import BadWords
 
 # A time of day whose hour has one digit.
 SHORT = re.compile(r"[0-9]:", re.ASCII)
-
-
-class BadWords(Exception):
-    """The words of a command spell nothing that it takes. It says why."""
 
 
 def times(options):
@@ -30,27 +27,6 @@ def times(options):
     return moments.Times(moments.Clock(begins), Fraction(int(minutes[0])))
 
 
-def sorted_words(words, once, many=()):
-    """The words that are names of files; the word behind each option of `once` that stands, by option; and by each option of `many`
-    the words behind it, as often as it stands. Behind `--` all words are names. Raises BadWords."""
-    files, found, rest = [], {it: [] for it in many}, list(words)
-    while rest:
-        word = rest.pop(0)
-        if word == "--":
-            return files + rest, found
-        if word not in once and word not in many:
-            if word.startswith("--"):
-                raise BadWords(f"there is no such option as {ascii(word)[1:-1]}")
-            files.append(word)
-        elif not rest or word in once and word in found:
-            raise BadWords(f"{word} {'stands once, and ' * (word in once)}has one word behind it")
-        elif word in once:
-            found[word] = rest.pop(0)
-        else:
-            found[word].append(rest.pop(0))
-    return files, found
-
-
 @dataclasses.dataclass
 class Words:
     """What words say: the files of a scenario and its plan, or the one that has both; the file of the scenario that it was made of, or
@@ -62,18 +38,46 @@ class Words:
     trial: str | None = None
 
 
-OPTIONS = ("--of", "--from", "--minutes", "--trial")
+def words_of(name, does):
+    """The words of a helper of this name that makes a text of a scenario and its plan."""
+    return words.Words(
+        name,
+        f"{name} SCENARIO [PLAN] [--of SCENARIO] [--trial FILE] [--from HH:MM --minutes N]",
+        does,
+        ("SCENARIO", "the scenario's file, or one that has its plan behind it, as replan and duo write both; - for standard input"),
+        ("PLAN", "the file of a plan or of a gap plan"),
+        ("--of SCENARIO", "the scenario that replan or duo made this one of: its names, places and start are used"),
+        ("--trial FILE", "what osp trial wrote of the plan with --json yes"),
+        ("--from HH:MM", "when period 1 begins, perhaps with a date before it and a Z behind it, where the scenario doesn't say so"),
+        ("--minutes N", "how many minutes a period has, 1 to 1440, beside --from"),
+    )
 
 
-def taken(words):
-    """What the words SCENARIO [PLAN] [--of SCENARIO] [--trial FILE] [--from HH:MM --minutes N] say. Raises BadWords.
+def taken(given, known):
+    """What words say, by those that are `known`. Raises BadWords.
 
     The name `-` stands for standard input, which can be read once.
     """
-    files, options = sorted_words(words, OPTIONS)
+    files, options = known.taken(given)
     if len(files) not in (1, 2):
         raise BadWords("a scenario's file and a plan's are needed, or one file with both")
-    of, trial = options.pop("--of", None), options.pop("--trial", None)
+    of, trial = options["--of"], options["--trial"]
     if [*files, of, trial].count("-") > 1:
         raise BadWords("standard input can be read once, and stands for one file")
-    return Words(files, of, times(options), trial)
+    return Words(files, of, times({it: options[it] for it in ("--from", "--minutes") if options[it] is not None}), trial)
+
+
+def run(known, make, given):
+    """Writes what `make` makes of what the words say, by those that are `known`, and answers the exit status."""
+    try:
+        asked = taken(given, known)
+    except BadWords as wrong:
+        return known.refuse(wrong)
+    try:
+        text, note = make(asked)
+    except accepted.Refused as refused:
+        running.say(f"{refused.note}\nosp {known.name}: {refused.said}".lstrip())
+        return refused.status
+    if note:
+        running.say(note)
+    return running.write(text)

@@ -1,10 +1,9 @@
-"""How a helper that makes a text of a scenario and its plan runs: its words, its output, its exit status."""
+"""What a helper says on standard error and writes to standard output."""
 import contextlib
 import os
-import re
 import sys
 
-from desk import accepted, clock, outfile, quoting
+from desk import outfile, quoting
 from desk.status import Status
 
 
@@ -60,36 +59,6 @@ def write(text):
     return write_bytes(text.encode("utf-8"))
 
 
-def number(option, word):
-    """The number that a word behind an option says; None where the option doesn't stand. Raises clock.BadWords."""
-    if word is not None and not re.fullmatch("[1-9][0-9]{0,6}", word, re.ASCII):
-        raise clock.BadWords(f"behind {option} stands a whole number from 1 to 9999999, as in {option} 4")
-    return word and int(word)
-
-
-def files_and_numbers(words, options):
-    """The words that are no options, and the number behind each of these options, or None. Raises clock.BadWords."""
-    files, found = clock.sorted_words(words, options)
-    return files, {it: number(it, found.get(it)) for it in options}
-
-
 def noted(note, name, said):
     """The program's note, and behind it the lines that a helper of a name says."""
     return "\n".join([*filter(None, [note]), *(f"osp {name}: {it}" for it in said)])
-
-
-def run(name, more, make, words):
-    """Writes what `make` makes of what the words say, and answers the exit status. `more` ends the usage line."""
-    try:
-        given = clock.taken(words)
-    except clock.BadWords as wrong:
-        say(f"osp {name}: {wrong}\nusage: osp {name} SCENARIO [PLAN] [--of SCENARIO] [--trial FILE] [--from HH:MM --minutes N]{more}")
-        return Status.WRONG_WORDS
-    try:
-        text, note = make(given)
-    except accepted.Refused as refused:
-        say(f"{refused.note}\nosp {name}: {refused.said}".lstrip())
-        return refused.status
-    if note:
-        say(note)
-    return write(text)

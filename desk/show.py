@@ -1,5 +1,7 @@
 """show SCENARIO [PLAN] [--of SCENARIO] [--trial FILE] [--from HH:MM --minutes N]: writes a page that shows an accepted plan."""
-from desk import accepted, carried, comments, compass, layout, page, picture, running, tried
+from desk import accepted, carried, clock, comments, compass, layout, page, picture, running, tried
+
+WORDS = clock.words_of("show", "writes a page for a browser: the map, the path, and the chances period by period")
 
 
 def page_of(given):
@@ -16,4 +18,4 @@ def page_of(given):
 
 def main(words):
     """Runs `osp show` with these words, and answers its exit status."""
-    return running.run("show", " > PAGE.html", page_of, words)
+    return clock.run(WORDS, page_of, words)

@@ -78,7 +78,7 @@ def words_of(words):
 def taken(key, word):
     """The number behind an option that is called as this key of [tracks]; None where it doesn't stand. Raises BadWords."""
     try:
-        return None if word is None else key.take(running.number(f"--{key.name}", word))
+        return None if word is None else key.take(WORDS.number(f"--{key.name}", word, 0, 9_999_999))
     except (ValueError, BadWords):
         raise BadWords(f"behind --{key.name} stands {key.what}, as in --{key.name} {key.example}") from None
 

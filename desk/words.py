@@ -4,11 +4,14 @@ import difflib
 import re
 
 from desk import running
-from desk.clock import BadWords
 from desk.status import Status
 
 # How wide a page is, and where on it texts begin, in columns, so that it is the same on every terminal.
 WIDTH, BEGINS = 100, 26
+
+
+class BadWords(Exception):
+    """The words of a command spell nothing that it takes. It says why."""
 
 
 class HelpWanted(BadWords):

@@ -189,38 +189,44 @@ class Squares(unittest.TestCase):
         self.assertEqual(str(raised.exception), "nothing says where the square quay lies")
 
 
+def taken(words):
+    """What words of show say."""
+    return clock.taken(words, show.WORDS)
+
+
 # From one o'clock on, 5 minutes each.
 FROM_ONE = moments.Times(moments.Clock(moments.Moment(Fraction(60))), Fraction(5))
 
 
 class Clocks(unittest.TestCase):
     def test_times(self):
-        given = clock.taken(["a", "--minutes", "45", "b", "--from", "9:30"])
+        given = taken(["a", "--minutes", "45", "b", "--from", "9:30"])
         self.assertEqual((given.files, [given.times.at(it) for it in (1, 2, 20, 52)]), (["a", "b"], ["09:30", "10:15", "23:45", "23:45+1"]))
-        self.assertEqual(clock.taken(["a", "b"]), clock.Words(["a", "b"], None, None))
-        self.assertEqual(clock.taken(["--", "--from", "-"]), clock.Words(["--from", "-"], None, None))
+        self.assertEqual(taken(["a", "b"]), clock.Words(["a", "b"], None, None))
+        self.assertEqual(taken(["--", "--from", "-"]), clock.Words(["--from", "-"], None, None))
 
     def test_one_file_and_the_scenario_that_it_is_made_of(self):
-        self.assertEqual(clock.taken(["a"]), clock.Words(["a"], None, None))
-        self.assertEqual(clock.taken(["--of", "b", "a"]), clock.Words(["a"], "b", None))
-        self.assertEqual(clock.taken(["-", "--of", "--of"]), clock.Words(["-"], "--of", None))
-        self.assertEqual(clock.taken(["a", "-", "--of", "b", "--from", "1:00", "--minutes", "5"]), clock.Words(["a", "-"], "b", FROM_ONE))
+        self.assertEqual(taken(["a"]), clock.Words(["a"], None, None))
+        self.assertEqual(taken(["--of", "b", "a"]), clock.Words(["a"], "b", None))
+        self.assertEqual(taken(["a", "--of=b=c"]), clock.Words(["a"], "b=c", None))
+        self.assertEqual(taken(["-", "--of", "--of"]), clock.Words(["-"], "--of", None))
+        self.assertEqual(taken(["a", "-", "--of", "b", "--from", "1:00", "--minutes", "5"]), clock.Words(["a", "-"], "b", FROM_ONE))
 
     def test_dates_and_utc(self):
-        given = clock.taken(["a", "--from", "2026-12-31T23:50Z", "--minutes", "15"]).times
+        given = taken(["a", "--from", "2026-12-31T23:50Z", "--minutes", "15"]).times
         self.assertEqual([given.at(it) for it in (1, 2)], ["23:50", "00:05+1"])
         self.assertEqual(str(given.utc(2)), "2027-01-01 00:05:00+00:00")
         self.assertEqual(given.about(), ["Times are UTC, from 2026-12-31 on."])
         for word, about in (("19:30", []), ("19:30Z", ["Times are UTC."]), ("2026-07-04 19:30", ["Times are local, from 2026-07-04 on."])):
-            given = clock.taken(["a", "--from", word, "--minutes", "15"]).times
+            given = taken(["a", "--from", word, "--minutes", "15"]).times
             self.assertEqual((given.about(), given.utc(1)), (about, None))
 
     def test_bad_words(self):
         times = "24:00 --minutes 1", "1:60 --minutes 1", "1:00 --minutes 0", "1:00 --minutes 1441", "1:00 --minutes 1.5", "1:00 --from 1:00", "١:00 --minutes 5"
-        made = "--of a", "a --of", "a --of b --of c", "a --of=b", "- --of -", "a - --of -"
+        made = "--of a", "a --of", "a --of b --of c", "a --off=b", "- --of -", "a - --of -"
         for words in ("", "a b c", "- -", "a -- b c", "a b --all", "a b --from", "a b --from 1:00", *made, *(f"a b --from {it}" for it in times)):
             with self.assertRaises(clock.BadWords, msg=words):
-                clock.taken(words.split())
+                taken(words.split())
 
 
 class Pages(Room):

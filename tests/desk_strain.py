@@ -326,7 +326,8 @@ class Made(Strained):
     def test_check_and_report_take_one(self):
         made = f"{EXAMPLES}/night-two.made"
         self.assertEqual(self.ran("check", made), (0, "accepted\n", ""))
-        self.assertEqual(self.ran("report", made), self.ran("report", stdin=open(made, "rb")))
+        with open(made, "rb") as given:
+            self.assertEqual(self.ran("report", made), self.ran("report", stdin=given))
         ended, _, said = self.ran("check", f"{EXAMPLES}/night.scenario")
         self.assertEqual(ended, 2)
         self.assertIn("reads SCENARIO PLAN", said)
