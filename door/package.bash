@@ -136,6 +136,7 @@ Version: $(version)
 Architecture: $(architecture)
 Maintainer: $maintainer
 Depends: $(needed_packages), python3 (>= 3.11)
+Suggests: python3-geographiclib, python3-netcdf4
 Section: science
 Priority: optional
 Installed-Size: $(du -sk "$1" | cut -f 1)

@@ -172,6 +172,7 @@ class Packages(Furnished):
         self.assertTrue("\n  osp plan" in shown and "./osp" not in shown and f"{doc}/docs/FORMATS.md has" in shown, "the help names another script, or other documents")
         field = lambda name: subprocess.run(["dpkg-deb", "-f", package, name], capture_output=True, check=True).stdout.decode().strip()
         self.assertEqual((field("Package"), field("Version"), field("Depends")), ("osp", version(), "libc6, python3 (>= 3.11)"))
+        self.assertEqual(field("Suggests"), "python3-geographiclib, python3-netcdf4")
         control = f"{self.house.at}/control"
         subprocess.run(["dpkg-deb", "-e", package, control], check=True)
         subprocess.run(["md5sum", "--quiet", "-c", f"{control}/md5sums"], cwd=place, check=True)
