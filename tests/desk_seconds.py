@@ -9,7 +9,7 @@ import tempfile
 import time
 import unittest
 
-from desk import timed
+from desk import limits, timed
 from tests.pages import EXAMPLES, IS_BUILT, PROGRAM, TOP, example, read
 
 SCENARIO, PLAN = example("two-cells")
@@ -150,7 +150,7 @@ class Rounds(Room):
 
     def test_behind_the_most_records_of_gap_comes_plan(self):
         waits = [(f"gap {64 << it}", 0, 0, GAP, "") for it in range(11)]
-        self.assertEqual(waits[-1][0], f"gap {timed.MOST}")
+        self.assertEqual(waits[-1][0], f"gap {limits.MOST_GAP_RECORDS}")
         self.answers(*waits, ("plan 1048576", 0, 0, PLAN, ""))
         self.assertEqual(self.ran("--minutes", "1", f"{self.room}/s"), (0, PLAN, ""))
         self.answers(*waits, ("plan 1048576", 0, 8, b"", "too many nodes: 1048576\n"))
