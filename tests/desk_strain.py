@@ -183,11 +183,12 @@ class Signals(Strained):
     def test_while_a_file_is_read_and_while_drifts_are_simulated(self):
         self.write("osp", HANGS.encode(), 0o755)
         os.mkfifo(f"{self.room}/slow")
-        for words, given, wait in ((["draft", "slow"], b"", 0.0), (["draft", "slow"], read(SITUATION), 0.5), (["trial", "slow", "--pattern", "all"], read(SITUATION), 0.5), (["split", "1", "slow", "parts"], b"", 0.0)):
+        for words, given, wait in ((["draft", "slow"], b"", 1.0), (["draft", "slow"], read(SITUATION), 0.5), (["trial", "slow", "--pattern", "all"], read(SITUATION), 0.5), (["split", "1", "slow", "parts"], b"", 1.0)):
             with self.subTest(words=words, wait=wait):
 
                 def begun(given=given, wait=wait):
-                    # (This waits until the helper opens the pipe; where all of it is written, the helper goes on.)
+                    # (This waits until the helper opens the pipe; where all of it is written, the helper goes on. Behind the wait it reads:
+                    # a signal just before a call that blocks is seen when that call ends.)
                     with open(f"{self.room}/slow", "wb") as file:
                         file.write(given)
                         if not given:
