@@ -278,7 +278,7 @@ class Commands(Asked):
 
     def test_words(self):
         text, plan = (self.write(*it) for it in zip(("s", "p"), example("two-cells")))
-        for words in ((), (text,), (text, plan, plan), (text, plan, "--flown"), (text, plan, "--flown", "0"), (text, plan, "--flown", "x"),
+        for words in ((), (text, plan, plan), (text, plan, "--flown"), (text, plan, "--flown", "0"), (text, plan, "--flown", "x"),
                       (text, plan, "--flown", "1", "--flown", "1"), (text, plan, "--horizon", "33"), (text, plan, "--other"),
                       (text, plan, "--horizon", "-1"), (text, plan, "--horizon", "1.5")):  # fmt: skip
             with self.subTest(words=words):
@@ -299,6 +299,10 @@ class Commands(Asked):
             got, out, said = self.ran(self.write("s", text), self.write("p", plan))
             self.assertEqual((got, out), (status, b""))
             self.assertIn(part, said)
+        # One file alone has to have the plan behind its scenario, unless positions are named.
+        got, out, said = self.ran(self.write("s", text))
+        self.assertEqual((got, out), (4, b""))
+        self.assertIn("no plan stands behind the scenario", said)
         got, out, said = self.ran(self.write("s", text.replace(b"horizon 2", b"horizon 0")), self.write("p", example("two-cells")[1]))
         self.assertEqual((got, out), (3, b""))
         self.assertIn("BadNumber", said)
