@@ -181,7 +181,9 @@ class Packages(Furnished):
         changes = subprocess.run(["gzip", "-dc", f"{doc}/changelog.gz"], capture_output=True, check=True).stdout.decode()
         parsed = run(["dpkg-parsechangelog", "-l-", "-S", "Version"], changes.encode()) if shutil.which("dpkg-parsechangelog") else None
         self.assertTrue(parsed is None or (parsed.out.strip() == version() and parsed.err == ""), parsed)
-        self.assertTrue("  * Texts." in changes and read(f"{doc}/copyright") == read(f"{TOP}/COPYING"), "changelog or copyright is lacking")
+        newest = read(f"{TOP}/CHANGELOG.md").decode().split("\n## ")[1]
+        self.assertEqual(changes.count("\n  * "), newest.count("\n- "), changes)
+        self.assertEqual(read(f"{doc}/copyright"), read(f"{TOP}/COPYING"))
 
     def test_needed_libraries(self):
         """which C library the package needs, and that a program that needs more isn't packed"""
