@@ -237,13 +237,16 @@ class Proved(InHouse):
         self.house.run("plan").gives(0, "words <plan>\n", UNPROVED + "nothing says")
 
     def test_record_of_the_gate(self):
-        """what the merge gate built is noted only where no file changed meanwhile"""
+        """what the merge gate built is noted only where no file changed meanwhile, and where it plans as these sources do"""
         total = self.house.run("--sums").gives(0, None, "").out.strip()
         self.house.write("crates/osp/out/osp", STAND_IN_PROGRAM, 0o755)
         self.house.write("crates/low/src/lib.rt", "another\n")
         self.house.run("--record", total).gives(1, "", "")
         self.house.run("plan").gives(0, None, UNPROVED)
         self.house.write("crates/low/src/lib.rt", "low src/lib.rt\n")
+        self.house.write("crates/osp/out/osp", "#!/bin/sh\necho another plan\n", 0o755)
+        self.house.run("--record", total).gives(1, "", "is not one of these sources")
+        self.house.write("crates/osp/out/osp", STAND_IN_PROGRAM, 0o755)
         self.house.run("--record", total).gives(0, "", "")
         self.house.run("plan", with_rt=False).gives(0, "words <plan>\n", "")
 
