@@ -173,8 +173,11 @@ put_debian() {
 # Puts a file that was made in the room into the folder, whole.
 put_out() { cp "$room/$2" "$1/.$2.new" && mv "$1/.$2.new" "$1/$2"; }
 
+# A page to plan in, with the program in it, where that is built as WebAssembly.
+put_page() { ! is_web_whole || PYTHONDONTWRITEBYTECODE=1 python3 -I "$here/desk/__main__.py" page > "$1"; }
+
 release_to() {
-  local folder=$1 name base package other
+  local folder=$1 name base package other made
   ! is_release || fail 'nothing was released: a release is made from a checkout'
   need_proved 'nothing was released'
   grep -qF "## $(version)" "$here/CHANGELOG.md" || fail "nothing was released: CHANGELOG.md has nothing on version $(version)"
@@ -193,9 +196,12 @@ release_to() {
       tar --sort=name --owner=0 --group=0 --numeric-owner --mtime="@$SOURCE_DATE_EPOCH" -C "$room" -cf "$room/tar" "$base" &&
       gzip -9n < "$room/tar" > "$room/$base-$(uname -m).tar.gz" && put_debian "$room/debian" &&
       dpkg-deb --root-owner-group -b "$room/debian" "$room/$package" > /dev/null &&
-      (cd "$room" && sha256sum "$base-$(uname -m).tar.gz" "$package") > "$room/SHA256SUMS"
+      put_page "$room/$base.html"
   } 2> "$room/err" || fail "nothing was released: $(tail -n 1 "$room/err")"
-  for name in "$base-$(uname -m).tar.gz" "$package" SHA256SUMS; do
+  made=("$base-$(uname -m).tar.gz" "$package")
+  [ ! -s "$room/$base.html" ] || made+=("$base.html")
+  (cd "$room" && sha256sum "${made[@]}") > "$room/SHA256SUMS" 2> "$room/err" || fail "nothing was released: $(tail -n 1 "$room/err")"
+  for name in "${made[@]}" SHA256SUMS; do
     { mkdir -p "$folder" && put_out "$folder" "$name"; } 2> /dev/null || fail "$(shown "$folder") cannot be written"
     echo "$folder/$name" 2> /dev/null || cannot_write
   done

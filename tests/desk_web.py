@@ -317,6 +317,18 @@ class Pages(pages.Room):
         self.assertEqual(done.returncode, 0, done.stderr.decode()[-2000:])
         return {name.removesuffix(".html"): it for name, it in json.loads(done.stdout).items()}
 
+    def test_a_release_has_the_page_to_plan_in(self):
+        """It stands beside the archive with its checksum; the unpacked program makes the same page, and its pages of show carry the module."""
+        subprocess.run([f"{TOP}/osp", "release", self.room], check=True, capture_output=True)
+        sums = dict(reversed(it.split("  ")) for it in pages.read(f"{self.room}/SHA256SUMS").decode().splitlines())
+        (name,), (archive,) = ([it for it in sums if it.endswith(end)] for end in (".html", ".tar.gz"))
+        made = pages.read(f"{self.room}/{name}")
+        self.assertEqual(sums[name], carried.sum_of(made))
+        subprocess.run(["tar", "-xzf", archive], cwd=self.room, check=True)
+        ran = lambda *words: subprocess.run(["./osp", *words], cwd=f"{self.room}/{name[:-5]}", check=True, capture_output=True).stdout
+        self.assertEqual(ran("page"), made)
+        self.assertIn(b'id="carried-program"', ran("show", "examples/one-cell.scenario", "examples/one-cell.plan"))
+
     def test_verdicts(self):
         """The verdict on opening, and nothing asked of a network, nor said on the console."""
         seen = self.visit(self.made())
