@@ -1,7 +1,7 @@
 """build.py OUT: makes OUT, the program as a module of WebAssembly (wasm32), from LLVM's module that the kit makes of the proved program.
 
-The kit builds the program once more, with a clang that keeps what it is handed. Where the object file isn't that of the built program,
-byte for byte, nothing is written: then it isn't known what the module is of. `build.py OUT --of MODULE` takes LLVM's module from a
+The kit builds the program once more, with a clang that keeps what it is handed. Where what comes of it isn't the built program, byte for
+byte, nothing is written: then it isn't known what the module is of. `build.py OUT --of MODULE` takes LLVM's module from a
 file (text, or bitcode) instead, for trials. OUT.sums has the checksums of the program, "unknown" for a trial, and of OUT.
 """
 import hashlib
@@ -128,15 +128,17 @@ def keep(room):
 
 
 def module_of_program(room):
-    """LLVM's module of the built program. Raises Stop where the kit, from that module, makes another object file than the program's."""
+    """LLVM's module of the built program. Raises Stop where the kit, from that module, makes another program."""
     folder = os.path.dirname(os.path.dirname(PROGRAM))
     call([*words_of(folder), "--toolchain", keep(room), "-o", f"{room}/osp.o"], cwd=folder)
     kept = os.listdir(f"{room}/kept")
     if len(kept) != 1:
         raise Stop(f"rattle handed clang {len(kept)} modules, and one is known here")
-    with open(f"{room}/osp.o", "rb") as made, open(f"{PROGRAM}.o", "rb") as built:
+    linked = ["--target", narrow.TRIPLE, "--toolchain", f"{kit()}/toolchain", "-o", f"{room}/osp", f"{room}/osp.o"]
+    call([f"{kit()}/bin/rattle-link", *linked, *(f"{kit()}/c/{it}" for it in ("libos_c.a", "liblibc_c.a"))])
+    with open(f"{room}/osp", "rb") as made, open(PROGRAM, "rb") as built:
         if made.read() != built.read():
-            raise Stop("built once more, the program has another object file: ./osp build")
+            raise Stop("built once more, the program is another one: ./osp build")
     return f"{room}/kept/{kept[0]}"
 
 
