@@ -4,7 +4,7 @@
   if (part === null || carried.lacking()) {
     return;
   }
-  const [NO_LETTER, SVG] = [/[^0-9a-z]/gi, "http://www.w3.org/2000/svg"];
+  const NO_LETTER = /[^0-9a-z]/gi;
   // A class of colour begins at each of these shares, in thousandths of a percent, as on the maps above.
   const CLASSES = JSON.parse(part.dataset.classes).map(BigInt);
   const [positions, planned, name] = [new Set(JSON.parse(part.dataset.positions)), JSON.parse(part.dataset.path), part.dataset.name];
@@ -72,23 +72,8 @@
       }
     });
     copy.setAttribute("aria-label", `Map after look ${flown.length}`);
-    draw(copy, path.map((it) => places.get(it)));
+    copy.querySelector(".texts").before(...told.legs(path.map((it) => places.get(it)), flown.length));
     return copy;
-  }
-
-  // The legs between the looks of a path, where each has a place: those flown drawn through, those to come dotted.
-  function draw(copy, points) {
-    for (let index = 1; index < points.length; index += 1) {
-      const [from, to] = [points[index - 1], points[index]];
-      if (from && to) {
-        const group = document.createElementNS(SVG, "g");
-        const leg = document.createElementNS(SVG, "path");
-        group.setAttribute("class", index < flown.length ? "gone" : "coming");
-        leg.setAttribute("d", `M ${from.join(" ")} L ${to.join(" ")}`);
-        group.append(leg);
-        copy.insertBefore(group, copy.querySelector(".texts"));
-      }
-    }
   }
 
   // What is read out: the verdict, the chance, and the places in their order.

@@ -3,7 +3,7 @@
   const at = (id) => document.getElementById(`planner-${id}`);
   const [CLASSES, SVG, SIDE, MARGIN] = [JSON.parse(at("part").dataset.classes).map(BigInt), "http://www.w3.org/2000/svg", 100, 14];
   const [ACCEPTED, BAD_SCENARIO, TOO_MANY] = [0, 3, 8];
-  const MOST_OF_A_GAP = 65536;
+  const MOST_OF_A_GAP = Number(at("part").dataset.gap);
   const SQUARE = /^r(\d+)c(\d+)(?:-\d+)?$/;
   const [encoder, decoder] = [new TextEncoder(), new TextDecoder()];
   // The scenario, as it was opened, and its name; the masses behind each look of what is shown, and the whole.
@@ -90,19 +90,8 @@
       cells.append(rect);
       texts.append(group);
     }
-    map.append(cells, ...legs(path, gone), texts);
+    map.append(cells, ...told.legs(path.map(place), gone), texts);
     return map;
-  }
-
-  function legs(path, gone) {
-    const points = path.map(place);
-    return points.slice(1).map((to, index) => {
-      const group = drawn("g", { class: index + 1 < gone ? "gone" : "coming" });
-      if (points[index] !== null && to !== null) {
-        group.append(drawn("path", { d: `M ${points[index].join(" ")} L ${to.join(" ")}` }));
-      }
-      return group;
-    });
   }
 
   // Shows the map behind the look that is chosen.

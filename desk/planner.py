@@ -63,7 +63,7 @@ def document(module, examples):
         "<p>A scenario goes in; out comes the best path, its exact chance, and records that show why no path is better. All of it stays in this browser. "
         "docs/FORMATS.md of osp says how a scenario is written.</p>"
         f"{carried.worth(module)}</header>\n"
-        f'<main class="planner" id="planner-part" data-classes="{escape(str(picture.CLASSES))}">{intake(examples)}{answer()}</main>\n'
+        f'<main class="planner" id="planner-part" data-classes="{escape(str(picture.CLASSES))}" data-gap="{limits.MOST_GAP_RECORDS}">{intake(examples)}{answer()}</main>\n'
         f"{carried.templates(blocks)}<script>{script}</script>\n</body>\n</html>\n"
     )
 

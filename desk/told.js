@@ -1,6 +1,6 @@
 // What the program's texts say, and how it is shown: shared by the parts of a page in which the program runs.
 const told = (function () {
-  const PERCENT = 100000n;
+  const [PERCENT, SVG] = [100000n, "http://www.w3.org/2000/svg"];
 
   // A new element with a text, or with others in it.
   function element(kind, inner, ...classes) {
@@ -64,6 +64,20 @@ const told = (function () {
     return order.map((it) => `${it[0]} ${percent(it[1], missed)}`).join(", ");
   }
 
+  // The legs between the looks of a path, where both ends have a place: those flown are drawn through, those to come dotted.
+  function legs(points, gone) {
+    return points.slice(1).map((to, index) => {
+      const [from, group] = [points[index], document.createElementNS(SVG, "g")];
+      group.setAttribute("class", index + 1 < gone ? "gone" : "coming");
+      if (from && to) {
+        const leg = document.createElementNS(SVG, "path");
+        leg.setAttribute("d", `M ${from.join(" ")} L ${to.join(" ")}`);
+        group.append(leg);
+      }
+      return group;
+    });
+  }
+
   // Lets a link save bytes under a name.
   function save(link, bytes, name) {
     if (link.href) {
@@ -73,5 +87,5 @@ const told = (function () {
     link.download = name;
   }
 
-  return { element, percent, colour, looks, chance, sum, rows, likeliest, save };
+  return { element, percent, colour, looks, chance, sum, rows, likeliest, legs, save };
 }());
