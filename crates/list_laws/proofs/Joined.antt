@@ -9,7 +9,8 @@ use Rattle.std.proofs.lemmas.List.Elements.{All-nil, All-cons, All-append}
 use Rattle.std.proofs.lemmas.List.Sums.{sum_by-append, sum_by-cons}
 use Rattle.list_laws.proofs.Pairs.{AllPairs-nil, AllPairs-cons, AllPairs-append}
 
-or_none : {Y : Type 0} (o : Option Y) → option_or o None ≡ o
+-- a first answer, or none
+pub or_none : {Y : Type 0} (o : Option Y) → option_or o None ≡ o
 or_none None = refl
 or_none (Some y) = refl
 

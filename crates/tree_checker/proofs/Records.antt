@@ -6,6 +6,7 @@ use Rattle.search_model.specs.declared.standing.Standing.{Standing}
 use Rattle.search_model.specs.Problem.{Problem}
 use Rattle.search_model.specs.Bounds.{greatest}
 use Rattle.search_model.proofs.Greatest.{greatest-one}
+use Rattle.list_laws.proofs.Joined.{or_none}
 use Rattle.bound_tree.specs.declared.node.TreeNode.{TreeNode}
 use Rattle.bound_tree.specs.declared.plan.Plan.{Plan}
 use Rattle.bound_tree.specs.Accepts.{expected_by}
@@ -65,10 +66,6 @@ ceiling_met : (v : ℕ) (rs : List TreeNode) → ceiling_reason v (v ∷ open_nu
 ceiling_met v rs =
     let most : greatest (v ∷ open_numbers (map closed_node rs)) ≡ v = ap (λ (ns : List ℕ). greatest (v ∷ ns)) (none_of_closed rs) ∙ greatest-one v in
     ap (λ (b : Bool). at_line 4 (if b then None else Some CeilingWrong)) (eq-eqb v (greatest (v ∷ open_numbers (map closed_node rs))) (sym most))
-
-or_none : {R : Type 0} (o : Option R) → option_or o None ≡ o
-or_none None = refl
-or_none (Some r) = refl
 
 -- the first reason against a plan as a gap plan
 told_by_records : (p : Problem) (plan : Plan) → reason_from 5 p (gap_of plan) ≡ option_map as_gap (reason_by_records p plan)
