@@ -20,7 +20,7 @@ use Rattle.bound_tree.specs.GapLaws.{PrefixCeilingIsAbove}
 use Rattle.bound_tree.proofs.Continuing.{front_legal, front_short, whole_front}
 use Rattle.bound_tree.proofs.MeanBound.{mean_is_above}
 use Rattle.bound_tree.proofs.TangentBound.{tangent_is_above}
-use Rattle.bound_tree.proofs.EdgeBound.{edge_is_above}
+use Rattle.bound_tree.proofs.Remembered.{edge_is_above}
 use Rattle.bound_tree.proofs.Closing.{smaller_by_fronts}
 use Rattle.bound_tree.proofs.Along.{LeadsTo, from_children, PassesOn, along_tree}
 use Rattle.bound_tree.proofs.Placing.{opened_by_good}

@@ -9,7 +9,7 @@ pub mod EatLemmas
 pub mod Along
 pub mod Leaves
 pub mod Accepted
-pub mod EdgeBound
+pub mod Remembered
 pub mod Exchange
 pub mod Rooms
 pub mod Placing

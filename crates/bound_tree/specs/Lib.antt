@@ -6,6 +6,7 @@ pub mod BoundLaws
 pub mod CutLaws
 pub mod Laws
 pub mod EdgeLaws
+pub mod MemoryLaws
 pub mod ExchangeLaws
 pub mod Room
 pub mod Places

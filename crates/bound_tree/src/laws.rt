@@ -6,6 +6,7 @@ ghost use Rattle.bound_tree.specs.Eat.{EatenByEither};
 ghost use Rattle.bound_tree.specs.EdgeLaws.{EdgeIsAbove, EdgeIsWithinMean};
 ghost use Rattle.bound_tree.specs.ExchangeLaws.{ExchangeRulesOut};
 ghost use Rattle.bound_tree.specs.Laws.{AcceptedIsBest};
+ghost use Rattle.bound_tree.specs.MemoryLaws.{RememberingIsAbove, MoreIsLess, RememberingNone, RememberingOne, RememberingAll};
 ghost use Rattle.bound_tree.specs.Places.{EatenIsPlacedAndGood, EatenAreInPlace};
 ghost use Rattle.bound_tree.specs.SameLaws.{SameEitherWay, SameIsAlike, SameAccepts, SameCloses, SameLive, SameHasMoreLive};
 
@@ -92,10 +93,22 @@ pub fn closed_is_good()
 {}
 
 /// The edge bound of a prefix is no less than what each path that extends it finds, and no more than its mean bound.
-#[tactic(auto, using(crate::proofs::EdgeBound::edge_is_above, crate::proofs::EdgeBound::edge_is_within_mean))]
+#[tactic(auto, using(crate::proofs::Remembered::edge_is_above, crate::proofs::Remembered::edge_is_within_mean))]
 pub fn edge_is_between()
     ensures above { EdgeIsAbove }
     ensures within { EdgeIsWithinMean }
+{}
+
+/// The bounds that remember looks: none is less than what a path that extends the prefix finds, and the one that remembers
+/// more is no more. The mean bound remembers none, the edge bound one, and the bound that remembers all is what some path
+/// finds.
+#[tactic(auto, using(crate::proofs::Remembered::remembering_is_above, crate::proofs::Remembered::more_is_less, crate::proofs::Remembered::remembering_none, crate::proofs::Remembered::remembering_one, crate::proofs::Remembered::remembering_all))]
+pub fn remembering_is_between()
+    ensures above { RememberingIsAbove }
+    ensures less { MoreIsLess }
+    ensures none { RememberingNone }
+    ensures one { RememberingOne }
+    ensures all { RememberingAll }
 {}
 
 /// No best path begins with a prefix for which another stands in: whatever goes on from both, the other makes the better

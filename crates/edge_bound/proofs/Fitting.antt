@@ -9,7 +9,8 @@ use Rattle.search_model.specs.Tracks.{whole_weight}
 use Rattle.search_model.specs.Bounds.{greatest}
 use Rattle.search_model.specs.Edge.{edge_reward_of, sum_moves, edge_sum}
 use Rattle.search_model.proofs.Totals.{some_parts}
-use Rattle.search_model.proofs.EdgeRewards.{edge_reward-le, reward-within}
+use Rattle.search_model.proofs.Remembering.{edge_reward-le}
+use Rattle.search_model.proofs.RewardSizes.{reward-within}
 use Rattle.search_model.proofs.WalkLemmas.{listed_walk}
 use Rattle.search_model.proofs.Greatest.{greatest_below}
 use Rattle.belief_update.specs.Masses.{mass_of, looks_to}

@@ -14,7 +14,7 @@ use Rattle.bound_tree.specs.Close.{IsTangent, IsLeftOpen, IsClosed, IsExact, IsA
 use Rattle.bound_tree.specs.Cut.{is_cut, times}
 use Rattle.bound_tree.proofs.MeanBound.{mean_is_above}
 use Rattle.bound_tree.proofs.TangentBound.{tangent_is_above}
-use Rattle.bound_tree.proofs.EdgeBound.{edge_is_above}
+use Rattle.bound_tree.proofs.Remembered.{edge_is_above}
 use Rattle.bound_tree.proofs.Tangents.{reference_extends}
 use Rattle.bound_tree.proofs.Closing.{not_worse, at_least_itself, at_least_from, at_least_trans, cut_at_least, finer_cut_stays, branch_at_least, closed_is_good}
 

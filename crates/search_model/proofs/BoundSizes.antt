@@ -17,7 +17,7 @@ use Rattle.search_model.proofs.WalkLemmas.{listed_walk, follows-append, continua
 use Rattle.search_model.proofs.Totals.{nothing_is_cut_off}
 use Rattle.search_model.proofs.Greatest.{greatest_below}
 use Rattle.search_model.proofs.LeastBest.{sum_along-below}
-use Rattle.search_model.proofs.EdgeRewards.{reward-within}
+use Rattle.search_model.proofs.RewardSizes.{reward-within}
 
 -- what some of the tracks miss is at most what all miss
 some_tracks-le : (test : List ℕ → Bool) (f : List ℕ → ℕ) (xs : List (List ℕ)) → sum_by f (filter test xs) ≤ sum_by f xs

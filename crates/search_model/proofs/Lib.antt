@@ -3,7 +3,6 @@ pub mod Best
 pub mod BoundSizes
 pub mod Children
 pub mod DriftSums
-pub mod EdgeRewards
 pub mod ExampleBounds
 pub mod ExampleProblems
 pub mod Examples
@@ -25,6 +24,8 @@ pub mod TrackMembers
 pub mod TrackSums
 pub mod Splits
 pub mod Misses
+pub mod Remembering
+pub mod RewardSizes
 pub mod MassRewards
 pub mod Behind
 pub mod WalkLemmas

@@ -6,6 +6,7 @@ pub mod Following
 pub mod Grids
 pub mod Laws
 pub mod Legal
+pub mod Memory
 pub mod NamePlaces
 pub mod Names
 pub mod Opening

@@ -2,6 +2,7 @@
 use Rattle.std.specs.Prelude.{◌≡◌, [], ◌∷◌}
 use Rattle.search_model.specs.Bounds.{reward_of, mean_of, tangent_of}
 use Rattle.search_model.specs.Exchange.{mass_behind, lead_of, exchange_of}
+use Rattle.search_model.specs.Memory.{reward_after, remembering_of}
 use Rattle.search_model.specs.Worked.{two_cells, waiting_target, waiting_longer}
 
 -- after a first look each second look finds 4 of 16 more; the tangent at the best path is a bound out of twice 16
@@ -26,8 +27,15 @@ pub record WaitingLongerExchanges : Type 0 where
   pub leads : (lead_of waiting_longer (1 ∷ 2 ∷ []) (2 ∷ 2 ∷ []) 2 ≡ 1) × (lead_of waiting_longer (2 ∷ 2 ∷ []) (1 ∷ 2 ∷ []) 2 ≡ 0)
   pub exchanges : (exchange_of waiting_longer (1 ∷ 2 ∷ []) (2 ∷ 2 ∷ []) ≡ 5) × (exchange_of waiting_longer (2 ∷ 2 ∷ []) (1 ∷ 2 ∷ []) ≡ 6)
 
+-- three looks at the target's cell, each of which finds half of what is left: who remembers none counts 4 for each, who
+-- remembers one 4, 2 and 2, and who remembers two what they find
+pub record WaitingLongerMemories : Type 0 where
+  pub rewards : (reward_after waiting_longer [] (2 ∷ 1 ∷ []) 3 2 ≡ 2) × (reward_after waiting_longer [] (2 ∷ 2 ∷ []) 3 2 ≡ 1) × (reward_after waiting_longer (2 ∷ []) (2 ∷ []) 3 2 ≡ 1)
+  pub bounds : (remembering_of waiting_longer 0 [] ≡ 12) × (remembering_of waiting_longer 1 [] ≡ 8) × (remembering_of waiting_longer 2 [] ≡ 7)
+
 pub record WorkedBounds : Type 0 where
   pub two : TwoCellsBounds
   pub waiting : WaitingTargetBounds
   pub longer : WaitingLongerBounds
   pub exchanges : WaitingLongerExchanges
+  pub memories : WaitingLongerMemories

@@ -1,6 +1,6 @@
 use Rattle.std.proofs.Common.{◌+◌, length, arith}
 use Rattle.search_model.proofs.Totals.{whole_weight-fits}
-use Rattle.search_model.proofs.EdgeRewards.{reward-within}
+use Rattle.search_model.proofs.RewardSizes.{reward-within}
 use Rattle.edge_bound.proofs.along.first_reward.Goals as goal
 
 pub overflow_mul-result : goal.overflow_mul-result

@@ -1,7 +1,7 @@
 use Rattle.std.proofs.Common.{◌+◌, ◌*◌, ◌-◌, ◌≤◌, length, arith}
 use Rattle.exact_parts.proofs.Widths.{le-times}
 use Rattle.search_model.proofs.Totals.{whole_weight-fits}
-use Rattle.search_model.proofs.EdgeRewards.{reward-within, weights-fit}
+use Rattle.search_model.proofs.RewardSizes.{reward-within, weights-fit}
 use Rattle.edge_bound.proofs.Discounts.{reward_before}
 use Rattle.edge_bound.proofs.Fitting.{greatest_moves-within}
 use Rattle.edge_bound.proofs.best.gain_before.Goals as goal

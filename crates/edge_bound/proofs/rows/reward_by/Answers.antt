@@ -1,6 +1,6 @@
 use Rattle.std.proofs.Common.{arith}
 use Rattle.search_model.proofs.Totals.{whole_weight-fits}
-use Rattle.search_model.proofs.EdgeRewards.{reward-within}
+use Rattle.search_model.proofs.RewardSizes.{reward-within}
 use Rattle.edge_bound.proofs.Discounts.{reward_is}
 use Rattle.edge_bound.proofs.rows.reward_by.Goals as goal
 

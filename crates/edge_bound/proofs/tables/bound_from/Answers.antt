@@ -1,5 +1,5 @@
 use Rattle.std.proofs.Common.{◌-◌, length, arith}
-use Rattle.search_model.proofs.EdgeRewards.{weights-fit}
+use Rattle.search_model.proofs.RewardSizes.{weights-fit}
 use Rattle.edge_bound.proofs.Fitting.{edge_sums-within}
 use Rattle.edge_bound.proofs.tables.bound_from.Goals as goal
 

@@ -1,4 +1,4 @@
--- Rewards that the look just before discounts.
+-- Rewards are within the whole weight, and so many of them fit.
 use Rattle.std.proofs.Common.{ℕ, suc, ◌+◌, ◌*◌, ◌-◌, ◌^◌, ◌<◌, ◌≤◌, ◌≡◌, List, [], ◌∷◌, length, ap, ◌∙◌, arith, pow-suc, mul-le-mul_left}
 use Rattle.std.proofs.Math.Nat.{pow-zero, one-le-pow}
 use Rattle.std.proofs.lemmas.Nat.{mul-le, pow-add}
@@ -8,25 +8,8 @@ use Rattle.sweep_table.proofs.Factors.{factor_of-le}
 use Rattle.search_model.specs.Problem.{Problem, IsProblem}
 use Rattle.search_model.specs.Tracks.{tracks, weight_of, whole_weight}
 use Rattle.search_model.specs.Bounds.{factors_along, cell_in, reward_of}
-use Rattle.search_model.specs.Edge.{edge_reward_of}
 use Rattle.list_laws.proofs.Sums.{sum_by-times, sum_by-within}
 use Rattle.search_model.proofs.Totals.{weights_sum}
-
--- a discount takes nothing but what is there
-discounted : (front e f g rest : ℕ) → e ≤ g → front * e * f * rest ≤ front * f * (g * rest)
-discounted front e f g rest within =
-    let most : front * f * rest * e ≤ front * f * rest * g = mul-le-mul_left (front * f * rest) within in
-    omega (arith, most)
-
--- a look finds no more after the look just before it than without
-pub edge_reward-le : (p : Problem) → IsProblem p → (q : List ℕ) (t a b : ℕ) → 2 ≤ p.horizon - length q → edge_reward_of p q t a b ≤ reward_of p q t b
-unfolding edge_reward_of reward_of
-edge_reward-le p sound q t a b some =
-    let g = p.sweep.denominator in
-    let n = p.horizon - length q - 2 in
-    let more : g ^ (p.horizon - length q - 1) ≡ g * g ^ n = ap (λ (m : ℕ). g ^ m) (let e : p.horizon - length q - 1 ≡ suc n = omega (arith, some) in e) ∙ pow-suc g n ∙ omega arith in
-    sum_by-within _ _ (tracks p.cells p.horizon) (λ x _.
-    rw more (discounted (weight_of p x * factors_along p 1 q x) (factor_of p.sweep (t - 1) a (cell_in x (t - 1))) (g - factor_of p.sweep t b (cell_in x t)) g (g ^ n) (factor_of-le p.sweep sound.sweep (t - 1) a (cell_in x (t - 1)))))
 
 -- the factors of a prefix are within its denominators
 factors_along-le : (p : Problem) → IsProblem p → (t : ℕ) (q x : List ℕ) → factors_along p t q x ≤ p.sweep.denominator ^ length q
