@@ -1,7 +1,6 @@
 //! The moves of both.
 
 ghost use Rattle.std.specs.Prelude.{◌≡◌, ◌<◌, ◌≤◌, ◌*◌, ◌++◌, map, All, IfOk, OnOk};
-ghost use Rattle.search_grid.specs.Moves.{IsGrid};
 ghost use Rattle.duo_search.specs.Product.{both_at, product_moves};
 ghost use Rattle.duo_search.specs.Refusals.{IsSmall};
 ghost use Rattle.duo_search.specs.Rows.{product_rows};
@@ -53,17 +52,6 @@ fn rows_of_moves(alloc: Global, sc: &Scenario) -> Result<Vec<Vec<u8>>, NoMemory>
     Ok(rows)
 }
 
-// The grid of right rows.
-fn grid_of(rows: Vec<Vec<u8>>) -> Grid
-    requires { IsGrid (map (λ row. row.items) rows.items) }
-    ensures { result ≡ map (λ row. row.items) rows.items }
-{
-    match Grid::new(rows) {
-        Ok(grid) => grid,
-        Err(_) => unreachable!(),
-    }
-}
-
 /// The moves of both, as a grid.
 pub(crate) fn grid_of_both(alloc: Global, sc: &Scenario) -> Result<Grid, NoMemory>
     requires { IsSmall sc.now }
@@ -71,5 +59,5 @@ pub(crate) fn grid_of_both(alloc: Global, sc: &Scenario) -> Result<Grid, NoMemor
 {
     sc.recall_sound();
     let rows = rows_of_moves(alloc, sc)?;
-    Ok(grid_of(rows))
+    Ok(Grid::of_right(rows))
 }

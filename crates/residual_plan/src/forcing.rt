@@ -2,7 +2,6 @@
 
 ghost use Rattle.std.specs.Prelude.{◌≡◌, ℕ, ◌≤◌, ◌<◌, ◌↔◌, length, map, IfOk, IsErrOf};
 ghost use Rattle.sweep_table.specs.LookParts.{positions_of, cells_of, look_row};
-ghost use Rattle.search_grid.specs.Moves.{IsGrid};
 ghost use Rattle.search_model.specs.Legal.{IsLegal};
 ghost use Rattle.search_model.specs.Problem.{IsProblem};
 ghost use Rattle.residual_plan.specs.Forced.{goes_on as goes_on_lem, forced_count, forced_row, forced_moves, IsForced, IsNameTaken};
@@ -78,17 +77,6 @@ fn rows(alloc: Global, sc: &Scenario, flown: &Path) -> Result<Vec<Vec<u8>>, NoMe
     Ok(rows)
 }
 
-// The grid of rows that make one.
-fn grid_of(rows: Vec<Vec<u8>>) -> Grid
-    requires { IsGrid (map (λ row. row.items) rows.items) }
-    ensures { result ≡ map (λ row. row.items) rows.items }
-{
-    match Grid::new(rows) {
-        Ok(grid) => grid,
-        Err(_) => unreachable!(),
-    }
-}
-
 // The moves of the forced scenario.
 fn grid(alloc: Global, sc: &Scenario, flown: &Path) -> Result<Grid, NoMemory>
     requires legal { IsLegal sc.now flown.now }
@@ -97,7 +85,7 @@ fn grid(alloc: Global, sc: &Scenario, flown: &Path) -> Result<Grid, NoMemory>
 {
     sc.recall_sound();
     let rows = rows(alloc, sc, flown)?;
-    Ok(grid_of(rows))
+    Ok(Grid::of_right(rows))
 }
 
 // What a look from a position covers: what one from the position that it stands for covers.

@@ -3,7 +3,7 @@ use Rattle.search_grid.specs.Moves.{IsGrid}
 use Rattle.duo_search.proofs.PairMoves.{grid_right}
 use Rattle.duo_search.proofs.moves.grid_of_both.Goals as goal
 
-pub grid_of-requires : goal.grid_of-requires
-grid_of-requires c =
+pub of_right-requires : goal.of_right-requires
+of_right-requires c =
     let G : List (List ℕ) → Type 0 = λ rows. IsGrid rows in
     subst G (sym c.in_ok-rows.ensures) (grid_right c.args.sc.now c.recall_sound.ensures c.requires)
