@@ -21,3 +21,5 @@ pub mod Units
 pub mod FlowSteps
 pub mod TakeOff
 pub mod UnitSteps
+pub mod Entries
+pub mod Forward

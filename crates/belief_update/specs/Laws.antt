@@ -6,6 +6,8 @@ use Rattle.sweep_table.specs.LookParts.{factor_of}
 use Rattle.search_model.specs.Problem.{Problem, IsProblem}
 use Rattle.search_model.specs.Tracks.{missed_weight}
 use Rattle.search_model.specs.Bounds.{reward_of}
+use Rattle.search_model.specs.Following.{forward_of}
+use Rattle.search_model.specs.Exchange.{drifted, mass_behind}
 use Rattle.belief_update.specs.Masses.{mass_of, masses_of, looks_to}
 use Rattle.belief_update.specs.Taken.{and_then, taken_of}
 
@@ -41,3 +43,13 @@ abbrev pub OneLookMore : Type 0
 OneLookMore =
     (p : Problem) → IsProblem p → (looks : List (Option ℕ)) (a n c : ℕ) →
     mass_of p (and_then looks (Some a) n) c + taken_of p looks a n c ≡ mass_of p (and_then looks None n) c * p.sweep.denominator
+
+-- the mass of a cell with no look after a prefix is the forward mass of its looks
+abbrev pub MassesForward : Type 0
+MassesForward = (p : Problem) (q : List ℕ) (t c : ℕ) → length q ≤ t → mass_of p (looks_to t q) c ≡ forward_of p q t c
+
+-- the masses behind a prefix drift on as those with no look after it
+abbrev pub MassesDrift : Type 0
+MassesDrift =
+    (p : Problem) (q : List ℕ) (n d : ℕ) →
+    drifted p (length q + 1) (mass_behind p q) n d ≡ mass_of p (looks_to (length q + 1 + n) q) d

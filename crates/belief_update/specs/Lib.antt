@@ -8,3 +8,4 @@ pub mod Laws
 pub mod Worked
 pub mod Places
 pub mod Flows
+pub mod Found

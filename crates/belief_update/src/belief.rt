@@ -245,6 +245,13 @@ impl Belief {
         self.masses[c as usize]
     }
 
+    /// The masses of all cells.
+    pub fn masses(&self) -> &[u128]
+        ensures { result.now ≡ self.now.masses }
+    {
+        &self.masses
+    }
+
     /// The sum of the masses of all cells.
     pub fn undetected(&self) -> u128
         ensures { result ≡ sum self.now.masses }

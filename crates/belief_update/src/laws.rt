@@ -1,6 +1,6 @@
 //! What looks and drift make of masses, and what masses say of values and of bounds.
 
-ghost use Rattle.belief_update.specs.Laws.{LooksScale, DriftSpreads, OneLookMore, MissedByMasses, RewardsByMasses};
+ghost use Rattle.belief_update.specs.Laws.{LooksScale, DriftSpreads, OneLookMore, MissedByMasses, RewardsByMasses, MassesForward, MassesDrift};
 ghost use Rattle.belief_update.specs.Worked.{WorkedMasses};
 
 /// A look scales each mass by its factor, and the drift sends each mass on by the parts of its row.
@@ -23,6 +23,12 @@ pub fn missed_by_masses()
 /// The reward of a look is what it finds of the masses that drifted on without looks.
 pub fn rewards_by_masses()
     ensures { RewardsByMasses }
+{}
+
+/// The masses with no look after a prefix are the forward masses of its looks, and those behind it drift on to them.
+pub fn masses_behind()
+    ensures forward { MassesForward }
+    ensures drift { MassesDrift }
 {}
 
 /// The masses of small problems, worked by hand.
