@@ -1,6 +1,6 @@
 -- That the bound fits: no reward above the whole weight, and no sum of them
 -- above so many whole weights.
-use Rattle.std.proofs.Common.{ℕ, suc, ◌+◌, ◌*◌, ◌-◌, ◌^◌, ◌<◌, ◌≤◌, ◌≡◌, List, length, sym, ap, ◌∙◌, arith, sum, sum_by}
+use Rattle.std.proofs.Common.{ℕ, suc, ◌+◌, ◌*◌, ◌-◌, ◌^◌, ◌<◌, ◌≤◌, ◌≡◌, List, length, slice_index, sym, ap, ◌∙◌, arith, sum, sum_by}
 use Rattle.std.specs.List.{range_with_len}
 use Rattle.std.proofs.lemmas.List.Sums.{sum-map}
 use Rattle.std.proofs.Math.Nat.{pow-suc, mul-le-mul_left, le_refl}
@@ -19,7 +19,7 @@ use Rattle.belief_update.specs.Masses.{mass_of, masses_of, looks_to}
 use Rattle.belief_update.specs.Belief.{BeliefState, IsBelief}
 use Rattle.belief_update.proofs.Missed.{missed_by_masses_hold}
 use Rattle.belief_update.proofs.Rewards.{rewards_by_masses_hold}
-use Rattle.mean_bound.specs.Rewards.{found_of}
+use Rattle.mean_bound.specs.Rewards.{reward_by}
 use Rattle.mean_bound.proofs.Found.{found_is}
 
 -- what is found of some masses, times the parts to come, is within all of them times these and one look's parts
@@ -50,28 +50,29 @@ module _ (p : Problem) (sound : IsProblem p) (q : List ℕ) where
   pub reward-le : (t a : ℕ) → length q < t → t ≤ p.horizon → reward_of p q t a ≤ whole_weight p
   reward-le t a later last = omega (arith, reward-le_missed t a later last, nothing_is_cut_off p q sound)
 
-  -- nor do the greatest rewards of all periods sum to more than so many times the whole weight
-  pub highest-le : length q < p.horizon → highest_sum p.positions (reward_of p q) (p.horizon - length q) (length q + 1) ≤ (p.horizon - length q) * whole_weight p
-  highest-le short =
-      highest_below p.positions (whole_weight p) (reward_of p q) (p.horizon - length q) (length q + 1) (λ u a from to here.
-      reward-le u a (omega (arith, from)) (omega (arith, to, short)))
-
-  -- and no walk after the prefix has more
-  pub greatest-le : (a : ℕ) → length q < p.horizon → a < length p.moves →
-      greatest_sum p.moves (reward_of p q) (p.horizon - length q) (length q + 1) a ≤ (p.horizon - length q) * whole_weight p
-  greatest-le a short here =
-      let above = highest_above p.moves (reward_of p q) (p.horizon - length q) (length q + 1) a sound.grid here in
-      let below = highest_below (length p.moves) (whole_weight p) (reward_of p q) (p.horizon - length q) (length q + 1) (λ u c from to there. reward-le u c (omega (arith, from)) (omega (arith, to, short))) in
-      omega (arith, above, below)
-
-  -- so many whole weights, and one more, fit
-  pub weights_fit : (n : ℕ) → n ≤ p.horizon → n * whole_weight p + whole_weight p < 2 ^ 127
-  weights_fit n few =
-      let fits = scaled_part_fits p.total p.drift.denominator p.sweep.denominator p.horizon (n + 1) (p.horizon - 1) p.horizon (omega (arith, sound.drift.denominator)) (omega (arith, sound.sweep.denominator)) sound.fits (omega (arith, few)) (omega arith) (omega arith) in
-      omega (arith, fits)
-
   -- what a look finds fits
-  pub found_fits : (t a : ℕ) (b : BeliefState) → length q < t → t ≤ p.horizon → a < p.positions → IsBelief p (looks_to t q) b →
-      found_of p b a * (p.drift.denominator ^ (p.horizon - t) * p.sweep.denominator ^ (p.horizon - (length q + 1))) < 2 ^ 127
-  found_fits t a b later last here belief =
-      omega (arith, found_is p sound q t a b later last here belief, reward-le t a later last, whole_weight-fits p sound)
+  pub found_fits : (t a : ℕ) (b : BeliefState) → length q < t → t ≤ p.horizon → IsBelief p (looks_to t q) b →
+      reward_by p (length q) t (slice_index b.masses) a < 2 ^ 127
+  found_fits t a b later last belief =
+      omega (arith, found_is p sound q t a b later last belief, reward-le t a later last, whole_weight-fits p sound)
+
+-- so many whole weights, and one more, fit
+pub weights_fit : (p : Problem) → IsProblem p → (n : ℕ) → n ≤ p.horizon → n * whole_weight p + whole_weight p < 2 ^ 127
+weights_fit p sound n few =
+    let fits = scaled_part_fits p.total p.drift.denominator p.sweep.denominator p.horizon (n + 1) (p.horizon - 1) p.horizon (omega (arith, sound.drift.denominator)) (omega (arith, sound.sweep.denominator)) sound.fits (omega (arith, few)) (omega arith) (omega arith) in
+    omega (arith, fits)
+
+-- rewards in the periods after the first k, none of which is above the whole weight
+module _ (p : Problem) (sound : IsProblem p) (k : ℕ) (r : ℕ → ℕ → ℕ) (each : (t a : ℕ) → k < t → t ≤ p.horizon → r t a ≤ whole_weight p) (short : k < p.horizon) where
+  -- the greatest of all periods sum to no more than so many times the whole weight
+  pub highest-le : highest_sum p.positions r (p.horizon - k) (k + 1) ≤ (p.horizon - k) * whole_weight p
+  highest-le =
+      highest_below p.positions (whole_weight p) r (p.horizon - k) (k + 1) (λ u a from to here.
+      each u a (omega (arith, from)) (omega (arith, to, short)))
+
+  -- and no walk has more
+  pub greatest-le : (a : ℕ) → a < length p.moves → greatest_sum p.moves r (p.horizon - k) (k + 1) a ≤ (p.horizon - k) * whole_weight p
+  greatest-le a here =
+      let above = highest_above p.moves r (p.horizon - k) (k + 1) a sound.grid here in
+      let below = highest_below (length p.moves) (whole_weight p) r (p.horizon - k) (k + 1) (λ u c from to there. each u c (omega (arith, from)) (omega (arith, to, short))) in
+      omega (arith, above, below)

@@ -6,3 +6,4 @@ mod mean;
 mod rewards;
 
 pub use mean::Mean;
+pub use rewards::fill_period;
