@@ -1,0 +1,9 @@
+//! The exchange bound of a prefix over another that ends where it does: its value, and the greatest sum of what each look
+//! after it would find of its lead alone.
+#![tactic(auto)]
+
+mod exchange;
+mod lead;
+mod rewards;
+
+pub use exchange::ExchangeTables;
