@@ -12,7 +12,8 @@ use Rattle.search_model.specs.Problem.{Problem, IsProblem}
 use Rattle.search_model.specs.Tracks.{whole_weight}
 use Rattle.search_model.proofs.LookRows.{covered_cell, own_cell, sum_own}
 use Rattle.belief_update.specs.Masses.{mass_of, looks_to}
-use Rattle.edge_bound.specs.Found.{found_in, found_of, one_of}
+use Rattle.belief_update.specs.Found.{found_in, found_of}
+use Rattle.edge_bound.specs.Found.{one_of}
 use Rattle.edge_bound.specs.After.{through, parts_after, loss_of}
 use Rattle.belief_update.specs.Flows.{IsOwn}
 use Rattle.edge_bound.proofs.Fitting.{found-within, found_parts-within}

@@ -17,7 +17,7 @@ use Rattle.belief_update.proofs.TrackSteps.{looked_along-nones}
 use Rattle.belief_update.proofs.MassSteps.{mass_of-look, mass_of-drift}
 use Rattle.belief_update.proofs.Looks.{length-looks_to, looks_to-drift}
 use Rattle.belief_update.proofs.Rewards.{factors_along-looked, found_by_masses, rewards_by_masses_hold}
-use Rattle.edge_bound.specs.Found.{found_of}
+use Rattle.belief_update.specs.Found.{found_of}
 use Rattle.edge_bound.specs.After.{mass_after_look, going_on, parts_after}
 
 -- one more look along a track that goes on

@@ -14,7 +14,7 @@ use Rattle.search_model.proofs.RewardSizes.{reward-within}
 use Rattle.search_model.proofs.WalkLemmas.{listed_walk}
 use Rattle.search_model.proofs.Greatest.{greatest_below}
 use Rattle.belief_update.specs.Masses.{mass_of, looks_to}
-use Rattle.edge_bound.specs.Found.{found_of}
+use Rattle.belief_update.specs.Found.{found_of}
 use Rattle.edge_bound.specs.After.{parts_after, loss_of}
 use Rattle.edge_bound.specs.Moves.{greatest_moves}
 use Rattle.edge_bound.proofs.Discounts.{reward_is, reward_parts, reward_before}

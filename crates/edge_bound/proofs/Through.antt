@@ -8,7 +8,7 @@ use Rattle.search_model.specs.Edge.{edge_reward_of}
 use Rattle.list_laws.proofs.Sums.{sum_by-same, sum_by-times, sum_by-plus, sum_by-exchange}
 use Rattle.drift_chain.specs.DriftRows.{part_of}
 use Rattle.belief_update.specs.Masses.{mass_of, looks_to}
-use Rattle.edge_bound.specs.Found.{found_in, found_of}
+use Rattle.belief_update.specs.Found.{found_in, found_of}
 use Rattle.edge_bound.specs.After.{mass_after_look, going_on, through, parts_after, loss_of}
 use Rattle.edge_bound.proofs.Discounts.{taken_of_mass, reward_parts, edge_reward_is}
 

@@ -12,7 +12,8 @@ use Rattle.search_model.proofs.DriftSums.{steps_total}
 use Rattle.search_model.proofs.LookRows.{found_in_cells, sum_own}
 use Rattle.belief_update.proofs.RowSteps.{part_in_more_same, part_in_more_other, part_in_more_le}
 use Rattle.list_laws.proofs.Sums.{sum_by-range-le, sum_by-times}
-use Rattle.edge_bound.specs.Found.{found_in, one_of}
+use Rattle.belief_update.specs.Found.{found_in}
+use Rattle.edge_bound.specs.Found.{one_of}
 use Rattle.belief_update.specs.Flows.{IsOwn}
 use Rattle.edge_bound.specs.Units.{HasUnits, HasBlock, HasBlocks, IsSteady}
 

@@ -3,7 +3,8 @@ use Rattle.std.specs.Prelude.{ℕ, ◌+◌, ◌-◌, ◌*◌, ◌^◌, List, [],
 use Rattle.drift_chain.specs.DriftRows.{part_of}
 use Rattle.search_model.specs.Problem.{Problem}
 use Rattle.belief_update.specs.Masses.{mass_of, looks_to}
-use Rattle.edge_bound.specs.Found.{found_of, one_of}
+use Rattle.belief_update.specs.Found.{found_of}
+use Rattle.edge_bound.specs.Found.{one_of}
 
 -- the mass of cell d in period t, after the looks of a prefix, a look from position a in the period before, and no others
 abbrev pub mass_after_look : Problem → List ℕ → ℕ → ℕ → ℕ → ℕ

@@ -7,7 +7,7 @@ use Rattle.search_model.specs.Bounds.{reward_of, greatest}
 use Rattle.search_model.specs.Edge.{edge_reward_of, sum_moves}
 use Rattle.longest_walk.specs.Near.{IsNear}
 use Rattle.belief_update.specs.Masses.{mass_of, looks_to}
-use Rattle.edge_bound.specs.Found.{found_in}
+use Rattle.belief_update.specs.Found.{found_in}
 use Rattle.edge_bound.specs.After.{parts_after}
 
 -- the greatest sum of rewards on moves over the walks of n cells from a, the first of them in period t

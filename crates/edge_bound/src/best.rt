@@ -11,7 +11,7 @@ ghost use Rattle.belief_update.specs.Masses.{mass_of, looks_to};
 ghost use Rattle.belief_update.specs.Onward.{IsOnward};
 ghost use Rattle.belief_update.specs.Flows.{IsOwn};
 ghost use Rattle.edge_bound.specs.After.{parts_after, loss_of};
-ghost use Rattle.edge_bound.specs.Found.{found_of};
+ghost use Rattle.belief_update.specs.Found.{found_of};
 ghost use Rattle.edge_bound.specs.Moves.{IsLater, HasGains, HasShares, greatest_moves};
 ghost use Rattle.edge_bound.specs.Units.{HasUnits, place_of};
 

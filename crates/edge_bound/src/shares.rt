@@ -5,7 +5,7 @@ ghost use Rattle.sweep_table.specs.LookParts.{look_row};
 ghost use Rattle.belief_update.specs.Masses.{mass_of, looks_to};
 ghost use Rattle.belief_update.specs.Onward.{IsOnward};
 ghost use Rattle.edge_bound.specs.After.{parts_after, loss_of};
-ghost use Rattle.edge_bound.specs.Found.{found_of};
+ghost use Rattle.belief_update.specs.Found.{found_of};
 ghost use Rattle.edge_bound.specs.Moves.{IsLater, HasShares};
 ghost use Rattle.edge_bound.specs.Units.{HasUnits};
 

@@ -2,7 +2,7 @@ use Rattle.std.proofs.Common.{◌≡◌, ◌*◌, refl, arith}
 use Rattle.search_model.proofs.LookRows.{own_cell, own_part-le, sum_own}
 use Rattle.search_model.proofs.Totals.{whole_weight-fits}
 use Rattle.belief_update.specs.Masses.{mass_of, looks_to}
-use Rattle.edge_bound.specs.Found.{found_in, found_of}
+use Rattle.belief_update.specs.Found.{found_in, found_of}
 use Rattle.edge_bound.proofs.Fitting.{found-within}
 use Rattle.edge_bound.proofs.moves.found_by.Goals as goal
 

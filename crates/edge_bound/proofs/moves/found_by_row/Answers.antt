@@ -4,7 +4,7 @@ use Rattle.sweep_table.specs.LookParts.{look_row}
 use Rattle.search_model.specs.Tracks.{whole_weight}
 use Rattle.search_model.proofs.Totals.{whole_weight-fits}
 use Rattle.belief_update.specs.Masses.{mass_of, looks_to}
-use Rattle.edge_bound.specs.Found.{found_in}
+use Rattle.belief_update.specs.Found.{found_in}
 use Rattle.edge_bound.proofs.Fitting.{found-within}
 use Rattle.edge_bound.proofs.moves.found_by_row.Goals as goal
 

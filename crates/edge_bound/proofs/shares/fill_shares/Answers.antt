@@ -6,7 +6,7 @@ use Rattle.sweep_table.specs.LookParts.{misses}
 use Rattle.search_model.proofs.LookRows.{covered_cell, covered_part}
 use Rattle.search_model.proofs.Totals.{whole_weight-fits}
 use Rattle.belief_update.specs.Masses.{mass_of, looks_to}
-use Rattle.edge_bound.specs.Found.{found_in}
+use Rattle.belief_update.specs.Found.{found_in}
 use Rattle.edge_bound.specs.After.{parts_after}
 use Rattle.edge_bound.proofs.Fitting.{found_parts-within}
 use Rattle.edge_bound.proofs.CellShares.{row_short, share-within, share_parts-within, filled_more}

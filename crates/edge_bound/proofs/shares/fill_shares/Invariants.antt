@@ -1,7 +1,7 @@
 use Rattle.std.proofs.Common.{◌≡◌, ◌*◌, ◌-◌, ◌<◌, ℕ, length, slice_index, slice_index_or, sum_by, take}
 use Rattle.sweep_table.specs.LookParts.{misses}
 use Rattle.belief_update.specs.Masses.{mass_of, looks_to}
-use Rattle.edge_bound.specs.Found.{found_in}
+use Rattle.belief_update.specs.Found.{found_in}
 use Rattle.edge_bound.specs.After.{parts_after}
 use Rattle.edge_bound.proofs.shares.fill_shares.Given as goal
 

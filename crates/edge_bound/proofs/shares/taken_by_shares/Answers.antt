@@ -5,7 +5,7 @@ use Rattle.sweep_table.specs.LookParts.{misses}
 use Rattle.search_model.specs.Tracks.{whole_weight}
 use Rattle.search_model.proofs.LookRows.{covered_cell}
 use Rattle.search_model.proofs.Totals.{whole_weight-fits}
-use Rattle.edge_bound.specs.Found.{found_in}
+use Rattle.belief_update.specs.Found.{found_in}
 use Rattle.edge_bound.specs.After.{through, parts_after}
 use Rattle.edge_bound.proofs.Fitting.{taken-within}
 use Rattle.edge_bound.proofs.CellShares.{row_short, share_taken}

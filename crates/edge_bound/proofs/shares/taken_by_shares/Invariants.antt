@@ -1,5 +1,5 @@
 use Rattle.std.proofs.Common.{◌≡◌, ◌*◌, sum_by, take}
-use Rattle.edge_bound.specs.Found.{found_in}
+use Rattle.belief_update.specs.Found.{found_in}
 use Rattle.edge_bound.specs.After.{through, parts_after}
 use Rattle.edge_bound.proofs.shares.taken_by_shares.Given as goal
 

@@ -1,6 +1,6 @@
 use Rattle.std.proofs.Common.{◌≡◌, ◌-◌, sum_by, take}
 use Rattle.drift_chain.specs.DriftRows.{part_of}
-use Rattle.edge_bound.specs.Found.{found_in}
+use Rattle.belief_update.specs.Found.{found_in}
 use Rattle.edge_bound.proofs.units.found_of_one.Given as goal
 
 -- what is found in the cells so far
