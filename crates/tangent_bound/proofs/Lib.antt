@@ -1,4 +1,3 @@
-pub mod ForwardMasses
 pub mod Covered
 pub mod Sizes
 pub mod Found

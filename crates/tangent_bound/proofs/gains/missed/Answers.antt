@@ -1,14 +1,15 @@
 use Rattle.std.proofs.Common.{ℕ, ◌≡◌, ◌<◌, ◌≤◌, ◌*◌, List, take, refl, arith}
 use Rattle.std.proofs.lemmas.Bool.{lt-ltb}
+use Rattle.std.proofs.lemmas.List.{length-take-le}
 use Rattle.search_model.proofs.Totals.{whole_weight-fits}
 use Rattle.search_model.specs.Problem.{Problem}
 use Rattle.belief_update.specs.Masses.{mass_of, looks_to}
 use Rattle.belief_update.specs.Belief.{BeliefState}
 use Rattle.belief_update.specs.Taken.{TakenState, IsBeside}
+use Rattle.belief_update.proofs.Forward.{masses_forward}
 use Rattle.backward_mass.specs.Masses.{backward_of}
 use Rattle.backward_mass.specs.Table.{BackwardTable}
 use Rattle.tangent_bound.specs.Gains.{IsMet, missed_in}
-use Rattle.tangent_bound.proofs.ForwardMasses.{mass_of-front}
 use Rattle.tangent_bound.proofs.Found.{missed_in-le}
 use Rattle.tangent_bound.proofs.gains.missed.Goals as goal
 
@@ -17,7 +18,7 @@ product : (p : Problem) (x : List ℕ) (t cell mass after : ℕ) (b : BeliefStat
     ((q r : List ℕ) → IsBeside p q r b s → mass ≡ mass_of p (looks_to s.period r) cell) → after ≡ backward_of p x t cell → mass * after ≡ missed_in p x t cell
 product p x t cell mass after b s w met last forward backward =
     let (q, beside) = met.taken in
-    rw (forward q (take t x) beside, met.period, mass_of-front p x t cell (omega (arith, met.path.whole, last)), backward) refl
+    rw (forward q (take t x) beside, met.period, masses_forward p (take t x) t cell (omega (arith, length-take-le t x (omega (arith, met.path.whole, last)))), backward) refl
 
 pub overflow_mul-result : goal.overflow_mul-result
 overflow_mul-result c =
