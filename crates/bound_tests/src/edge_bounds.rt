@@ -1,7 +1,7 @@
 ghost use Rattle.mean_bound.specs.Means.{IsMadeFor as IsMeanFor};
 ghost use Rattle.edge_bound.specs.Edges.{IsMadeFor, AreTablesFor};
 
-use crate::scenarios::{asked_of, crosses_threads};
+use crate::scenarios::{FOOTPRINTS, asked_of, crosses_threads};
 use edge_bound::{Edge, EdgeTables};
 use mean_bound::Mean;
 use search_model::{Path, Scenario};
@@ -36,40 +36,6 @@ spread 1
 overlook r0c0 1
 overlook r0c1 2
 overlook r0c2 3
-end
-";
-
-// Looks from three positions at four cells, over four periods. Those from the first two overlap; the first differs in the
-// second period, and the others in the third, where the last one covers nothing. The drift differs after the second period
-// in the third cell, and after the third in the first.
-const FOOTPRINTS: &str = "\
-scenario 2
-horizon 4
-parts 10 4 5
-cell a
-cell b
-cell c
-cell d
-position b
-position c
-position d
-start d
-first a 4 b 1 c 2 d 3
-moves b b c
-moves c b c d
-moves d c d
-drift a a 3 b 1
-drift b a 1 b 2 d 1
-drift c c 4
-drift d b 1 d 3
-driftin 2 c b 1 c 1 d 2
-driftin 3 a c 4
-look b b 2 d 4
-look c a 1 b 3 c 4
-look d c 0
-lookin 2 b a 3 b 1 c 2
-lookin 3 c d 0
-lookin 3 d
 end
 ";
 

@@ -12,6 +12,8 @@ mod cores;
 #[cfg(test)]
 mod edge_bounds;
 #[cfg(test)]
+mod exchange_bounds;
+#[cfg(test)]
 mod gap_checks;
 #[cfg(test)]
 mod gap_plans;

@@ -1,4 +1,4 @@
-//! A scenario that two files of tests share, what is asked of the scenario of a text, and a standing of its path.
+//! Scenarios that files of tests share, what is asked of the scenario of a text, and a standing of its path.
 
 ghost use Rattle.std.specs.Prelude.{IfSome};
 ghost use Rattle.bound_tree.specs.Close.{IsExact};
@@ -29,6 +29,40 @@ drift c c 1
 look a b 1 c 1
 look b a 1
 lookin 2 b a 1 c 1
+end
+";
+
+/// Looks from three positions at four cells, over four periods. Those from the first two overlap; the first differs in the
+/// second period, and the others in the third, where the last one covers nothing. The drift differs after the second period
+/// in the third cell, and after the third in the first.
+pub(crate) const FOOTPRINTS: &str = "\
+scenario 2
+horizon 4
+parts 10 4 5
+cell a
+cell b
+cell c
+cell d
+position b
+position c
+position d
+start d
+first a 4 b 1 c 2 d 3
+moves b b c
+moves c b c d
+moves d c d
+drift a a 3 b 1
+drift b a 1 b 2 d 1
+drift c c 4
+drift d b 1 d 3
+driftin 2 c b 1 c 1 d 2
+driftin 3 a c 4
+look b b 2 d 4
+look c a 1 b 3 c 4
+look d c 0
+lookin 2 b a 3 b 1 c 2
+lookin 3 c d 0
+lookin 3 d
 end
 ";
 
