@@ -6,6 +6,7 @@ use Rattle.search_model.specs.Problem.{Problem, IsProblem}
 use Rattle.search_model.specs.Tracks.{whole_weight, value_of}
 use Rattle.search_model.specs.Worked.{goes_to, two_cells, waiting_longer}
 use Rattle.bound_tree.specs.declared.node.Kind.TheVariants.{Branch, Mean}
+use Rattle.bound_tree.specs.declared.gap.Numbers.TheVariants.{Means}
 use Rattle.bound_tree.specs.declared.gap.GapKind.{GapKind}
 use Rattle.bound_tree.specs.declared.gap.GapKind.TheVariants.{Closed, Waiting}
 use Rattle.bound_tree.specs.declared.gap.GapNode.{GapNode}
@@ -39,6 +40,7 @@ greedy_gap ceiling last = record {
   standing = record { path = 0 ∷ 0 ∷ []; value = 3 };
   weight = 9;
   ceiling = ceiling;
+  numbers = Means;
   nodes = node_at [] (Closed Branch) ∷ node_at (0 ∷ []) (Waiting 3) ∷ node_at (2 ∷ []) (Waiting last) ∷ [];
 }
 
@@ -48,7 +50,7 @@ pub record GreedyGap : Type 0 where
   pub sound : IsProblem greedy_isnt_best
   pub whole : whole_weight greedy_isnt_best ≡ 9
   pub values : (value_of greedy_isnt_best (0 ∷ 0 ∷ []) ≡ 3) × (value_of greedy_isnt_best (2 ∷ 3 ∷ []) ≡ 6)
-  pub ceilings : (ceiling_of greedy_isnt_best (0 ∷ []) ≡ 3) × (ceiling_of greedy_isnt_best (2 ∷ []) ≡ 6) × (ceiling_of greedy_isnt_best (2 ∷ 2 ∷ []) ≡ 2)
+  pub ceilings : (ceiling_of Means greedy_isnt_best (0 ∷ []) ≡ 3) × (ceiling_of Means greedy_isnt_best (2 ∷ []) ≡ 6) × (ceiling_of Means greedy_isnt_best (2 ∷ 2 ∷ []) ≡ 2)
   pub numbers : open_numbers (greedy_gap 6 6).nodes ≡ 3 ∷ 6 ∷ []
   pub accepted : GapAccepts greedy_isnt_best (greedy_gap 6 6)
   pub lower_ceiling : ¬ GapAccepts greedy_isnt_best (greedy_gap 5 6)
@@ -62,12 +64,13 @@ longer_gap ceiling last = record {
   standing = record { path = 1 ∷ 2 ∷ 2 ∷ []; value = 6 };
   weight = 8;
   ceiling = ceiling;
+  numbers = Means;
   nodes = node_at [] (Closed Branch) ∷ node_at (0 ∷ []) (Closed (Mean 4)) ∷ node_at (1 ∷ []) (Waiting 8) ∷ node_at (2 ∷ []) (Waiting last) ∷ [];
 }
 
 -- no path finds more than 8; with a lower ceiling or a lower number the gap plan isn't accepted, nor with any other
 pub record LongerGap : Type 0 where
-  pub ceilings : (ceiling_of waiting_longer (1 ∷ []) ≡ 8) × (ceiling_of waiting_longer (2 ∷ []) ≡ 8) × (ceiling_of waiting_longer (2 ∷ 2 ∷ 2 ∷ []) ≡ 7)
+  pub ceilings : (ceiling_of Means waiting_longer (1 ∷ []) ≡ 8) × (ceiling_of Means waiting_longer (2 ∷ []) ≡ 8) × (ceiling_of Means waiting_longer (2 ∷ 2 ∷ 2 ∷ []) ≡ 7)
   pub numbers : open_numbers (longer_gap 8 8).nodes ≡ 8 ∷ 8 ∷ []
   pub accepted : GapAccepts waiting_longer (longer_gap 8 8)
   pub lower_ceiling : ¬ GapAccepts waiting_longer (longer_gap 7 8)
@@ -80,6 +83,7 @@ two_cells_gap = record {
   standing = record { path = 0 ∷ 0 ∷ []; value = 12 };
   weight = 16;
   ceiling = 12;
+  numbers = Means;
   nodes = node_at [] (Closed Branch) ∷ node_at (0 ∷ []) (Waiting 12) ∷ node_at (1 ∷ []) (Waiting 12) ∷ [];
 }
 

@@ -1,6 +1,6 @@
 //! Laws over gap plans.
 
-ghost use Rattle.bound_tree.specs.GapLaws.{PrefixCeilingIsAbove, CeilingIsAbove, CeilingSize, GapOfNoneWaiting, NoneWaitingIsBest, PlanIsGapPlan, MetCeilingIsBest};
+ghost use Rattle.bound_tree.specs.GapLaws.{PrefixCeilingIsAbove, CeilingIsAbove, CeilingSize, EdgeCeilingSize, GapOfNoneWaiting, NoneWaitingIsBest, PlanIsGapPlan, MetCeilingIsBest};
 
 /// No path finds more than the ceiling of a gap plan that is accepted, and none that extends a prefix more than the
 /// ceiling of the prefix.
@@ -10,9 +10,10 @@ pub fn ceiling_is_above()
     ensures prefix { PrefixCeilingIsAbove }
 {}
 
-/// The ceiling of a gap plan that is accepted is at least its value, and at most `(T+1)·W`.
+/// The ceiling of a gap plan that is accepted is at least its value, and at most `(T+1)·W`, or `W` with edge bounds.
 pub fn ceiling_size()
-    ensures { CeilingSize }
+    ensures size { CeilingSize }
+    ensures edges { EdgeCeilingSize }
 {}
 
 /// A gap plan in which no node waits is accepted exactly where the plan of its records is and its ceiling is its value,

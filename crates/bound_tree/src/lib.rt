@@ -11,7 +11,7 @@ mod stack;
 mod tree;
 
 pub use cut::{cuts, in_parts};
-pub use gap::{GapKind, GapNode, GapPlan, GapTree};
+pub use gap::{GapKind, GapNode, GapPlan, GapTree, Numbers, numbers_for};
 pub use gap_laws::{
     ceiling_is_above, ceiling_size, gap_of_none_waiting, met_ceiling_is_best, worked_gaps,
 };

@@ -3,6 +3,7 @@ use Rattle.std.specs.Prelude.{ℕ, List, [], ◌∷◌, ◌++◌, map}
 use Rattle.std.specs.List.{flat_map}
 use Rattle.search_model.specs.Problem.{Problem}
 use Rattle.bound_tree.specs.declared.node.TreeNode.{TreeNode}
+use Rattle.bound_tree.specs.declared.gap.Numbers.{Numbers}
 use Rattle.bound_tree.specs.declared.gap.GapKind.{GapKind}
 use Rattle.bound_tree.specs.declared.gap.GapKind.TheVariants.{Closed, Waiting}
 use Rattle.bound_tree.specs.declared.gap.GapNode.{GapNode}
@@ -17,12 +18,12 @@ abbrev pub nodes_of : List TreeNode → List (List ℕ) → List GapNode
 nodes_of closed waiting = map closed_node closed ++ map waiting_node waiting
 
 -- a waiting node gets the ceiling of its prefix as its number; a closed one stays
-abbrev pub numbered_kind : Problem → List ℕ → GapKind → GapKind
-numbered_kind p q (Closed kind) = Closed kind
-numbered_kind p q (Waiting n) = Waiting (ceiling_of p q)
+abbrev pub numbered_kind : Numbers → Problem → List ℕ → GapKind → GapKind
+numbered_kind numbers p q (Closed kind) = Closed kind
+numbered_kind numbers p q (Waiting n) = Waiting (ceiling_of numbers p q)
 
-abbrev pub numbered : Problem → GapNode → GapNode
-numbered p node = record { prefix = node.prefix; kind = numbered_kind p node.prefix node.kind }
+abbrev pub numbered : Numbers → Problem → GapNode → GapNode
+numbered numbers p node = record { prefix = node.prefix; kind = numbered_kind numbers p node.prefix node.kind }
 
 -- the record of a closed node, and the prefix of a waiting one
 abbrev pub record_at : List ℕ → GapKind → List TreeNode

@@ -7,6 +7,6 @@ mod listing;
 mod making;
 mod numbers;
 
-pub use bound_tree::{GapKind, GapNode, GapPlan, GapTree};
+pub use bound_tree::{GapKind, GapNode, GapPlan, GapTree, Numbers};
 pub use laws::same_search_same_gap_plans;
 pub use making::make_gap;

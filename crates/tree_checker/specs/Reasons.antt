@@ -13,6 +13,8 @@ use Rattle.search_model.specs.Edge.{edge_of}
 use Rattle.bound_tree.specs.declared.node.Kind.{Kind}
 use Rattle.bound_tree.specs.declared.node.Kind.TheVariants.{Branch, Whole, Mean, Tangent, Edge}
 use Rattle.bound_tree.specs.declared.plan.Plan.{Plan}
+use Rattle.bound_tree.specs.declared.gap.Numbers.{Numbers}
+use Rattle.bound_tree.specs.declared.gap.Numbers.TheVariants.{Means}
 use Rattle.bound_tree.specs.declared.gap.GapKind.{GapKind}
 use Rattle.bound_tree.specs.declared.gap.GapKind.TheVariants.{Closed, Waiting}
 use Rattle.bound_tree.specs.declared.gap.GapNode.{GapNode}
@@ -85,14 +87,14 @@ abbrev pub plain_test : Test → Bool × GapWhy
 plain_test t = (t.0, Plain t.1)
 
 -- the tests of how far a search came below a prefix, under the plan's standing: of a closed prefix those of its record, of
--- one that waits that its number is the prefix's ceiling
-abbrev pub open_tests : Problem → Standing → List ℕ → GapKind → List (Bool × GapWhy)
-open_tests p s q (Closed kind) = map plain_test (kind_tests p s q kind)
-open_tests p s q (Waiting n) = (n == ceiling_of p q, WaitingWrong) ∷ []
+-- one that waits that its number is the prefix's ceiling, by the plan's numbers
+abbrev pub open_tests : Numbers → Problem → Standing → List ℕ → GapKind → List (Bool × GapWhy)
+open_tests numbers p s q (Closed kind) = map plain_test (kind_tests p s q kind)
+open_tests numbers p s q (Waiting n) = (n == ceiling_of numbers p q, WaitingWrong) ∷ []
 
 -- the tests of a node where prefix q is expected
-abbrev pub node_tests : Problem → Standing → List ℕ → GapNode → List (Bool × GapWhy)
-node_tests p s q node = map plain_test (place_tests q node.prefix) ++ open_tests p s q node.kind
+abbrev pub node_tests : Numbers → Problem → Standing → List ℕ → GapNode → List (Bool × GapWhy)
+node_tests numbers p s q node = map plain_test (place_tests q node.prefix) ++ open_tests numbers p s q node.kind
 
 -- a reason stands at a line
 abbrev pub at_line : ℕ → Option GapWhy → Option GapRejectAt
@@ -105,9 +107,9 @@ head_reason p s weight =
     option_or (at_line 2 (first_failed (map plain_test (path_tests p s.path)))) (at_line 3 (first_failed (map plain_test (value_tests p s weight))))
 
 -- the first reason against a node where these prefixes are expected
-abbrev pub next_reason : Problem → Standing → List (List ℕ) → GapNode → Option GapWhy
-next_reason p s [] node = Some (Plain NotChild)
-next_reason p s (q ∷ qs) node = first_failed (node_tests p s q node)
+abbrev pub next_reason : Numbers → Problem → Standing → List (List ℕ) → GapNode → Option GapWhy
+next_reason numbers p s [] node = Some (Plain NotChild)
+next_reason numbers p s (q ∷ qs) node = first_failed (node_tests numbers p s q node)
 
 -- what is expected behind a node where these prefixes were
 abbrev pub expected_past : Problem → List (List ℕ) → GapNode → List (List ℕ)
@@ -120,10 +122,10 @@ end_reason line [] = None
 end_reason line (q ∷ qs) = Some (record { line = line; why = Plain MissingChild })
 
 -- the first reason of the nodes from a line on, and of the line of `end`, where these prefixes are expected
-abbrev pub nodes_reason : Problem → Standing → ℕ → List GapNode → List (List ℕ) → Option GapRejectAt
-nodes_reason p s line [] qs = end_reason line qs
-nodes_reason p s line (node ∷ nodes) qs =
-    option_or (at_line line (next_reason p s qs node)) (nodes_reason p s (line + 1) nodes (expected_past p qs node))
+abbrev pub nodes_reason : Numbers → Problem → Standing → ℕ → List GapNode → List (List ℕ) → Option GapRejectAt
+nodes_reason numbers p s line [] qs = end_reason line qs
+nodes_reason numbers p s line (node ∷ nodes) qs =
+    option_or (at_line line (next_reason numbers p s qs node)) (nodes_reason numbers p s (line + 1) nodes (expected_past p qs node))
 
 -- the reason against a ceiling, in line 4: it is the greatest of these numbers
 abbrev pub ceiling_reason : ℕ → List ℕ → Option GapRejectAt
@@ -134,7 +136,7 @@ ceiling_reason ceiling numbers = at_line 4 (first_failed ((ceiling == greatest n
 abbrev pub reason_from : ℕ → Problem → GapPlan → Option GapRejectAt
 reason_from line p plan =
     option_or (head_reason p plan.standing plan.weight)
-    (option_or (nodes_reason p plan.standing line plan.nodes ([] ∷ [])) (ceiling_reason plan.ceiling (plan.standing.value ∷ open_numbers plan.nodes)))
+    (option_or (nodes_reason plan.numbers p plan.standing line plan.nodes ([] ∷ [])) (ceiling_reason plan.ceiling (plan.standing.value ∷ open_numbers plan.nodes)))
 
 -- a reason as one against a plan: a number that has no place there is a wrong bound
 abbrev pub plain_why : GapWhy → Why
@@ -145,9 +147,9 @@ plain_why CeilingWrong = BoundWrong
 abbrev pub as_plain : GapRejectAt → RejectAt
 as_plain r = record { line = r.line; why = plain_why r.why }
 
--- the first reason against a plan, whose first record stands at line 5
+-- the first reason against a plan, whose first record stands at line 5; it has no numbers, so that either would do
 abbrev pub first_reason : Problem → Plan → Option RejectAt
-first_reason p plan = option_map as_plain (reason_from 5 p (gap_of plan))
+first_reason p plan = option_map as_plain (reason_from 5 p (gap_of Means plan))
 
 -- what is said of a plan with this first reason
 abbrev pub verdict_of : Option RejectAt → Verdict

@@ -5,6 +5,7 @@ use Rattle.search_model.specs.declared.standing.Standing.{Standing}
 use Rattle.search_model.specs.Problem.{Problem}
 use Rattle.bound_tree.specs.declared.node.TreeNode.{TreeNode}
 use Rattle.bound_tree.specs.declared.plan.Plan.{Plan}
+use Rattle.bound_tree.specs.declared.gap.Numbers.{Numbers}
 use Rattle.bound_tree.specs.Accepts.{expected_by}
 use Rattle.bound_tree.specs.Gaps.{gap_of}
 use Rattle.tree_checker.specs.declared.verdict.Why.{Why}
@@ -45,6 +46,6 @@ ReasonByRecords = (p : Problem) (plan : Plan) → first_reason p plan ≡ reason
 abbrev pub as_gap : RejectAt → GapRejectAt
 as_gap r = record { line = r.line; why = Plain r.why }
 
--- against a plan as a gap plan there is no other reason
+-- against a plan as a gap plan of either numbers there is no other reason
 abbrev pub ReasonIsPlain : Type 0
-ReasonIsPlain = (p : Problem) (plan : Plan) → reason_from 5 p (gap_of plan) ≡ option_map as_gap (first_reason p plan)
+ReasonIsPlain = (numbers : Numbers) (p : Problem) (plan : Plan) → reason_from 5 p (gap_of numbers plan) ≡ option_map as_gap (first_reason p plan)

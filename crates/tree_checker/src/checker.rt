@@ -18,7 +18,7 @@ use crate::gap_verdict::{GapRejectAt, GapVerdict, GapWhy, plain_verdict};
 use crate::reasons::{head_reason, node_reason};
 use crate::tables::BoundTables;
 use crate::verdict::{Verdict, Why};
-use bound_tree::{GapKind, GapNode, TreeNode, pop_prefix, push_expected, push_prefix};
+use bound_tree::{GapKind, GapNode, Numbers, TreeNode, pop_prefix, push_expected, push_prefix};
 use exact_parts::NoMemory;
 use search_model::{Path, Scenario, Standing};
 use std::alloc::Global;
@@ -35,6 +35,7 @@ const ROOM: usize = 2_048;
 #[derive(Drop)]
 pub struct Checker {
     standing: Standing,
+    numbers: Numbers,
     reason: Option<GapRejectAt>,
     expected: Vec<Path>,
     line: u64,
@@ -51,6 +52,7 @@ impl Model for Checker {
 
     ghost view = { λ c. record {
       standing = c.standing;
+      numbers = c.numbers;
       reason = c.reason;
       expected = reverse c.expected.items;
       line = c.line;
@@ -79,6 +81,7 @@ fn push_opened(stack: &mut Vec<Path>, sc: &Scenario, prefix: &Path, kind: &GapKi
 // Takes the node of a line where the prefixes on the stack are expected: the reason against it, or nothing, and then its
 // children are expected.
 fn take_node(
+    numbers: Numbers,
     sc: &Scenario,
     standing: &Standing,
     line: u64,
@@ -91,7 +94,7 @@ fn take_node(
     requires room { HasRoom (reverse expected.old.items) }
     requires capacity { 2048 ≤ vec_capacity expected.old }
     requires made { AreMadeFor sc.now tables.old }
-    ensures reason { result ≡ at_line line (next_reason sc.now standing.now (reverse expected.old.items) node.now) }
+    ensures reason { result ≡ at_line line (next_reason numbers sc.now standing.now (reverse expected.old.items) node.now) }
     ensures past { IfNone result
         (reverse expected.new.items ≡ expected_past sc.now (reverse expected.old.items) node.now) }
     ensures legal { All (IsLegal sc.now) (reverse expected.new.items) }
@@ -107,7 +110,7 @@ fn take_node(
             why: GapWhy::Plain(Why::NotChild),
         });
     };
-    match node_reason(sc, tables, standing, &prefix, node) {
+    match node_reason(numbers, sc, tables, standing, &prefix, node) {
         Some(why) => Some(GapRejectAt { line, why }),
         None => {
             push_opened(expected, sc, &prefix, &node.kind);
@@ -165,6 +168,7 @@ impl Checker {
                 path: Path::empty(),
                 value: 0,
             },
+            numbers: Numbers::Means,
             reason: None,
             expected: Vec::with_capacity(alloc, ROOM)?,
             line: 5,
@@ -173,15 +177,23 @@ impl Checker {
         })
     }
 
-    /// Begins a plan or gap plan whose first node stands at this line: its path with its value, and the weight that the value is
-    /// out of.
-    pub fn begin(&mut self, sc: &Scenario, line: u64, standing: &Standing, weight: u128)
+    /// Begins a plan or gap plan whose first node stands at this line: which bounds the numbers of its waiting nodes are, its
+    /// path with its value, and the weight that the value is out of.
+    pub fn begin(
+        &mut self,
+        sc: &Scenario,
+        line: u64,
+        numbers: Numbers,
+        standing: &Standing,
+        weight: u128,
+    )
         requires { IsMadeFor sc.now self.old }
-        ensures begun { self.new ≡ begun_at line sc.now self.new.tables standing.now weight }
+        ensures begun { self.new ≡ begun_at line numbers sc.now self.new.tables standing.now weight }
         ensures under_way { IsUnderWay sc.now self.new }
         ensures made { IsMadeFor sc.now self.new }
     {
         self.standing = *standing;
+        self.numbers = numbers;
         self.reason = head_reason(sc, &mut self.tables, standing, weight);
         self.most = standing.value;
         self.expected.clear();
@@ -204,6 +216,7 @@ impl Checker {
     {
         if self.reason.is_none() {
             self.reason = take_node(
+                self.numbers,
                 sc,
                 &self.standing,
                 self.line,
@@ -237,7 +250,7 @@ impl Checker {
         ensures under_way { IsUnderWay sc.now self.new }
         ensures made { IsMadeFor sc.now self.new }
     {
-        self.begin(sc, 5, standing, weight);
+        self.begin(sc, 5, Numbers::Means, standing, weight);
     }
 
     /// Takes the next record of a plan.
@@ -262,14 +275,14 @@ impl Checker {
         plain_verdict(self.verdict(self.standing.value))
     }
 
-    /// Begins a gap plan: its path with its value, and the weight that the value is out of.
-    pub fn gap_head(&mut self, sc: &Scenario, standing: &Standing, weight: u128)
+    /// Begins a gap plan: which bounds its numbers are, its path with its value, and the weight that the value is out of.
+    pub fn gap_head(&mut self, sc: &Scenario, numbers: Numbers, standing: &Standing, weight: u128)
         requires { IsMadeFor sc.now self.old }
-        ensures begun { self.new ≡ after_gap_head sc.now self.new.tables standing.now weight }
+        ensures begun { self.new ≡ after_gap_head numbers sc.now self.new.tables standing.now weight }
         ensures under_way { IsUnderWay sc.now self.new }
         ensures made { IsMadeFor sc.now self.new }
     {
-        self.begin(sc, 6, standing, weight);
+        self.begin(sc, 6, numbers, standing, weight);
     }
 
     /// Takes the next node of a gap plan.

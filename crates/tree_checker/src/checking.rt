@@ -53,7 +53,7 @@ fn gap_judged(checker: &mut Checker, sc: &Scenario, plan: &GapPlan) -> GapVerdic
     requires { IsMadeFor sc.now checker.old }
     ensures { result ≡ gap_verdict_of (gap_reason sc.now plan.now) }
 {
-    checker.gap_head(sc, &plan.standing, plan.weight);
+    checker.gap_head(sc, plan.numbers, &plan.standing, plan.weight);
     for node in plan.nodes.nodes() {
         checker.open_node(sc, node);
     }
@@ -70,8 +70,8 @@ fn gap_verdict(alloc: Global, sc: &Scenario, plan: &GapPlan) -> Result<GapVerdic
     Ok(verdict)
 }
 
-/// Whether a gap plan is accepted; else the first reason against it. The nodes are tested as the records of a plan, and
-/// the ceiling last of all.
+/// Whether a gap plan is accepted; else the first reason against it. The nodes are tested as the records of a plan, the
+/// numbers of waiting ones by what the plan says that they are, and the ceiling last of all.
 #[tactic(auto, using(crate::proofs::Reason::accepted_gap_verdict))]
 pub fn check_gap(alloc: Global, sc: &Scenario, plan: &GapPlan) -> Result<GapVerdict, NoMemory>
     ensures exact { IfOk result (λ v. v ≡ gap_verdict_of (gap_reason sc.now plan.now)) }

@@ -11,7 +11,7 @@ use crate::gap_verdict::{GapRejectAt, GapWhy};
 use crate::path_tests::is_path;
 use crate::tables::BoundTables;
 use crate::verdict::Why;
-use bound_tree::{GapKind, GapNode, Kind};
+use bound_tree::{GapKind, GapNode, Kind, Numbers};
 use search_model::{Path, Scenario, Standing, better};
 
 // The first reason against the value and the weight of a path.
@@ -121,6 +121,7 @@ fn kind_reason(
 
 // The first reason against a node at a legal prefix, by how far the search came below it.
 fn open_reason(
+    numbers: Numbers,
     sc: &Scenario,
     tables: &mut BoundTables,
     standing: &Standing,
@@ -130,7 +131,7 @@ fn open_reason(
     requires made { AreMadeFor sc.now tables.old }
     requires legal { IsLegal sc.now prefix.now }
     requires exact { IsExact sc.now standing.now }
-    ensures reason { result ≡ first_failed (open_tests sc.now standing.now prefix.now kind.now) }
+    ensures reason { result ≡ first_failed (open_tests numbers sc.now standing.now prefix.now kind.now) }
     ensures made { AreMadeFor sc.now tables.new }
 {
     match kind {
@@ -139,7 +140,7 @@ fn open_reason(
             Some(GapWhy::Plain(why))
         }
         GapKind::Waiting(number) => {
-            if *number != tables.ceiling(sc, prefix) {
+            if *number != tables.ceiling(numbers, sc, prefix) {
                 Some(GapWhy::WaitingWrong)
             } else {
                 None
@@ -148,8 +149,9 @@ fn open_reason(
     }
 }
 
-/// The first reason against a node where a legal prefix is expected.
+/// The first reason against a node where a legal prefix is expected, in a gap plan with these numbers.
 pub(crate) fn node_reason(
+    numbers: Numbers,
     sc: &Scenario,
     tables: &mut BoundTables,
     standing: &Standing,
@@ -159,7 +161,7 @@ pub(crate) fn node_reason(
     requires made { AreMadeFor sc.now tables.old }
     requires legal { IsLegal sc.now expected.now }
     requires exact { IsExact sc.now standing.now }
-    ensures reason { result ≡ first_failed (node_tests sc.now standing.now expected.now node.now) }
+    ensures reason { result ≡ first_failed (node_tests numbers sc.now standing.now expected.now node.now) }
     ensures made { AreMadeFor sc.now tables.new }
 {
     if expected.cells().cmp(node.prefix.cells()).is_lt() {
@@ -167,6 +169,6 @@ pub(crate) fn node_reason(
     } else if node.prefix.cells().cmp(expected.cells()).is_lt() {
         Some(GapWhy::Plain(Why::NotChild))
     } else {
-        open_reason(sc, tables, standing, expected, &node.kind)
+        open_reason(numbers, sc, tables, standing, expected, &node.kind)
     }
 }

@@ -10,9 +10,9 @@ ghost use Rattle.bound_tree.specs.Gaps.{ceiling_of};
 ghost use Rattle.tree_checker.specs.Rate.{one_rate_of};
 ghost use Rattle.tree_checker.specs.Tables.{AreMadeFor};
 
-use edge_bound::EdgeTables;
+use bound_tree::Numbers;
+use ceiling_bound::Ceilings;
 use exact_parts::NoMemory;
-use mean_bound::Mean;
 use search_model::{Path, Scenario};
 use std::alloc::Global;
 use tangent_bound::TangentTables;
@@ -21,9 +21,8 @@ use tangent_bound::TangentTables;
 /// beliefs, of which a prefix uses those of the part that it has in common with the one before it.
 #[derive(Drop)]
 pub(crate) struct BoundTables {
-    pub(crate) mean: Mean,
+    pub(crate) ceilings: Ceilings,
     pub(crate) tangent: TangentTables,
-    pub(crate) edge: EdgeTables,
 }
 
 impl BoundTables {
@@ -31,14 +30,9 @@ impl BoundTables {
     pub(crate) fn start(alloc: Global, sc: &Scenario) -> Result<BoundTables, NoMemory>
         ensures { IfOk result (AreMadeFor sc.now) }
     {
-        let edge = EdgeTables::tables(alloc, sc)?;
         let tangent = TangentTables::tables(alloc, sc)?;
-        let mean = Mean::tables(alloc, sc)?;
-        Ok(BoundTables {
-            mean,
-            tangent,
-            edge,
-        })
+        let ceilings = Ceilings::tables(alloc, sc)?;
+        Ok(BoundTables { ceilings, tangent })
     }
 
     /// The value of a legal prefix.
@@ -48,7 +42,7 @@ impl BoundTables {
         ensures value { result ≡ value_of sc.now prefix.now }
         ensures made { AreMadeFor sc.now self.new }
     {
-        self.mean.value(sc, prefix)
+        self.ceilings.mean.value(sc, prefix)
     }
 
     /// The mean bound of a legal prefix that is shorter than the horizon.
@@ -59,17 +53,17 @@ impl BoundTables {
         ensures value { result ≡ mean_of sc.now prefix.now }
         ensures made { AreMadeFor sc.now self.new }
     {
-        self.mean.bound(sc, prefix)
+        self.ceilings.mean.bound(sc, prefix)
     }
 
-    /// What no path below a legal prefix exceeds: the value of a path, the mean bound of a shorter prefix.
-    pub(crate) fn ceiling(&mut self, sc: &Scenario, prefix: &Path) -> u128
+    /// What no path below a legal prefix exceeds: the value of a path, the bound of a shorter prefix by these numbers.
+    pub(crate) fn ceiling(&mut self, numbers: Numbers, sc: &Scenario, prefix: &Path) -> u128
         requires made { AreMadeFor sc.now self.old }
         requires legal { IsLegal sc.now prefix.now }
-        ensures value { result ≡ ceiling_of sc.now prefix.now }
+        ensures value { result ≡ ceiling_of numbers sc.now prefix.now }
         ensures made { AreMadeFor sc.now self.new }
     {
-        self.mean.ceiling(sc, prefix)
+        self.ceilings.ceiling(numbers, sc, prefix)
     }
 
     /// The rate of all looks of the scenario that the tables were made for, where they have one. It was found when they
@@ -99,8 +93,8 @@ impl BoundTables {
         ensures made { AreMadeFor sc.now self.new }
     {
         let _known = rate;
-        self.mean.go_to(sc, prefix);
-        let (near, onward) = (self.mean.near(), self.mean.onward());
+        self.ceilings.mean.go_to(sc, prefix);
+        let (near, onward) = (self.ceilings.mean.near(), self.ceilings.mean.onward());
         let k = prefix.len() as u32;
         self.tangent
             .bound_by(sc, near, onward, prefix, reference, k)
@@ -114,8 +108,6 @@ impl BoundTables {
         ensures value { result ≡ edge_of sc.now prefix.now }
         ensures made { AreMadeFor sc.now self.new }
     {
-        self.mean.go_to(sc, prefix);
-        self.edge
-            .bound_by(sc, self.mean.near(), self.mean.onward(), prefix)
+        self.ceilings.edge_bound(sc, prefix)
     }
 }

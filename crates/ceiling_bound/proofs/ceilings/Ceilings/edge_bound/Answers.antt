@@ -1,4 +1,4 @@
-use Rattle.tree_checker.proofs.tables.BoundTables.edge_bound.Goals as goal
+use Rattle.ceiling_bound.proofs.ceilings.Ceilings.edge_bound.Goals as goal
 
 pub bound_by-requires-clause-onward : goal.bound_by-requires-clause-onward
 bound_by-requires-clause-onward c = c.onward.ensures c.args.sc.now c.args.prefix.now c.go_to.ensures.made c.go_to.ensures.there
