@@ -15,6 +15,7 @@ use Rattle.search_model.proofs.ExampleProblems.{two_moves, one_step, letters, ap
 use Rattle.list_laws.proofs.Members.{Contains-nil}
 use Rattle.bound_tree.specs.Gaps.{IsGoodOpen, GapAccepts}
 use Rattle.bound_tree.specs.declared.node.Kind.TheVariants.{Branch}
+use Rattle.bound_tree.specs.declared.gap.Numbers.TheVariants.{Means}
 use Rattle.bound_tree.specs.declared.gap.GapKind.TheVariants.{Closed}
 use Rattle.bound_tree.specs.WorkedGap.{node_at, greedy_isnt_best, greedy_gap, GreedyGap}
 
@@ -69,7 +70,7 @@ greedy_accepted = record {
   value = refl;
   weight = refl;
   placed = (refl, (refl, (refl, tt)));
-  good = All-from_recursion (IsGoodOpen greedy_isnt_best (greedy_gap 6 6).standing) (greedy_gap 6 6).nodes (omega arith, (refl, (refl, tt)));
+  good = All-from_recursion (IsGoodOpen Means greedy_isnt_best (greedy_gap 6 6).standing) (greedy_gap 6 6).nodes (omega arith, (refl, (refl, tt)));
   ceiling = refl;
 }
 

@@ -6,16 +6,18 @@ use Rattle.std.proofs.lemmas.List.Elements.{All-head, All-weaker, All-map, All-c
 use Rattle.search_model.specs.declared.standing.Standing.{Standing}
 use Rattle.search_model.specs.Problem.{Problem, IsProblem}
 use Rattle.search_model.specs.Tracks.{value_of}
-use Rattle.search_model.specs.Bounds.{mean_of}
 use Rattle.search_model.specs.Order.{smaller, better, standing_of, IsBest}
 use Rattle.search_model.proofs.Orders.{not_better_parts, not_better_from, smaller_one_way}
 use Rattle.bound_tree.specs.declared.node.Kind.TheVariants.{Branch, Whole, Mean, Tangent, Edge}
+use Rattle.bound_tree.specs.declared.gap.Numbers.{Numbers}
+use Rattle.bound_tree.specs.declared.gap.Numbers.TheVariants.{Means, Edges}
 use Rattle.bound_tree.specs.declared.gap.GapKind.{GapKind}
 use Rattle.bound_tree.specs.declared.gap.GapKind.TheVariants.{Closed, Waiting}
 use Rattle.bound_tree.specs.declared.gap.GapNode.{GapNode}
+use Rattle.bound_tree.specs.Accepts.{Extends}
 use Rattle.bound_tree.specs.Cut.{is_cut, times}
 use Rattle.bound_tree.specs.Places.{opened_by, AreInPlace}
-use Rattle.bound_tree.specs.Gaps.{shape_of_kind, shape_of, IsGoodOpenKind, IsGoodOpen}
+use Rattle.bound_tree.specs.Gaps.{shape_of_kind, shape_of, open_bound, IsGoodOpenKind, IsGoodOpen}
 use Rattle.bound_tree.specs.GapLaws.{PrefixCeilingIsAbove}
 use Rattle.bound_tree.proofs.Continuing.{front_legal, front_short, whole_front}
 use Rattle.bound_tree.proofs.MeanBound.{mean_is_above}
@@ -50,21 +52,26 @@ as_in_parts g t s some h =
 pub shorter : (n m : ℕ) → n ≤ m → (n == m) ≡ false → n < m
 shorter n m le other = let differ = eqb-false n m other in omega (arith, le, differ)
 
+-- no path below a shorter prefix finds more than its bound
+open_bound_is_above : (numbers : Numbers) (p : Problem) (q y : List ℕ) → IsProblem p → length q < p.horizon → Extends p q y → value_of p y ≤ open_bound numbers p q
+open_bound_is_above Means p q y sound short x = mean_is_above p q y sound (front_legal p q y x) short x
+open_bound_is_above Edges p q y sound short x = omega (arith, edge_is_above p q y sound (front_legal p q y x) short x)
+
 pub prefix_ceiling_is_above : PrefixCeilingIsAbove
-prefix_ceiling_is_above p q y sound x =
-    cond_both (length q == p.horizon) (value_of p q) (mean_of p q) (λ c. value_of p y ≤ c)
+prefix_ceiling_is_above numbers p q y sound x =
+    cond_both (length q == p.horizon) (value_of p q) (open_bound numbers p q) (λ c. value_of p y ≤ c)
     (λ whole. omega (arith, ap (value_of p) (whole_front p q y x (eqb-true (length q) p.horizon whole))))
-    (λ other. mean_is_above p q y sound (front_legal p q y x) (shorter (length q) p.horizon (front_short p q y x) other) x)
+    (λ other. open_bound_is_above numbers p q y sound (shorter (length q) p.horizon (front_short p q y x) other) x)
 
 -- The best path alone is followed: a kind of leaf that no best path comes to would say nothing of other paths.
-module _ (p : Problem) (sound : IsProblem p) (s : Standing) (y : List ℕ) (best : IsBest p y) where
+module _ (numbers : Numbers) (p : Problem) (sound : IsProblem p) (s : Standing) (y : List ℕ) (best : IsBest p y) where
   -- what a leaf says of the best path: it isn't better than the standing, or the leaf waits, and it finds at most the number
   abbrev pub Says : GapKind → Type 0
   Says (Closed kind) = better (standing_of p y) s ≡ false
   Says (Waiting n) = value_of p y ≤ n
 
   -- where the best path begins with the prefix of a good node, it goes on to a prefix that the node opens, or ends there
-  goes_on : (E : Type 0) (q : List ℕ) (kind : GapKind) → IsGoodOpenKind p s q kind → (Says kind → E) → All (LeadsTo p y E) (opened_by p q (shape_of_kind kind)) → LeadsTo p y E q
+  goes_on : (E : Type 0) (q : List ℕ) (kind : GapKind) → IsGoodOpenKind numbers p s q kind → (Says kind → E) → All (LeadsTo p y E) (opened_by p q (shape_of_kind kind)) → LeadsTo p y E q
   goes_on E q (Closed Branch) good ends below =
       from_children p y E q good (subst (λ (qs : List (List ℕ)). All (LeadsTo p y E) qs) (opened_by_good p s q Branch good) below)
   goes_on E q (Closed (Whole n)) good ends below = λ x.
@@ -82,18 +89,18 @@ module _ (p : Problem) (sound : IsProblem p) (s : Standing) (y : List ℕ) (best
   goes_on E q (Closed (Edge b)) good ends below = λ x.
       let most : value_of p y ≤ b = rw good.1 (edge_is_above p q y sound (front_legal p q y x) good.0 x) in
       ends (below_cut b (value_of p y) q y s x.front most good.2)
-  goes_on E q (Waiting n) good ends below = λ x. ends (omega (arith, good, prefix_ceiling_is_above p q y sound x))
+  goes_on E q (Waiting n) good ends below = λ x. ends (omega (arith, good, prefix_ceiling_is_above numbers p q y sound x))
 
   -- the best path ends at one of these nodes, which says this of it
   abbrev pub EndsAmong : List GapNode → Type 0
   EndsAmong nodes = (node : GapNode) × Contains nodes node × Says node.kind
 
   -- the best path ends at a leaf of each tree whose nodes are good
-  pub best_ends : (nodes : List GapNode) → AreInPlace p ([] ∷ []) (map shape_of nodes) → All (IsGoodOpen p s) nodes → EndsAmong nodes
+  pub best_ends : (nodes : List GapNode) → AreInPlace p ([] ∷ []) (map shape_of nodes) → All (IsGoodOpen numbers p s) nodes → EndsAmong nodes
   best_ends nodes placed good =
       let E : Type 0 = EndsAmong nodes in
       let each = All-weaker (Contains nodes) (λ node. PassesOn p (LeadsTo p y E) (shape_of node))
-      (λ node has. goes_on E node.prefix node.kind (All-contains (IsGoodOpen p s) nodes node good has) (λ says. (node, has, says)))
+      (λ node has. goes_on E node.prefix node.kind (All-contains (IsGoodOpen numbers p s) nodes node good has) (λ says. (node, has, says)))
       nodes (All-contains_itself nodes) in
       let followed = along_tree p (LeadsTo p y E) ([] ∷ []) (map shape_of nodes) placed (All-map (PassesOn p (LeadsTo p y E)) shape_of nodes each) in
       All-head (LeadsTo p y E) [] [] followed (record { path = best.path; front = refl })

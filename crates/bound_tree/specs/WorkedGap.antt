@@ -6,7 +6,8 @@ use Rattle.search_model.specs.Problem.{Problem, IsProblem}
 use Rattle.search_model.specs.Tracks.{whole_weight, value_of}
 use Rattle.search_model.specs.Worked.{goes_to, two_cells, waiting_longer}
 use Rattle.bound_tree.specs.declared.node.Kind.TheVariants.{Branch, Mean}
-use Rattle.bound_tree.specs.declared.gap.Numbers.TheVariants.{Means}
+use Rattle.bound_tree.specs.declared.gap.Numbers.{Numbers}
+use Rattle.bound_tree.specs.declared.gap.Numbers.TheVariants.{Means, Edges}
 use Rattle.bound_tree.specs.declared.gap.GapKind.{GapKind}
 use Rattle.bound_tree.specs.declared.gap.GapKind.TheVariants.{Closed, Waiting}
 use Rattle.bound_tree.specs.declared.gap.GapNode.{GapNode}
@@ -58,24 +59,31 @@ pub record GreedyGap : Type 0 where
   pub no_other : (ceiling last : ℕ) → GapAccepts greedy_isnt_best (greedy_gap ceiling last) → (ceiling ≡ 6) × (last ≡ 6)
 
 -- the waiting target with three periods: the path stays for a period and finds 6 of 8, one prefix is closed by its mean
--- bound, and the two others wait; with this ceiling, and this number of the last one
-abbrev pub longer_gap : ℕ → ℕ → GapPlan
-longer_gap ceiling last = record {
+-- bound, and the two others wait; with such numbers, this ceiling, and these numbers of the two
+abbrev pub longer_gap : Numbers → ℕ → ℕ → ℕ → GapPlan
+longer_gap numbers ceiling first last = record {
   standing = record { path = 1 ∷ 2 ∷ 2 ∷ []; value = 6 };
   weight = 8;
   ceiling = ceiling;
-  numbers = Means;
-  nodes = node_at [] (Closed Branch) ∷ node_at (0 ∷ []) (Closed (Mean 4)) ∷ node_at (1 ∷ []) (Waiting 8) ∷ node_at (2 ∷ []) (Waiting last) ∷ [];
+  numbers = numbers;
+  nodes = node_at [] (Closed Branch) ∷ node_at (0 ∷ []) (Closed (Mean 4)) ∷ node_at (1 ∷ []) (Waiting first) ∷ node_at (2 ∷ []) (Waiting last) ∷ [];
 }
 
 -- no path finds more than 8; with a lower ceiling or a lower number the gap plan isn't accepted, nor with any other
 pub record LongerGap : Type 0 where
   pub ceilings : (ceiling_of Means waiting_longer (1 ∷ []) ≡ 8) × (ceiling_of Means waiting_longer (2 ∷ []) ≡ 8) × (ceiling_of Means waiting_longer (2 ∷ 2 ∷ 2 ∷ []) ≡ 7)
-  pub numbers : open_numbers (longer_gap 8 8).nodes ≡ 8 ∷ 8 ∷ []
-  pub accepted : GapAccepts waiting_longer (longer_gap 8 8)
-  pub lower_ceiling : ¬ GapAccepts waiting_longer (longer_gap 7 8)
-  pub lower_number : ¬ GapAccepts waiting_longer (longer_gap 8 7)
-  pub no_other : (ceiling last : ℕ) → GapAccepts waiting_longer (longer_gap ceiling last) → (ceiling ≡ 8) × (last ≡ 8)
+  pub numbers : open_numbers (longer_gap Means 8 8 8).nodes ≡ 8 ∷ 8 ∷ []
+  pub accepted : GapAccepts waiting_longer (longer_gap Means 8 8 8)
+  pub lower_ceiling : ¬ GapAccepts waiting_longer (longer_gap Means 7 8 8)
+  pub lower_number : ¬ GapAccepts waiting_longer (longer_gap Means 8 8 7)
+  pub no_other : (ceiling last : ℕ) → GapAccepts waiting_longer (longer_gap Means ceiling 8 last) → (ceiling ≡ 8) × (last ≡ 8)
+
+-- with edge bounds no path finds more than 7, which is what the best one finds; neither kind is taken for the other
+pub record LongerEdges : Type 0 where
+  pub ceilings : (ceiling_of Edges waiting_longer (1 ∷ []) ≡ 6) × (ceiling_of Edges waiting_longer (2 ∷ []) ≡ 7) × (ceiling_of Edges waiting_longer (2 ∷ 2 ∷ 2 ∷ []) ≡ 7)
+  pub accepted : GapAccepts waiting_longer (longer_gap Edges 7 6 7)
+  pub not_means : ¬ GapAccepts waiting_longer (longer_gap Means 7 6 7)
+  pub not_edges : ¬ GapAccepts waiting_longer (longer_gap Edges 8 8 8)
 
 -- two cells where the empty prefix alone was closed: both prefixes below it wait, and the ceiling is the value
 abbrev pub two_cells_gap : GapPlan
@@ -90,4 +98,5 @@ two_cells_gap = record {
 pub record WorkedGaps : Type 0 where
   pub greedy : GreedyGap
   pub longer : LongerGap
+  pub edges : LongerEdges
   pub two : GapAccepts two_cells two_cells_gap
