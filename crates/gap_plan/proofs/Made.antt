@@ -17,6 +17,7 @@ use Rattle.search_model.specs.Order.{smaller}
 use Rattle.search_model.proofs.Children.{few_moves}
 use Rattle.bound_tree.specs.declared.node.Kind.TheVariants.{Branch, Whole, Mean, Tangent, Edge}
 use Rattle.bound_tree.specs.declared.node.TreeNode.{TreeNode}
+use Rattle.bound_tree.specs.declared.gap.Numbers.{Numbers}
 use Rattle.bound_tree.specs.declared.gap.GapKind.{GapKind}
 use Rattle.bound_tree.specs.declared.gap.GapKind.TheVariants.{Closed, Waiting}
 use Rattle.bound_tree.specs.declared.gap.GapNode.{GapNode}
@@ -72,11 +73,11 @@ as_many p (r ∷ rs) (q ∷ qs) placed =
       sum_by-cons (opened_number p) r rs,
     )
 
-module _ (p : Problem) (s : Standing) (closed : List TreeNode) (waiting : List (List ℕ)) (nodes : List GapNode) where
+module _ (numbers : Numbers) (p : Problem) (s : Standing) (closed : List TreeNode) (waiting : List (List ℕ)) (nodes : List GapNode) where
   module _ (sound : IsProblem p) (equation : MeetsEquation p [] waiting closed) (good : All (IsGood p s) closed) (same : IsPermutation (nodes_of closed waiting) nodes) where
     -- the nodes, with their numbers, are good
-    pub all_good : All (IsGoodOpen p s) (map (numbered p) nodes)
-    all_good = All-map (IsGoodOpen p s) (numbered p) nodes (in_any_order (λ node. IsGoodOpen p s (numbered p node)) closed waiting nodes same good (λ q. refl))
+    pub all_good : All (IsGoodOpen numbers p s) (map (numbered numbers p) nodes)
+    all_good = All-map (IsGoodOpen numbers p s) (numbered numbers p) nodes (in_any_order (λ node. IsGoodOpen numbers p s (numbered numbers p node)) closed waiting nodes same good (λ q. refl))
 
     -- those that branch are shorter than the horizon
     abbrev IsShort : TreeNode → Type 0
@@ -128,25 +129,27 @@ module _ (p : Problem) (s : Standing) (closed : List TreeNode) (waiting : List (
             length-append (record_at node.prefix node.kind) (closed_in some),
           )
 
-      pub few : length (map (numbered p) nodes) ≤ 1 + 64 * length closed
+      pub few : length (map (numbered numbers p) nodes) ≤ 1 + 64 * length closed
       few =
           omega (
             arith,
             as_many p (shapes_of nodes) ([] ∷ []) all_placed,
             few_by_nodes nodes all_legal,
             length_permutation closed (closed_in nodes) (closed_is_same closed waiting nodes same),
-            length-map nodes (numbered p),
+            length-map nodes (numbered numbers p),
             length-map nodes shape_of,
           )
 
       -- so they make an accepted gap plan
-      pub accepted : (plan : GapPlan) → IsExact p s → plan.standing ≡ s → plan.weight ≡ whole_weight p → plan.nodes ≡ map (numbered p) nodes →
+      pub accepted : (plan : GapPlan) → IsExact p s → plan.standing ≡ s → plan.weight ≡ whole_weight p → plan.numbers ≡ numbers → plan.nodes ≡ map (numbered numbers p) nodes →
           plan.ceiling ≡ greatest (s.value ∷ open_numbers plan.nodes) → GapAccepts p plan
-      accepted plan exact standing weight made ceiling = record {
+      accepted plan exact standing weight which made ceiling = record {
         path = subst (λ (t : Standing). IsPath p t.path) (sym standing) exact.path;
         value = subst (λ (t : Standing). t.value ≡ value_of p t.path) (sym standing) exact.value;
         weight = weight;
-        placed = subst (λ (some : List GapNode). AreInPlace p ([] ∷ []) (shapes_of some)) (sym made) (subst (AreInPlace p ([] ∷ [])) (sym (shapes_stay p nodes)) all_placed);
-        good = subst (λ (t : Standing). All (IsGoodOpen p t) plan.nodes) (sym standing) (subst (All (IsGoodOpen p s)) (sym made) all_good);
+        placed = subst (λ (some : List GapNode). AreInPlace p ([] ∷ []) (shapes_of some)) (sym made) (subst (AreInPlace p ([] ∷ [])) (sym (shapes_stay numbers p nodes)) all_placed);
+        good =
+            subst (λ (n : Numbers). All (IsGoodOpen n p plan.standing) plan.nodes) (sym which)
+            (subst (λ (t : Standing). All (IsGoodOpen numbers p t) plan.nodes) (sym standing) (subst (All (IsGoodOpen numbers p s)) (sym made) all_good));
         ceiling = ceiling ∙ ap (λ (t : Standing). greatest (t.value ∷ open_numbers plan.nodes)) (sym standing);
       }

@@ -15,6 +15,8 @@ use Rattle.search_model.proofs.Orders.{smaller_irreflexive, same_from_neither}
 use Rattle.bound_tree.specs.declared.node.Kind.{Kind}
 use Rattle.bound_tree.specs.declared.node.Kind.TheVariants.{Branch, Whole, Mean, Tangent, Edge}
 use Rattle.bound_tree.specs.declared.plan.Plan.{Plan}
+use Rattle.bound_tree.specs.declared.gap.Numbers.{Numbers}
+use Rattle.bound_tree.specs.declared.gap.Numbers.TheVariants.{Means}
 use Rattle.bound_tree.specs.declared.gap.GapKind.{GapKind}
 use Rattle.bound_tree.specs.declared.gap.GapKind.TheVariants.{Closed, Waiting}
 use Rattle.bound_tree.specs.declared.gap.GapNode.{GapNode}
@@ -127,61 +129,62 @@ module _ (p : Problem) (s : Standing) where
   short_branch q (Tangent b whole) h e = cc
   short_branch q (Edge b) h e = cc
 
-  good_open : (q : List ℕ) (kind : GapKind) → AllTrue (open_tests p s q kind) → IsGoodOpenKind p s q kind
-  good_open q (Closed kind) h = good_kind q kind (plain_true (kind_tests p s q kind) h)
-  good_open q (Waiting n) h = eqb-true n (ceiling_of p q) h.0
+module _ (numbers : Numbers) (p : Problem) (s : Standing) where
+  good_open : (q : List ℕ) (kind : GapKind) → AllTrue (open_tests numbers p s q kind) → IsGoodOpenKind numbers p s q kind
+  good_open q (Closed kind) h = good_kind p s q kind (plain_true (kind_tests p s q kind) h)
+  good_open q (Waiting n) h = eqb-true n (ceiling_of numbers p q) h.0
 
-  open_good : (q : List ℕ) (kind : GapKind) → IsGoodOpenKind p s q kind → AllTrue (open_tests p s q kind)
-  open_good q (Closed kind) h = true_plain (kind_tests p s q kind) (kind_good q kind h)
-  open_good q (Waiting n) h = (eq-eqb n (ceiling_of p q) h, tt)
+  open_good : (q : List ℕ) (kind : GapKind) → IsGoodOpenKind numbers p s q kind → AllTrue (open_tests numbers p s q kind)
+  open_good q (Closed kind) h = true_plain (kind_tests p s q kind) (kind_good p s q kind h)
+  open_good q (Waiting n) h = (eq-eqb n (ceiling_of numbers p q) h, tt)
 
-  short_open : (q : List ℕ) (kind : GapKind) → AllTrue (open_tests p s q kind) → shape_of_kind kind ≡ Branch → length q < p.horizon
-  short_open q (Closed kind) h e = short_branch q kind (plain_true (kind_tests p s q kind) h) e
+  short_open : (q : List ℕ) (kind : GapKind) → AllTrue (open_tests numbers p s q kind) → shape_of_kind kind ≡ Branch → length q < p.horizon
+  short_open q (Closed kind) h e = short_branch p s q kind (plain_true (kind_tests p s q kind) h) e
   short_open q (Waiting n) h e = cc
 
   -- a branch that passes its tests is shorter than the horizon
-  pub branch_is_short : (q : List ℕ) (node : GapNode) → first_failed (node_tests p s q node) ≡ None → shape_of_kind node.kind ≡ Branch → length q < p.horizon
-  branch_is_short q node h e = short_open q node.kind (all_true (node_tests p s q node) h).1.1 e
+  pub branch_is_short : (q : List ℕ) (node : GapNode) → first_failed (node_tests numbers p s q node) ≡ None → shape_of_kind node.kind ≡ Branch → length q < p.horizon
+  branch_is_short q node h e = short_open q node.kind (all_true (node_tests numbers p s q node) h).1.1 e
 
   -- a good node makes the same expected whether its length is asked for or not
-  opened_by_open : (q : List ℕ) (kind : GapKind) → IsGoodOpenKind p s q kind → opened_by p q (shape_of_kind kind) ≡ expected_by p q (shape_of_kind kind)
+  opened_by_open : (q : List ℕ) (kind : GapKind) → IsGoodOpenKind numbers p s q kind → opened_by p q (shape_of_kind kind) ≡ expected_by p q (shape_of_kind kind)
   opened_by_open q (Closed kind) good = opened_by_good p s q kind good
   opened_by_open q (Waiting n) good = nothing_either_way (nat_lt (length q) p.horizon)
 
   -- a node that passes its tests has the prefix that is expected, and is good there
-  right_node : (q : List ℕ) (node : GapNode) → first_failed (node_tests p s q node) ≡ None → (node.prefix ≡ q) × IsGoodOpenKind p s q node.kind
+  right_node : (q : List ℕ) (node : GapNode) → first_failed (node_tests numbers p s q node) ≡ None → (node.prefix ≡ q) × IsGoodOpenKind numbers p s q node.kind
   right_node q node h =
-      let tests = all_true (node_tests p s q node) h in
+      let tests = all_true (node_tests numbers p s q node) h in
       (same_from_neither node.prefix q (not-true (smaller node.prefix q) tests.1.0) (not-true (smaller q node.prefix) tests.0), good_open q node.kind tests.1.1)
 
-  node_right : (q : List ℕ) (node : GapNode) → node.prefix ≡ q → IsGoodOpenKind p s q node.kind → first_failed (node_tests p s q node) ≡ None
+  node_right : (q : List ℕ) (node : GapNode) → node.prefix ≡ q → IsGoodOpenKind numbers p s q node.kind → first_failed (node_tests numbers p s q node) ≡ None
   node_right q node same good =
       let neither : (z : List ℕ) → z ≡ q → (smaller q z ≡ false) × (smaller z q ≡ false) = λ z e. rw e (smaller_irreflexive q, smaller_irreflexive q) in
       let order = neither node.prefix same in
-      none_failed (node_tests p s q node) (ap not order.0, (ap not order.1, open_good q node.kind good))
+      none_failed (node_tests numbers p s q node) (ap not order.0, (ap not order.1, open_good q node.kind good))
 
-  placed_and_good : (line : ℕ) (nodes : List GapNode) (qs : List (List ℕ)) → nodes_reason p s line nodes qs ≡ None → AreInPlace p qs (map shape_of nodes) × All (IsGoodOpen p s) nodes
-  placed_and_good line [] [] h = (tt, All-nil (IsGoodOpen p s))
+  placed_and_good : (line : ℕ) (nodes : List GapNode) (qs : List (List ℕ)) → nodes_reason numbers p s line nodes qs ≡ None → AreInPlace p qs (map shape_of nodes) × All (IsGoodOpen numbers p s) nodes
+  placed_and_good line [] [] h = (tt, All-nil (IsGoodOpen numbers p s))
   placed_and_good line [] (q ∷ qs) h = cc
   placed_and_good line (node ∷ nodes) [] h = cc
   placed_and_good line (node ∷ nodes) (q ∷ qs) h =
-      let parts = both_none (at_line line (next_reason p s (q ∷ qs) node)) (nodes_reason p s (line + 1) nodes (expected_past p (q ∷ qs) node)) h in
+      let parts = both_none (at_line line (next_reason numbers p s (q ∷ qs) node)) (nodes_reason numbers p s (line + 1) nodes (expected_past p (q ∷ qs) node)) h in
       let right = right_node q node (none_at line _ parts.0) in
       let rest = placed_and_good (line + 1) nodes (expected_past p (q ∷ qs) node) parts.1 in (
         (right.0, subst (λ (xs : List (List ℕ)). AreInPlace p (xs ++ qs) (map shape_of nodes)) (sym (opened_by_open q node.kind right.1)) rest.0),
-        All-cons (IsGoodOpen p s) node nodes (subst (λ (z : List ℕ). IsGoodOpenKind p s z node.kind) (sym right.0) right.1) rest.1,
+        All-cons (IsGoodOpen numbers p s) node nodes (subst (λ (z : List ℕ). IsGoodOpenKind numbers p s z node.kind) (sym right.0) right.1) rest.1,
       )
 
-  no_fault : (line : ℕ) (nodes : List GapNode) (qs : List (List ℕ)) → AreInPlace p qs (map shape_of nodes) → All (IsGoodOpen p s) nodes → nodes_reason p s line nodes qs ≡ None
+  no_fault : (line : ℕ) (nodes : List GapNode) (qs : List (List ℕ)) → AreInPlace p qs (map shape_of nodes) → All (IsGoodOpen numbers p s) nodes → nodes_reason numbers p s line nodes qs ≡ None
   no_fault line [] [] placed good = refl
   no_fault line [] (q ∷ qs) placed good = absurd placed
   no_fault line (node ∷ nodes) [] placed good = absurd placed
   no_fault line (node ∷ nodes) (q ∷ qs) placed good =
-      let here : IsGoodOpenKind p s q node.kind = subst (λ (z : List ℕ). IsGoodOpenKind p s z node.kind) placed.0 (All-head (IsGoodOpen p s) node nodes good) in
+      let here : IsGoodOpenKind numbers p s q node.kind = subst (λ (z : List ℕ). IsGoodOpenKind numbers p s z node.kind) placed.0 (All-head (IsGoodOpen numbers p s) node nodes good) in
       let later = subst (λ (xs : List (List ℕ)). AreInPlace p (xs ++ qs) (map shape_of nodes)) (opened_by_open q node.kind here) placed.1 in
-      let rest = nodes_reason p s (line + 1) nodes (expected_past p (q ∷ qs) node) in
+      let rest = nodes_reason numbers p s (line + 1) nodes (expected_past p (q ∷ qs) node) in
       ap (λ (o : Option GapWhy). option_or (at_line line o) rest) (node_right q node placed.0 here)
-      ∙ no_fault (line + 1) nodes (expected_past p (q ∷ qs) node) later (All-tail (IsGoodOpen p s) node nodes good)
+      ∙ no_fault (line + 1) nodes (expected_past p (q ∷ qs) node) later (All-tail (IsGoodOpen numbers p s) node nodes good)
 
 -- where there is no reason against the head, the path is a path with its value, and the weight is the whole weight
 pub head_right : (p : Problem) (s : Standing) (weight : ℕ) → head_reason p s weight ≡ None → IsExact p s × (weight ≡ whole_weight p)
@@ -206,7 +209,7 @@ right_head p s weight path value whole =
 pub no_reason_from : (line : ℕ) (p : Problem) (plan : GapPlan) → (reason_from line p plan ≡ None) ↔ GapAccepts p plan
 no_reason_from line p plan =
     let s : Standing = plan.standing in
-    let nodes = nodes_reason p s line plan.nodes ([] ∷ []) in
+    let nodes = nodes_reason plan.numbers p s line plan.nodes ([] ∷ []) in
     let numbers : List ℕ = s.value ∷ open_numbers plan.nodes in
     let ceiling = ceiling_reason plan.ceiling numbers in
     let tests : List (Bool × GapWhy) = (plan.ceiling == greatest numbers, CeilingWrong) ∷ [] in (
@@ -214,7 +217,7 @@ no_reason_from line p plan =
           let parts = both_none (head_reason p s plan.weight) (option_or nodes ceiling) h in
           let head = head_right p s plan.weight parts.0 in
           let rest = both_none nodes ceiling parts.1 in
-          let right = placed_and_good p s line plan.nodes ([] ∷ []) rest.0 in
+          let right = placed_and_good plan.numbers p s line plan.nodes ([] ∷ []) rest.0 in
           record {
             path = head.0.path;
             value = head.0.value;
@@ -225,7 +228,7 @@ no_reason_from line p plan =
           }),
       (λ a.
           ap (λ (o : Option GapRejectAt). option_or o (option_or nodes ceiling)) (right_head p s plan.weight a.path a.value a.weight)
-          ∙ ap (λ (o : Option GapRejectAt). option_or o ceiling) (no_fault p s line plan.nodes ([] ∷ []) a.placed a.good)
+          ∙ ap (λ (o : Option GapRejectAt). option_or o ceiling) (no_fault plan.numbers p s line plan.nodes ([] ∷ []) a.placed a.good)
           ∙ ap (λ (o : Option GapWhy). at_line 4 o) (none_failed tests (eq-eqb plan.ceiling (greatest numbers) a.ceiling, tt))),
     )
 
@@ -238,9 +241,9 @@ none_told (Some r) h = cc
 
 pub no_reason_is_accepted : AcceptedWithNoReason
 no_reason_is_accepted p plan =
-    let none = no_reason_from 5 p (gap_of plan) in
-    let same = plan_is_gap_plan p plan in
-    (λ h. same.1 (none.0 (none_told (reason_from 5 p (gap_of plan)) h)), λ a. ap (option_map as_plain) (none.1 (same.0 a)))
+    let none = no_reason_from 5 p (gap_of Means plan) in
+    let same = plan_is_gap_plan Means p plan in
+    (λ h. same.1 (none.0 (none_told (reason_from 5 p (gap_of Means plan)) h)), λ a. ap (option_map as_plain) (none.1 (same.0 a)))
 
 gap_verdict_is : (reason : Option GapRejectAt) (P : Type 0) → (reason ≡ None) ↔ P → (gap_verdict_of reason ≡ gaps.Accepted) ↔ P
 gap_verdict_is None P h = (λ _. h.0 refl, λ _. refl)

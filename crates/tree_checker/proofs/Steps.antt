@@ -7,6 +7,7 @@ use Rattle.search_model.specs.Problem.{Problem}
 use Rattle.search_model.specs.Bounds.{greatest}
 use Rattle.search_model.proofs.Greatest.{greatest-one}
 use Rattle.bound_tree.specs.declared.node.Kind.{Kind}
+use Rattle.bound_tree.specs.declared.gap.Numbers.{Numbers}
 use Rattle.bound_tree.specs.declared.gap.GapKind.{GapKind}
 use Rattle.bound_tree.specs.declared.gap.GapKind.TheVariants.{Closed}
 use Rattle.tree_checker.specs.declared.verdict.Why.{Why}
@@ -17,12 +18,12 @@ use Rattle.tree_checker.specs.GapReasons.{gap_verdict_of}
 use Rattle.tree_checker.proofs.Reason.{plain_first}
 
 -- the reason against a record is that against a closed node
-pub closed_reason : (p : Problem) (s : Standing) (q : List ℕ) (found : GapKind) (kind : Kind) (w : Option Why) →
-    found ≡ Closed kind → w ≡ first_failed (kind_tests p s q kind) → option_map (λ v. Plain v) w ≡ first_failed (open_tests p s q found)
-closed_reason p s q found kind w is told =
+pub closed_reason : (numbers : Numbers) (p : Problem) (s : Standing) (q : List ℕ) (found : GapKind) (kind : Kind) (w : Option Why) →
+    found ≡ Closed kind → w ≡ first_failed (kind_tests p s q kind) → option_map (λ v. Plain v) w ≡ first_failed (open_tests numbers p s q found)
+closed_reason numbers p s q found kind w is told =
     ap (λ (v : Option Why). option_map (λ u. Plain u) v) told
     ∙ sym (plain_first (kind_tests p s q kind))
-    ∙ ap (λ (k : GapKind). first_failed (open_tests p s q k)) (sym is)
+    ∙ ap (λ (k : GapKind). first_failed (open_tests numbers p s q k)) (sym is)
 
 -- the test of a ceiling, where no number is left but the greatest so far
 ceiling_tested : (most ceiling : ℕ) (right : Bool) → (ceiling == most) ≡ right → ceiling_reason ceiling (most ∷ []) ≡ at_line 4 (if right then None else Some CeilingWrong)

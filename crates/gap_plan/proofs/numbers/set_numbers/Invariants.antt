@@ -1,10 +1,10 @@
-use Rattle.mean_bound.specs.Means.{IsMadeFor}
+use Rattle.ceiling_bound.specs.Ceilings.{AreCeilingsFor}
 use Rattle.gap_plan.proofs.Numbered.{IsPassed}
 use Rattle.gap_plan.proofs.numbers.set_numbers.Given as goal
 
 -- the nodes so far have their numbers
 abbrev pub invariant-loop-node : goal.invariant-loop-node
 invariant-loop-node l = record {
-  made : IsMadeFor l.sc l.mean;
-  passed : IsPassed l.sc l.fn.nodes l.value l.node-index l.nodes l.most;
+  made : AreCeilingsFor l.sc l.ceilings;
+  passed : IsPassed l.numbers l.sc l.fn.nodes l.value l.node-index l.nodes l.most;
 }

@@ -17,7 +17,7 @@ push_opened-requires-clause-legal c = (split_legal c.args.sc.now _ _ _ c.in-Some
 pub push_opened-requires-clause-room : goal.push_opened-requires-clause-room
 push_opened-requires-clause-room c = λ branch.
     let rest = c.pop_prefix.new.stack in
-    let short = branch_is_short c.args.sc.now c.args.standing.now c.in-Some.prefix c.args.node.now (sym c.in-None.ensures.reason) branch in
+    let short = branch_is_short c.args.numbers c.args.sc.now c.args.standing.now c.in-Some.prefix c.args.node.now (sym c.in-None.ensures.reason) branch in
     let left = room_left c.args.sc.now c.in-Some.prefix (reverse rest.items) c.recall_sound.ensures short (subst HasRoom c.in-Some.ensures.some c.requires.room) in
     omega (arith, left, length-reverse rest.items, rest.ok.0)
 
@@ -28,7 +28,7 @@ pub returns-in-None-clause-legal : goal.returns-in-None-clause-legal
 returns-in-None-clause-legal c =
     let legal = IsLegal c.args.sc.now in
     let parts = split_legal c.args.sc.now _ _ _ c.in-Some.ensures.some c.requires.legal in
-    let short = branch_is_short c.args.sc.now c.args.standing.now c.in-Some.prefix c.args.node.now (sym c.in-None.ensures.reason) in
+    let short = branch_is_short c.args.numbers c.args.sc.now c.args.standing.now c.in-Some.prefix c.args.node.now (sym c.in-None.ensures.reason) in
     subst (All legal) (sym c.push_opened.ensures.items)
     (All-append legal _ _ (legal_expected c.args.sc.now c.in-Some.prefix (shape_of_kind c.args.node.now.kind) parts.0 short) parts.1)
 
