@@ -1,9 +1,10 @@
-//! Verdicts on gap plans, as rows of a table. A row has the plan's path, value, weight and ceiling, its nodes, and the
-//! verdict, with the line of what is rejected; a line without bars says what the rows below it are for.
+//! Verdicts on gap plans, as rows of a table. A row has the plan's path, value, weight and ceiling, and `edges` where its
+//! numbers are edge bounds; its nodes; and the verdict, with the line of what is rejected. A line without bars says what the
+//! rows below it are for.
 
 use crate::scenarios::asked_of;
 use crate::verdicts::{kind_of, path_of};
-use bound_tree::{GapKind, GapNode, GapPlan, GapTree};
+use bound_tree::{GapKind, GapNode, GapPlan, GapTree, Numbers};
 use search_model::{Scenario, Standing};
 use std::alloc::Global;
 use std::test::Fail;
@@ -36,18 +37,29 @@ fn nodes_of(alloc: Global, nodes: &str) -> Result<Vec<GapNode>, Fail> {
     Ok(all)
 }
 
-// The gap plan of a path, a value, a weight and a ceiling, and of nodes.
+// The numbers that a word says, if there is one.
+fn numbers_of(word: Option<&str>) -> Option<Numbers> {
+    match word {
+        None => Some(Numbers::Means),
+        Some("edges") => Some(Numbers::Edges),
+        Some(_) => None,
+    }
+}
+
+// The gap plan of a path, a value, a weight, a ceiling and what its numbers are, and of nodes.
 fn plan_of(head: &str, nodes: Vec<GapNode>) -> Option<GapPlan> {
     let mut words = head.split(' ');
     let path = path_of(words.next()?)?;
     let value = words.next()?.parse::<u128>().ok()?;
     let weight = words.next()?.parse::<u128>().ok()?;
     let ceiling = words.next()?.parse::<u128>().ok()?;
+    let numbers = numbers_of(words.next())?;
     let standing = Standing { path, value };
     Some(GapPlan {
         standing,
         weight,
         ceiling,
+        numbers,
         nodes: GapTree::of(nodes),
     })
 }
@@ -134,11 +146,41 @@ The path finds 6: what waits finds less, and the ceiling is the value.
 23 6 9 6|B -,O 0 3,B 2,O 22 3,O 23 6|9 WaitingWrong
 ";
 
+// The first path finds 6 of 8, and the best 7.
+const WAITING_LONGER: &str = "\
+122 6 8 8|B -,M 0 4,O 1 8,O 2 8|Accepted
+122 6 8 7 edges|B -,M 0 4,O 1 6,O 2 7|Accepted
+Neither kind of numbers is taken for the other.
+122 6 8 7|B -,M 0 4,O 1 6,O 2 7|8 WaitingWrong
+122 6 8 8 edges|B -,M 0 4,O 1 8,O 2 8|8 WaitingWrong
+122 6 8 8 edges|B -,M 0 4,O 1 6,O 2 7|4 CeilingWrong
+A path that waits has its value with either.
+122 6 8 7 edges|B -,M 0 4,O 1 6,B 2,O 21 6,B 22,O 221 6,O 222 7|Accepted
+122 6 8 8|B -,M 0 4,O 1 8,B 2,O 21 6,B 22,O 221 6,O 222 7|Accepted
+122 6 8 8 edges|B -,M 0 4,O 1 6,B 2,O 21 6,B 22,O 221 6,O 222 8|13 WaitingWrong
+";
+
+// The edge bound of the empty prefix is 20, which is more than the whole weight.
+const WAITING_FOUR: &str = "\
+2222 15 16 32|O - 32|Accepted
+2222 15 16 16 edges|O - 16|Accepted
+2222 15 16 20 edges|O - 20|6 WaitingWrong
+2222 15 16 24|B -,O 0 16,O 1 24,O 2 20|Accepted
+2222 15 16 16 edges|B -,O 0 12,O 1 16,O 2 16|Accepted
+2222 15 16 16 edges|B -,O 0 12,O 1 16,B 2,O 21 14,O 22 15|Accepted
+2222 15 16 16 edges|B -,O 0 12,O 1 16,B 2,O 21 16,O 22 15|10 WaitingWrong
+";
+
 #[test]
 fn gap_plans(rt: HostRuntime) -> Result<(), Fail> {
     let alloc = rt.alloc();
     assert_eq!(rt; rows_judged(alloc, worked::TWO_CELLS, TWO_CELLS)?, 16);
     assert_eq!(rt; rows_judged(alloc, worked::FOUR_CELLS, FOUR_CELLS)?, 11);
+    assert_eq!(rt;
+        rows_judged(alloc, worked::WAITING_LONGER, WAITING_LONGER)?,
+        8
+    );
+    assert_eq!(rt; rows_judged(alloc, worked::WAITING_FOUR, WAITING_FOUR)?, 7);
     Ok(())
 }
 

@@ -8,7 +8,7 @@ ghost use Rattle.bound_tree.specs.Close.{IsExact};
 use crate::scenarios::{asked_of, standing_of};
 use bound_tree::{Kind, TreeNode, push_expected};
 use exact_parts::NoMemory;
-use gap_plan::{GapKind, GapNode, GapPlan, make_gap};
+use gap_plan::{GapKind, GapNode, GapPlan, Numbers, make_gap};
 use search_model::{Path, Scenario, Standing};
 use std::alloc::Global;
 use std::test::Fail;
@@ -35,14 +35,19 @@ fn root_alone(alloc: Global) -> Result<Vec<TreeNode>, NoMemory>
     Ok(vec![in alloc; root; 1]?)
 }
 
-// The gap plan where the children wait, under this standing.
-fn branched(alloc: Global, sc: &Scenario, best: Standing) -> Result<GapPlan, NoMemory>
+// The gap plan where the children wait, under this standing, with such numbers.
+fn branched(
+    alloc: Global,
+    sc: &Scenario,
+    best: Standing,
+    numbers: Numbers,
+) -> Result<GapPlan, NoMemory>
     requires { IsExact sc.now best }
 {
     sc.recall_sound();
     let waiting = children(alloc, sc)?;
     let closed = root_alone(alloc)?;
-    make_gap(alloc, sc, closed, waiting, best)
+    make_gap(alloc, sc, closed, waiting, best, numbers)
 }
 
 // Whether a node is the empty prefix as a branch.
@@ -73,23 +78,25 @@ fn shows(plan: &GapPlan, waiting: &[(u8, u128)]) -> bool {
         ))
 }
 
-// Whether the gap plan under a path has this value, weight and ceiling, and what waits at these positions with these
-// numbers.
+// Whether the gap plan under a path with such numbers says so, has this value, weight and ceiling, and what waits at these
+// positions with these numbers.
 fn has_over(
     alloc: Global,
     sc: &Scenario,
     path: &[u8],
+    numbers: Numbers,
     (value, weight, ceiling): (u128, u128, u128),
     waiting: &[(u8, u128)],
 ) -> Result<bool, Fail> {
     let Some(best) = standing_of(sc, path) else {
         return Ok(false);
     };
-    let plan = branched(alloc, sc, best)?;
+    let plan = branched(alloc, sc, best, numbers)?;
     let heads = plan.standing.path == best.path
         && plan.standing.value == value
         && plan.weight == weight
-        && plan.ceiling == ceiling;
+        && plan.ceiling == ceiling
+        && plan.numbers == numbers;
     Ok(heads && shows(&plan, waiting))
 }
 
@@ -98,11 +105,12 @@ fn has(
     alloc: Global,
     text: &str,
     path: &[u8],
-    numbers: (u128, u128, u128),
+    numbers: Numbers,
+    heads: (u128, u128, u128),
     waiting: &[(u8, u128)],
 ) -> Result<bool, Fail> {
     asked_of(alloc, text, |alloc, sc| {
-        has_over(alloc, sc, path, numbers, waiting)
+        has_over(alloc, sc, path, numbers, heads, waiting)
     })
 }
 
@@ -114,6 +122,7 @@ fn equal_paths_meet_the_ceiling(rt: HostRuntime) -> Result<(), Fail> {
             rt.alloc(),
             worked::TWO_CELLS,
             &[0, 0],
+            Numbers::Means,
             (12, 16, 12),
             &waiting
         )?
@@ -124,19 +133,57 @@ fn equal_paths_meet_the_ceiling(rt: HostRuntime) -> Result<(), Fail> {
 #[test]
 fn a_better_path_is_below_the_ceiling(rt: HostRuntime) -> Result<(), Fail> {
     let waiting = [(0, 3), (2, 6)];
-    assert!(rt; has(rt.alloc(), worked::FOUR_CELLS, &[0, 0], (3, 9, 6), &waiting)?);
+    assert!(rt;
+        has(
+            rt.alloc(),
+            worked::FOUR_CELLS,
+            &[0, 0],
+            Numbers::Means,
+            (3, 9, 6),
+            &waiting
+        )?
+    );
     Ok(())
 }
 
 #[test]
 fn the_ceiling_is_at_least_the_value(rt: HostRuntime) -> Result<(), Fail> {
     let waiting = [(0, 3), (2, 6)];
-    assert!(rt; has(rt.alloc(), worked::FOUR_CELLS, &[2, 3], (6, 9, 6), &waiting)?);
+    assert!(rt;
+        has(
+            rt.alloc(),
+            worked::FOUR_CELLS,
+            &[2, 3],
+            Numbers::Means,
+            (6, 9, 6),
+            &waiting
+        )?
+    );
     Ok(())
 }
 
 #[test]
 fn a_path_that_waits_has_its_value(rt: HostRuntime) -> Result<(), Fail> {
-    assert!(rt; has(rt.alloc(), worked::ONE_CELL, &[0], (1, 2, 1), &[(0, 1)])?);
+    assert!(rt;
+        has(
+            rt.alloc(),
+            worked::ONE_CELL,
+            &[0],
+            Numbers::Means,
+            (1, 2, 1),
+            &[(0, 1)]
+        )?
+    );
+    Ok(())
+}
+
+#[test]
+fn numbers_are_those_that_are_asked_for(rt: HostRuntime) -> Result<(), Fail> {
+    let alloc = rt.alloc();
+    let (text, path) = (worked::WAITING_LONGER, [1, 2, 2]);
+    let means = [(0, 4), (1, 8), (2, 8)];
+    let edges = [(0, 4), (1, 6), (2, 7)];
+    assert!(rt; has(alloc, text, &path, Numbers::Means, (6, 8, 8), &means)?);
+    assert!(rt; has(alloc, text, &path, Numbers::Edges, (6, 8, 7), &edges)?);
     Ok(())
 }

@@ -73,6 +73,26 @@ rate 1
 end
 ";
 
+/// The same target over four periods, from which on gap plans are written with edge bounds.
+pub const WAITING_FOUR: &str = "\
+scenario 1
+horizon 4
+parts 1 1 2
+cell a
+cell b
+cell c
+start b
+first c 1
+moves a a b
+moves b a b c
+moves c b c
+drift a a 1
+drift b b 1
+drift c c 1
+rate 1
+end
+";
+
 /// The same target over three periods, where no look in the middle misses: looks have two rates.
 pub const TWO_RATES: &str = "\
 scenario 1
