@@ -1,6 +1,6 @@
 //! The tables of the mean bound.
 
-ghost use Rattle.std.specs.Prelude.{◌≡◌, ◌==◌, ◌<◌, ◌≤◌, ◌+◌, ◌*◌, ℕ, List, length, if◌then◌else◌, IfOk};
+ghost use Rattle.std.specs.Prelude.{◌≡◌, ◌<◌, ◌≤◌, ◌+◌, ◌*◌, ℕ, List, length, IfOk};
 ghost use Rattle.search_model.specs.Problem.{Problem};
 ghost use Rattle.search_model.specs.Legal.{IsLegal, last_of};
 ghost use Rattle.search_model.specs.Tracks.{value_of};
@@ -155,22 +155,6 @@ impl Mean {
         ensures filled { (q : List ℕ) → IsFilledFor sc.now q self.old → IsFilledFor sc.now q self.new }
     {
         self.levels.value(sc, prefix)
-    }
-
-    /// What no path below a legal prefix exceeds, in parts of the whole weight: the value of a path, the mean bound of a
-    /// shorter prefix.
-    pub fn ceiling(&mut self, sc: &Scenario, prefix: &Path) -> u128
-        requires made { IsMadeFor sc.now self.old }
-        requires legal { IsLegal sc.now prefix.now }
-        ensures ceiling { result ≡
-            (if length prefix.now == sc.now.horizon then value_of sc.now prefix.now else mean_of sc.now prefix.now) }
-        ensures made { IsMadeFor sc.now self.new }
-    {
-        if prefix.len() == sc.horizon() as usize {
-            self.value(sc, prefix)
-        } else {
-            self.bound(sc, prefix)
-        }
     }
 
     /// The beliefs of the periods after the prefix that the tables are along, with no look after it.
