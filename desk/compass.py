@@ -3,6 +3,7 @@ import json
 from html import escape
 
 from desk import earth, geojson, meridian
+from desk.markup import filled
 
 # How high the strip below the squares is, and how far its drawings lie from the edges, in units of the picture.
 HEIGHT, ASIDE = 50, 20
@@ -47,10 +48,9 @@ def add(drawn, frame):
     turn = f' transform="rotate({-up:.1f} {east:.1f} {bottom:.1f})"' if up else ""
     arrow = f"M{east:.1f} {bottom - 20:.1f}l9 36l-9 -8l-9 8z"
     drawn.size[1] += HEIGHT
-    drawn.below = (
-        f'<g class="scale" aria-hidden="true"><path d="{bar}"/><text x="{x + ASIDE + long + 10:.1f}" y="{bottom + 6:.1f}">{told(metres)}</text></g>'
-        f'<g class="north" aria-hidden="true"{turn}><path d="{arrow}"/><text x="{east - 24:.1f}" y="{bottom + 6:.1f}">N</text></g>'
-    )
+    low = f"{bottom + 6:.1f}"
+    drawn.below = filled("scale", bar=bar, x=f"{x + ASIDE + long + 10:.1f}", y=low, length=told(metres))
+    drawn.below += filled("north", turn=turn, arrow=arrow, x=f"{east - 24:.1f}", y=low)
     drawn.where = pointed(drawn, frame) if frame else ""
 
 
@@ -58,7 +58,7 @@ def north(drawn, frame):
     """What is said of north."""
     up = turned(drawn, frame)
     if abs(up) < TURNED:
-        return "North is up"
+        return filled("north_is_up")
     return f"The arrow shows true north in the middle of the map, {abs(up):.1f} degrees to the {'left' if up > 0 else 'right'} of up"
 
 

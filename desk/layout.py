@@ -2,6 +2,7 @@
 import dataclasses
 import re
 
+from desk.markup import filled
 from desk.squares import row_and_column, squares
 from desk.states import LOST
 
@@ -63,10 +64,10 @@ def side_of(places):
     """The greatest side of squares around all these middles that don't overlap."""
     apart = [distance(one, other) for at, one in enumerate(places) for other in places[:at]]
     if 0 in apart:
-        raise NoPlaces("two cells lie at the same place")
+        raise NoPlaces(filled("same_place"))
     side = min(apart, default=1.0)
     if max(apart, default=0) > side * MOST_ACROSS:
-        raise NoPlaces("its cells lie too far apart for their distance from each other")
+        raise NoPlaces(filled("too_far"))
     return side
 
 
@@ -104,12 +105,12 @@ def parts_of(own, places, cells, side):
 def layout(sc, text):
     """The layout of a scenario with this text. Raises NoPlaces where not each square has a place, or no map can be drawn of them."""
     own, told = squares(sc), places_told(text)
-    filled = [own.names[it] for it in own.filled()]
-    metres = all(it in told for it in filled)
+    lying = [own.names[it] for it in own.filled()]
+    metres = all(it in told for it in lying)
     named = told if metres else places_named([*own.names, *sc.positions])
-    lacking = next((it for it in filled if it not in named), None)
+    lacking = next((it for it in lying if it not in named), None)
     if lacking is not None:
-        raise NoPlaces(f"nothing says where the {own.noun} {lacking.decode('ascii')} lies")
+        raise NoPlaces(filled("no_place", noun=own.noun, name=lacking.decode("ascii")))
     places = [named.get(it) for it in own.names]
     drawn = [it for it in places if it]
     side = side_of(drawn)

@@ -6,6 +6,7 @@ import os
 from html import escape
 
 from desk import carried, compass, earth, layout, masses, percent, picture, tables
+from desk.markup import filled
 
 HERE = os.path.dirname(os.path.realpath(__file__))
 # The least width of a square on a screen, in pixels: below it a map can be moved sideways.
@@ -54,15 +55,14 @@ def verdict(search, module):
 
 def header(search, times, module):
     """The name of the scenario, the verdict, the chance, and what the scenario says of itself."""
-    said, looks = comment(search.told_by), tables.plural(search.sc.horizon, "look")
-    each = "" if search.seats.count == 1 else " each"
+    said = comment(search.told_by)
     told = " ".join([*(times.about() if times else []), *tables.about_trial(search), *tables.about_flown(search), *tables.about_names(search)])
     more = f'<p class="note">{escape(told)}</p>' if told else ""
     up = "" if search.ceiling is None else ", that of the ceiling is rounded up"
     own = f"<details><summary>What the scenario says of itself</summary><pre>{escape(said)}</pre></details>" if said else ""
     return (
         f'<header><h1>Search plan <bdi>{escape(search.name)}</bdi></h1><div class="verdict">'
-        f'<p class="chance"><strong>{search.report.percent}&nbsp;%</strong> chance to find them in {looks}{each}</p>{verdict(search, module)}'
+        f'<p class="chance">{tables.chance(search)}</p>{verdict(search, module)}'
         f'<p class="note">Percentages are cut off after three digits{up}. '
         "The chance is exact for the numbers of the scenario, and as good as they are.</p>"
         f"{more}{own}</header>"
@@ -72,39 +72,31 @@ def header(search, times, module):
 def likeliest(search, frame):
     """The likeliest squares after a look, as shares of all and of what is left."""
     if not frame.missed:
-        return "They are found for certain."
+        return filled("certain")
     sums, told = search.squares.sums(frame.left), []
     for sort, whole in (("of-all", search.report.weight), ("of-left", frame.missed)):
         greatest = masses.greatest(sums)[:MOST_LIKELIEST]
-        names = ", ".join(f"{escape(search.squares.texts[it])} {percent.cut(sums[it], whole)}&nbsp;%" for it in greatest)
-        told.append(f'<span class="{sort}">Likeliest now: {names}.</span>')
+        names = (filled("named_share", name=escape(search.squares.texts[it]), share=percent.cut(sums[it], whole)) for it in greatest)
+        told.append(filled("likeliest", sort=sort, names=", ".join(names)))
     return "".join(told)
 
 
-def caption(search, frame, clock):
-    """What a map says, in words."""
-    whole = search.report.weight
-    time = f" ({clock.at(frame.period)} to {clock.at(frame.period + 1)})" if clock and frame.period else ""
+def figure(search, drawn, frame, clock):
+    """The map of a frame, with what it says in words above it."""
+    whole, time, found = search.report.weight, "", ""
+    if frame.period:
+        time = filled("time", begins=clock.at(frame.period), ends=clock.at(frame.period + 1)) if clock else ""
+        found = filled("found", finds=tables.finds(search), share=percent.cut(frame.found, whole), so_far=percent.cut(frame.so_far, whole))
     head = escape(picture.when(search, frame))
-    found = f"{tables.finds(search)} {percent.cut(frame.found, whole)}&nbsp;%; found so far {percent.cut(frame.so_far, whole)}&nbsp;%. "
-    said = f"{found if frame.period else ''}{likeliest(search, frame)}"
-    return f"<figcaption><strong>{head[0].upper()}{head[1:]}{time}</strong>{said}</figcaption>"
+    said = found + likeliest(search, frame)
+    return filled("figure", period=frame.period, head=head[0].upper() + head[1:], time=time, said=said, map=drawn.svg(frame))
 
 
-def figures(search, drawn, clock):
-    """A map for each look, and one before the first. A script shows one at a time; print, and a page without scripts, all."""
-    told = []
-    for frame in search.frames:
-        inner = f'{caption(search, frame, clock)}<div class="scroll">{drawn.svg(frame)}</div>'
-        told.append(f'<figure class="frame" id="after-{frame.period}">{inner}</figure>')
-    return f'<div class="figures">{"".join(told)}</div>'
-
-
-def scale(drawn):
-    """What the colours say."""
+def scale(is_parted):
+    """What the colours say, of squares or of parts of squares."""
     square = '<svg viewBox="0 0 24 20" aria-hidden="true"><rect class="a{}" x="1" y="1" width="22" height="18"/></svg>'
     rows = "".join(f"<li>{square.format(at)}{text}&nbsp;%</li>" for at, text in picture.class_names())
-    head = "<li>per square:</li>" if drawn.parted else ""
+    head = "<li>per square:</li>" if is_parted else ""
     return f'<ul class="key" aria-label="Scale of the colours">{head}{rows}</ul>'
 
 
@@ -142,17 +134,7 @@ def drifts_box(search):
 
 def controls(search):
     """The slider, the buttons, and the choice of what the numbers say."""
-    count = search.sc.horizon
-    return (
-        '<div class="controls"><button type="button" id="play">Play</button>'
-        '<button type="button" id="back" aria-label="One period back">&#8249;</button>'
-        f'<label>Period <input type="range" id="period" min="0" max="{count}" step="1" value="0"></label>'
-        '<button type="button" id="forth" aria-label="One period on">&#8250;</button></div>'
-        "<fieldset><legend>Numbers and colours</legend>"
-        '<label><input type="radio" name="shares" value="of-all" checked> share of all</label>'
-        f'<label><input type="radio" name="shares" value="of-left"> if nothing was found so far</label>{drifts_box(search)}</fieldset>'
-        '<p id="said" class="hidden" role="status" aria-live="polite"></p>'
-    )
+    return filled("controls", count=search.sc.horizon, drifts=drifts_box(search))
 
 
 def sides(drawn, frame):
@@ -162,34 +144,29 @@ def sides(drawn, frame):
         return ""
     north = compass.north(drawn, frame)
     if not drawn.parted:
-        return f" {north}; a square is {side:g} m wide."
+        return filled("width", north=north, side=f"{side:g}")
     part = side / finer
-    return (
-        f" {north}; a square is {side:g} m wide, and where they may be is counted in states, parts of it of {part:.{0 if part >= 100 else 1}f} m. "
-        "The number in a square is the sum of its states. Colours are per square: a state has that of a square whose states are all as likely as it."
-    )
+    return filled("width_of_parts", north=north, side=f"{side:g}", part=f"{part:.{0 if part >= 100 else 1}f}")
 
 
 def map_section(search, drawn, told):
-    """The maps with all that belongs to them."""
+    """The maps with all that belongs to them: one for each look, and one before the first. A script shows one at a time; print, and a page
+    without scripts, all."""
     off = drawn.not_drawn()
-    lacking = f" Not on the map: {escape(', '.join(sorted(off)))}." if off else ""
-    note = (
-        "Shares of all and what was found so far sum to 100&nbsp;%. If nothing was found, the shares of what is left do. "
-        f'<span class="on-screen">Arrow keys go from period to period.</span>{sides(drawn, told.frame)}{lacking}'
-    )
-    return (
-        f'<section id="map" class="of-all"><h2>Where they may be</h2>{controls(search)}'
-        f'<div class="with-scale">{figures(search, drawn, told.times)}{scale(drawn)}</div>{drawn.where}{signs(search.seats.count)}<p class="note">{note}</p></section>'
-    )
+    lacking = filled("not_drawn", names=escape(", ".join(sorted(off)))) if off else ""
+    slots = {
+        "controls": controls(search),
+        "figures": "".join(figure(search, drawn, it, told.times) for it in search.frames),
+        "key": scale(bool(drawn.parted)),
+        "where": drawn.where,
+        "signs": signs(search.seats.count),
+    }
+    return filled("maps", **slots, note=filled("map_note", width=sides(drawn, told.frame), lacking=lacking))
 
 
 def no_map(why, each):
     """Why there is no map, and what would give one."""
-    return (
-        f'<p class="note">There is no map, since {escape(why)}. A comment <code># at NAME X Y</code> in the scenario for each {each} '
-        "(metres east and south of a corner) gives one; names such as r3c4 do, too.</p>"
-    )
+    return filled("no_map", why=escape(why), noun=each)
 
 
 def style(drawn):
@@ -210,7 +187,7 @@ def main_part(search, drawn, why, told):
     if drawn is None:
         return f"<main>{periods}{tables.left(search)}{tables.all_cells(search, True)}{no_map(why, search.squares.noun)}{tables.numbers(search)}</main>"
     two = " two" if drawn.columns() <= MOST_BESIDE else ""
-    first = f'<div class="columns{two}">{map_section(search, drawn, told)}<div class="beside">{periods}{tables.left(search)}</div></div>'
+    first = filled("columns", two=two, maps=map_section(search, drawn, told), tables=periods + tables.left(search))
     return f'<main class="with-map">{first}{tables.all_cells(search, False, drawn.layout.finer)}{tables.numbers(search)}</main>'
 
 

@@ -4,6 +4,7 @@ import math
 from html import escape
 
 from desk import percent
+from desk.markup import filled
 
 # The side of a square and the margin around the squares, in units of the picture; and the gap between squares, and between parts of one.
 SIDE, MARGIN = 100, 14
@@ -119,12 +120,12 @@ class Picture:
     def svg(self, frame):
         """The map of a frame."""
         box = " ".join(number(it) for it in [*self.low, *self.size])
-        label = f"Map {when(self.search, frame)}; the table of all {self.own.noun}s has its numbers"
+        label = filled("map_label", when=when(self.search, frame), noun=self.own.noun)
         who = range(len(self.ways))
         ways = "".join(self.of(it, self.path(it, frame)) for it in who)
         signs = "".join(self.of(it, self.labels(it, frame) + self.searcher(it, frame)) for it in who)
         parts = [self.colours(frame), self.borders(), self.outlines(frame), self.drifts(frame), ways, self.texts(frame), signs, self.below]
-        return f'<svg class="map" role="img" aria-label="{escape(label)}" viewBox="{box}">{"".join(parts)}</svg>'
+        return filled("map", label=escape(label), box=box, drawn="".join(parts))
 
     def classes(self, frame, mass, parts=1):
         """The classes of colour of a place: as a share of all, and as a share of what is left. Of a place of which so many make a square
@@ -134,25 +135,24 @@ class Picture:
 
     def shares(self, name, frame, mass):
         """What the title of a place says of it, without its exact fraction."""
-        return f"{name}: {share(mass, self.search.report.weight)} % of all, {share(mass, frame.missed)} % if nothing was found"
+        return filled("shares", name=name, of_all=share(mass, self.search.report.weight), of_left=share(mass, frame.missed))
 
     def colours(self, frame):
         """A square for each square, whose title says its numbers, and on it its parts where it has any."""
         sums, drawn = self.own.sums(frame.left), []
         for at, (x, y) in self.squares.items():
-            title = f"{self.shares(self.names[at], frame, sums[at])}; {sums[at]} of {self.search.report.weight}"
+            title = filled("square_title", shares=self.shares(self.names[at], frame, sums[at]), mass=sums[at], whole=self.search.report.weight)
             colour = self.classes(frame, 0 if at in self.parted else sums[at])
-            place = f'x="{number(x - 49)}" y="{number(y - 49)}"'
-            drawn.append(f'<rect class="{colour}" {place}><title>{escape(title)}</title></rect>')
+            drawn.append(filled("square", colour=colour, x=number(x - 49), y=number(y - 49), title=escape(title)))
         drawn += (self.part(frame, it) for at in self.parted for it in self.own.cells[at])
-        return f'<g class="cells">{"".join(drawn)}</g>'
+        return filled("layer", kind="cells", drawn="".join(drawn))
 
     def part(self, frame, cell):
         """A part of a square, coloured as a whole square that has as much in each part."""
         x, y = (it - self.part_side() / 2 for it in self.point(self.layout.cells[cell]))
         mass, parts = frame.left[cell], self.layout.finer**2
         title = escape(self.shares(self.search.cells[cell], frame, mass))
-        return f'<rect class="{self.classes(frame, mass, parts)} part" x="{number(x)}" y="{number(y)}"><title>{title}</title></rect>'
+        return filled("square", colour=f"{self.classes(frame, mass, parts)} part", x=number(x), y=number(y), title=title)
 
     def part_side(self):
         """The side of a part of a square, in units of the picture."""
@@ -161,15 +161,14 @@ class Picture:
     def borders(self):
         """The borders of the squares with parts."""
         at = (self.squares[it] for it in self.parted)
-        drawn = "".join(f'<rect x="{number(x - 49)}" y="{number(y - 49)}"/>' for x, y in at)
-        return f'<g class="borders">{drawn}</g>' if drawn else ""
+        drawn = "".join(box(x - 49, y - 49) for x, y in at)
+        return filled("layer", kind="borders", drawn=drawn) if drawn else ""
 
     def outlines(self, frame):
         """An outline on each square that the look covers."""
         seen = set(frame.covered)
         at = (place for it, place in self.squares.items() if seen.intersection(self.own.cells[it]))
-        drawn = (f'<rect x="{number(x - 45)}" y="{number(y - 45)}"/>' for x, y in at)
-        return f'<g class="covers">{"".join(drawn)}</g>'
+        return filled("layer", kind="covers", drawn="".join(box(x - 45, y - 45) for x, y in at))
 
     def drifts(self, frame):
         """A dot for each simulated drift that is in the area at the look, where there are some and places are metres."""
@@ -181,38 +180,36 @@ class Picture:
     @staticmethod
     def of(searcher, drawing):
         """What is drawn of a searcher; that of the second one has a class of its own."""
-        return f'<g class="second">{drawing}</g>' if searcher else drawing
+        return filled("layer", kind="second", drawn=drawing) if searcher else drawing
 
     def path(self, searcher, frame):
         """The way that is to come, the way before this period, and this period's move on top, with an arrow on each leg."""
         t, legs = frame.period, self.legs[searcher]
         parts = (("coming", legs[t:]), ("gone", legs[: max(t - 1, 0)]), ("now", legs[max(t - 1, 0) : t]))
-        return "".join(f'<g class="{name}">{"".join(drawn(it) for it in legs if it)}</g>' for name, legs in parts) + self.start(self.ways[searcher][0])
+        groups = (filled("layer", kind=kind, drawn="".join(drawn(it) for it in legs if it)) for kind, legs in parts)
+        return "".join(groups) + self.start(self.ways[searcher][0])
 
     @staticmethod
     def start(place):
         """A ring where a searcher is before period 1."""
-        return f'<circle class="start" cx="{number(place[0])}" cy="{number(place[1])}" r="9"/>' if place else ""
+        return filled("start", x=number(place[0]), y=number(place[1])) if place else ""
 
     def texts(self, frame):
         """The name of each square, and its share in percent of all and of what is left."""
         sums, drawn = self.own.sums(frame.left), []
         for it, (x, y) in self.squares.items():
-            at = f'x="{number(x)}" y="{number(y + 38)}"'
-            drawn.append(
-                f'<g class="{self.classes(frame, sums[it])}">'
-                f'<text class="name" x="{number(x - 42)}" y="{number(y - 31)}">{escape(short(self.names[it]))}</text>'
-                f'<text class="of-all" {at}>{share(sums[it], self.search.report.weight)}</text>'
-                f'<text class="of-left" {at}>{share(sums[it], frame.missed)}</text></g>'
-            )
-        return f'<g class="texts" aria-hidden="true">{"".join(drawn)}</g>'
+            of_all, of_left = share(sums[it], self.search.report.weight), share(sums[it], frame.missed)
+            at = {"left": number(x - 42), "top": number(y - 31), "x": number(x), "y": number(y + 38)}
+            name = escape(short(self.names[it]))
+            drawn.append(filled("square_texts", colour=self.classes(frame, sums[it]), name=name, of_all=of_all, of_left=of_left, **at))
+        return filled("layer_aside", kind="texts", drawn="".join(drawn))
 
     def labels(self, searcher, frame):
         """Beside each place of a way, the periods in which the searcher looks from there; those of the second searcher stand below."""
         places = self.visits(self.ways[searcher], frame.period).items()
         up = (29 if max(map(len, self.names)) <= LETTERS_BESIDE else 13) - BELOW * searcher
-        drawn = (f'<text x="{number(x + 43)}" y="{number(y - up)}">{label}</text>' for (x, y), label in places)
-        return f'<g class="visits" aria-hidden="true">{"".join(drawn)}</g>'
+        drawn = (filled("text", x=number(x + 43), y=number(y - up), text=label) for (x, y), label in places)
+        return filled("layer_aside", kind="visits", drawn="".join(drawn))
 
     def searcher(self, searcher, frame):
         """A searcher's place, with the number of the period. Two at one place stand beside each other."""
@@ -227,16 +224,20 @@ class Picture:
 def marker(searcher, place, text):
     """The sign of a searcher: a disc for the first one, a square for the second."""
     x, y = place
-    digits = f'<text x="{number(x)}" y="{number(y + 5.5)}">{text}</text>'
-    square = f'<rect x="{number(x - 14)}" y="{number(y - 14)}"/>'
-    disc = f'<circle cx="{number(x)}" cy="{number(y)}" r="15"/>'
-    return f'<g class="searcher" aria-hidden="true">{square if searcher else disc}{digits}</g>'
+    digits = filled("text", x=number(x), y=number(y + 5.5), text=text)
+    disc = filled("disc", x=number(x), y=number(y))
+    return filled("layer_aside", kind="searcher", drawn=(box(x - 14, y - 14) if searcher else disc) + digits)
+
+
+def box(x, y):
+    """A rectangle by its corner; its kind says how large it is."""
+    return filled("box", x=number(x), y=number(y))
 
 
 def drawn(curve_and_arrow):
     """A leg as SVG: a light line below it, the line, its arrow."""
     curve, arrow = curve_and_arrow
-    return f'<path class="under" d="{curve}"/><path d="{curve}"/><path class="arrow" d="{arrow}"/>'
+    return filled("leg", curve=curve, arrow=arrow)
 
 
 def leg(one, other, bow):
@@ -268,4 +269,4 @@ def ranges(times):
 def when(search, frame):
     """Which look a frame is behind, in words."""
     who = "searcher is" if search.seats.count == 1 else "searchers are"
-    return f"after look {frame.period}, from {search.where(frame)}" if frame.period else f"before the first look; the {who} at {search.where(frame)}"
+    return filled("behind_look" if frame.period else "before_looks", period=frame.period, who=who, where=search.where(frame))

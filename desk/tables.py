@@ -3,6 +3,7 @@ import dataclasses
 from html import escape
 
 from desk import masses, percent, picture
+from desk.markup import filled
 
 # How many squares the table of what is left names.
 MOST_LEFT = 10
@@ -17,25 +18,18 @@ def plural(count, one):
 
 def table(caption, heads, rows):
     """A table. Heads are pairs of text and whether numbers stand below; rows are ready HTML."""
-    row = "".join(f'<th scope="col"{" class=number" if is_number else ""}>{text}</th>' for text, is_number in heads)
-    return f'<table><caption>{caption}</caption><thead><tr>{row}</tr></thead><tbody>{"".join(rows)}</tbody></table>'
+    row = "".join(filled("head", sort=" class=number" if is_number else "", text=text) for text, is_number in heads)
+    return filled("table", caption=caption, heads=row, rows="".join(rows))
 
 
 def exact(name, part, whole):
     """A share in percent, with the exact fraction in a box that hover and focus show. The name makes it one of its own."""
-    return (
-        f'<span class="exact" tabindex="0" aria-describedby="{name}">{percent.cut(part, whole)}&nbsp;%'
-        f'<span class="tip" role="tooltip" id="{name}">exactly {part} of {whole}</span></span>'
-    )
+    return filled("exact", name=name, share=percent.cut(part, whole), part=part, whole=whole)
 
 
 def bar(part, whole):
     """A bar beside a number that says the same."""
-    width = percent.cut(part, whole)
-    return (
-        '<svg class="bar" viewBox="0 0 100 8" preserveAspectRatio="none" aria-hidden="true"><rect width="100" height="8"/>'
-        f'<rect class="part" width="{width}" height="8"/></svg>'
-    )
+    return filled("bar", width=percent.cut(part, whole))
 
 
 def heads(search):
@@ -54,15 +48,21 @@ def best(search):
     return f"{what} that begins as flown" if search.seats.flown else what
 
 
+def chance(search):
+    """What the plan finds, and in how many looks."""
+    looks, each = plural(search.sc.horizon, "look"), "" if search.seats.count == 1 else " each"
+    return filled("chance", percent=search.report.percent, looks=looks, each=each)
+
+
 def verdict(search):
     """What the program accepted, as a sentence: that nothing is better, or a ceiling of what the others find, if it is below the whole."""
     if search.ceiling is None:
-        return f"Accepted: no {best(search)} is better."
+        return filled("no_better", best=best(search))
     more = search.ceiling > search.report.value
     if more and search.ceiling >= search.report.weight:
-        return "Accepted, but nothing is shown yet: the ceiling is 100 %."
+        return filled("nothing_shown")
     than = f" than {percent.up(search.ceiling, search.report.weight)} %" if more else ""
-    return f"Accepted: no {best(search)} finds more{than}."
+    return filled("no_more", best=best(search), than=than)
 
 
 def about_flown(search):
@@ -93,15 +93,15 @@ def period_row(search, frame, clock, with_map):
     """A period's row: its number (a button where there is a map), when it begins if known, and what its look finds."""
     t, whole = frame.period, search.report.weight
     flown = " <small>flown</small>" if t <= search.seats.flown else ""
-    places = "".join(f"<td><bdi>{escape(it)}</bdi>{flown}</td>" for it in search.seats.names[frame.position])
-    head = f'<button type="button" class="step" aria-pressed="false" aria-label="Show period {t}">{t}</button>' if with_map else t
-    time = f"<td>{clock.at(t)}</td>" if clock else ""
-    data = f' data-period="{t}"' if with_map else ""
-    return (
-        f'<tr{data}><th scope="row">{head}</th>{time}{places}'
-        f'<td class="number found">{exact(f"found-{t}", frame.found, whole)}</td>'
-        f'<td class="number so-far">{exact(f"so-far-{t}", frame.so_far, whole)}{bar(frame.so_far, whole)}</td></tr>'
-    )
+    slots = {
+        "data": filled("period_data", period=t) if with_map else "",
+        "head": filled("period_button", period=t) if with_map else t,
+        "time": filled("period_time", begins=clock.at(t)) if clock else "",
+        "places": "".join(filled("period_place", name=escape(it), flown=flown) for it in search.seats.names[frame.position]),
+        "found": exact(f"found-{t}", frame.found, whole),
+        "so_far": exact(f"so-far-{t}", frame.so_far, whole),
+    }
+    return filled("period", **slots, bar=bar(frame.so_far, whole))
 
 
 def periods(search, clock, with_map):
@@ -109,18 +109,15 @@ def periods(search, clock, with_map):
     time = [("Begins", False)] if clock else []
     columns = [("Period", False), *time, *((it, False) for it in heads(search)), (finds(search), True), ("Found so far", True)]
     rows = (period_row(search, it, clock, with_map) for it in search.frames[1:])
-    how = '<span class="on-screen">Point at a number, or go to it by Tab, for its exact fraction.</span>'
-    caption = f"In each period the {'searcher moves, then looks' if search.seats.count == 1 else 'searchers move, then look'}. {how}"
-    return f'<section class="periods"><h2>Period by period</h2>{table(caption, columns, rows)}</section>'
+    caption = filled("periods_caption", move="searcher moves, then looks" if search.seats.count == 1 else "searchers move, then look")
+    return filled("periods", table=table(caption, columns, rows))
 
 
 def left_row(search, square, mass):
     """The row of a square in which they may be when nothing was found."""
     last, whole = search.frames[-1], search.report.weight
-    return (
-        f'<tr><th scope="row"><bdi>{escape(search.squares.texts[square])}</bdi></th><td class="number">{exact(f"left-{square}", mass, whole)}</td>'
-        f'<td class="number">{exact(f"rest-{square}", mass, last.missed)}</td></tr>'
-    )
+    shares = exact(f"left-{square}", mass, whole), exact(f"rest-{square}", mass, last.missed)
+    return filled("row_of_name", name=escape(search.squares.texts[square]), shares="".join(filled("number", number=it) for it in shares))
 
 
 def left(search):
@@ -128,16 +125,14 @@ def left(search):
     last, whole, noun = search.frames[-1], search.report.weight, search.squares.noun
     sums = search.squares.sums(last.left)
     order = masses.greatest(sums)
-    head = "<h2>Where they are if nothing was found</h2>"
     if not order:
-        return f'<section class="left">{head}<p>Nowhere: these looks find them for certain.</p></section>'
+        return filled("left", told=filled("left_nowhere"))
     heads = [(noun.capitalize(), False), ("Share of all", True), ("If nothing was found", True)]
-    caption = f"After look {last.period}. All {noun}s together hold {percent.cut(last.missed, whole)} % of all."
+    caption = filled("left_caption", period=last.period, noun=noun, share=percent.cut(last.missed, whole))
     rows = [left_row(search, it, sums[it]) for it in order[:MOST_LEFT]]
     rest = sum(sums[it] for it in order[MOST_LEFT:])
-    others = f"The rest, in {plural(len(order) - MOST_LEFT, noun)}: {percent.cut(rest, whole)} % of all."
-    more = f'<p class="note">{others}</p>' if rest else ""
-    return f'<section class="left">{head}{table(caption, heads, rows)}{more}</section>'
+    more = filled("left_rest", count=plural(len(order) - MOST_LEFT, noun), share=percent.cut(rest, whole)) if rest else ""
+    return filled("left", told=table(caption, heads, rows) + more)
 
 
 @dataclasses.dataclass(frozen=True)
@@ -164,31 +159,24 @@ def all_row(search, place, frames):
     whole = search.report.weight
     masses_left = (sum(it.left[cell] for cell in place.cells) for it in frames)
     told = ((mass, picture.class_of(mass * place.count, whole)) for mass in masses_left)
-    shares = (f'<td class="number a{colour}" title="{mass} of {whole}">{picture.share(mass, whole)}</td>' for mass, colour in told)
-    return f'<tr><th scope="row"><bdi>{escape(place.name)}</bdi></th>{"".join(shares)}</tr>'
+    shares = (filled("all_share", colour=colour, mass=mass, whole=whole, share=picture.share(mass, whole)) for mass, colour in told)
+    return filled("row_of_name", name=escape(place.name), shares="".join(shares))
 
 
 def some_looks(search, noun, places, frames):
     """The table of all places after these looks."""
     heads = [(noun.capitalize(), False), *((f"look {it.period}" if it.period else "before", True) for it in frames)]
     rows = [all_row(search, it, frames) for it in places]
-    found = "".join(f'<td class="number">{picture.share(it.so_far, search.report.weight)}</td>' for it in frames)
-    rows.append(f'<tr class="sum"><th scope="row">found so far</th>{found}</tr>')
-    caption = (
-        f"Percent of all: how likely they are in the {noun}, and missed by all looks so far. "
-        "With what was found, each column sums to 100."
-    )
-    return table(caption, heads, rows)
+    found = (filled("number", number=picture.share(it.so_far, search.report.weight)) for it in frames)
+    rows.append(filled("all_sum", shares="".join(found)))
+    return table(filled("all_caption", noun=noun), heads, rows)
 
 
 def all_looks(search, noun, places, is_open):
     """The tables of all places after all looks, which say in numbers what the maps say in colours."""
     parts = (search.frames[at : at + MOST_COLUMNS] for at in range(0, len(search.frames), MOST_COLUMNS))
     told = "".join(some_looks(search, noun, places, it) for it in parts)
-    inner = f'<div class="scroll" tabindex="0" role="region" aria-label="All {noun}s after all looks">{told}</div>'
-    if is_open:
-        return f'<section class="all"><h2>Where they may be after each look</h2>{inner}</section>'
-    return f'<details class="all"><summary>All {noun}s after all looks, as a table</summary>{inner}</details>'
+    return filled("all_open" if is_open else "all_closed", noun=noun, tables=filled("all_tables", noun=noun, tables=told))
 
 
 def all_cells(search, is_open, finer=1):
@@ -201,8 +189,8 @@ def about_records(search):
     """The row that says what the records show."""
     records = plural(search.records, "record")
     if search.ceiling is None:
-        return "Plan", f"text of version {search.version}, {records}: they show that no path is better"
-    return "Gap plan", f"{records}: they show that no path finds more than the ceiling"
+        return "Plan", filled("plan_records", version=search.version, records=records)
+    return "Gap plan", filled("gap_records", records=records)
 
 
 def numbers(search):
@@ -212,17 +200,16 @@ def numbers(search):
     cells = plural(len(search.squares.filled()), search.squares.noun) + (f" in {len(search.cells)} states" if search.squares.is_finer else "")
     counts = plural(t, "period"), cells, plural(len(search.sc.positions), "position")
     rows = [
-        ("Chance", f"{search.report.value} of {search.report.weight}"),
-        ("Denominators", f"first distribution {a}, drift {d}, looks {g}; the whole is {a} · {d}<sup>{t - 1}</sup> · {g}<sup>{t}</sup>"),
+        ("Chance", filled("of_whole", part=search.report.value, whole=search.report.weight)),
+        ("Denominators", filled("denominators", a=a, d=d, g=g, steps=t - 1, periods=t)),
         ("Size", f"{', '.join(counts)} of the {'searcher' if search.seats.count == 1 else 'pair'}"),
         about_records(search),
     ]
     if search.ceiling is not None:
-        rows.insert(1, ("Ceiling", f"{search.ceiling} of {search.report.weight}: rounded up in percent"))
+        rows.insert(1, ("Ceiling", filled("ceiling", ceiling=search.ceiling, whole=search.report.weight)))
     if not search.is_mapped:
         rows.append(("Masses", "this helper's own sums, of which the last are those of the report: this program has no map"))
-    told = "".join(f"<dt>{name}</dt><dd>{text}</dd>" for name, text in rows)
-    sums = (("SHA-256 of the scenario", search.scenario_sum), ("SHA-256 of the plan", search.plan_sum))
-    told += "".join(f'<dt>{name}</dt><dd class="sum">{text}</dd>' for name, text in sums)
-    return f'<section class="numbers"><h2>The numbers behind it</h2><dl>{told}</dl></section>'
+    told = [filled("number_row", name=name, text=text) for name, text in rows]
+    told += (filled("sum_row", name=name, text=text) for name, text in (("scenario", search.scenario_sum), ("plan", search.plan_sum)))
+    return filled("numbers", rows="".join(told))
 
