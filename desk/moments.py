@@ -5,6 +5,7 @@ import re
 from fractions import Fraction
 
 from desk import geometry
+from desk.markup import filled
 
 DAY = 24 * 60
 SPELLED = re.compile(r"(?:(\d{4})-(\d\d)-(\d\d)[ T])?(\d\d):(\d\d)(?::(\d\d))?(Z)?", re.ASCII)
@@ -131,8 +132,8 @@ class Times:
         """The date of the first period and the zone of all times, as a list of one sentence or none."""
         begins, zone = self.clock.begins, "UTC" if self.clock.begins.is_utc else "local"
         if begins.date:
-            return [f"Times are {zone}, from {begins.date} on."]
-        return ["Times are UTC."] * begins.is_utc
+            return [filled("times_from", zone=zone, date=begins.date)]
+        return [filled("times_utc")] * begins.is_utc
 
 
 def daily(since, ends):

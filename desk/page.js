@@ -1,41 +1,40 @@
 "use strict";
 // Shows the map of one period at a time. All that it shows stands in the page: it makes no text of its own but the play button's.
-(function () {
-  const frames = Array.from(document.querySelectorAll(".frame"));
-  const slider = document.getElementById("period");
-  const play = document.getElementById("play");
-  const said = document.getElementById("said");
-  const rows = Array.from(document.querySelectorAll("tr[data-period]"));
+const maps = (function () {
   const MILLISECONDS_A_PERIOD = 1000;
-  let timer = null;
-
-  document.documentElement.classList.add("script");
+  const at = (id) => document.getElementById(id);
+  let [frames, rows, timer] = [[], [], null];
 
   // Shows the frame of a period, and marks its row of the table.
   function show(period) {
-    const at = Math.min(Math.max(period, 0), frames.length - 1);
-    const caption = frames[at].querySelector("figcaption");
-    frames.forEach((frame, number) => { frame.hidden = number !== at; });
+    const here = Math.min(Math.max(period, 0), frames.length - 1);
+    const caption = frames[here].querySelector("figcaption");
+    frames.forEach((frame, number) => { frame.hidden = number !== here; });
     rows.forEach((row) => {
-      const here = Number(row.dataset.period) === at;
-      row.classList.toggle("here", here);
-      row.querySelector(".step").setAttribute("aria-pressed", String(here));
+      const isHere = Number(row.dataset.period) === here;
+      row.classList.toggle("here", isHere);
+      row.querySelector(".step").setAttribute("aria-pressed", String(isHere));
     });
-    slider.value = String(at);
-    slider.setAttribute("aria-valuetext", caption.querySelector("strong").textContent);
+    at("period").value = String(here);
+    at("period").setAttribute("aria-valuetext", caption.querySelector("strong").textContent);
     if (timer === null) {
-      said.textContent = caption.innerText;
+      at("said").textContent = caption.innerText;
     }
   }
 
   function now() {
-    return Number(slider.value);
+    return Number(at("period").value);
+  }
+
+  // Ends the play.
+  function halt() {
+    window.clearInterval(timer);
+    timer = null;
   }
 
   function stop() {
-    window.clearInterval(timer);
-    timer = null;
-    play.textContent = "Play";
+    halt();
+    at("play").textContent = "Play";
     show(now());
   }
 
@@ -49,7 +48,7 @@
 
   function start() {
     timer = window.setInterval(step, MILLISECONDS_A_PERIOD);
-    play.textContent = "Pause";
+    at("play").textContent = "Pause";
     show(now() + 1 < frames.length ? now() + 1 : 0);
   }
 
@@ -61,39 +60,50 @@
     show(period);
   }
 
+  // Arrow keys go from period to period, but where they are for what is written or chosen.
   function keys(event) {
-    const own = event.target.closest("input, button, summary, select, textarea");
-    if (event.altKey || event.ctrlKey || event.metaKey || event.shiftKey) {
+    if (frames.length === 0 || event.altKey || event.ctrlKey || event.metaKey || event.shiftKey) {
       return;
     }
     const to = { ArrowLeft: now() - 1, ArrowRight: now() + 1, Home: 0, End: frames.length - 1 }[event.key];
-    if (to === undefined || (own && own.matches("input"))) {
-      return;
+    if (to !== undefined && !event.target.closest("input, select, textarea")) {
+      event.preventDefault();
+      go(to);
     }
-    event.preventDefault();
-    go(to);
   }
 
   // Escape hides the exact fraction that is shown.
-  document.addEventListener("keydown", (event) => {
+  function escape(event) {
     if (event.key === "Escape" && document.activeElement.classList.contains("exact")) {
       document.activeElement.blur();
     }
-  });
+  }
 
-  if (slider) {
-    slider.addEventListener("input", () => go(now()));
-    document.getElementById("back").addEventListener("click", () => go(now() - 1));
-    document.getElementById("forth").addEventListener("click", () => go(now() + 1));
-    play.addEventListener("click", () => (timer === null ? start() : stop()));
+  // Takes the maps that stand in the page now, and shows the first.
+  function begin() {
+    halt();
+    frames = at("period") === null ? [] : Array.from(document.querySelectorAll(".frame"));
+    rows = Array.from(document.querySelectorAll("tr[data-period]"));
+    if (frames.length === 0) {
+      return;
+    }
+    at("period").addEventListener("input", () => go(now()));
+    at("back").addEventListener("click", () => go(now() - 1));
+    at("forth").addEventListener("click", () => go(now() + 1));
+    at("play").addEventListener("click", () => (timer === null ? start() : stop()));
     rows.forEach((row) => row.querySelector(".step").addEventListener("click", () => go(Number(row.dataset.period))));
-    document.addEventListener("keydown", keys);
     document.querySelectorAll("input[name=shares]").forEach((choice) => {
       choice.addEventListener("change", () => {
-        document.getElementById("map").className = choice.value;
+        at("map").className = choice.value;
         show(now());
       });
     });
     show(0);
   }
+
+  document.documentElement.classList.add("script");
+  document.addEventListener("keydown", escape);
+  document.addEventListener("keydown", keys);
+  begin();
+  return { begin };
 }());

@@ -1,13 +1,17 @@
 """page: writes a page to plan in: one HTML file, for any browser, that carries the proved program and asks no network for anything."""
+import json
 import os
 from html import escape
 
-from desk import carried, limits, page, picture, program, running
+from desk import carried, comments, compass, layout, limits, markup, moments, page, picture, program, running, squares, states, tables
 from desk.status import Status
 from desk.words import BadWords, Words
 
 # The examples that the page offers, by their files.
 EXAMPLES = ["two-cells", "small-lake", "drifting-grid", "lake-with-island", "swath"]
+# The parts of its script: those that show a plan as `show` does, and the page itself.
+SHOWING = ["told.js", "markup.js", "reading.js", "layout.js", "picture.js", "tables.js", "shown.js"]
+PARTS = [*SHOWING, "page.js", "planner.js"]
 # The most records of a plan where the page isn't told another number.
 NODES = 200_000
 WORDS = Words("page", "page", "writes a page to plan in: one file for any browser, which carries the proved program")
@@ -27,7 +31,7 @@ def intake(names):
     """Where a scenario goes in."""
     options = "".join(f"<option>{escape(it)}</option>" for it in names)
     return (
-        '<section><h2>The scenario</h2><div class="controls"><label>Open a file <input type="file" id="planner-file"></label>'
+        '<section class="intake"><h2>The scenario</h2><div class="controls"><label>Open a file <input type="file" id="planner-file"></label>'
         f'<label>or take an example <select id="planner-example"><option value="" disabled selected>choose</option>{options}</select></label></div>'
         '<p><label for="planner-text">or paste it here:</label></p><textarea id="planner-text" spellcheck="false"></textarea>'
         f'<div class="controls">{button("plan", "Plan", " disabled")}<label>with at most <input type="number" id="planner-nodes" value="{NODES}" min="1" max="{limits.MOST_NODES}"> records</label>'
@@ -38,33 +42,50 @@ def intake(names):
 
 
 def answer():
-    """Where the answer stands."""
-    heads = "".join(f"<th>{it}</th>" for it in ("Period", "Look from", "This look finds", "Found so far"))
+    """Where the answer stands: what was accepted, what can be saved, and what `show` shows of it."""
     return (
-        '<section id="planner-found" hidden><h2>The plan</h2><p id="planner-verdict"></p><p id="planner-chance"></p>'
-        '<p><a id="planner-save">Save the plan</a> &nbsp; <a id="planner-report">Save the report</a></p>'
-        f'<div class="scroll"><table><thead><tr>{heads}</tr></thead><tbody id="planner-rows"></tbody></table></div>'
-        '<h3>Where they may be, if nothing was found so far</h3><label>Behind look <input type="range" id="planner-look" min="1" max="1" step="1"></label>'
-        '<p id="planner-now"></p><div id="planner-map" class="scroll of-all"></div></section>'
+        '<section id="planner-found" hidden><h2>The plan</h2><div class="verdict"><p class="chance" id="planner-chance"></p>'
+        '<p class="accepted" id="planner-verdict"></p></div><p class="note" id="planner-about"></p>'
+        '<p><a id="planner-save">Save the plan</a> &nbsp; <a id="planner-report">Save the report</a></p></section><div id="planner-shown" hidden></div>'
     )
+
+
+def numbers_of(module):
+    """The constants of a module of the desk that are numbers, or lists of them, by name."""
+    return {name: it for name, it in vars(module).items() if name.isupper() and isinstance(it, (int, float, list))}
+
+
+def rules():
+    """What the script draws and says by, as text of it: the markup, sizes, limits and patterns of the helpers' own modules."""
+    patterns = {"at": layout.AT, "of_square": states.OF_SQUARE, "row_and_column": squares.ROW_AND_COLUMN, "times": comments.TIMES}
+    told = {it.__name__.removeprefix("desk."): numbers_of(it) for it in (picture, compass, layout, tables, page)}
+    told["patterns"] = {**{name: it.pattern.decode("ascii") for name, it in patterns.items()}, "moment": moments.SPELLED.pattern}
+    told |= {"markup": markup.MARKUP, "keys": {"squares": page.scale(False), "parts": page.scale(True)}, "signs": page.signs(1)}
+    return f"\"use strict\";\nconst RULES = {json.dumps(told).replace('<', chr(92) + 'u003c')};\n"
+
+
+def script():
+    """The script of the page: no letter of it comes from a scenario or a plan."""
+    return rules() + carried.script(*PARTS)
 
 
 def document(module, examples):
     """The page: `module` is the program as WebAssembly, `examples` the bytes of scenarios by name."""
-    css = page.asset("page.css") + page.asset("planner.css")
-    script = carried.script("told.js", "planner.js")
-    policy = f"default-src 'none'; style-src '{page.checksum(css)}'; script-src '{page.checksum(script)}'{carried.SCRIPTS};{carried.MORE} base-uri 'none'; form-action 'none'"
+    css, parted, scripts = "".join(map(page.asset, ("page.css", "compass.css", "planner.css"))), page.asset("states.css"), script()
+    styles, allowed = (" ".join(f"'{page.checksum(it)}'" for it in its) for its in ((css, parted), (scripts,)))
+    policy = f"default-src 'none'; style-src {styles}; script-src {allowed}{carried.SCRIPTS};{carried.MORE} base-uri 'none'; form-action 'none'"
     blocks = {"program": module, **{f"example-{name}": it for name, it in examples.items()}}
     return (
         '<!DOCTYPE html>\n<html lang="en">\n<head>\n<meta charset="utf-8">\n'
         f'<meta http-equiv="Content-Security-Policy" content="{policy}">\n'
         '<meta name="viewport" content="width=device-width, initial-scale=1">\n'
-        f"<title>Plan a search</title>\n<style>{css}</style>\n</head>\n<body>\n<header><h1>Plan a search</h1>"
+        f'<title>Plan a search</title>\n<style>{css}</style>\n<style id="planner-states" media="not all">{parted}</style>\n</head>\n<body>\n'
+        "<header><h1>Plan a search</h1>"
         "<p>A scenario goes in; out comes the best path, its exact chance, and records that show why no path is better. All of it stays in this browser. "
         "docs/FORMATS.md of osp says how a scenario is written.</p>"
         f"{carried.worth(module)}</header>\n"
-        f'<main class="planner" id="planner-part" data-classes="{escape(str(picture.CLASSES))}" data-gap="{limits.MOST_GAP_RECORDS}">{intake(examples)}{answer()}</main>\n'
-        f"{carried.templates(blocks)}<script>{script}</script>\n</body>\n</html>\n"
+        f'<main class="planner" id="planner-part" data-gap="{limits.MOST_GAP_RECORDS}">{intake(examples)}{answer()}</main>\n'
+        f"{carried.templates(blocks)}<script>{scripts}</script>\n</body>\n</html>\n"
     )
 
 

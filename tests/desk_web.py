@@ -17,7 +17,7 @@ sys.path.insert(0, os.path.dirname(os.path.realpath(__file__)))
 from tests import answers, pages, web  # noqa: E402
 from tests.web import TOP, Answer, Case  # noqa: E402
 
-from desk import carried, planner, show  # noqa: E402
+from desk import carried, picture, planner, show  # noqa: E402
 
 sys.path.insert(0, os.path.join(TOP, "door", "web"))
 import build  # noqa: E402
@@ -388,29 +388,51 @@ class Pages(pages.Room):
         """What a page to plan in plans is what `plan --workers 1` writes, `gap` where the records run out, and wrong texts are told."""
         status, out, err = self.run_helper(planner.main, [])
         self.assertEqual((status, err), (0, ""))
-        scenario, plan = pages.example("two-cells")
+        scenario = pages.example("two-cells")[0]
+        few = web.native([Case(["gap", "--workers", "1", "--nodes", "1"], scenario)])[0].out
+        files = {"states": self.files("situations/harbour-and-dinghy"), "night": self.files("night"), "few": [self.files("two-cells")[0], self.write("few", few)]}
         folder = os.environ.get("DESK_PICTURES", self.room)
-        for name, content in (("two.scenario", scenario), ("two.plan", pages.read(f"{pages.EXAMPLES}/two-cells-lacking.plan"))):
-            with open(os.path.join(folder, name), "wb") as file:
-                file.write(content)
-        seen = self.visit({"osp": out})["osp"]
+        lacking = f"{pages.EXAMPLES}/two-cells-lacking.plan"
+        for name, source in {"two.scenario": files["few"][0], "two.plan": lacking, "states.scenario": files["states"][0], "night.scenario": files["night"][0]}.items():
+            shutil.copy(source, os.path.join(folder, name))
+        shown = {"example": self.files("drifting-grid"), **files}
+        seen = self.visit({"osp": out, **{f"shown-{name}": self.page(*its) for name, its in shown.items()}})
+        for name in shown:
+            self.assertEqual(seen["osp"][name]["markup"], seen[f"shown-{name}"]["markup"], name)
+            self.assertEqual(seen["osp"][name]["styles"], seen[f"shown-{name}"]["styles"], name)
+        self.check_planned(seen["osp"])
+        self.check_keys(seen["osp"]["keys"])
+        self.assertEqual(pages.read(os.path.join(self.folder, "two.gap")), few)
+
+    def check_planned(self, seen):
+        """What is said of plans and of wrong texts, and what is saved."""
         self.assertEqual(seen["nothing"]["said"], "There is no scenario: open one, paste it, or take an example.")
-        grid, written = pages.example("drifting-grid")[1], seen["example"]
+        written = seen["example"]
         self.assertEqual(written["files"], ["drifting-grid.plan", "drifting-grid.report"])
-        self.assertEqual(pages.read(os.path.join(self.folder, "drifting-grid.plan")), grid)
+        self.assertEqual(pages.read(os.path.join(self.folder, "drifting-grid.plan")), pages.example("drifting-grid")[1])
         self.assertEqual(pages.read(os.path.join(self.folder, "drifting-grid.report")), pages.read(f"{pages.EXAMPLES}/drifting-grid.report"))
         self.assertRegex(written["verdict"], f"^Accepted: no path is better\\. {self.HERE.pattern}$")
-        self.assertEqual(written["chance"], "17.557 % chance to find them in 8 looks: 22473449177088000 of 128000000000000000.")
-        report = [it.split() for it in pages.read(f"{pages.EXAMPLES}/drifting-grid.report").decode().splitlines()]
-        self.assertEqual([[it[1], it[3]] for it in written["rows"]], [[it[2], f"{it[4]} %"] for it in report if it[0] == "period"])
-        self.assertEqual(written["cells"], [f"{it[1]}: {it[3]} % of all" for it in report if it[0] == "left"])
-        self.assertEqual((seen["checked"]["said"], seen["checked"]["found"]), ("Not accepted: rejected 8 MissingChild.", False))
-        few = web.native([Case(["gap", "--workers", "1", "--nodes", "1"], scenario)])[0].out
-        self.assertEqual(pages.read(os.path.join(self.folder, "two.gap")), few)
+        self.assertEqual(written["chance"], "17.557\N{NO-BREAK SPACE}% chance to find them in 8 looks")
+        self.assertIn("<dd>22473449177088000 of 128000000000000000</dd>", written["markup"])
+        # (The situation begins at a time without a date, and that of the coast by night with one.)
+        self.assertEqual([seen[it]["about"] for it in ("example", "states")], ["", ""])
+        self.assertEqual((seen["checked"]["said"], seen["checked"]["found"], seen["checked"]["markup"]), ("Not accepted: rejected 8 MissingChild.", False, ""))
         self.assertRegex(seen["few"]["verdict"], "^Accepted: no path finds more\\. ")
         self.assertEqual((seen["wrong"]["said"], seen["wrong"]["found"]), ("Nothing is planned: bad scenario: line 2 BadNumber: horizon two", False))
-        self.assertEqual((seen["console"], seen["wide"]), ([], 0))
+        self.assertEqual((seen["console"], seen["wide"]), ([], [0, 0]))
         self.assertEqual([it for it in seen["asked"] if not it.startswith(("file://", "blob:null/"))], [])
+
+    def check_keys(self, seen):
+        """The periods that keys go to, of eight; what stands in a square changes with what numbers are to say."""
+        self.assertEqual({it: (seen[it]["maps"], seen[it]["slider"]) for it in ("end", "left", "text", "row")}, {
+            "end": (["after-8"], "8"), "left": (["after-7"], "7"), "text": (["after-7"], "7"), "row": (["after-2"], "2"),
+        })
+        self.assertEqual(seen["letter"], 2)
+        masses = pages.read(f"{pages.EXAMPLES}/drifting-grid.scenario"), "r0c1 r0c2".split()
+        looks = web.native([Case(["map", "flown", *masses[1]], masses[0])])[0].out.decode().split("period ")[2].splitlines()
+        left = [int(it.split()[2]) for it in looks if it.startswith("left")]
+        self.assertEqual(seen["row"]["shares"], [picture.share(it, 128000000000000000) for it in left])
+        self.assertEqual(seen["of_left"]["shares"], [picture.share(it, sum(left)) for it in left])
 
     def test_without_a_module(self):
         """Where the module isn't built, or isn't the program's, the page is that of before."""

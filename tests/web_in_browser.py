@@ -2,7 +2,8 @@
 
 It is run by /usr/bin/python3: web_in_browser.py FOLDER PAGE.html ... The folder takes the pictures, on a desktop and on a tablet. From a
 page whose name begins with "without" WebAssembly is taken away first; on one whose name begins with "scene" looks are marked as flown,
-and the rest is planned; in one whose name begins with "osp" scenarios are planned. It ends as in_browser.py does where there is no browser.
+and the rest is planned; in one whose name begins with "osp" scenarios are planned, and of one whose name begins with "shown" it is said what
+it shows. It ends as in_browser.py does where there is no browser.
 """
 import json
 import os
@@ -105,20 +106,31 @@ def on_scene(seen_by, page, folder):
     return seen | {"wide": visit.run("return document.documentElement.scrollWidth - window.innerWidth")} | visit.logs()
 
 
+def drawn(visit):
+    """What a page shows below its head, as markup, and how the map that is to be seen is drawn: of each of its elements what the style says."""
+    return visit.run(
+        """
+        const shown = document.querySelector("#planner-shown") || document.querySelector("main");
+        const map = shown.querySelector(".frame:not([hidden]) svg.map");
+        const told = (it) => ["fill", "stroke", "strokeWidth", "fontSize", "width", "height", "display"].map((key) => getComputedStyle(it)[key]);
+        return { markup: shown.innerHTML, styles: map && [...map.querySelectorAll("*")].map((it) => [it.tagName, ...told(it)]) };"""
+    )
+
+
 def planned(visit):
     """What a page to plan in says, once the program has ended."""
     ends = time.monotonic() + SECONDS
     while visit.run("return !document.getElementById('planner-stop').hidden") and time.monotonic() < ends:
         time.sleep(0.1)
-    return visit.run(
+    said = visit.run(
         """
         const part = (it) => document.getElementById(`planner-${it}`);
         return {
           said: part("said").textContent, found: !part("found").hidden, verdict: part("verdict").textContent, chance: part("chance").textContent,
-          rows: [...part("rows").children].map((row) => [...row.children].map((it) => it.textContent)), now: part("now").textContent,
-          cells: [...part("map").querySelectorAll("rect")].map((it) => it.textContent), files: [part("save").download, part("report").download],
+          about: part("about").textContent, files: [part("save").download, part("report").download],
         };"""
     )
+    return said | drawn(visit)
 
 
 def press(visit, button):
@@ -133,8 +145,30 @@ def taken(visit, text):
     return press(visit, "plan")
 
 
+def chosen(visit, name, path):
+    """Opens a file in a page to plan in, and waits until it is there."""
+    visit.element(f"#planner-{name}").send_keys(path)
+    ends, open_now = time.monotonic() + SECONDS, f"{os.path.basename(path).removesuffix('.scenario')} is open."
+    while name == "file" and visit.run("return document.getElementById('planner-said').textContent") != open_now and time.monotonic() < ends:
+        time.sleep(0.1)
+
+
+def by_arrows(visit):
+    """Goes through the periods by keys, also where a text is written, in which arrows go from letter to letter."""
+    visit.run("document.activeElement.blur()")
+    seen = {"end": visit.press(Keys.END), "left": visit.press(Keys.ARROW_LEFT)}
+    visit.run("const it = document.getElementById('planner-text'); it.focus(); it.setSelectionRange(3, 3)")
+    seen["text"] = visit.press(Keys.ARROW_LEFT)
+    seen["letter"] = visit.run("return document.getElementById('planner-text').selectionStart")
+    visit.run("document.querySelector('tr[data-period=\"2\"] .step').focus()")
+    seen["row"] = visit.press(Keys.ENTER)
+    visit.run("document.querySelector('input[value=of-left]').click()")
+    seen["of_left"] = visit.state()
+    return {name: {it: seen[name][it] for it in ("maps", "slider", "shares")} if name != "letter" else seen[name] for name in seen}
+
+
 def in_planner(seen_by, page, folder):
-    """Plans an example, at a tablet's width; the same from a file, with a plan that is checked; with few records; and texts that are wrong."""
+    """Plans an example, at a tablet's width; others from files, with a plan that is checked; with few records; and texts that are wrong."""
     seen_by.execute_cdp_cmd("Browser.setDownloadBehavior", {"behavior": "allow", "downloadPath": folder})
     visit = Visit(seen_by, page, folder)
     visit.open(TABLET)
@@ -143,19 +177,35 @@ def in_planner(seen_by, page, folder):
     seen["example"] = press(visit, "plan")
     for link in ("save", "report"):
         visit.element(f"#planner-{link}").click()
-    visit.picture("planned")
-    for name in ("file", "file-of-plan"):
-        visit.element(f"#planner-{name}").send_keys(os.path.join(folder, {"file": "two.scenario", "file-of-plan": "two.plan"}[name]))
-    time.sleep(1)
+    visit.run("document.getElementById('period').focus()")
+    visit.press(*[Keys.ARROW_RIGHT] * 4)
+    visit.picture("tablet")
+    seen["keys"] = by_arrows(visit)
+    for name in ("states", "night"):
+        chosen(visit, "file", os.path.join(folder, f"{name}.scenario"))
+        seen[name] = press(visit, "plan")
+    chosen(visit, "file", os.path.join(folder, "two.scenario"))
+    chosen(visit, "file-of-plan", os.path.join(folder, "two.plan"))
     seen["checked"] = press(visit, "check")
     visit.run("document.getElementById('planner-nodes').value = '1'")
     seen["few"] = press(visit, "plan")
     visit.element("#planner-save").click()
     seen["wrong"] = taken(visit, "scenario 1\nhorizon two\n")
+    wide = [visit.run("return document.documentElement.scrollWidth - window.innerWidth")]
     visit.open(DESKTOP)
+    chosen(visit, "file", os.path.join(folder, "states.scenario"))
+    press(visit, "plan")
+    wide.append(visit.run("return document.documentElement.scrollWidth - window.innerWidth"))
+    visit.press(*[Keys.ARROW_RIGHT] * 3)
     visit.picture("desktop")
-    time.sleep(1)
-    return seen | {"wide": visit.run("return document.documentElement.scrollWidth - window.innerWidth")} | visit.logs()
+    return seen | {"wide": wide} | visit.logs()
+
+
+def shown(seen_by, page, folder):
+    """What a page of `show` shows, at a tablet's width."""
+    visit = Visit(seen_by, page, folder)
+    visit.open(TABLET)
+    return drawn(visit) | visit.logs()
 
 
 def opened(seen_by, page, folder):
@@ -164,6 +214,8 @@ def opened(seen_by, page, folder):
         return on_scene(seen_by, page, folder)
     if os.path.basename(page).startswith("osp"):
         return in_planner(seen_by, page, folder)
+    if os.path.basename(page).startswith("shown"):
+        return shown(seen_by, page, folder)
     if not os.path.basename(page).startswith("without"):
         return visited(seen_by, page, folder)
     taken = seen_by.execute_cdp_cmd("Page.addScriptToEvaluateOnNewDocument", {"source": "delete window.WebAssembly"})

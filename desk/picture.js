@@ -1,0 +1,237 @@
+// Draws the map behind a look as picture.py does, and below it the scale and the north arrow of compass.py.
+const picture = (function () {
+  const { SIDE, MARGIN, GAP, THIN_GAP, BOW, MOST_BOWS, MOST_LETTERS, MOST_RANGES, LETTERS_BESIDE, NAME_SIZE, NAME_WIDTH, LETTER } = RULES.picture;
+  const [CLASSES, COMPASS] = [RULES.picture.CLASSES.map(BigInt), RULES.compass];
+  const { filled, escaped, number, fixed } = markup;
+
+  // A share in percent, cut off after three digits; not behind nothing.
+  function cut(part, whole) {
+    return told.percent(part, whole).slice(0, -2);
+  }
+
+  // A share as it stands in a cell: nothing as 0, and a dash where there is no whole.
+  function share(part, whole) {
+    return whole === 0n ? "–" : part === 0n ? "0" : cut(part, whole);
+  }
+
+  // The class of colour of a share.
+  function classOf(part, whole) {
+    return told.colour(part, whole, CLASSES);
+  }
+
+  // A name, cut where it would be too long for a cell.
+  function short(name) {
+    return name.length <= MOST_LETTERS ? name : `${name.slice(0, MOST_LETTERS - 1)}…`;
+  }
+
+  // Numbers of periods in short, as in 1·4–6, and cut where there are too many for a cell.
+  function ranges(times) {
+    const runs = [];
+    for (const t of times) {
+      if (runs.length && runs[runs.length - 1][1] === t - 1) {
+        runs[runs.length - 1][1] = t;
+      } else {
+        runs.push([t, t]);
+      }
+    }
+    const texts = runs.map(([first, last]) => (first === last ? `${first}` : `${first}–${last}`));
+    return (texts.length <= MOST_RANGES ? texts : [...texts.slice(0, MOST_RANGES - 1), "…"]).join("·");
+  }
+
+  // A curve from one place to another that bows to the right of its course, and the arrow in its middle.
+  function leg(one, other, bow) {
+    const [dx, dy] = [other[0] - one[0], other[1] - one[1]];
+    const length = Math.hypot(dx, dy);
+    const [ex, ey] = [dx / length, dy / length];
+    const bend = [(one[0] + other[0]) / 2 - ey * 2 * bow, (one[1] + other[1]) / 2 + ex * 2 * bow];
+    const at = (point) => point.map(number).join(" ");
+    const [x, y] = [(one[0] + other[0]) / 4 + bend[0] / 2, (one[1] + other[1]) / 4 + bend[1] / 2];
+    const [tip, back, half] = [9, 6, 7];
+    const wide = [-ey * half, ex * half];
+    const corners = [[x + ex * tip, y + ey * tip], ...[1, -1].map((way) => [x - ex * back + way * wide[0], y - ey * back + way * wide[1]])];
+    return { curve: `M${at(one)}Q${at(bend)} ${at(other)}`, arrow: `M${corners.map(at).join("L")}Z` };
+  }
+
+  // A rectangle by its corner; its kind says how large it is.
+  function box(x, y) {
+    return filled("box", { x: number(x), y: number(y) });
+  }
+
+  // The least and the greatest of points along both axes.
+  function span(points) {
+    return [Math.min, Math.max].map((of) => [0, 1].map((axis) => of(...points.map((it) => it[axis]))));
+  }
+
+  // The maps of a search whose squares have places.
+  class Picture {
+    constructor(search, places) {
+      [this.search, this.layout, this.own] = [search, places, search.squares];
+      this.scale = SIDE / places.side;
+      [[this.left, this.top]] = span(places.squares.filter(Boolean));
+      this.squares = places.squares.map((it) => it && this.point(it));
+      this.parted = places.finer > 1 ? this.own.split : [];
+      this.way = search.frames.map((it) => places.positions[it.position]).map((it) => it && this.point(it));
+      const [low, high] = span([...this.squares, ...this.way].filter(Boolean));
+      this.low = low.map((it) => it - SIDE / 2 - MARGIN);
+      this.size = high.map((it, axis) => it + SIDE / 2 + MARGIN - this.low[axis]);
+      this.legs = this.allLegs();
+      // How many squares the picture is wide.
+      this.columns = this.size[0] / SIDE;
+      this.below = places.metres ? this.compass() : "";
+    }
+
+    // A place in units of the picture.
+    point([x, y]) {
+      return [(x - this.left) * this.scale, (y - this.top) * this.scale];
+    }
+
+    // The names of positions of the path that aren't on the map, in their order.
+    notDrawn() {
+      const { frames, sc } = this.search;
+      return [...new Set(frames.filter((_, at) => !this.way[at]).map((it) => sc.positions[it.position]))].sort();
+    }
+
+    // How large the names of squares are written so that the longest fits.
+    nameSize() {
+      return Math.min(NAME_SIZE, NAME_WIDTH / (LETTER * Math.max(...this.own.names.map((it) => short(it).length))));
+    }
+
+    // The curve and the arrow of the way to each period's position, or null where nothing is drawn.
+    allLegs() {
+      const gone = new Map();
+      return this.way.slice(1).map((other, at) => {
+        const one = this.way[at];
+        if (!one || !other || one.join() === other.join()) {
+          return null;
+        }
+        const ends = [one.join(), other.join()].sort().join(" ");
+        gone.set(ends, gone.has(ends) ? gone.get(ends) + 1 : 0);
+        return leg(one, other, BOW * Math.min(gone.get(ends), MOST_BOWS));
+      });
+    }
+
+    // Lets the picture have a strip below its squares, with a scale and an arrow to north.
+    compass() {
+      const most = Math.min(COMPASS.MOST_SIDES, COMPASS.MOST_SHARE * this.columns) * this.layout.side;
+      const lengths = Array.from({ length: 11 }, (_, at) => at - 3).flatMap((power) => [1, 2, 5].map((it) => it * 10 ** power));
+      const metres = Math.max(...lengths.filter((it) => it <= most));
+      const [[x], bottom] = [this.low, this.low[1] + this.size[1] + COMPASS.HEIGHT / 2];
+      const [long, east] = [metres * this.scale, x + this.size[0] - COMPASS.ASIDE];
+      const [at, length] = [(it) => fixed(it, 1), metres >= 1000 ? `${markup.general(metres / 1000)} km` : `${markup.general(metres)} m`];
+      this.size[1] += COMPASS.HEIGHT;
+      const bar = `M${at(x + COMPASS.ASIDE)} ${at(bottom - 7)}v14m0 -7h${at(long)}m0 -7v14`;
+      const arrow = `M${at(east)} ${at(bottom - 20)}l9 36l-9 -8l-9 8z`;
+      const low = at(bottom + 6);
+      const scale = filled("scale", { bar, x: at(x + COMPASS.ASIDE + long + 10), y: low, length });
+      return scale + filled("north", { turn: "", arrow, x: at(east - 24), y: low });
+    }
+
+    // The map of a frame.
+    svg(frame) {
+      const label = escaped(filled("map_label", { when: when(this.search, frame), noun: this.own.noun }));
+      const sums = this.own.sums(frame.left);
+      const drawn = [this.colours(frame, sums), this.borders(), this.outlines(frame), this.path(frame), this.texts(frame, sums), this.labels(frame), this.searcher(frame)];
+      return filled("map", { label, box: [...this.low, ...this.size].map(number).join(" "), drawn: drawn.join("") + this.below });
+    }
+
+    // The classes of colour of a place, of which so many make a square: as a share of all, and as a share of what is left.
+    classes(frame, mass, parts = 1n) {
+      return `a${classOf(mass * parts, this.search.weight)} b${frame.missed === 0n ? 0 : classOf(mass * parts, frame.missed)}`;
+    }
+
+    // What the title of a place says of it, without its exact fraction.
+    shares(name, frame, mass) {
+      return filled("shares", { name, of_all: share(mass, this.search.weight), of_left: share(mass, frame.missed) });
+    }
+
+    // A square for each square, whose title says its numbers, and on it its parts where it has any.
+    colours(frame, sums) {
+      const square = (point, at) => {
+        const title = filled("square_title", { shares: this.shares(this.own.names[at], frame, sums[at]), mass: sums[at], whole: this.search.weight });
+        const colour = this.classes(frame, this.parted.includes(at) ? 0n : sums[at]);
+        return filled("square", { colour, x: number(point[0] - 49), y: number(point[1] - 49), title: escaped(title) });
+      };
+      const drawn = this.squares.map((point, at) => (point ? square(point, at) : ""));
+      const parts = this.parted.flatMap((at) => this.own.cells[at].map((it) => this.part(frame, it)));
+      return filled("layer", { kind: "cells", drawn: [...drawn, ...parts].join("") });
+    }
+
+    // A part of a square, coloured as a whole square that has as much in each part.
+    part(frame, cell) {
+      const [x, y] = this.point(this.layout.cells[cell]).map((it) => it - this.partSide() / 2);
+      const colour = `${this.classes(frame, frame.left[cell], BigInt(this.layout.finer ** 2))} part`;
+      return filled("square", { colour, x: number(x), y: number(y), title: escaped(this.shares(this.search.sc.names[cell], frame, frame.left[cell])) });
+    }
+
+    // The side of a part of a square, in units of the picture.
+    partSide() {
+      return (SIDE - GAP) / this.layout.finer - THIN_GAP;
+    }
+
+    // The borders of the squares with parts.
+    borders() {
+      const drawn = this.parted.map((it) => this.squares[it]).map(([x, y]) => box(x - 49, y - 49));
+      return drawn.length ? filled("layer", { kind: "borders", drawn: drawn.join("") }) : "";
+    }
+
+    // An outline on each square that the look covers.
+    outlines(frame) {
+      const seen = this.squares.filter((point, it) => point && this.own.cells[it].some((cell) => frame.covered.includes(cell)));
+      return filled("layer", { kind: "covers", drawn: seen.map(([x, y]) => box(x - 45, y - 45)).join("") });
+    }
+
+    // The way that is to come, the way before this period, and this period's move on top, with an arrow on each leg; and the start.
+    path({ period }) {
+      const [before, start] = [Math.max(period - 1, 0), this.way[0]];
+      const parts = { coming: this.legs.slice(period), gone: this.legs.slice(0, before), now: this.legs.slice(before, period) };
+      const drawn = Object.entries(parts).map(([kind, legs]) => filled("layer", { kind, drawn: legs.map((it) => (it ? filled("leg", it) : "")).join("") }));
+      return drawn.join("") + (start ? filled("start", { x: number(start[0]), y: number(start[1]) }) : "");
+    }
+
+    // The name of each square, and its share in percent of all and of what is left.
+    texts(frame, sums) {
+      const texts = ([x, y], it) => filled("square_texts", {
+        colour: this.classes(frame, sums[it]),
+        left: number(x - 42),
+        top: number(y - 31),
+        name: escaped(short(this.own.names[it])),
+        x: number(x),
+        y: number(y + 38),
+        of_all: share(sums[it], this.search.weight),
+        of_left: share(sums[it], frame.missed),
+      });
+      return filled("layer_aside", { kind: "texts", drawn: this.squares.map((point, it) => (point ? texts(point, it) : "")).join("") });
+    }
+
+    // Beside each place of the way, the periods in which the searcher looks from there, where these aren't this period alone.
+    labels({ period }) {
+      const stops = new Map();
+      this.way.slice(1).forEach((point, at) => {
+        if (point) {
+          stops.set(point.join(), [point, [...(stops.get(point.join()) || [null, []])[1], at + 1]]);
+        }
+      });
+      const up = Math.max(...this.own.names.map((it) => it.length)) <= LETTERS_BESIDE ? 29 : 13;
+      const others = [...stops.values()].filter(([, times]) => times.join() !== String(period));
+      const drawn = others.map(([[x, y], times]) => filled("text", { x: number(x + 43), y: number(y - up), text: ranges(times) }));
+      return filled("layer_aside", { kind: "visits", drawn: drawn.join("") });
+    }
+
+    // The searcher's place, with the number of the period.
+    searcher({ period }) {
+      if (!this.way[period]) {
+        return "";
+      }
+      const [x, y] = this.way[period];
+      const disc = filled("disc", { x: number(x), y: number(y) });
+      return filled("layer_aside", { kind: "searcher", drawn: disc + filled("text", { x: number(x), y: number(y + 5.5), text: period || "S" }) });
+    }
+  }
+
+  // Which look a frame is behind, in words.
+  function when(search, { period, position }) {
+    return filled(period ? "behind_look" : "before_looks", { period, who: "searcher is", where: search.sc.positions[position] });
+  }
+
+  return { Picture, cut, share, classOf, when };
+}());

@@ -1,0 +1,108 @@
+// What stands in texts that the program has accepted: a scenario, its comments, the lines of a plan before its records. Nothing is checked
+// here: the program has told all faults before.
+const reading = (function () {
+  const [TIMES, SPELLED] = [RULES.patterns.times, RULES.patterns.moment].map(markup.whole);
+  // A minute, an hour's minutes and a day's, in hundredths of a second, by which all times are whole numbers.
+  const [MINUTE, HOUR, DAY] = [6000, 60, 24 * 60];
+
+  // The lines of a text, without the blanks around them. A byte is a letter, whatever it stands for.
+  function lines(bytes) {
+    return new TextDecoder("latin1").decode(bytes).split("\n").map((it) => it.replace(/^[ \t\r]+|[ \t\r]+$/g, ""));
+  }
+
+  // A row of cells with a part each, by the numbers of the cells.
+  function row(fields, cells) {
+    return new Map(fields.flatMap((it, at) => (at % 2 ? [] : [[cells.get(it), Number(fields[at + 1])]])));
+  }
+
+  // What each line adds to a scenario, where the page needs it. Drift and moves it doesn't.
+  const ADDS = {
+    scenario: (sc, [version]) => { sc.isFirst = version === "1"; },
+    horizon: (sc, [periods]) => { sc.horizon = Number(periods); },
+    parts: (sc, parts) => { sc.parts = parts.map(BigInt); },
+    cell: (sc, [name]) => { sc.cells.set(name, sc.cells.size); },
+    position: (sc, [name]) => { sc.places.set(name, sc.places.size); },
+    grid(sc, [rows, columns]) {
+      for (let at = 0; at < rows * columns; at += 1) {
+        ADDS.cell(sc, [`r${Math.floor(at / columns)}c${at % columns}`]);
+      }
+    },
+    start(sc, [name]) {
+      sc.places = sc.isFirst ? sc.cells : sc.places;
+      sc.start = sc.places.get(name);
+    },
+    first: (sc, fields) => { sc.first = row(fields, sc.cells); },
+    look: (sc, [position, ...fields]) => { sc.looks.set(sc.places.get(position), row(fields, sc.cells)); },
+    lookin: (sc, [period, position, ...fields]) => { sc.looksIn.set(`${period} ${sc.places.get(position)}`, row(fields, sc.cells)); },
+    overlook: (sc, [name, part]) => { ADDS.look(sc, [name, name, part]); },
+    rate: (sc, [part]) => sc.places.forEach((_, name) => ADDS.overlook(sc, [name, part])),
+  };
+
+  // The scenario of lines: names of cells and of positions, horizon, denominators, start, the first distribution, and which cells a look
+  // covers, with the parts that it misses.
+  function scenario(all) {
+    const sc = { cells: new Map(), places: new Map(), looks: new Map(), looksIn: new Map() };
+    for (const [word, ...fields] of all.filter((it) => it !== "" && !it.startsWith("#")).map((it) => it.split(/[ \t\r]+/))) {
+      if (word === "end") {
+        break;
+      }
+      (ADDS[word] || (() => null))(sc, fields);
+    }
+    sc.names = [...sc.cells.keys()];
+    sc.positions = [...sc.places.keys()];
+    sc.look = (t, position) => sc.looksIn.get(`${t} ${position}`) || sc.looks.get(position);
+    return sc;
+  }
+
+  // The minutes of a time of day in hundredths of a second, its date, and whether it is UTC; null where there is no such time.
+  function moment(text) {
+    const [, year, month, day, hour, minute, second, zone] = text.match(SPELLED) || [];
+    const date = year && `${year}-${month}-${day}`;
+    const isDay = !date || (year >= 1900 && year < 2200 && new Date(Date.UTC(year, month - 1, day)).toISOString().startsWith(date));
+    if (hour === undefined || hour > 23 || minute > 59 || second > 59 || !isDay) {
+      return null;
+    }
+    return { at: (hour * HOUR + Number(minute)) * MINUTE + Number(second || 0) * 100, date, isUtc: zone === "Z" };
+  }
+
+  // A time of day as in 19:45; it has seconds where there are any.
+  function ofDay(at) {
+    const [seconds, two] = [Math.floor(at / 100), (it) => String(it).padStart(2, "0")];
+    return [Math.floor(seconds / 3600), Math.floor(seconds / 60) % 60, ...(seconds % 60 ? [seconds % 60] : [])].map(two).join(":");
+  }
+
+  // When periods begin, by what comments say; null where none does. The last such comment counts.
+  function times(all) {
+    const told = all.filter((it) => it.startsWith("#")).map((it) => it.slice(1).replace(/^[ \t]+|[ \t]+$/g, "").match(TIMES)).reverse();
+    for (const [, minutes, text] of told.filter(Boolean)) {
+      const [length, begins] = [Math.round(Number(minutes) * 100) * (MINUTE / 100), moment(text)];
+      if (begins !== null && length > 0 && length <= DAY * MINUTE) {
+        return { about: about(begins), at: (period) => since(begins.at + (period - 1) * length) };
+      }
+    }
+    return null;
+  }
+
+  // The date of the first period and the zone of all times, where one of them is known.
+  function about({ date, isUtc }) {
+    const zone = isUtc ? "UTC" : "local";
+    return date ? markup.filled("times_from", { zone, date }) : isUtc ? markup.filled("times_utc", {}) : "";
+  }
+
+  // A time of day with the days that it is later, if it is.
+  function since(at) {
+    const days = Math.floor(at / (DAY * MINUTE));
+    return ofDay(at % (DAY * MINUTE)) + (days ? `+${days}` : "");
+  }
+
+  // What the lines of a plan, or a gap plan, before its records say.
+  function plan(bytes) {
+    const all = lines(bytes);
+    const said = Object.fromEntries(all.slice(0, 5).map((it) => it.split(" ")).map(([word, ...fields]) => [word, fields]));
+    const [value, weight] = said.chance.map(BigInt);
+    const ceiling = said.ceiling === undefined ? null : BigInt(said.ceiling[0]);
+    return { version: said.plan?.[0], path: said.path, value, weight, ceiling, records: Number(said.nodes[0]) };
+  }
+
+  return { lines, scenario, times, plan };
+}());
