@@ -1,6 +1,6 @@
 // Draws the map behind a look as picture.py does, and below it the scale and the north arrow of compass.py.
 const picture = (function () {
-  const { SIDE, MARGIN, GAP, THIN_GAP, BOW, MOST_BOWS, MOST_LETTERS, MOST_RANGES, LETTERS_BESIDE, NAME_SIZE, NAME_WIDTH, LETTER } = RULES.picture;
+  const { SIDE, MARGIN, GAP, THIN_GAP, BOW, MOST_BOWS, MOST_LETTERS, MOST_RANGES, LETTERS_BESIDE, BELOW, ASIDE, NAME_SIZE, NAME_WIDTH, LETTER } = RULES.picture;
   const [CLASSES, COMPASS] = [RULES.picture.CLASSES.map(BigInt), RULES.compass];
   const { filled, escaped, number, fixed } = markup;
 
@@ -52,6 +52,11 @@ const picture = (function () {
     return { curve: `M${at(one)}Q${at(bend)} ${at(other)}`, arrow: `M${corners.map(at).join("L")}Z` };
   }
 
+  // Whether two points are the same.
+  function isSame(one, other) {
+    return one[0] === other[0] && one[1] === other[1];
+  }
+
   // A rectangle by its corner; its kind says how large it is.
   function box(x, y) {
     return filled("box", { x: number(x), y: number(y) });
@@ -70,8 +75,8 @@ const picture = (function () {
       [[this.left, this.top]] = span(places.squares.filter(Boolean));
       this.squares = places.squares.map((it) => it && this.point(it));
       this.parted = places.finer > 1 ? this.own.split : [];
-      this.way = search.frames.map((it) => places.positions[it.position]).map((it) => it && this.point(it));
-      const [low, high] = span([...this.squares, ...this.way].filter(Boolean));
+      this.ways = Array.from({ length: search.seats.count }, (_, it) => this.way(it));
+      const [low, high] = span([...this.squares, ...this.ways.flat()].filter(Boolean));
       this.low = low.map((it) => it - SIDE / 2 - MARGIN);
       this.size = high.map((it, axis) => it + SIDE / 2 + MARGIN - this.low[axis]);
       this.legs = this.allLegs();
@@ -85,10 +90,17 @@ const picture = (function () {
       return [(x - this.left) * this.scale, (y - this.top) * this.scale];
     }
 
+    // The points that a searcher goes through from the start on; null where one isn't drawn.
+    way(searcher) {
+      const sources = this.search.frames.map((it) => this.search.seats.sources[it.position][searcher]);
+      return sources.map((it) => it === null ? null : this.layout.positions[it]).map((it) => it && this.point(it));
+    }
+
     // The names of positions of the path that aren't on the map, in their order.
     notDrawn() {
-      const { frames, sc } = this.search;
-      return [...new Set(frames.filter((_, at) => !this.way[at]).map((it) => sc.positions[it.position]))].sort();
+      const { frames, seats } = this.search;
+      const off = this.ways.flatMap((way, who) => frames.filter((_, at) => !way[at]).map((it) => seats.names[it.position][who]));
+      return [...new Set(off)].sort();
     }
 
     // How large the names of squares are written so that the longest fits.
@@ -96,18 +108,18 @@ const picture = (function () {
       return Math.min(NAME_SIZE, NAME_WIDTH / (LETTER * Math.max(...this.own.names.map((it) => short(it).length))));
     }
 
-    // The curve and the arrow of the way to each period's position, or null where nothing is drawn.
+    // By searcher the curve and the arrow of the way to each period's position, or null where nothing is drawn.
     allLegs() {
       const gone = new Map();
-      return this.way.slice(1).map((other, at) => {
-        const one = this.way[at];
-        if (!one || !other || one.join() === other.join()) {
+      return this.ways.map((way) => way.slice(1).map((other, at) => {
+        const one = way[at];
+        if (!one || !other || isSame(one, other)) {
           return null;
         }
         const ends = [one.join(), other.join()].sort().join(" ");
         gone.set(ends, gone.has(ends) ? gone.get(ends) + 1 : 0);
         return leg(one, other, BOW * Math.min(gone.get(ends), MOST_BOWS));
-      });
+      }));
     }
 
     // Lets the picture have a strip below its squares, with a scale and an arrow to north.
@@ -130,7 +142,9 @@ const picture = (function () {
     svg(frame) {
       const label = escaped(filled("map_label", { when: when(this.search, frame), noun: this.own.noun }));
       const sums = this.own.sums(frame.left);
-      const drawn = [this.colours(frame, sums), this.borders(), this.outlines(frame), this.path(frame), this.texts(frame, sums), this.labels(frame), this.searcher(frame)];
+      const each = (drawing) => this.ways.map((_, who) => (who ? filled("layer", { kind: "second", drawn: drawing(who) }) : drawing(who))).join("");
+      const [ways, signs] = [each((it) => this.path(it, frame)), each((it) => this.labels(it, frame) + this.searcher(it, frame))];
+      const drawn = [this.colours(frame, sums), this.borders(), this.outlines(frame), ways, this.texts(frame, sums), signs];
       return filled("map", { label, box: [...this.low, ...this.size].map(number).join(" "), drawn: drawn.join("") + this.below });
     }
 
@@ -181,9 +195,9 @@ const picture = (function () {
     }
 
     // The way that is to come, the way before this period, and this period's move on top, with an arrow on each leg; and the start.
-    path({ period }) {
-      const [before, start] = [Math.max(period - 1, 0), this.way[0]];
-      const parts = { coming: this.legs.slice(period), gone: this.legs.slice(0, before), now: this.legs.slice(before, period) };
+    path(searcher, { period }) {
+      const [before, start, all] = [Math.max(period - 1, 0), this.ways[searcher][0], this.legs[searcher]];
+      const parts = { coming: all.slice(period), gone: all.slice(0, before), now: all.slice(before, period) };
       const drawn = Object.entries(parts).map(([kind, legs]) => filled("layer", { kind, drawn: legs.map((it) => (it ? filled("leg", it) : "")).join("") }));
       return drawn.join("") + (start ? filled("start", { x: number(start[0]), y: number(start[1]) }) : "");
     }
@@ -203,34 +217,38 @@ const picture = (function () {
       return filled("layer_aside", { kind: "texts", drawn: this.squares.map((point, it) => (point ? texts(point, it) : "")).join("") });
     }
 
-    // Beside each place of the way, the periods in which the searcher looks from there, where these aren't this period alone.
-    labels({ period }) {
+    // Beside each place of a way, the periods in which the searcher looks from there, where these aren't this period alone; those of the second
+    // searcher stand below.
+    labels(searcher, { period }) {
       const stops = new Map();
-      this.way.slice(1).forEach((point, at) => {
+      this.ways[searcher].slice(1).forEach((point, at) => {
         if (point) {
           stops.set(point.join(), [point, [...(stops.get(point.join()) || [null, []])[1], at + 1]]);
         }
       });
-      const up = Math.max(...this.own.names.map((it) => it.length)) <= LETTERS_BESIDE ? 29 : 13;
+      const up = (Math.max(...this.own.names.map((it) => it.length)) <= LETTERS_BESIDE ? 29 : 13) - BELOW * searcher;
       const others = [...stops.values()].filter(([, times]) => times.join() !== String(period));
       const drawn = others.map(([[x, y], times]) => filled("text", { x: number(x + 43), y: number(y - up), text: ranges(times) }));
       return filled("layer_aside", { kind: "visits", drawn: drawn.join("") });
     }
 
-    // The searcher's place, with the number of the period.
-    searcher({ period }) {
-      if (!this.way[period]) {
+    // A searcher's place, with the number of the period. Two at one place stand beside each other.
+    searcher(searcher, { period }) {
+      const places = this.ways.map((it) => it[period]);
+      if (!places[searcher]) {
         return "";
       }
-      const [x, y] = this.way[period];
-      const disc = filled("disc", { x: number(x), y: number(y) });
-      return filled("layer_aside", { kind: "searcher", drawn: disc + filled("text", { x: number(x), y: number(y + 5.5), text: period || "S" }) });
+      const isShared = places.filter((it) => it && isSame(it, places[searcher])).length > 1;
+      const [x, y] = [places[searcher][0] + (isShared ? (searcher * 2 - 1) * ASIDE : 0), places[searcher][1]];
+      const sign = searcher ? box(x - 14, y - 14) : filled("disc", { x: number(x), y: number(y) });
+      return filled("layer_aside", { kind: "searcher", drawn: sign + filled("text", { x: number(x), y: number(y + 5.5), text: period || "S" }) });
     }
   }
 
   // Which look a frame is behind, in words.
-  function when(search, { period, position }) {
-    return filled(period ? "behind_look" : "before_looks", { period, who: "searcher is", where: search.sc.positions[position] });
+  function when({ seats }, { period, position }) {
+    const where = seats.names[position].join(" and ") + (period > 0 && period <= seats.flown ? " (flown)" : "");
+    return filled(period ? "behind_look" : "before_looks", { period, who: seats.count === 1 ? "searcher is" : "searchers are", where });
   }
 
   return { Picture, cut, share, classOf, when };

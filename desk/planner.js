@@ -44,8 +44,9 @@
     const here = `Checked here, just now, by the proved program (${checked.seconds.toFixed(2)} s).`;
     at("chance").innerHTML = tables.chance(own);
     at("verdict").replaceChildren(told.element("span", tables.verdict(own)), " ", told.element("small", here));
-    at("about").textContent = own.clock === null ? "" : own.clock.about;
+    at("about").textContent = shown.about(own);
     at("states").media = drawn !== null && drawn.parted.length ? "all" : "not all";
+    at("pair").media = own.seats.count > 1 ? "all" : "not all";
     at("shown").className = drawn === null ? "" : "with-map";
     at("shown").innerHTML = text;
     Object.entries(drawn === null ? {} : shown.sizes(drawn)).forEach(([name, size]) => at("shown").style.setProperty(name, size));
@@ -92,7 +93,14 @@
     }
   }
 
-  // Runs what asks the program of the scenario that stands here now, and says what stops it.
+  // The scenario that stands here now, and the plan behind it, if there is one.
+  function given() {
+    const bytes = opened || encoder.encode(at("text").value);
+    const [scenario, behind] = reading.parts(bytes);
+    return /^(plan|gap) /.test(decoder.decode(behind.subarray(0, 5))) ? [scenario, behind] : [bytes, null];
+  }
+
+  // Runs what asks the program of these, and says what stops it.
   async function attempt(what, action) {
     if (at("text").value.trim() === "") {
       say("There is no scenario: open one, paste it, or take an example.", true);
@@ -100,7 +108,7 @@
     }
     running(what);
     try {
-      await action(opened || encoder.encode(at("text").value));
+      await action(...given());
     } catch (why) {
       say(`Nothing is shown: ${why.message}.`, true);
     }
@@ -118,15 +126,17 @@
   async function open(event) {
     const file = event.target.files[0];
     if (file) {
-      take(new Uint8Array(await file.arrayBuffer()), file.name.replace(/\.scenario$/, ""));
+      take(new Uint8Array(await file.arrayBuffer()), file.name.replace(/\.(scenario|made)$/, ""));
     }
   }
 
-  async function checked() {
+  // Checks the plan behind the scenario, or else that of the file that was chosen.
+  async function check(scenario, behind) {
     const file = at("file-of-plan").files[0];
-    if (file) {
-      const bytes = new Uint8Array(await file.arrayBuffer());
-      await attempt("Checking", (scenario) => judge(scenario, bytes, `${file.name} is accepted.`));
+    if (behind !== null) {
+      await judge(scenario, behind, "The plan behind the scenario is accepted.");
+    } else if (file) {
+      await judge(scenario, new Uint8Array(await file.arrayBuffer()), `${file.name} is accepted.`);
     } else {
       say("There is no plan to check: choose its file.", true);
     }
@@ -140,7 +150,7 @@
   at("example").addEventListener("change", async () => take(await carried.unpacked(`example-${at("example").value}`), at("example").value));
   at("text").addEventListener("input", () => { opened = null; forget(); });
   at("plan").addEventListener("click", () => attempt("Planning", plan));
-  at("check").addEventListener("click", checked);
+  at("check").addEventListener("click", () => attempt("Checking", check));
   at("stop").addEventListener("click", () => carried.stop());
   at("plan").disabled = at("check").disabled = false;
 }());

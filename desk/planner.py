@@ -10,7 +10,7 @@ from desk.words import BadWords, Words
 # The examples that the page offers, by their files.
 EXAMPLES = ["two-cells", "small-lake", "drifting-grid", "lake-with-island", "swath"]
 # The parts of its script: those that show a plan as `show` does, and the page itself.
-SHOWING = ["told.js", "markup.js", "reading.js", "layout.js", "picture.js", "tables.js", "shown.js"]
+SHOWING = ["told.js", "markup.js", "reading.js", "layout.js", "seats.js", "picture.js", "tables.js", "shown.js"]
 PARTS = [*SHOWING, "page.js", "planner.js"]
 # The most records of a plan where the page isn't told another number.
 NODES = 200_000
@@ -36,7 +36,7 @@ def intake(names):
         '<p><label for="planner-text">or paste it here:</label></p><textarea id="planner-text" spellcheck="false"></textarea>'
         f'<div class="controls">{button("plan", "Plan", " disabled")}<label>with at most <input type="number" id="planner-nodes" value="{NODES}" min="1" max="{limits.MOST_NODES}"> records</label>'
         f'{button("stop", "Stop", " hidden")}</div>'
-        f'<div class="controls">{button("check", "Check a plan", " disabled")}<label>from the file <input type="file" id="planner-file-of-plan"></label></div>'
+        f'<div class="controls">{button("check", "Check a plan", " disabled")}<label>that stands behind the scenario, or else in the file <input type="file" id="planner-file-of-plan"></label></div>'
         '<p id="planner-said" role="status" aria-live="polite"></p></section>'
     )
 
@@ -58,9 +58,9 @@ def numbers_of(module):
 def rules():
     """What the script draws and says by, as text of it: the markup, sizes, limits and patterns of the helpers' own modules."""
     patterns = {"at": layout.AT, "of_square": states.OF_SQUARE, "row_and_column": squares.ROW_AND_COLUMN, "times": comments.TIMES}
-    told = {it.__name__.removeprefix("desk."): numbers_of(it) for it in (picture, compass, layout, tables, page)}
+    told = {it.__name__.removeprefix("desk."): numbers_of(it) for it in (picture, compass, layout, tables, page, limits)}
     told["patterns"] = {**{name: it.pattern.decode("ascii") for name, it in patterns.items()}, "moment": moments.SPELLED.pattern}
-    told |= {"markup": markup.MARKUP, "keys": {"squares": page.scale(False), "parts": page.scale(True)}, "signs": page.signs(1)}
+    told |= {"markup": markup.MARKUP, "keys": {"squares": page.scale(False), "parts": page.scale(True)}, "signs": {it: page.signs(it) for it in (1, 2)}}
     return f"\"use strict\";\nconst RULES = {json.dumps(told).replace('<', chr(92) + 'u003c')};\n"
 
 
@@ -71,15 +71,18 @@ def script():
 
 def document(module, examples):
     """The page: `module` is the program as WebAssembly, `examples` the bytes of scenarios by name."""
-    css, parted, scripts = "".join(map(page.asset, ("page.css", "compass.css", "planner.css"))), page.asset("states.css"), script()
-    styles, allowed = (" ".join(f"'{page.checksum(it)}'" for it in its) for its in ((css, parted), (scripts,)))
+    css, scripts = "".join(map(page.asset, ("page.css", "compass.css", "planner.css"))), script()
+    # (Those that apply to some plans alone: the script says which.)
+    more = {"states": page.asset("states.css"), "pair": page.asset("pair.css")}
+    styles, allowed = (" ".join(f"'{page.checksum(it)}'" for it in its) for its in ((css, *more.values()), (scripts,)))
+    others = "".join(f'<style id="planner-{name}" media="not all">{it}</style>\n' for name, it in more.items())
     policy = f"default-src 'none'; style-src {styles}; script-src {allowed}{carried.SCRIPTS};{carried.MORE} base-uri 'none'; form-action 'none'"
     blocks = {"program": module, **{f"example-{name}": it for name, it in examples.items()}}
     return (
         '<!DOCTYPE html>\n<html lang="en">\n<head>\n<meta charset="utf-8">\n'
         f'<meta http-equiv="Content-Security-Policy" content="{policy}">\n'
         '<meta name="viewport" content="width=device-width, initial-scale=1">\n'
-        f'<title>Plan a search</title>\n<style>{css}</style>\n<style id="planner-states" media="not all">{parted}</style>\n</head>\n<body>\n'
+        f'<title>Plan a search</title>\n<style>{css}</style>\n{others}</head>\n<body>\n'
         "<header><h1>Plan a search</h1>"
         "<p>A scenario goes in; out comes the best path, its exact chance, and records that show why no path is better. All of it stays in this browser. "
         "docs/FORMATS.md of osp says how a scenario is written.</p>"

@@ -15,7 +15,7 @@ const reading = (function () {
     return new Map(fields.flatMap((it, at) => (at % 2 ? [] : [[cells.get(it), Number(fields[at + 1])]])));
   }
 
-  // What each line adds to a scenario, where the page needs it. Drift and moves it doesn't.
+  // What each line adds to a scenario, where the page needs it. Drift it doesn't.
   const ADDS = {
     scenario: (sc, [version]) => { sc.isFirst = version === "1"; },
     horizon: (sc, [periods]) => { sc.horizon = Number(periods); },
@@ -23,14 +23,19 @@ const reading = (function () {
     cell: (sc, [name]) => { sc.cells.set(name, sc.cells.size); },
     position: (sc, [name]) => { sc.places.set(name, sc.places.size); },
     grid(sc, [rows, columns]) {
+      const side = (row, column) => row >= 0 && row < rows && column >= 0 && column < columns;
       for (let at = 0; at < rows * columns; at += 1) {
-        ADDS.cell(sc, [`r${Math.floor(at / columns)}c${at % columns}`]);
+        const [row, column] = [Math.floor(at / columns), at % columns];
+        const around = [[row - 1, column], [row, column - 1], [row, column], [row, column + 1], [row + 1, column]].filter((it) => side(...it));
+        ADDS.cell(sc, [`r${row}c${column}`]);
+        sc.moves.set(at, around.map(([r, c]) => r * columns + c));
       }
     },
     start(sc, [name]) {
       sc.places = sc.isFirst ? sc.cells : sc.places;
       sc.start = sc.places.get(name);
     },
+    moves: (sc, [position, ...fields]) => { sc.moves.set(sc.places.get(position), fields.map((it) => sc.places.get(it)).sort((a, b) => a - b)); },
     first: (sc, fields) => { sc.first = row(fields, sc.cells); },
     look: (sc, [position, ...fields]) => { sc.looks.set(sc.places.get(position), row(fields, sc.cells)); },
     lookin: (sc, [period, position, ...fields]) => { sc.looksIn.set(`${period} ${sc.places.get(position)}`, row(fields, sc.cells)); },
@@ -38,10 +43,10 @@ const reading = (function () {
     rate: (sc, [part]) => sc.places.forEach((_, name) => ADDS.overlook(sc, [name, part])),
   };
 
-  // The scenario of lines: names of cells and of positions, horizon, denominators, start, the first distribution, and which cells a look
-  // covers, with the parts that it misses.
+  // The scenario of lines: names of cells and of positions, horizon, denominators, start, the first distribution, where moves lead, and which
+  // cells a look covers, with the parts that it misses.
   function scenario(all) {
-    const sc = { cells: new Map(), places: new Map(), looks: new Map(), looksIn: new Map() };
+    const sc = { cells: new Map(), places: new Map(), moves: new Map(), looks: new Map(), looksIn: new Map() };
     for (const [word, ...fields] of all.filter((it) => it !== "" && !it.startsWith("#")).map((it) => it.split(/[ \t\r]+/))) {
       if (word === "end") {
         break;
@@ -95,6 +100,14 @@ const reading = (function () {
     return ofDay(at % (DAY * MINUTE)) + (days ? `+${days}` : "");
   }
 
+  // A scenario and what stands behind it, without the blank lines between them.
+  function parts(bytes) {
+    const text = new TextDecoder("latin1").decode(bytes);
+    const end = text.match(/(?:^|\n)[ \t\r]*end[ \t\r]*(?:\n|$)/);
+    const length = end === null ? text.length : end.index + end[0].length;
+    return [bytes.subarray(0, length), bytes.subarray(length + text.slice(length).match(/^[ \t\r\n]*/)[0].length)];
+  }
+
   // What the lines of a plan, or a gap plan, before its records say.
   function plan(bytes) {
     const all = lines(bytes);
@@ -104,5 +117,5 @@ const reading = (function () {
     return { version: said.plan?.[0], path: said.path, value, weight, ceiling, records: Number(said.nodes[0]) };
   }
 
-  return { lines, scenario, times, plan };
+  return { lines, scenario, times, parts, plan };
 }());

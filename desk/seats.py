@@ -88,7 +88,7 @@ def behind_flown(sc, old):
     count = sc.start
     flown = len(sc.positions) - count - 1
     own = old or without_flown(sc, count)
-    if len(own.positions) != count or sc.positions[count:] != [b"flown-%d" % it for it in range(flown + 1)]:
+    if flown < 1 or len(own.positions) != count or sc.positions[count:] != [b"flown-%d" % it for it in range(flown + 1)]:
         return None
     if any(to >= count for row in own.moves.values() for to in row):
         return None

@@ -30,7 +30,8 @@ const shown = (function () {
   async function search(scenario, plan, map) {
     const lines = reading.lines(scenario);
     const [sc, head] = [reading.scenario(lines), reading.plan(plan)];
-    const own = { ...head, sc, lines, clock: reading.times(lines), squares: layout.squares(sc), frames: frames(sc, head, told.looks(map)) };
+    const who = seats.seats(sc);
+    const own = { ...head, sc, lines, seats: who, squares: layout.squares(who.of), clock: reading.times(lines), frames: frames(sc, head, told.looks(map)) };
     return { ...own, checksums: await checksums({ scenario, plan }) };
   }
 
@@ -52,7 +53,7 @@ const shown = (function () {
     const [period, isLook] = [frame.period, frame.period > 0];
     const time = clock && isLook ? filled("time", { begins: clock.at(period), ends: clock.at(period + 1) }) : "";
     const shares = { share: picture.cut(frame.found, weight), so_far: picture.cut(frame.soFar, weight) };
-    const found = isLook ? filled("found", { finds: "This look finds", ...shares }) : "";
+    const found = isLook ? filled("found", { finds: tables.finds(own), ...shares }) : "";
     const head = escaped(picture.when(own, frame));
     return filled("figure", { period, head: head[0].toUpperCase() + head.slice(1), time, said: found + likeliest(own, frame), map: drawn.svg(frame) });
   }
@@ -77,7 +78,7 @@ const shown = (function () {
       figures: own.frames.map((it) => figure(own, drawn, it)).join(""),
       key: RULES.keys[drawn.parted.length ? "parts" : "squares"],
       where: "",
-      signs: RULES.signs,
+      signs: RULES.signs[own.seats.count],
       note: filled("map_note", { width: width(drawn), lacking }),
     });
   }
@@ -85,7 +86,7 @@ const shown = (function () {
   // The picture of a search, or why there is none.
   function pictureOf(own) {
     try {
-      return { drawn: new picture.Picture(own, layout.layout(own.sc, own.squares, own.lines)), why: "" };
+      return { drawn: new picture.Picture(own, layout.layout(own.seats.of, own.squares, own.lines)), why: "" };
     } catch (why) {
       if (why instanceof layout.NoPlaces) {
         return { drawn: null, why: why.message };
@@ -107,11 +108,16 @@ const shown = (function () {
     return { drawn, text: first + tables.allCells(own, false, drawn.layout.finer) + tables.numbers(own) };
   }
 
+  // What is said of a plan beside its verdict: when its looks are, which are flown, and how positions are named.
+  function about(own) {
+    return [...(own.clock && own.clock.about ? [own.clock.about] : []), ...tables.aboutFlown(own), ...tables.aboutNames(own)].join(" ");
+  }
+
   // What of the style depends on a picture: the least width of a map, how large names are written, how large parts are.
   function sizes(drawn) {
     const part = drawn.parted.length ? drawn.partSide().toFixed(2) : "0";
     return { "--least-width": `${Math.ceil(drawn.columns * LEAST_CELL)}px`, "--name-size": `${markup.fixed(drawn.nameSize(), 1)}px`, "--part-side": `${part}px` };
   }
 
-  return { search, main, sizes };
+  return { search, main, about, sizes };
 }());

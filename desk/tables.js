@@ -20,30 +20,61 @@ const tables = (function () {
     return cut((part * 100000n + whole - 1n) / whole, 100000n);
   }
 
+  // What no other is better than the plan's.
+  function bestOf({ count, flown }) {
+    return (count === 1 ? "path" : "pair of paths") + (flown ? " that begins as flown" : "");
+  }
+
+  // What the looks of a period are said to do.
+  function finds({ seats }) {
+    return seats.count === 1 ? "This look finds" : "These looks find";
+  }
+
   // What the program accepted, as a sentence.
-  function verdict({ ceiling, value, weight }) {
+  function verdict({ ceiling, value, weight, seats }) {
+    const best = bestOf(seats);
     if (ceiling === null) {
-      return filled("no_better", { best: "path" });
+      return filled("no_better", { best });
     }
     if (ceiling > value && ceiling >= weight) {
       return filled("nothing_shown", {});
     }
-    return filled("no_more", { best: "path", than: ceiling > value ? ` than ${up(ceiling, weight)} %` : "" });
+    return filled("no_more", { best, than: ceiling > value ? ` than ${up(ceiling, weight)} %` : "" });
   }
 
   // What the plan finds, and in how many looks.
-  function chance({ value, weight, sc }) {
-    return filled("chance", { percent: cut(value, weight), looks: plural(sc.horizon, "look"), each: "" });
+  function chance({ value, weight, sc, seats }) {
+    return filled("chance", { percent: cut(value, weight), looks: plural(sc.horizon, "look"), each: seats.count === 1 ? "" : " each" });
+  }
+
+  // What is said of a flown prefix, in short sentences: how many looks are flown, and what those to come find if these found nothing.
+  function aboutFlown({ seats, frames, value, sc }) {
+    const [k, missed] = [seats.flown, frames[seats.flown].missed];
+    if (k === 0) {
+      return [];
+    }
+    if (k === sc.horizon) {
+      return [filled("all_flown", {})];
+    }
+    const [head, looks] = [filled(k === 1 ? "first_flown" : "some_flown", { count: k }), k === 1 ? "it" : "these"];
+    const rest = missed ? cut(value - frames[k].soFar, missed) : "";
+    return [head, filled(missed ? "rest_finds" : "flown_find", { looks, share: rest })];
+  }
+
+  // What is said of names that are numbers.
+  function aboutNames({ seats }) {
+    return seats.isNumbered ? [filled("numbered", {})] : [];
   }
 
   // A period's row: its number (a button where there is a map), when it begins if known, and what its look finds.
-  function periodRow({ sc, weight }, frame, clock, withMap) {
+  function periodRow({ seats, weight }, frame, clock, withMap) {
     const t = frame.period;
+    const flown = t <= seats.flown ? filled("period_flown", {}) : "";
     return filled("period", {
       data: withMap ? filled("period_data", { period: t }) : "",
       head: withMap ? filled("period_button", { period: t }) : t,
       time: clock ? filled("period_time", { begins: clock.at(t) }) : "",
-      places: filled("period_place", { name: escaped(sc.positions[frame.position]), flown: "" }),
+      places: seats.names[frame.position].map((it) => filled("period_place", { name: escaped(it), flown })).join(""),
       found: exact(`found-${t}`, frame.found, weight),
       so_far: exact(`so-far-${t}`, frame.soFar, weight),
       bar: filled("bar", { width: cut(frame.soFar, weight) }),
@@ -53,9 +84,12 @@ const tables = (function () {
   // The table of periods.
   function periods(search, clock, withMap) {
     const time = clock ? [["Begins", false]] : [];
-    const columns = [["Period", false], ...time, ["Look from", false], ["This look finds", true], ["Found so far", true]];
+    const isAlone = search.seats.count === 1;
+    const heads = isAlone ? ["Look from"] : ["First looks from", "Second looks from"];
+    const columns = [["Period", false], ...time, ...heads.map((it) => [it, false]), [finds(search), true], ["Found so far", true]];
     const rows = search.frames.slice(1).map((it) => periodRow(search, it, clock, withMap));
-    return filled("periods", { table: table(filled("periods_caption", { move: "searcher moves, then looks" }), columns, rows) });
+    const move = isAlone ? "searcher moves, then looks" : "searchers move, then look";
+    return filled("periods", { table: table(filled("periods_caption", { move }), columns, rows) });
   }
 
   // The numbers of those that hold something, where most is first; of equal masses the smaller number.
@@ -122,12 +156,12 @@ const tables = (function () {
       ["Chance", filled("of_whole", { part: search.value, whole: weight })],
       ...(search.ceiling === null ? [] : [["Ceiling", filled("ceiling", { ceiling: search.ceiling, whole: weight })]]),
       ["Denominators", filled("denominators", { a, d, g, steps: sc.horizon - 1, periods: sc.horizon })],
-      ["Size", `${plural(sc.horizon, "period")}, ${cells}, ${plural(sc.positions.length, "position")} of the searcher`],
+      ["Size", `${plural(sc.horizon, "period")}, ${cells}, ${plural(sc.positions.length, "position")} of the ${search.seats.count === 1 ? "searcher" : "pair"}`],
       search.ceiling === null ? ["Plan", filled("plan_records", { version: search.version, records })] : ["Gap plan", filled("gap_records", { records })],
     ];
     const sums = Object.entries(search.checksums).map(([name, text]) => filled("sum_row", { name, text }));
     return filled("numbers", { rows: [...rows.map(([name, text]) => filled("number_row", { name, text })), ...sums].join("") });
   }
 
-  return { verdict, chance, periods, greatest, left, allCells, numbers };
+  return { verdict, chance, aboutFlown, aboutNames, finds, periods, greatest, left, allCells, numbers };
 }());

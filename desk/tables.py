@@ -72,11 +72,11 @@ def about_flown(search):
         return []
     found, missed = search.frames[k].so_far, search.frames[k].missed
     if k == search.sc.horizon:
-        return ["All looks are flown."]
-    head, these = ("The first look is flown.", "it") if k == 1 else (f"The first {k} looks are flown.", "these")
+        return [filled("all_flown")]
+    head, looks = filled("first_flown" if k == 1 else "some_flown", count=k), "it" if k == 1 else "these"
     if not missed:
-        return [head, f"They are found for certain by {these}."]
-    return [head, f"If {these} found nothing, those to come find them: {percent.cut(search.report.value - found, missed)} %."]
+        return [head, filled("flown_find", looks=looks)]
+    return [head, filled("rest_finds", looks=looks, share=percent.cut(search.report.value - found, missed))]
 
 
 def about_trial(search):
@@ -86,13 +86,13 @@ def about_trial(search):
 
 def about_names(search):
     """What is said of names that are numbers, as a list of one sentence or none."""
-    return ["Positions have numbers here: --of SCENARIO has their names."] if search.seats.is_numbered else []
+    return [filled("numbered")] if search.seats.is_numbered else []
 
 
 def period_row(search, frame, clock, with_map):
     """A period's row: its number (a button where there is a map), when it begins if known, and what its look finds."""
     t, whole = frame.period, search.report.weight
-    flown = " <small>flown</small>" if t <= search.seats.flown else ""
+    flown = filled("period_flown") if t <= search.seats.flown else ""
     slots = {
         "data": filled("period_data", period=t) if with_map else "",
         "head": filled("period_button", period=t) if with_map else t,

@@ -8,10 +8,10 @@ import re
 import subprocess
 import unittest
 
-from desk import accepted, comments, compass, forms, layout, page, picture, planner, program
-from tests import finer, pages, web
+from desk import accepted, comments, compass, derived, forms, layout, page, picture, planner, program, tables, writing
+from tests import finer, made, pages, web
 from tests.made import with_plan
-from tests.pages import EXAMPLES, PLACES, Room, example
+from tests.pages import EXAMPLES, PLACES, Room, example, read
 
 NAMES = sorted(it[:-7] for it in os.listdir(EXAMPLES) if it.endswith(".report"))
 SITUATIONS = sorted(it[:-5] for it in os.listdir(f"{EXAMPLES}/situations") if it.endswith(".toml"))
@@ -69,7 +69,7 @@ def shuttle(places, *more):
 
 @unittest.skipUnless(web.NODE, "node isn't installed (Debian's package nodejs)")
 class Same(Room):
-    """What the script shows, and what `show` writes below the head of its page, where it knows no places on the earth."""
+    """What the script says and shows, and what `show` does, where it knows no places on the earth."""
 
     def setUp(self):
         super().setUp()
@@ -84,28 +84,30 @@ class Same(Room):
         return [json.loads(it) for it in done.stdout.splitlines()]
 
     def both(self, *files):
-        """What `show` writes of a plan, and what the script is given of it."""
+        """What `show` says and writes of a plan, and what the script is given of it."""
         search = accepted.mapped(accepted.load(files))
         told = comments.Comments({}, times=comments.times_of(comments.lines(search.text)))
         try:
-            drawn, why = picture.Picture(search, layout.layout(search.sc, search.text)), None
+            drawn, why = picture.Picture(search, layout.layout(search.seats.of, search.text)), None
             compass.add(drawn, None)
         except layout.NoPlaces as lacking:
             drawn, why = None, str(lacking)
         text = search.text[: len(search.text) - len(forms.read_scenario(search.text, alone=False)[1])]
         mapped = program.ask(["map", "flown", *(search.sc.positions[it].decode() for it in search.path)], text)
         given = {name: base64.b64encode(it).decode() for name, it in (("scenario", search.text), ("plan", search.plan))}
-        return page.main_part(search, drawn, why, told), {"given": given | {"map": mapped.out.decode()}}
+        about = [*(told.times.about() if told.times else []), *tables.about_flown(search), *tables.about_names(search)]
+        main = re.fullmatch(r'<main(?: class="with-map")?>(.*)</main>', page.main_part(search, drawn, why, told), re.S)[1]
+        return [tables.chance(search), tables.verdict(search), " ".join(about), main], {"given": given | {"map": mapped.out.decode()}}
 
     def same(self, cases):
         """Holds what the script shows of plans, by name, against what `show` writes."""
         made = {name: self.both(*files) for name, files in cases.items()}
         for (name, (wanted, _)), told in zip(made.items(), self.answers(it[1] for it in made.values()), strict=True):
             with self.subTest(name):
+                self.assertEqual(told[:-1], wanted[:-1])
                 # (Of texts that differ, the first place is said, and not the megabyte.)
-                wanted = re.fullmatch(r'<main(?: class="with-map")?>(.*)</main>', wanted, re.S)[1]
-                at = len(os.path.commonprefix([wanted, told]))
-                self.assertEqual(told[max(at - 60, 0) : at + 60], wanted[max(at - 60, 0) : at + 60])
+                at = len(os.path.commonprefix([wanted[-1], told[-1]]))
+                self.assertEqual(*(it[-1][max(at - 60, 0) : at + 60] for it in (told, wanted)))
 
     def test_examples(self):
         """Grids, looks that cover several cells, a tide and a night, a gap plan, and texts of both versions."""
@@ -139,6 +141,24 @@ class Same(Room):
         texts = {it: shuttle(PLACED["in a row"], " " + it, TIMES[0].replace(" minutes", "")) for it in TIMES}
         texts["the last counts"] = shuttle(PLACED["in a row"], *TIMES)
         self.same({name: [self.write("times", with_plan(it))] for name, it in texts.items()})
+
+    def test_made(self):
+        """What `replan` and `duo` make: a flown prefix, two searchers, both at once, a prefix that several walks may be, and names alone."""
+        pair = writing.scenario_text(derived.product(made.read(made.GRID), 11))
+        alike = made.ROW.replace(b"rate 0", b"rate 1")
+        texts = {
+            "flown": read(f"{EXAMPLES}/drifting-grid-flown.made"),
+            "two": read(f"{EXAMPLES}/night-two.made"),
+            "two of a grid": with_plan(pair),
+            "flown by two": made.forced(pair, "p1-10 p5-6"),
+            "all flown": made.forced(made.GRID, "r0c1 r0c2 r1c2"),
+            "alike": made.forced(alike, "a b"),
+            "other moves": made.forced(made.GRID, "r0c1 r0c2").replace(b"moves flown-1 flown-2", b"moves flown-1 flown-1 flown-2").split(b"plan 2")[0],
+            "other looks": pair.replace(b"look p1-2 ", b"look p1-2 r1c1 50 ").replace(b"r1c1 50 r1c1", b"r1c1"),
+            "names alone": SHUTTLE.replace("look hut", "look hut b 2").replace("hut", "flown-0").encode(),
+        }
+        texts = {name: it if b"\nplan 2\n" in it else with_plan(it) for name, it in texts.items()}
+        self.same({name: [self.write(name, it)] for name, it in texts.items()})
 
     def test_numbers(self):
         """Numbers as Python writes them: those that lie between two, below zero, great and small."""

@@ -14,10 +14,10 @@ from unittest import mock
 sys.dont_write_bytecode = True
 sys.path.insert(0, os.path.dirname(os.path.realpath(__file__)))
 
-from tests import answers, pages, web  # noqa: E402
+from tests import answers, made, pages, web  # noqa: E402
 from tests.web import TOP, Answer, Case  # noqa: E402
 
-from desk import carried, picture, planner, show  # noqa: E402
+from desk import carried, planner, show  # noqa: E402
 
 sys.path.insert(0, os.path.join(TOP, "door", "web"))
 import build  # noqa: E402
@@ -390,12 +390,15 @@ class Pages(pages.Room):
         self.assertEqual((status, err), (0, ""))
         scenario = pages.example("two-cells")[0]
         few = web.native([Case(["gap", "--workers", "1", "--nodes", "1"], scenario)])[0].out
-        files = {"states": self.files("situations/harbour-and-dinghy"), "night": self.files("night"), "few": [self.files("two-cells")[0], self.write("few", few)]}
+        files = {name: self.files(it) for name, it in (("states", "situations/harbour-and-dinghy"), ("night", "night"))}
+        files |= {name: [f"{pages.EXAMPLES}/{it}.made"] for name, it in (("flown", "drifting-grid-flown"), ("both", "night-two"))}
+        files["pair"] = [self.write("pair", made.paired(made.GRID, "r2c3"))]
         folder = os.environ.get("DESK_PICTURES", self.room)
-        lacking = f"{pages.EXAMPLES}/two-cells-lacking.plan"
-        for name, source in {"two.scenario": files["few"][0], "two.plan": lacking, "states.scenario": files["states"][0], "night.scenario": files["night"][0]}.items():
+        opened = {f"{name}.scenario": it[0] for name, it in files.items()}
+        opened |= {"two.scenario": self.files("two-cells")[0], "two.plan": f"{pages.EXAMPLES}/two-cells-lacking.plan"}
+        for name, source in opened.items():
             shutil.copy(source, os.path.join(folder, name))
-        shown = {"example": self.files("drifting-grid"), **files}
+        shown = {"example": self.files("drifting-grid"), "few": [opened["two.scenario"], self.write("few", few)], **files}
         seen = self.visit({"osp": out, **{f"shown-{name}": self.page(*its) for name, its in shown.items()}})
         for name in shown:
             self.assertEqual(seen["osp"][name]["markup"], seen[f"shown-{name}"]["markup"], name)
@@ -414,8 +417,12 @@ class Pages(pages.Room):
         self.assertRegex(written["verdict"], f"^Accepted: no path is better\\. {self.HERE.pattern}$")
         self.assertEqual(written["chance"], "17.557\N{NO-BREAK SPACE}% chance to find them in 8 looks")
         self.assertIn("<dd>22473449177088000 of 128000000000000000</dd>", written["markup"])
-        # (The situation begins at a time without a date, and that of the coast by night with one.)
-        self.assertEqual([seen[it]["about"] for it in ("example", "states")], ["", ""])
+        # (The chances are those of README.md. The first three looks find nothing, since nobody is there.)
+        flown, both = "The first 3 looks are flown. If these found nothing, those to come find them: 16.296 %.", "Positions have numbers here: --of SCENARIO has their names."
+        self.assertEqual([seen[it]["about"] for it in ("example", "states", "flown", "both")], ["", "", flown, both])
+        self.assertEqual([seen[it]["said"] for it in ("flown", "both")], ["The plan behind the scenario is accepted."] * 2)
+        self.assertEqual([seen[it]["chance"][:8] for it in ("flown", "both")], ["16.296\N{NO-BREAK SPACE}%", "95.900\N{NO-BREAK SPACE}%"])
+        self.assertRegex(seen["both"]["verdict"], "^Accepted: no pair of paths is better\\. ")
         self.assertEqual((seen["checked"]["said"], seen["checked"]["found"], seen["checked"]["markup"]), ("Not accepted: rejected 8 MissingChild.", False, ""))
         self.assertRegex(seen["few"]["verdict"], "^Accepted: no path finds more\\. ")
         self.assertEqual((seen["wrong"]["said"], seen["wrong"]["found"]), ("Nothing is planned: bad scenario: line 2 BadNumber: horizon two", False))
@@ -428,11 +435,12 @@ class Pages(pages.Room):
             "end": (["after-8"], "8"), "left": (["after-7"], "7"), "text": (["after-7"], "7"), "row": (["after-2"], "2"),
         })
         self.assertEqual(seen["letter"], 2)
-        masses = pages.read(f"{pages.EXAMPLES}/drifting-grid.scenario"), "r0c1 r0c2".split()
-        looks = web.native([Case(["map", "flown", *masses[1]], masses[0])])[0].out.decode().split("period ")[2].splitlines()
-        left = [int(it.split()[2]) for it in looks if it.startswith("left")]
-        self.assertEqual(seen["row"]["shares"], [picture.share(it, 128000000000000000) for it in left])
-        self.assertEqual(seen["of_left"]["shares"], [picture.share(it, sum(left)) for it in left])
+        told = web.native([Case(["map", "flown", "r0c1", "r0c2"], pages.example("drifting-grid")[0])])[0].out.decode().split("period ")[2]
+        left = [it.split()[2:] for it in told.splitlines() if it.startswith("left")]
+        self.assertEqual(seen["row"]["shares"], ["0" if mass == "0" else share for mass, share in left])
+        missed = sum(int(mass) for mass, _ in left)
+        thousandths = [int(mass) * 100_000 // missed for mass, _ in left]
+        self.assertEqual(seen["of_left"]["shares"], ["0" if mass == "0" else f"{it // 1000}.{it % 1000:03}" for it, (mass, _) in zip(thousandths, left)])
 
     def test_without_a_module(self):
         """Where the module isn't built, or isn't the program's, the page is that of before."""

@@ -168,7 +168,8 @@ def by_arrows(visit):
 
 
 def in_planner(seen_by, page, folder):
-    """Plans an example, at a tablet's width; others from files, with a plan that is checked; with few records; and texts that are wrong."""
+    """Plans an example, at a tablet's width, and others from files; has plans checked that stand behind their scenario, or in a file; plans with
+    few records, and texts that are wrong."""
     seen_by.execute_cdp_cmd("Browser.setDownloadBehavior", {"behavior": "allow", "downloadPath": folder})
     visit = Visit(seen_by, page, folder)
     visit.open(TABLET)
@@ -181,9 +182,10 @@ def in_planner(seen_by, page, folder):
     visit.press(*[Keys.ARROW_RIGHT] * 4)
     visit.picture("tablet")
     seen["keys"] = by_arrows(visit)
-    for name in ("states", "night"):
+    for name, button in (("states", "plan"), ("night", "plan"), ("flown", "check"), ("both", "check"), ("pair", "check")):
         chosen(visit, "file", os.path.join(folder, f"{name}.scenario"))
-        seen[name] = press(visit, "plan")
+        seen[name] = press(visit, button)
+    visit.picture("two")
     chosen(visit, "file", os.path.join(folder, "two.scenario"))
     chosen(visit, "file-of-plan", os.path.join(folder, "two.plan"))
     seen["checked"] = press(visit, "check")
