@@ -4,10 +4,30 @@ const reading = (function () {
   const [TIMES, SPELLED] = [RULES.patterns.times, RULES.patterns.moment].map(markup.whole);
   // A minute, an hour's minutes and a day's, in hundredths of a second, by which all times are whole numbers.
   const [MINUTE, HOUR, DAY] = [6000, 60, 24 * 60];
+  // More bytes than the lines of a plan before its records have, of which the path is the longest: 32 names of 24 letters.
+  const HEAD = 4096;
 
-  // The lines of a text, without the blanks around them. A byte is a letter, whatever it stands for.
+  // Bytes as letters, whatever each of them stands for.
+  function letters(bytes) {
+    return new TextDecoder("latin1").decode(bytes);
+  }
+
+  // A line without the blanks around it. (A pattern for those at its end would take a time with the square of those within it.)
+  function stripped(line) {
+    const isBlank = (it) => it === " " || it === "\t" || it === "\r";
+    let [from, to] = [0, line.length];
+    while (from < to && isBlank(line[from])) {
+      from += 1;
+    }
+    while (from < to && isBlank(line[to - 1])) {
+      to -= 1;
+    }
+    return line.slice(from, to);
+  }
+
+  // The lines of a text, without the blanks around them.
   function lines(bytes) {
-    return new TextDecoder("latin1").decode(bytes).split("\n").map((it) => it.replace(/^[ \t\r]+|[ \t\r]+$/g, ""));
+    return letters(bytes).split("\n").map(stripped);
   }
 
   // A row of cells with a part each, by the numbers of the cells.
@@ -78,7 +98,7 @@ const reading = (function () {
 
   // When periods begin, by what comments say; null where none does. The last such comment counts.
   function times(all) {
-    const told = all.filter((it) => it.startsWith("#")).map((it) => it.slice(1).replace(/^[ \t]+|[ \t]+$/g, "").match(TIMES)).reverse();
+    const told = all.filter((it) => it.startsWith("#")).map((it) => stripped(it.slice(1)).match(TIMES)).reverse();
     for (const [, minutes, text] of told.filter(Boolean)) {
       const [length, begins] = [Math.round(Number(minutes) * 100) * (MINUTE / 100), moment(text)];
       if (begins !== null && length > 0 && length <= DAY * MINUTE) {
@@ -102,7 +122,7 @@ const reading = (function () {
 
   // A scenario and what stands behind it, without the blank lines between them.
   function parts(bytes) {
-    const text = new TextDecoder("latin1").decode(bytes);
+    const text = letters(bytes);
     const end = text.match(/(?:^|\n)[ \t\r]*end[ \t\r]*(?:\n|$)/);
     const length = end === null ? text.length : end.index + end[0].length;
     return [bytes.subarray(0, length), bytes.subarray(length + text.slice(length).match(/^[ \t\r\n]*/)[0].length)];
@@ -110,7 +130,7 @@ const reading = (function () {
 
   // What the lines of a plan, or a gap plan, before its records say.
   function plan(bytes) {
-    const all = lines(bytes);
+    const all = letters(bytes.subarray(0, HEAD)).split("\n");
     const said = Object.fromEntries(all.slice(0, 5).map((it) => it.split(" ")).map(([word, ...fields]) => [word, fields]));
     const [value, weight] = said.chance.map(BigInt);
     const ceiling = said.ceiling === undefined ? null : BigInt(said.ceiling[0]);

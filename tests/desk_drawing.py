@@ -11,6 +11,7 @@ import unittest
 from desk import accepted, comments, compass, derived, forms, layout, page, picture, planner, program, tables, writing
 from tests import finer, made, pages, web
 from tests.made import with_plan
+from tests.desk_browser import MARKUP
 from tests.pages import EXAMPLES, PLACES, Room, example, read
 
 NAMES = sorted(it[:-7] for it in os.listdir(EXAMPLES) if it.endswith(".report"))
@@ -133,6 +134,7 @@ class Same(Room):
         texts = {name: shuttle(places) for name, places in PLACED.items()}
         texts["none"] = SHUTTLE.encode()
         texts["blanks"] = shuttle(PLACED["askew"]).replace(b"# at b", b" \t#\tat\tb").replace(b"\n", b" \r\n")
+        texts["hostile"] = shuttle(PLACED["askew"], f" at {MARKUP} 1 2", f" at b {MARKUP} 2", " " * 500_000 + "x", *[" at b 1 2"] * 20_000, "\t" * 100_000 + "at b 1 2")
         texts["the last counts"] = shuttle(PLACED["askew"], " at b 1 2", "at c 3 4", " at c 10 20 30", " at hut -700 -30", " at c \xe9 1")
         self.same({name: [self.write(name, with_plan(it))] for name, it in texts.items()})
 
