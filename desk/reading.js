@@ -134,7 +134,7 @@ const reading = (function () {
     const said = Object.fromEntries(all.slice(0, 5).map((it) => it.split(" ")).map(([word, ...fields]) => [word, fields]));
     const [value, weight] = said.chance.map(BigInt);
     const ceiling = said.ceiling === undefined ? null : BigInt(said.ceiling[0]);
-    return { version: said.plan?.[0], path: said.path, value, weight, ceiling, records: Number(said.nodes[0]) };
+    return { version: (said.plan || said.gap)[0], path: said.path, value, weight, ceiling, records: Number(said.nodes[0]) };
   }
 
   return { lines, scenario, times, parts, plan };

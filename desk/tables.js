@@ -151,13 +151,13 @@ const tables = (function () {
     const { sc, squares, weight } = search;
     const [a, d, g] = sc.parts;
     const cells = plural(squares.filled.length, squares.noun) + (squares.split.length ? ` in ${sc.names.length} states` : "");
-    const records = plural(search.records, "record");
+    const slots = { version: search.version, records: plural(search.records, "record") };
     const rows = [
       ["Chance", filled("of_whole", { part: search.value, whole: weight })],
       ...(search.ceiling === null ? [] : [["Ceiling", filled("ceiling", { ceiling: search.ceiling, whole: weight })]]),
       ["Denominators", filled("denominators", { a, d, g, steps: sc.horizon - 1, periods: sc.horizon })],
       ["Size", `${plural(sc.horizon, "period")}, ${cells}, ${plural(sc.positions.length, "position")} of the ${search.seats.count === 1 ? "searcher" : "pair"}`],
-      search.ceiling === null ? ["Plan", filled("plan_records", { version: search.version, records })] : ["Gap plan", filled("gap_records", { records })],
+      search.ceiling === null ? ["Plan", filled("plan_records", slots)] : ["Gap plan", filled("gap_records", slots)],
     ];
     const sums = Object.entries(search.checksums).map(([name, text]) => filled("sum_row", { name, text }));
     return filled("numbers", { rows: [...rows.map(([name, text]) => filled("number_row", { name, text })), ...sums].join("") });

@@ -187,10 +187,8 @@ def all_cells(search, is_open, finer=1):
 
 def about_records(search):
     """The row that says what the records show."""
-    records = plural(search.records, "record")
-    if search.ceiling is None:
-        return "Plan", filled("plan_records", version=search.version, records=records)
-    return "Gap plan", filled("gap_records", records=records)
+    slots = {"version": search.version, "records": plural(search.records, "record")}
+    return ("Plan", filled("plan_records", **slots)) if search.ceiling is None else ("Gap plan", filled("gap_records", **slots))
 
 
 def numbers(search):
