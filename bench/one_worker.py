@@ -3,16 +3,18 @@
 One worker's plan follows from the rules: it closes the last prefix of its private stack, or else the first task of its own
 deque, under the best standing that it knows by then. The children of a prefix that branches and is shorter than half the horizon
 go into the deque, all but the least; all others go on the stack, the least of them on top. Where the horizon is 4 or more a
-scout flies first. Where only so many records may be made, the prefixes that are left then wait.
+scout flies first. Where only so many records may be made, the prefixes that are left then wait: by their mean bounds, and where the
+horizon is 4 or more by their edge bounds.
 """
 import collections
 
 from desk import derived, paths, verdict
-from desk.forms import read_scenario
+from desk.forms import GAPS, read_scenario
 from desk.writing import scenario_text
 
-# From so many periods on a scout flies.
+# From so many periods on a scout flies, and prefixes wait by their edge bounds.
 SCOUTED_FROM = 4
+EDGES_FROM = 4
 # So many tasks a deque takes in its life.
 MOST_PUTS = 4096
 
@@ -160,11 +162,17 @@ def text_of(sc, worker):
     return lines_of(sc, worker, "plan 2", [], worker.records)
 
 
+def gap_line(sc):
+    """The first line of a gap plan of this scenario that `gap` writes."""
+    return b"gap 2" if sc.horizon >= EDGES_FROM else b"gap 1"
+
+
 def gap_of(sc, worker):
     """The gap plan as text: what the worker has left waits, with what no path below it exceeds."""
-    waiting = {tuple(it): ("O", [verdict.ceiling(sc, it)]) for it in [*worker.stack, *worker.deque]}
+    first = gap_line(sc)
+    waiting = {tuple(it): ("O", [verdict.ceiling(sc, it, GAPS[first].waits_by)]) for it in [*worker.stack, *worker.deque]}
     ceiling = max([worker.standing[0], *(number for _, (number,) in waiting.values())])
-    return lines_of(sc, worker, "gap 1", [f"ceiling {ceiling}"], {**worker.records, **waiting})
+    return lines_of(sc, worker, first.decode(), [f"ceiling {ceiling}"], {**worker.records, **waiting})
 
 
 def as_bytes(lines):

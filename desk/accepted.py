@@ -203,9 +203,9 @@ def load(names, of=None):
     who = seated(sc, of, old)
     sums = [hashlib.sha256(it).hexdigest() for it in (scenario, plan)]
     name = "of standard input" if names[0] == "-" else shown(os.path.basename(names[0]))
-    version, told_by = 1 if begun.dialect.has_prefixes else 2, scenario if old is None else old
+    told_by = scenario if old is None else old
     ceiling = begun.ceiling if is_gap else None
-    return Search(name, scenario, sc, begun.path, version, begun.nodes, report, frames, *sums, note, who, told_by, ceiling, plan)
+    return Search(name, scenario, sc, begun.path, begun.dialect.version, begun.nodes, report, frames, *sums, note, who, told_by, ceiling, plan)
 
 
 def mapped(search):

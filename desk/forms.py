@@ -293,13 +293,15 @@ def read_scenario(text, alone):
 
 
 class Dialect(NamedTuple):
-    """What the dialects of plan text differ in: the keywords of the lines before the records, the most records, their letters, and
-    whether their prefixes stand on their lines."""
+    """What the dialects of plan text differ in: the version, the keywords of the lines before the records, the most records, their
+    letters, whether their prefixes stand on their lines, and the letter of the bound by which a prefix waits, if any may."""
 
+    version: int
     head: tuple
     most: int
     letters: tuple
-    has_prefixes: bool
+    has_prefixes: bool = False
+    waits_by: bytes | None = None
 
     def line_of(self, record):
         """The line of the record of a number from 0 on, behind the first line and the head."""
@@ -307,11 +309,15 @@ class Dialect(NamedTuple):
 
 
 # Each family of texts: its dialects by their first lines.
+PLAN_HEAD, GAP_HEAD = (b"path", b"chance", b"nodes"), (b"path", b"chance", b"ceiling", b"nodes")
 PLANS = {
-    b"plan 1": Dialect((b"path", b"chance", b"nodes"), MOST_NODES, (b"B", b"W", b"M", b"T"), True),
-    b"plan 2": Dialect((b"path", b"chance", b"nodes"), MOST_NODES, (b"B", b"W", b"M", b"T", b"E"), False),
+    b"plan 1": Dialect(1, PLAN_HEAD, MOST_NODES, (b"B", b"W", b"M", b"T"), has_prefixes=True),
+    b"plan 2": Dialect(2, PLAN_HEAD, MOST_NODES, (b"B", b"W", b"M", b"T", b"E")),
 }
-GAPS = {b"gap 1": Dialect((b"path", b"chance", b"ceiling", b"nodes"), MOST_GAP_NODES, (b"B", b"W", b"M", b"T", b"E", b"O"), False)}
+GAPS = {
+    b"gap 1": Dialect(1, GAP_HEAD, MOST_GAP_NODES, (b"B", b"W", b"M", b"T", b"E", b"O"), waits_by=b"M"),
+    b"gap 2": Dialect(2, GAP_HEAD, MOST_GAP_NODES, (b"B", b"W", b"M", b"T", b"E", b"O"), waits_by=b"E"),
+}
 
 
 def family_of(text):

@@ -7,6 +7,8 @@ MOST_BYTES = 64 << 20
 MOST_CHECKED = 400_000
 RECORDS = {b"B": "a branch", b"W": "a whole path", b"M": "a mean bound", b"T": "a tangent bound", b"E": "an edge bound", b"O": "a prefix that waits"}
 BOUNDS = {b"M": "mean", b"T": "tangent", b"E": "edge"}
+# The number of a prefix that waits, by the letter of the bound by which it does.
+CEILINGS = {b"M": "their mean bound", b"E": "the lesser of their edge bound and the whole weight"}
 PLAN = "a plan isn't mended by hand: `./osp plan` makes it anew, and `./osp gap` a gap plan"
 
 
@@ -113,9 +115,11 @@ def about_cut(sc, plan, line):
 def about_waiting(sc, plan, line):
     """A number of a prefix that waits which isn't its ceiling."""
     _, stated, prefix, _ = plan.records[number_of(plan, line)]
-    right = verdict.ceiling(sc, prefix)
-    way = "less: a better path might hide behind it" if stated < right else "more"
-    return f"{beginning(sc, prefix)} wait with the number {stated}; what none of them exceeds is {right}, and what is stated is {way}"
+    right = verdict.ceiling(sc, prefix, plan.dialect.waits_by)
+    what = "the value of this path" if len(prefix) == sc.horizon else CEILINGS[plan.dialect.waits_by]
+    others = [version.decode() for version, it in forms.GAPS.items() if verdict.ceiling(sc, prefix, it.waits_by) == stated]
+    way = f"that of `{others[0]}`" if others else "less: a better path might hide behind it" if stated < right else "more"
+    return f"{beginning(sc, prefix)} wait with the number {stated}; what none of them exceeds is {right}, {what}, and what is stated is {way}"
 
 
 def about_ceiling(_sc, plan, _line):
@@ -186,7 +190,8 @@ def no_plan(sc, text, line, kind):
         return f"this scenario has no position {quoting.listed(lacking)}: is it the plan of another one?"
     if kind == "BadLine" and line == 1:
         hint = ": that is a scenario; the scenario comes first, and then the plan" if here.startswith((b"scenario", b"#")) else ""
-        return f"a plan begins with `plan 1` or `plan 2`, and a gap plan with `gap 1`{hint}"
+        plans, gaps = (" or ".join(f"`{it.decode()}`" for it in family) for family in (forms.PLANS, forms.GAPS))
+        return f"a plan begins with {plans}, and a gap plan with {gaps}{hint}"
     if kind == "BadLine" and not here:
         return "the line is empty, and a plan has no empty lines"
     most = max(it.most for it in forms.family_of(text).values())

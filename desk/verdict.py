@@ -117,15 +117,18 @@ def right(sc, letter, prefix, path):
     return {b"M": mean, b"E": edge}[letter](sc, prefix) if letter in (b"M", b"E") else tangent(sc, prefix, path)
 
 
-def ceiling(sc, prefix):
-    """What no path finds more than that begins with a prefix: the value of a whole path, and else the mean bound."""
-    return paths.value(sc, prefix) if len(prefix) == sc.horizon else mean(sc, prefix)
+def ceiling(sc, prefix, waits_by):
+    """What no path finds more than that begins with a prefix, by the bound of this letter: the value of a whole path, and else the mean
+    bound, or the lesser of the edge bound and the whole weight."""
+    if len(prefix) == sc.horizon:
+        return paths.value(sc, prefix)
+    return mean(sc, prefix) if waits_by == b"M" else min(edge(sc, prefix), paths.weight(sc))
 
 
 def reason(sc, plan, letter, bound, prefix, path):
     """What is wrong with a record in itself, if anything."""
     if letter == b"O":
-        return "WaitingWrong" if bound != ceiling(sc, prefix) else None
+        return "WaitingWrong" if bound != ceiling(sc, prefix, plan.dialect.waits_by) else None
     if (letter == b"W") != (len(prefix) == sc.horizon) or letter == b"W" and bound != paths.value(sc, prefix):
         return "WholeWrong"
     if letter == b"W":

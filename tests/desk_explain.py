@@ -654,7 +654,27 @@ class Rejections(Asked):
         self.said(self.TWO, gap.replace(b"O 12\nend", b"O 11\nend"), "rejected 8 WaitingWrong", "line 8: O 11", "the paths that begin with b wait with the number 11", "exceeds is 12", "less: a better path")
         self.said(self.TWO, gap.replace(b"O 12\nend", b"M 11\nend"), "rejected 8 BoundWrong", "the right one is 12")
         self.said(self.TWO, gap.replace(b"nodes 3", b"nodes 5000000"), "bad plan: line 5 TooManyNodes", "more than 4,194,305 records")
-        self.said(self.TWO, gap.replace(b"gap 1", b"gap 2"), "bad plan: line 1 BadLine", "and a gap plan with `gap 1`")
+        self.said(self.TWO, gap.replace(b"gap 1", b"gap 3"), "bad plan: line 1 BadLine", "begins with `plan 1` or `plan 2`, and a gap plan with `gap 1` or `gap 2`")
+
+    def test_the_numbers_of_each_version(self):
+        """The bound that a number has to be is named. (A second program has them by sums over all tracks: mean bounds of 71,968,800 and
+        69,615,000, and edge bounds of 59,646,320 and 57,214,700.)"""
+        swath, two = read(f"{EXAMPLES}/swath.scenario"), read(f"{EXAMPLES}/swath.gap")
+        self.assertEqual(self.ran(self.write("s", swath), self.write("p", two))[0], 0)
+        one = two.replace(b"gap 2", b"gap 1").replace(b"59646320", b"71968800").replace(b"57214700", b"69615000")
+        self.assertEqual(self.ran(self.write("s", swath), self.write("p", one))[0], 0)
+        edges = "is 59646320, the lesser of their edge bound and the whole weight, and what is stated is "
+        means = "is 71968800, their mean bound, and what is stated is "
+        rows = (
+            (two, b"O 59646320", b"O 59646321", 7, edges + "more"),
+            (two, b"O 59646320", b"O 59646319", 7, edges + "less: a better path"),
+            (two, b"gap 2", b"gap 1", 7, means + "that of `gap 2`"),
+            (one, b"gap 1", b"gap 2", 7, edges + "that of `gap 1`"),
+            (one, b"O 71968800", b"O 71968799", 7, means + "less: a better path"),
+        )
+        for given, old, new, line, told in rows:
+            with self.subTest(new=new):
+                self.said(swath, given.replace(old, new), f"rejected {line} WaitingWrong", told)
 
     def test_a_long_plan(self):
         """Where a plan is too long to be checked here, that is said; the record that the program names is still explained."""

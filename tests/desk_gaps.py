@@ -3,23 +3,29 @@ plans are two families of one grammar. `python3 -m unittest tests.desk_gaps`, or
 import dataclasses
 import unittest
 
+from bench.one_worker import gap_text
 from desk import accepted, brief, following, forms, paths, show, tables, verdict
 from tests.made import ROW
-from tests.pages import Room, Tree, example
+from tests.pages import EXAMPLES, Room, Tree, example, read as contents
 
 CELLS, LONGER = example("two-cells")[0], example("waiting-longer")[0]
+# A look at c finds for sure: by c b c the edge bound counts the target twice, since no two looks at c follow each other.
+CERTAIN = LONGER.replace(b"overlook c 1", b"overlook c 0")
 
 
-def gap(head, nodes):
+def gap(head, nodes, version=1):
     """A gap text by its path, chance and ceiling, and by its nodes."""
     path, chance, ceiling = head.split(", ")
     rows = nodes.split(", ")
-    return "\n".join(["gap 1", f"path {path}", f"chance {chance}", f"ceiling {ceiling}", f"nodes {len(rows)}", *rows, "end", ""]).encode()
+    return "\n".join([f"gap {version}", f"path {path}", f"chance {chance}", f"ceiling {ceiling}", f"nodes {len(rows)}", *rows, "end", ""]).encode()
 
 
-# The beginnings of docs/BOUNDS.md, and below c what it branches to: a whole path that isn't better, and one that waits.
+# The beginnings of docs/BOUNDS.md, and below c what it branches to: a whole path that isn't better, and one that waits. Then both by edge
+# bounds: b c c finds 4 and 2, and of c c c the third look finds 2 behind the second one alone, and 1 behind both.
 WAITS = gap("b c c, 6 8, 8", "B, M 4, O 8, O 8")
 BELOW = gap("b c c, 6 8, 8", "B, M 4, O 8, B, M 6, B, W 6, O 7")
+EDGES = gap("b c c, 6 8, 7", "B, M 4, O 6, O 7", 2)
+EDGES_BELOW = gap("b c c, 6 8, 7", "B, M 4, O 6, B, M 6, B, W 6, O 7", 2)
 ACCEPTED = [
     (ROW, gap("a a, 3 9, 6", "B, O 3, O 6")),
     (LONGER, WAITS),
@@ -32,6 +38,15 @@ ACCEPTED = [
     (CELLS, gap("a b, 12 16, 12", "B, B, O 12, O 12, O 12")),
     (CELLS, gap("a a, 12 16, 12", "B, B, W 12, W 12, O 12")),
     (CELLS, gap("a a, 12 16, 12", "B, B, W 12, W 12, M 12")),
+    (LONGER, EDGES),
+    (LONGER, EDGES_BELOW),
+    (LONGER, gap("c c c, 7 8, 7", "B, M 4, E 6, O 7", 2)),
+    (LONGER, gap("c c c, 7 8, 8", "O 8", 2)),
+    (ROW, gap("a a, 3 9, 6", "B, O 3, O 6", 2)),
+    (CELLS, gap("a b, 12 16, 12", "O 12", 2)),
+    # The numbers of version 1 may pass the whole weight, and those of version 2 don't.
+    (CERTAIN, gap("a a a, 0 8, 24", "O 24")),
+    (CERTAIN, gap("a a a, 0 8, 8", "O 8", 2)),
 ]
 # What is put in the place of what, and the first reason then.
 REASONS = [
@@ -59,10 +74,24 @@ REASONS = [
     (BELOW, "M 6", "E 7", 10, "BoundWrong"),
     (gap("c c c, 7 8, 8", "B, M 4, E 6, M 8"), "", "", 9, "NotCut"),
     (gap("a b, 12 16, 12", "B, B, W 12, W 12, M 12"), "", "", 8, "NotCut"),
+    # Each version has its own numbers.
+    (WAITS, "gap 1", "gap 2", 8, "WaitingWrong"),
+    (EDGES, "gap 2", "gap 1", 8, "WaitingWrong"),
+    (EDGES, "O 6", "O 5", 8, "WaitingWrong"),
+    (EDGES, "O 7", "O 8", 9, "WaitingWrong"),
+    (EDGES, "M 4\nO 6", "O 4\nO 8", 8, "WaitingWrong"),
+    (EDGES, "ceiling 7", "ceiling 8", 4, "CeilingWrong"),
+    (EDGES, "ceiling 7", "ceiling 6", 4, "CeilingWrong"),
+    (EDGES, "O 6", "E 6", 8, "NotCut"),
+    (EDGES_BELOW, "O 7", "O 8", 13, "WaitingWrong"),
+    (EDGES_BELOW, "O 7", "W 7", 13, "NotCut"),
+    (EDGES_BELOW, "M 6", "E 7", 10, "BoundWrong"),
 ]
-# What is put in the place of what in WAITS, and the first fault then.
+# What is put in the place of what in WAITS, and the first fault then, for each version.
 FAULTS = [
-    ("gap 1", "gap 2", 1, "BadLine"),
+    ("gap 1", "gap 3", 1, "BadLine"),
+    ("gap 1", "gap 0", 1, "BadLine"),
+    ("gap 1", "gap 12", 1, "BadLine"),
     ("gap 1", "gap", 1, "BadLine"),
     ("gap 1", "gap  1", 1, "BadLine"),
     ("gap 1", "gap 1 ", 1, "BadLine"),
@@ -107,10 +136,10 @@ def read(text):
     return forms.read_scenario(text, True)[0]
 
 
-def as_gap(plan):
-    """The gap text of a plan whose text of version 2 this is."""
+def as_gaps(plan):
+    """The gap texts, of each version, of a plan whose text of version 2 this is."""
     _, path, chance, *rest = plan.split(b"\n")
-    return b"\n".join([b"gap 1", path, chance, b"ceiling " + chance.split(b" ")[1], *rest])
+    return [b"\n".join([first, path, chance, b"ceiling " + chance.split(b" ")[1], *rest]) for first in forms.GAPS]
 
 
 class Gaps(unittest.TestCase):
@@ -143,21 +172,37 @@ class Gaps(unittest.TestCase):
         plan = forms.read_plan(gap("c c c, 7 8, 8", "B, M 4, T 12 1 2 2, O 8"), sc, forms.GAPS)
         self.assertEqual(verdict.first_reason(sc, plan), (8, "NoOneRate"))
 
+    def test_an_edge_bound_above_the_whole_weight(self):
+        sc, given = read(CERTAIN), gap("a a a, 0 8, 16", "O 16", 2)
+        self.assertEqual(verdict.edge(sc, []), 16)
+        self.assertEqual(verdict.first_reason(sc, forms.read_plan(given, sc, forms.GAPS)), (6, "WaitingWrong"))
+
     def test_each_fault(self):
         for old, new, line, kind in FAULTS:
-            with self.subTest(old=old, new=new):
-                text = WAITS.decode()
-                self.assertIn(old, text)
-                self.assertEqual(self.fault(text.replace(old, new, 1).encode(), read(LONGER), forms.GAPS), (line, kind))
+            self.assertIn(old, WAITS.decode())
+            text = WAITS.decode().replace(old, new, 1)
+            for given in {text, text.replace("gap 1\n", "gap 2\n")}:
+                with self.subTest(given=given):
+                    self.assertEqual(self.fault(given.encode(), read(LONGER), forms.GAPS), (line, kind))
 
     def test_each_front_ends_early(self):
-        for end in range(len(BELOW)):
-            front = BELOW[:end]
-            self.assertEqual(self.fault(front, read(LONGER), forms.GAPS), (front.count(b"\n") + 1, "EarlyEnd"))
+        for text in (BELOW, EDGES_BELOW):
+            for end in range(len(text)):
+                front = text[:end]
+                self.assertEqual(self.fault(front, read(LONGER), forms.GAPS), (front.count(b"\n") + 1, "EarlyEnd"))
+
+    def test_examples_are_those_of_one_worker(self):
+        """`gap` writes version 2 from horizon 4 on."""
+        for name, first in (("two-cells", b"gap 1"), ("swath", b"gap 2")):
+            given = contents(f"{EXAMPLES}/{name}.gap")
+            sc = read(example(name)[0])
+            self.assertEqual((given.split(b"\n")[0], given), (first, gap_text(sc, 1)))
+            self.assertIsNone(verdict.first_reason(sc, forms.read_plan(given, sc, forms.GAPS)))
 
     def test_two_families(self):
         sc = read(LONGER)
-        self.assertEqual(self.fault(WAITS, sc, forms.PLANS), (1, "BadLine"))
+        for text in (WAITS, EDGES):
+            self.assertEqual(self.fault(text, sc, forms.PLANS), (1, "BadLine"))
         for version in (b"plan 1", b"plan 2"):
             self.assertEqual(self.fault(WAITS.replace(b"gap 1", version), sc, forms.PLANS), (4, "BadLine"))
         plan = example("waiting-longer")[1]
@@ -168,14 +213,15 @@ class Gaps(unittest.TestCase):
         self.assertEqual(self.fault(waits, sc, forms.PLANS), (6, "BadLine"))
 
     def test_plans_in_which_none_waits(self):
-        """A plan's gap text is accepted as the plan is, and its reasons stand a line further down."""
+        """A plan's gap texts are accepted as the plan is, and their reasons stand a line further down."""
         for name in ("two-cells", "waiting-longer", "waiting-target", "uneven-overlook", "night", "tide", "swath", "lake-with-island"):
             scenario, text = example(name)
             sc = read(scenario)
-            self.assertIsNone(verdict.first_reason(sc, forms.read_plan(as_gap(text), sc, forms.GAPS)))
             wrong = text.replace(b"\nM ", b"\nE ")
             line, why = verdict.first_reason(sc, forms.read_plan(wrong, sc)) or (0, None)
-            self.assertEqual(verdict.first_reason(sc, forms.read_plan(as_gap(wrong), sc, forms.GAPS)) or (1, None), (line + 1, why))
+            for right, given in zip(as_gaps(text), as_gaps(wrong), strict=True):
+                self.assertIsNone(verdict.first_reason(sc, forms.read_plan(right, sc, forms.GAPS)))
+                self.assertEqual(verdict.first_reason(sc, forms.read_plan(given, sc, forms.GAPS)) or (1, None), (line + 1, why))
 
 
 class Helpers(Room):
@@ -189,6 +235,7 @@ class Helpers(Room):
             (LONGER, WAITS, "Accepted, but nothing is shown yet: the ceiling is 100 %.", "Chance to find them: 75.000 %, 3 looks, from b"),
             (ROW, ACCEPTED[0][1], "Accepted: no path finds more than 66.667 %.", "Chance to find them: 33.333 %, 2 looks, from b"),
             (CELLS, ACCEPTED[8][1], "Accepted: no path finds more.", "Chance to find them: 75.000 %, 2 looks, from a"),
+            (LONGER, EDGES, "Accepted: no path finds more than 87.500 %.", "Chance to find them: 75.000 %, 3 looks, from b"),
         )
         for text, plan, *wanted in rows:
             with self.subTest(wanted[0]):
@@ -208,15 +255,18 @@ class Helpers(Room):
                 self.assertEqual(found, told)
 
     def test_a_page_has_the_ceiling_and_the_masses_of_the_map(self):
-        status, out, err = self.run_helper(show.main, self.given(LONGER, BELOW))
-        self.assertEqual(status, 0, err)
-        page = Tree(out).open[0]
-        self.assertTrue(page.one(class_="accepted").text().startswith("Accepted, but nothing is shown yet: the ceiling is 100 %."))
-        self.assertIn("cut off after three digits, that of the ceiling is rounded up.", page.one("header").text())
-        numbers = page.one("section", class_="numbers").text()
-        for part in ("Chance6 of 8", "Ceiling8 of 8: rounded up in percent", "Gap plan8 records: they show that no path finds more than the ceiling"):
-            self.assertIn(part, numbers)
-        self.assertNotIn("own sums", numbers)
+        nothing, most = "Accepted, but nothing is shown yet: the ceiling is 100 %.", "Accepted: no path finds more than 87.500 %."
+        for version, text, ceiling, told in ((1, BELOW, 8, nothing), (2, EDGES_BELOW, 7, most)):
+            status, out, err = self.run_helper(show.main, self.given(LONGER, text))
+            self.assertEqual(status, 0, err)
+            page = Tree(out).open[0]
+            self.assertTrue(page.one(class_="accepted").text().startswith(told))
+            self.assertIn("cut off after three digits, that of the ceiling is rounded up.", page.one("header").text())
+            numbers = page.one("section", class_="numbers").text()
+            records = f"Gap plantext of version {version}, 8 records: they show that no path finds more than the ceiling"
+            for part in ("Chance6 of 8", f"Ceiling{ceiling} of 8: rounded up in percent", records):
+                self.assertIn(part, numbers)
+            self.assertNotIn("own sums", numbers)
 
     def test_next_goes_on_behind_it(self):
         status, out, err = self.run_helper(following.main, [*self.given(LONGER, WAITS), "--flown", "2"])

@@ -127,11 +127,11 @@ class Rounds(Room):
         self.leaves("out")
 
     def test_the_ceiling_is_rounded_up(self):
-        """By hand: 26,870,251,520,000,000 of 128,000,000,000,000,000 is 20.99238.. percent, and the chance 17.55738.."""
-        gap = b"gap 1\npath r0c1 r0c2 r1c2 r2c2 r2c3 r3c3 r3c3 r4c3\nchance 22473449177088000 128000000000000000\nceiling 26870251520000000\nnodes 1\nO 26870251520000000\nend\n"
+        """By hand: 23,774,593,024,000,000 of 128,000,000,000,000,000 is 18.57390.. percent, and the chance 17.55738.."""
+        gap = b"gap 2\npath r0c1 r0c2 r1c2 r2c2 r2c3 r3c3 r3c3 r4c3\nchance 22473449177088000 128000000000000000\nceiling 23774593024000000\nnodes 1\nO 23774593024000000\nend\n"
         self.answers(("gap 64", 0, 0, gap, ""), HANGS)
         _, _, err = self.ran("--seconds", "6", f"{EXAMPLES}/drifting-grid.scenario")
-        self.assertIn("chance 17.557 % ceiling 20.993 %", err)
+        self.assertIn("chance 17.557 % ceiling 18.574 %", err)
 
     def test_before_the_first_round(self):
         self.answers(("gap 64", 600, 0, b"", ""))

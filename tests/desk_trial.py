@@ -526,9 +526,10 @@ class Made(Told):
 
     def test_a_gap_plan(self):
         head, path, chance, rest = plan_of().split(b"\n", 3)
-        gap = b"\n".join([b"gap 1", path, chance, b"ceiling 1", rest])
-        (found,) = self.json(self.situation(), self.write("line.gap", gap))["flown"]
-        self.assertEqual((head, found["name"], found["finds"]), (b"plan 2", "line.gap", round(1 - MISS * MISS, 6)))
+        for first in (b"gap 1", b"gap 2"):
+            gap = b"\n".join([first, path, chance, b"ceiling 1", rest])
+            (found,) = self.json(self.situation(), self.write("line.gap", gap))["flown"]
+            self.assertEqual((head, found["name"], found["finds"]), (b"plan 2", "line.gap", round(1 - MISS * MISS, 6)))
 
     def test_a_brief_of_two_searchers_with_names_and_with_numbers(self):
         text = changed(LINE, (b"[tracks]", b"[parts]\nlook = 100\ndrift = 10\n[tracks]"))

@@ -299,6 +299,7 @@ class Pages(pages.Room):
         return {
             "grid": grid,
             "gap": self.page(f"{pages.EXAMPLES}/two-cells.scenario", f"{pages.EXAMPLES}/two-cells.gap"),
+            "edges": self.page(f"{pages.EXAMPLES}/swath.scenario", f"{pages.EXAMPLES}/swath.gap"),
             "better": embedded(grid, "plan", plan.replace(b"chance 2", b"chance 3")),
             "lacking": embedded(cells, "plan", pages.read(f"{pages.EXAMPLES}/two-cells-lacking.plan")),
             "unread": embedded(grid, "plan", plan.replace(b"nodes", b"node")),
@@ -336,6 +337,7 @@ class Pages(pages.Room):
         wanted = {
             "grid": ("Accepted: no path is better.", None),
             "gap": ("Accepted: no path finds more.", None),
+            "edges": ("Accepted: no path finds more than 59.647 %.", None),
             "better": ("Rejected: line 3 of the plan, ValueWrong.", None),
             "lacking": ("Rejected: line 8 of the plan, MissingChild.", None),
             "unread": ("Not accepted: bad plan: line 4 BadLine.", None),
