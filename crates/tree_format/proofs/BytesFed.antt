@@ -8,15 +8,16 @@ use Rattle.search_model.specs.Problem.{Problem, IsProblem}
 use Rattle.bound_tree.specs.declared.gap.GapKind.{GapKind}
 use Rattle.bound_tree.specs.declared.gap.GapKind.TheVariants.{Closed, Waiting}
 use Rattle.bound_tree.specs.declared.gap.GapNode.{GapNode}
+use Rattle.bound_tree.specs.declared.gap.Numbers.{Numbers}
 use Rattle.bound_tree.specs.declared.gap.GapPlan.{GapPlan}
 use Rattle.tree_format.specs.declared.kind.PlanKind.{PlanKind}
 use Rattle.tree_format.specs.declared.kind.PlanKind.TheVariants.{BadLine, Rest}
 use Rattle.search_model.specs.Legal.{IsLegal}
 use Rattle.tree_format.specs.declared.due.Due.{Due}
 use Rattle.tree_format.specs.declared.plan_line.Dialect.{Dialect}
-use Rattle.tree_format.specs.declared.plan_line.Dialect.TheVariants.{One, Two, Gap}
+use Rattle.tree_format.specs.declared.plan_line.Dialect.TheVariants.{PlanOne, PlanTwo, GapOne, GapTwo}
 use Rattle.tree_format.specs.declared.plan_line.Family.{Family}
-use Rattle.tree_format.specs.Dialects.{family_of, most_records, prefixes_in}
+use Rattle.tree_format.specs.Dialects.{family_of, most_records, prefixes_in, numbers_in}
 use Rattle.tree_format.specs.declared.plan_line.Stage.{Stage}
 use Rattle.tree_format.specs.declared.plan_line.Stage.TheVariants as due
 use Rattle.tree_format.specs.declared.plan_line.PlanLine.{PlanLine}
@@ -35,7 +36,7 @@ use Rattle.tree_format.specs.FeedSteps.{Stand, Moved, stand_at, moved, step_of, 
 use Rattle.tree_format.specs.Feeding.{told, HasRead, Tells, IsDecided, IsKindOf, IsItem, GoesOn}
 use Rattle.tree_format.proofs.AtLines.{ended_stage, unended_stage, unended, at_fault, at_end}
 use Rattle.tree_format.proofs.SpelledLines.{IsLettered, version_told, path_told, chance_told, ceiling_told, count_told, record_told, IsRecordLine, record_printable, IsEndLine}
-use Rattle.tree_format.proofs.Spelled.{IsReadAt, IsRead, family_due, expected_legal, lines_on}
+use Rattle.tree_format.proofs.Spelled.{IsReadAt, IsRead, family_due, expected_legal, lines_on, numbers_on}
 use Rattle.tree_format.proofs.Gatherings.{gathered_append, gathered_judged}
 use Rattle.tree_format.proofs.Feedings.{lines_more, text_more}
 
@@ -52,17 +53,19 @@ LineTells p number d plan begun said =
 
 -- a kind for which a dialect has a letter may stand in its family
 known_kind : (v : Dialect) (kind : GapKind) → IsLettered v kind → IsKindOf (family_of v) kind
-known_kind One (Closed kind) known = tt
-known_kind One (Waiting n) known = absurd known
-known_kind Two (Closed kind) known = tt
-known_kind Two (Waiting n) known = absurd known
-known_kind Gap kind known = tt
+known_kind PlanOne (Closed kind) known = tt
+known_kind PlanOne (Waiting n) known = absurd known
+known_kind PlanTwo (Closed kind) known = tt
+known_kind PlanTwo (Waiting n) known = absurd known
+known_kind GapOne kind known = tt
+known_kind GapTwo kind known = tt
 
 -- no item is told by the line of the chance
 nothing_told : (v : Dialect) (plan : GapPlan) → told (behind_chance v) plan ≡ []
-nothing_told One plan = refl
-nothing_told Two plan = refl
-nothing_told Gap plan = refl
+nothing_told PlanOne plan = refl
+nothing_told PlanTwo plan = refl
+nothing_told GapOne plan = refl
+nothing_told GapTwo plan = refl
 
 module _ (p : Problem) (h : IsProblem p) (number : ℕ) (plan : GapPlan) (begun : List ℕ) (v : Dialect) (expected fields : List (List ℕ)) (said : PlanLine) where
   abbrev at_stage : Stage → Due
@@ -72,7 +75,7 @@ module _ (p : Problem) (h : IsProblem p) (number : ℕ) (plan : GapPlan) (begun 
   record_tells left legal line =
       let r = line.node in
       let tree = plan.nodes in
-      let head : ℕ → PlanItem = λ n. item.Head plan.standing plan.weight plan.ceiling n in
+      let head : ℕ → PlanItem = λ n. item.Head plan.standing plan.weight plan.ceiling plan.numbers n in
       let nodes : List GapNode → List PlanItem = map (λ r. item.Node r) in
       let long : length (tree ++ r ∷ []) + (left - 1) ≡ length tree + left = omega (arith, length-append tree (r ∷ []), line.more) in
       subst (LineTells p number (at_stage (due.Records left)) plan begun) (sym line.is) (
@@ -84,36 +87,38 @@ module _ (p : Problem) (h : IsProblem p) (number : ℕ) (plan : GapPlan) (begun 
   end_tells left line =
       let long : length plan.nodes ≡ length plan.nodes + left = omega (arith, line.none) in
       subst (LineTells p number (at_stage (due.Records left)) plan begun) (sym line.is) (
-        ap (λ (n : ℕ). item.Head plan.standing plan.weight plan.ceiling n ∷ (map (λ r. item.Node r) plan.nodes ++ item.End ∷ [])) long,
+        ap (λ (n : ℕ). item.Head plan.standing plan.weight plan.ceiling plan.numbers n ∷ (map (λ r. item.Node r) plan.nodes ++ item.End ∷ [])) long,
         tt,
       )
 
-  stage_tells : (stage : Stage) → IsReadAt p v expected stage plan → stage_line p v stage expected fields ≡ Ok said → LineTells p number (at_stage stage) plan begun said
-  stage_tells (due.Version family) read e = subst (LineTells p number (at_stage (due.Version family)) plan begun) (sym (version_told family fields said e).is) refl
-  stage_tells due.Path read e = subst (LineTells p number (at_stage due.Path) plan begun) (sym (path_told p h fields said e).is) refl
-  stage_tells due.Chance read e = subst (LineTells p number (at_stage due.Chance) plan begun) (sym (chance_told fields said e).is) (nothing_told v _)
-  stage_tells due.Ceiling read e = subst (LineTells p number (at_stage due.Ceiling) plan begun) (sym (ceiling_told fields said e).is) refl
-  stage_tells due.Count read e =
+  stage_tells : (stage : Stage) → plan.numbers ≡ numbers_in v → IsReadAt p v expected stage plan → stage_line p v stage expected fields ≡ Ok said → LineTells p number (at_stage stage) plan begun said
+  stage_tells (due.Version family) numbers read e = subst (LineTells p number (at_stage (due.Version family)) plan begun) (sym (version_told family fields said e).is) refl
+  stage_tells due.Path numbers read e = subst (LineTells p number (at_stage due.Path) plan begun) (sym (path_told p h fields said e).is) refl
+  stage_tells due.Chance numbers read e = subst (LineTells p number (at_stage due.Chance) plan begun) (sym (chance_told fields said e).is) (nothing_told v _)
+  stage_tells due.Ceiling numbers read e = subst (LineTells p number (at_stage due.Ceiling) plan begun) (sym (ceiling_told fields said e).is) refl
+  stage_tells due.Count numbers read e =
       let line = count_told (most_records (family_of v)) fields said e in
       let n = line.count in
       let (heading, (empty, nothing)) = read in
       let path = heading.chance.path in
-      let head : ℕ → PlanItem = λ k. item.Head plan.standing plan.weight plan.ceiling k in
+      let head : ℕ → PlanItem = λ k. item.Head plan.standing plan.weight plan.ceiling plan.numbers k in
       let none : length {A = GapNode} [] + n ≡ n = omega arith in
       subst (LineTells p number (at_stage due.Count) plan begun) (sym line.is) (
-        ap (λ (tree : List GapNode). head (length tree + n) ∷ map (λ r. item.Node r) tree) nothing ∙ ap (λ (k : ℕ). head k ∷ []) none,
+        ap (λ (tree : List GapNode). head (length tree + n) ∷ map (λ r. item.Node r) tree) nothing
+            ∙ ap (λ (k : ℕ). head k ∷ []) none
+            ∙ ap (λ (own : Numbers). item.Head plan.standing plan.weight plan.ceiling own n ∷ []) numbers,
         record { positions = path.positions; some = path.some; short = path.short; few = line.few },
       )
-  stage_tells (due.Records left) read e = elim (record_told p h v left expected fields said e) [
+  stage_tells (due.Records left) numbers read e = elim (record_told p h v left expected fields said e) [
     | inl line ↦ record_tells left read.1.legal line
     | inr line ↦ end_tells left line
   ]
-  stage_tells due.Ended read e = absurd (err_ok BadLine said e)
+  stage_tells due.Ended numbers read e = absurd (err_ok BadLine said e)
 
-line_tells : (p : Problem) → IsProblem p → (number : ℕ) (plan : GapPlan) (begun : List ℕ) (d : Due) (fields : List (List ℕ)) (said : PlanLine) → IsRead p d plan → line_at p d fields ≡ Ok said → LineTells p number d plan begun said
+line_tells : (p : Problem) → IsProblem p → (number : ℕ) (plan : GapPlan) (begun : List ℕ) (d : Due) (fields : List (List ℕ)) (said : PlanLine) → plan.numbers ≡ numbers_in d.dialect → IsRead p d plan → line_at p d fields ≡ Ok said → LineTells p number d plan begun said
 unfolding line_at
-line_tells p h number plan begun d fields said read e =
-    cond_both _ _ _ (λ (x : Result PlanLine PlanKind). x ≡ Ok said → LineTells p number d plan begun said) (λ _ e'. absurd (err_ok BadLine said e')) (λ _ e'. stage_tells p h number plan begun d.dialect d.expected fields said d.stage read e') e
+line_tells p h number plan begun d fields said numbers read e =
+    cond_both _ _ _ (λ (x : Result PlanLine PlanKind). x ≡ Ok said → LineTells p number d plan begun said) (λ _ e'. absurd (err_ok BadLine said e')) (λ _ e'. stage_tells p h number plan begun d.dialect d.expected fields said d.stage numbers read e') e
 
 moved_at : (p : Problem) (number : ℕ) (d : Due) (plan : GapPlan) (begun : List ℕ) (said : PlanLine) → moved p (stand_at number d plan begun) said ≡ stand_at (number + 1) (next p d said) (taken plan said) []
 unfolding gathered
@@ -199,7 +204,7 @@ module _ (family : Family) (p : Problem) (h : IsProblem p) (fed : List ℕ) (ite
       let ends = told (next p d said).stage (taken plan said) in
       let tells : StepTells family p items (step_of here said) ends =
       subst (λ (xs : List PlanItem). StepTells family p xs (step_of here said) ends) (sym read.tell)
-      (subst (λ (f : Family). StepTells f p (told d.stage plan) (step_of here said) ends) on.family (line_tells p h number plan read.begun d (exact_fields read.begun) said on.read e)) in
+      (subst (λ (f : Family). StepTells f p (told d.stage plan) (step_of here said) ends) on.family (line_tells p h number plan read.begun d (exact_fields read.begun) said (numbers_on p read.before (unread family) read.reached refl read.right) on.read e)) in
       goes_on family p (fed ++ 10 ∷ []) items ends (step_of here said) (moved p here said) tells (line_said said goes e)
 
   -- bytes of the line that is due

@@ -3,6 +3,7 @@ use Rattle.std.proofs.Common.{◌≡◌, [], ◌∷◌, refl, sym, subst, arith}
 use Rattle.std.proofs.lemmas.List.{length-map}
 use Rattle.std.proofs.lemmas.List.Elements.{All-map, All-weaker}
 use Rattle.search_model.specs.Problem.{Problem}
+use Rattle.bound_tree.specs.declared.gap.Numbers.{Numbers}
 use Rattle.bound_tree.specs.declared.gap.GapNode.{GapNode}
 use Rattle.bound_tree.specs.declared.node.TreeNode.{TreeNode}
 use Rattle.bound_tree.specs.declared.plan.Plan.{Plan}
@@ -13,8 +14,8 @@ use Rattle.bound_tree.proofs.Ceilings.{shapes_of_closed}
 use Rattle.tree_format.specs.declared.dialects.TheConstants.{MOST_GAP_NODES}
 use Rattle.tree_format.specs.PlanText.{IsPrintable, IsPrintableKind, IsPrintableRecord, IsNarrow, IsNarrowNode, IsPrintableGap, IsNarrowGap, IsGapText, gap_text}
 
-closed_printable : (p : Problem) (plan : Plan) → IsPrintable p plan → IsPrintableGap p (gap_of plan)
-closed_printable p plan is =
+closed_printable : (numbers : Numbers) (p : Problem) (plan : Plan) → IsPrintable p plan → IsPrintableGap p (gap_of numbers plan)
+closed_printable numbers p plan is =
     let least : MOST_NODES ≡ 1048576 = refl in
     let most : MOST_GAP_NODES ≡ 4194305 = refl in
     record {
@@ -25,8 +26,8 @@ closed_printable p plan is =
       kinds = All-map (λ (r : GapNode). IsPrintableKind p (shape_of r).kind) closed_node plan.tree (All-weaker (IsPrintableRecord p) (λ (r : TreeNode). IsPrintableKind p r.kind) (λ r printable. printable.kind) plan.tree is.records);
     }
 
-closed_narrow : (plan : Plan) → IsNarrow plan → IsNarrowGap (gap_of plan)
-closed_narrow plan is = record {
+closed_narrow : (numbers : Numbers) (plan : Plan) → IsNarrow plan → IsNarrowGap (gap_of numbers plan)
+closed_narrow numbers plan is = record {
   value = is.value;
   weight = is.weight;
   ceiling = is.value;
@@ -34,10 +35,10 @@ closed_narrow plan is = record {
 }
 
 -- its text as a gap plan is the one that this has
-pub closed_text : (p : Problem) (plan : Plan) → IsPrintable p plan → IsNarrow plan → AreInPlace p ([] ∷ []) plan.tree → IsGapText p (gap_of plan) (gap_text p (gap_of plan))
-closed_text p plan is narrow placed = record {
-  printable = closed_printable p plan is;
-  narrow = closed_narrow plan narrow;
+pub closed_text : (numbers : Numbers) (p : Problem) (plan : Plan) → IsPrintable p plan → IsNarrow plan → AreInPlace p ([] ∷ []) plan.tree → IsGapText p (gap_of numbers plan) (gap_text p (gap_of numbers plan))
+closed_text numbers p plan is narrow placed = record {
+  printable = closed_printable numbers p plan is;
+  narrow = closed_narrow numbers plan narrow;
   in_place = subst (AreInPlace p ([] ∷ [])) (sym (shapes_of_closed plan.tree)) placed;
   spelled = refl;
 }

@@ -253,6 +253,7 @@ in_order family p v expected (due.Records left) plan e read = inr (record {
   standing = plan.standing;
   weight = plan.weight;
   ceiling = plan.ceiling;
+  numbers = plan.numbers;
   nodes = length plan.nodes + left;
   records = plan.nodes;
   few = few_told family v (length plan.nodes + left) e read.1.few;
@@ -263,6 +264,7 @@ in_order family p v expected due.Ended plan e read = inr (record {
   standing = plan.standing;
   weight = plan.weight;
   ceiling = plan.ceiling;
+  numbers = plan.numbers;
   nodes = length plan.nodes;
   records = plan.nodes;
   few = few_told family v (length plan.nodes) e (let few = read.1.few in omega (arith, few));

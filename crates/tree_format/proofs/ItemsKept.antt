@@ -4,6 +4,7 @@ use Rattle.std.proofs.Math.Seq.{take-add}
 use Rattle.std.proofs.lemmas.List.{take-append-drop, take_all, take_rest}
 use Rattle.search_model.specs.declared.standing.Standing.{Standing}
 use Rattle.search_model.specs.Problem.{Problem}
+use Rattle.bound_tree.specs.declared.gap.Numbers.{Numbers}
 use Rattle.bound_tree.specs.declared.gap.GapNode.{GapNode}
 use Rattle.bound_tree.specs.declared.gap.GapPlan.{GapPlan}
 use Rattle.tree_format.specs.declared.collecting.Collected.{Collected}
@@ -28,14 +29,14 @@ item_more : (plan : GapPlan) (items : List PlanItem) (item : PlanItem) → with_
 item_more plan [] item = refl
 item_more plan (first ∷ items) item = item_more (with_item plan first) items item
 
-nodes_told : (s : Standing) (w c : ℕ) (old nodes : List GapNode) → with_items (record { standing = s; weight = w; ceiling = c; nodes = old }) (map (λ r. Node r) nodes ++ End ∷ []) ≡ record { standing = s; weight = w; ceiling = c; nodes = old ++ nodes }
-nodes_told s w c old [] = ap (λ (rs : List GapNode). record { standing = s; weight = w; ceiling = c; nodes = rs }) (sym (append-nil old))
-nodes_told s w c old (r ∷ nodes) =
-    nodes_told s w c (old ++ r ∷ []) nodes ∙ ap (λ (rs : List GapNode). record { standing = s; weight = w; ceiling = c; nodes = rs }) (append_assoc old (r ∷ []) nodes)
+nodes_told : (s : Standing) (w c : ℕ) (n : Numbers) (old nodes : List GapNode) → with_items (record { standing = s; weight = w; ceiling = c; numbers = n; nodes = old }) (map (λ r. Node r) nodes ++ End ∷ []) ≡ record { standing = s; weight = w; ceiling = c; numbers = n; nodes = old ++ nodes }
+nodes_told s w c n old [] = ap (λ (rs : List GapNode). record { standing = s; weight = w; ceiling = c; numbers = n; nodes = rs }) (sym (append-nil old))
+nodes_told s w c n old (r ∷ nodes) =
+    nodes_told s w c n (old ++ r ∷ []) nodes ∙ ap (λ (rs : List GapNode). record { standing = s; weight = w; ceiling = c; numbers = n; nodes = rs }) (append_assoc old (r ∷ []) nodes)
 
 -- the items of a plan say that plan
 plan_told : (plan : GapPlan) → with_items blank_plan (items_of plan) ≡ plan
-plan_told plan = nodes_told plan.standing plan.weight plan.ceiling [] plan.nodes
+plan_told plan = nodes_told plan.standing plan.weight plan.ceiling plan.numbers [] plan.nodes
 
 -- What a feed did with first bytes of what is left of a text.
 module _ (family : Family) (p : Problem) (before text : List ℕ) (used : ℕ) (old new : Stand) (kept : Collected) (brought : Step) (h : HasCollected family p before old kept) where

@@ -7,7 +7,7 @@ use Rattle.tree_format.specs.declared.kind.PlanKind.{PlanKind}
 use Rattle.tree_format.specs.declared.kind.PlanKind.TheVariants.{BadLine}
 use Rattle.tree_format.specs.declared.due.Due.{Due}
 use Rattle.tree_format.specs.declared.plan_line.Dialect.{Dialect}
-use Rattle.tree_format.specs.declared.plan_line.Dialect.TheVariants.{One, Two, Gap}
+use Rattle.tree_format.specs.declared.plan_line.Dialect.TheVariants.{PlanOne, PlanTwo, GapOne, GapTwo}
 use Rattle.tree_format.specs.declared.plan_line.Family.{Family}
 use Rattle.tree_format.specs.declared.plan_line.Family.TheVariants.{Plans, Gaps}
 use Rattle.tree_format.specs.Dialects.{family_of, most_records}
@@ -28,9 +28,10 @@ few_records Plans = omega arith
 few_records Gaps = omega arith
 
 chance_falls : (v : Dialect) → lines_left (behind_chance v) + 1 ≤ lines_left due.Chance
-chance_falls One = omega arith
-chance_falls Two = omega arith
-chance_falls Gap = omega arith
+chance_falls PlanOne = omega arith
+chance_falls PlanTwo = omega arith
+chance_falls GapOne = omega arith
+chance_falls GapTwo = omega arith
 
 module _ (p : Problem) (h : IsProblem p) (v : Dialect) (expected : List (List ℕ)) where
   abbrev at_stage : Stage → Due

@@ -10,6 +10,7 @@ use Rattle.search_model.specs.Problem.{Problem}
 use Rattle.bound_tree.specs.declared.node.Kind.TheVariants.{Branch, Whole, Mean, Tangent, Edge}
 use Rattle.bound_tree.specs.declared.gap.GapKind.{GapKind}
 use Rattle.bound_tree.specs.declared.gap.GapKind.TheVariants.{Closed, Waiting}
+use Rattle.bound_tree.specs.declared.gap.Numbers.{Numbers}
 use Rattle.bound_tree.specs.declared.gap.GapPlan.{GapPlan}
 use Rattle.bound_tree.specs.declared.plan.Plan.{Plan}
 use Rattle.bound_tree.specs.Gaps.{closed_node, gap_of}
@@ -53,9 +54,9 @@ gap_parts v p plan =
     let ending : List (List (List ℕ)) = (codes "end" ∷ []) ∷ [] in
     text_of-append head (records ++ ending) ∙ ap (λ (x : List ℕ). text_of head ++ x) (text_of-append records ending)
 
-pub plan_parts : (v : Dialect) (p : Problem) (plan : Plan) → text_in v p (gap_of plan)
+pub plan_parts : (v : Dialect) (p : Problem) (n : Numbers) (plan : Plan) → text_in v p (gap_of n plan)
     ≡ text_of (head_rows v p plan.standing plan.weight plan.standing.value (length plan.tree)) ++ (text_of (map (λ r. node_row v (closed_node r)) plan.tree) ++ (codes "end" ++ 10 ∷ []))
-plan_parts v p plan =
-    gap_parts v p (gap_of plan)
-    ∙ ap (λ (n : ℕ). text_of (head_rows v p plan.standing plan.weight plan.standing.value n) ++ (text_of (map (node_row v) (map closed_node plan.tree)) ++ (codes "end" ++ 10 ∷ []))) (length-map plan.tree closed_node)
+plan_parts v p n plan =
+    gap_parts v p (gap_of n plan)
+    ∙ ap (λ (k : ℕ). text_of (head_rows v p plan.standing plan.weight plan.standing.value k) ++ (text_of (map (node_row v) (map closed_node plan.tree)) ++ (codes "end" ++ 10 ∷ []))) (length-map plan.tree closed_node)
     ∙ ap (λ (rows : List (List (List ℕ))). text_of (head_rows v p plan.standing plan.weight plan.standing.value (length plan.tree)) ++ (text_of rows ++ (codes "end" ++ 10 ∷ []))) (map-map (node_row v) closed_node plan.tree)

@@ -18,6 +18,8 @@ use Rattle.bound_tree.specs.declared.node.TreeNode.{TreeNode}
 use Rattle.bound_tree.specs.declared.gap.GapKind.{GapKind}
 use Rattle.bound_tree.specs.declared.gap.GapKind.TheVariants.{Closed, Waiting}
 use Rattle.bound_tree.specs.declared.gap.GapNode.{GapNode}
+use Rattle.bound_tree.specs.declared.gap.Numbers.{Numbers}
+use Rattle.bound_tree.specs.declared.gap.Numbers.TheVariants.{Means, Edges}
 use Rattle.bound_tree.specs.declared.gap.GapPlan.{GapPlan}
 use Rattle.bound_tree.specs.Gaps.{shape_of_kind, shape_of, closed_node, gap_of, plan_of}
 use Rattle.bound_tree.specs.declared.plan.Plan.{Plan}
@@ -27,15 +29,15 @@ use Rattle.search_model.specs.Legal.{IsLegal}
 use Rattle.search_model.proofs.PlainSteps.{positions_follow}
 use Rattle.search_model.specs.Names.{IsName, is_name_byte}
 use Rattle.std.proofs.lemmas.Grind.{common_steps}
-use Rattle.tree_format.specs.PlanText.{numbers, node_fields, written, node_row, chance_row, ceiling_row, ceiling_rows, count_row, text_in, ArePositions, IsPrintableKind, IsPrintableRecord, IsPrintable, IsNarrow, IsTextOfPlan, IsNarrowNode, IsGapText, HasNoEdge, plan_text, plan_text_2}
+use Rattle.tree_format.specs.PlanText.{numbers, node_fields, written, node_row, chance_row, ceiling_row, ceiling_rows, count_row, text_in, ArePositions, IsPrintableKind, IsPrintableRecord, IsPrintable, IsNarrow, IsTextOfPlan, IsNarrowNode, IsPrintableGap, IsNarrowGap, IsGapText, HasNoEdge, plan_text, plan_text_2}
 use Rattle.tree_format.specs.declared.due.Due.{Due}
 use Rattle.tree_format.specs.declared.plan_line.Dialect.{Dialect}
-use Rattle.tree_format.specs.declared.plan_line.Dialect.TheVariants.{One, Two, Gap}
+use Rattle.tree_format.specs.declared.plan_line.Dialect.TheVariants.{PlanOne, PlanTwo, GapOne, GapTwo}
 use Rattle.tree_format.specs.declared.plan_line.Family.{Family}
-use Rattle.tree_format.specs.declared.plan_line.Family.TheVariants.{Plans}
+use Rattle.tree_format.specs.declared.plan_line.Family.TheVariants.{Plans, Gaps}
 use Rattle.tree_format.specs.declared.plan_line.Prefixes.{Prefixes}
 use Rattle.tree_format.specs.declared.plan_line.Prefixes.TheVariants.{Written, LeftOut}
-use Rattle.tree_format.specs.Dialects.{family_of, version_row, most_records, prefixes_in}
+use Rattle.tree_format.specs.Dialects.{family_of, version_row, most_records, prefixes_in, numbers_in, dialect_with}
 use Rattle.tree_format.specs.declared.plan_line.Stage.{Stage}
 use Rattle.tree_format.specs.declared.plan_line.Stage.TheVariants as due
 use Rattle.tree_format.specs.declared.plan_line.PlanLine.{PlanLine}
@@ -98,9 +100,10 @@ abbrev at_stage : Dialect → List (List ℕ) → Stage → Due
 at_stage v expected stage = record { dialect = v; stage = stage; expected = expected }
 
 Takes-version : (p : Problem) (v : Dialect) → Takes p (at_start (family_of v)) (version_row v) (Version v)
-Takes-version p One = record { fields = (word (codes "plan") (omega arith) refl, (word (codes "1") (omega arith) refl, tt)); goes = λ e. cc; says = refl }
-Takes-version p Two = record { fields = (word (codes "plan") (omega arith) refl, (word (codes "2") (omega arith) refl, tt)); goes = λ e. cc; says = refl }
-Takes-version p Gap = record { fields = (word (codes "gap") (omega arith) refl, (word (codes "1") (omega arith) refl, tt)); goes = λ e. cc; says = refl }
+Takes-version p PlanOne = record { fields = (word (codes "plan") (omega arith) refl, (word (codes "1") (omega arith) refl, tt)); goes = λ e. cc; says = refl }
+Takes-version p PlanTwo = record { fields = (word (codes "plan") (omega arith) refl, (word (codes "2") (omega arith) refl, tt)); goes = λ e. cc; says = refl }
+Takes-version p GapOne = record { fields = (word (codes "gap") (omega arith) refl, (word (codes "1") (omega arith) refl, tt)); goes = λ e. cc; says = refl }
+Takes-version p GapTwo = record { fields = (word (codes "gap") (omega arith) refl, (word (codes "2") (omega arith) refl, tt)); goes = λ e. cc; says = refl }
 
 name_field : (p : Problem) → IsProblem p → (q : ℕ) → q < p.positions → IsField (position_name p q)
 name_field p h q lt =
@@ -162,14 +165,18 @@ kind_line p h v q (Closed (Tangent bound reference)) places short k narrow known
     let front : take (length q) cells ≡ numbers q = rw (← own) (take-append_seam (numbers q) (numbers reference)) in
     let back : drop (length q) cells ≡ numbers reference = rw (← own) (drop-append_seam (numbers q) (numbers reference)) in
     rw (long, le-leb p.horizon (length q + p.horizon) (omega arith), le-leb (length q + p.horizon) (most + p.horizon) (omega (arith, short)), cut, front, back, amount_in-decimal bound narrow, places-numbers p h q places, places-numbers p h reference k.0) refl
-kind_line p h One q (Closed (Edge bound)) places short k narrow known = absurd known
-kind_line p h Two q (Closed (Edge bound)) places short k narrow known =
+kind_line p h PlanOne q (Closed (Edge bound)) places short k narrow known = absurd known
+kind_line p h PlanTwo q (Closed (Edge bound)) places short k narrow known =
     rw (length-map q decimal, le-leb (length q) 0 short, amount_in-decimal bound narrow, places-numbers p h q places) refl
-kind_line p h Gap q (Closed (Edge bound)) places short k narrow known =
+kind_line p h GapOne q (Closed (Edge bound)) places short k narrow known =
     rw (length-map q decimal, le-leb (length q) 0 short, amount_in-decimal bound narrow, places-numbers p h q places) refl
-kind_line p h One q (Waiting n) places short k narrow known = absurd known
-kind_line p h Two q (Waiting n) places short k narrow known = absurd known
-kind_line p h Gap q (Waiting n) places short k narrow known =
+kind_line p h GapTwo q (Closed (Edge bound)) places short k narrow known =
+    rw (length-map q decimal, le-leb (length q) 0 short, amount_in-decimal bound narrow, places-numbers p h q places) refl
+kind_line p h PlanOne q (Waiting n) places short k narrow known = absurd known
+kind_line p h PlanTwo q (Waiting n) places short k narrow known = absurd known
+kind_line p h GapOne q (Waiting n) places short k narrow known =
+    rw (length-map q decimal, le-leb (length q) 0 short, amount_in-decimal n narrow, places-numbers p h q places) refl
+kind_line p h GapTwo q (Waiting n) places short k narrow known =
     rw (length-map q decimal, le-leb (length q) 0 short, amount_in-decimal n narrow, places-numbers p h q places) refl
 
 -- a record's row has a letter, which isn't `end`, and fields
@@ -220,7 +227,7 @@ Takes-record p h v expected left r k narrow known has =
 
 -- the plan with these nodes
 abbrev with_nodes : GapPlan → List GapNode → GapPlan
-with_nodes plan nodes = record { standing = plan.standing; weight = plan.weight; ceiling = plan.ceiling; nodes = nodes }
+with_nodes plan nodes = record { standing = plan.standing; weight = plan.weight; ceiling = plan.ceiling; numbers = plan.numbers; nodes = nodes }
 
 -- these records have the prefixes that are expected, where the text leaves them out
 abbrev HavePlaces : Problem → Prefixes → List (List ℕ) → List GapNode → Type 0
@@ -271,22 +278,30 @@ end_place LeftOut (q ∷ expected) closed = absurd (let bad : ⊥ = cc in bad)
 Takes-end : (p : Problem) (v : Dialect) (expected : List (List ℕ)) → IsClosed (prefixes_in v) expected → Takes p (at_stage v expected (due.Records 0)) (codes "end" ∷ []) End
 Takes-end p v expected closed = record { fields = (word (codes "end") (omega arith) refl, tt); goes = λ e. cc; says = end_place (prefixes_in v) expected closed }
 
+-- nothing was read but the first line, and a path behind it
+abbrev begun_plan : Numbers → GapPlan
+begun_plan n = record { standing = record { path = []; value = 0 }; weight = 0; ceiling = 0; numbers = n; nodes = [] }
+
 -- the lines between the path and the number of records
 Reads-chance : (p : Problem) (v : Dialect) (plan whole : GapPlan) (rows : List (List (List ℕ))) → IsHeadOf p v plan.standing plan.weight plan.ceiling →
     Reads p (at_stage v ([] ∷ []) due.Count) (with_nodes plan []) (count_row (length plan.nodes) ∷ rows) whole →
-    Reads p (at_stage v ([] ∷ []) due.Chance) (taken blank_plan (Path plan.standing.path)) (chance_row plan.standing.value plan.weight ∷ ((ceiling_rows v plan.ceiling ++ count_row (length plan.nodes) ∷ []) ++ rows)) whole
-Reads-chance p One plan whole rows head rest =
-    Reads-row p (at_stage One ([] ∷ []) due.Chance) _ whole (Chance plan.standing.value plan.weight) _ (count_row (length plan.nodes) ∷ rows) (Takes-chance p One ([] ∷ []) plan.standing.value plan.weight head.chance.value head.chance.weight_small)
-    (subst (λ (c : ℕ). Reads p (at_stage One ([] ∷ []) due.Count) (record { standing = plan.standing; weight = plan.weight; ceiling = c; nodes = [] }) (count_row (length plan.nodes) ∷ rows) whole) head.ceiling_is rest)
-Reads-chance p Two plan whole rows head rest =
-    Reads-row p (at_stage Two ([] ∷ []) due.Chance) _ whole (Chance plan.standing.value plan.weight) _ (count_row (length plan.nodes) ∷ rows) (Takes-chance p Two ([] ∷ []) plan.standing.value plan.weight head.chance.value head.chance.weight_small)
-    (subst (λ (c : ℕ). Reads p (at_stage Two ([] ∷ []) due.Count) (record { standing = plan.standing; weight = plan.weight; ceiling = c; nodes = [] }) (count_row (length plan.nodes) ∷ rows) whole) head.ceiling_is rest)
-Reads-chance p Gap plan whole rows head rest =
-    Reads-row p (at_stage Gap ([] ∷ []) due.Chance) _ whole (Chance plan.standing.value plan.weight) _ (ceiling_row plan.ceiling ∷ count_row (length plan.nodes) ∷ rows) (Takes-chance p Gap ([] ∷ []) plan.standing.value plan.weight head.chance.value head.chance.weight_small)
-    (Reads-row p (at_stage Gap ([] ∷ []) due.Ceiling) _ whole (Ceiling plan.ceiling) _ (count_row (length plan.nodes) ∷ rows) (Takes-ceiling p Gap ([] ∷ []) plan.ceiling head.ceiling_is) rest)
+    Reads p (at_stage v ([] ∷ []) due.Chance) (taken (begun_plan plan.numbers) (Path plan.standing.path)) (chance_row plan.standing.value plan.weight ∷ ((ceiling_rows v plan.ceiling ++ count_row (length plan.nodes) ∷ []) ++ rows)) whole
+Reads-chance p PlanOne plan whole rows head rest =
+    Reads-row p (at_stage PlanOne ([] ∷ []) due.Chance) _ whole (Chance plan.standing.value plan.weight) _ (count_row (length plan.nodes) ∷ rows) (Takes-chance p PlanOne ([] ∷ []) plan.standing.value plan.weight head.chance.value head.chance.weight_small)
+    (subst (λ (c : ℕ). Reads p (at_stage PlanOne ([] ∷ []) due.Count) (record { standing = plan.standing; weight = plan.weight; ceiling = c; numbers = plan.numbers; nodes = [] }) (count_row (length plan.nodes) ∷ rows) whole) head.ceiling_is rest)
+Reads-chance p PlanTwo plan whole rows head rest =
+    Reads-row p (at_stage PlanTwo ([] ∷ []) due.Chance) _ whole (Chance plan.standing.value plan.weight) _ (count_row (length plan.nodes) ∷ rows) (Takes-chance p PlanTwo ([] ∷ []) plan.standing.value plan.weight head.chance.value head.chance.weight_small)
+    (subst (λ (c : ℕ). Reads p (at_stage PlanTwo ([] ∷ []) due.Count) (record { standing = plan.standing; weight = plan.weight; ceiling = c; numbers = plan.numbers; nodes = [] }) (count_row (length plan.nodes) ∷ rows) whole) head.ceiling_is rest)
+Reads-chance p GapOne plan whole rows head rest =
+    Reads-row p (at_stage GapOne ([] ∷ []) due.Chance) _ whole (Chance plan.standing.value plan.weight) _ (ceiling_row plan.ceiling ∷ count_row (length plan.nodes) ∷ rows) (Takes-chance p GapOne ([] ∷ []) plan.standing.value plan.weight head.chance.value head.chance.weight_small)
+    (Reads-row p (at_stage GapOne ([] ∷ []) due.Ceiling) _ whole (Ceiling plan.ceiling) _ (count_row (length plan.nodes) ∷ rows) (Takes-ceiling p GapOne ([] ∷ []) plan.ceiling head.ceiling_is) rest)
+Reads-chance p GapTwo plan whole rows head rest =
+    Reads-row p (at_stage GapTwo ([] ∷ []) due.Chance) _ whole (Chance plan.standing.value plan.weight) _ (ceiling_row plan.ceiling ∷ count_row (length plan.nodes) ∷ rows) (Takes-chance p GapTwo ([] ∷ []) plan.standing.value plan.weight head.chance.value head.chance.weight_small)
+    (Reads-row p (at_stage GapTwo ([] ∷ []) due.Ceiling) _ whole (Ceiling plan.ceiling) _ (count_row (length plan.nodes) ∷ rows) (Takes-ceiling p GapTwo ([] ∷ []) plan.ceiling head.ceiling_is) rest)
 
 -- a gap plan that has a text of this dialect
 pub record HasText (p : Problem) (v : Dialect) (plan : GapPlan) : Type 0 where
+  pub numbers : plan.numbers ≡ numbers_in v
   pub head : IsHeadOf p v plan.standing plan.weight plan.ceiling
   pub few : length plan.nodes ≤ most_records (family_of v)
   pub printable : All (λ r. IsPrintableRecord p (shape_of r)) plan.nodes
@@ -306,15 +321,16 @@ text_reads_back p v plan h k =
     let records = Reads-records p h v plan plan empty [] plan.nodes end k.printable k.narrow k.known k.places last in
     let count = Reads-row p (at_stage v empty due.Count) (with_nodes plan []) plan (Count (length plan.nodes)) _ record_rows (Takes-count p v empty (length plan.nodes) k.few) records in
     let chance = Reads-chance p v plan plan record_rows k.head count in
-    let path = Reads-row p (at_stage v empty due.Path) blank_plan plan (Path plan.standing.path) _ chance_rows (Takes-path p h v empty plan.standing.path k.head.chance.path) chance in
-    let read = Reads-row p (at_start (family_of v)) blank_plan plan (Version v) (version_row v) path_rows (Takes-version p v) path in
+    let path = Reads-row p (at_stage v empty due.Path) (begun_plan plan.numbers) plan (Path plan.standing.path) _ chance_rows (Takes-path p h v empty plan.standing.path k.head.chance.path) chance in
+    let begun = subst (λ (n : Numbers). Reads p (at_stage v empty due.Path) (begun_plan n) path_rows plan) k.numbers path in
+    let read = Reads-row p (at_start (family_of v)) blank_plan plan (Version v) (version_row v) path_rows (Takes-version p v) begun in
     let lines = lines_of_rows (version_row v ∷ path_rows) in
     let text : text_in v p plan ≡ lines_text lines ++ [] = rows_text (version_row v ∷ path_rows) ∙ sym (append-nil (lines_text lines)) in
     ap (text_at (family_of v) p) text ∙ at_end (family_of v) p lines read.last read.feeds read.right [] read.ends ∙ ap Ok read.plan_is
 
 -- A plan is the plan of its gap plan.
 
-plan_of_gap : (plan : Plan) → plan_of (gap_of plan) ≡ plan
+plan_of_gap : (plan : Plan) → plan_of (gap_of Means plan) ≡ plan
 plan_of_gap plan = ap (λ (tree : List TreeNode). record { standing = plan.standing; weight = plan.weight; tree = tree }) (shapes_of_closed plan.tree)
 
 chance_has_text : (p : Problem) (plan : Plan) → IsPrintable p plan → IsNarrow plan → IsChanceOf p plan.standing plan.weight
@@ -324,8 +340,9 @@ few_has_text : (v : Dialect) (tree : List TreeNode) → family_of v ≡ Plans �
 few_has_text v tree e few = subst (λ (family : Family). length (map closed_node tree) ≤ most_records family) (sym e) (let long = length-map tree closed_node in omega (arith, few, long))
 
 -- a plan that can be printed has a text of a dialect that has letters for its records
-plan_has_text : (p : Problem) (v : Dialect) (plan : Plan) → IsPrintable p plan → IsNarrow plan → family_of v ≡ Plans → IsCeiling v plan.standing.value plan.standing.value → All (λ r. IsLettered v (Closed r.kind)) plan.tree → HavePlaces p (prefixes_in v) ([] ∷ []) (map closed_node plan.tree) → HasText p v (gap_of plan)
-plan_has_text p v plan k narrow e ceiling known places = record {
+plan_has_text : (p : Problem) (v : Dialect) (plan : Plan) → IsPrintable p plan → IsNarrow plan → family_of v ≡ Plans → Means ≡ numbers_in v → IsCeiling v plan.standing.value plan.standing.value → All (λ r. IsLettered v (Closed r.kind)) plan.tree → HavePlaces p (prefixes_in v) ([] ∷ []) (map closed_node plan.tree) → HasText p v (gap_of Means plan)
+plan_has_text p v plan k narrow e numbers ceiling known places = record {
+  numbers = numbers;
   head = record { chance = chance_has_text p plan k narrow; ceiling_is = ceiling };
   few = few_has_text v plan.tree e k.few;
   printable = All-map (λ (r : GapNode). IsPrintableRecord p (shape_of r)) closed_node plan.tree k.records;
@@ -335,14 +352,14 @@ plan_has_text p v plan k narrow e ceiling known places = record {
 }
 
 -- it is read as the gap plan of its records
-closed_reads_back : (p : Problem) (plan : Plan) → IsProblem p → IsPrintable p plan → IsNarrow plan → HasNoEdge plan → text_at Plans p (plan_text p plan) ≡ Ok (gap_of plan)
-closed_reads_back p plan h k narrow no_edge = text_reads_back p One (gap_of plan) h (plan_has_text p One plan k narrow refl refl no_edge tt)
+closed_reads_back : (p : Problem) (plan : Plan) → IsProblem p → IsPrintable p plan → IsNarrow plan → HasNoEdge plan → text_at Plans p (plan_text p plan) ≡ Ok (gap_of Means plan)
+closed_reads_back p plan h k narrow no_edge = text_reads_back p PlanOne (gap_of Means plan) h (plan_has_text p PlanOne plan k narrow refl refl refl no_edge tt)
 
-closed_2_reads_back : (p : Problem) (plan : Plan) → IsProblem p → IsPrintable p plan → IsNarrow plan → AreInPlace p ([] ∷ []) plan.tree → text_at Plans p (plan_text_2 p plan) ≡ Ok (gap_of plan)
+closed_2_reads_back : (p : Problem) (plan : Plan) → IsProblem p → IsPrintable p plan → IsNarrow plan → AreInPlace p ([] ∷ []) plan.tree → text_at Plans p (plan_text_2 p plan) ≡ Ok (gap_of Means plan)
 closed_2_reads_back p plan h k narrow places =
-    let known = All-weaker (IsPrintableRecord p) (λ (r : TreeNode). IsLettered Two (Closed r.kind)) (λ r _. tt) plan.tree k.records in
+    let known = All-weaker (IsPrintableRecord p) (λ (r : TreeNode). IsLettered PlanTwo (Closed r.kind)) (λ r _. tt) plan.tree k.records in
     let here = subst (AreInPlace p ([] ∷ [])) (sym (shapes_of_closed plan.tree)) places in
-    text_reads_back p Two (gap_of plan) h (plan_has_text p Two plan k narrow refl refl known here)
+    text_reads_back p PlanTwo (gap_of Means plan) h (plan_has_text p PlanTwo plan k narrow refl refl refl known here)
 
 pub plan_text_reads_back : PlanTextReadsBack
 plan_text_reads_back p plan h k narrow no_edge = ap as_plan (closed_reads_back p plan h k narrow no_edge) ∙ ap Ok (plan_of_gap plan)
@@ -368,17 +385,37 @@ placed_printable p h (r ∷ nodes) (q ∷ qs) legal placed kinds =
     })
     (placed_printable p h nodes (next ++ qs) later placed.1 (All-tail K r nodes kinds))
 
+-- a gap plan that can be printed has a text of the dialect of its numbers, whichever these are
+gap_has_text : (p : Problem) (plan : GapPlan) (n : Numbers) → plan.numbers ≡ n → IsPrintableGap p plan → IsNarrowGap plan → AreInPlace p ([] ∷ []) (map shape_of plan.nodes) → All (λ r. IsPrintableRecord p (shape_of r)) plan.nodes → HasText p (dialect_with n) plan
+gap_has_text p plan Means e k narrow places printable = record {
+  numbers = e;
+  head = record { chance = record { path = record { positions = k.positions; some = k.some; short = k.short }; value = narrow.value; weight_small = narrow.weight }; ceiling_is = narrow.ceiling };
+  few = k.few;
+  printable = printable;
+  narrow = narrow.nodes;
+  known = All-weaker (λ (r : GapNode). IsPrintableRecord p (shape_of r)) (λ (r : GapNode). IsLettered GapOne r.kind) (λ r _. tt) plan.nodes printable;
+  places = places;
+}
+gap_has_text p plan Edges e k narrow places printable = record {
+  numbers = e;
+  head = record { chance = record { path = record { positions = k.positions; some = k.some; short = k.short }; value = narrow.value; weight_small = narrow.weight }; ceiling_is = narrow.ceiling };
+  few = k.few;
+  printable = printable;
+  narrow = narrow.nodes;
+  known = All-weaker (λ (r : GapNode). IsPrintableRecord p (shape_of r)) (λ (r : GapNode). IsLettered GapTwo r.kind) (λ r _. tt) plan.nodes printable;
+  places = places;
+}
+
+gap_family : (n : Numbers) → family_of (dialect_with n) ≡ Gaps
+gap_family Means = refl
+gap_family Edges = refl
+
 pub gap_text_reads_back : GapTextReadsBack
 gap_text_reads_back p plan h k narrow places =
     let printable = placed_printable p h plan.nodes ([] ∷ []) (empty_legal p ([] ∷ []) refl) places k.kinds in
-    text_reads_back p Gap plan h (record {
-      head = record { chance = record { path = record { positions = k.positions; some = k.some; short = k.short }; value = narrow.value; weight_small = narrow.weight }; ceiling_is = narrow.ceiling };
-      few = k.few;
-      printable = printable;
-      narrow = narrow.nodes;
-      known = All-weaker (λ (r : GapNode). IsPrintableRecord p (shape_of r)) (λ (r : GapNode). IsLettered Gap r.kind) (λ r _. tt) plan.nodes printable;
-      places = places;
-    })
+    let v = dialect_with plan.numbers in
+    subst (λ (family : Family). text_at family p (text_in v p plan) ≡ Ok plan) (gap_family plan.numbers)
+    (text_reads_back p v plan h (gap_has_text p plan plan.numbers refl k narrow places printable))
 
 -- the text of a plan in either version is read as that plan
 pub text_read : (p : Problem) → IsProblem p → (plan : Plan) (text : List ℕ) → IsTextOfPlan p plan text → plan_at p text ≡ Ok plan
@@ -388,13 +425,13 @@ text_read p h plan text spelled = elim spelled [
 ]
 
 -- what the text of a plan is read as is the gap plan of its records
-closed_read : (p : Problem) → IsProblem p → (plan : Plan) (text : List ℕ) → IsTextOfPlan p plan text → text_at Plans p text ≡ Ok (gap_of plan)
+closed_read : (p : Problem) → IsProblem p → (plan : Plan) (text : List ℕ) → IsTextOfPlan p plan text → text_at Plans p text ≡ Ok (gap_of Means plan)
 closed_read p h plan text spelled = elim spelled [
   | inl one ↦ ap (text_at Plans p) one.spelled ∙ closed_reads_back p plan h one.printable one.narrow one.no_edge
   | inr two ↦ ap (text_at Plans p) two.spelled ∙ closed_2_reads_back p plan h two.printable two.narrow two.in_place
 ]
 
-pub read_is_closed : (p : Problem) → IsProblem p → (plan : GapPlan) (text : List ℕ) → IsTextOfPlan p (plan_of plan) text → text_at Plans p text ≡ Ok plan → gap_of (plan_of plan) ≡ plan
+pub read_is_closed : (p : Problem) → IsProblem p → (plan : GapPlan) (text : List ℕ) → IsTextOfPlan p (plan_of plan) text → text_at Plans p text ≡ Ok plan → gap_of Means (plan_of plan) ≡ plan
 read_is_closed p h plan text spelled reads =
     let closed = closed_read p h (plan_of plan) text spelled in
     cc

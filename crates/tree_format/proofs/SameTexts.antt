@@ -8,11 +8,13 @@ use Rattle.bound_tree.specs.declared.node.Kind.{Kind}
 use Rattle.bound_tree.specs.declared.node.Kind.TheVariants.{Branch, Whole, Mean, Tangent, Edge}
 use Rattle.bound_tree.specs.declared.node.TreeNode.{TreeNode}
 use Rattle.bound_tree.specs.declared.plan.Plan.{Plan}
+use Rattle.bound_tree.specs.declared.gap.Numbers.TheVariants.{Means}
 use Rattle.bound_tree.specs.declared.gap.GapPlan.{GapPlan}
 use Rattle.bound_tree.specs.Gaps.{shape_of, gap_of}
 use Rattle.bound_tree.proofs.SamePlans.{in_place_same}
 use Rattle.tree_format.specs.declared.plan_line.Dialect.{Dialect}
-use Rattle.tree_format.specs.declared.plan_line.Dialect.TheVariants.{One, Two, Gap}
+use Rattle.tree_format.specs.declared.plan_line.Dialect.TheVariants.{PlanOne, PlanTwo}
+use Rattle.tree_format.specs.Dialects.{dialect_with}
 use Rattle.tree_format.specs.PlanText.{text_in, ArePositions, IsPrintableKind, IsPrintableRecord, IsPrintable, IsTextOfPlan, IsPrintableGap, IsGapText}
 use Rattle.tree_format.specs.TextLaws.{SameSearchSameTexts, SameSearchSameGapText}
 
@@ -46,12 +48,12 @@ module _ (p o : Problem) (same : AreSame p o) where
       rw names refl
 
   plan_text_same : (plan : Plan) (text : List ℕ) → IsTextOfPlan p plan text → IsTextOfPlan o plan text
-  plan_text_same plan text (inl one) = inl (record { printable = plan_same plan one.printable; narrow = one.narrow; no_edge = one.no_edge; spelled = one.spelled ∙ text_same One (gap_of plan) })
+  plan_text_same plan text (inl one) = inl (record { printable = plan_same plan one.printable; narrow = one.narrow; no_edge = one.no_edge; spelled = one.spelled ∙ text_same PlanOne (gap_of Means plan) })
   plan_text_same plan text (inr two) = inr (record {
     printable = plan_same plan two.printable;
     narrow = two.narrow;
     in_place = in_place_same p o same ([] ∷ []) plan.tree two.in_place;
-    spelled = two.spelled ∙ text_same Two (gap_of plan);
+    spelled = two.spelled ∙ text_same PlanTwo (gap_of Means plan);
   })
 
   gap_same : (plan : GapPlan) → IsPrintableGap p plan → IsPrintableGap o plan
@@ -68,7 +70,7 @@ module _ (p o : Problem) (same : AreSame p o) where
     printable = gap_same plan is.printable;
     narrow = is.narrow;
     in_place = in_place_same p o same ([] ∷ []) (map shape_of plan.nodes) is.in_place;
-    spelled = is.spelled ∙ text_same Gap plan;
+    spelled = is.spelled ∙ text_same (dialect_with plan.numbers) plan;
   }
 
 pub same_search_same_texts : SameSearchSameTexts

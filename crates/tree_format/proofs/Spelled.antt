@@ -1,5 +1,5 @@
 -- What is read as a plan is the text of that plan.
-use Rattle.std.proofs.Common.{◌≡◌, ℕ, ◌<◌, ◌≤◌, ◌+◌, ◌-◌, ◌^◌, List, [], ◌∷◌, ◌++◌, map, length, Result, Ok, Err, refl, sym, ap, subst, ◌∙◌, arith, append_assoc, length-append, inl, inr}
+use Rattle.std.proofs.Common.{◌≡◌, ℕ, ◌<◌, ◌≤◌, ◌+◌, ◌-◌, ◌^◌, true, List, [], ◌∷◌, ◌++◌, map, length, Result, Ok, Err, refl, sym, ap, subst, ◌∙◌, arith, append_assoc, length-append, inl, inr}
 use Rattle.std.specs.Prelude.{All, codes}
 use Rattle.std.proofs.lemmas.Bool.{cond_both}
 use Rattle.std.proofs.lemmas.List.{append-nil, map-append, length-map}
@@ -23,6 +23,8 @@ use Rattle.bound_tree.proofs.Placing.{legal_opened}
 use Rattle.bound_tree.specs.declared.gap.GapKind.{GapKind}
 use Rattle.bound_tree.specs.declared.gap.GapKind.TheVariants.{Closed, Waiting}
 use Rattle.bound_tree.specs.declared.gap.GapNode.{GapNode}
+use Rattle.bound_tree.specs.declared.gap.Numbers.{Numbers}
+use Rattle.bound_tree.specs.declared.gap.Numbers.TheVariants.{Means}
 use Rattle.bound_tree.specs.declared.gap.GapPlan.{GapPlan}
 use Rattle.bound_tree.specs.Gaps.{shape_of_kind, shape_of, closed_node, gap_of, plan_of}
 use Rattle.bound_tree.specs.declared.plan.Plan.{Plan}
@@ -31,17 +33,17 @@ use Rattle.tree_format.specs.declared.kind.PlanKind.TheVariants.{BadLine, Rest}
 use Rattle.tree_format.specs.declared.kind.PlanFault.{PlanFault}
 use Rattle.tree_format.specs.declared.due.Due.{Due}
 use Rattle.tree_format.specs.declared.plan_line.Dialect.{Dialect}
-use Rattle.tree_format.specs.declared.plan_line.Dialect.TheVariants.{One, Two, Gap}
+use Rattle.tree_format.specs.declared.plan_line.Dialect.TheVariants.{PlanOne, PlanTwo, GapOne, GapTwo}
 use Rattle.tree_format.specs.declared.plan_line.Family.{Family}
 use Rattle.tree_format.specs.declared.plan_line.Family.TheVariants.{Plans, Gaps}
 use Rattle.tree_format.specs.declared.plan_line.Prefixes.{Prefixes}
 use Rattle.tree_format.specs.declared.plan_line.Prefixes.TheVariants.{Written, LeftOut}
-use Rattle.tree_format.specs.Dialects.{family_of, version_row, most_records, prefixes_in}
+use Rattle.tree_format.specs.Dialects.{family_of, version_row, most_records, has_open, prefixes_in, numbers_in, dialect_with}
 use Rattle.tree_format.specs.declared.plan_line.Stage.{Stage}
 use Rattle.tree_format.specs.declared.plan_line.Stage.TheVariants as due
 use Rattle.tree_format.specs.declared.plan_line.PlanLine.{PlanLine}
-use Rattle.tree_format.specs.declared.plan_line.PlanLine.TheVariants.{Chance}
-use Rattle.tree_format.specs.PlanText.{node_row, path_rows, chance_row, ceiling_rows, head_rows, plan_rows, text_in, ArePositions, IsPrintableKind, IsPrintableRecord, IsPrintable, IsNarrowKind, IsNarrow, IsNoEdge, IsTextOfPlan, IsNarrowNode, IsGapText}
+use Rattle.tree_format.specs.declared.plan_line.PlanLine.TheVariants.{Version, Path, Chance, Ceiling, Count, Node, End}
+use Rattle.tree_format.specs.PlanText.{node_row, path_rows, chance_row, ceiling_row, ceiling_rows, head_rows, plan_rows, text_in, ArePositions, IsPrintableKind, IsPrintableRecord, IsPrintable, IsNarrowKind, IsNarrow, IsNoEdge, IsTextOfPlan, IsNarrowNode, IsGapText}
 use Rattle.tree_format.specs.Reading.{line_at, stage_line, places_behind, behind_chance, next, taken, at_line_number, Progress, unread, behind, plan_lines, front_of, unless_more, alone, text_at, as_plan}
 use Rattle.tree_format.specs.ReadingLaws.{OneTextAPlan, OneTextAGap}
 use Rattle.tree_format.proofs.AtLines.{ended_stage}
@@ -66,9 +68,10 @@ pub record IsPathOf (p : Problem) (q : List ℕ) : Type 0 where
 
 -- the ceiling is the value where no line says it
 abbrev pub IsCeiling : Dialect → ℕ → ℕ → Type 0
-IsCeiling One value ceiling = ceiling ≡ value
-IsCeiling Two value ceiling = ceiling ≡ value
-IsCeiling Gap value ceiling = ceiling < 2 ^ 128
+IsCeiling PlanOne value ceiling = ceiling ≡ value
+IsCeiling PlanTwo value ceiling = ceiling ≡ value
+IsCeiling GapOne value ceiling = ceiling < 2 ^ 128
+IsCeiling GapTwo value ceiling = ceiling < 2 ^ 128
 
 pub record IsChanceOf (p : Problem) (s : Standing) (weight : ℕ) : Type 0 where
   pub path : IsPathOf p s.path
@@ -100,7 +103,7 @@ abbrev pub IsReadAt : Problem → Dialect → List (List ℕ) → Stage → GapP
 IsReadAt p v expected (due.Version family) plan = IsUntouched expected plan
 IsReadAt p v expected due.Path plan = IsUntouched expected plan
 IsReadAt p v expected due.Chance plan = IsPathOf p plan.standing.path × IsUntouched expected plan
-IsReadAt p v expected due.Ceiling plan = IsChanceOf p plan.standing plan.weight × (v ≡ Gap) × IsUntouched expected plan
+IsReadAt p v expected due.Ceiling plan = IsChanceOf p plan.standing plan.weight × (has_open v ≡ true) × IsUntouched expected plan
 IsReadAt p v expected due.Count plan = IsHeadOf p v plan.standing plan.weight plan.ceiling × IsUntouched expected plan
 IsReadAt p v expected (due.Records left) plan = IsHeadOf p v plan.standing plan.weight plan.ceiling × IsTreeOf p v expected left plan.nodes
 IsReadAt p v expected due.Ended plan =
@@ -173,19 +176,22 @@ pub record IsReadOn (p : Problem) (d : Due) (plan : GapPlan) (fields : List (Lis
 
 -- behind the chance, by whether the text has a ceiling
 chance_rows : (p : Problem) (v : Dialect) (plan : GapPlan) (value weight : ℕ) → rows_read p v (behind_chance v) (taken plan (Chance value weight)) ≡ path_rows v p plan.standing.path ++ chance_row value weight ∷ []
-chance_rows p One plan value weight = refl
-chance_rows p Two plan value weight = refl
-chance_rows p Gap plan value weight = refl
+chance_rows p PlanOne plan value weight = refl
+chance_rows p PlanTwo plan value weight = refl
+chance_rows p GapOne plan value weight = refl
+chance_rows p GapTwo plan value weight = refl
 
 chance_read : (p : Problem) (v : Dialect) (expected : List (List ℕ)) (plan : GapPlan) (value weight : ℕ) → IsChanceOf p (record { path = plan.standing.path; value = value }) weight → IsUntouched expected plan → IsReadAt p v expected (behind_chance v) (taken plan (Chance value weight))
-chance_read p One expected plan value weight chance untouched = (record { chance = chance; ceiling_is = refl }, untouched)
-chance_read p Two expected plan value weight chance untouched = (record { chance = chance; ceiling_is = refl }, untouched)
-chance_read p Gap expected plan value weight chance untouched = (chance, refl, untouched)
+chance_read p PlanOne expected plan value weight chance untouched = (record { chance = chance; ceiling_is = refl }, untouched)
+chance_read p PlanTwo expected plan value weight chance untouched = (record { chance = chance; ceiling_is = refl }, untouched)
+chance_read p GapOne expected plan value weight chance untouched = (chance, refl, untouched)
+chance_read p GapTwo expected plan value weight chance untouched = (chance, refl, untouched)
 
 chance_family : (v : Dialect) → family_at v (behind_chance v) ≡ family_of v
-chance_family One = refl
-chance_family Two = refl
-chance_family Gap = refl
+chance_family PlanOne = refl
+chance_family PlanTwo = refl
+chance_family GapOne = refl
+chance_family GapTwo = refl
 
 module _ (p : Problem) (h : IsProblem p) (v : Dialect) (expected : List (List ℕ)) (plan : GapPlan) (fields : List (List ℕ)) (said : PlanLine) where
   abbrev at_stage : Stage → Due
@@ -278,13 +284,22 @@ module _ (p : Problem) (h : IsProblem p) (v : Dialect) (expected : List (List �
       })
 
 -- the line `ceiling N`
+
+ceiling_written : (v : Dialect) (ceiling : ℕ) → has_open v ≡ true → ceiling_rows v ceiling ≡ ceiling_row ceiling ∷ []
+ceiling_written v ceiling has = rw has refl
+
+ceiling_said_so : (v : Dialect) (value ceiling : ℕ) → has_open v ≡ true → ceiling < 2 ^ 128 → IsCeiling v value ceiling
+ceiling_said_so PlanOne value ceiling has narrow = absurd (let bad : ⊥ = cc in bad)
+ceiling_said_so PlanTwo value ceiling has narrow = absurd (let bad : ⊥ = cc in bad)
+ceiling_said_so GapOne value ceiling has narrow = narrow
+ceiling_said_so GapTwo value ceiling has narrow = narrow
+
 ceiling_on : (p : Problem) (v : Dialect) (expected : List (List ℕ)) (plan : GapPlan) (fields : List (List ℕ)) (said : PlanLine) → IsReadAt p v expected due.Ceiling plan → IsCeilingLine fields said → IsReadOn p (record { dialect = v; stage = due.Ceiling; expected = expected }) plan fields said
-ceiling_on p One expected plan fields said read told = absurd (let other = read.1 in let bad : ⊥ = cc in bad)
-ceiling_on p Two expected plan fields said read told = absurd (let other = read.1 in let bad : ⊥ = cc in bad)
-ceiling_on p Gap expected plan fields said read told =
-    subst (IsReadOn p (record { dialect = Gap; stage = due.Ceiling; expected = expected }) plan fields) (sym told.is) (record {
-      rows = ap (λ (row : List (List ℕ)). path_rows Gap p plan.standing.path ++ (chance_row plan.standing.value plan.weight ∷ row ∷ [])) (sym told.row);
-      read = (record { chance = read.0; ceiling_is = told.narrow }, read.2);
+ceiling_on p v expected plan fields said read told =
+    let above : List (List (List ℕ)) → List (List (List ℕ)) = λ rows. path_rows v p plan.standing.path ++ (chance_row plan.standing.value plan.weight ∷ rows) in
+    subst (IsReadOn p (record { dialect = v; stage = due.Ceiling; expected = expected }) plan fields) (sym told.is) (record {
+      rows = ap above (ceiling_written v told.ceiling read.1) ∙ ap (λ (row : List (List ℕ)). above (row ∷ [])) (sym told.row);
+      read = (record { chance = read.0; ceiling_is = ceiling_said_so v plan.standing.value told.ceiling read.1 told.narrow }, read.2);
       family = refl;
     })
 
@@ -310,6 +325,7 @@ record IsWhole (p : Problem) (family : Family) (text : List ℕ) (whole : GapPla
   version : Dialect
   family_is : family_of version ≡ family
   expected : List (List ℕ)
+  numbers : whole.numbers ≡ numbers_in version
   spelled : text ≡ text_of (plan_rows version p whole)
   read : IsReadAt p version expected due.Ended whole
 
@@ -343,13 +359,35 @@ lines_on p h (line ∷ lines) s t read right =
       family = more.family ∙ here.family;
     }
 
+-- the numbers of what was read are those of its dialect
+abbrev pub HasNumbers : Progress → Type 0
+HasNumbers s = s.plan.numbers ≡ numbers_in s.due.dialect
+
+numbers_behind : (p : Problem) (s : Progress) (said : PlanLine) → HasNumbers s → HasNumbers (record { due = next p s.due said; plan = taken s.plan said })
+numbers_behind p s (Version v) e = refl
+numbers_behind p s (Path q) e = e
+numbers_behind p s (Chance v w) e = e
+numbers_behind p s (Ceiling n) e = e
+numbers_behind p s (Count n) e = e
+numbers_behind p s (Node r) e = e
+numbers_behind p s End e = e
+
+numbers_step : (p : Problem) (s t : Progress) (r : Result PlanLine PlanKind) → HasNumbers s → behind p s r ≡ Ok t → HasNumbers t
+numbers_step p s t (Err kind) e f = absurd (err_ok kind t f)
+numbers_step p s t (Ok said) e f = subst HasNumbers (same_ok (record { due = next p s.due said; plan = taken s.plan said }) t f) (numbers_behind p s said e)
+
+pub numbers_on : (p : Problem) (lines : List (List ℕ)) (s t : Progress) → HasNumbers s → AreTaken (plan_lines p) s lines t → HasNumbers t
+numbers_on p [] s t e right = subst HasNumbers right e
+numbers_on p (line ∷ lines) s t e right = numbers_on p lines right.0 t (numbers_step p s right.0 _ e right.1) right.3
+
 -- the rows that were read, where the end was
-whole_read : (p : Problem) (family : Family) (text : List ℕ) (t : Progress) → t.due.stage ≡ due.Ended → IsRead p t.due t.plan → family_due t.due ≡ family → text ≡ text_of (rows_read p t.due.dialect t.due.stage t.plan) → IsWhole p family text t.plan
-whole_read p family text t ended read same spelled =
+whole_read : (p : Problem) (family : Family) (text : List ℕ) (t : Progress) → t.due.stage ≡ due.Ended → IsRead p t.due t.plan → HasNumbers t → family_due t.due ≡ family → text ≡ text_of (rows_read p t.due.dialect t.due.stage t.plan) → IsWhole p family text t.plan
+whole_read p family text t ended read numbers same spelled =
     record {
       version = t.due.dialect;
       family_is = ap (family_at t.due.dialect) (sym ended) ∙ same;
       expected = t.due.expected;
+      numbers = numbers;
       spelled = spelled ∙ ap (λ (s : Stage). text_of (rows_read p t.due.dialect s t.plan)) ended;
       read = subst (λ (s : Stage). IsReadAt p t.due.dialect t.due.expected s t.plan) ended read;
     }
@@ -368,15 +406,16 @@ front_told family p h text whole (Ok front) e alone_is =
     let count : front.line ≡ length read.read = omega (arith, read.line) in
     let nothing : after_lines (length read.read) text ≡ [] = ap (λ (n : ℕ). after_lines n text) (sym count) ∙ none.0 in
     let spelled : text ≡ lines_text read.read = lines_first read.read read.behind text read.whole ∙ ap (λ (t : List ℕ). lines_text read.read ++ t) nothing ∙ append-nil (lines_text read.read) in
-    subst (IsWhole p family text) none.1 (whole_read p family text front.state (ended_stage front.state.due.stage read.ends) on.read on.family (spelled ∙ sym on.rows))
+    subst (IsWhole p family text) none.1 (whole_read p family text front.state (ended_stage front.state.due.stage read.ends) on.read (numbers_on p read.read (unread family) front.state refl read.right) on.family (spelled ∙ sym on.rows))
 
 -- what was read as a text of plans is the gap plan of a plan
 kind_back : (v : Dialect) (kind : GapKind) → family_of v ≡ Plans → IsLettered v kind → Closed (shape_of_kind kind) ≡ kind
-kind_back One (Closed kind) e known = refl
-kind_back One (Waiting n) e known = absurd known
-kind_back Two (Closed kind) e known = refl
-kind_back Two (Waiting n) e known = absurd known
-kind_back Gap kind e known = absurd (let bad : ⊥ = cc in bad)
+kind_back PlanOne (Closed kind) e known = refl
+kind_back PlanOne (Waiting n) e known = absurd known
+kind_back PlanTwo (Closed kind) e known = refl
+kind_back PlanTwo (Waiting n) e known = absurd known
+kind_back GapOne kind e known = absurd (let bad : ⊥ = cc in bad)
+kind_back GapTwo kind e known = absurd (let bad : ⊥ = cc in bad)
 
 nodes_back : (v : Dialect) (nodes : List GapNode) → family_of v ≡ Plans → All (λ r. IsLettered v r.kind) nodes → map closed_node (map shape_of nodes) ≡ nodes
 nodes_back v [] e known = refl
@@ -386,21 +425,29 @@ nodes_back v (r ∷ nodes) e known =
     ap (λ (x : GapNode). x ∷ map closed_node (map shape_of nodes)) here ∙ ap (λ (xs : List GapNode). r ∷ xs) (nodes_back v nodes e (All-tail L r nodes known))
 
 ceiling_back : (v : Dialect) (value ceiling : ℕ) → family_of v ≡ Plans → IsCeiling v value ceiling → value ≡ ceiling
-ceiling_back One value ceiling e is = sym is
-ceiling_back Two value ceiling e is = sym is
-ceiling_back Gap value ceiling e is = absurd (let bad : ⊥ = cc in bad)
+ceiling_back PlanOne value ceiling e is = sym is
+ceiling_back PlanTwo value ceiling e is = sym is
+ceiling_back GapOne value ceiling e is = absurd (let bad : ⊥ = cc in bad)
+ceiling_back GapTwo value ceiling e is = absurd (let bad : ⊥ = cc in bad)
 
-plan_back : (p : Problem) (v : Dialect) (expected : List (List ℕ)) (plan : GapPlan) → family_of v ≡ Plans → IsReadAt p v expected due.Ended plan → gap_of (plan_of plan) ≡ plan
-plan_back p v expected plan e read =
-    ap (λ (c : ℕ). record { standing = plan.standing; weight = plan.weight; ceiling = c; nodes = map closed_node (map shape_of plan.nodes) }) (ceiling_back v plan.standing.value plan.ceiling e read.0.ceiling_is)
-    ∙ ap (λ (nodes : List GapNode). record { standing = plan.standing; weight = plan.weight; ceiling = plan.ceiling; nodes = nodes }) (nodes_back v plan.nodes e read.1.lettered)
+numbers_back : (v : Dialect) → family_of v ≡ Plans → Means ≡ numbers_in v
+numbers_back PlanOne e = refl
+numbers_back PlanTwo e = refl
+numbers_back GapOne e = refl
+numbers_back GapTwo e = absurd (let bad : ⊥ = cc in bad)
+
+plan_back : (p : Problem) (v : Dialect) (expected : List (List ℕ)) (plan : GapPlan) → family_of v ≡ Plans → plan.numbers ≡ numbers_in v → IsReadAt p v expected due.Ended plan → gap_of Means (plan_of plan) ≡ plan
+plan_back p v expected plan e numbers read =
+    ap (λ (c : ℕ). record { standing = plan.standing; weight = plan.weight; ceiling = c; numbers = Means; nodes = map closed_node (map shape_of plan.nodes) }) (ceiling_back v plan.standing.value plan.ceiling e read.0.ceiling_is)
+    ∙ ap (λ (n : Numbers). record { standing = plan.standing; weight = plan.weight; ceiling = plan.ceiling; numbers = n; nodes = map closed_node (map shape_of plan.nodes) }) (numbers_back v e ∙ sym numbers)
+    ∙ ap (λ (nodes : List GapNode). record { standing = plan.standing; weight = plan.weight; ceiling = plan.ceiling; numbers = plan.numbers; nodes = nodes }) (nodes_back v plan.nodes e read.1.lettered)
 
 -- the number of a record that stands for a node is narrow
 narrow_shape : (kind : GapKind) → IsNarrowNode kind → IsNarrowKind (shape_of_kind kind)
 narrow_shape (Closed kind) narrow = narrow
 narrow_shape (Waiting n) narrow = omega arith
 
-plain_shape : (kind : GapKind) → IsLettered One kind → IsNoEdge (shape_of_kind kind)
+plain_shape : (kind : GapKind) → IsLettered PlanOne kind → IsNoEdge (shape_of_kind kind)
 plain_shape (Closed kind) known = known
 plain_shape (Waiting n) known = absurd known
 
@@ -433,24 +480,25 @@ whole_in_place p expected nodes placed none =
     subst (AreInPlace p ([] ∷ [])) (append-nil (map shape_of nodes)) (placed [] nothing_left)
 
 -- the text of the version that was read
-text_told : (p : Problem) (v : Dialect) (expected : List (List ℕ)) (plan : GapPlan) (text : List ℕ) → family_of v ≡ Plans → IsReadAt p v expected due.Ended plan → text ≡ text_in v p plan → IsTextOfPlan p (plan_of plan) text
-text_told p One expected plan text e read spelled =
-    let parts = printable_whole p One expected plan e read in
+text_told : (p : Problem) (v : Dialect) (expected : List (List ℕ)) (plan : GapPlan) (text : List ℕ) → family_of v ≡ Plans → plan.numbers ≡ numbers_in v → IsReadAt p v expected due.Ended plan → text ≡ text_in v p plan → IsTextOfPlan p (plan_of plan) text
+text_told p PlanOne expected plan text e numbers read spelled =
+    let parts = printable_whole p PlanOne expected plan e read in
     inl (record {
       printable = parts.0;
       narrow = parts.1;
-      no_edge = All-map (λ (r : TreeNode). IsNoEdge r.kind) shape_of plan.nodes (All-weaker (λ (r : GapNode). IsLettered One r.kind) (λ (r : GapNode). IsNoEdge (shape_of r).kind) (λ r known. plain_shape r.kind known) plan.nodes read.1.lettered);
-      spelled = spelled ∙ ap (text_in One p) (sym (plan_back p One expected plan e read));
+      no_edge = All-map (λ (r : TreeNode). IsNoEdge r.kind) shape_of plan.nodes (All-weaker (λ (r : GapNode). IsLettered PlanOne r.kind) (λ (r : GapNode). IsNoEdge (shape_of r).kind) (λ r known. plain_shape r.kind known) plan.nodes read.1.lettered);
+      spelled = spelled ∙ ap (text_in PlanOne p) (sym (plan_back p PlanOne expected plan e numbers read));
     })
-text_told p Two expected plan text e read spelled =
-    let parts = printable_whole p Two expected plan e read in
+text_told p PlanTwo expected plan text e numbers read spelled =
+    let parts = printable_whole p PlanTwo expected plan e read in
     inr (record {
       printable = parts.0;
       narrow = parts.1;
       in_place = whole_in_place p expected plan.nodes read.1.placed (read.2 refl);
-      spelled = spelled ∙ ap (text_in Two p) (sym (plan_back p Two expected plan e read));
+      spelled = spelled ∙ ap (text_in PlanTwo p) (sym (plan_back p PlanTwo expected plan e numbers read));
     })
-text_told p Gap expected plan text e read spelled = absurd (let bad : ⊥ = cc in bad)
+text_told p GapOne expected plan text e numbers read spelled = absurd (let bad : ⊥ = cc in bad)
+text_told p GapTwo expected plan text e numbers read spelled = absurd (let bad : ⊥ = cc in bad)
 
 -- a plan that was read is that of a gap plan
 pub plan_told : (r : Result GapPlan PlanFault) (plan : Plan) → as_plan r ≡ Ok plan → (whole : GapPlan) × (r ≡ Ok whole) × (plan_of whole ≡ plan)
@@ -461,16 +509,27 @@ pub one_text_a_plan : OneTextAPlan
 one_text_a_plan p plan text h e =
     let read = plan_told (text_at Plans p text) plan e in
     let whole = front_told Plans p h text read.0 (front_of Plans p text) refl read.1 in
-    subst (λ (x : Plan). IsTextOfPlan p x text) read.2 (text_told p whole.version whole.expected read.0 text whole.family_is whole.read whole.spelled)
+    subst (λ (x : Plan). IsTextOfPlan p x text) read.2 (text_told p whole.version whole.expected read.0 text whole.family_is whole.numbers whole.read whole.spelled)
+
+-- what the dialects of gap plans have in common, and what each has for itself
+record IsGapDialect (v : Dialect) : Type 0 where
+  left_out : prefixes_in v ≡ LeftOut
+  ceiling : (value ceiling : ℕ) → IsCeiling v value ceiling → ceiling < 2 ^ 128
+  alone : dialect_with (numbers_in v) ≡ v
+
+gap_dialect : (v : Dialect) → family_of v ≡ Gaps → IsGapDialect v
+gap_dialect PlanOne e = absurd (let bad : ⊥ = cc in bad)
+gap_dialect PlanTwo e = absurd (let bad : ⊥ = cc in bad)
+gap_dialect GapOne e = record { left_out = refl; ceiling = λ value ceiling is. is; alone = refl }
+gap_dialect GapTwo e = record { left_out = refl; ceiling = λ value ceiling is. is; alone = refl }
 
 -- the text of the gap plan that was read
-gap_told : (p : Problem) (v : Dialect) (expected : List (List ℕ)) (plan : GapPlan) (text : List ℕ) → family_of v ≡ Gaps → IsReadAt p v expected due.Ended plan → text ≡ text_in v p plan → IsGapText p plan text
-gap_told p One expected plan text e read spelled = absurd (let bad : ⊥ = cc in bad)
-gap_told p Two expected plan text e read spelled = absurd (let bad : ⊥ = cc in bad)
-gap_told p Gap expected plan text e read spelled =
+gap_told : (p : Problem) (v : Dialect) (expected : List (List ℕ)) (plan : GapPlan) (text : List ℕ) → family_of v ≡ Gaps → plan.numbers ≡ numbers_in v → IsReadAt p v expected due.Ended plan → text ≡ text_in v p plan → IsGapText p plan text
+gap_told p v expected plan text e numbers read spelled =
+    let own = gap_dialect v e in
     let chance = read.0.chance in
     let tree = read.1 in
-    let few = tree.few in
+    let few : length plan.nodes + 0 ≤ most_records Gaps = subst (λ (family : Family). length plan.nodes + 0 ≤ most_records family) e tree.few in
     record {
       printable = record {
         some = chance.path.some;
@@ -479,12 +538,12 @@ gap_told p Gap expected plan text e read spelled =
         few = omega (arith, few);
         kinds = All-weaker (λ (r : GapNode). IsPrintableRecord p (shape_of r)) (λ (r : GapNode). IsPrintableKind p (shape_of r).kind) (λ r k. k.kind) plan.nodes tree.printable;
       };
-      narrow = record { value = chance.value; weight = chance.weight_small; ceiling = read.0.ceiling_is; nodes = tree.narrow };
-      in_place = whole_in_place p expected plan.nodes tree.placed (read.2 refl);
-      spelled = spelled;
+      narrow = record { value = chance.value; weight = chance.weight_small; ceiling = own.ceiling plan.standing.value plan.ceiling read.0.ceiling_is; nodes = tree.narrow };
+      in_place = whole_in_place p expected plan.nodes (subst (λ (w : Prefixes). IsPlaced p w expected plan.nodes) own.left_out tree.placed) (read.2 own.left_out);
+      spelled = spelled ∙ ap (λ (x : Dialect). text_in x p plan) (sym (ap dialect_with numbers ∙ own.alone));
     }
 
 pub one_text_a_gap : OneTextAGap
 one_text_a_gap p plan text h e =
     let whole = front_told Gaps p h text plan (front_of Gaps p text) refl e in
-    gap_told p whole.version whole.expected plan text whole.family_is whole.read whole.spelled
+    gap_told p whole.version whole.expected plan text whole.family_is whole.numbers whole.read whole.spelled

@@ -4,7 +4,7 @@ use Rattle.std.specs.Prelude.{All, codes, nat_le, ◌&&◌, ◌==◌}
 use Rattle.std.specs.Fmt.{decimal}
 use Rattle.std.proofs.lemmas.Bool.{cond_both, and_parts, leb-true, eqb-true, eqb-false}
 use Rattle.std.proofs.lemmas.List.{length-map, take-append-drop}
-use Rattle.std.proofs.lemmas.List.Elements.{All-head}
+use Rattle.std.proofs.lemmas.List.Elements.{All-nil, All-cons, All-head, All-tail}
 use Rattle.search_model.specs.Legal.{IsLegal}
 use Rattle.search_model.proofs.PlainSteps.{positions_follow}
 use Rattle.search_model.specs.Problem.{Problem, IsProblem, position_name, position_named}
@@ -17,17 +17,17 @@ use Rattle.bound_tree.specs.Gaps.{shape_of_kind, shape_of}
 use Rattle.tree_format.specs.declared.kind.PlanKind.{PlanKind}
 use Rattle.tree_format.specs.declared.kind.PlanKind.TheVariants.{BadLine, BadNumber, UnknownName, TooManyNodes, WrongCount, NoPlace, StillOpen}
 use Rattle.tree_format.specs.declared.plan_line.Dialect.{Dialect}
-use Rattle.tree_format.specs.declared.plan_line.Dialect.TheVariants.{One, Two, Gap}
+use Rattle.tree_format.specs.declared.plan_line.Dialect.TheVariants.{PlanOne, PlanTwo, GapOne, GapTwo}
 use Rattle.tree_format.specs.declared.plan_line.Family.{Family}
 use Rattle.tree_format.specs.declared.plan_line.Family.TheVariants.{Plans, Gaps}
 use Rattle.tree_format.specs.declared.plan_line.Prefixes.{Prefixes}
 use Rattle.tree_format.specs.declared.plan_line.Prefixes.TheVariants.{Written, LeftOut}
-use Rattle.tree_format.specs.Dialects.{family_of, version_row, has_edges, has_open, prefixes_in}
+use Rattle.tree_format.specs.Dialects.{family_of, dialects_of, word_of, version_of, version_row, has_edges, has_open, prefixes_in}
 use Rattle.tree_format.specs.declared.plan_line.PlanLine.{PlanLine}
 use Rattle.tree_format.specs.declared.plan_line.PlanLine.TheVariants.{Version, Path, Chance, Ceiling, Count, Node, End}
 use Rattle.tree_format.specs.declared.record_lines.Bounded.{Bounded}
 use Rattle.tree_format.specs.PlanText.{numbers, node_fields, written, chance_row, ceiling_row, count_row, ArePositions, IsPrintableKind, IsPrintableRecord, IsNarrowNode, IsNoEdge}
-use Rattle.tree_format.specs.Reading.{all_of, amount_in, place_in, version_line, path_said, path_line, chance_said, chance_line, ceiling_said, ceiling_line, count_said, count_line, most_positions, branch_of, branch_line, bounded_of, bounded_line, node_of, tangent_of, tangent_line, node_line, placed, node_said, is_end, ending, end_said, record_line}
+use Rattle.tree_format.specs.Reading.{all_of, amount_in, place_in, version_said, version_line, path_said, path_line, chance_said, chance_line, ceiling_said, ceiling_line, count_said, count_line, most_positions, branch_of, branch_line, bounded_of, bounded_line, node_of, tangent_of, tangent_line, node_line, placed, node_said, is_end, ending, end_said, record_line}
 use Rattle.text_rows.specs.Fields.{is_word}
 use Rattle.tree_format.proofs.Told.{word_told, amount_told, places_told, names_told}
 use Rattle.text_rows.proofs.Results.{err_ok, same_ok, let_through}
@@ -39,32 +39,40 @@ pub record IsVersionLine (family : Family) (fields : List (List ℕ)) (said : Pl
   pub is : said ≡ Version dialect
   pub family_is : family_of dialect ≡ family
 
-version_made : (word number first second : List ℕ) (v : Dialect) (said : PlanLine) → version_row v ≡ first ∷ second ∷ [] → is_word word first ≡ true → is_word number second ≡ true → ◌≡◌ {A = Result PlanLine PlanKind} (Ok (Version v)) (Ok said) → IsVersionLine (family_of v) (word ∷ number ∷ []) said
-version_made word number first second v said row plan which e = record {
-  dialect = v;
-  row = rw (word_told word first plan, word_told number second which) (sym row);
-  is = sym (same_ok (Version v) said e);
-  family_is = refl;
-}
+-- those of a family are of the family
+abbrev AreOf : Family → List Dialect → Type 0
+AreOf family vs = All (λ v. family_of v ≡ family) vs
+
+all_of_family : (family : Family) → AreOf family (dialects_of family)
+all_of_family Plans =
+    let F : Dialect → Type 0 = λ v. family_of v ≡ Plans in
+    All-cons F PlanOne (PlanTwo ∷ []) refl (All-cons F PlanTwo [] refl (All-nil F))
+all_of_family Gaps =
+    let F : Dialect → Type 0 = λ v. family_of v ≡ Gaps in
+    All-cons F GapOne (GapTwo ∷ []) refl (All-cons F GapTwo [] refl (All-nil F))
+
+-- the line of one of these dialects
+dialect_told : (family : Family) (word number : List ℕ) (vs : List Dialect) (said : PlanLine) → word ≡ word_of family → AreOf family vs → version_said vs number ≡ Ok said → IsVersionLine family (word ∷ number ∷ []) said
+dialect_told family word number [] said is of e = absurd (err_ok BadLine said e)
+dialect_told family word number (v ∷ vs) said is of e =
+    let F : Dialect → Type 0 = λ x. family_of x ≡ family in
+    let here : family_of v ≡ family = All-head F v vs of in
+    cond_both (is_word number (version_of v)) _ _ (λ (x : Result PlanLine PlanKind). x ≡ Ok said → IsVersionLine family (word ∷ number ∷ []) said)
+    (λ which e'. record {
+      dialect = v;
+      row = ap (λ (w : List ℕ). w ∷ number ∷ []) (is ∙ ap word_of (sym here)) ∙ ap (λ (n : List ℕ). word_of (family_of v) ∷ n ∷ []) (word_told number (version_of v) which);
+      is = sym (same_ok (Version v) said e');
+      family_is = here;
+    })
+    (λ _ e'. dialect_told family word number vs said is (All-tail F v vs of) e') e
 
 pub version_told : (family : Family) (fields : List (List ℕ)) (said : PlanLine) → version_line family fields ≡ Ok said → IsVersionLine family fields said
-version_told Plans [] said e = absurd (err_ok BadLine said e)
-version_told Plans (word ∷ []) said e = absurd (err_ok BadLine said e)
-version_told Plans (word ∷ number ∷ []) said e =
-    let G : Result PlanLine PlanKind → Type 0 = λ x. x ≡ Ok said → IsVersionLine Plans (word ∷ number ∷ []) said in
-    cond_both (is_word word (codes "plan")) _ _ G
-    (λ plan. cond_both (is_word number (codes "1")) _ _ G (version_made word number (codes "plan") (codes "1") One said refl plan)
-    (λ _. cond_both (is_word number (codes "2")) _ _ G (version_made word number (codes "plan") (codes "2") Two said refl plan) (λ _ e'. absurd (err_ok BadLine said e'))))
-    (λ _ e'. absurd (err_ok BadLine said e')) e
-version_told Plans (word ∷ number ∷ more ∷ rest) said e = absurd (err_ok BadLine said e)
-version_told Gaps [] said e = absurd (err_ok BadLine said e)
-version_told Gaps (word ∷ []) said e = absurd (err_ok BadLine said e)
-version_told Gaps (word ∷ number ∷ []) said e =
-    let G : Result PlanLine PlanKind → Type 0 = λ x. x ≡ Ok said → IsVersionLine Gaps (word ∷ number ∷ []) said in
-    cond_both (is_word word (codes "gap")) _ _ G
-    (λ gap. cond_both (is_word number (codes "1")) _ _ G (version_made word number (codes "gap") (codes "1") Gap said refl gap) (λ _ e'. absurd (err_ok BadLine said e')))
-    (λ _ e'. absurd (err_ok BadLine said e')) e
-version_told Gaps (word ∷ number ∷ more ∷ rest) said e = absurd (err_ok BadLine said e)
+version_told family [] said e = absurd (err_ok BadLine said e)
+version_told family (word ∷ []) said e = absurd (err_ok BadLine said e)
+version_told family (word ∷ number ∷ []) said e =
+    let through = let_through (is_word word (word_of family)) BadLine (version_said (dialects_of family) number) said e in
+    dialect_told family word number (dialects_of family) said (word_told word (word_of family) through.0) (all_of_family family) through.1
+version_told family (word ∷ number ∷ more ∷ rest) said e = absurd (err_ok BadLine said e)
 
 -- `path NAME ..`
 pub record IsPathLine (p : Problem) (fields : List (List ℕ)) (said : PlanLine) : Type 0 where
@@ -186,11 +194,12 @@ count_told most (word ∷ n ∷ more ∷ rest) said e = absurd (err_ok BadLine s
 
 -- a kind for which a dialect has a letter
 abbrev pub IsLettered : Dialect → GapKind → Type 0
-IsLettered One (Closed kind) = IsNoEdge kind
-IsLettered One (Waiting n) = ⊥
-IsLettered Two (Closed kind) = Unit {0}
-IsLettered Two (Waiting n) = ⊥
-IsLettered Gap kind = Unit {0}
+IsLettered PlanOne (Closed kind) = IsNoEdge kind
+IsLettered PlanOne (Waiting n) = ⊥
+IsLettered PlanTwo (Closed kind) = Unit {0}
+IsLettered PlanTwo (Waiting n) = ⊥
+IsLettered GapOne kind = Unit {0}
+IsLettered GapTwo kind = Unit {0}
 
 pub record IsNodeLine (p : Problem) (v : Dialect) (w : Prefixes) (fields : List (List ℕ)) (r : GapNode) : Type 0 where
   pub row : fields ≡ node_fields r.prefix r.kind
@@ -202,9 +211,10 @@ pub record IsNodeLine (p : Problem) (v : Dialect) (w : Prefixes) (fields : List 
 
 -- a kind that all dialects have
 lettered : (v : Dialect) (kind : Kind) → IsNoEdge kind → IsLettered v (Closed kind)
-lettered One kind plain = plain
-lettered Two kind plain = tt
-lettered Gap kind plain = tt
+lettered PlanOne kind plain = plain
+lettered PlanTwo kind plain = tt
+lettered GapOne kind plain = tt
+lettered GapTwo kind plain = tt
 
 -- a record of this kind, whose prefix the last fields spell
 node_made : (p : Problem) → IsProblem p → (v : Dialect) (w : Prefixes) (fields : List (List ℕ)) (q : List ℕ) (kind : GapKind) (r : GapNode) → fields ≡ node_fields q kind → ArePositions p q → length q ≤ most_positions p w → IsPrintableKind p (shape_of_kind kind) → IsNarrowNode kind → IsLettered v kind → ◌≡◌ {A = Result GapNode PlanKind} (Ok (record { prefix = q; kind = kind })) (Ok r) → IsNodeLine p v w fields r
@@ -267,14 +277,16 @@ mean_letter : (p : Problem) (v : Dialect) → HasLetter p v (codes "M") (λ n. C
 mean_letter p v = record { fields = λ q n. refl; printable = λ n. tt; narrow = λ n small. small; known = λ n. lettered v (Mean n) tt }
 
 edge_letter : (p : Problem) (v : Dialect) → has_edges v ≡ true → HasLetter p v (codes "E") (λ n. Closed (Edge n))
-edge_letter p One has = absurd (let bad : ⊥ = cc in bad)
-edge_letter p Two has = record { fields = λ q n. refl; printable = λ n. tt; narrow = λ n small. small; known = λ n. tt }
-edge_letter p Gap has = record { fields = λ q n. refl; printable = λ n. tt; narrow = λ n small. small; known = λ n. tt }
+edge_letter p PlanOne has = absurd (let bad : ⊥ = cc in bad)
+edge_letter p PlanTwo has = record { fields = λ q n. refl; printable = λ n. tt; narrow = λ n small. small; known = λ n. tt }
+edge_letter p GapOne has = record { fields = λ q n. refl; printable = λ n. tt; narrow = λ n small. small; known = λ n. tt }
+edge_letter p GapTwo has = record { fields = λ q n. refl; printable = λ n. tt; narrow = λ n small. small; known = λ n. tt }
 
 waiting_letter : (p : Problem) (v : Dialect) → has_open v ≡ true → HasLetter p v (codes "O") (λ n. Waiting n)
-waiting_letter p One has = absurd (let bad : ⊥ = cc in bad)
-waiting_letter p Two has = absurd (let bad : ⊥ = cc in bad)
-waiting_letter p Gap has = record { fields = λ q n. refl; printable = λ n. tt; narrow = λ n small. small; known = λ n. tt }
+waiting_letter p PlanOne has = absurd (let bad : ⊥ = cc in bad)
+waiting_letter p PlanTwo has = absurd (let bad : ⊥ = cc in bad)
+waiting_letter p GapOne has = record { fields = λ q n. refl; printable = λ n. tt; narrow = λ n small. small; known = λ n. tt }
+waiting_letter p GapTwo has = record { fields = λ q n. refl; printable = λ n. tt; narrow = λ n small. small; known = λ n. tt }
 
 bounded_node : (p : Problem) → IsProblem p → (v : Dialect) (w : Prefixes) (letter word : List ℕ) (fields : List (List ℕ)) (kind : ℕ → GapKind) (o : Result Bounded PlanKind) (r : GapNode) → HasLetter p v word kind → letter ≡ word → bounded_line p (most_positions p w) fields ≡ o → node_of kind o ≡ Ok r → IsNodeLine p v w (letter ∷ fields) r
 bounded_node p h v w letter word fields kind (Err k) r has is line e = absurd (err_ok k r e)

@@ -23,11 +23,12 @@ use Rattle.tree_format.specs.declared.plan_line.Family.{Family}
 use Rattle.tree_format.specs.declared.plan_line.Family.TheVariants.{Plans, Gaps}
 use Rattle.tree_format.specs.declared.plan_line.Prefixes.{Prefixes}
 use Rattle.tree_format.specs.declared.plan_line.Prefixes.TheVariants.{Written, LeftOut}
-use Rattle.tree_format.specs.Dialects.{family_of, most_records, has_edges, has_open, prefixes_in}
+use Rattle.tree_format.specs.declared.plan_line.Dialect.TheVariants.{PlanOne, PlanTwo, GapOne, GapTwo}
+use Rattle.tree_format.specs.Dialects.{family_of, dialects_of, word_of, version_of, most_records, has_edges, has_open, prefixes_in}
 use Rattle.tree_format.specs.declared.plan_line.Stage.{Stage}
 use Rattle.tree_format.specs.declared.plan_line.Stage.TheVariants as due
 use Rattle.tree_format.specs.declared.plan_line.PlanLine.{PlanLine}
-use Rattle.tree_format.specs.Reading.{said, amount_in, place_in, all_of, version_line, path_line, chance_line, ceiling_line, count_line, most_positions, branch_line, bounded_line, tangent_line, node_line, is_end, record_line, stage_line, line_at}
+use Rattle.tree_format.specs.Reading.{said, amount_in, place_in, all_of, version_said, version_line, path_line, chance_line, ceiling_line, count_line, most_positions, branch_line, bounded_line, tangent_line, node_line, is_end, record_line, stage_line, line_at}
 use Rattle.text_rows.specs.Fields.{is_word}
 use Rattle.list_laws.proofs.Firsts.{position-none}
 use Rattle.tree_format.specs.ReadingLaws.{SummaryDecides}
@@ -75,6 +76,17 @@ front_any : (fs : List (List ℕ)) → list_any (λ f. length f == 0) (map front
 front_any [] = refl
 front_any (f ∷ fs) = rw (front_empty f, front_any fs) refl
 
+-- the words of first lines are short
+word_short : (family : Family) → length (word_of family) < 40
+word_short Plans = omega arith
+word_short Gaps = omega arith
+
+version_short : (v : Dialect) → length (version_of v) < 40
+version_short PlanOne = omega arith
+version_short PlanTwo = omega arith
+version_short GapOne = omega arith
+version_short GapTwo = omega arith
+
 module _ (p : Problem) (h : IsProblem p) where
   front_place : (f : List ℕ) → place_in p (front f) ≡ place_in p f
   front_place f = front_number (p.positions - 1) f (omega (arith, h.positions.1))
@@ -88,15 +100,15 @@ module _ (p : Problem) (h : IsProblem p) where
   front_places : (fs : List (List ℕ)) → all_of (place_in p) (map front fs) ≡ all_of (place_in p) fs
   front_places fs = front_all (place_in p) front_place fs
 
+  front_said : (number : List ℕ) (vs : List Dialect) → version_said vs (front number) ≡ version_said vs number
+  front_said number [] = refl
+  front_said number (v ∷ vs) = rw (front_word number (version_of v) (version_short v), front_said number vs) refl
+
   front_version : (family : Family) (fs : List (List ℕ)) → version_line family (map front fs) ≡ version_line family fs
-  front_version Plans [] = refl
-  front_version Plans (f ∷ []) = refl
-  front_version Plans (f ∷ g ∷ []) = rw (front_word f (codes "plan") (omega arith), front_word g (codes "1") (omega arith), front_word g (codes "2") (omega arith)) refl
-  front_version Plans (f ∷ g ∷ more ∷ rest) = refl
-  front_version Gaps [] = refl
-  front_version Gaps (f ∷ []) = refl
-  front_version Gaps (f ∷ g ∷ []) = rw (front_word f (codes "gap") (omega arith), front_word g (codes "1") (omega arith)) refl
-  front_version Gaps (f ∷ g ∷ more ∷ rest) = refl
+  front_version family [] = refl
+  front_version family (f ∷ []) = refl
+  front_version family (f ∷ g ∷ []) = rw (front_word f (word_of family) (word_short family), front_said g (dialects_of family)) refl
+  front_version family (f ∷ g ∷ more ∷ rest) = refl
 
   front_path : (fs : List (List ℕ)) → path_line p (map front fs) ≡ path_line p fs
   front_path [] = refl

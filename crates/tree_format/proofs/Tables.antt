@@ -12,17 +12,15 @@ use Rattle.bound_tree.specs.declared.gap.GapNode.{GapNode}
 use Rattle.tree_format.specs.declared.kind.PlanKind.{PlanKind}
 use Rattle.tree_format.specs.declared.kind.PlanKind.TheVariants.{BadLine, BadNumber, UnknownName, TooManyNodes, WrongCount, NoPlace, StillOpen}
 use Rattle.tree_format.specs.declared.plan_line.Dialect.{Dialect}
-use Rattle.tree_format.specs.declared.plan_line.Dialect.TheVariants.{One, Two, Gap}
-use Rattle.tree_format.specs.declared.plan_line.Family.TheVariants.{Plans, Gaps}
 use Rattle.tree_format.specs.declared.plan_line.Prefixes.{Prefixes}
 use Rattle.tree_format.specs.declared.plan_line.Prefixes.TheVariants.{Written, LeftOut}
-use Rattle.tree_format.specs.Dialects.{family_of, most_records, has_edges, has_open, prefixes_in}
+use Rattle.tree_format.specs.Dialects.{family_of, dialects_of, word_of, version_of, most_records, has_edges, has_open, prefixes_in}
 use Rattle.tree_format.specs.declared.plan_line.Stage.{Stage}
 use Rattle.tree_format.specs.declared.plan_line.Stage.TheVariants as due
 use Rattle.tree_format.specs.declared.plan_line.PlanLine.{PlanLine}
 use Rattle.tree_format.specs.declared.plan_line.PlanLine.TheVariants.{Version, Count}
 use Rattle.tree_format.specs.declared.record_lines.Bounded.{Bounded}
-use Rattle.tree_format.specs.Reading.{amount_in, place_in, in_front, all_of, path_said, chance_said, ceiling_said, count_said, most_positions, branch_of, branch_line, bounded_of, bounded_line, node_of, tangent_of, tangent_line, node_line, placed, node_said, is_end, ending, end_said, stage_line, line_at}
+use Rattle.tree_format.specs.Reading.{amount_in, place_in, in_front, all_of, version_said, path_said, chance_said, ceiling_said, count_said, most_positions, branch_of, branch_line, bounded_of, bounded_line, node_of, tangent_of, tangent_line, node_line, placed, node_said, is_end, ending, end_said, stage_line, line_at}
 use Rattle.text_rows.specs.Fields.{is_word, first_alone, behind_first}
 use Rattle.tree_format.specs.KindTable.{bounded_form, tangent_form, node_form, has_form, node_amounts, node_positions, is_bad_number, has_unknown, has_too_many, is_miscounted, lacks_place, awaits_record, has_no_place, is_still_open, KindsByTable}
 use Rattle.text_rows.specs.Kinds.{first_kind, fault_of}
@@ -65,18 +63,15 @@ chance_table None w = refl
 chance_table (Some v) None = refl
 chance_table (Some v) (Some w) = refl
 
--- `plan 1` or `plan 2`
-version_table : (plan one two : Bool) → fault_of (cond plan (cond one (Ok (Version One)) (cond two (Ok (Version Two)) (Err BadLine))) (Err BadLine)) ≡ table_of (plan && (one || two)) false false false
-version_table false one two = refl
-version_table true true two = refl
-version_table true false true = refl
-version_table true false false = refl
+-- the first line: one dialect or the others
+dialect_table : (v : Dialect) (here others : Bool) (r : Result PlanLine PlanKind) → fault_of r ≡ table_of others false false false → fault_of (cond here (Ok (Version v)) r) ≡ table_of (here || others) false false false
+dialect_table v true others r e = refl
+dialect_table v false others r e = e
 
--- `gap 1`
-gap_table : (gap one : Bool) → fault_of (cond gap (cond one (Ok (Version Gap)) (Err BadLine)) (Err BadLine)) ≡ table_of (gap && one) false false false
-gap_table false one = refl
-gap_table true true = refl
-gap_table true false = refl
+version_table : (word : Bool) (number : List ℕ) (vs : List Dialect) → fault_of (cond word (version_said vs number) (Err BadLine)) ≡ table_of (word && list_any (λ v. is_word number (version_of v)) vs) false false false
+version_table false number vs = refl
+version_table true number [] = refl
+version_table true number (v ∷ vs) = dialect_table v (is_word number (version_of v)) _ (version_said vs number) (version_table true number vs)
 
 -- `ceiling N`
 ceiling_table : (n : Option ℕ) → fault_of (ceiling_said n) ≡ tail_of ((is_none n || false) || false) false false
@@ -232,14 +227,10 @@ count_table most true (Some n) = many_table (nat_le n most) n
 
 stage_table : (p : Problem) (v : Dialect) (stage : Stage) (expected fields : List (List ℕ)) → fault_of (stage_line p v stage expected fields)
     ≡ first_kind ((not (has_form p v stage fields), BadLine) ∷ (is_bad_number p stage fields, BadNumber) ∷ (has_unknown p stage fields, UnknownName) ∷ (has_too_many v stage fields, TooManyNodes) ∷ (is_miscounted stage fields, WrongCount) ∷ (has_no_place v stage expected fields, NoPlace) ∷ (is_still_open v stage expected fields, StillOpen) ∷ [])
-stage_table p v (due.Version Plans) expected [] = refl
-stage_table p v (due.Version Plans) expected (word ∷ []) = refl
-stage_table p v (due.Version Plans) expected (word ∷ version ∷ []) = version_table (is_word word (codes "plan")) (is_word version (codes "1")) (is_word version (codes "2"))
-stage_table p v (due.Version Plans) expected (word ∷ version ∷ more ∷ rest) = refl
-stage_table p v (due.Version Gaps) expected [] = refl
-stage_table p v (due.Version Gaps) expected (word ∷ []) = refl
-stage_table p v (due.Version Gaps) expected (word ∷ version ∷ []) = gap_table (is_word word (codes "gap")) (is_word version (codes "1"))
-stage_table p v (due.Version Gaps) expected (word ∷ version ∷ more ∷ rest) = refl
+stage_table p v (due.Version family) expected [] = refl
+stage_table p v (due.Version family) expected (word ∷ []) = refl
+stage_table p v (due.Version family) expected (word ∷ number ∷ []) = version_table (is_word word (word_of family)) number (dialects_of family)
+stage_table p v (due.Version family) expected (word ∷ number ∷ more ∷ rest) = refl
 stage_table p v due.Path expected [] = refl
 stage_table p v due.Path expected (word ∷ names) =
     let o = all_of (position_named p) names in

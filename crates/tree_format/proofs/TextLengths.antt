@@ -12,15 +12,16 @@ use Rattle.search_model.specs.Problem.{Problem, IsProblem, position_name}
 use Rattle.bound_tree.specs.declared.node.Kind.TheVariants.{Branch, Whole, Mean, Tangent, Edge}
 use Rattle.bound_tree.specs.declared.gap.GapKind.{GapKind}
 use Rattle.bound_tree.specs.declared.gap.GapKind.TheVariants.{Closed, Waiting}
+use Rattle.bound_tree.specs.declared.gap.Numbers.TheVariants.{Means}
 use Rattle.bound_tree.specs.declared.gap.GapNode.{GapNode}
 use Rattle.bound_tree.specs.Gaps.{shape_of_kind, shape_of, closed_node, gap_of}
 use Rattle.bound_tree.specs.declared.node.TreeNode.{TreeNode}
 use Rattle.bound_tree.specs.declared.plan.Plan.{Plan}
 use Rattle.tree_format.specs.declared.plan_line.Dialect.{Dialect}
-use Rattle.tree_format.specs.declared.plan_line.Dialect.TheVariants.{One, Two, Gap}
+use Rattle.tree_format.specs.declared.plan_line.Dialect.TheVariants.{PlanOne, PlanTwo, GapOne, GapTwo}
 use Rattle.tree_format.specs.declared.plan_line.Prefixes.{Prefixes}
 use Rattle.tree_format.specs.declared.plan_line.Prefixes.TheVariants.{Written, LeftOut}
-use Rattle.tree_format.specs.Dialects.{prefixes_in}
+use Rattle.tree_format.specs.Dialects.{version_row, prefixes_in}
 use Rattle.tree_format.specs.PlanText.{numbers, written, node_row, path_rows, chance_row, ceiling_rows, count_row, head_rows, text_in, ArePositions, IsPrintableKind, IsPrintableRecord, IsPrintable, IsNarrowKind, IsNarrowNode, IsNarrow, IsTextOfPlan}
 use Rattle.tree_format.specs.RecordParts.{bound_fields, reference_of}
 use Rattle.tree_format.specs.TextLaws.{PlanTextIsShort}
@@ -44,6 +45,13 @@ chance_short value weight v w =
 
 count_short : (n : ℕ) → n < 2 ^ 128 → length (text_of (count_row n ∷ [])) ≤ 46
 count_short n narrow = omega (arith, length-append (decimal n) (10 ∷ []), digits_fit n narrow)
+
+-- the first line
+first_short : (v : Dialect) → length (text_of (version_row v ∷ [])) ≤ 7
+first_short PlanOne = omega arith
+first_short PlanTwo = omega arith
+first_short GapOne = omega arith
+first_short GapTwo = omega arith
 
 -- parts one after the other
 joined : (a b c d e : List ℕ) → length (a ++ (b ++ (c ++ (d ++ e)))) ≡ length a + (length b + (length c + (length d + length e)))
@@ -98,21 +106,14 @@ module _ (p : Problem) (sound : IsProblem p) where
       omega (arith, spaced_short 24 (map (position_name p) q) each, length-map {A = ℕ} {B = List ℕ}, short)
 
   path_short : (v : Dialect) (q : List ℕ) → ArePositions p q → length q ≤ 32 → length (text_of (path_rows v p q)) ≤ 812
-  path_short One q places short =
+  path_short v q places short =
       let names = map (position_name p) q in
-      let line : text_of (path_rows One p q) ≡ codes "plan 1" ++ 10 ∷ ((codes "path" ++ spaced names) ++ 10 ∷ []) = ap (λ (x : List ℕ). codes "plan 1" ++ 10 ∷ (x ++ 10 ∷ [])) (join-fields (codes "path") names) in
-      omega (arith, ap length line, length-append (codes "path" ++ spaced names) (10 ∷ []), names_short q places short)
-  path_short Two q places short =
-      let names = map (position_name p) q in
-      let line : text_of (path_rows Two p q) ≡ codes "plan 2" ++ 10 ∷ ((codes "path" ++ spaced names) ++ 10 ∷ []) = ap (λ (x : List ℕ). codes "plan 2" ++ 10 ∷ (x ++ 10 ∷ [])) (join-fields (codes "path") names) in
-      omega (arith, ap length line, length-append (codes "path" ++ spaced names) (10 ∷ []), names_short q places short)
-  path_short Gap q places short =
-      let names = map (position_name p) q in
-      let line : text_of (path_rows Gap p q) ≡ codes "gap 1" ++ 10 ∷ ((codes "path" ++ spaced names) ++ 10 ∷ []) = ap (λ (x : List ℕ). codes "gap 1" ++ 10 ∷ (x ++ 10 ∷ [])) (join-fields (codes "path") names) in
-      omega (arith, ap length line, length-append (codes "path" ++ spaced names) (10 ∷ []), names_short q places short)
+      let row : List (List ℕ) = codes "path" ∷ names in
+      let line : text_of (row ∷ []) ≡ (codes "path" ++ spaced names) ++ 10 ∷ [] = ap (λ (x : List ℕ). x ++ 10 ∷ []) (join-fields (codes "path") names) in
+      omega (arith, ap length (text_of-append (version_row v ∷ []) (row ∷ [])), length-append (text_of (version_row v ∷ [])) (text_of (row ∷ [])), ap length line, length-append (codes "path" ++ spaced names) (10 ∷ []), first_short v, names_short q places short)
 
   -- the text of either version, which has no ceiling
-  text_in-short : (v : Dialect) (plan : Plan) → ceiling_rows v plan.standing.value ≡ [] → IsPrintable p plan → IsNarrow plan → length (text_in v p (gap_of plan)) ≤ 949 + length plan.tree * 298
+  text_in-short : (v : Dialect) (plan : Plan) → ceiling_rows v plan.standing.value ≡ [] → IsPrintable p plan → IsNarrow plan → length (text_in v p (gap_of Means plan)) ≤ 949 + length plan.tree * 298
   text_in-short v plan none printable narrow =
       let s = plan.standing in
       let path = path_short v s.path printable.positions printable.short in
@@ -130,11 +131,11 @@ module _ (p : Problem) (sound : IsProblem p) where
       (text_of (head_rows v p s plan.weight s.value (length plan.tree)))
       (text_of (map (λ r. node_row v (closed_node r)) plan.tree))
       (codes "end" ++ 10 ∷ []) in
-      omega (arith, ap length (plan_parts v p plan), parts, ap length (head_parts v p s plan.weight s.value (length plan.tree)), head, path, chance, ceiling, count, records)
+      omega (arith, ap length (plan_parts v p Means plan), parts, ap length (head_parts v p s plan.weight s.value (length plan.tree)), head, path, chance, ceiling, count, records)
 
   text_short : (plan : Plan) (text : List ℕ) → IsTextOfPlan p plan text → length text ≤ 949 + length plan.tree * 298
-  text_short plan text (inl one) = omega (arith, ap length one.spelled, text_in-short One plan refl one.printable one.narrow)
-  text_short plan text (inr two) = omega (arith, ap length two.spelled, text_in-short Two plan refl two.printable two.narrow)
+  text_short plan text (inl one) = omega (arith, ap length one.spelled, text_in-short PlanOne plan refl one.printable one.narrow)
+  text_short plan text (inr two) = omega (arith, ap length two.spelled, text_in-short PlanTwo plan refl two.printable two.narrow)
 
 pub plan_text_is_short : PlanTextIsShort
 plan_text_is_short p plan text sound is = text_short p sound plan text is

@@ -15,8 +15,8 @@ use Rattle.tree_format.specs.Feeding.{HasRead}
 
 -- a plan with what an item more says
 abbrev pub with_item : GapPlan → PlanItem → GapPlan
-with_item plan (Head standing weight ceiling count) = record { standing = standing; weight = weight; ceiling = ceiling; nodes = plan.nodes }
-with_item plan (Node r) = record { standing = plan.standing; weight = plan.weight; ceiling = plan.ceiling; nodes = plan.nodes ++ r ∷ [] }
+with_item plan (Head standing weight ceiling numbers count) = record { standing = standing; weight = weight; ceiling = ceiling; numbers = numbers; nodes = plan.nodes }
+with_item plan (Node r) = record { standing = plan.standing; weight = plan.weight; ceiling = plan.ceiling; numbers = plan.numbers; nodes = plan.nodes ++ r ∷ [] }
 with_item plan End = plan
 
 -- and with what items more say, one after the other
@@ -30,7 +30,7 @@ plan_in kept = record { standing = kept.standing; weight = kept.weight; tree = k
 
 -- and the gap plan
 abbrev pub gap_in : Collected → GapPlan
-gap_in kept = record { standing = kept.standing; weight = kept.weight; ceiling = kept.ceiling; nodes = kept.nodes.items }
+gap_in kept = record { standing = kept.standing; weight = kept.weight; ceiling = kept.ceiling; numbers = kept.numbers; nodes = kept.nodes.items }
 
 -- of the texts of plans a plan is kept, and of those of gap plans a gap plan
 abbrev pub Keeps : Family → Collected → GapPlan → Type 0

@@ -3,23 +3,41 @@ use Rattle.std.specs.Prelude.{ℕ, Bool, true, false, List, [], ◌∷◌, codes
 use Rattle.tree_format.specs.declared.plan_line.Family.{Family}
 use Rattle.tree_format.specs.declared.plan_line.Family.TheVariants.{Plans, Gaps}
 use Rattle.tree_format.specs.declared.plan_line.Dialect.{Dialect}
-use Rattle.tree_format.specs.declared.plan_line.Dialect.TheVariants.{One, Two, Gap}
+use Rattle.tree_format.specs.declared.plan_line.Dialect.TheVariants.{PlanOne, PlanTwo, GapOne, GapTwo}
 use Rattle.tree_format.specs.declared.plan_line.Prefixes.{Prefixes}
 use Rattle.tree_format.specs.declared.plan_line.Prefixes.TheVariants.{Written, LeftOut}
 use Rattle.tree_format.specs.declared.dialects.TheConstants.{MOST_GAP_NODES}
+use Rattle.bound_tree.specs.declared.gap.Numbers.{Numbers}
+use Rattle.bound_tree.specs.declared.gap.Numbers.TheVariants.{Means, Edges}
 use Rattle.bound_tree.specs.declared.tree.TheConstants.{MOST_NODES}
 
--- plans have two dialects, gap plans one
+-- plans have two dialects, and so have gap plans
 abbrev pub family_of : Dialect → Family
-family_of One = Plans
-family_of Two = Plans
-family_of Gap = Gaps
+family_of PlanOne = Plans
+family_of PlanTwo = Plans
+family_of GapOne = Gaps
+family_of GapTwo = Gaps
+
+-- the dialects of a family, by their versions
+abbrev pub dialects_of : Family → List Dialect
+dialects_of Plans = PlanOne ∷ PlanTwo ∷ []
+dialects_of Gaps = GapOne ∷ GapTwo ∷ []
+
+-- the word of their first lines
+abbrev pub word_of : Family → List ℕ
+word_of Plans = codes "plan"
+word_of Gaps = codes "gap"
+
+-- and the number behind it
+abbrev pub version_of : Dialect → List ℕ
+version_of PlanOne = codes "1"
+version_of PlanTwo = codes "2"
+version_of GapOne = codes "1"
+version_of GapTwo = codes "2"
 
 -- the first line
 abbrev pub version_row : Dialect → List (List ℕ)
-version_row One = codes "plan" ∷ codes "1" ∷ []
-version_row Two = codes "plan" ∷ codes "2" ∷ []
-version_row Gap = codes "gap" ∷ codes "1" ∷ []
+version_row v = word_of (family_of v) ∷ version_of v ∷ []
 
 -- the most records that a text may have
 abbrev pub most_records : Family → ℕ
@@ -33,18 +51,33 @@ first_line Gaps = 6
 
 -- whether it has the letter `E`
 abbrev pub has_edges : Dialect → Bool
-has_edges One = false
-has_edges Two = true
-has_edges Gap = true
+has_edges PlanOne = false
+has_edges PlanTwo = true
+has_edges GapOne = true
+has_edges GapTwo = true
 
 -- whether nodes may wait: it has the letter `O`, and the line `ceiling N` stands behind `chance V W`
 abbrev pub has_open : Dialect → Bool
-has_open One = false
-has_open Two = false
-has_open Gap = true
+has_open PlanOne = false
+has_open PlanTwo = false
+has_open GapOne = true
+has_open GapTwo = true
 
 -- where it has the prefixes of its records
 abbrev pub prefixes_in : Dialect → Prefixes
-prefixes_in One = Written
-prefixes_in Two = LeftOut
-prefixes_in Gap = LeftOut
+prefixes_in PlanOne = Written
+prefixes_in PlanTwo = LeftOut
+prefixes_in GapOne = LeftOut
+prefixes_in GapTwo = LeftOut
+
+-- which bounds the numbers of its nodes that wait are; where none waits, mean bounds
+abbrev pub numbers_in : Dialect → Numbers
+numbers_in PlanOne = Means
+numbers_in PlanTwo = Means
+numbers_in GapOne = Means
+numbers_in GapTwo = Edges
+
+-- the dialect of the gap plans with these numbers
+abbrev pub dialect_with : Numbers → Dialect
+dialect_with Means = GapOne
+dialect_with Edges = GapTwo

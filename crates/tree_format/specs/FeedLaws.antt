@@ -2,6 +2,7 @@
 use Rattle.std.specs.Prelude.{ℕ, ◌≡◌, ◌≤◌, ◌⊎◌, List, [], ◌∷◌, ◌++◌, map, length, take, Ok, Err}
 use Rattle.search_model.specs.declared.standing.Standing.{Standing}
 use Rattle.search_model.specs.Problem.{Problem, IsProblem}
+use Rattle.bound_tree.specs.declared.gap.Numbers.{Numbers}
 use Rattle.bound_tree.specs.declared.gap.GapNode.{GapNode}
 use Rattle.bound_tree.specs.declared.gap.GapPlan.{GapPlan}
 use Rattle.tree_format.specs.declared.plan_line.Family.{Family}
@@ -42,11 +43,12 @@ pub record AreInOrder (family : Family) (items : List PlanItem) : Type 0 where
   pub standing : Standing
   pub weight : ℕ
   pub ceiling : ℕ
+  pub numbers : Numbers
   pub nodes : ℕ
   pub records : List GapNode
   pub few : nodes ≤ most_records family
   pub within : length records ≤ nodes
-  pub order : (items ≡ Head standing weight ceiling nodes ∷ map (λ r. Node r) records) ⊎ ((length records ≡ nodes) × (items ≡ Head standing weight ceiling nodes ∷ (map (λ r. Node r) records ++ End ∷ [])))
+  pub order : (items ≡ Head standing weight ceiling numbers nodes ∷ map (λ r. Node r) records) ⊎ ((length records ≡ nodes) × (items ≡ Head standing weight ceiling numbers nodes ∷ (map (λ r. Node r) records ++ End ∷ [])))
 
 -- the items that bytes tell are none, or stand in that order
 abbrev pub ItemsInOrder : Type 0

@@ -13,6 +13,7 @@ use Rattle.tree_format.specs.declared.plan_line.PlanLine.TheVariants.{Version, P
 use Rattle.tree_format.specs.declared.plan_item.PlanItem.TheVariants as item
 use Rattle.tree_format.specs.declared.plan_item.Step.{Step}
 use Rattle.tree_format.specs.declared.plan_item.Step.TheVariants.{More, Item, Fault}
+use Rattle.tree_format.specs.Dialects.{numbers_in}
 use Rattle.text_rows.specs.Fields.{exact_fields}
 use Rattle.tree_format.specs.Gathering.{Gathered, nothing_gathered, gathered, with_byte}
 use Rattle.tree_format.specs.Reading.{line_at, next, taken, is_ended, at_line_number}
@@ -33,7 +34,7 @@ stand_at number d plan begun = record { number = number; due = d; standing = pla
 
 -- the head of a plan, as far as it was read
 abbrev pub head_of : Stand → GapPlan
-head_of s = record { standing = s.standing; weight = s.weight; ceiling = s.ceiling; nodes = [] }
+head_of s = record { standing = s.standing; weight = s.weight; ceiling = s.ceiling; numbers = numbers_in s.due.dialect; nodes = [] }
 
 -- at the end of a line that says this
 abbrev pub moved : Problem → Stand → PlanLine → Stand
@@ -52,7 +53,7 @@ step_of s (Version v) = More
 step_of s (Path q) = More
 step_of s (Chance v w) = More
 step_of s (Ceiling n) = More
-step_of s (Count n) = Item (item.Head s.standing s.weight s.ceiling n)
+step_of s (Count n) = Item (item.Head s.standing s.weight s.ceiling (numbers_in s.due.dialect) n)
 step_of s (Node r) = Item (item.Node r)
 step_of s End = Item item.End
 

@@ -25,7 +25,7 @@ use Rattle.tree_format.specs.Dialects.{most_records}
 
 -- the items of a gap plan, and so of a plan: its head, its nodes in their order, and its end
 abbrev pub items_of : GapPlan → List PlanItem
-items_of plan = Head plan.standing plan.weight plan.ceiling (length plan.nodes) ∷ (map (λ r. Node r) plan.nodes ++ End ∷ [])
+items_of plan = Head plan.standing plan.weight plan.ceiling plan.numbers (length plan.nodes) ∷ (map (λ r. Node r) plan.nodes ++ End ∷ [])
 
 -- those that the lines of a plan have told where this is due
 abbrev pub told : Stage → GapPlan → List PlanItem
@@ -34,7 +34,7 @@ told due.Path plan = []
 told due.Chance plan = []
 told due.Ceiling plan = []
 told due.Count plan = []
-told (due.Records left) plan = Head plan.standing plan.weight plan.ceiling (length plan.nodes + left) ∷ map (λ r. Node r) plan.nodes
+told (due.Records left) plan = Head plan.standing plan.weight plan.ceiling plan.numbers (length plan.nodes + left) ∷ map (λ r. Node r) plan.nodes
 told due.Ended plan = items_of plan
 
 -- These bytes are right lines and the beginning of the next, and nothing stands behind the end. The lines tell these items,
@@ -93,7 +93,7 @@ pub record IsNode (family : Family) (p : Problem) (node : GapNode) : Type 0 wher
   pub kind : IsKindOf family node.kind
 
 abbrev pub IsItem : Family → Problem → PlanItem → Type 0
-IsItem family p (Head standing weight ceiling nodes) = IsHead family p standing.path nodes
+IsItem family p (Head standing weight ceiling numbers nodes) = IsHead family p standing.path nodes
 IsItem family p (Node r) = IsNode family p r
 IsItem family p End = Unit {0}
 

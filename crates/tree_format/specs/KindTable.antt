@@ -6,10 +6,9 @@ use Rattle.bound_tree.specs.Places.{first_of}
 use Rattle.tree_format.specs.declared.due.Due.{Due}
 use Rattle.tree_format.specs.declared.plan_line.Dialect.{Dialect}
 use Rattle.tree_format.specs.declared.plan_line.Family.{Family}
-use Rattle.tree_format.specs.declared.plan_line.Family.TheVariants.{Plans, Gaps}
 use Rattle.tree_format.specs.declared.plan_line.Prefixes.{Prefixes}
 use Rattle.tree_format.specs.declared.plan_line.Prefixes.TheVariants.{Written, LeftOut}
-use Rattle.tree_format.specs.Dialects.{family_of, most_records, has_edges, has_open, prefixes_in}
+use Rattle.tree_format.specs.Dialects.{family_of, dialects_of, word_of, version_of, most_records, has_edges, has_open, prefixes_in}
 use Rattle.tree_format.specs.declared.plan_line.Stage.{Stage}
 use Rattle.tree_format.specs.declared.plan_line.Stage.TheVariants as due
 use Rattle.tree_format.specs.declared.kind.PlanKind.{PlanKind}
@@ -20,11 +19,10 @@ use Rattle.text_rows.specs.Kinds.{first_kind, fault_of}
 
 -- The keyword or letter and the number of fields.
 
--- `plan 1` or `plan 2`; or `gap 1`
+-- the word of the family, and the number of one of its dialects
 abbrev pub version_form : Family → List (List ℕ) → Bool
-version_form Plans (word ∷ number ∷ []) = is_word word (codes "plan") && (is_word number (codes "1") || is_word number (codes "2"))
-version_form Gaps (word ∷ number ∷ []) = is_word word (codes "gap") && is_word number (codes "1")
-version_form _ _ = false
+version_form family (word ∷ number ∷ []) = is_word word (word_of family) && list_any (λ v. is_word number (version_of v)) (dialects_of family)
+version_form family _ = false
 
 -- `path` and 1 to 32 names
 abbrev pub path_form : List (List ℕ) → Bool

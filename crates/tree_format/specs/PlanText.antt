@@ -1,6 +1,7 @@
 -- The text of a plan: it has one spelling of version 1 where no record is an edge bound, and one of version 2 where its
--- records have the prefixes that are expected. A gap plan has one spelling where its nodes have the prefixes that are
--- expected. A plan is written as the gap plan in which all nodes are closed and the ceiling is the value.
+-- records have the prefixes that are expected. A gap plan has one spelling, of the version of its numbers, where its nodes
+-- have the prefixes that are expected. A plan is written as the gap plan in which all nodes are closed and the ceiling is the
+-- value.
 use Rattle.std.specs.Prelude.{ℕ, ◌^◌, ◌≡◌, ◌⊎◌, ◌<◌, ◌≤◌, if◌then◌else◌, List, [], ◌∷◌, ◌++◌, map, length, codes, All}
 use Rattle.std.specs.Fmt.{decimal}
 use Rattle.text_rows.specs.Rows.{text_of}
@@ -13,14 +14,15 @@ use Rattle.bound_tree.specs.declared.plan.Plan.{Plan}
 use Rattle.bound_tree.specs.declared.gap.GapKind.{GapKind}
 use Rattle.bound_tree.specs.declared.gap.GapKind.TheVariants.{Closed, Waiting}
 use Rattle.bound_tree.specs.declared.gap.GapNode.{GapNode}
+use Rattle.bound_tree.specs.declared.gap.Numbers.TheVariants.{Means}
 use Rattle.bound_tree.specs.declared.gap.GapPlan.{GapPlan}
 use Rattle.bound_tree.specs.Gaps.{shape_of, gap_of}
 use Rattle.bound_tree.specs.Places.{AreInPlace}
 use Rattle.tree_format.specs.declared.plan_line.Dialect.{Dialect}
-use Rattle.tree_format.specs.declared.plan_line.Dialect.TheVariants.{One, Two, Gap}
+use Rattle.tree_format.specs.declared.plan_line.Dialect.TheVariants.{PlanOne, PlanTwo}
 use Rattle.tree_format.specs.declared.plan_line.Prefixes.{Prefixes}
 use Rattle.tree_format.specs.declared.plan_line.Prefixes.TheVariants.{Written, LeftOut}
-use Rattle.tree_format.specs.Dialects.{version_row, has_open, prefixes_in}
+use Rattle.tree_format.specs.Dialects.{version_row, has_open, prefixes_in, dialect_with}
 use Rattle.tree_format.specs.declared.dialects.TheConstants.{MOST_GAP_NODES}
 use Rattle.bound_tree.specs.declared.tree.TheConstants.{MOST_NODES}
 
@@ -80,13 +82,14 @@ abbrev pub text_in : Dialect → Problem → GapPlan → List ℕ
 text_in v p plan = text_of (plan_rows v p plan)
 
 abbrev pub plan_text : Problem → Plan → List ℕ
-plan_text p plan = text_in One p (gap_of plan)
+plan_text p plan = text_in PlanOne p (gap_of Means plan)
 
 abbrev pub plan_text_2 : Problem → Plan → List ℕ
-plan_text_2 p plan = text_in Two p (gap_of plan)
+plan_text_2 p plan = text_in PlanTwo p (gap_of Means plan)
 
+-- that of a gap plan is of the dialect of its numbers
 abbrev pub gap_text : Problem → GapPlan → List ℕ
-gap_text p plan = text_in Gap p plan
+gap_text p plan = text_in (dialect_with plan.numbers) p plan
 
 -- all are positions of the problem
 abbrev pub ArePositions : Problem → List ℕ → Type 0

@@ -10,16 +10,17 @@ use Rattle.bound_tree.specs.declared.plan.Plan.{Plan}
 use Rattle.bound_tree.specs.declared.gap.GapKind.{GapKind}
 use Rattle.bound_tree.specs.declared.gap.GapKind.TheVariants.{Closed, Waiting}
 use Rattle.bound_tree.specs.declared.gap.GapNode.{GapNode}
+use Rattle.bound_tree.specs.declared.gap.Numbers.TheVariants.{Means}
 use Rattle.bound_tree.specs.declared.gap.GapPlan.{GapPlan}
 use Rattle.bound_tree.specs.Gaps.{shape_of_kind, plan_of}
 use Rattle.bound_tree.specs.Places.{first_of, expected_behind}
 use Rattle.tree_format.specs.declared.plan_line.Family.{Family}
 use Rattle.tree_format.specs.declared.plan_line.Family.TheVariants.{Plans, Gaps}
 use Rattle.tree_format.specs.declared.plan_line.Dialect.{Dialect}
-use Rattle.tree_format.specs.declared.plan_line.Dialect.TheVariants.{One, Two, Gap}
+use Rattle.tree_format.specs.declared.plan_line.Dialect.TheVariants.{PlanOne}
 use Rattle.tree_format.specs.declared.plan_line.Prefixes.{Prefixes}
 use Rattle.tree_format.specs.declared.plan_line.Prefixes.TheVariants.{Written, LeftOut}
-use Rattle.tree_format.specs.Dialects.{family_of, most_records, has_edges, has_open, prefixes_in}
+use Rattle.tree_format.specs.Dialects.{family_of, dialects_of, word_of, version_of, most_records, has_edges, has_open, prefixes_in, numbers_in}
 use Rattle.tree_format.specs.declared.due.Due.{Due}
 use Rattle.tree_format.specs.declared.plan_line.Stage.{Stage}
 use Rattle.tree_format.specs.declared.plan_line.Stage.TheVariants as due
@@ -63,18 +64,14 @@ all_of says (field ∷ fields) = in_front (says field) (all_of says fields)
 
 -- The lines above the records.
 
--- `plan 1` or `plan 2`
-abbrev pub version_said : List ℕ → Result PlanLine PlanKind
-version_said number = if is_word number (codes "1") then Ok (Version One) else (if is_word number (codes "2") then Ok (Version Two) else Err BadLine)
-
--- `gap 1`
-abbrev pub gap_said : List ℕ → Result PlanLine PlanKind
-gap_said number = if is_word number (codes "1") then Ok (Version Gap) else Err BadLine
+-- the dialect with this number, of these
+abbrev pub version_said : List Dialect → List ℕ → Result PlanLine PlanKind
+version_said [] number = Err BadLine
+version_said (v ∷ vs) number = if is_word number (version_of v) then Ok (Version v) else version_said vs number
 
 -- the first line of the texts of a family
 abbrev pub version_line : Family → List (List ℕ) → Result PlanLine PlanKind
-version_line Plans (word ∷ number ∷ []) = if is_word word (codes "plan") then version_said number else Err BadLine
-version_line Gaps (word ∷ number ∷ []) = if is_word word (codes "gap") then gap_said number else Err BadLine
+version_line family (word ∷ number ∷ []) = if is_word word (word_of family) then version_said (dialects_of family) number else Err BadLine
 version_line _ _ = Err BadLine
 
 -- `path NAME ..`
@@ -266,20 +263,20 @@ next p d End = with_stage due.Ended d
 
 -- the first line of a text of the family is due, and then a record would have the empty prefix
 abbrev pub at_start : Family → Due
-at_start family = record { dialect = One; stage = due.Version family; expected = [] ∷ [] }
+at_start family = record { dialect = PlanOne; stage = due.Version family; expected = [] ∷ [] }
 
 -- nothing was read
 abbrev pub blank_plan : GapPlan
-blank_plan = record { standing = record { path = []; value = 0 }; weight = 0; ceiling = 0; nodes = [] }
+blank_plan = record { standing = record { path = []; value = 0 }; weight = 0; ceiling = 0; numbers = Means; nodes = [] }
 
 -- what was read, and a line more; the ceiling is the value where no line says it
 abbrev pub taken : GapPlan → PlanLine → GapPlan
-taken plan (Version v) = plan
-taken plan (Path q) = record { standing = record { path = q; value = plan.standing.value }; weight = plan.weight; ceiling = plan.ceiling; nodes = plan.nodes }
-taken plan (Chance v w) = record { standing = record { path = plan.standing.path; value = v }; weight = w; ceiling = v; nodes = plan.nodes }
-taken plan (Ceiling n) = record { standing = plan.standing; weight = plan.weight; ceiling = n; nodes = plan.nodes }
+taken plan (Version v) = record { standing = plan.standing; weight = plan.weight; ceiling = plan.ceiling; numbers = numbers_in v; nodes = plan.nodes }
+taken plan (Path q) = record { standing = record { path = q; value = plan.standing.value }; weight = plan.weight; ceiling = plan.ceiling; numbers = plan.numbers; nodes = plan.nodes }
+taken plan (Chance v w) = record { standing = record { path = plan.standing.path; value = v }; weight = w; ceiling = v; numbers = plan.numbers; nodes = plan.nodes }
+taken plan (Ceiling n) = record { standing = plan.standing; weight = plan.weight; ceiling = n; numbers = plan.numbers; nodes = plan.nodes }
 taken plan (Count n) = plan
-taken plan (Node r) = record { standing = plan.standing; weight = plan.weight; ceiling = plan.ceiling; nodes = plan.nodes ++ r ∷ [] }
+taken plan (Node r) = record { standing = plan.standing; weight = plan.weight; ceiling = plan.ceiling; numbers = plan.numbers; nodes = plan.nodes ++ r ∷ [] }
 taken plan End = plan
 
 -- the last line was read

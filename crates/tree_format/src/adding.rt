@@ -53,6 +53,7 @@ fn behind_chance(dialect: Dialect) -> Stage
 
 /// Goes on behind a line that says this.
 pub fn pass_line(due: &mut Due, sc: &Scenario, said: &PlanLine)
+    ensures dialect { due.new.dialect ≡ (next sc.now due.old said.now).dialect }
     ensures stage { due.new.stage ≡ (next sc.now due.old said.now).stage }
     ensures due { All (IsLegal sc.now) due.old.expected → due.new ≡ next sc.now due.old said.now }
 {

@@ -11,7 +11,7 @@ use crate::feed::PlanFeed;
 use crate::plan_item::{Fed, PlanItem, Step};
 use crate::plan_line::Family;
 use crate::stop::PlanStop;
-use bound_tree::{GapKind, GapNode, Kind, TreeNode};
+use bound_tree::{GapKind, GapNode, Kind, Numbers, TreeNode};
 use exact_parts::NoMemory;
 use search_model::{Path, Scenario, Standing};
 use std::alloc::Global;
@@ -22,6 +22,7 @@ pub struct Collected {
     pub standing: Standing,
     pub weight: u128,
     pub ceiling: u128,
+    pub numbers: Numbers,
     pub records: Vec<TreeNode>,
     pub nodes: Vec<GapNode>,
 }
@@ -48,10 +49,11 @@ fn keep(kept: &mut Collected, family: Family, item: PlanItem) -> Result<(), NoMe
         Keeps family kept.new (with_item plan item)) }
 {
     match item {
-        PlanItem::Head(standing, weight, ceiling, _) => {
+        PlanItem::Head(standing, weight, ceiling, numbers, _) => {
             kept.standing = standing;
             kept.weight = weight;
             kept.ceiling = ceiling;
+            kept.numbers = numbers;
         }
         PlanItem::Node(GapNode { prefix, kind }) => match family {
             Family::Plans => kept.records.push(record_of(&GapNode { prefix, kind }))?,
@@ -123,6 +125,7 @@ fn nothing_collected(alloc: Global) -> Collected
         },
         weight: 0,
         ceiling: 0,
+        numbers: Numbers::Means,
         records: Vec::new(alloc),
         nodes: Vec::new(alloc),
     }

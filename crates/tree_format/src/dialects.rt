@@ -1,10 +1,10 @@
 //! What the dialects differ in.
 
 ghost use Rattle.std.specs.Prelude.{◌≡◌, ◌≤◌};
-ghost use Rattle.tree_format.specs.Dialects.{family_of as family_of_lem, most_records as most_records_lem, first_line as first_line_lem, has_edges as has_edges_lem, has_open as has_open_lem, prefixes_in as prefixes_in_lem};
+ghost use Rattle.tree_format.specs.Dialects.{family_of as family_of_lem, most_records as most_records_lem, first_line as first_line_lem, has_edges as has_edges_lem, has_open as has_open_lem, prefixes_in as prefixes_in_lem, numbers_in as numbers_in_lem, dialect_with};
 
 use crate::plan_line::{Dialect, Family, Prefixes};
-use bound_tree::MOST_NODES;
+use bound_tree::{MOST_NODES, Numbers};
 
 /// The most nodes that a gap plan may have: as many as 65,536 records of 64 children each leave.
 pub const MOST_GAP_NODES: u64 = 4_194_305;
@@ -14,8 +14,8 @@ pub fn family_of(dialect: Dialect) -> Family
     ensures { result ≡ family_of_lem dialect }
 {
     match dialect {
-        Dialect::One | Dialect::Two => Family::Plans,
-        Dialect::Gap => Family::Gaps,
+        Dialect::PlanOne | Dialect::PlanTwo => Family::Plans,
+        Dialect::GapOne | Dialect::GapTwo => Family::Gaps,
     }
 }
 
@@ -45,8 +45,8 @@ pub fn has_edges(dialect: Dialect) -> bool
     ensures { result ≡ has_edges_lem dialect }
 {
     match dialect {
-        Dialect::One => false,
-        Dialect::Two | Dialect::Gap => true,
+        Dialect::PlanOne => false,
+        Dialect::PlanTwo | Dialect::GapOne | Dialect::GapTwo => true,
     }
 }
 
@@ -55,8 +55,8 @@ pub fn has_open(dialect: Dialect) -> bool
     ensures { result ≡ has_open_lem dialect }
 {
     match dialect {
-        Dialect::One | Dialect::Two => false,
-        Dialect::Gap => true,
+        Dialect::PlanOne | Dialect::PlanTwo => false,
+        Dialect::GapOne | Dialect::GapTwo => true,
     }
 }
 
@@ -65,7 +65,27 @@ pub fn prefixes_in(dialect: Dialect) -> Prefixes
     ensures { result ≡ prefixes_in_lem dialect }
 {
     match dialect {
-        Dialect::One => Prefixes::Written,
-        Dialect::Two | Dialect::Gap => Prefixes::LeftOut,
+        Dialect::PlanOne => Prefixes::Written,
+        Dialect::PlanTwo | Dialect::GapOne | Dialect::GapTwo => Prefixes::LeftOut,
+    }
+}
+
+/// Which bounds the numbers of its nodes that wait are; of a dialect in which none waits, mean bounds.
+pub fn numbers_in(dialect: Dialect) -> Numbers
+    ensures { result ≡ numbers_in_lem dialect }
+{
+    match dialect {
+        Dialect::PlanOne | Dialect::PlanTwo | Dialect::GapOne => Numbers::Means,
+        Dialect::GapTwo => Numbers::Edges,
+    }
+}
+
+/// The dialect of the gap plans with these numbers.
+pub fn gap_dialect(numbers: Numbers) -> Dialect
+    ensures { result ≡ dialect_with numbers }
+{
+    match numbers {
+        Numbers::Means => Dialect::GapOne,
+        Numbers::Edges => Dialect::GapTwo,
     }
 }

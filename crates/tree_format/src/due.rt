@@ -21,7 +21,7 @@ pub fn first_due(alloc: Global, family: Family) -> Result<Due, NoMemory>
     ensures { IfOk result (λ due. due ≡ at_start family) }
 {
     Ok(Due {
-        dialect: Dialect::One,
+        dialect: Dialect::PlanOne,
         stage: Stage::Version(family),
         expected: Places::start(alloc)?,
     })

@@ -15,6 +15,7 @@ ghost use Rattle.search_model.specs.Problem.{Problem};
 ghost use Rattle.tree_format.specs.declared.plan_line.Family.{Family as FamilyLem};
 
 use crate::adding::pass_line;
+use crate::dialects::numbers_in;
 use crate::due::{Due, first_due, is_ended};
 use crate::gathered_line::GatheredLine;
 use crate::kind::{PlanFault, PlanKind};
@@ -118,6 +119,7 @@ impl PlanFeed {
                 self.standing,
                 self.weight,
                 self.ceiling,
+                numbers_in(self.due.dialect),
                 count,
             )),
             PlanLine::Node(node) => Step::Item(PlanItem::Node(node)),

@@ -20,9 +20,10 @@ fn push_version(out: &mut Vec<u8>, dialect: Dialect) -> Result<(), NoMemory>
     ensures err { OnErr result (Begins out.old.items out.new.items) }
 {
     match dialect {
-        Dialect::One => push_row(out, b"plan", &[Field::Word(b"1")]),
-        Dialect::Two => push_row(out, b"plan", &[Field::Word(b"2")]),
-        Dialect::Gap => push_row(out, b"gap", &[Field::Word(b"1")]),
+        Dialect::PlanOne => push_row(out, b"plan", &[Field::Word(b"1")]),
+        Dialect::PlanTwo => push_row(out, b"plan", &[Field::Word(b"2")]),
+        Dialect::GapOne => push_row(out, b"gap", &[Field::Word(b"1")]),
+        Dialect::GapTwo => push_row(out, b"gap", &[Field::Word(b"2")]),
     }
 }
 

@@ -1,32 +1,35 @@
 //! The lines above the records.
 
 ghost use Rattle.std.specs.Prelude.{◌≡◌, map};
-ghost use Rattle.tree_format.specs.Reading.{version_said, gap_said, version_line, path_line, chance_line, ceiling_said, ceiling_line, count_said, count_line};
+ghost use Rattle.tree_format.specs.Dialects.{dialects_of};
+ghost use Rattle.tree_format.specs.Reading.{version_said, version_line, path_line, chance_line, ceiling_said, ceiling_line, count_said, count_line};
 
 use crate::fields::{amount_in, positions_named};
 use crate::kind::PlanKind;
 use crate::plan_line::{Dialect, Family, PlanLine};
 use search_model::Scenario;
 
-// The version of this number.
-fn version_of(number: &[u8]) -> Result<PlanLine, PlanKind>
-    ensures { result ≡ version_said number.now }
+// The dialect of plans of this number.
+fn plan_of(number: &[u8]) -> Result<PlanLine, PlanKind>
+    ensures { result ≡ version_said (dialects_of Family.Plans) number.now }
 {
     if number == b"1".as_slice() {
-        Ok(PlanLine::Version(Dialect::One))
+        Ok(PlanLine::Version(Dialect::PlanOne))
     } else if number == b"2".as_slice() {
-        Ok(PlanLine::Version(Dialect::Two))
+        Ok(PlanLine::Version(Dialect::PlanTwo))
     } else {
         Err(PlanKind::BadLine)
     }
 }
 
-// The version of this number, of a gap text.
+// The dialect of gap plans of this number.
 fn gap_of(number: &[u8]) -> Result<PlanLine, PlanKind>
-    ensures { result ≡ gap_said number.now }
+    ensures { result ≡ version_said (dialects_of Family.Gaps) number.now }
 {
     if number == b"1".as_slice() {
-        Ok(PlanLine::Version(Dialect::Gap))
+        Ok(PlanLine::Version(Dialect::GapOne))
+    } else if number == b"2".as_slice() {
+        Ok(PlanLine::Version(Dialect::GapTwo))
     } else {
         Err(PlanKind::BadLine)
     }
@@ -37,12 +40,12 @@ fn plan_version(fields: &[&[u8]]) -> Result<PlanLine, PlanKind>
     ensures { result ≡ version_line Family.Plans (map (λ f. f.now) fields.now) }
 {
     match fields {
-        [word, number] if *word == b"plan".as_slice() => version_of(number),
+        [word, number] if *word == b"plan".as_slice() => plan_of(number),
         _ => Err(PlanKind::BadLine),
     }
 }
 
-// `gap 1`
+// `gap 1` or `gap 2`
 fn gap_version(fields: &[&[u8]]) -> Result<PlanLine, PlanKind>
     ensures { result ≡ version_line Family.Gaps (map (λ f. f.now) fields.now) }
 {

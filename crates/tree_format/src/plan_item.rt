@@ -1,13 +1,13 @@
 use crate::kind::PlanFault;
-use bound_tree::GapNode;
+use bound_tree::{GapNode, Numbers};
 use search_model::Standing;
 
 /// What the lines of a plan or of a gap plan tell, one after the other.
 #[derive(Clone, Copy)]
 pub enum PlanItem {
-    /// The standing, the weight, the ceiling, which is the value in a plan, and the number of records, at the end of the line
-    /// `nodes N`.
-    Head(Standing, u128, u128, u64),
+    /// The standing, the weight, the ceiling, which is the value in a plan, the numbers of nodes that wait, and the number of
+    /// records, at the end of the line `nodes N`.
+    Head(Standing, u128, u128, Numbers, u64),
     /// A record, at the end of its line. In a plan it is closed.
     Node(GapNode),
     /// The end of the plan, at the end of its last line.

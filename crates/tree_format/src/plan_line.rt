@@ -14,11 +14,13 @@ pub enum Family {
 #[derive(Clone, Copy, Debug, PartialEq, Eq)]
 pub enum Dialect {
     /// `plan 1`: each record has its prefix.
-    One,
+    PlanOne,
     /// `plan 2`: a record's prefix is the one that is expected.
-    Two,
-    /// `gap 1`: as `plan 2`, with a ceiling and nodes that wait.
-    Gap,
+    PlanTwo,
+    /// `gap 1`: as `plan 2`, with a ceiling and nodes that wait, whose numbers are mean bounds.
+    GapOne,
+    /// `gap 2`: as `gap 1`, and the numbers of nodes that wait are edge bounds.
+    GapTwo,
 }
 
 /// Where a text has the prefixes of its records.
@@ -33,7 +35,7 @@ pub enum Prefixes {
 /// The line that is due.
 #[derive(Clone, Copy, Debug, PartialEq, Eq)]
 pub enum Stage {
-    /// The first line: `plan 1`, `plan 2` or `gap 1`
+    /// The first line: `plan 1`, `plan 2`, `gap 1` or `gap 2`
     Version(Family),
     /// `path NAME ..`
     Path,
@@ -52,7 +54,7 @@ pub enum Stage {
 /// What a line says.
 #[derive(Clone, Copy)]
 pub enum PlanLine {
-    /// `plan 1`, `plan 2` or `gap 1`
+    /// `plan 1`, `plan 2`, `gap 1` or `gap 2`
     Version(Dialect),
     /// The path of the standing.
     Path(Path),

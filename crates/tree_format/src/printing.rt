@@ -4,12 +4,14 @@ ghost use Rattle.std.specs.Prelude.{◌≡◌, ◌∷◌, [], ◌++◌, map, OnO
 ghost use Rattle.exact_parts.specs.Appending.{Begins};
 ghost use Rattle.bound_tree.specs.Places.{AreInPlace};
 ghost use Rattle.tree_format.specs.PlanText.{IsPrintable, IsNarrow, HasNoEdge, IsPlanText, IsPlanText2, IsPrintableGap, IsNarrowGap, IsGapText, text_in, plan_text, plan_text_2, gap_text};
-ghost use Rattle.bound_tree.specs.Gaps.{shape_of, gap_of};
+ghost use Rattle.bound_tree.specs.Gaps.{shape_of, gap_of, numbers_for as numbers_for_lem};
+ghost use Rattle.tree_format.specs.Dialects.{numbers_in, dialect_with};
 
+use crate::dialects::gap_dialect;
 use crate::head::push_head;
 use crate::plan_line::Dialect;
 use crate::records::{push_nodes, push_records};
-use bound_tree::{GapPlan, Plan};
+use bound_tree::{GapPlan, Plan, numbers_for};
 use exact_parts::{NoMemory, cut_if_refused};
 use search_model::Scenario;
 use text_rows::push_row;
@@ -22,7 +24,7 @@ fn push_plan(
     plan: &Plan,
 ) -> Result<(), NoMemory>
     requires { IsPrintable sc.now plan.now }
-    ensures ok { OnOk result (out.new.items ≡ out.old.items ++ text_in dialect sc.now (gap_of plan.now)) }
+    ensures ok { OnOk result (out.new.items ≡ out.old.items ++ text_in dialect sc.now (gap_of (numbers_in dialect) plan.now)) }
     ensures err { OnErr result (Begins out.old.items out.new.items) }
     ensures narrow { OnOk result (IsNarrow plan.now) }
 {
@@ -55,7 +57,7 @@ pub fn print_plan(out: &mut Vec<u8>, sc: &Scenario, plan: &Plan) -> Result<(), N
     ensures spelled { OnOk result (IsPlanText sc.now plan.now (plan_text sc.now plan.now)) }
 {
     let len = out.len();
-    let appended = push_plan(out, Dialect::One, sc, plan);
+    let appended = push_plan(out, Dialect::PlanOne, sc, plan);
     cut_if_refused(out, len, appended)
 }
 
@@ -73,12 +75,12 @@ pub fn print_plan_2(out: &mut Vec<u8>, sc: &Scenario, plan: &Plan) -> Result<(),
     ensures spelled { OnOk result (IsPlanText2 sc.now plan.now (plan_text_2 sc.now plan.now)) }
 {
     let len = out.len();
-    let appended = push_plan(out, Dialect::Two, sc, plan);
+    let appended = push_plan(out, Dialect::PlanTwo, sc, plan);
     cut_if_refused(out, len, appended)
 }
 
 /// Appends the text of the gap plan that a plan is, whose records have the prefixes that are expected: all nodes are closed,
-/// and the ceiling is the value. It reads back as that gap plan.
+/// and the ceiling is the value. The scenario says by which numbers it is written. It reads back as that gap plan.
 ///
 /// # Errors
 ///
@@ -87,12 +89,13 @@ pub fn print_plan_2(out: &mut Vec<u8>, sc: &Scenario, plan: &Plan) -> Result<(),
 pub fn print_plan_as_gap(out: &mut Vec<u8>, sc: &Scenario, plan: &Plan) -> Result<(), NoMemory>
     requires printable { IsPrintable sc.now plan.now }
     requires in_place { AreInPlace sc.now ([] ∷ []) plan.now.tree }
-    ensures ok { OnOk result (out.new.items ≡ out.old.items ++ gap_text sc.now (gap_of plan.now)) }
+    ensures ok { OnOk result (out.new.items ≡ out.old.items ++ gap_text sc.now (gap_of (numbers_for_lem sc.now) plan.now)) }
     ensures err { OnErr result (out.new.items ≡ out.old.items) }
-    ensures spelled { OnOk result (IsGapText sc.now (gap_of plan.now) (gap_text sc.now (gap_of plan.now))) }
+    ensures spelled { OnOk result (IsGapText sc.now (gap_of (numbers_for_lem sc.now) plan.now)
+        (gap_text sc.now (gap_of (numbers_for_lem sc.now) plan.now))) }
 {
     let len = out.len();
-    let appended = push_plan(out, Dialect::Gap, sc, plan);
+    let appended = push_plan(out, gap_dialect(numbers_for(sc)), sc, plan);
     cut_if_refused(out, len, appended)
 }
 
@@ -103,23 +106,24 @@ fn push_gap(out: &mut Vec<u8>, sc: &Scenario, plan: &GapPlan) -> Result<(), NoMe
     ensures err { OnErr result (Begins out.old.items out.new.items) }
     ensures narrow { OnOk result (IsNarrowGap plan.now) }
 {
+    let dialect = gap_dialect(plan.numbers);
     let nodes = plan.nodes.nodes();
     push_head(
         out,
-        Dialect::Gap,
+        dialect,
         sc,
         &plan.standing,
         plan.weight,
         plan.ceiling,
         nodes.len(),
     )?;
-    push_nodes(out, Dialect::Gap, nodes)?;
+    push_nodes(out, dialect, nodes)?;
     push_row(out, b"end", &[])?;
     Ok(())
 }
 
 /// Appends the text of a gap plan whose nodes have the prefixes that are expected, a waiting node taken as a leaf: the one
-/// spelling that it has. It reads back as that gap plan.
+/// spelling that it has, in the version of its numbers. It reads back as that gap plan.
 ///
 /// # Errors
 ///

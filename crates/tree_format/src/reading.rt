@@ -33,6 +33,7 @@ fn gap_from(kept: Collected) -> GapPlan
         standing: kept.standing,
         weight: kept.weight,
         ceiling: kept.ceiling,
+        numbers: kept.numbers,
         nodes: GapTree::of(kept.nodes),
     }
 }
@@ -56,7 +57,7 @@ pub fn read_plan(alloc: Global, sc: &Scenario, text: &[u8]) -> Result<Plan, Plan
     Ok(plan_from(kept))
 }
 
-/// The gap plan whose text this is, to its last byte.
+/// The gap plan whose text this is, of either version and to its last byte.
 ///
 /// # Errors
 ///
