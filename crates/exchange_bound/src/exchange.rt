@@ -10,6 +10,7 @@ ghost use Rattle.exchange_bound.specs.Leads.{IsLead, IsLeadOf};
 
 use crate::lead::Lead;
 use crate::rewards::fill_rewards;
+use crate::stand_in::{Exchange, best_among};
 use belief_update::{Levels, Onward};
 use exact_parts::NoMemory;
 use longest_walk::{Near, Walk};
@@ -71,7 +72,10 @@ fn bound_by(
 }
 
 impl ExchangeTables {
+    ghost use Rattle.std.specs.Prelude.{IfSome, IfNone};
+    ghost use Rattle.bound_tree.specs.ExchangeLaws.{StandsIn, HasExchanges, IsBestStandIn, exchanged};
     ghost use Rattle.exchange_bound.specs.Exchanges.{IsMadeFor};
+    ghost use Rattle.exchange_bound.specs.StandIns.{IsExchange};
 
     /// Tables for a scenario. Only this call takes memory.
     pub fn tables(alloc: Global, sc: &Scenario) -> Result<ExchangeTables, NoMemory>
@@ -119,6 +123,27 @@ impl ExchangeTables {
             onward,
             prefix,
         )
+    }
+
+    /// The best of the legal prefixes that stand in for a prefix with another position in place of its last but one, or `None`
+    /// where none stands in: of the greatest value, and of several the one with the least position.
+    pub fn best_stand_in(
+        &mut self,
+        sc: &Scenario,
+        near: &Near,
+        onward: &Onward,
+        prefix: &Path,
+    ) -> Option<Exchange>
+        requires made { IsMadeFor sc.now self.old }
+        requires near { AreNear sc.now.moves sc.now.horizon near.now }
+        requires onward { IsOnward sc.now prefix.now onward.now }
+        requires legal { IsLegal sc.now prefix.now }
+        requires exchanges { HasExchanges sc.now prefix.now }
+        ensures some { IfSome result (λ e. IsExchange sc.now prefix.now e × IsBestStandIn sc.now prefix.now e.position) }
+        ensures none { IfNone result ((u : ℕ) → ¬ StandsIn sc.now (exchanged u prefix.now) prefix.now) }
+        ensures made { IsMadeFor sc.now self.new }
+    {
+        best_among(self, sc, near, onward, prefix)
     }
 
     /// The value of a legal prefix, in parts of the whole weight.

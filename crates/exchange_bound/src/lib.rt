@@ -5,5 +5,7 @@
 mod exchange;
 mod lead;
 mod rewards;
+mod stand_in;
 
 pub use exchange::ExchangeTables;
+pub use stand_in::Exchange;
