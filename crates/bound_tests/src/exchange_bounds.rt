@@ -46,6 +46,8 @@ fn have_bounds(
 ) -> bool
     requires mean { IsMeanFor sc.now mean.old }
     requires tables { IsMadeFor sc.now tables.old }
+    ensures mean { IsMeanFor sc.now mean.new }
+    ensures tables { IsMadeFor sc.now tables.new }
 {
     for (cells, others, bound, value) in cases {
         let right = match (Path::of(cells), Path::of(others)) {
@@ -61,26 +63,99 @@ fn have_bounds(
     true
 }
 
+// A prefix, and what stands in for it best: its position, its value, and the exchange bound of the prefix.
+type Replaced = (&'static [u8], Option<(u8, u128, u128)>);
+
+// Whether this stands in best for a prefix, or nothing does.
+fn is_replaced(
+    sc: &Scenario,
+    mean: &mut Mean,
+    tables: &mut ExchangeTables,
+    prefix: &Path,
+    by: &Option<(u8, u128, u128)>,
+) -> bool
+    requires mean { IsMeanFor sc.now mean.old }
+    requires tables { IsMadeFor sc.now tables.old }
+    ensures mean { IsMeanFor sc.now mean.new }
+    ensures tables { IsMadeFor sc.now tables.new }
+{
+    if sc.horizon() < 4 || prefix.len() < 2 || prefix.len() >= sc.horizon() as usize {
+        return false;
+    }
+    if !sc.is_legal(prefix) {
+        return false;
+    }
+    mean.go_to(sc, prefix);
+    match (
+        tables.best_stand_in(sc, mean.near(), mean.onward(), prefix),
+        by,
+    ) {
+        (None, None) => true,
+        (Some(is), Some((position, value, bound))) => {
+            is.position == *position && is.value == *value && is.bound == *bound
+        }
+        _ => false,
+    }
+}
+
+// Whether prefixes have their best stand-ins, one asked after the other.
+fn have_stand_ins(
+    sc: &Scenario,
+    mean: &mut Mean,
+    tables: &mut ExchangeTables,
+    cases: &[Replaced],
+) -> bool
+    requires mean { IsMeanFor sc.now mean.old }
+    requires tables { IsMadeFor sc.now tables.old }
+{
+    for (cells, by) in cases {
+        let right = match Path::of(cells) {
+            Some(prefix) => is_replaced(sc, mean, tables, &prefix, by),
+            None => false,
+        };
+        if !right {
+            return false;
+        }
+    }
+    true
+}
+
 fn are_bounded_by(
     alloc: Global,
     sc: &Scenario,
     mean: &mut Mean,
-    cases: &[Exchanged],
+    bounds: &[Exchanged],
+    replaced: &[Replaced],
 ) -> Result<bool, Fail>
     requires { IsMeanFor sc.now mean.old }
 {
     let mut tables = ExchangeTables::tables(alloc, sc)?;
-    Ok(have_bounds(sc, mean, &mut tables, cases))
+    let bounded = have_bounds(sc, mean, &mut tables, bounds);
+    Ok(bounded && have_stand_ins(sc, mean, &mut tables, replaced))
 }
 
-// Whether the prefixes of a scenario have these exchange bounds.
-fn are_bounded_over(alloc: Global, sc: &Scenario, cases: &[Exchanged]) -> Result<bool, Fail> {
+// Whether the prefixes of a scenario have these exchange bounds, and these best stand-ins.
+fn are_bounded_over(
+    alloc: Global,
+    sc: &Scenario,
+    bounds: &[Exchanged],
+    replaced: &[Replaced],
+) -> Result<bool, Fail> {
     let mut mean = Mean::tables(alloc, sc)?;
-    are_bounded_by(alloc, sc, &mut mean, cases)
+    are_bounded_by(alloc, sc, &mut mean, bounds, replaced)
 }
 
-fn are_bounded(alloc: Global, text: &str, cases: &[Exchanged]) -> Result<bool, Fail> {
-    asked_of(alloc, text, |alloc, sc| are_bounded_over(alloc, sc, cases))
+fn are_bounded(
+    alloc: Global,
+    text: &str,
+    bounds: &[Exchanged],
+    replaced: &[Replaced],
+) -> Result<bool, Fail> {
+    asked_of(
+        alloc,
+        text,
+        |alloc, sc| are_bounded_over(alloc, sc, bounds, replaced),
+    )
 }
 
 // Sums over all tracks, made by a script in another language from the definitions. Some of the others rule the prefix out,
@@ -95,9 +170,26 @@ const FOOTPRINT_EXCHANGES: &[Exchanged] = &[
     (&[1, 1], &[2, 1], 246200, 220000),
 ];
 
+// By the same script. Two stand in for the third prefix.
+const FOOTPRINT_STAND_INS: &[Replaced] = &[
+    (&[2, 2], Some((1, 224000, 178000))),
+    (&[1, 0], None),
+    (&[1, 2, 1], Some((0, 337700, 321100))),
+    (&[2, 1, 1], None),
+    (&[2, 2, 2], Some((1, 220000, 167000))),
+    (&[1, 1, 2], Some((2, 224000, 218220))),
+];
+
 #[test]
 fn prefixes_have_the_worked_exchange_bounds(rt: HostRuntime) -> Result<(), Fail> {
-    assert!(rt; are_bounded(rt.alloc(), FOOTPRINTS, FOOTPRINT_EXCHANGES)?);
+    assert!(rt;
+        are_bounded(
+            rt.alloc(),
+            FOOTPRINTS,
+            FOOTPRINT_EXCHANGES,
+            FOOTPRINT_STAND_INS
+        )?
+    );
     crosses_threads::<ExchangeTables>();
     Ok(())
 }
