@@ -3,16 +3,7 @@ const picture = (function () {
   const { SIDE, MARGIN, GAP, THIN_GAP, BOW, MOST_BOWS, MOST_LETTERS, MOST_RANGES, LETTERS_BESIDE, BELOW, ASIDE, NAME_SIZE, NAME_WIDTH, LETTER } = RULES.picture;
   const [CLASSES, COMPASS] = [RULES.picture.CLASSES.map(BigInt), RULES.compass];
   const { filled, escaped, number, fixed } = markup;
-
-  // A share in percent, cut off after three digits; not behind nothing.
-  function cut(part, whole) {
-    return told.percent(part, whole).slice(0, -2);
-  }
-
-  // A share as it stands in a cell: nothing as 0, and a dash where there is no whole.
-  function share(part, whole) {
-    return whole === 0n ? "–" : part === 0n ? "0" : cut(part, whole);
-  }
+  const { cut, share } = told;
 
   // The class of colour of a share.
   function classOf(part, whole) {
@@ -251,5 +242,5 @@ const picture = (function () {
     return filled(period ? "behind_look" : "before_looks", { period, who: seats.count === 1 ? "searcher is" : "searchers are", where });
   }
 
-  return { Picture, cut, share, classOf, when };
+  return { Picture, classOf, when };
 }());

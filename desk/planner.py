@@ -1,5 +1,4 @@
 """page: writes a page to plan in: one HTML file, for any browser, that carries the proved program and asks no network for anything."""
-import json
 import os
 from html import escape
 
@@ -60,8 +59,8 @@ def rules():
     patterns = {"at": layout.AT, "of_square": states.OF_SQUARE, "row_and_column": squares.ROW_AND_COLUMN, "times": comments.TIMES}
     told = {it.__name__.removeprefix("desk."): numbers_of(it) for it in (picture, compass, layout, tables, page, limits)}
     told["patterns"] = {**{name: it.pattern.decode("ascii") for name, it in patterns.items()}, "moment": moments.SPELLED.pattern}
-    told |= {"markup": markup.MARKUP, "keys": {"squares": page.scale(False), "parts": page.scale(True)}, "signs": {it: page.signs(it) for it in (1, 2)}}
-    return f"\"use strict\";\nconst RULES = {json.dumps(told).replace('<', chr(92) + 'u003c')};\n"
+    told |= {"keys": {"squares": page.scale(False), "parts": page.scale(True)}, "signs": {it: page.signs(it) for it in (1, 2)}}
+    return f"\"use strict\";\n{markup.rules(told)}"
 
 
 def script():

@@ -43,7 +43,7 @@ const shown = (function () {
     const sums = squares.sums(frame.left);
     const greatest = tables.greatest(sums).slice(0, MOST_LIKELIEST);
     const sorts = Object.entries({ "of-all": weight, "of-left": frame.missed });
-    const names = (whole) => greatest.map((it) => filled("named_share", { name: escaped(squares.names[it]), share: picture.cut(sums[it], whole) })).join(", ");
+    const names = (whole) => greatest.map((it) => filled("named_share", { name: escaped(squares.names[it]), share: told.cut(sums[it], whole) })).join(", ");
     return sorts.map(([sort, whole]) => filled("likeliest", { sort, names: names(whole) })).join("");
   }
 
@@ -52,7 +52,7 @@ const shown = (function () {
     const { clock, weight } = own;
     const [period, isLook] = [frame.period, frame.period > 0];
     const time = clock && isLook ? filled("time", { begins: clock.at(period), ends: clock.at(period + 1) }) : "";
-    const shares = { share: picture.cut(frame.found, weight), so_far: picture.cut(frame.soFar, weight) };
+    const shares = { share: told.cut(frame.found, weight), so_far: told.cut(frame.soFar, weight) };
     const found = isLook ? filled("found", { finds: tables.finds(own), ...shares }) : "";
     const head = escaped(picture.when(own, frame));
     return filled("figure", { period, head: head[0].toUpperCase() + head.slice(1), time, said: found + likeliest(own, frame), map: drawn.svg(frame) });

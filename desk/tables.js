@@ -2,7 +2,8 @@
 const tables = (function () {
   const { MOST_LEFT, MOST_COLUMNS } = RULES.tables;
   const { filled, escaped, plural } = markup;
-  const { cut, share, classOf } = picture;
+  const { cut, share } = told;
+  const { classOf } = picture;
 
   // A table. Heads are pairs of text and whether numbers stand below; rows are ready markup.
   function table(caption, heads, rows) {
@@ -15,13 +16,8 @@ const tables = (function () {
     return filled("exact", { name, share: cut(part, whole), part, whole });
   }
 
-  // A share in percent with three digits, rounded up: for what nothing exceeds.
-  function up(part, whole) {
-    return cut((part * 100000n + whole - 1n) / whole, 100000n);
-  }
-
   // What no other is better than the plan's.
-  function bestOf({ count, flown }) {
+  function best({ count, flown }) {
     return (count === 1 ? "path" : "pair of paths") + (flown ? " that begins as flown" : "");
   }
 
@@ -32,14 +28,7 @@ const tables = (function () {
 
   // What the program accepted, as a sentence.
   function verdict({ ceiling, value, weight, seats }) {
-    const best = bestOf(seats);
-    if (ceiling === null) {
-      return filled("no_better", { best });
-    }
-    if (ceiling > value && ceiling >= weight) {
-      return filled("nothing_shown", {});
-    }
-    return filled("no_more", { best, than: ceiling > value ? ` than ${up(ceiling, weight)} %` : "" });
+    return markup.verdict(value, weight, ceiling, best(seats));
   }
 
   // What the plan finds, and in how many looks.
@@ -56,9 +45,9 @@ const tables = (function () {
     if (k === sc.horizon) {
       return [filled("all_flown", {})];
     }
-    const [head, looks] = [filled(k === 1 ? "first_flown" : "some_flown", { count: k }), k === 1 ? "it" : "these"];
+    const [head, these] = [filled(k === 1 ? "first_flown" : "flown", { count: k }), k === 1 ? "it" : "these"];
     const rest = missed ? cut(value - frames[k].soFar, missed) : "";
-    return [head, filled(missed ? "rest_finds" : "flown_find", { looks, share: rest })];
+    return [head, filled(missed ? "flown_rest" : "flown_certain", { these, share: rest })];
   }
 
   // What is said of names that are numbers.

@@ -42,10 +42,10 @@ def finds(search):
     return "This look finds" if search.seats.count == 1 else "These looks find"
 
 
-def best(search):
-    """What no other is better than the plan's."""
-    what = "path" if search.seats.count == 1 else "pair of paths"
-    return f"{what} that begins as flown" if search.seats.flown else what
+def best(count, flown):
+    """What no other of so many searchers is better than, where so many looks are flown."""
+    what = "path" if count == 1 else "pair of paths"
+    return f"{what} that begins as flown" if flown else what
 
 
 def chance(search):
@@ -56,13 +56,21 @@ def chance(search):
 
 def verdict(search):
     """What the program accepted, as a sentence: that nothing is better, or a ceiling of what the others find, if it is below the whole."""
+    other = best(search.seats.count, search.seats.flown)
     if search.ceiling is None:
-        return filled("no_better", best=best(search))
+        return filled("no_better", best=other)
     more = search.ceiling > search.report.value
     if more and search.ceiling >= search.report.weight:
         return filled("nothing_shown")
     than = f" than {percent.up(search.ceiling, search.report.weight)} %" if more else ""
-    return filled("no_more", best=best(search), than=than)
+    return filled("no_more", best=other, than=than)
+
+
+def flown_said(flown, horizon):
+    """What is said of so many flown looks; and the word for them where others are to come, else None."""
+    if flown == horizon:
+        return filled("all_flown"), None
+    return (filled("first_flown"), "it") if flown == 1 else (filled("flown", count=flown), "these")
 
 
 def about_flown(search):
@@ -70,13 +78,12 @@ def about_flown(search):
     k = search.seats.flown
     if not k:
         return []
-    found, missed = search.frames[k].so_far, search.frames[k].missed
-    if k == search.sc.horizon:
-        return [filled("all_flown")]
-    head, looks = filled("first_flown" if k == 1 else "some_flown", count=k), "it" if k == 1 else "these"
+    (head, these), found, missed = flown_said(k, search.sc.horizon), search.frames[k].so_far, search.frames[k].missed
+    if these is None:
+        return [head]
     if not missed:
-        return [head, filled("flown_find", looks=looks)]
-    return [head, filled("rest_finds", looks=looks, share=percent.cut(search.report.value - found, missed))]
+        return [head, filled("flown_certain", these=these)]
+    return [head, filled("flown_rest", these=these, share=percent.cut(search.report.value - found, missed))]
 
 
 def about_trial(search):

@@ -14,10 +14,32 @@ const told = (function () {
     return made;
   }
 
-  // A part of a whole in percent, cut off after three digits, as reports have it.
+  // So many thousandths of a percent, as percent.
+  function thousandths(count) {
+    return `${count / 1000n}.${String(count % 1000n).padStart(3, "0")}`;
+  }
+
+  // A part of a whole as percent, cut off after three digits, as reports have it.
+  function cut(of, whole) {
+    return thousandths((of * PERCENT) / whole);
+  }
+
+  // The same, rounded up: for what nothing exceeds.
+  function up(of, whole) {
+    return thousandths((of * PERCENT + whole - 1n) / whole);
+  }
+
+  // A share as it stands on a map: nothing as 0, and a dash where there is no whole.
+  function share(part, whole) {
+    if (whole === 0n) {
+      return "–";
+    }
+    return part === 0n ? "0" : cut(part, whole);
+  }
+
+  // A part of a whole in percent, with its sign.
   function percent(of, whole) {
-    const thousandths = (of * PERCENT) / whole;
-    return `${thousandths / 1000n}.${String(thousandths % 1000n).padStart(3, "0")} %`;
+    return `${cut(of, whole)} %`;
   }
 
   // The class of colour of a share: 0 for nothing, 1 for what is below the first limit, and so on.
@@ -57,11 +79,15 @@ const told = (function () {
     });
   }
 
+  // The pairs of a name and its mass where this isn't nothing, the greatest first; of equal masses the one that stands first.
+  function greatest(left) {
+    return [...left].filter((it) => it[1] > 0n).sort((a, b) => (a[1] < b[1] ? 1 : a[1] > b[1] ? -1 : 0));
+  }
+
   // The likeliest cells, as shares of what is left.
   function likeliest(left) {
     const missed = sum(left);
-    const order = [...left].filter((it) => it[1] > 0n).sort((a, b) => (a[1] < b[1] ? 1 : a[1] > b[1] ? -1 : 0)).slice(0, 5);
-    return order.map((it) => `${it[0]} ${percent(it[1], missed)}`).join(", ");
+    return greatest(left).slice(0, 5).map((it) => `${it[0]} ${percent(it[1], missed)}`).join(", ");
   }
 
   // The legs between the looks of a path, where both ends have a place: those flown are drawn through, those to come dotted.
@@ -87,5 +113,5 @@ const told = (function () {
     link.download = name;
   }
 
-  return { element, percent, colour, looks, chance, sum, rows, likeliest, legs, save };
+  return { element, cut, up, share, percent, colour, looks, chance, sum, rows, greatest, likeliest, legs, save };
 }());
