@@ -95,10 +95,10 @@ class Same(Room):
             drawn, why = None, str(lacking)
         text = search.text[: len(search.text) - len(forms.read_scenario(search.text, alone=False)[1])]
         mapped = program.ask(["map", "flown", *(search.sc.positions[it].decode() for it in search.path)], text)
-        given = {name: base64.b64encode(it).decode() for name, it in (("scenario", search.text), ("plan", search.plan))}
+        given = {"both": base64.b64encode(accepted.joined(search.text, search.plan)).decode(), "map": mapped.out.decode()}
         about = [*(told.times.about() if told.times else []), *tables.about_flown(search), *tables.about_names(search)]
         main = re.fullmatch(r'<main(?: class="with-map")?>(.*)</main>', page.main_part(search, drawn, why, told), re.S)[1]
-        return [tables.chance(search), tables.verdict(search), " ".join(about), main], {"given": given | {"map": mapped.out.decode()}}
+        return [tables.chance(search), tables.verdict(search), " ".join(about), main], {"of": "told", "given": given}
 
     def same(self, cases):
         """Holds what the script shows of plans, by name, against what `show` writes."""
@@ -162,13 +162,28 @@ class Same(Room):
         texts = {name: it if b"\nplan 2\n" in it else with_plan(it) for name, it in texts.items()}
         self.same({name: [self.write(name, it)] for name, it in texts.items()})
 
+    def test_parts(self):
+        """A scenario ends with its line `end`, wherever blanks stand, and its plan begins behind the blank lines that follow."""
+        scenario, plan = (it.decode() for it in example("two-cells"))
+        ends = ["end\n", " end\t\r\n", "end\n\n \t\r\n\n", "end", "# end\nend\n"]
+        texts = [scenario.replace("end\n", it) + (plan if it.endswith("\n") else "") for it in ends] + ["scenario 1\nend x\n", ""]
+        told = self.answers({"of": "parts", "given": base64.b64encode(it.encode()).decode()} for it in texts)
+        wanted = []
+        for text in texts:
+            try:
+                rest = forms.read_scenario(text.encode(), alone=False)[1].decode()
+            except forms.Fault:
+                rest = ""
+            wanted.append([text[: len(text) - len(rest)], rest.lstrip(" \t\r\n")])
+        self.assertEqual(told, wanted)
+
     def test_numbers(self):
         """Numbers as Python writes them: those that lie between two, below zero, great and small."""
         rng = random.Random(5)
         values = [rng.choice([1, -1]) * rng.choice([rng.random() * 10 ** rng.randrange(-6, 9), rng.randrange(4000) / 2 ** rng.randrange(6)]) for _ in range(3000)]
         values += [0.0, -0.0, -0.04, 0.05, 0.25, 0.35, 2.5, 999999.5, 1e6, 1234567.0, 0.0001, 0.00001234567]
         for name, more, text in (("fixed", [0], "{:.0f}"), ("fixed", [1], "{:.1f}"), ("general", [], "{:g}")):
-            told = self.answers({"of": ["markup", name], "given": [it, *more]} for it in values if it or name == "fixed")
+            told = self.answers({"of": name, "given": [it, *more]} for it in values if it or name == "fixed")
             self.assertEqual(told, [text.format(it) for it in values if it or name == "fixed"])
 
 

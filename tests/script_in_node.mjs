@@ -1,20 +1,26 @@
-// Runs the script by which the page to plan in shows a plan: script_in_node.mjs SCRIPT. Each line of standard input is JSON: a function of
-// the script by its words, and what it is given; or a scenario and its plan in base64, with what `map` says of its path. On the same line
-// of standard output stands what the function answers, or what the page says and shows of the plan, as JSON.
+// Runs the script by which the page to plan in shows a plan: script_in_node.mjs SCRIPT. Each line of standard input is JSON: what is asked
+// `of` the script, and what it is given. On the same line of standard output stands the answer, as JSON. `told`, of a scenario with its plan
+// behind it, in base64, and of what `map` says of its path, is what the page says and shows of it; the others are functions of the script.
 import { readFileSync } from "node:fs";
 import { createInterface } from "node:readline";
 import { webcrypto } from "node:crypto";
 
 globalThis.crypto ??= webcrypto;
-const parts = new Function(`${readFileSync(process.argv[2], "utf8")}\nreturn { markup, shown, tables };`)();
+const parts = new Function(`${readFileSync(process.argv[2], "utf8")}\nreturn { markup, reading, shown, tables };`)();
 
 // What the page says of a plan in its head, and what it shows below.
-async function told({ scenario, plan, map }) {
-  const own = await parts.shown.search(Buffer.from(scenario, "base64"), Buffer.from(plan, "base64"), map);
+async function told({ both, map }) {
+  const own = await parts.shown.search(...parts.reading.parts(Buffer.from(both, "base64")), map);
   return [parts.tables.chance(own), parts.tables.verdict(own), parts.shown.about(own), parts.shown.main(own).text];
 }
 
+const ASKED = {
+  told,
+  parts: (text) => parts.reading.parts(Buffer.from(text, "base64")).map((it) => it.toString()),
+  fixed: (given) => parts.markup.fixed(...given),
+  general: (given) => parts.markup.general(...given),
+};
 for await (const line of createInterface({ input: process.stdin })) {
   const { of, given } = JSON.parse(line);
-  console.log(JSON.stringify(of ? parts[of[0]][of[1]](...given) : await told(given)));
+  console.log(JSON.stringify(await ASKED[of](given)));
 }
