@@ -42,6 +42,7 @@
     const own = await shown.search(scenario, plan, mapped.out);
     const { drawn, text } = shown.main(own);
     const here = `Checked here, just now, by the proved program (${checked.seconds.toFixed(2)} s).`;
+    at("name").textContent = name;
     at("chance").innerHTML = tables.chance(own);
     at("verdict").replaceChildren(told.element("span", tables.verdict(own)), " ", told.element("small", here));
     at("about").textContent = shown.about(own);

@@ -43,9 +43,9 @@ def intake(names):
 def answer():
     """Where the answer stands: what was accepted, what can be saved, and what `show` shows of it."""
     return (
-        '<section id="planner-found" hidden><h2>The plan</h2><div class="verdict"><p class="chance" id="planner-chance"></p>'
+        '<section id="planner-found" hidden><h2>Search plan <bdi id="planner-name"></bdi></h2><div class="verdict"><p class="chance" id="planner-chance"></p>'
         '<p class="accepted" id="planner-verdict"></p></div><p class="note" id="planner-about"></p>'
-        '<p><a id="planner-save">Save the plan</a> &nbsp; <a id="planner-report">Save the report</a></p></section><div id="planner-shown" hidden></div>'
+        '<p class="saves"><a id="planner-save">Save the plan</a> &nbsp; <a id="planner-report">Save the report</a></p></section><div id="planner-shown" hidden></div>'
     )
 
 
@@ -70,7 +70,7 @@ def script():
 
 def document(module, examples):
     """The page: `module` is the program as WebAssembly, `examples` the bytes of scenarios by name."""
-    css, scripts = "".join(map(page.asset, ("page.css", "compass.css", "planner.css"))), script()
+    css, scripts = "".join(map(page.asset, ("page.css", "compass.css", "carried.css", "planner.css"))), script()
     # (Those that apply to some plans alone: the script says which.)
     more = {"states": page.asset("states.css"), "pair": page.asset("pair.css")}
     styles, allowed = (" ".join(f"'{page.checksum(it)}'" for it in its) for its in ((css, *more.values()), (scripts,)))
