@@ -14,10 +14,11 @@ use Rattle.bound_tree.specs.declared.node.TreeNode.{TreeNode}
 use Rattle.bound_tree.specs.declared.plan.Plan.{Plan}
 use Rattle.bound_tree.specs.declared.gap.GapKind.{GapKind}
 use Rattle.bound_tree.specs.declared.gap.GapKind.TheVariants.{Closed, Waiting}
+use Rattle.bound_tree.specs.declared.gap.Numbers.{Numbers}
 use Rattle.bound_tree.specs.declared.gap.GapPlan.{GapPlan}
 use Rattle.bound_tree.specs.Accepts.{Accepts}
 use Rattle.bound_tree.specs.Close.{IsClosed, IsAtLeast, LetsBranch, HasMoreLive}
-use Rattle.bound_tree.specs.Gaps.{shape_of, shape_of_kind, IsGoodOpenKind, IsGoodOpen, closed_node, gap_of, GapAccepts, NoneWaits}
+use Rattle.bound_tree.specs.Gaps.{shape_of, shape_of_kind, IsGoodOpenKind, IsGoodOpen, closed_node, gap_of, numbers_for, GapAccepts, NoneWaits}
 use Rattle.bound_tree.proofs.Ceilings.{ceiling_is_above, none_waiting_is_best, plan_is_gap_plan}
 use Rattle.gap_plan.specs.Nodes.{closed_in}
 use Rattle.tree_format.specs.declared.dialects.TheConstants.{MOST_GAP_NODES}
@@ -45,10 +46,11 @@ none_of_closed [] = refl
 none_of_closed (r ∷ rs) = none_of_closed rs
 
 module _ (nodes : ℕ) (p : Problem) (sound : IsProblem p) (first : Standing) (opens : IsOpening p first.path) (exact : first.value ≡ value_of p first.path) where
-  gapped_from : (plan : GapPlan) → GapAccepts p plan → IsAtLeast plan.standing first → LetsBranch p first (closed_in plan.nodes) → length (closed_in plan.nodes) ≤ nodes →
+  gapped_from : (plan : GapPlan) → GapAccepts p plan → plan.numbers ≡ numbers_for p → IsAtLeast plan.standing first → LetsBranch p first (closed_in plan.nodes) → length (closed_in plan.nodes) ≤ nodes →
       (¬ NoneWaits plan.nodes → RanOut p first.path nodes (length (closed_in plan.nodes))) → IsGapped nodes p plan
-  gapped_from plan accepts up branches few ran = record {
+  gapped_from plan accepts numbers up branches few ran = record {
     accepted = accepts;
+    numbers = numbers;
     ceiling = λ y path. ceiling_is_above p plan y sound accepts path;
     opening = first.path;
     is_opening = opens;
@@ -60,28 +62,28 @@ module _ (nodes : ℕ) (p : Problem) (sound : IsProblem p) (first : Standing) (o
   }
 
   -- the plan of a search that came to its end
-  pub found_gapped : (plan : Plan) → IsBest p plan.standing.path → Accepts p plan → LetsBranch p first plan.tree → length plan.tree ≤ nodes → IsGapped nodes p (gap_of plan)
+  pub found_gapped : (plan : Plan) → IsBest p plan.standing.path → Accepts p plan → LetsBranch p first plan.tree → length plan.tree ≤ nodes → IsGapped nodes p (gap_of (numbers_for p) plan)
   found_gapped plan best accepts branches few =
       let up = best_at_least p plan.standing first.path accepts.value best opens.path in
-      gapped_from (gap_of plan) ((plan_is_gap_plan p plan).0 accepts) (subst (IsAtLeast plan.standing) (sym (opening_standing p first exact)) up)
+      gapped_from (gap_of (numbers_for p) plan) ((plan_is_gap_plan (numbers_for p) p plan).0 accepts) refl (subst (IsAtLeast plan.standing) (sym (opening_standing p first exact)) up)
       (subst (LetsBranch p first) (sym (closed_again plan.tree)) branches)
       (omega (arith, ap length (closed_again plan.tree), few))
       (λ some. absurd (some (none_of_closed plan.tree)))
 
   -- and that of one whose records ran out
-  pub full_gapped : (plan : GapPlan) (closed : List TreeNode) → GapAccepts p plan → IsAtLeast plan.standing first → LetsBranch p first closed → IsPermutation closed (closed_in plan.nodes) →
+  pub full_gapped : (plan : GapPlan) (closed : List TreeNode) → GapAccepts p plan → plan.numbers ≡ numbers_for p → IsAtLeast plan.standing first → LetsBranch p first closed → IsPermutation closed (closed_in plan.nodes) →
       length closed ≡ nodes → HasMoreLive p first nodes → IsGapped nodes p plan
-  full_gapped plan closed accepts up branches same all more =
+  full_gapped plan closed accepts numbers up branches same all more =
       let used : length (closed_in plan.nodes) ≡ nodes = length_permutation closed (closed_in plan.nodes) same ∙ all in
-      gapped_from plan accepts up
+      gapped_from plan accepts numbers up
       (All-permutation (λ (r : TreeNode). r.kind ≡ Branch → IsClosed p first r.prefix Branch) closed (closed_in plan.nodes) same branches)
       (omega (arith, used))
       (λ some. record { used = used; more = more_live p first nodes exact more })
 
 -- a good node can be written
-node_printable : (p : Problem) (s : Standing) (q : List ℕ) (kind : GapKind) → IsProblem p → IsGoodOpenKind p s q kind → IsPrintableKind p (shape_of_kind kind)
-node_printable p s q (Closed kind) sound good = kind_printable p sound s q kind good
-node_printable p s q (Waiting n) sound good = tt
+node_printable : (numbers : Numbers) (p : Problem) (s : Standing) (q : List ℕ) (kind : GapKind) → IsProblem p → IsGoodOpenKind numbers p s q kind → IsPrintableKind p (shape_of_kind kind)
+node_printable numbers p s q (Closed kind) sound good = kind_printable p sound s q kind good
+node_printable numbers p s q (Waiting n) sound good = tt
 
 -- so an accepted gap plan can
 pub gap_printable : (p : Problem) (plan : GapPlan) → IsProblem p → GapAccepts p plan → length plan.nodes ≤ MOST_GAP_NODES → IsPrintableGap p plan
@@ -90,5 +92,5 @@ gap_printable p plan sound accepts few = record {
   short = omega (arith, accepts.path.whole, sound.horizon);
   positions = follows_positions p sound plan.standing plan.standing.path accepts.path.follows;
   few = few;
-  kinds = All-weaker (IsGoodOpen p plan.standing) (λ node. IsPrintableKind p (shape_of node).kind) (λ node good. node_printable p plan.standing node.prefix node.kind sound good) plan.nodes accepts.good;
+  kinds = All-weaker (IsGoodOpen plan.numbers p plan.standing) (λ node. IsPrintableKind p (shape_of node).kind) (λ node good. node_printable plan.numbers p plan.standing node.prefix node.kind sound good) plan.nodes accepts.good;
 }

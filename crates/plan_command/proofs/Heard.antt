@@ -5,6 +5,7 @@ use Rattle.search_model.specs.declared.standing.Standing.{Standing}
 use Rattle.search_model.specs.Problem.{Problem, IsProblem}
 use Rattle.bound_tree.specs.declared.node.TreeNode.{TreeNode}
 use Rattle.bound_tree.specs.declared.plan.Plan.{Plan}
+use Rattle.bound_tree.specs.declared.gap.Numbers.{Numbers}
 use Rattle.bound_tree.specs.declared.gap.GapNode.{GapNode}
 use Rattle.bound_tree.specs.declared.gap.GapPlan.{GapPlan}
 use Rattle.bound_tree.specs.Gaps.{shape_of}
@@ -26,7 +27,7 @@ use Rattle.plan_command.specs.Intakes.{nodes_in, records_kept, kept_of, LeadsToR
 
 nodes_in-append : (xs ys : List PlanItem) → nodes_in (xs ++ ys) ≡ nodes_in xs ++ nodes_in ys
 nodes_in-append [] ys = refl
-nodes_in-append (Head s w c n ∷ xs) ys = nodes_in-append xs ys
+nodes_in-append (Head s w c b n ∷ xs) ys = nodes_in-append xs ys
 nodes_in-append (Node r ∷ xs) ys = ap (λ (rs : List GapNode). r ∷ rs) (nodes_in-append xs ys)
 nodes_in-append (End ∷ xs) ys = nodes_in-append xs ys
 
@@ -37,12 +38,12 @@ nodes_in-nodes (r ∷ rs) = ap (λ (more : List GapNode). r ∷ more) (nodes_in-
 nodes_in-plan : (rs : List GapNode) → nodes_in (map (λ r. Node r) rs ++ End ∷ []) ≡ rs
 nodes_in-plan rs = nodes_in-append (map (λ r. Node r) rs) (End ∷ []) ∙ append-nil _ ∙ nodes_in-nodes rs
 
--- the head of a standing, a weight and a ceiling, and the plan of it and of these nodes
-abbrev head_of : Standing → ℕ → ℕ → AHead
-head_of s w c = record { standing = s; weight = w; ceiling = c }
+-- the head of a standing, a weight, a ceiling and numbers, and the plan of it and of these nodes
+abbrev head_of : Standing → ℕ → ℕ → Numbers → AHead
+head_of s w c b = record { standing = s; weight = w; ceiling = c; numbers = b }
 
-abbrev plan_with : Standing → ℕ → ℕ → List GapNode → GapPlan
-plan_with s w c nodes = record { standing = s; weight = w; ceiling = c; nodes = nodes }
+abbrev plan_with : Standing → ℕ → ℕ → Numbers → List GapNode → GapPlan
+plan_with s w c b nodes = record { standing = s; weight = w; ceiling = c; numbers = b; nodes = nodes }
 
 -- The head.
 
@@ -50,8 +51,8 @@ few_lines : (family : Family) → first_line family ≤ 6
 few_lines Plans = omega arith
 few_lines Gaps = omega arith
 
-pub head_heard : (family : Family) (p : Problem) (s : Standing) (w c n : ℕ) (tables : BoundTables) (checker : Progress) → checker ≡ begun_at (first_line family) p tables s w → IsUnderWay p checker → IsMadeFor p checker → HasHeard family p (Head s w c n ∷ []) (head_of s w c) checker
-head_heard family p s w c n tables checker begun under_way made = record {
+pub head_heard : (family : Family) (p : Problem) (s : Standing) (w c n : ℕ) (b : Numbers) (tables : BoundTables) (checker : Progress) → checker ≡ begun_at (first_line family) b p tables s w → IsUnderWay p checker → IsMadeFor p checker → HasHeard family p (Head s w c b n ∷ []) (head_of s w c b) checker
+head_heard family p s w c n b tables checker begun under_way made = record {
   under_way = under_way;
   made_for = made;
   line = let line : checker.line ≡ first_line family = ap (λ (g : Progress). g.line) begun in let few = few_lines family in omega (arith, line, few);
@@ -63,12 +64,12 @@ head_heard family p s w c n tables checker begun under_way made = record {
 module _ (family : Family) (p : Problem) where
   leads_on : (told : List PlanItem) (r : GapNode) (head : AHead) (old new : Progress) → ((c : ℕ) (rs : List GapNode) → gap_reason_if p new c rs ≡ gap_reason_if p old c (r ∷ rs)) → LeadsToReason family p told head old → LeadsToReason family p (told ++ Node r ∷ []) head new
   leads_on [] r head old new next leads = tt
-  leads_on (Head s w c n ∷ more) r head old new next leads = (
+  leads_on (Head s w c b n ∷ more) r head old new next leads = (
     leads.0,
     λ later.
         let nodes : nodes_in more ++ r ∷ later ≡ nodes_in (more ++ Node r ∷ []) ++ later =
         sym (append_assoc (nodes_in more) (r ∷ []) later) ∙ ap (λ (rs : List GapNode). rs ++ later) (sym (nodes_in-append more (Node r ∷ []))) in
-        next c later ∙ leads.1 (r ∷ later) ∙ ap (λ (rs : List GapNode). reason_against family p (plan_with s w c rs)) nodes,
+        next c later ∙ leads.1 (r ∷ later) ∙ ap (λ (rs : List GapNode). reason_against family p (plan_with s w c b rs)) nodes,
   )
   leads_on (Node q ∷ more) r head old new next leads = tt
   leads_on (End ∷ more) r head old new next leads = tt
@@ -84,11 +85,11 @@ module _ (family : Family) (p : Problem) where
 
   leads_still : (told : List PlanItem) (head : AHead) (checker : Progress) → LeadsToReason family p told head checker → LeadsToReason family p (told ++ End ∷ []) head checker
   leads_still [] head checker leads = tt
-  leads_still (Head s w c n ∷ more) head checker leads = (
+  leads_still (Head s w c b n ∷ more) head checker leads = (
     leads.0,
     λ later.
         let nodes : nodes_in more ++ later ≡ nodes_in (more ++ End ∷ []) ++ later = ap (λ (rs : List GapNode). rs ++ later) (sym (nodes_in-append more (End ∷ []) ∙ append-nil (nodes_in more))) in
-        leads.1 later ∙ ap (λ (rs : List GapNode). reason_against family p (plan_with s w c rs)) nodes,
+        leads.1 later ∙ ap (λ (rs : List GapNode). reason_against family p (plan_with s w c b rs)) nodes,
   )
   leads_still (Node q ∷ more) head checker leads = tt
   leads_still (End ∷ more) head checker leads = tt
@@ -105,13 +106,13 @@ module _ (family : Family) (p : Problem) where
 
 abbrev heads_in : List PlanItem → ℕ
 heads_in [] = 0
-heads_in (Head s w c n ∷ more) = heads_in more + 1
+heads_in (Head s w c b n ∷ more) = heads_in more + 1
 heads_in (Node r ∷ more) = heads_in more
 heads_in (End ∷ more) = heads_in more
 
 heads_in-append : (xs ys : List PlanItem) → heads_in (xs ++ ys) ≡ heads_in xs + heads_in ys
 heads_in-append [] ys = omega arith
-heads_in-append (Head s w c n ∷ xs) ys = let more = heads_in-append xs ys in omega (arith, more)
+heads_in-append (Head s w c b n ∷ xs) ys = let more = heads_in-append xs ys in omega (arith, more)
 heads_in-append (Node r ∷ xs) ys = heads_in-append xs ys
 heads_in-append (End ∷ xs) ys = heads_in-append xs ys
 
@@ -119,23 +120,23 @@ heads_in-nodes : (rs : List GapNode) → heads_in (map (λ r. Node r) rs) ≡ 0
 heads_in-nodes [] = refl
 heads_in-nodes (r ∷ rs) = heads_in-nodes rs
 
-one_head : (told more : List PlanItem) (u : PlanItem) (s : Standing) (w c n : ℕ) → heads_in more ≡ 0 → told ++ Head s w c n ∷ [] ≡ u ∷ more → told ≡ []
-one_head [] more u s w c n none e = refl
-one_head (t ∷ told) more u s w c n none e =
-    let rest : told ++ Head s w c n ∷ [] ≡ more = cc in
-    absurd (omega (arith, none, ap heads_in rest, heads_in-append told (Head s w c n ∷ [])))
+one_head : (told more : List PlanItem) (u : PlanItem) (s : Standing) (w c n : ℕ) (b : Numbers) → heads_in more ≡ 0 → told ++ Head s w c b n ∷ [] ≡ u ∷ more → told ≡ []
+one_head [] more u s w c n b none e = refl
+one_head (t ∷ told) more u s w c n b none e =
+    let rest : told ++ Head s w c b n ∷ [] ≡ more = cc in
+    absurd (omega (arith, none, ap heads_in rest, heads_in-append told (Head s w c b n ∷ [])))
 
 few_records : (family : Family) → most_records family ≤ MOST_GAP_NODES
 few_records Plans = omega arith
 few_records Gaps = omega arith
 
 module _ (family : Family) (p : Problem) (text : List ℕ) (told : List PlanItem) where
-  pub head_first : (s : Standing) (w c n : ℕ) → IsProblem p → Tells family p text (told ++ Head s w c n ∷ []) → told ≡ []
-  head_first s w c n sound tells = elim (items_in_order family p text (told ++ Head s w c n ∷ []) sound tells) [
-    | inl none ↦ let rest : length (told ++ Head s w c n ∷ []) ≡ 0 = ap (λ (xs : List PlanItem). length xs) none in absurd (omega (arith, rest, length-append told (Head s w c n ∷ [])))
+  pub head_first : (s : Standing) (w c n : ℕ) (b : Numbers) → IsProblem p → Tells family p text (told ++ Head s w c b n ∷ []) → told ≡ []
+  head_first s w c n b sound tells = elim (items_in_order family p text (told ++ Head s w c b n ∷ []) sound tells) [
+    | inl none ↦ let rest : length (told ++ Head s w c b n ∷ []) ≡ 0 = ap (λ (xs : List PlanItem). length xs) none in absurd (omega (arith, rest, length-append told (Head s w c b n ∷ [])))
     | inr order ↦ elim order.order [
-      | inl going ↦ one_head told _ _ s w c n (heads_in-nodes order.records) going
-      | inr (_, whole) ↦ one_head told _ _ s w c n (let sum = heads_in-append (map (λ r. Node r) order.records) (End ∷ []) in omega (arith, sum, heads_in-nodes order.records)) whole
+      | inl going ↦ one_head told _ _ s w c n b (heads_in-nodes order.records) going
+      | inr (_, whole) ↦ one_head told _ _ s w c n b (let sum = heads_in-append (map (λ r. Node r) order.records) (End ∷ []) in omega (arith, sum, heads_in-nodes order.records)) whole
     ]
   ]
 
@@ -152,19 +153,19 @@ module _ (family : Family) (p : Problem) (text : List ℕ) (told : List PlanItem
 
 -- so the next item is one that may come
 pub is_next : (family : Family) (p : Problem) (text : List ℕ) (told : List PlanItem) (item : PlanItem) → IsProblem p → Tells family p text (told ++ item ∷ []) → IsNextItem told item
-is_next family p text told (Head s w c n) sound tells = head_first family p text told s w c n sound tells
+is_next family p text told (Head s w c b n) sound tells = head_first family p text told s w c n b sound tells
 is_next family p text told (Node r) sound tells = tt
 is_next family p text told End sound tells = tt
 
 -- The reason against a whole plan or gap plan.
 
-pub plan_reason : (family : Family) (p : Problem) (plan : GapPlan) (told : List PlanItem) (head : AHead) (checker : Progress) → told ≡ items_of plan → HasHeard family p told head checker → (head ≡ head_of plan.standing plan.weight plan.ceiling) × (gap_reason_at_end checker head.ceiling ≡ reason_against family p plan)
+pub plan_reason : (family : Family) (p : Problem) (plan : GapPlan) (told : List PlanItem) (head : AHead) (checker : Progress) → told ≡ items_of plan → HasHeard family p told head checker → (head ≡ head_of plan.standing plan.weight plan.ceiling plan.numbers) × (gap_reason_at_end checker head.ceiling ≡ reason_against family p plan)
 plan_reason family p plan told head checker whole heard =
     let leads = subst (λ (items : List PlanItem). LeadsToReason family p items head checker) whole heard.reason in (
       leads.0,
       ap (λ (h : AHead). gap_reason_at_end checker h.ceiling) leads.0
           ∙ leads.1 []
-          ∙ ap (λ (rs : List GapNode). reason_against family p (plan_with plan.standing plan.weight plan.ceiling rs)) (append-nil _ ∙ nodes_in-plan plan.nodes),
+          ∙ ap (λ (rs : List GapNode). reason_against family p (plan_with plan.standing plan.weight plan.ceiling plan.numbers rs)) (append-nil _ ∙ nodes_in-plan plan.nodes),
     )
 
 -- What is kept.
@@ -190,7 +191,7 @@ kept_still false records = sym (append-nil records)
 abbrev plan_by : AHead → List TreeNode → Plan
 plan_by head records = record { standing = head.standing; weight = head.weight; tree = records }
 
-pub plan_kept : (keeps : Bool) (plan : GapPlan) (told : List PlanItem) (head : AHead) (records : List TreeNode) → told ≡ items_of plan → head ≡ head_of plan.standing plan.weight plan.ceiling → records ≡ records_kept keeps (nodes_in told) → plan_by head records ≡ kept_of keeps plan
+pub plan_kept : (keeps : Bool) (plan : GapPlan) (told : List PlanItem) (head : AHead) (records : List TreeNode) → told ≡ items_of plan → head ≡ head_of plan.standing plan.weight plan.ceiling plan.numbers → records ≡ records_kept keeps (nodes_in told) → plan_by head records ≡ kept_of keeps plan
 plan_kept keeps plan told head records whole is kept =
     let all : records ≡ records_kept keeps plan.nodes = kept ∙ ap (λ (items : List PlanItem). records_kept keeps (nodes_in items)) whole ∙ ap (records_kept keeps) (nodes_in-plan plan.nodes) in
-    ap (λ (h : AHead). plan_by h records) is ∙ ap (plan_by (head_of plan.standing plan.weight plan.ceiling)) all
+    ap (λ (h : AHead). plan_by h records) is ∙ ap (plan_by (head_of plan.standing plan.weight plan.ceiling plan.numbers)) all

@@ -12,6 +12,8 @@ use Rattle.search_model.specs.Problem.{Problem, IsProblem, position_name}
 use Rattle.search_model.specs.declared.standing.Standing.{Standing}
 use Rattle.bound_tree.specs.declared.node.Kind.{Kind}
 use Rattle.bound_tree.specs.declared.node.Kind.TheVariants.{Branch, Whole, Mean, Tangent, Edge}
+use Rattle.bound_tree.specs.declared.gap.Numbers.{Numbers}
+use Rattle.bound_tree.specs.declared.gap.Numbers.TheVariants.{Means, Edges}
 use Rattle.bound_tree.specs.declared.gap.GapKind.{GapKind}
 use Rattle.bound_tree.specs.declared.gap.GapKind.TheVariants.{Closed, Waiting}
 use Rattle.bound_tree.specs.declared.gap.GapNode.{GapNode}
@@ -19,9 +21,9 @@ use Rattle.bound_tree.specs.declared.gap.GapPlan.{GapPlan}
 use Rattle.bound_tree.specs.declared.plan.Plan.{Plan}
 use Rattle.bound_tree.specs.Gaps.{shape_of, shape_of_kind, closed_node, gap_of}
 use Rattle.gap_plan.specs.Nodes.{record_at, closed_in}
-use Rattle.tree_format.specs.declared.plan_line.Dialect.TheVariants.{Two, Gap}
-use Rattle.tree_format.specs.Dialects.{version_row}
-use Rattle.tree_format.specs.PlanText.{numbers, node_fields, chance_row, ceiling_row, count_row, head_rows, ArePositions, IsPrintableKind, IsPrintableRecord, IsNarrowKind, IsNarrowNode, IsPlanText2, IsGapText}
+use Rattle.tree_format.specs.declared.plan_line.Dialect.TheVariants.{PlanTwo}
+use Rattle.tree_format.specs.Dialects.{version_row, dialect_with}
+use Rattle.tree_format.specs.PlanText.{numbers, node_fields, node_row, chance_row, ceiling_row, ceiling_rows, count_row, head_rows, ArePositions, IsPrintableKind, IsPrintableRecord, IsNarrowKind, IsNarrowNode, IsPlanText2, IsGapText}
 use Rattle.tree_format.specs.declared.dialects.TheConstants.{MOST_GAP_NODES}
 use Rattle.tree_format.proofs.LineTexts.{gap_parts}
 use Rattle.plan_command.proofs.TextSizes.{IsShortRow, IsShortLine, line_size, rows_fit}
@@ -102,19 +104,32 @@ module _ (p : Problem) (sound : IsProblem p) where
   numbered_rows value weight n v w few = (two_numbers (codes "chance") value weight (omega arith) v w, one_number (codes "nodes") n (omega arith) few)
 
   head_fits : (s : Standing) (weight n : ℕ) → ArePositions p s.path → length s.path ≤ 32 → s.value < 2 ^ 128 → weight < 2 ^ 128 → n < 2 ^ 128 →
-      length (text_of (head_rows Two p s weight s.value n)) ≤ 5284
+      length (text_of (head_rows PlanTwo p s weight s.value n)) ≤ 5284
   head_fits s weight n places short value narrow few =
       let path : List (List ℕ) = codes "path" ∷ map (position_name p) s.path in
       let chance = chance_row s.value weight in
       let count = count_row n in
       let (numbered, last) = numbered_rows s.value weight n value narrow few in
       let behind = All-cons IsHeadRow path (chance ∷ count ∷ []) (path_row_fits s.path places short) (All-cons IsHeadRow chance (count ∷ []) numbered (All-cons IsHeadRow count [] last (All-nil IsHeadRow))) in
-      let each = All-cons IsHeadRow (version_row Two) (path ∷ chance ∷ count ∷ []) (word_row (codes "plan") (codes "2") (omega arith) (omega arith)) behind in
-      omega (arith, rows_fit 33 39 (version_row Two ∷ path ∷ chance ∷ count ∷ []) each)
+      let each = All-cons IsHeadRow (version_row PlanTwo) (path ∷ chance ∷ count ∷ []) (word_row (codes "plan") (codes "2") (omega arith) (omega arith)) behind in
+      omega (arith, rows_fit 33 39 (version_row PlanTwo ∷ path ∷ chance ∷ count ∷ []) each)
 
-  gap_head_fits : (s : Standing) (weight ceiling n : ℕ) → ArePositions p s.path → length s.path ≤ 32 → s.value < 2 ^ 128 → weight < 2 ^ 128 → ceiling < 2 ^ 128 → n < 2 ^ 128 →
-      length (text_of (head_rows Gap p s weight ceiling n)) ≤ 6605
-  gap_head_fits s weight ceiling n places short value narrow most few =
+  -- the first line, `ceiling N`, and the nodes of a gap plan, whichever numbers it has
+  gap_version_fits : (b : Numbers) → IsHeadRow (version_row (dialect_with b))
+  gap_version_fits Means = word_row (codes "gap") (codes "1") (omega arith) (omega arith)
+  gap_version_fits Edges = word_row (codes "gap") (codes "2") (omega arith) (omega arith)
+
+  gap_ceiling : (b : Numbers) (ceiling : ℕ) → ceiling_rows (dialect_with b) ceiling ≡ ceiling_row ceiling ∷ []
+  gap_ceiling Means ceiling = refl
+  gap_ceiling Edges ceiling = refl
+
+  lean_rows : (b : Numbers) (nodes : List GapNode) → map (node_row (dialect_with b)) nodes ≡ map lean_row nodes
+  lean_rows Means nodes = refl
+  lean_rows Edges nodes = refl
+
+  gap_head_fits : (b : Numbers) (s : Standing) (weight ceiling n : ℕ) → ArePositions p s.path → length s.path ≤ 32 → s.value < 2 ^ 128 → weight < 2 ^ 128 → ceiling < 2 ^ 128 → n < 2 ^ 128 →
+      length (text_of (head_rows (dialect_with b) p s weight ceiling n)) ≤ 6605
+  gap_head_fits b s weight ceiling n places short value narrow most few =
       let path : List (List ℕ) = codes "path" ∷ map (position_name p) s.path in
       let chance = chance_row s.value weight in
       let above = ceiling_row ceiling in
@@ -122,8 +137,10 @@ module _ (p : Problem) (sound : IsProblem p) where
       let (numbered, last) = numbered_rows s.value weight n value narrow few in
       let from_above = All-cons IsHeadRow above (count ∷ []) (one_number (codes "ceiling") ceiling (omega arith) most) (All-cons IsHeadRow count [] last (All-nil IsHeadRow)) in
       let behind = All-cons IsHeadRow path (chance ∷ above ∷ count ∷ []) (path_row_fits s.path places short) (All-cons IsHeadRow chance (above ∷ count ∷ []) numbered from_above) in
-      let each = All-cons IsHeadRow (version_row Gap) (path ∷ chance ∷ above ∷ count ∷ []) (word_row (codes "gap") (codes "1") (omega arith) (omega arith)) behind in
-      omega (arith, rows_fit 33 39 (version_row Gap ∷ path ∷ chance ∷ above ∷ count ∷ []) each)
+      let version = version_row (dialect_with b) in
+      let each = All-cons IsHeadRow version (path ∷ chance ∷ above ∷ count ∷ []) (gap_version_fits b) behind in
+      let same = ap (λ (rows : List (List (List ℕ))). length (text_of (version ∷ path ∷ chance ∷ (rows ++ count ∷ [])))) (gap_ceiling b ceiling) in
+      omega (arith, same, rows_fit 33 39 (version ∷ path ∷ chance ∷ above ∷ count ∷ []) each)
 
   -- the whole text of a plan: at most 170 bytes for each record, and 5,288 for the rest
   pub plan_text_fits : (plan : Plan) (text : List ℕ) → IsPlanText2 p plan text → length text ≤ 5288 + length plan.tree * 170
@@ -131,22 +148,24 @@ module _ (p : Problem) (sound : IsProblem p) where
       let s = plan.standing in
       let n = length plan.tree in
       let nodes = map closed_node plan.tree in
-      let head = text_of (head_rows Two p s plan.weight s.value (length nodes)) in
+      let head = text_of (head_rows PlanTwo p s plan.weight s.value (length nodes)) in
       let records = text_of (map lean_row nodes) in
       let same : length nodes ≡ n = length-map plan.tree closed_node in
       let above = head_fits s plan.weight (length nodes) is.printable.positions is.printable.short is.narrow.value is.narrow.weight (omega (arith, is.printable.few, same)) in
       let printable = All-map (λ node. IsPrintableKind p (shape_of node).kind) closed_node plan.tree (All-weaker (IsPrintableRecord p) (λ r. IsPrintableKind p r.kind) (λ r printable. printable.kind) plan.tree is.printable.records) in
       let lines = node_lines nodes printable (All-map (λ node. IsNarrowNode node.kind) closed_node plan.tree is.narrow.records) in
-      omega (arith, ap length is.spelled, ap length (gap_parts Two p (gap_of plan)), length-append head (records ++ (codes "end" ++ 10 ∷ [])), length-append records (codes "end" ++ 10 ∷ []), above, lines, same, ap length (closed_again plan.tree))
+      omega (arith, ap length is.spelled, ap length (gap_parts PlanTwo p (gap_of Means plan)), length-append head (records ++ (codes "end" ++ 10 ∷ [])), length-append records (codes "end" ++ 10 ∷ []), above, lines, same, ap length (closed_again plan.tree))
 
   -- and of a gap plan: at most 42 bytes for each node, 128 more for each closed one, and 6,609 for the rest
   pub gap_text_fits : (plan : GapPlan) (text : List ℕ) → IsGapText p plan text → length text ≤ 6609 + (length plan.nodes * 42 + length (closed_in plan.nodes) * 128)
   gap_text_fits plan text is =
       let s = plan.standing in
       let n = length plan.nodes in
-      let head = text_of (head_rows Gap p s plan.weight plan.ceiling n) in
-      let records = text_of (map lean_row plan.nodes) in
+      let v = dialect_with plan.numbers in
+      let head = text_of (head_rows v p s plan.weight plan.ceiling n) in
+      let records = text_of (map (node_row v) plan.nodes) in
+      let lean = ap (λ (rows : List (List (List ℕ))). length (text_of rows)) (lean_rows plan.numbers plan.nodes) in
       let all : MOST_GAP_NODES ≡ 4194305 = refl in
-      let above = gap_head_fits s plan.weight plan.ceiling n is.printable.positions is.printable.short is.narrow.value is.narrow.weight is.narrow.ceiling (omega (arith, is.printable.few, all)) in
+      let above = gap_head_fits plan.numbers s plan.weight plan.ceiling n is.printable.positions is.printable.short is.narrow.value is.narrow.weight is.narrow.ceiling (omega (arith, is.printable.few, all)) in
       let lines = node_lines plan.nodes is.printable.kinds is.narrow.nodes in
-      omega (arith, ap length is.spelled, ap length (gap_parts Gap p plan), length-append head (records ++ (codes "end" ++ 10 ∷ [])), length-append records (codes "end" ++ 10 ∷ []), above, lines)
+      omega (arith, ap length is.spelled, ap length (gap_parts v p plan), length-append head (records ++ (codes "end" ++ 10 ∷ [])), length-append records (codes "end" ++ 10 ∷ []), above, lean, lines)

@@ -2,12 +2,15 @@
 use Rattle.std.proofs.Common.{ℕ, ◌≡◌, false, List, Result, Ok, Err, refl, sym, ap, subst, ◌∙◌, inl, inr}
 use Rattle.search_model.specs.Problem.{Problem, IsProblem}
 use Rattle.bound_tree.specs.declared.plan.Plan.{Plan}
+use Rattle.bound_tree.specs.declared.gap.Numbers.{Numbers}
+use Rattle.bound_tree.specs.declared.gap.Numbers.TheVariants.{Means, Edges}
 use Rattle.bound_tree.specs.declared.gap.GapPlan.{GapPlan}
 use Rattle.bound_tree.specs.Gaps.{plan_of}
 use Rattle.tree_format.specs.declared.kind.PlanFault.{PlanFault}
 use Rattle.tree_format.specs.declared.plan_line.Family.{Family}
 use Rattle.tree_format.specs.declared.plan_line.Family.TheVariants.{Plans, Gaps}
-use Rattle.tree_format.specs.PlanText.{plan_text, plan_text_2, gap_text, IsTextOfPlan, IsGapText}
+use Rattle.tree_format.specs.Dialects.{dialect_with}
+use Rattle.tree_format.specs.PlanText.{text_in, plan_text, plan_text_2, gap_text, IsTextOfPlan, IsGapText}
 use Rattle.tree_format.specs.Reading.{text_at, as_plan, plan_at, gap_at}
 use Rattle.tree_format.proofs.ReadsBack.{text_read, read_is_closed, gap_read, one_plan_a_text, one_gap_a_text}
 use Rattle.tree_format.proofs.Spelled.{one_text_a_plan, one_text_a_gap}
@@ -24,8 +27,12 @@ text_starts : (p : Problem) (plan : Plan) (text : List ℕ) → IsTextOfPlan p p
 text_starts p plan text (inl one) = starts_so text (plan_text p plan) one.spelled refl
 text_starts p plan text (inr two) = starts_so text (plan_text_2 p plan) two.spelled refl
 
+gap_begins : (b : Numbers) (p : Problem) (plan : GapPlan) → starts_with_space (text_in (dialect_with b) p plan) ≡ false
+gap_begins Means p plan = refl
+gap_begins Edges p plan = refl
+
 gap_starts : (p : Problem) (plan : GapPlan) (text : List ℕ) → IsGapText p plan text → starts_with_space text ≡ false
-gap_starts p plan text is = starts_so text (gap_text p plan) is.spelled refl
+gap_starts p plan text is = starts_so text (gap_text p plan) is.spelled (gap_begins plan.numbers p plan)
 
 -- the plan of the text behind the blanks that are skipped is the plan of the rest
 pub plan_behind : (p : Problem) (rest text : List ℕ) (plan : Plan) → IsProblem p → SkipsSpaces rest text → plan_at p text ≡ Ok plan → IsPlanRest p rest plan

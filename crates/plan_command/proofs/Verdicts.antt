@@ -4,6 +4,7 @@ use Rattle.std.specs.Option.{option_map}
 use Rattle.search_model.specs.Problem.{Problem}
 use Rattle.search_model.specs.Legal.{IsPath}
 use Rattle.bound_tree.specs.declared.plan.Plan.{Plan as APlan}
+use Rattle.bound_tree.specs.declared.gap.Numbers.TheVariants.{Means}
 use Rattle.bound_tree.specs.declared.gap.GapPlan.{GapPlan}
 use Rattle.bound_tree.specs.Accepts.{Accepts}
 use Rattle.bound_tree.specs.Gaps.{GapAccepts, plan_of, gap_of}
@@ -43,16 +44,16 @@ rejected_for : (family : Family) (p : Problem) (plan : GapPlan) (verdict : GapVe
 rejected_for family p plan verdict at rejected on = ((λ accepts. never_both at (sym rejected ∙ on.accepted.1 accepts)), reason_is _ at (sym rejected ∙ on.exact))
 
 -- A plan as the gap plan of its records.
-module _ (p : Problem) (plan : GapPlan) (closed : gap_of (plan_of plan) ≡ plan) where
+module _ (p : Problem) (plan : GapPlan) (closed : gap_of Means (plan_of plan) ≡ plan) where
   pub plan_accepted : GapAccepts p plan → Accepts p (plan_of plan)
-  plan_accepted a = (plan_is_gap_plan p (plan_of plan)).1 (subst (GapAccepts p) (sym closed) a)
+  plan_accepted a = (plan_is_gap_plan Means p (plan_of plan)).1 (subst (GapAccepts p) (sym closed) a)
 
   gap_accepted : Accepts p (plan_of plan) → GapAccepts p plan
-  gap_accepted a = subst (GapAccepts p) closed ((plan_is_gap_plan p (plan_of plan)).0 a)
+  gap_accepted a = subst (GapAccepts p) closed ((plan_is_gap_plan Means p (plan_of plan)).0 a)
 
   -- the first reason against it
   plain_first_reason : reason_against Plans p plan ≡ option_map as_gap (first_reason p (plan_of plan))
-  plain_first_reason = ap (reason_from 5 p) (sym closed) ∙ reason_is_plain p (plan_of plan)
+  plain_first_reason = ap (reason_from 5 p) (sym closed) ∙ reason_is_plain Means p (plan_of plan)
 
 -- a reason against a plan that is told as this one
 plain_is : (reason : Option RejectAt) (at : GapRejectAt) → option_map as_gap reason ≡ Some at → (plain : RejectAt) × (reason ≡ Some plain) × (as_gap plain ≡ at)
@@ -63,7 +64,7 @@ plain_line : (plain : RejectAt) (at : GapRejectAt) → as_gap plain ≡ at → g
 plain_line plain at same = ap gap_rejection_of (sym same)
 
 -- so a check tells the verdict on a plan
-plan_told : (p : Problem) (plan : GapPlan) (verdict : GapVerdict) (status : Status) (text : List ℕ) → gap_of (plan_of plan) ≡ plan → IsVerdictOn Plans p plan verdict → IsTold verdict status text → IsVerdict p (plan_of plan) status text
+plan_told : (p : Problem) (plan : GapPlan) (verdict : GapVerdict) (status : Status) (text : List ℕ) → gap_of Means (plan_of plan) ≡ plan → IsVerdictOn Plans p plan verdict → IsTold verdict status text → IsVerdict p (plan_of plan) status text
 plan_told p plan Accepted status text closed on (done, said) = inl (plan_accepted p plan closed (on.accepted.0 refl), done, said)
 plan_told p plan (Rejected at) status text closed on (done, said) =
     let (refused, against) = rejected_for Plans p plan (Rejected at) at refl on in

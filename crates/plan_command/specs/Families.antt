@@ -2,6 +2,7 @@
 -- its records: no node waits, and the ceiling is the value.
 use Rattle.std.specs.Prelude.{ℕ, ◌≡◌, List, Option}
 use Rattle.search_model.specs.Problem.{Problem}
+use Rattle.bound_tree.specs.declared.gap.Numbers.TheVariants.{Means}
 use Rattle.bound_tree.specs.declared.gap.GapPlan.{GapPlan}
 use Rattle.bound_tree.specs.Gaps.{plan_of, gap_of}
 use Rattle.tree_format.specs.declared.plan_line.Family.{Family}
@@ -13,7 +14,7 @@ use Rattle.plan_command.specs.Plans.{HasBehind, IsPlanRest, IsGapRest}
 
 -- behind blanks and line feeds the rest is its text
 abbrev pub IsRestOf : Family → Problem → List ℕ → GapPlan → Type 0
-IsRestOf Plans p rest plan = IsPlanRest p rest (plan_of plan) × (gap_of (plan_of plan) ≡ plan)
+IsRestOf Plans p rest plan = IsPlanRest p rest (plan_of plan) × (gap_of Means (plan_of plan) ≡ plan)
 IsRestOf Gaps p rest plan = IsGapRest p rest plan
 
 -- the input is a scenario, and it behind that

@@ -6,7 +6,7 @@ use Rattle.search_model.specs.Tracks.{value_of}
 use Rattle.search_model.specs.Order.{standing_of, IsBest}
 use Rattle.search_model.specs.Opening.{IsOpening}
 use Rattle.bound_tree.specs.declared.gap.GapPlan.{GapPlan}
-use Rattle.bound_tree.specs.Gaps.{GapAccepts, NoneWaits}
+use Rattle.bound_tree.specs.Gaps.{numbers_for, GapAccepts, NoneWaits}
 use Rattle.bound_tree.specs.Close.{IsAtLeast, LetsBranch, HasMoreLive}
 use Rattle.gap_plan.specs.Nodes.{closed_in}
 use Rattle.tree_format.specs.PlanText.{IsGapText}
@@ -21,11 +21,12 @@ pub record RanOut (p : Problem) (opening : List ℕ) (nodes closed : ℕ) : Type
   pub used : closed ≡ nodes
   pub more : HasMoreLive p (standing_of p opening) nodes
 
--- a gap plan that is accepted, so that no path finds more than its ceiling; its path isn't worse than the opening, and no
+-- a gap plan that is accepted, so that no path finds more than its ceiling, with the numbers of the problem; its path isn't worse than the opening, and no
 -- branch has a prefix that the opening closes by its mean, tangent or edge bound. At most so many records are closed; where
 -- no prefix waits, the path is the best, and else the records ran out
 pub record IsGapped (nodes : ℕ) (p : Problem) (plan : GapPlan) : Type 0 where
   pub accepted : GapAccepts p plan
+  pub numbers : plan.numbers ≡ numbers_for p
   pub ceiling : IsAbove p plan.ceiling
   pub opening : List ℕ
   pub is_opening : IsOpening p opening

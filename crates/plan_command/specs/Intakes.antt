@@ -52,7 +52,7 @@ HasGathered old piece (Some used) new = (used ≤ length piece) × (new ≡ old 
 -- the nodes among what was told
 abbrev pub nodes_in : List PlanItem → List GapNode
 nodes_in [] = []
-nodes_in (items.Head s w c n ∷ more) = nodes_in more
+nodes_in (items.Head s w c b n ∷ more) = nodes_in more
 nodes_in (items.Node r ∷ more) = r ∷ nodes_in more
 nodes_in (items.End ∷ more) = nodes_in more
 
@@ -79,9 +79,9 @@ keeping_plans = record { family = Plans; keeps = true }
 -- where a head was told first, it is this one, and the checker leads to the first reason against the plan or gap plan of that
 -- head and of the nodes so far, whatever nodes follow
 abbrev pub LeadsToReason : Family → Problem → List PlanItem → Head → Progress → Type 0
-LeadsToReason family p (items.Head s w c n ∷ more) head checker =
-    (head ≡ record { standing = s; weight = w; ceiling = c })
-    × ((later : List GapNode) → gap_reason_if p checker c later ≡ reason_against family p (record { standing = s; weight = w; ceiling = c; nodes = nodes_in more ++ later }))
+LeadsToReason family p (items.Head s w c b n ∷ more) head checker =
+    (head ≡ record { standing = s; weight = w; ceiling = c; numbers = b })
+    × ((later : List GapNode) → gap_reason_if p checker c later ≡ reason_against family p (record { standing = s; weight = w; ceiling = c; numbers = b; nodes = nodes_in more ++ later }))
 LeadsToReason family p told head checker = Unit {0}
 
 -- a checker that was told these items, and the head among them
@@ -93,7 +93,7 @@ pub record HasHeard (family : Family) (p : Problem) (told : List PlanItem) (head
 
 -- a head is told first of all
 abbrev pub IsNextItem : List PlanItem → PlanItem → Type 0
-IsNextItem told (items.Head s w c n) = told ≡ []
+IsNextItem told (items.Head s w c b n) = told ≡ []
 IsNextItem told (items.Node r) = Unit {0}
 IsNextItem told items.End = Unit {0}
 

@@ -2,7 +2,7 @@
 
 ghost use Rattle.std.specs.Prelude.{◌≤◌, length, IfOk};
 ghost use Rattle.bound_tree.specs.Accepts.{Accepts};
-ghost use Rattle.bound_tree.specs.Gaps.{gap_of, GapAccepts};
+ghost use Rattle.bound_tree.specs.Gaps.{gap_of, numbers_for as numbers_for_lem, GapAccepts};
 ghost use Rattle.tree_format.specs.declared.dialects.TheConstants.{MOST_GAP_NODES};
 ghost use Rattle.tree_format.specs.PlanText.{IsGapText};
 ghost use Rattle.plan_command.specs.Gives.{Gives};
@@ -12,7 +12,7 @@ ghost use Rattle.plan_command.specs.GapPlans.{IsGapOf, IsUngapped};
 use crate::planning::plan_found;
 use crate::request::MOST_CLOSED;
 use crate::status::Stop;
-use bound_tree::Plan;
+use bound_tree::{Plan, numbers_for};
 use exact_parts::NoMemory;
 use gap_plan::{GapPlan, make_gap};
 use opening_path::opening;
@@ -23,11 +23,12 @@ use std::sync::Wait;
 use std::thread::Threads;
 use tree_format::{print_gap, print_plan_as_gap};
 
-// The text of what a search found, as a gap plan: nothing waits, and the ceiling is the value.
+// The text of what a search found, as a gap plan with the numbers of the scenario: nothing waits, and the ceiling is the
+// value.
 fn text_of_found(alloc: Global, sc: &Scenario, plan: &Plan) -> Result<Vec<u8>, NoMemory>
     requires accepted { Accepts sc.now plan.now }
     requires few { length plan.now.tree ≤ MOST_CLOSED }
-    ensures { IfOk result (λ text. IsGapText sc.now (gap_of plan.now) text.items) }
+    ensures { IfOk result (λ text. IsGapText sc.now (gap_of (numbers_for_lem sc.now) plan.now) text.items) }
 {
     sc.recall_sound();
     let mut text = Vec::new(alloc);
@@ -68,7 +69,14 @@ pub fn gapped<R: AllocGlobal + Threads + Wait + Sync, G: Gate>(
             Ok(text_of_found(rt.alloc(), sc, &plan)?)
         }
         Err(SearchStop::Full(part)) => {
-            let plan = make_gap(rt.alloc(), sc, part.closed, part.waiting, part.best)?;
+            let plan = make_gap(
+                rt.alloc(),
+                sc,
+                part.closed,
+                part.waiting,
+                part.best,
+                numbers_for(sc),
+            )?;
             Ok(text_of_gap(rt.alloc(), sc, &plan)?)
         }
         Err(SearchStop::NoMemory) => Err(Stop::NoMemory),

@@ -8,26 +8,33 @@ ghost use Rattle.tree_checker.specs.Progress.{IsUnderWay, IsMadeFor};
 ghost use Rattle.plan_command.specs.declared.hearing.Head.{Head as HeadLem};
 ghost use Rattle.plan_command.specs.Intakes.{HasHeard};
 
-use bound_tree::GapNode;
+use bound_tree::{GapNode, Numbers};
 use search_model::{Scenario, Standing};
 use tree_checker::Checker;
 use tree_format::{Family, first_line};
 
-/// The head of a text, of a plan or of a gap plan. The ceiling of a plan is its value.
+/// The head of a text, of a plan or of a gap plan. The ceiling of a plan is its value, and it has no numbers: either would do.
 #[derive(Clone, Copy)]
 pub struct Head {
     pub standing: Standing,
     pub weight: u128,
     pub ceiling: u128,
+    pub numbers: Numbers,
 }
 
 /// Tells the head of a text of the family.
 pub fn hear_head(checker: &mut Checker, sc: &Scenario, family: Family, head: &Head)
     requires { IsMadeFor sc.now checker.old }
     ensures { (count : ℕ) → HasHeard family sc.now
-        (items.Head head.now.standing head.now.weight head.now.ceiling count ∷ []) head.now checker.new }
+        (items.Head head.now.standing head.now.weight head.now.ceiling head.now.numbers count ∷ []) head.now checker.new }
 {
-    checker.begin(sc, first_line(family), &head.standing, head.weight);
+    checker.begin(
+        sc,
+        first_line(family),
+        head.numbers,
+        &head.standing,
+        head.weight,
+    );
 }
 
 /// Tells the next node of a text.

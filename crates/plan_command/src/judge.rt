@@ -11,7 +11,7 @@ ghost use Rattle.plan_command.specs.Intakes.{records_kept, kept_by, nodes_in, Is
 
 use crate::hearing::{Head, hear_head, hear_node};
 use crate::spaces::skip_spaces;
-use bound_tree::{GapNode, TreeNode};
+use bound_tree::{GapNode, Numbers, TreeNode};
 use exact_parts::NoMemory;
 use search_model::{Path, Scenario, Standing};
 use std::alloc::Global;
@@ -90,6 +90,7 @@ impl Judge {
                     },
                     weight: 0,
                     ceiling: 0,
+                    numbers: Numbers::Means,
                 },
                 records: Vec::new(alloc),
                 begun: false,
@@ -122,11 +123,12 @@ impl Judge {
         ensures free { IfErr result (λ refused. IsTrue self.old.task.keeps) }
     {
         match item {
-            PlanItem::Head(standing, weight, ceiling, _) => {
+            PlanItem::Head(standing, weight, ceiling, numbers, _) => {
                 self.head = Head {
                     standing,
                     weight,
                     ceiling,
+                    numbers,
                 };
                 hear_head(&mut self.checker, &self.sc, self.task.family, &self.head);
                 Ok(())

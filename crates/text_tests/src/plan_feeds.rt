@@ -20,7 +20,7 @@ struct Telling {
 fn hear(telling: &mut Telling, step: Step) -> Result<(), Fail> {
     match step {
         Step::More => {}
-        Step::Item(PlanItem::Head(standing, weight, ceiling, nodes)) => {
+        Step::Item(PlanItem::Head(standing, weight, ceiling, numbers, nodes)) => {
             telling.head = Some((standing, weight, ceiling, nodes));
         }
         Step::Item(PlanItem::Node(GapNode { prefix, kind })) => {

@@ -8,5 +8,5 @@ returns c =
     let p = c.args.sc.now in
     let head = c.args.head.now in
     let tables = c.begin.new.self.tables in
-    let begun = c.begin.ensures.begun ∙ ap (λ (line : ℕ). begun_at line p tables head.standing head.weight) c.first_line.ensures in
-    λ count. head_heard c.args.family p head.standing head.weight head.ceiling count tables c.begin.new.self begun c.begin.ensures.under_way c.begin.ensures.made
+    let begun = c.begin.ensures.begun ∙ ap (λ (line : ℕ). begun_at line head.numbers p tables head.standing head.weight) c.first_line.ensures in
+    λ count. head_heard c.args.family p head.standing head.weight head.ceiling count head.numbers tables c.begin.new.self begun c.begin.ensures.under_way c.begin.ensures.made

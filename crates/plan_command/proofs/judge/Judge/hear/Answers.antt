@@ -8,7 +8,7 @@ use Rattle.plan_command.proofs.judge.Judge.hear.Goals as goal
 pub returns-in-Head-clause-heard : goal.returns-in-Head-clause-heard
 returns-in-Head-clause-heard c = λ told next heard.
     let self = c.args.self.now in
-    let head : Head = record { standing = c.in-Head.standing; weight = c.in-Head.weight; ceiling = c.in-Head.ceiling } in
+    let head : Head = record { standing = c.in-Head.standing; weight = c.in-Head.weight; ceiling = c.in-Head.ceiling; numbers = c.in-Head.numbers } in
     let first : told ≡ [] = subst (λ (item : PlanItem). IsNextItem told item) c.in-Head.is next in
     subst (λ (items : List PlanItem). HasHeard self.task.family self.sc items head c.hear_head.new.checker)
     (ap (λ (items : List PlanItem). items ++ c.args.item ∷ []) (sym first))
