@@ -6,17 +6,15 @@ isn't known here to mean the same is refused: memory is read and written by the 
 """
 import re
 
-# What the kit hands over, and what it becomes. (The layout of wasm32 is what clang says of an empty file.)
-TRIPLE = "x86_64-unknown-linux-gnu"
-LAYOUT = "e-m:e-p270:32:32-p271:32:32-p272:64:64-i64:64-i128:128-f80:128-n8:16:32:64-S128"
+from handed import CHOICE, LAYOUT, PAUSE, TRIPLE
+
+# What the module becomes one of. (The layout of wasm32 is what clang says of an empty file.)
 NEW_TRIPLE = "wasm32-unknown-unknown"
 NEW_LAYOUT = "e-m:e-p:32:32-p10:8:8-p20:8:8-i64:64-i128:128-n32:64-S128-ni:1:10:20"
 # What attributes say of the processor, of its stack, and of who made a function: none of it is said of a module of WebAssembly.
 ATTRIBUTES = re.compile(r' "(?:target-cpu|target-features|tune-cpu|probe-stack|stack-probe-size|rattle-sig)"="[^"]*"')
-# The two instructions of x86-64 that the program asks for by name: a pause of a worker that waits, which is nothing there, and a choice
-# of bytes by sixteen numbers, of which the lowest four bits count, and a negative one chooses 0.
-PAUSE = "@llvm.x86.sse2.pause()"
-CHOICE, NEW_CHOICE = "@llvm.x86.ssse3.pshuf.b.128", "@osp.choice"
+# A function in the place of the choice of bytes. (A pause is nothing there.)
+NEW_CHOICE = "@osp.choice"
 # Instructions that touch no memory, or whose operands are numbers.
 PLAIN = frozenset(
     "add and ashr bitcast br call extractelement extractvalue fadd fcmp fdiv fence fmul freeze fsub icmp insertelement insertvalue lshr mul or phi "
