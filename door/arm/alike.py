@@ -1,0 +1,59 @@
+"""What the kit hands to clang for aarch64, told from what it hands over for x86-64: line by line the same, but for what is named here.
+
+So the module for aarch64 needn't be believed to be that of the proved program: it is compared. A line that is another one, and isn't
+named here, is refused.
+"""
+import itertools
+import re
+
+import handed
+from handed import CHOICE, LAYOUT, PAUSE, TRIPLE
+
+NEW_TRIPLE = "aarch64-unknown-linux-gnu"
+NEW_LAYOUT = "e-m:e-p270:32:32-p271:32:32-p272:64:64-i8:8:32-i16:16:32-i64:64-i128:128-n32:64-S128-Fn32"
+# The same instructions there. (A choice is asked for by numbers below 16 alone: that is the contract of the kit's `swizzle_dyn`.)
+NEW_PAUSE, NEW_CHOICE = "@llvm.aarch64.isb(i32 15)", "@llvm.aarch64.neon.tbl1.v16i8"
+# How the kernel of each machine numbers the call by which threads wait for each other, futex.
+WAIT, NEW_WAIT = '@"+threads::syscall"(i64 202, ', '@"+threads::syscall"(i64 98, '
+# What attributes say of the processor, its stack, and its frames.
+ATTRIBUTES = re.compile(r' "(?:target-cpu|target-features|tune-cpu|probe-stack|stack-probe-size|frame-pointer)"="[^"]*"')
+GROUP = re.compile(r"^attributes (#\d+) = \{(.*) \}$", re.M)
+# Two numbers of a call are two registers on both, which for x86-64 are stored one by one.
+PAIR = re.compile(
+    r"  %r0 = call \{ i64, i64 \} (?P<call>@rattle_(?:re)?alloc\(.*)\n  %r1 = alloca \[16 x i8\], align 8\n  store \{ i64, i64 \} %r0, ptr %r1, align 8\n"
+    r"  %r2 = load i64, ptr %r1, align 8\n  store i64 %r2, ptr %a0, align 8\n  %r3 = getelementptr i8, ptr %r1, i64 8\n"
+    r"  %r4 = load i64, ptr %r3, align 8\n  %r5 = getelementptr i8, ptr %a0, i64 8\n  store i64 %r4, ptr %r5, align 8\n"
+)
+NEW_PAIR = r"  %r0 = call [2 x i64] \g<call>\n  store [2 x i64] %r0, ptr %a0, align 8\n"
+NEW_MAIN = f"""define i32 @main() {{ nounwind}} {{
+start:
+  %r0 = call i64 @__sysv_signal(i32 13, i64 1)
+  %r1 = call i32 @{handed.ENTRY}()
+  ret i32 %r1
+}}"""
+# What one of the two may declare alone, or in another way: what `main` calls, and the instructions above.
+DECLARED = [*handed.OF_MAIN, *(it.split("(")[0].removeprefix("@") for it in (PAUSE, NEW_PAUSE, CHOICE, NEW_CHOICE))]
+DECLARATION = re.compile(rf"^declare [^\n]*@(?:{'|'.join(map(re.escape, DECLARED))})\([^\n]*\n", re.M)
+MEMORY = re.compile(r"^declare \{ i64, i64 \} (?=@rattle_(?:re)?alloc\()", re.M)
+
+
+def plain(text):
+    """The lines of LLVM's text that say something, with the attributes themselves in the place of the numbers of their groups."""
+    groups = {number: "{" + ATTRIBUTES.sub("", told) + "}" for number, told in GROUP.findall(text)}
+    text = re.sub(r" (#\d+)(?=(?: \{)?$)", lambda it: f" {groups[it[1]]}", GROUP.sub("", text), flags=re.M)
+    return DECLARATION.sub("", re.sub(r"^(?:;.*)?\n", "", text, flags=re.M)).splitlines()
+
+
+def armed(text):
+    """The lines of the module for aarch64, from the text of the module for x86-64. Raises handed.Stop where its `main` isn't known."""
+    text = handed.with_main(text, NEW_MAIN)
+    for old, new in ((LAYOUT, NEW_LAYOUT), (TRIPLE, NEW_TRIPLE), (PAUSE, NEW_PAUSE), (f"{CHOICE}(", f"{NEW_CHOICE}("), (WAIT, NEW_WAIT)):
+        text = text.replace(old, new)
+    return plain(MEMORY.sub("declare [2 x i64] ", PAIR.sub(NEW_PAIR, text)))
+
+
+def compare(text, there):
+    """Raises handed.Stop, with the first line, where the module for aarch64, whose text is `there`, isn't the one that `armed` tells of."""
+    for at, (wanted, line) in enumerate(itertools.zip_longest(armed(text), plain(there), fillvalue="nothing"), 1):
+        if wanted != line:
+            raise handed.Stop(f"line {at} of the module for aarch64 isn't known here: {line.strip()[:200]}, and not {wanted.strip()[:200]}")
