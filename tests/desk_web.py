@@ -231,7 +231,7 @@ class Answers(unittest.TestCase):
     """The module answers as the program for Linux does, byte for byte."""
 
     def same(self, cases):
-        self.assertFalse(web.differing(cases))
+        self.assertFalse(web.differing(cases, [it.answer for it in web.in_node(cases)]))
 
     def test_module(self):
         """The module of the built program, which calls what is known here and nothing else."""
@@ -274,23 +274,65 @@ def embedded(page, name, content):
     return re.sub(f'(<template id="carried-{name}">)[^<]*', lambda it: it[1] + carried.packed(content), page)
 
 
-@unittest.skipIf(web.lacking() or not pages.IS_BUILT, web.lacking() or "no program is built: its pages carry none")
-class Pages(pages.Room):
-    """Pages that carry the program and check themselves, in headless Chromium."""
-
-    PYTHON, SCRIPT, LACKING = "/usr/bin/python3", f"{TOP}/tests/web_in_browser.py", 77
-    HERE = re.compile(r"Checked here, just now, by the proved program \(\d+\.\d\d s\)\.")
+class Carrying(pages.Room):
+    """Pages that carry the program."""
 
     def setUp(self):
         super().setUp()
-        for patch in (mock.patch.object(carried, "PLACES", PLACES),):
-            patch.start()
-            self.addCleanup(patch.stop)
+        why = web.lacking() or (None if pages.IS_BUILT else "no program is built: its pages carry none")
+        if why:
+            self.skipTest(why)
+        patch = mock.patch.object(carried, "PLACES", PLACES)
+        patch.start()
+        self.addCleanup(patch.stop)
 
     def page(self, *files):
         status, out, err = self.run_helper(show.main, files)
         self.assertEqual((status, err), (0, ""))
         return out
+
+
+class Pages(Carrying):
+    """Where pages carry the program, and where they don't."""
+
+    def test_a_release_has_the_page_to_plan_in(self):
+        """It stands beside the archive with its checksum; the unpacked program makes the same page, and its pages of show carry the module."""
+        subprocess.run([f"{TOP}/osp", "release", self.room], check=True, capture_output=True)
+        sums = dict(reversed(it.split("  ")) for it in pages.read(f"{self.room}/SHA256SUMS").decode().splitlines())
+        (name,), (archive,) = ([it for it in sums if it.endswith(end)] for end in (".html", f"{os.uname().machine}.tar.gz"))
+        made = pages.read(f"{self.room}/{name}")
+        self.assertEqual(sums[name], carried.sum_of(made))
+        subprocess.run(["tar", "-xzf", archive], cwd=self.room, check=True)
+        ran = lambda *words: subprocess.run(["./osp", *words], cwd=f"{self.room}/{name[:-5]}", check=True, capture_output=True).stdout
+        self.assertEqual(ran("page"), made)
+        self.assertIn(b'id="carried-program"', ran("show", "examples/one-cell.scenario", "examples/one-cell.plan"))
+
+    def test_without_a_module(self):
+        """Where the module isn't built, or isn't the program's, the page is that of before."""
+        with mock.patch.object(carried, "PLACES", []):
+            plain = self.page(*self.files("two-cells"))
+        self.assertNotIn("carried", plain)
+        self.assertNotIn("wasm", plain)
+        for name, content in (("osp", b"another program"), ("osp.wasm", b"another module"), ("osp.wasm.sums", b"unknown\n")):
+            with tempfile.TemporaryDirectory() as folder:
+                for each in ("osp", "osp.wasm", "osp.wasm.sums"):
+                    shutil.copy(os.path.join(os.path.dirname(web.MODULE), each), folder)
+                with open(f"{folder}/{name}", "wb") as file:
+                    file.write(content)
+                self.assertIsNone(carried.beside(os.path.relpath(f"{folder}/osp", TOP)), name)
+
+
+class InBrowser:
+    """Pages that carry the program and check themselves, in a browser without a window: the cases of each browser."""
+
+    BROWSER = None
+    PYTHON, SCRIPT, LACKING = "/usr/bin/python3", f"{TOP}/tests/web_in_browser.py", 77
+    HERE = re.compile(r"Checked here, just now, by the proved program \(\d+\.\d\d s\)\.")
+
+    def setUp(self):
+        super().setUp()
+        self.folder = os.path.join(os.environ.get("DESK_PICTURES", self.room), self.BROWSER)
+        os.makedirs(self.folder, exist_ok=True)
 
     def made(self):
         """The pages by name: as they are made, with a plan that was changed, and for a browser without WebAssembly."""
@@ -309,26 +351,13 @@ class Pages(pages.Room):
         }
 
     def visit(self, made):
-        """What the browser saw of these pages. Pictures are kept in the folder DESK_PICTURES, if it is set."""
+        """What the browser saw of these pages. What it saves, and pictures, is kept in the folder DESK_PICTURES, if it is set."""
         files = [self.write(f"{name}.html", text.encode()) for name, text in made.items()]
-        self.folder = os.environ.get("DESK_PICTURES", self.room)
-        done = subprocess.run([self.PYTHON, self.SCRIPT, self.folder, *files], capture_output=True, check=False)
+        done = subprocess.run([self.PYTHON, self.SCRIPT, self.BROWSER, self.folder, *files], capture_output=True, check=False)
         if done.returncode == self.LACKING:
             self.skipTest(done.stderr.decode().strip())
         self.assertEqual(done.returncode, 0, done.stderr.decode()[-2000:])
         return {name.removesuffix(".html"): it for name, it in json.loads(done.stdout).items()}
-
-    def test_a_release_has_the_page_to_plan_in(self):
-        """It stands beside the archive with its checksum; the unpacked program makes the same page, and its pages of show carry the module."""
-        subprocess.run([f"{TOP}/osp", "release", self.room], check=True, capture_output=True)
-        sums = dict(reversed(it.split("  ")) for it in pages.read(f"{self.room}/SHA256SUMS").decode().splitlines())
-        (name,), (archive,) = ([it for it in sums if it.endswith(end)] for end in (".html", ".tar.gz"))
-        made = pages.read(f"{self.room}/{name}")
-        self.assertEqual(sums[name], carried.sum_of(made))
-        subprocess.run(["tar", "-xzf", archive], cwd=self.room, check=True)
-        ran = lambda *words: subprocess.run(["./osp", *words], cwd=f"{self.room}/{name[:-5]}", check=True, capture_output=True).stdout
-        self.assertEqual(ran("page"), made)
-        self.assertIn(b'id="carried-program"', ran("show", "examples/one-cell.scenario", "examples/one-cell.plan"))
 
     def test_verdicts(self):
         """The verdict on opening, and nothing asked of a network, nor said on the console."""
@@ -395,11 +424,10 @@ class Pages(pages.Room):
         files = {name: self.files(it) for name, it in (("states", "situations/harbour-and-dinghy"), ("night", "night"))}
         files |= {name: [f"{pages.EXAMPLES}/{it}.made"] for name, it in (("flown", "drifting-grid-flown"), ("both", "night-two"))}
         files["pair"] = [self.write("pair", made.paired(made.GRID, "r2c3"))]
-        folder = os.environ.get("DESK_PICTURES", self.room)
         opened = {f"{name}.scenario": it[0] for name, it in files.items()}
         opened |= {"two.scenario": self.files("two-cells")[0], "two.plan": f"{pages.EXAMPLES}/two-cells-lacking.plan"}
         for name, source in opened.items():
-            shutil.copy(source, os.path.join(folder, name))
+            shutil.copy(source, os.path.join(self.folder, name))
         shown = {"example": self.files("drifting-grid"), "few": [opened["two.scenario"], self.write("few", few)], **files}
         seen = self.visit({"osp": out, **{f"shown-{name}": self.page(*its) for name, its in shown.items()}})
         for name in shown:
@@ -444,16 +472,10 @@ class Pages(pages.Room):
         thousandths = [int(mass) * 100_000 // missed for mass, _ in left]
         self.assertEqual(seen["of_left"]["shares"], ["0" if mass == "0" else f"{it // 1000}.{it % 1000:03}" for it, (mass, _) in zip(thousandths, left)])
 
-    def test_without_a_module(self):
-        """Where the module isn't built, or isn't the program's, the page is that of before."""
-        with mock.patch.object(carried, "PLACES", []):
-            plain = self.page(*self.files("two-cells"))
-        self.assertNotIn("carried", plain)
-        self.assertNotIn("wasm", plain)
-        for name, content in (("osp", b"another program"), ("osp.wasm", b"another module"), ("osp.wasm.sums", b"unknown\n")):
-            with tempfile.TemporaryDirectory() as folder:
-                for each in ("osp", "osp.wasm", "osp.wasm.sums"):
-                    shutil.copy(os.path.join(os.path.dirname(web.MODULE), each), folder)
-                with open(f"{folder}/{name}", "wb") as file:
-                    file.write(content)
-                self.assertIsNone(carried.beside(os.path.relpath(f"{folder}/osp", TOP)), name)
+
+class InChromium(InBrowser, Carrying):
+    BROWSER = "chromium"
+
+
+class InFirefox(InBrowser, Carrying):
+    BROWSER = "firefox"

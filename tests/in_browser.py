@@ -6,44 +6,17 @@ It ends with status 77 and a reason where there is no browser.
 import base64
 import json
 import os
-import shutil
 import sys
 import time
 
 sys.dont_write_bytecode = True
-LACKING = 77
+sys.path.insert(0, os.path.dirname(os.path.realpath(__file__)))
+import browsers  # noqa: E402
+from selenium.webdriver.common.action_chains import ActionChains  # noqa: E402
+from selenium.webdriver.common.by import By  # noqa: E402
+from selenium.webdriver.common.keys import Keys  # noqa: E402
+
 DESKTOP, PHONE = (1280, 900), (390, 844)
-
-try:
-    from selenium import webdriver
-    from selenium.webdriver.chrome.service import Service
-    from selenium.webdriver.common.action_chains import ActionChains
-    from selenium.webdriver.common.by import By
-    from selenium.webdriver.common.keys import Keys
-except ImportError:
-    print("python3-selenium isn't installed for /usr/bin/python3", file=sys.stderr)
-    sys.exit(LACKING)
-
-
-def browser():
-    """A browser without a window, that keeps a log of all requests and of what its console says."""
-    program, driver = shutil.which("chromium"), shutil.which("chromedriver")
-    if not program or not driver:
-        print("chromium or chromium-driver isn't installed", file=sys.stderr)
-        sys.exit(LACKING)
-    options = webdriver.ChromeOptions()
-    options.binary_location = program
-    for word in ("--headless=new", "--no-sandbox", "--disable-gpu", "--disable-dev-shm-usage", "--hide-scrollbars"):
-        options.add_argument(word)
-    options.set_capability("goog:loggingPrefs", {"browser": "ALL", "performance": "ALL"})
-    for left in (2, 1, 0):
-        try:
-            return webdriver.Chrome(service=Service(driver), options=options)
-        except Exception:
-            # A browser may not come up in time where the processors are busy.
-            if not left:
-                raise
-            time.sleep(5)
 
 
 class Visit:
@@ -55,10 +28,7 @@ class Visit:
 
     def open(self, size):
         """Opens the page anew in a view of this size, in pixels."""
-        width, height = size
-        how = {"width": width, "height": height, "deviceScaleFactor": 1, "mobile": width < 500}
-        self.browser.execute_cdp_cmd("Emulation.setDeviceMetricsOverride", how)
-        self.browser.execute_cdp_cmd("Emulation.setFocusEmulationEnabled", {"enabled": True})
+        self.browser.sized(size)
         self.browser.get("file://" + self.page)
 
     def run(self, script, *given):
@@ -91,10 +61,8 @@ class Visit:
     def picture(self, name):
         """A picture of the whole page as it stands."""
         size = self.run("const it = document.documentElement; return [it.scrollWidth, it.scrollHeight]")
-        clip = {"x": 0, "y": 0, "width": size[0], "height": size[1], "scale": 1}
-        taken = self.browser.execute_cdp_cmd("Page.captureScreenshot", {"captureBeyondViewport": True, "clip": clip})
         with open(f"{self.base}-{name}.png", "wb") as file:
-            file.write(base64.b64decode(taken["data"]))
+            file.write(self.browser.pictured(size))
         return size
 
     def pdf(self):
@@ -110,12 +78,6 @@ class Visit:
         hidden = self.run("return [...document.querySelectorAll('.controls, fieldset, .tip')].every((it) => it.getClientRects().length === 0)")
         self.browser.execute_cdp_cmd("Emulation.setEmulatedMedia", {"media": ""})
         return {"maps": seen["maps"], "no_controls": hidden}
-
-    def logs(self):
-        """The addresses that were asked for since the last call, and what the console said."""
-        events = [json.loads(it["message"])["message"] for it in self.browser.get_log("performance")]
-        asked = [it["params"]["request"]["url"] for it in events if it["method"] == "Network.requestWillBeSent"]
-        return {"asked": asked, "console": [it["message"] for it in self.browser.get_log("browser")]}
 
 
 def by_keyboard(visit):
@@ -229,11 +191,11 @@ def visited(seen_by, page, folder):
         seen["where"] = pointed(visit)
     seen["desktop"] = visit.picture("desktop")
     visit.pdf()
-    return seen | visit.logs()
+    return seen | seen_by.logs()
 
 
 def main(folder, pages):
-    with browser() as seen_by:
+    with browsers.opened("chromium") as seen_by:
         json.dump({os.path.basename(it): visited(seen_by, it, folder) for it in pages}, sys.stdout)
 
 

@@ -57,13 +57,17 @@ def in_node(cases):
     return [Taken(Answer(it["status"], *(base64.b64decode(it[name]) for name in ("out", "err"))), it["memory"], it["seconds"]) for it in told]
 
 
-def native(cases):
-    """What the program for Linux answers to each case (Answer)."""
-    told = [subprocess.run([PROGRAM, *it.words], input=it.given, capture_output=True, check=False) for it in cases]
+def answers_of(words, cases):
+    """What a program, which is called by these words, answers to each case (Answer)."""
+    told = [subprocess.run([*words, *it.words], input=it.given, capture_output=True, check=False) for it in cases]
     return [Answer(it.returncode, it.stdout, it.stderr) for it in told]
 
 
-def differing(cases):
-    """The cases to which the two don't answer the same, with the module's answer and the program's."""
-    pairs = zip(cases, in_node(cases), native(cases), strict=True)
-    return [(case, taken.answer, there) for case, taken, there in pairs if taken.answer != there]
+def native(cases):
+    """What the program for Linux answers to each case (Answer)."""
+    return answers_of([PROGRAM], cases)
+
+
+def differing(cases, told):
+    """The cases to which something else was told (Answer) than the program for Linux answers, with both."""
+    return [(case, here, there) for case, here, there in zip(cases, told, native(cases), strict=True) if here != there]

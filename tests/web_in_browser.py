@@ -1,9 +1,9 @@
-"""Opens pages that check themselves in headless Chromium, and writes what they say as JSON to standard output.
+"""Opens pages that check themselves in a browser without a window, and writes what they say as JSON to standard output.
 
-It is run by /usr/bin/python3: web_in_browser.py FOLDER PAGE.html ... The folder takes the pictures, on a desktop and on a tablet. From a
-page whose name begins with "without" WebAssembly is taken away first; on one whose name begins with "scene" looks are marked as flown,
-and the rest is planned; in one whose name begins with "osp" scenarios are planned, and of one whose name begins with "shown" it is said what
-it shows. It ends as in_browser.py does where there is no browser.
+It is run by /usr/bin/python3: web_in_browser.py chromium|firefox FOLDER PAGE.html ... The folder takes the pictures, on a desktop and on a
+tablet. From a page whose name begins with "without" WebAssembly is taken away first; on one whose name begins with "scene" looks are marked as
+flown, and the rest is planned; in one whose name begins with "osp" scenarios are planned, and of one whose name begins with "shown" it is said
+what it shows. It ends as in_browser.py does where there is no browser.
 """
 import json
 import os
@@ -12,7 +12,8 @@ import time
 
 sys.dont_write_bytecode = True
 sys.path.insert(0, os.path.dirname(os.path.realpath(__file__)))
-from in_browser import DESKTOP, Keys, Visit, browser  # noqa: E402
+import browsers  # noqa: E402
+from in_browser import DESKTOP, Keys, Visit  # noqa: E402
 
 TABLET = (820, 1180)
 # How many seconds a page has until it says something, on a machine that others keep busy.
@@ -42,7 +43,7 @@ def visited(seen_by, page, folder):
         visit.open(size)
         seen[name] = settled(visit)
         visit.picture(name)
-    return seen | visit.logs()
+    return seen | visit.browser.logs()
 
 
 def told(visit):
@@ -79,7 +80,7 @@ def by_keys(visit, *keys):
 
 def on_scene(seen_by, page, folder):
     """Marks three looks by three clicks on the map and plans the rest; then by keys alone: one back, one as planned, one that is none."""
-    seen_by.execute_cdp_cmd("Browser.setDownloadBehavior", {"behavior": "allow", "downloadPath": folder})
+    seen_by.saves_to(folder)
     visit = Visit(seen_by, page, folder)
     visit.open(TABLET)
     settled(visit)
@@ -103,7 +104,7 @@ def on_scene(seen_by, page, folder):
     by_keys(visit, Keys.ENTER)
     visit.run("document.getElementById('onscene-plan').focus()")
     seen["planned"] = by_keys(visit, Keys.ENTER)
-    return seen | {"wide": visit.run("return document.documentElement.scrollWidth - window.innerWidth")} | visit.logs()
+    return seen | {"wide": visit.run("return document.documentElement.scrollWidth - window.innerWidth")} | visit.browser.logs()
 
 
 def drawn(visit):
@@ -170,7 +171,7 @@ def by_arrows(visit):
 def in_planner(seen_by, page, folder):
     """Plans an example, at a tablet's width, and others from files; has plans checked that stand behind their scenario, or in a file; plans with
     few records, and texts that are wrong."""
-    seen_by.execute_cdp_cmd("Browser.setDownloadBehavior", {"behavior": "allow", "downloadPath": folder})
+    seen_by.saves_to(folder)
     visit = Visit(seen_by, page, folder)
     visit.open(TABLET)
     seen = {"nothing": press(visit, "plan")}
@@ -200,14 +201,15 @@ def in_planner(seen_by, page, folder):
     wide.append(visit.run("return document.documentElement.scrollWidth - window.innerWidth"))
     visit.press(*[Keys.ARROW_RIGHT] * 3)
     visit.picture("desktop")
-    return seen | {"wide": wide} | visit.logs()
+    time.sleep(1)
+    return seen | {"wide": wide} | visit.browser.logs()
 
 
 def shown(seen_by, page, folder):
     """What a page of `show` shows, at a tablet's width."""
     visit = Visit(seen_by, page, folder)
     visit.open(TABLET)
-    return drawn(visit) | visit.logs()
+    return drawn(visit) | visit.browser.logs()
 
 
 def opened(seen_by, page, folder):
@@ -220,16 +222,14 @@ def opened(seen_by, page, folder):
         return shown(seen_by, page, folder)
     if not os.path.basename(page).startswith("without"):
         return visited(seen_by, page, folder)
-    taken = seen_by.execute_cdp_cmd("Page.addScriptToEvaluateOnNewDocument", {"source": "delete window.WebAssembly"})
-    seen = visited(seen_by, page, folder)
-    seen_by.execute_cdp_cmd("Page.removeScriptToEvaluateOnNewDocument", taken)
-    return seen
+    with seen_by.without_wasm():
+        return visited(seen_by, page, folder)
 
 
-def main(folder, pages):
-    with browser() as seen_by:
+def main(name, folder, pages):
+    with browsers.opened(name) as seen_by:
         json.dump({os.path.basename(it): opened(seen_by, it, folder) for it in pages}, sys.stdout)
 
 
 if __name__ == "__main__":
-    main(sys.argv[1], [os.path.realpath(it) for it in sys.argv[2:]])
+    main(*sys.argv[1:3], [os.path.realpath(it) for it in sys.argv[3:]])
