@@ -34,7 +34,9 @@ sums() (
 # One checksum of all of these; of a release, that of the sources from which its program was proved.
 sum_of_sums() { if is_release; then tail -n +3 "$program.sums"; else sums; fi | sha256sum | cut -d ' ' -f 1; }
 
-program_sum() { sha256sum < "$program" | cut -d ' ' -f 1; }
+checksum() { sha256sum < "$1" | cut -d ' ' -f 1; }
+
+program_sum() { checksum "$program"; }
 
 # Whether the program is the one that its sums were written for.
 is_whole() { [ -x "$program" ] && [ -f "$program.sums" ] && [ "$(sed -n 2p "$program.sums")" = "$(program_sum)" ]; }
@@ -126,15 +128,14 @@ step() {
   fi
 }
 
-# Whether the module of WebAssembly beside the program is that program's.
-is_web_whole() {
-  [ -f "$program.wasm" ] && [ -f "$program.wasm.sums" ] &&
-    [ "$(cat "$program.wasm.sums")" = "$(program_sum && sha256sum < "$program.wasm" | cut -d ' ' -f 1)" ]
+# Whether a file that was made of the program stands beside it, and is that program's: its ending is `wasm` or `aarch64`.
+is_made() {
+  [ -f "$program.$1" ] && [ -f "$program.$1.sums" ] && [ "$(cat "$program.$1.sums")" = "$(program_sum && checksum "$program.$1")" ]
 }
 
 # Makes the module beside the program, which the pages of show carry, and says what came of it. Without it nothing else is lacking.
 build_web() {
-  is_web_whole || PYTHONDONTWRITEBYTECODE=1 python3 "$here/door/web/build.py" "$program.wasm" < /dev/null 2>&1 || echo 'so the pages of show carry no program'
+  is_made wasm || PYTHONDONTWRITEBYTECODE=1 python3 "$here/door/web/build.py" "$program.wasm" < /dev/null 2>&1 || echo 'so the pages of show carry no program'
 }
 
 build() {

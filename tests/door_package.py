@@ -187,19 +187,41 @@ class Packages(Furnished):
 
     def test_needed_libraries(self):
         """which C library the package needs, and that a program that needs more isn't packed"""
-        ask = lambda program, what: run(["bash", "-c", f'. "$0/door/package.bash"; program={program}; {what}', TOP]).out.strip()
+        ask = lambda program, what: run(["bash", "-c", f'. "$0/door/package.bash"; {what} {program}', TOP]).out.strip()
         newest = max(re.findall(rb"GLIBC_2\.(\d+)", read("/bin/true")), key=int).decode()
         self.assertEqual(ask("/bin/true", "needed_packages"), f"libc6 (>= 2.{newest})")
         self.assertEqual(ask("/bin/true", "other_libraries"), "")
-        # (In the place of `ldd`, which says what the program needs.)
-        says = lambda *names: self.house.write("bin/ldd", "#!/bin/sh\n" + "".join(f"echo '\t{it} => /lib/{it} (0x7f)'\n" for it in names), 0o755)
+        # (In the place of `readelf`, which says what the program needs.)
+        says = lambda *names: self.house.write("bin/readelf", "#!/bin/sh\n" + "".join(f"echo ' 0x01 (NEEDED)  Shared library: [{it}]'\n" for it in names), 0o755)
         self.furnished()
-        says("linux-vdso.so.1", "libc.so.6", "libm.so.6", "libgcc_s.so.1", "/lib64/ld-linux-x86-64.so.2")
+        says("libc.so.6", "libm.so.6", "libgcc_s.so.1", "ld-linux-x86-64.so.2")
         package = self.house.run("release", f"{self.house.at}/out").gives(0).out.splitlines()[1]
         depends = subprocess.run(["dpkg-deb", "-f", package, "Depends"], capture_output=True, check=True).stdout
         self.assertEqual(depends, b"libc6, libgcc-s1, python3 (>= 3.11)\n")
         says("libc.so.6", "libodd.so.3")
         self.house.run("release", f"{self.house.at}/out").fails("more than the C library: libodd.so.3")
+
+    def test_another_machine(self):
+        """a program for aarch64 that is made of the program has its own tarball and Debian package; any other one has none"""
+        self.furnished()
+        out, program = f"{self.house.at}/out", f"{self.house.at}/crates/osp/out/osp"
+        sums = lambda *files: "".join(f"{hashlib.sha256(read(it)).hexdigest()}\n" for it in files)
+        self.house.write("crates/osp/out/osp.aarch64", "#!/bin/sh\nexec echo for aarch64\n")
+        self.house.write("crates/osp/out/osp.aarch64.sums", f"unknown\n{sums(f'{program}.aarch64')}")
+        self.assertEqual(len(self.house.run("release", out).gives(0, None, "").out.splitlines()), 3)
+        self.house.write("crates/osp/out/osp.aarch64.sums", sums(program, f"{program}.aarch64"))
+        names = [os.path.basename(it) for it in self.house.run("release", out).gives(0, None, "").out.splitlines()]
+        self.assertEqual(names[2:], [f"osp-{version()}-aarch64.tar.gz", f"osp_{version()}_arm64.deb", "SHA256SUMS"])
+        subprocess.run(["sha256sum", "--quiet", "-c", "SHA256SUMS"], cwd=out, check=True)
+        field = lambda name: subprocess.run(["dpkg-deb", "-f", f"{out}/{names[3]}", name], capture_output=True, check=True).stdout.decode()
+        self.assertEqual(field("Architecture"), "arm64\n")
+        self.assertTrue(field("Description").endswith(" For aarch64 it was tried in an emulator alone.\n"))
+        for name in names[2:4]:
+            _, script = self.unpacked(f"{out}/{name}")
+            run([script, "plan"], b"text\n", env=SYSTEM).gives(0, "for aarch64\n", "")
+            lines = run([script, "--version"], env=SYSTEM).gives(0, None, "").out.splitlines()
+            self.assertRegex(lines[2], "^proved and built by made-kit on .*, and for aarch64 from the same module of LLVM ")
+            self.assertEqual(run([script, "--sums"], env=SYSTEM).out, self.house.run("--sums").out)
 
     def test_installation(self):
         """an installation runs every command by its name from the PATH, is replaced whole, and removed by the words that it says"""
