@@ -1,35 +1,23 @@
 ghost use Rattle.std.specs.Prelude.{◌≡◌, ◌≤◌, [], IfOk};
 
+use crate::tables::{Entries, Told, is_made, row_of, rows_of};
 use crate::threads::crosses_threads;
 use drift_chain::{ChangeFault, Drift, DriftChange, DriftFault, DriftPart};
 use std::alloc::{AllocError, Global};
 use std::test::Fail;
 
-fn row_of(alloc: Global, entries: &[(u8, u32)]) -> Result<Vec<DriftPart>, AllocError> {
-    let mut row = Vec::new(alloc);
-    for (cell, part) in entries {
-        row.push(DriftPart {
-            cell: *cell,
-            part: *part,
-        })?;
-    }
-    Ok(row)
-}
-
 // What is made of so many rows as a drift may have.
 fn drift_of(
     alloc: Global,
     denominator: u32,
-    lists: &[&[(u8, u32)]],
+    lists: &[Entries],
 ) -> Result<Result<Drift, DriftFault>, Fail>
     requires { (1 ≤ denominator) × (denominator ≤ 1000000) }
     ensures { IfOk result (λ made. IfOk made (λ drift. drift.changes ≡ [])) }
 {
-    let mut rows = Vec::new(alloc);
-    for list in lists {
-        rows.push(row_of(alloc, list)?)?;
-    }
+    let rows = rows_of(alloc, lists)?;
     if rows.is_empty() || rows.len() > 200 {
+        drop(rows);
         return Err(Fail::from("no drift of so many cells"));
     }
     Ok(Drift::new(denominator, rows))
@@ -49,17 +37,17 @@ fn has_entries_in_order(drift: &Drift) -> bool {
 
 #[test]
 fn entries_come_in_ascending_order(rt: HostRuntime) -> Result<(), Fail> {
-    let drift = drift_of(rt.alloc(), 3, &[&[(1, 1), (0, 2)], &[(1, 3)]])??;
-    assert!(rt; has_entries_in_order(&drift));
-    crosses_threads(drift);
+    let made = drift_of(rt.alloc(), 3, &[&[(1, 1), (0, 2)], &[(1, 3)]])?;
+    assert!(rt; is_made(made, has_entries_in_order));
+    crosses_threads::<Drift>();
     Ok(())
 }
 
-fn fault_of_rows(alloc: Global, lists: &[&[(u8, u32)]]) -> Result<Option<DriftFault>, Fail> {
+fn fault_of_rows(alloc: Global, lists: &[Entries]) -> Result<Option<DriftFault>, Fail> {
     Ok(drift_of(alloc, 2, lists)?.err())
 }
 
-const ROWS: [(&[&[(u8, u32)]], DriftFault); 6] = [
+const ROWS: [(&[Entries], DriftFault); 6] = [
     (&[&[(0, 1)]], DriftFault::WrongSum(0)),
     (&[&[]], DriftFault::WrongSum(0)),
     (
@@ -83,26 +71,27 @@ fn faults_have_their_order(rt: HostRuntime) -> Result<(), Fail> {
     Ok(())
 }
 
-// A change as data: its period, its cell and the entries of its row.
-type Told<'a> = (u32, u8, &'a [(u8, u32)]);
+fn change_of(alloc: Global, told: &Told) -> Result<DriftChange, AllocError> {
+    let (period, cell, entries) = *told;
+    Ok(DriftChange {
+        period,
+        cell,
+        row: row_of(alloc, entries)?,
+    })
+}
 
 fn changes_of(alloc: Global, told: &[Told]) -> Result<Vec<DriftChange>, AllocError> {
-    let mut changes = Vec::new(alloc);
-    for (period, cell, entries) in told {
-        changes.push(DriftChange {
-            period: *period,
-            cell: *cell,
-            row: row_of(alloc, entries)?,
-        })?;
-    }
-    Ok(changes)
+    told.iter()
+        .map(|change| change_of(alloc, change))
+        .try_collect(alloc)
 }
 
 // What is made of these changes of a drift over two cells, each of which keeps the target.
 fn changed(alloc: Global, told: &[Told]) -> Result<Result<Drift, ChangeFault>, Fail> {
-    let changes = changes_of(alloc, told)?;
-    let drift = drift_of(alloc, 2, &[&[(0, 2)], &[(1, 2)]])??;
-    Ok(drift.in_periods(alloc, changes))
+    match drift_of(alloc, 2, &[&[(0, 2)], &[(1, 2)]])? {
+        Ok(drift) => Ok(drift.in_periods(alloc, changes_of(alloc, told)?)),
+        Err(_) => Err(Fail::from("no drift")),
+    }
 }
 
 fn has_changes_in_their_periods(drift: &Drift) -> bool {
@@ -127,9 +116,8 @@ const TOLD: [Told; 3] = [
 
 #[test]
 fn changes_are_of_their_period_and_cell(rt: HostRuntime) -> Result<(), Fail> {
-    let drift = changed(rt.alloc(), &TOLD)??;
-    assert!(rt; has_changes_in_their_periods(&drift));
-    crosses_threads(drift);
+    let made = changed(rt.alloc(), &TOLD)?;
+    assert!(rt; is_made(made, has_changes_in_their_periods));
     Ok(())
 }
 

@@ -26,7 +26,7 @@ fn has_side_neighbours(grid: &Grid) -> bool {
 fn moves_come_in_ascending_order(rt: HostRuntime) -> Result<(), Fail> {
     let grid = Grid::new(rows_of(rt.alloc(), &[&[1, 0], &[0]])?)?;
     assert!(rt; has_moves_in_order(&grid));
-    crosses_threads(grid);
+    crosses_threads::<Grid>();
     Ok(())
 }
 

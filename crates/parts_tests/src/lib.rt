@@ -22,6 +22,8 @@ mod rows;
 #[cfg(test)]
 mod sweeps;
 #[cfg(test)]
+mod tables;
+#[cfg(test)]
 mod threads;
 #[cfg(test)]
 mod widths;

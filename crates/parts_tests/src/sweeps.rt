@@ -1,26 +1,10 @@
 ghost use Rattle.std.specs.Prelude.{◌≡◌, [], IfOk};
 
+use crate::tables::{Entries, Told, is_made, row_of, rows_of};
 use crate::threads::crosses_threads;
 use std::alloc::{AllocError, Global};
 use std::test::Fail;
 use sweep_table::{LookChange, LookChangeFault, LookFault, LookPart, Sweep, SweepFault};
-
-// Entries of a row: a cell and the part that a look misses there.
-type Entries = &'static [(u8, u32)];
-
-// A change: its period, its position and the entries of its row.
-type Changed = (u32, u8, Entries);
-
-fn row_of(alloc: Global, entries: Entries) -> Result<Vec<LookPart>, AllocError> {
-    let mut row = Vec::new(alloc);
-    for (cell, part) in entries {
-        row.push(LookPart {
-            cell: *cell,
-            part: *part,
-        })?;
-    }
-    Ok(row)
-}
 
 // What is made of rows over a denominator of 2.
 fn halves(
@@ -30,23 +14,22 @@ fn halves(
 ) -> Result<Result<Sweep, LookFault>, AllocError>
     ensures { IfOk result (λ made. IfOk made (λ sweep. sweep.changes ≡ [])) }
 {
-    let mut rows = Vec::new(alloc);
-    for list in lists {
-        rows.push(row_of(alloc, list)?)?;
-    }
-    Ok(Sweep::footprints(2, cells, rows))
+    Ok(Sweep::footprints(2, cells, rows_of(alloc, lists)?))
 }
 
-fn changes_of(alloc: Global, lists: &[Changed]) -> Result<Vec<LookChange>, AllocError> {
-    let mut changes = Vec::new(alloc);
-    for (period, position, entries) in lists {
-        changes.push(LookChange {
-            period: *period,
-            position: *position,
-            row: row_of(alloc, entries)?,
-        })?;
-    }
-    Ok(changes)
+fn change_of(alloc: Global, told: &Told) -> Result<LookChange, AllocError> {
+    let (period, position, entries) = *told;
+    Ok(LookChange {
+        period,
+        position,
+        row: row_of(alloc, entries)?,
+    })
+}
+
+fn changes_of(alloc: Global, told: &[Told]) -> Result<Vec<LookChange>, AllocError> {
+    told.iter()
+        .map(|change| change_of(alloc, change))
+        .try_collect(alloc)
 }
 
 // Two positions over two cells, the first covering both and the second none.
@@ -60,20 +43,16 @@ fn one_covers_both(alloc: Global) -> Result<Sweep, Fail>
 }
 
 // What is made of these with changes.
-fn changed(alloc: Global, lists: &[Changed]) -> Result<Result<Sweep, LookChangeFault>, Fail> {
-    let changes = changes_of(alloc, lists)?;
-    let sweep = one_covers_both(alloc)?;
-    Ok(sweep.in_periods(alloc, changes))
+fn changed(alloc: Global, told: &[Told]) -> Result<Result<Sweep, LookChangeFault>, Fail> {
+    let changes = changes_of(alloc, told)?;
+    Ok(one_covers_both(alloc)?.in_periods(alloc, changes))
 }
 
-// Looks at the cells of these parts, out of 2.
-fn looks_of(alloc: Global, parts: &[u32]) -> Result<Sweep, Fail>
-    ensures { IfOk result (λ sweep. sweep.changes ≡ []) }
+// What is made of looks at the cells of these parts, out of 2.
+fn looks_of(alloc: Global, parts: &[u32]) -> Result<Result<Sweep, SweepFault>, AllocError>
+    ensures { IfOk result (λ made. IfOk made (λ sweep. sweep.changes ≡ [])) }
 {
-    match Sweep::new(2, Vec::from_slice(alloc, parts)?) {
-        Ok(sweep) => Ok(sweep),
-        Err(_) => Err(Fail::from("no sweep")),
-    }
+    Ok(Sweep::new(2, Vec::from_slice(alloc, parts)?))
 }
 
 fn looks_at_its_own_cells(sweep: &Sweep) -> bool {
@@ -88,22 +67,25 @@ fn looks_at_its_own_cells(sweep: &Sweep) -> bool {
 
 #[test]
 fn a_part_may_be_the_whole_denominator(rt: HostRuntime) -> Result<(), Fail> {
-    let sweep = looks_of(rt.alloc(), &[1, 2, 1])?;
-    assert!(rt; looks_at_its_own_cells(&sweep));
-    crosses_threads(sweep);
+    let made = looks_of(rt.alloc(), &[1, 2, 1])?;
+    assert!(rt; is_made(made, looks_at_its_own_cells));
+    crosses_threads::<Sweep>();
     Ok(())
 }
 
 #[test]
 fn the_least_cell_over_is_named(rt: HostRuntime) -> Result<(), Fail> {
-    let parts = Vec::from_slice(rt.alloc(), &[2, 3, 4])?;
-    assert_eq!(rt; Sweep::new(2, parts).err(), Some(SweepFault::PartOver(1)));
+    let made = looks_of(rt.alloc(), &[2, 3, 4])?;
+    assert_eq!(rt; made.err(), Some(SweepFault::PartOver(1)));
     Ok(())
 }
 
 // The one rate of looks at cells of these parts.
 fn one_rate_of(alloc: Global, parts: &[u32]) -> Result<Option<u32>, Fail> {
-    Ok(looks_of(alloc, parts)?.one_rate(1))
+    match looks_of(alloc, parts)? {
+        Ok(sweep) => Ok(sweep.one_rate(1)),
+        Err(_) => Err(Fail::from("no sweep")),
+    }
 }
 
 const RATES: [(&[u32], Option<u32>); 3] = [
@@ -167,11 +149,8 @@ fn looks_at_the_same_cells(sweep: &Sweep) -> bool {
 // Two positions cover the same cells, and a third covers none.
 #[test]
 fn positions_need_not_be_cells(rt: HostRuntime) -> Result<(), Fail> {
-    let sweep = halves(rt.alloc(), 4, &[&[(3, 1), (1, 0)], &[(1, 0), (3, 1)], &[]])?
-        .ok()
-        .ok_or("no sweep")?;
-    assert!(rt; looks_at_the_same_cells(&sweep));
-    crosses_threads(sweep);
+    let made = halves(rt.alloc(), 4, &[&[(3, 1), (1, 0)], &[(1, 0), (3, 1)], &[]])?;
+    assert!(rt; is_made(made, looks_at_the_same_cells));
     Ok(())
 }
 
@@ -208,22 +187,23 @@ fn are_in_force(sweep: &Sweep, rows: &[(u32, u8, &[LookPart])]) -> bool {
     true
 }
 
+fn changes_in_single_periods(sweep: &Sweep) -> bool {
+    are_in_force(sweep, &IN_FORCE) && sweep.one_rate(31) == Some(1) && sweep.one_rate(32).is_none()
+}
+
 // A change holds in its period alone, the first and the last included, and one rate is that of the rows in force.
 #[test]
 fn looks_change_in_single_periods(rt: HostRuntime) -> Result<(), Fail> {
-    let sweep = changed(rt.alloc(), &[(32, 0, &[(1, 0)]), (1, 1, &[(1, 1), (0, 2)])])?
-        .ok()
-        .ok_or("no changes")?;
-    assert!(rt; are_in_force(&sweep, &IN_FORCE));
-    assert_eq!(rt; (sweep.one_rate(31), sweep.one_rate(32)), (Some(1), None));
+    let made = changed(rt.alloc(), &[(32, 0, &[(1, 0)]), (1, 1, &[(1, 1), (0, 2)])])?;
+    assert!(rt; is_made(made, changes_in_single_periods));
     Ok(())
 }
 
-fn fault_of_changes(alloc: Global, lists: &[Changed]) -> Result<Option<LookChangeFault>, Fail> {
-    Ok(changed(alloc, lists)?.err())
+fn fault_of_changes(alloc: Global, told: &[Told]) -> Result<Option<LookChangeFault>, Fail> {
+    Ok(changed(alloc, told)?.err())
 }
 
-const CHANGES: [(&[Changed], LookChangeFault); 7] = [
+const CHANGES: [(&[Told], LookChangeFault); 7] = [
     (
         &[(1, 1, &[]), (0, 2, &[(2, 0)])],
         LookChangeFault::PeriodOutOfRange(1),
@@ -263,14 +243,17 @@ fn changes_in_the_second_period(sweep: &Sweep) -> bool {
         && sweep.factor(3, 1, 1) == 2
 }
 
+// What is made of a plain sweep with a change.
+fn plain_changed(alloc: Global) -> Result<Result<Sweep, LookChangeFault>, Fail> {
+    match looks_of(alloc, &[1, 2])? {
+        Ok(plain) => Ok(plain.in_periods(alloc, changes_of(alloc, &[(2, 0, &[(1, 0)])])?)),
+        Err(_) => Err(Fail::from("no sweep")),
+    }
+}
+
 #[test]
 fn a_plain_sweep_may_change(rt: HostRuntime) -> Result<(), Fail> {
-    let changes = changes_of(rt.alloc(), &[(2, 0, &[(1, 0)])])?;
-    let plain = looks_of(rt.alloc(), &[1, 2])?;
-    let sweep = plain
-        .in_periods(rt.alloc(), changes)
-        .ok()
-        .ok_or("no changes")?;
-    assert!(rt; changes_in_the_second_period(&sweep));
+    let made = plain_changed(rt.alloc())?;
+    assert!(rt; is_made(made, changes_in_the_second_period));
     Ok(())
 }
