@@ -14,8 +14,12 @@ use std::alloc::Global;
 use std::test::Fail;
 use tree_format::{PlanFault, PlanStop, plan_kind_name, print_gap, read_gap};
 
-// Two cells, where the search stopped behind the empty prefix.
+// Two cells, where the search stopped behind the empty prefix, in each version, and in one that there isn't.
 const TWO_WAIT: &str = "gap 1\npath a a\nchance 12 16\nceiling 12\nnodes 3\nB\nO 12\nO 12\nend\n";
+
+const TWO_WAIT_2: &str = "gap 2\npath a a\nchance 12 16\nceiling 12\nnodes 3\nB\nO 12\nO 12\nend\n";
+
+const TWO_WAIT_3: &str = "gap 3\npath a a\nchance 12 16\nceiling 12\nnodes 3\nB\nO 12\nO 12\nend\n";
 
 // Texts, each below its scenario: the ones that a search writes, the same with other numbers, which are texts all the same,
 // and one with all letters and the widest numbers.
@@ -90,6 +94,30 @@ ceiling 12
 nodes 1
 M 12
 end
+== ab 2
+gap 2
+path a a
+chance 12 16
+ceiling 12
+nodes 3
+B
+O 12
+O 12
+end
+== ab 2
+gap 2
+path b a
+chance 0 340282366920938463463374607431768211455
+ceiling 340282366920938463463374607431768211455
+nodes 7
+B
+B
+O 340282366920938463463374607431768211455
+W 12
+B
+E 6
+T 12 0 1
+end
 ";
 
 // Whether a gap plan prints to these bytes, behind what stood there.
@@ -134,7 +162,7 @@ fn rows_that_print_back(alloc: Global, table: &str) -> Result<u32, Fail> {
 
 #[test]
 fn gap_texts_print_back(rt: HostRuntime) -> Result<(), Fail> {
-    assert_eq!(rt; rows_that_print_back(rt.alloc(), GAPS)?, 7);
+    assert_eq!(rt; rows_that_print_back(rt.alloc(), GAPS)?, 9);
     Ok(())
 }
 
@@ -162,28 +190,33 @@ fn fronts_over(alloc: Global, sc: &Scenario, text: &[u8]) -> Result<usize, Fail>
     Ok(count)
 }
 
-fn fronts_that_end_early(alloc: Global) -> Result<usize, Fail> {
-    asked(
-        alloc,
-        "ab 2",
-        |sc| fronts_over(alloc, sc, TWO_WAIT.as_bytes()),
-    )
+fn fronts_that_end_early(alloc: Global, text: &str) -> Result<usize, Fail> {
+    asked(alloc, "ab 2", |sc| fronts_over(alloc, sc, text.as_bytes()))
 }
 
 #[test]
 fn gap_fronts_end_early(rt: HostRuntime) -> Result<(), Fail> {
-    assert_eq!(rt; fronts_that_end_early(rt.alloc())?, TWO_WAIT.len());
+    assert_eq!(rt;
+        fronts_that_end_early(rt.alloc(), TWO_WAIT)?,
+        TWO_WAIT.len()
+    );
+    assert_eq!(rt;
+        fronts_that_end_early(rt.alloc(), TWO_WAIT_2)?,
+        TWO_WAIT_2.len()
+    );
     Ok(())
 }
 
 fn families_are_apart(alloc: Global, sc: &Scenario) -> Result<bool, Fail> {
     Ok(
         has_gap_fault(alloc, sc, TWO_CELLS_2.as_bytes(), "1 BadLine")?
-            && has_fault(alloc, sc, TWO_WAIT.as_bytes(), "1 BadLine")?,
+            && has_gap_fault(alloc, sc, TWO_WAIT_3.as_bytes(), "1 BadLine")?
+            && has_fault(alloc, sc, TWO_WAIT.as_bytes(), "1 BadLine")?
+            && has_fault(alloc, sc, TWO_WAIT_2.as_bytes(), "1 BadLine")?,
     )
 }
 
-// The text of a plan is none of a gap plan, and the other way round.
+// The text of a plan is none of a gap plan, and the other way round; and there are two versions.
 #[test]
 fn no_text_is_of_both_families(rt: HostRuntime) -> Result<(), Fail> {
     let alloc = rt.alloc();

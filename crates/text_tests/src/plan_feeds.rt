@@ -1,6 +1,6 @@
 //! A text that is fed in pieces tells what reading it at once says.
 
-use bound_tree::{GapKind, GapNode, GapPlan, Kind, Plan, TreeNode};
+use bound_tree::{GapKind, GapNode, GapPlan, Kind, Numbers, Plan, TreeNode};
 use search_model::{Scenario, Standing};
 use std::alloc::Global;
 use std::test::Fail;
@@ -11,7 +11,7 @@ use tree_format::{
 // What a feed told of a text.
 #[derive(Drop)]
 struct Telling {
-    head: Option<(Standing, u128, u128, u64)>,
+    head: Option<(Standing, u128, u128, Numbers, u64)>,
     nodes: Vec<GapNode>,
     ended: bool,
     fault: Option<PlanFault>,
@@ -21,7 +21,7 @@ fn hear(telling: &mut Telling, step: Step) -> Result<(), Fail> {
     match step {
         Step::More => {}
         Step::Item(PlanItem::Head(standing, weight, ceiling, numbers, nodes)) => {
-            telling.head = Some((standing, weight, ceiling, nodes));
+            telling.head = Some((standing, weight, ceiling, numbers, nodes));
         }
         Step::Item(PlanItem::Node(GapNode { prefix, kind })) => {
             telling.nodes.push(GapNode { prefix, kind })?;
@@ -124,14 +124,21 @@ fn are_open(told: &[GapNode], read: &[GapNode]) -> bool {
     told.len() == read.len()
 }
 
-// Whether this was told of a standing, a weight, a ceiling and as many nodes, and then the end, without a fault.
-fn is_told(telling: &Telling, standing: &Standing, weight: u128, ceiling: u128) -> bool {
+// Whether this was told of a standing, a weight, a ceiling, numbers and as many nodes, and then the end, without a fault.
+fn is_told(
+    telling: &Telling,
+    standing: &Standing,
+    weight: u128,
+    ceiling: u128,
+    numbers: Numbers,
+) -> bool {
     match telling.head {
-        Some((head, said_weight, said_ceiling, nodes)) => {
+        Some((head, said_weight, said_ceiling, said_numbers, nodes)) => {
             head.path.cells() == standing.path.cells()
                 && head.value == standing.value
                 && said_weight == weight
                 && said_ceiling == ceiling
+                && said_numbers == numbers
                 && nodes == telling.nodes.len() as u64
                 && telling.ended
                 && telling.fault.is_none()
@@ -140,15 +147,21 @@ fn is_told(telling: &Telling, standing: &Standing, weight: u128, ceiling: u128) 
     }
 }
 
-// The ceiling of a plan is its value.
+// The ceiling of a plan is its value, and its numbers are mean bounds, since it has none.
 fn is_plan(telling: &Telling, plan: &Plan) -> bool {
-    is_told(telling, &plan.standing, plan.weight, plan.standing.value)
+    let value = plan.standing.value;
+    is_told(telling, &plan.standing, plan.weight, value, Numbers::Means)
         && are_closed(&telling.nodes, plan.tree.nodes())
 }
 
 fn is_gap(telling: &Telling, plan: &GapPlan) -> bool {
-    is_told(telling, &plan.standing, plan.weight, plan.ceiling)
-        && are_open(&telling.nodes, plan.nodes.nodes())
+    is_told(
+        telling,
+        &plan.standing,
+        plan.weight,
+        plan.ceiling,
+        plan.numbers,
+    ) && are_open(&telling.nodes, plan.nodes.nodes())
 }
 
 // Whether this was told of what reading a text at once says.
