@@ -5,7 +5,6 @@ use Rattle.std.specs.List.{range_with_len}
 use Rattle.std.proofs.lemmas.List.Sums.{sum-map}
 use Rattle.std.proofs.Math.Nat.{pow-suc, mul-le-mul_left, le_refl}
 use Rattle.std.proofs.lemmas.Nat.{mul-le}
-use Rattle.exact_parts.proofs.Widths.{scaled_part_fits}
 use Rattle.sweep_table.specs.LookParts.{factor_of}
 use Rattle.search_model.specs.Problem.{Problem, IsProblem}
 use Rattle.search_model.specs.Tracks.{missed_weight, whole_weight}
@@ -55,12 +54,6 @@ module _ (p : Problem) (sound : IsProblem p) (q : List ℕ) where
       reward_by p (length q) t (slice_index b.masses) a < 2 ^ 127
   found_fits t a b later last belief =
       omega (arith, found_is p sound q t a b later last belief, reward-le t a later last, whole_weight-fits p sound)
-
--- so many whole weights, and one more, fit
-pub weights_fit : (p : Problem) → IsProblem p → (n : ℕ) → n ≤ p.horizon → n * whole_weight p + whole_weight p < 2 ^ 127
-weights_fit p sound n few =
-    let fits = scaled_part_fits p.total p.drift.denominator p.sweep.denominator p.horizon (n + 1) (p.horizon - 1) p.horizon (omega (arith, sound.drift.denominator)) (omega (arith, sound.sweep.denominator)) sound.fits (omega (arith, few)) (omega arith) (omega arith) in
-    omega (arith, fits)
 
 -- rewards in the periods after the first k, none of which is above the whole weight
 module _ (p : Problem) (sound : IsProblem p) (k : ℕ) (r : ℕ → ℕ → ℕ) (each : (t a : ℕ) → k < t → t ≤ p.horizon → r t a ≤ whole_weight p) (short : k < p.horizon) where

@@ -3,7 +3,8 @@ use Rattle.search_model.specs.Legal.{last_of}
 use Rattle.search_model.specs.Reference.{greatest_sum}
 use Rattle.search_model.proofs.LegalLemmas.{last_within}
 use Rattle.longest_walk.specs.Sums.{highest_sum}
-use Rattle.mean_bound.proofs.Fitting.{highest-le, greatest-le, weights_fit}
+use Rattle.search_model.proofs.RewardSizes.{weights-fit}
+use Rattle.mean_bound.proofs.Fitting.{highest-le, greatest-le}
 use Rattle.exchange_bound.specs.Leads.{IsLead, lead_reward}
 use Rattle.exchange_bound.proofs.Leads.{lead_reward-le}
 use Rattle.exchange_bound.proofs.exchange.bound_by.Goals as goal
@@ -28,7 +29,7 @@ fill_near-requires-clause-fits c =
     let (r, lead) = c.requires.lead in
     let short : length q < p.horizon = omega (arith, lead.later, lead.last) in
     let most = highest-le p sound (length q) (lead_reward p q r) (lead_reward-le p q r sound) short in
-    let fits : highest_sum p.positions (lead_reward p q r) (p.horizon - length q) (length q + 1) < 2 ^ 127 = omega (arith, most, weights_fit p sound (p.horizon - length q) (omega arith)) in
+    let fits : highest_sum p.positions (lead_reward p q r) (p.horizon - length q) (length q + 1) < 2 ^ 127 = omega (arith, most, weights-fit p sound (p.horizon - length q) (omega arith)) in
     rw (c.requires.positions, c.requires.horizon, c.len.ensures.value, c.grid.ensures.value, c.last_after-from.ensures.value) (lead_reward p q r, c.fill_rewards.ensures.rewards r lead, fits)
 
 -- the greatest sum of what the table has is that of the rewards
@@ -52,7 +53,7 @@ overflow_add-result c =
     let short : length q < p.horizon = omega (arith, lead.later, lead.last) in
     let here = last_within p.moves sound.grid p.start (omega (arith, sound.start, sound.grid_positions)) q c.requires.legal.follows in
     let most = greatest-le p sound (length q) (lead_reward p q r) (lead_reward-le p q r sound) short (last_of p.start q) here in
-    let fits = weights_fit p sound (p.horizon - length q) (omega arith) in
+    let fits = weights-fit p sound (p.horizon - length q) (omega arith) in
     rw (greatest_now c r lead, c.value.ensures p q c.requires.onward) (omega (arith, most, fits))
 
 pub returns-clause-bound : goal.returns-clause-bound

@@ -4,7 +4,8 @@ use Rattle.search_model.specs.Bounds.{reward_of}
 use Rattle.search_model.proofs.LegalLemmas.{last_within}
 use Rattle.longest_walk.specs.Sums.{highest_sum}
 use Rattle.search_model.specs.Reference.{greatest_sum}
-use Rattle.mean_bound.proofs.Fitting.{reward-le, highest-le, greatest-le, weights_fit}
+use Rattle.search_model.proofs.RewardSizes.{weights-fit}
+use Rattle.mean_bound.proofs.Fitting.{reward-le, highest-le, greatest-le}
 use Rattle.mean_bound.proofs.mean.bound_by.Goals as goal
 
 pub fill_near-requires-clause-from : goal.fill_near-requires-clause-from
@@ -20,7 +21,7 @@ fill_near-requires-clause-fits c =
     let q = c.args.prefix.now in
     let sound = c.grid.ensures.sound in
     let most = highest-le p sound (length q) (reward_of p q) (reward-le p sound q) c.requires.short in
-    let fits : highest_sum p.positions (reward_of p q) (p.horizon - length q) (length q + 1) < 2 ^ 127 = omega (arith, most, weights_fit p sound (p.horizon - length q) (omega arith)) in
+    let fits : highest_sum p.positions (reward_of p q) (p.horizon - length q) (length q + 1) < 2 ^ 127 = omega (arith, most, weights-fit p sound (p.horizon - length q) (omega arith)) in
     rw (c.requires.positions, c.requires.horizon, c.len.ensures.value, c.grid.ensures.value, c.last_after-from.ensures.value) (reward_of p q, c.fill_rewards.ensures.rewards, fits)
 
 -- the tables are filled by the rewards
@@ -49,7 +50,7 @@ overflow_add-result c =
     let sound = c.grid.ensures.sound in
     let here = last_within p.moves sound.grid p.start (omega (arith, sound.start, sound.grid_positions)) q c.requires.legal.follows in
     let most = greatest-le p sound (length q) (reward_of p q) (reward-le p sound q) c.requires.short (last_of p.start q) here in
-    let fits = weights_fit p sound (p.horizon - length q) (omega arith) in
+    let fits = weights-fit p sound (p.horizon - length q) (omega arith) in
     rw (greatest_now c, c.value-value.ensures p q c.requires.onward) (omega (arith, most, fits))
 
 pub returns-clause-bound : goal.returns-clause-bound
