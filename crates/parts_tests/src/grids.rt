@@ -4,11 +4,10 @@ use std::alloc::{AllocError, Global};
 use std::test::Fail;
 
 fn rows_of(alloc: Global, lists: &[&[u8]]) -> Result<Vec<Vec<u8>>, AllocError> {
-    let mut rows = Vec::new(alloc);
-    for list in lists {
-        rows.push(Vec::from_slice(alloc, list)?)?;
-    }
-    Ok(rows)
+    lists
+        .iter()
+        .map(|list| Vec::from_slice(alloc, list))
+        .try_collect(alloc)
 }
 
 fn has_moves_in_order(grid: &Grid) -> bool {
