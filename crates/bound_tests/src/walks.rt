@@ -21,10 +21,10 @@ struct Question<'a> {
 }
 
 fn grid_of(alloc: Global, lists: &[&[u8]]) -> Result<Grid, Fail> {
-    let mut rows = Vec::new(alloc);
-    for list in lists {
-        rows.push(list.to_vec(alloc)?)?;
-    }
+    let rows = lists
+        .iter()
+        .map(|list| Vec::from_slice(alloc, list))
+        .try_collect(alloc)?;
     Ok(Grid::new(rows)?)
 }
 
