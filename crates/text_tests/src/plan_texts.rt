@@ -210,7 +210,7 @@ fn kinds_have_names(rt: HostRuntime) -> Result<(), Fail> {
 
 // A line with 100,000 such bytes in it.
 fn long_line(alloc: Global, front: &[u8], byte: u8, back: &[u8]) -> Result<Vec<u8>, AllocError> {
-    let mut line = front.to_vec(alloc)?;
+    let mut line = Vec::from_slice(alloc, front)?;
     line.extend_from_slice(&vec![in alloc; byte; 100_000]?)?;
     line.extend_from_slice(back)?;
     Ok(line)
