@@ -42,7 +42,7 @@ def add(drawn, frame):
     desk.earth.Frame says where these are, the line that says where the pointer is."""
     if not drawn.layout.metres:
         return
-    metres, (x, y), bottom = scale(drawn), drawn.low, drawn.low[1] + drawn.size[1] + HEIGHT / 2
+    metres, x, bottom = scale(drawn), drawn.low[0], drawn.low[1] + drawn.size[1] + HEIGHT / 2
     long, east, up = metres * drawn.scale, x + drawn.size[0] - ASIDE, round(turned(drawn, frame), 1)
     bar = f"M{x + ASIDE:.1f} {bottom - 7:.1f}v14m0 -7h{long:.1f}m0 -7v14"
     turn = f' transform="rotate({-up:.1f} {east:.1f} {bottom:.1f})"' if up else ""

@@ -1,5 +1,4 @@
 """page: writes a page to plan in: one HTML file, for any browser, that carries the proved program and asks no network for anything."""
-import os
 from html import escape
 
 from desk import carried, comments, compass, layout, limits, markup, moments, page, picture, program, running, squares, states, tables
