@@ -45,17 +45,5 @@ const markup = (function () {
     return new RegExp(`^(?:${pattern})$`);
   }
 
-  // What the program accepted, as a sentence, by what the path finds of a whole, and by what no path exceeds, which is null of a plan; than
-  // the path no `best` is better.
-  function verdict(value, weight, ceiling, best) {
-    if (ceiling === null) {
-      return filled("no_better", { best });
-    }
-    if (ceiling > value && ceiling >= weight) {
-      return filled("nothing_shown", {});
-    }
-    return filled("no_more", { best, than: ceiling > value ? ` than ${told.up(ceiling, weight)} %` : "" });
-  }
-
-  return { filled, escaped, fixed, number, general, plural, whole, verdict };
+  return { filled, escaped, fixed, number, general, plural, whole };
 }());

@@ -8,7 +8,7 @@ from desk.words import BadWords, Words
 # The examples that the page offers, by their files.
 EXAMPLES = ["two-cells", "small-lake", "drifting-grid", "lake-with-island", "swath"]
 # The parts of its script: those that show a plan as `show` does, and the page itself.
-SHOWING = ["told.js", "markup.js", "reading.js", "layout.js", "seats.js", "picture.js", "tables.js", "shown.js"]
+SHOWING = ["told.js", "markup.js", "sentences.js", "reading.js", "layout.js", "seats.js", "picture.js", "tables.js", "shown.js"]
 PARTS = [*SHOWING, "page.js", "planner.js"]
 # The most records of a plan where the page isn't told another number.
 NODES = 200_000

@@ -16,11 +16,6 @@ const tables = (function () {
     return filled("exact", { name, share: cut(part, whole), part, whole });
   }
 
-  // What no other is better than the plan's.
-  function best({ count, flown }) {
-    return (count === 1 ? "path" : "pair of paths") + (flown ? " that begins as flown" : "");
-  }
-
   // What the looks of a period are said to do.
   function finds({ seats }) {
     return seats.count === 1 ? "This look finds" : "These looks find";
@@ -28,7 +23,7 @@ const tables = (function () {
 
   // What the program accepted, as a sentence.
   function verdict({ ceiling, value, weight, seats }) {
-    return markup.verdict(value, weight, ceiling, best(seats));
+    return sentences.verdict({ value, whole: weight, ceiling }, seats);
   }
 
   // What the plan finds, and in how many looks.
@@ -36,18 +31,9 @@ const tables = (function () {
     return filled("chance", { percent: cut(value, weight), looks: plural(sc.horizon, "look"), each: seats.count === 1 ? "" : " each" });
   }
 
-  // What is said of a flown prefix, in short sentences: how many looks are flown, and what those to come find if these found nothing.
-  function aboutFlown({ seats, frames, value, sc }) {
-    const [k, missed] = [seats.flown, frames[seats.flown].missed];
-    if (k === 0) {
-      return [];
-    }
-    if (k === sc.horizon) {
-      return [filled("all_flown", {})];
-    }
-    const [head, these] = [filled(k === 1 ? "first_flown" : "flown", { count: k }), k === 1 ? "it" : "these"];
-    const rest = missed ? cut(value - frames[k].soFar, missed) : "";
-    return [head, filled(missed ? "flown_rest" : "flown_certain", { these, share: rest })];
+  // What is said of a flown prefix.
+  function aboutFlown({ seats, frames, value, weight, sc }) {
+    return sentences.aboutFlown({ value, whole: weight, found: frames[seats.flown].soFar }, seats.flown, sc.horizon);
   }
 
   // What is said of names that are numbers.
