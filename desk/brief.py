@@ -4,6 +4,7 @@ import re
 import textwrap
 
 from desk import accepted, clock, comments, earth, geometry, masses, percent, running, steering, tables, tried
+from desk.markup import filled
 
 WORDS = clock.words_of("brief", "writes the same as plain text, for a radio or a tasking form")
 # How wide the text is where names allow it, in columns.
@@ -30,7 +31,7 @@ def rows_of(lines, is_text):
 
 def share(part, whole):
     """A share in percent with its sign."""
-    return f"{percent.cut(part, whole)} %"
+    return filled("brief_share", share=percent.cut(part, whole))
 
 
 def wrapped(sentence):
@@ -42,7 +43,7 @@ def wrapped(sentence):
 def looked_from(search, frame):
     """Where each searcher looks from in a period; behind the last of them it says whether that is flown."""
     *most, last = search.seats.names[frame.position]
-    return [*most, last + (" (flown)" if frame.period <= search.seats.flown else "")]
+    return [*most, filled("brief_flown", name=last) if frame.period <= search.seats.flown else last]
 
 
 def begins(frame, times):
@@ -50,11 +51,15 @@ def begins(frame, times):
     return [times.at(frame.period)] if times else []
 
 
+def heads_of_periods(count, times):
+    """The heads of the table of periods of so many searchers."""
+    heads = ["look from", "finds"] if count == 1 else ["first from", "second from", "find"]
+    return ["period", *(["begins"] if times else []), *heads, "so far"]
+
+
 def periods(search, times):
     """A line for each period: when it begins, where the searchers look from, what these looks find, what is found so far."""
-    whole = search.report.weight
-    heads = ["look from", "finds"] if search.seats.count == 1 else ["first from", "second from", "find"]
-    lines = [["period", *(["begins"] if times else []), *heads, "so far"]]
+    whole, lines = search.report.weight, [heads_of_periods(search.seats.count, times)]
     for it in search.frames[1:]:
         lines.append([str(it.period), *begins(it, times), *looked_from(search, it), share(it.found, whole), share(it.so_far, whole)])
     return rows_of(lines, [head in TEXTS for head in lines[0]])
@@ -75,12 +80,21 @@ def place_of(stop):
     return earth.told(*stop.on_earth) if stop.on_earth else "-"
 
 
-def way(one, other, given):
-    """The course and the length of the way between two stops, as cells."""
-    leg = steering.leg(one, other, given)
+def cells_of(leg):
+    """The course and the length of a leg, as cells."""
     if leg is None or leg.is_stay:
         return ["-" if leg is None else "stay", ""]
     return [course_of(leg), miles_of(leg)]
+
+
+def head_of_ways(count, who):
+    """What stands above the table of where one of so many searchers goes."""
+    return "Where to go:" if count == 1 else f"Where the {('first', 'second')[who]} searcher goes:"
+
+
+def heads_of_ways(told):
+    """The heads of that table."""
+    return ["period", *(["begins"] if told.times else []), "look from", *(["middle"] if told.frame else []), "course", "way"]
 
 
 def steered(search, told, who):
@@ -89,12 +103,11 @@ def steered(search, told, who):
     stops = steering.stops(search, told, who)
     if all(it.metres is None for it in stops[1:]):
         return []
-    lines = [["period", *(["begins"] if told.times else []), "look from", *(["middle"] if told.frame else []), "course", "way"]]
+    lines = [heads_of_ways(told)]
     for frame, before, it in zip(search.frames[1:], stops, stops[1:]):
         middle = [place_of(it)] if told.frame else []
-        lines.append([str(it.period), *begins(frame, told.times), looked_from(search, frame)[who], *middle, *way(before, it, told.given)])
-    head = "Where to go:" if search.seats.count == 1 else f"Where the {('first', 'second')[who]} searcher goes:"
-    return ["", head, *rows_of(lines, [it in TEXTS for it in lines[0]])]
+        lines.append([str(it.period), *begins(frame, told.times), looked_from(search, frame)[who], *middle, *cells_of(steering.leg(before, it, told.given))])
+    return ["", head_of_ways(search.seats.count, who), *rows_of(lines, [it in TEXTS for it in lines[0]])]
 
 
 def about_searching(search, told):
@@ -102,10 +115,15 @@ def about_searching(search, told):
     said, stops = steering.searching(told, search.sc.horizon), [steering.stops(search, told, it) for it in range(search.seats.count)]
     legs = [it for its in stops for ends in zip(its, its[1:]) if (it := steering.leg(*ends, told.given))]
     if any(not it.is_stay for it in legs):
-        said.append("Courses are true, and lead to the middle of the square; 1 NM is 1852 m.")
+        said.append(filled("brief_courses"))
     if any(it.around for it in legs):
-        said.append(f"{AROUND} The straight way is closed by land: the length is that of the way around it.")
+        said.append(filled("brief_around"))
     return ["", *(line for it in said for line in wrapped(it))] if said else []
+
+
+def heads_of_left(search):
+    """The heads of the table of what is left."""
+    return [search.squares.noun, "of all", "of what is left"]
 
 
 def left(search):
@@ -114,25 +132,28 @@ def left(search):
     sums = search.squares.sums(last.left)
     order = masses.greatest(sums)
     if not order:
-        return ["If nothing was found: nowhere, these looks find them."]
-    head = f"If nothing was found, they are after look {last.period} in"
-    lines = [[search.squares.noun, "of all", "of what is left"]]
+        return [filled("brief_nowhere")]
+    head, lines = filled("brief_left", period=last.period), [heads_of_left(search)]
     lines += [[names[it], share(sums[it], whole), share(sums[it], last.missed)] for it in order[:MOST_LEFT]]
     more = len(order) - MOST_LEFT
     rest = sum(sums[it] for it in order[MOST_LEFT:])
-    return [head, *rows_of(lines, [True, False, False]), *([f"and in {more} more: {share(rest, whole)} of all"] if more > 0 else [])]
+    return [head, *rows_of(lines, [True, False, False]), *([filled("brief_more", count=more, share=percent.cut(rest, whole))] if more > 0 else [])]
+
+
+def chance(search):
+    """The name of what says the chance, and what it says besides: of how many looks, and from where."""
+    slots = {"looks": tables.plural(search.sc.horizon, "look"), "start": search.seats.where(search.sc.start)}
+    return "brief_chance" if search.seats.count == 1 else "brief_chance_each", slots
 
 
 def text_of(search, told):
     """The whole text."""
-    looks, start = tables.plural(search.sc.horizon, "look"), search.seats.where(search.sc.start)
-    begin = [f"{looks}, from {start}"] if search.seats.count == 1 else [f"{looks} each", f"from {start}"]
+    name, slots = chance(search)
     lines = [
-        f"SEARCH PLAN {search.name}",
+        filled("brief_title", name=search.name),
         tables.verdict(search),
         search.checked_by,
-        f"Chance to find them: {search.report.percent} %, {begin[0]}",
-        *begin[1:],
+        filled(name, share=search.report.percent, **slots),
         *(line for it in tables.about_trial(search) for line in textwrap.wrap(it, WIDTH)),
         *(told.times.about() if told.times else []),
         *tables.about_flown(search),
@@ -144,10 +165,9 @@ def text_of(search, told):
         "",
         *left(search),
         "",
-        "Percent are cut off after three digits.",
-        *([] if search.ceiling is None else ["That of the ceiling is rounded up."]),
-        f"Scenario SHA-256 {search.scenario_sum[:32]}",
-        f"                 {search.scenario_sum[32:]}",
+        filled("brief_cut"),
+        *([] if search.ceiling is None else [filled("brief_up")]),
+        filled("brief_sum", begin=search.scenario_sum[:32], rest=search.scenario_sum[32:]),
     ]
     return "\n".join(lines) + "\n"
 

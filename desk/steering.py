@@ -35,14 +35,16 @@ class Leg:
         return self.metres < 0.5
 
 
+def stop(search, comments, source, name, period=0):
+    """The Stop at a position of the scenario by which a search is told, which is None where it isn't known."""
+    metres = None if source is None else comments.places.get(search.seats.of.positions[source])
+    return Stop(period, name, metres, comments.on_earth(metres))
+
+
 def stops(search, comments, who):
     """The Stops of a searcher (0, 1) of an accepted search, the start first."""
-    found = []
-    for frame in search.frames:
-        source = search.seats.sources[frame.position][who]
-        metres = None if source is None else comments.places.get(search.seats.of.positions[source])
-        found.append(Stop(frame.period, search.seats.names[frame.position][who], metres, comments.on_earth(metres)))
-    return found
+    seats = search.seats
+    return [stop(search, comments, seats.sources[it.position][who], seats.names[it.position][who], it.period) for it in search.frames]
 
 
 def leg(one, other, given=None):
