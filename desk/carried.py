@@ -16,7 +16,7 @@ HERE = os.path.dirname(os.path.realpath(__file__))
 # Where the module stands beside the program, in a checkout and in a release.
 PLACES = ["crates/osp/out/osp", "program/osp"]
 # The parts of the script of a page of a plan.
-PARTS = ["checked.js", "told.js", "onscene.js"]
+PARTS = ["checked.js", "told.js", "markup.js", "sentences.js", "radio.js", "recoloured.js", "onscene.js"]
 # What the policy of a page allows beside its own script: to compile WebAssembly, and a worker of the page's own making.
 SCRIPTS, MORE = " 'wasm-unsafe-eval'", " worker-src blob:;"
 
@@ -103,6 +103,8 @@ def verdict(search, said, content):
     )
 
 
-def blocks(search, content):
-    """What stands behind the rest of a page: the part for what was flown, and the templates that hold the module, the scenario and the plan."""
-    return onscene.section(search) + templates({"program": content, "scenario": search.text, "plan": search.plan})
+def blocks(search, drawn, told, content):
+    """What stands behind the rest of a page: the part for what was flown, and the templates that hold the module, the scenario, the plan, and
+    what that part needs."""
+    parts = {"program": content, "scenario": search.text, "plan": search.plan, **onscene.carried(search, drawn, told)}
+    return onscene.section(search) + templates(parts)

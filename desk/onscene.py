@@ -1,26 +1,96 @@
 """The part of a page in which what was flown is marked, and the program that the page carries plans the rest."""
+import dataclasses
 import json
 from html import escape
 
-from desk import forms, picture
+from desk import forms, limits, picture, radio, seats, writing
 
 NOTE = (
     "On scene the searcher may not be where the plan says. Mark the looks that were flown, in their order; they found nothing. The program in this "
-    "page then makes the best plan of those that begin so (<code>replan</code>), and checks it. All of it stays in this browser."
+    "page then makes the best plan of those that begin so (<code>replan</code>), and checks it; where the records run out, it makes a path with a "
+    "ceiling that none exceeds (<code>gap</code>). All of it stays in this browser."
 )
+OF_TWO = (
+    "Of two searchers both looks of a period are marked, that of the first one first, and both go on: what one finds alone, where the other "
+    "has left, can't be planned here."
+)
+JUMPED = "Where a searcher went where no move of the scenario leads, <code>osp next</code> goes on, on a machine with the program."
+UNKNOWN = "This can't be done in this page: several places look alike, and the plan doesn't say which of them were flown. With <code>--of</code> they may be told apart."
+# The heads of the table of looks, and what is said of how they stand.
+HEADS = [("Period", ""), ("Look from", ""), ("This look finds", " class=number"), ("Found so far", " class=number")]
+# The most records of a plan where the page isn't told another number.
+RECORDS = 200_000
 
 
-def applies(search):
-    """Whether the rest of a search can be planned in its page: one searcher, nothing flown yet, and positions that have names."""
-    return search.seats.count == 1 and not search.seats.flown and search.ceiling is None and forms.family_of(search.plan) is forms.PLANS
+@dataclasses.dataclass(frozen=True)
+class Base:
+    """The scenario in which a page plans, which the page's own may be made of: its text and what it says; by the number of a position those
+    of the searchers' places (desk.seats.Seats.of); the positions of the plan's path, and how many of them are flown."""
+
+    text: bytes
+    sc: forms.Scenario
+    places: list
+    path: list
+    flown: int
 
 
-def data(search):
-    """What the script needs of the search: texts and numbers alone, as attributes."""
-    names = [it.decode("ascii") for it in search.sc.positions]
-    said = {"positions": names, "path": [names[it] for it in search.path], "classes": picture.CLASSES}
-    told = "".join(f' data-{name}="{escape(json.dumps(it))}"' for name, it in said.items())
-    return f'{told} data-name="{escape(search.name)}"'
+def alone(text):
+    """The scenario that a text begins with, without what stands behind it."""
+    return text[: len(text) - len(forms.read_scenario(text, alone=False)[1])]
+
+
+def base(search):
+    """The Base of a search; None where it isn't known which of several places was flown."""
+    who = search.seats
+    if not who.flown:
+        return Base(alone(search.text), search.sc, who.sources, search.path, 0)
+    behind = who if who.count == 1 else seats.behind_flown(search.sc, None)
+    path = [behind.sources[it][0] for it in search.path]
+    if None in path:
+        return None
+    text = writing.scenario_text(behind.of, []) if who.count > 1 or search.told_by == search.text else alone(search.told_by)
+    return Base(text, behind.of, who.sources[: len(behind.of.positions)], path, who.flown)
+
+
+def texts(names):
+    """Names as text."""
+    return [it.decode("ascii") for it in names]
+
+
+def drawing(search, drawn):
+    """What is needed to colour a map of the page anew, and to draw on it: the cells of each square by their names, which squares have parts
+    that are coloured, and how many side by side; and where places are. Nothing where there is no map."""
+    own = search.squares
+    squares = [[own.texts[it], [search.cells[cell] for cell in own.cells[it]]] for it in own.filled()]
+    if drawn is None:
+        return {"squares": squares, "parted": [], "finer": 1, "points": []}
+    parted = [own.texts[it] for it in drawn.parted]
+    points = [it and [round(at, 1) for at in drawn.point(it)] for it in drawn.layout.positions]
+    return {"squares": squares, "parted": parted, "finer": drawn.layout.finer, "points": points}
+
+
+def carried(search, drawn, told):
+    """What the script needs of the search, by the names of templates, as bytes: what is to be known and said; and the scenario in which it
+    plans, where that isn't the page's own. Nothing where the part isn't there."""
+    of = base(search)
+    if of is None:
+        return {}
+    data = {
+        "name": search.name,
+        "positions": texts(of.sc.positions),
+        "at": of.places,
+        "places": texts(search.seats.of.positions),
+        "start": of.places[of.sc.start],
+        # (By position one of those that a move leads to: so any prefix goes on to the end.)
+        "onward": [min(of.sc.moves[it]) for it in range(len(of.sc.positions))],
+        "path": of.path,
+        "flown": of.flown,
+        "classes": picture.CLASSES,
+        "gap": limits.MOST_GAP_RECORDS,
+        "radio": radio.data(search, told),
+    }
+    scene = json.dumps(data | drawing(search, drawn)).encode("ascii")
+    return {"scene": scene} if of.text == search.text else {"scene": scene, "base": of.text}
 
 
 def button(name, text, more=""):
@@ -28,21 +98,39 @@ def button(name, text, more=""):
     return f'<button type="button" id="onscene-{name}"{more}>{text}</button>'
 
 
-def section(search):
-    """The part, hidden until the script finds that the browser can run the program; nothing where it doesn't apply."""
-    if not applies(search):
-        return ""
-    options = "".join(f"<option>{escape(it.decode('ascii'))}</option>" for it in search.sc.positions)
-    heads = "".join(f"<th>{it}</th>" for it in ("Period", "Look from", "This look finds", "Found so far"))
+def form(names, count):
+    """Where the places of a look are written."""
+    labels = ["Look from"] if count == 1 else ["First looks from", "second from"]
+    fields = "".join(f'<label>{it} <input class="onscene-name" list="onscene-names" autocomplete="off" required></label>' for it in labels)
+    options = "".join(f"<option>{escape(it)}</option>" for it in names)
+    return f'<form id="onscene-form">{fields}<button>Add</button></form><datalist id="onscene-names">{options}</datalist>'
+
+
+def answer():
+    """Where stands what was planned."""
+    heads = "".join(f"<th{kind}>{it}</th>" for it, kind in HEADS)
     return (
-        f'<section id="onscene" hidden{data(search)}><h2>Plan the rest from here</h2><p class="note">{NOTE}</p>'
-        f'<div class="controls">{button("next", "Flown as planned")}{button("mark", "Mark on the map", " aria-pressed=" + chr(34) + "false" + chr(34))}'
-        f'<form id="onscene-form"><label>Look from <input id="onscene-name" list="onscene-names" autocomplete="off" required></label><button>Add</button></form>'
-        f'<datalist id="onscene-names">{options}</datalist>{button("undo", "Undo")}{button("clear", "Back to the plan as made")}</div>'
-        '<p id="onscene-none">No look is marked as flown.</p><ol id="onscene-flown" aria-label="Looks that were flown"></ol>'
-        f'<div class="controls">{button("plan", "Plan the rest")}{button("stop", "Stop", " hidden")}</div><p id="onscene-said" role="status" aria-live="polite"></p>'
         '<div id="onscene-found" hidden><p id="onscene-verdict"></p><p id="onscene-chance"></p>'
         f'<div class="scroll"><table><thead><tr>{heads}</tr></thead><tbody id="onscene-rows"></tbody></table></div>'
         '<h3>Where they may be now</h3><p id="onscene-now"></p><div id="onscene-map" class="scroll of-all"></div>'
-        '<h3>For the radio</h3><pre id="onscene-radio"></pre><p><a id="onscene-save">Save the scenario with its plan</a>, as <code>replan</code> writes it</p></div></section>\n'
+        '<h3>For the radio</h3><div class="scroll"><pre id="onscene-radio"></pre></div>'
+        '<p><a id="onscene-save">Save the scenario with its plan</a>, which <code>brief</code> and <code>show</code> read</p></div>'
+    )
+
+
+def section(search):
+    """The part, hidden until the script finds that the browser can run the program; or why there is none."""
+    head = "<h2>Plan the rest from here</h2>"
+    if base(search) is None:
+        return f'<section class="onscene">{head}<p class="note">{UNKNOWN}</p></section>\n'
+    note = " ".join([NOTE, *[OF_TWO] * (search.seats.count > 1), JUMPED])
+    most = f'<label>with at most <input type="number" id="onscene-most" value="{RECORDS}" min="1" max="{limits.MOST_NODES}"> records</label>'
+    pressed = ' aria-pressed="false"'
+    return (
+        f'<section id="onscene" class="onscene" hidden>{head}<p class="note">{note}</p>'
+        f'<div class="controls">{button("next", "Flown as planned")}{button("mark", "Mark on the map", pressed)}'
+        f'{form(texts(search.seats.of.positions), search.seats.count)}{button("undo", "Undo")}{button("clear", "Back to the plan as made")}</div>'
+        '<p id="onscene-none">No look is marked as flown.</p><ol id="onscene-flown" aria-label="Looks that were flown"></ol>'
+        f'<div class="controls">{button("plan", "Plan the rest")}{most}{button("stop", "Stop", " hidden")}</div>'
+        f'<p id="onscene-said" role="status" aria-live="polite"></p>{answer()}</section>\n'
     )

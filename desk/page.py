@@ -5,7 +5,7 @@ import math
 import os
 from html import escape
 
-from desk import carried, compass, earth, layout, masses, percent, picture, tables
+from desk import carried, compass, earth, layout, markup, masses, percent, picture, tables
 from desk.markup import filled
 
 HERE = os.path.dirname(os.path.realpath(__file__))
@@ -198,7 +198,7 @@ def document(search, drawn, why, told, module=None):
     css, script = style(drawn), "".join(map(asset, names))
     scripts, more, blocks = "", "", ""
     if module:
-        css, script, blocks = css + carried.style(), script + carried.script(*carried.PARTS), carried.blocks(search, module)
+        css, script, blocks = css + carried.style(), script + markup.rules({}) + carried.script(*carried.PARTS), carried.blocks(search, drawn, told, module)
         scripts, more = carried.SCRIPTS, carried.MORE
     policy = f"default-src 'none'; style-src '{checksum(css)}'; script-src '{checksum(script)}'{scripts};{more} base-uri 'none'; form-action 'none'"
     return (

@@ -15,9 +15,10 @@ sys.dont_write_bytecode = True
 sys.path.insert(0, os.path.dirname(os.path.realpath(__file__)))
 
 from tests import answers, made, pages, web  # noqa: E402
+from tests.carrying import Carrying  # noqa: E402
 from tests.web import TOP, Answer, Case  # noqa: E402
 
-from desk import carried, planner, show  # noqa: E402
+from desk import carried, percent, planner  # noqa: E402
 
 sys.path.insert(0, os.path.join(TOP, "door", "web"))
 import build  # noqa: E402
@@ -88,8 +89,6 @@ REFUSED = [
 ]
 
 ROUND = 2**128
-# Where pages find the module, which other tests don't want in theirs.
-PLACES = list(carried.PLACES)
 # The pages that the module has from the start, and what it answers where it has too few.
 FIRST = build.FIRST >> 16
 NO_MEMORY = Answer(7, b"", b"no memory\n")
@@ -274,22 +273,9 @@ def embedded(page, name, content):
     return re.sub(f'(<template id="carried-{name}">)[^<]*', lambda it: it[1] + carried.packed(content), page)
 
 
-class Carrying(pages.Room):
-    """Pages that carry the program."""
-
-    def setUp(self):
-        super().setUp()
-        why = web.lacking() or (None if pages.IS_BUILT else "no program is built: its pages carry none")
-        if why:
-            self.skipTest(why)
-        patch = mock.patch.object(carried, "PLACES", PLACES)
-        patch.start()
-        self.addCleanup(patch.stop)
-
-    def page(self, *files):
-        status, out, err = self.run_helper(show.main, files)
-        self.assertEqual((status, err), (0, ""))
-        return out
+def less(plan):
+    """A plan whose chance is one less."""
+    return re.sub(rb"(?m)^chance (\d+)", lambda it: b"chance %d" % (int(it[1]) - 1), plan)
 
 
 class Pages(Carrying):
@@ -325,22 +311,17 @@ class Pages(Carrying):
 class InBrowser:
     """Pages that carry the program and check themselves, in a browser without a window: the cases of each browser."""
 
-    BROWSER = None
-    PYTHON, SCRIPT, LACKING = "/usr/bin/python3", f"{TOP}/tests/web_in_browser.py", 77
-    HERE = re.compile(r"Checked here, just now, by the proved program \(\d+\.\d\d s\)\.")
-
-    def setUp(self):
-        super().setUp()
-        self.folder = os.path.join(os.environ.get("DESK_PICTURES", self.room), self.BROWSER)
-        os.makedirs(self.folder, exist_ok=True)
-
     def made(self):
         """The pages by name: as they are made, with a plan that was changed, and for a browser without WebAssembly."""
         grid, cells = (self.page(*self.files(it)) for it in ("drifting-grid", "two-cells"))
-        plan = pages.example("drifting-grid")[1]
+        plan, few, both = pages.example("drifting-grid")[1], f"{pages.EXAMPLES}/two-cells.gap", f"{pages.EXAMPLES}/night-two.made"
+        gap, pair = self.page(f"{pages.EXAMPLES}/two-cells.scenario", few), self.page(both, "--of", f"{pages.EXAMPLES}/night.scenario")
         return {
             "grid": grid,
-            "gap": self.page(f"{pages.EXAMPLES}/two-cells.scenario", f"{pages.EXAMPLES}/two-cells.gap"),
+            "gap": gap,
+            "low": embedded(gap, "plan", pages.read(few).replace(b"ceiling 12", b"ceiling 11")),
+            "pair": pair,
+            "worse": embedded(pair, "plan", less(pages.read(both).split(b"\nend\n", 1)[1])),
             "edges": self.page(f"{pages.EXAMPLES}/swath.scenario", f"{pages.EXAMPLES}/swath.gap"),
             "better": embedded(grid, "plan", plan.replace(b"chance 2", b"chance 3")),
             "lacking": embedded(cells, "plan", pages.read(f"{pages.EXAMPLES}/two-cells-lacking.plan")),
@@ -351,13 +332,7 @@ class InBrowser:
         }
 
     def visit(self, made):
-        """What the browser saw of these pages. What it saves, and pictures, is kept in the folder DESK_PICTURES, if it is set."""
-        files = [self.write(f"{name}.html", text.encode()) for name, text in made.items()]
-        done = subprocess.run([self.PYTHON, self.SCRIPT, self.BROWSER, self.folder, *files], capture_output=True, check=False)
-        if done.returncode == self.LACKING:
-            self.skipTest(done.stderr.decode().strip())
-        self.assertEqual(done.returncode, 0, done.stderr.decode()[-2000:])
-        return {name.removesuffix(".html"): it for name, it in json.loads(done.stdout).items()}
+        return super().visit("web_in_browser.py", made)
 
     def test_verdicts(self):
         """The verdict on opening, and nothing asked of a network, nor said on the console."""
@@ -366,6 +341,9 @@ class InBrowser:
         wanted = {
             "grid": ("Accepted: no path is better.", None),
             "gap": ("Accepted: no path finds more.", None),
+            "low": ("Rejected: line 4 of the plan, CeilingWrong.", None),
+            "pair": ("Accepted: no pair of paths is better.", None),
+            "worse": ("Rejected: line 3 of the plan, ValueWrong.", None),
             "edges": ("Accepted: no path finds more than 59.647 %.", None),
             "better": ("Rejected: line 3 of the plan, ValueWrong.", None),
             "lacking": ("Rejected: line 8 of the plan, MissingChild.", None),
@@ -399,13 +377,15 @@ class InBrowser:
         # (README.md has this chance. The first three looks find nothing, since nobody is there.)
         self.assertTrue(clicks["chance"].startswith("16.296 % chance to find them"), clicks["chance"])
         looks = web.native([Case(["map", "flown", *"r0c1 r0c2 r0c3".split()], grid)])[0].out.decode().split("period ")[3].splitlines()
-        masses = [it.split()[1:] for it in looks if it.startswith("left")]
-        self.assertEqual(clicks["cells"], [f"{cell}: {share} % of all" for cell, _, share in masses])
-        self.assertEqual(clicks["legs"], [2, 5])
+        masses = [(it.split()[1], int(it.split()[2])) for it in looks if it.startswith("left")]
+        whole, missed = 128 * 10**15, sum(it[1] for it in masses)
+        said = [(cell, *(percent.cut(mass, it) if mass else "0" for it in (whole, missed)), mass) for cell, mass in masses]
+        self.assertEqual(clicks["cells"], [f"{cell}: {of_all} % of all, {of_left} % if nothing was found; {mass} of {whole}" for cell, of_all, of_left, mass in said])
+        self.assertEqual(clicks["legs"], [3, 5])
         path = "r0c1 (flown),r0c2 (flown),r0c3 (flown),r1c3,r2c3,r3c3,r3c3,r4c3".split(",")
         self.assertEqual([it[1] for it in clicks["rows"]], path)
         self.assertEqual([it[3] for it in clicks["rows"]][-1], "16.296 %")
-        self.assertEqual(re.findall(r"^ +\d+  (.*)$", clicks["radio"], re.M), path)
+        self.assertEqual(re.findall(r"^ +\d  (\S+(?: \(flown\))?) .* %$", clicks["radio"], re.M), path)
         self.assertEqual((seen["undone"]["flown"], seen["undone"]["found"]), (["r0c1", "r0c2"], False))
         self.assertEqual((seen["wrong"]["flown"], seen["wrong"]["said"]), (["r0c1", "r0c2"], "r9c9 is no place to look from."))
         self.assertEqual((seen["illegal"]["flown"], seen["refused"]["found"]), (["r0c1", "r0c2", "r6c6"], False))

@@ -26,9 +26,13 @@ class Visit:
         self.browser, self.page = seen_by, page
         self.base = os.path.join(folder, os.path.splitext(os.path.basename(page))[0])
 
-    def open(self, size):
-        """Opens the page anew in a view of this size, in pixels."""
+    def resize(self, size):
+        """Gives the view this size, in pixels."""
         self.browser.sized(size)
+
+    def open(self, size):
+        """Opens the page anew in a view of this size."""
+        self.resize(size)
         self.browser.get("file://" + self.page)
 
     def run(self, script, *given):

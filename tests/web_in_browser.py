@@ -93,7 +93,7 @@ def on_scene(seen_by, page, folder):
     visit.picture("flown")
     visit.run("document.getElementById('onscene-undo').focus()")
     seen["undone"] = by_keys(visit, Keys.ENTER)
-    visit.run("document.getElementById('onscene-name').focus()")
+    visit.run("document.querySelector('.onscene-name').focus()")
     seen["wrong"] = by_keys(visit, "r9c9", Keys.ENTER)
     seen["illegal"] = by_keys(visit, "r6c6", Keys.ENTER)
     visit.run("document.getElementById('onscene-plan').focus()")
