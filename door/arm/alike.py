@@ -11,7 +11,8 @@ from handed import CHOICE, LAYOUT, PAUSE, TRIPLE
 
 NEW_TRIPLE = "aarch64-unknown-linux-gnu"
 NEW_LAYOUT = "e-m:e-p270:32:32-p271:32:32-p272:64:64-i8:8:32-i16:16:32-i64:64-i128:128-n32:64-S128-Fn32"
-# The same instructions there. (A choice is asked for by numbers below 16 alone: that is the contract of the kit's `swizzle_dyn`.)
+# The same instructions there. (A choice is asked for by numbers below 16, and by those from 128 on, which choose 0: for others the kit's
+# `swizzle_dyn_within` isn't defined.)
 NEW_PAUSE, NEW_CHOICE = "@llvm.aarch64.isb(i32 15)", "@llvm.aarch64.neon.tbl1.v16i8"
 # How the kernel of each machine numbers the call by which threads wait for each other, futex.
 WAIT, NEW_WAIT = '@"+threads::syscall"(i64 202, ', '@"+threads::syscall"(i64 98, '
