@@ -68,10 +68,11 @@ remembering_all p m q sound legal far =
     let some : 0 < length (map f (continuations p q)) =
     rw length-map (some_walks p.moves sound.grid (p.horizon - length q) (last_of p.start q) (last_within p.moves sound.grid p.start start q legal.follows)) in
     let (z, listed, is) = Contains-map_cases f (continuations p q) _ (greatest_reached _ some) in
-    let size = continued p q z listed in
-    (q ++ z,
-    record { path = (continuations_are p q z legal).0 listed; front = take-append_seam q z },
-    value-all p sound m q z (omega (arith, size, legal.short)) (omega (arith, size, far)) ∙ ap (λ (n : ℕ). value_of p q + n) is)
+    let size = continued p q z listed in (
+      q ++ z,
+      record { path = (continuations_are p q z legal).0 listed; front = take-append_seam q z },
+      value-all p sound m q z (omega (arith, size, legal.short)) (omega (arith, size, far)) ∙ ap (λ (n : ℕ). value_of p q + n) is,
+    )
 
 pub edge_is_above : EdgeIsAbove
 edge_is_above p q y sound legal short path = omega (arith, remembering_is_above p 1 q y sound path, remembering_one p q)

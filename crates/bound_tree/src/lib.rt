@@ -18,8 +18,8 @@ pub use gap_laws::{
 pub use laws::{
     accepted_is_best, closed_is_good, closed_stays, closes_once, cut_stays, eaten_are_in_place,
     eaten_by_either, eaten_is_placed_and_good, edge_is_between, exchange_rules_out,
-    looks_are_convex, mean_is_above, remembering_is_between, same_search_same_live, same_search_same_plans,
-    tangent_is_above,
+    looks_are_convex, mean_is_above, remembering_is_between, same_search_same_live,
+    same_search_same_plans, tangent_is_above,
 };
 pub use node::{Kind, TreeNode};
 pub use plan::Plan;
