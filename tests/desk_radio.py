@@ -156,6 +156,13 @@ class Radio(pages.Room):
         rows = re.findall(r"^ +\d  (\w+)", self.written([case])[0], re.M)
         self.assertEqual(rows, names)
 
+    def test_a_page_that_does_not_know_which_places_were_flown_says_so(self):
+        made = Case(ALIKE, None, random.Random(9), 2).made
+        alone = searched(made.text, made.path)
+        self.assertEqual(onscene.carried(alone, None, comments.read(alone, None)[0]), {})
+        self.assertIn("several places look alike", onscene.section(alone))
+        self.assertNotIn("button", onscene.section(alone))
+
 
 if __name__ == "__main__":
     unittest.main()
