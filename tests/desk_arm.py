@@ -54,6 +54,14 @@ start:
   ret void
 }}
 
+define internal i1 @"a::any"(<32 x i8> %a0) #0 {{
+start:
+  %r0 = icmp slt <32 x i8> %a0, zeroinitializer
+  %r1 = bitcast <32 x i1> %r0 to i32
+  %r2 = icmp eq i32 %r1, 0
+  ret i1 %r2
+}}
+
 define i32 @main() #2 {{
 start:
   %r0 = call i64 @__sysv_signal(i32 13, i64 1)
@@ -95,6 +103,23 @@ start:
   store [2 x i64] %r0, ptr %a0, align 8
   ret void
 }
+define internal i1 @"a::any"(<32 x i8> %a0) #0 {
+start:
+  %r0 = icmp slt <32 x i8> %a0, zeroinitializer
+  %r1 = sext <32 x i1> %r0 to <32 x i8>
+  %r2 = bitcast <2 x i64> splat (i64 -9205322385119247871) to <16 x i8>
+  %r3 = shufflevector <32 x i8> %r1, <32 x i8> zeroinitializer, <16 x i32> <i32 0, i32 1, i32 2, i32 3, i32 4, i32 5, i32 6, i32 7, i32 8, i32 9, i32 10, i32 11, i32 12, i32 13, i32 14, i32 15>
+  %r4 = shufflevector <32 x i8> %r1, <32 x i8> zeroinitializer, <16 x i32> <i32 16, i32 17, i32 18, i32 19, i32 20, i32 21, i32 22, i32 23, i32 24, i32 25, i32 26, i32 27, i32 28, i32 29, i32 30, i32 31>
+  %r5 = and <16 x i8> %r3, %r2
+  %r6 = and <16 x i8> %r4, %r2
+  %r7 = call <16 x i8> @llvm.aarch64.neon.addp.v16i8(<16 x i8> %r5, <16 x i8> %r6)
+  %r8 = call <16 x i8> @llvm.aarch64.neon.addp.v16i8(<16 x i8> %r7, <16 x i8> %r7)
+  %r9 = call <16 x i8> @llvm.aarch64.neon.addp.v16i8(<16 x i8> %r8, <16 x i8> %r8)
+  %r10 = bitcast <16 x i8> %r9 to <4 x i32>
+  %r11 = extractelement <4 x i32> %r10, i32 0
+  %r12 = icmp eq i32 %r11, 0
+  ret i1 %r12
+}
 define i32 @main() #0 {
 start:
   %r0 = call i64 @__sysv_signal(i32 13, i64 1)
@@ -117,6 +142,8 @@ OTHER = [
     ("i64 98, ", "i64 202, "),
     ("ptr %a0, i64 128", "ptr %a0, i64 129"),
     ("isb(i32 15)", "isb(i32 14)"),
+    ("addp.v16i8(<16 x i8> %r5, <16 x i8> %r6)", "addp.v16i8(<16 x i8> %r5, <16 x i8> %r5)"),
+    ("icmp eq i32 %r11, 0", "icmp eq i32 %r10, 0"),
     ('c" #0"', 'c" #1"'),
     ("  ret void\n}\ndefine i32", "}\ndefine i32"),
     ("  ret i32 %r1\n", "  ret i32 0\n"),

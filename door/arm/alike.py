@@ -14,6 +14,8 @@ NEW_LAYOUT = "e-m:e-p270:32:32-p271:32:32-p272:64:64-i8:8:32-i16:16:32-i64:64-i1
 # The same instructions there. (A choice is asked for by numbers below 16, and by those from 128 on, which choose 0: for others the kit's
 # `swizzle_dyn_within` isn't defined.)
 NEW_PAUSE, NEW_CHOICE = "@llvm.aarch64.isb(i32 15)", "@llvm.aarch64.neon.tbl1.v16i8"
+# What adds neighbours, which x86-64 needs no counterpart of.
+NEW_ADDED = "@llvm.aarch64.neon.addp.v16i8"
 # How the kernel of each machine numbers the call by which threads wait for each other, futex.
 WAIT, NEW_WAIT = '@"+threads::syscall"(i64 202, ', '@"+threads::syscall"(i64 98, '
 # What attributes say of the processor, its stack, and its frames.
@@ -26,6 +28,9 @@ PAIR = re.compile(
     r"  %r4 = load i64, ptr %r3, align 8\n  %r5 = getelementptr i8, ptr %a0, i64 8\n  store i64 %r4, ptr %r5, align 8\n"
 )
 NEW_PAIR = r"  %r0 = call [2 x i64] \g<call>\n  store [2 x i64] %r0, ptr %a0, align 8\n"
+# Of a mask of 16, 32 or 64 lanes x86-64 has the bits in one step. aarch64 leaves of each lane its bit of a byte, and adds neighbours.
+LANE = "splat (i64 -9205322385119247871)"
+BITS = re.compile(rf"^  %r(?P<at>\d+) = sext <(?P<lanes>16|32|64) x i1> (?P<mask>%r\d+) to <(?P=lanes) x i8>\n  %r\d+ = bitcast <2 x i64> {re.escape(LANE)} .*\n", re.M)
 NEW_MAIN = f"""define i32 @main() {{ nounwind}} {{
 start:
   %r0 = call i64 @__sysv_signal(i32 13, i64 1)
@@ -33,9 +38,55 @@ start:
   ret i32 %r1
 }}"""
 # What one of the two may declare alone, or in another way: what `main` calls, and the instructions above.
-DECLARED = [*handed.OF_MAIN, *(it.split("(")[0].removeprefix("@") for it in (PAUSE, NEW_PAUSE, CHOICE, NEW_CHOICE))]
+DECLARED = [*handed.OF_MAIN, *(it.split("(")[0].removeprefix("@") for it in (PAUSE, NEW_PAUSE, CHOICE, NEW_CHOICE, NEW_ADDED))]
 DECLARATION = re.compile(rf"^declare [^\n]*@(?:{'|'.join(map(re.escape, DECLARED))})\([^\n]*\n", re.M)
 MEMORY = re.compile(r"^declare \{ i64, i64 \} (?=@rattle_(?:re)?alloc\()", re.M)
+
+
+def bits(lanes, mask, at):
+    """The lines by which aarch64 has the bits of a mask, the first of which defines the register of this number."""
+    lines = []
+
+    def put(value):
+        lines.append(f"  %r{at + len(lines)} = {value}\n")
+        return f"%r{at + len(lines) - 1}"
+
+    wide, lane = put(f"sext <{lanes} x i1> {mask} to <{lanes} x i8>"), put(f"bitcast <2 x i64> {LANE} to <16 x i8>")
+    parts = [wide]
+    if lanes > 16:
+        parts = [
+            put(f"shufflevector <{lanes} x i8> {wide}, <{lanes} x i8> zeroinitializer, <16 x i32> <{', '.join(f'i32 {it}' for it in range(first, first + 16))}>")
+            for first in range(0, lanes, 16)
+        ]
+    parts = [put(f"and <16 x i8> {it}, {lane}") for it in parts]
+    for _ in range(3):
+        pairs = list(zip(parts[::2], parts[1::2])) or [parts * 2]
+        parts = [put(f"call <16 x i8> {NEW_ADDED}(<16 x i8> {one}, <16 x i8> {two})") for one, two in pairs]
+    whole = put(f"bitcast <16 x i8> {parts[0]} to <{128 // lanes} x i{lanes}>")
+    put(f"extractelement <{128 // lanes} x i{lanes}> {whole}, i32 0")
+    return lines
+
+
+def masked(text):
+    """The text for aarch64, with the one step of x86-64 for the bits of each mask."""
+    told, behind = [], 0
+    for found in BITS.finditer(text):
+        lines = bits(int(found["lanes"]), found["mask"], int(found["at"]))
+        if text.startswith("".join(lines), found.start()):
+            register = lines[-1].split(" = ")[0]
+            told += [text[behind : found.start()], f"{register} = bitcast <{found['lanes']} x i1> {found['mask']} to i{found['lanes']}\n"]
+            behind = found.start() + len("".join(lines))
+    return "".join([*told, text[behind:]])
+
+
+def numbered(lines):
+    """The lines, with the registers of each function numbered in the order in which they come."""
+    told, numbers = [], {}
+    for line in lines:
+        if line.startswith("define "):
+            numbers = {}
+        told.append(re.sub(r"%r\d+\b", lambda it: f"%r{numbers.setdefault(it[0], len(numbers))}", line))
+    return told
 
 
 def plain(text):
@@ -50,11 +101,11 @@ def armed(text):
     text = handed.with_main(text, NEW_MAIN)
     for old, new in ((LAYOUT, NEW_LAYOUT), (TRIPLE, NEW_TRIPLE), (PAUSE, NEW_PAUSE), (f"{CHOICE}(", f"{NEW_CHOICE}("), (WAIT, NEW_WAIT)):
         text = text.replace(old, new)
-    return plain(MEMORY.sub("declare [2 x i64] ", PAIR.sub(NEW_PAIR, text)))
+    return numbered(plain(MEMORY.sub("declare [2 x i64] ", PAIR.sub(NEW_PAIR, text))))
 
 
 def compare(text, there):
     """Raises handed.Stop, with the first line, where the module for aarch64, whose text is `there`, isn't the one that `armed` tells of."""
-    for at, (wanted, line) in enumerate(itertools.zip_longest(armed(text), plain(there), fillvalue="nothing"), 1):
+    for at, (wanted, line) in enumerate(itertools.zip_longest(armed(text), numbered(plain(masked(there))), fillvalue="nothing"), 1):
         if wanted != line:
             raise handed.Stop(f"line {at} of the module for aarch64 isn't known here: {line.strip()[:200]}, and not {wanted.strip()[:200]}")
