@@ -145,7 +145,7 @@ OTHER = [
     ("addp.v16i8(<16 x i8> %r5, <16 x i8> %r6)", "addp.v16i8(<16 x i8> %r5, <16 x i8> %r5)"),
     ("icmp eq i32 %r11, 0", "icmp eq i32 %r10, 0"),
     ('c" #0"', 'c" #1"'),
-    ("  ret void\n}\ndefine i32", "}\ndefine i32"),
+    ("  ret void\n}\ndefine internal i1", "}\ndefine internal i1"),
     ("  ret i32 %r1\n", "  ret i32 0\n"),
     ("@rattle_alloc(i64 %a2, i64 %a3)", "@rattle_alloc(i64 %a3, i64 %a2)"),
     ("declare [2 x i64] @rattle_alloc(", "declare [2 x i64] @rattle_alloc(ptr, "),
