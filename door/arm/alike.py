@@ -31,6 +31,8 @@ NEW_PAIR = r"  %r0 = call [2 x i64] \g<call>\n  store [2 x i64] %r0, ptr %a0, al
 # Of a mask of 16, 32 or 64 lanes x86-64 has the bits in one step. aarch64 leaves of each lane its bit of a byte, and adds neighbours.
 LANE = "splat (i64 -9205322385119247871)"
 BITS = re.compile(rf"^  %r(?P<at>\d+) = sext <(?P<lanes>16|32|64) x i1> (?P<mask>%r\d+) to <(?P=lanes) x i8>\n  %r\d+ = bitcast <2 x i64> {re.escape(LANE)} .*\n", re.M)
+# Of 32 or 64 lanes x86-64 may have them 16 by 16, shifted to their places.
+PARTS = re.compile(r"^  %r(?P<at>\d+) = shufflevector <(?P<lanes>32|64) x i8> (?P<of>%r\d+), <(?P=lanes) x i8> zeroinitializer, <16 x i32> .*\n", re.M)
 NEW_MAIN = f"""define i32 @main() {{ nounwind}} {{
 start:
   %r0 = call i64 @__sysv_signal(i32 13, i64 1)
@@ -43,40 +45,76 @@ DECLARATION = re.compile(rf"^declare [^\n]*@(?:{'|'.join(map(re.escape, DECLARED
 MEMORY = re.compile(r"^declare \{ i64, i64 \} (?=@rattle_(?:re)?alloc\()", re.M)
 
 
+def sixteens(lanes, of):
+    """What takes each 16 lanes of so many, the first ones first."""
+    numbers = [", ".join(f"i32 {it}" for it in range(first, first + 16)) for first in range(0, lanes, 16)]
+    return [f"shufflevector <{lanes} x i8> {of}, <{lanes} x i8> zeroinitializer, <16 x i32> <{it}>" for it in numbers]
+
+
+class Lines:
+    """Lines that define registers one after the other, from this number on."""
+
+    def __init__(self, at):
+        self.at, self.lines = at, []
+
+    def put(self, value):
+        """The register of one more value."""
+        self.lines.append(f"  %r{self.at + len(self.lines)} = {value}\n")
+        return f"%r{self.at + len(self.lines) - 1}"
+
+
 def bits(lanes, mask, at):
     """The lines by which aarch64 has the bits of a mask, the first of which defines the register of this number."""
-    lines = []
-
-    def put(value):
-        lines.append(f"  %r{at + len(lines)} = {value}\n")
-        return f"%r{at + len(lines) - 1}"
-
-    wide, lane = put(f"sext <{lanes} x i1> {mask} to <{lanes} x i8>"), put(f"bitcast <2 x i64> {LANE} to <16 x i8>")
-    parts = [wide]
-    if lanes > 16:
-        parts = [
-            put(f"shufflevector <{lanes} x i8> {wide}, <{lanes} x i8> zeroinitializer, <16 x i32> <{', '.join(f'i32 {it}' for it in range(first, first + 16))}>")
-            for first in range(0, lanes, 16)
-        ]
-    parts = [put(f"and <16 x i8> {it}, {lane}") for it in parts]
+    told = Lines(at)
+    wide, lane = told.put(f"sext <{lanes} x i1> {mask} to <{lanes} x i8>"), told.put(f"bitcast <2 x i64> {LANE} to <16 x i8>")
+    parts = [told.put(it) for it in sixteens(lanes, wide)] if lanes > 16 else [wide]
+    parts = [told.put(f"and <16 x i8> {it}, {lane}") for it in parts]
     for _ in range(3):
         pairs = list(zip(parts[::2], parts[1::2])) or [parts * 2]
-        parts = [put(f"call <16 x i8> {NEW_ADDED}(<16 x i8> {one}, <16 x i8> {two})") for one, two in pairs]
-    whole = put(f"bitcast <16 x i8> {parts[0]} to <{128 // lanes} x i{lanes}>")
-    put(f"extractelement <{128 // lanes} x i{lanes}> {whole}, i32 0")
-    return lines
+        parts = [told.put(f"call <16 x i8> {NEW_ADDED}(<16 x i8> {one}, <16 x i8> {two})") for one, two in pairs]
+    whole = told.put(f"bitcast <16 x i8> {parts[0]} to <{128 // lanes} x i{lanes}>")
+    told.put(f"extractelement <{128 // lanes} x i{lanes}> {whole}, i32 0")
+    return told.lines
+
+
+def signs(lanes, of, at):
+    """The lines by which x86-64 has the signs of more than 16 lanes as bits, the first of which defines the register of this number."""
+    told, whole = Lines(at), None
+    for which, part in enumerate([told.put(it) for it in sixteens(lanes, of)]):
+        sixteen = told.put(f"bitcast <16 x i1> {told.put(f'icmp slt <16 x i8> {part}, zeroinitializer')} to i16")
+        wide = told.put(f"zext i16 {sixteen} to i64")
+        whole = wide if which == 0 else told.put(f"or i64 {whole}, {told.put(f'shl i64 {wide}, {16 * which}')}")
+    return told.lines
+
+
+def in_one_step(text, pattern, lines_of, step):
+    """The text in which one step stands in the place of the lines that are made of each match of a pattern, where these stand there."""
+    told, behind = [], 0
+    for found in pattern.finditer(text):
+        lines = lines_of(found)
+        if found.start() >= behind and text.startswith("".join(lines), found.start()):
+            told += [text[behind : found.start()], step(found, lines[-1].split(" = ")[0].strip())]
+            behind = found.start() + len("".join(lines))
+    return "".join([*told, text[behind:]])
 
 
 def masked(text):
-    """The text for aarch64, with the one step of x86-64 for the bits of each mask."""
-    told, behind = [], 0
-    for found in BITS.finditer(text):
-        lines = bits(int(found["lanes"]), found["mask"], int(found["at"]))
-        if text.startswith("".join(lines), found.start()):
-            register = lines[-1].split(" = ")[0]
-            told += [text[behind : found.start()], f"{register} = bitcast <{found['lanes']} x i1> {found['mask']} to i{found['lanes']}\n"]
-            behind = found.start() + len("".join(lines))
-    return "".join([*told, text[behind:]])
+    """The text for aarch64, with one step for the bits of each mask."""
+    lines = lambda it: bits(int(it["lanes"]), it["mask"], int(it["at"]))
+    return in_one_step(text, BITS, lines, lambda it, made: f"  {made} = bitcast <{it['lanes']} x i1> {it['mask']} to i{it['lanes']}\n")
+
+
+def signed(text):
+    """The text for x86-64, with the signs of more than 16 lanes as aarch64 has them: what is below 0, and the bits of that, as 64 bits."""
+
+    def step(found, made):
+        lanes, at = int(found["lanes"]), int(found["at"])
+        below = f"  %r{at} = icmp slt <{lanes} x i8> {found['of']}, zeroinitializer\n"
+        if lanes == 64:
+            return f"{below}  {made} = bitcast <64 x i1> %r{at} to i64\n"
+        return f"{below}  %r{at + 1} = bitcast <32 x i1> %r{at} to i32\n  {made} = zext i32 %r{at + 1} to i64\n"
+
+    return in_one_step(text, PARTS, lambda it: signs(int(it["lanes"]), it["of"], int(it["at"])), step)
 
 
 def numbered(lines):
@@ -98,7 +136,7 @@ def plain(text):
 
 def armed(text):
     """The lines of the module for aarch64, from the text of the module for x86-64. Raises handed.Stop where its `main` isn't known."""
-    text = handed.with_main(text, NEW_MAIN)
+    text = signed(handed.with_main(text, NEW_MAIN))
     for old, new in ((LAYOUT, NEW_LAYOUT), (TRIPLE, NEW_TRIPLE), (PAUSE, NEW_PAUSE), (f"{CHOICE}(", f"{NEW_CHOICE}("), (WAIT, NEW_WAIT)):
         text = text.replace(old, new)
     return numbered(plain(MEMORY.sub("declare [2 x i64] ", PAIR.sub(NEW_PAIR, text))))
