@@ -13,6 +13,7 @@ sys.dont_write_bytecode = True
 sys.path.insert(0, os.path.dirname(os.path.realpath(__file__)))
 
 from tests import answers, web  # noqa: E402
+from tests.asking import module_of  # noqa: E402
 from tests.web import TOP, Answer, Case  # noqa: E402
 
 sys.path[:0] = [os.path.join(TOP, "door"), os.path.join(TOP, "door", "arm")]
@@ -22,6 +23,7 @@ import handed  # noqa: E402
 PROGRAM = f"{web.PROGRAM}.aarch64"
 EMULATOR = shutil.which("qemu-aarch64") or shutil.which("qemu-aarch64-static")
 LIBRARIES = "/usr/aarch64-linux-gnu"
+arm_build = module_of("arm_build", f"{TOP}/door/arm/build.py")
 NO_MEMORY = Answer(7, b"", b"no memory\n")
 
 # A module for x86-64 as the kit hands it over, in small, and what it hands over for aarch64.
@@ -312,21 +314,23 @@ class Answers(unittest.TestCase):
             self.assertNotEqual(told[0][0], 0, more)
 
     def test_memory(self):
-        """However little room the emulator gives it, it ends with status 7 and writes nothing, or answers as it does with enough; or the
-        emulator itself finds no room to begin."""
-        row = answers.texts_of_limits()[0]
-        case = Case(["check"], row.given + row.out.encode())
-        whole = web.native([case])[0]
-        within = lambda pages: web.answers_of([*self.EMULATED, "-R", str(pages << 16), PROGRAM], [case])[0]
-        few, enough = 128, 4096
-        self.assertEqual(within(enough), whole)
-        while enough - few > 1:
-            middle = (few + enough) // 2
-            few, enough = (few, middle) if within(middle) == whole else (middle, enough)
-        told = [within(few - 4 * it) for it in range(24)]
-        begun = [it for it in told if not it.err.startswith((b"qemu-aarch64", b"mmap stack"))]
-        self.assertEqual({*begun}, {NO_MEMORY})
-        self.assertGreater(len(begun), 4)
+        """Where memory is refused, each growth in its turn, it ends with status 7 and writes nothing, or answers as it does else."""
+        refusals = module_of("refusals", f"{TOP}/bench/refusals")
+        with tempfile.TemporaryDirectory() as room:
+            with open(f"{room}/refusing.c", "w", encoding="utf-8") as file:
+                file.write(refusals.LIBRARY)
+            included = [word for it in arm_build.INCLUDED for word in ("-isystem", it)]
+            flags = [f"--target={alike.NEW_TRIPLE}", "--no-default-config", "-O1", "-fPIC", "-mno-outline-atomics", "-shared", "-nostdlib", "-nostdinc", "-fuse-ld=lld", *included]
+            handed.call([f"{handed.kit()}/toolchain/bin/clang", *flags, f"{room}/refusing.c", f"{LIBRARIES}/lib/libc.so.6", "-o", f"{room}/refusing.so"])
+            program = [*self.EMULATED, "-E", f"LD_PRELOAD={room}/refusing.so", PROGRAM]
+            for words, given in (("plan --workers 1", refusals.SCENARIO), ("check", refusals.SCENARIO + refusals.PLAN)):
+                whole = web.native([Case(words.split(), given)])[0]
+                ran = refusals.run(program, words, given, 0, {})
+                self.assertEqual(refusals.answer(ran), whole)
+                told = [Answer(*refusals.answer(refusals.run(program, words, given, it, {}))) for it in range(1, ran.growths + 1)]
+                # (Where there is none for the words of the command themselves, no line is said.)
+                self.assertLessEqual({*told}, {whole, NO_MEMORY, NO_MEMORY._replace(err=b"")})
+                self.assertGreater(told.count(NO_MEMORY), 4)
 
     def with_streams(self, program, scenario, stdin="/dev/stdin", stdout="/dev/null"):
         """The status of a plan of a scenario, and what is said of it, where a stream is another one, or closed for None."""
