@@ -52,6 +52,7 @@
     at("shown").innerHTML = text;
     Object.entries(drawn === null ? {} : shown.sizes(drawn)).forEach(([name, size]) => at("shown").style.setProperty(name, size));
     told.save(at("save"), plan, `${name}.${word === "check" ? "plan" : "gap"}`);
+    told.save(at("made"), carried.joined(scenario, plan), `${name}.made`);
     at("report").hidden = word !== "check";
     if (word === "check") {
       told.save(at("report"), (await carried.ask(["report"], carried.joined(scenario, plan))).bytes, `${name}.report`);

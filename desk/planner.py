@@ -44,7 +44,8 @@ def answer():
     return (
         '<section id="planner-found" hidden><h2>Search plan <bdi id="planner-name"></bdi></h2><div class="verdict"><p class="chance" id="planner-chance"></p>'
         '<p class="accepted" id="planner-verdict"></p></div><p class="note" id="planner-about"></p>'
-        '<p class="saves"><a id="planner-save">Save the plan</a> &nbsp; <a id="planner-report">Save the report</a></p></section><div id="planner-shown" hidden></div>'
+        '<p class="saves"><a id="planner-save">Save the plan</a> &nbsp; <a id="planner-report">Save the report</a> &nbsp; '
+        '<a id="planner-made">Save the scenario with its plan</a></p></section><div id="planner-shown" hidden></div>'
     )
 
 

@@ -421,8 +421,9 @@ class InBrowser:
         """What is said of plans and of wrong texts, and what is saved."""
         self.assertEqual(seen["nothing"]["said"], "There is no scenario: open one, paste it, or take an example.")
         written = seen["example"]
-        self.assertEqual(written["files"], ["drifting-grid.plan", "drifting-grid.report"])
+        self.assertEqual(written["files"], ["drifting-grid.plan", "drifting-grid.report", "drifting-grid.made"])
         self.assertEqual(pages.read(os.path.join(self.folder, "drifting-grid.plan")), pages.example("drifting-grid")[1])
+        self.assertEqual(pages.read(os.path.join(self.folder, "drifting-grid.made")), b"".join(pages.example("drifting-grid")))
         self.assertEqual(pages.read(os.path.join(self.folder, "drifting-grid.report")), pages.read(f"{pages.EXAMPLES}/drifting-grid.report"))
         self.assertRegex(written["verdict"], f"^Accepted: no path is better\\. {self.HERE.pattern}$")
         self.assertEqual(written["chance"], "17.557\N{NO-BREAK SPACE}% chance to find them in 8 looks")

@@ -128,7 +128,7 @@ def planned(visit):
         const part = (it) => document.getElementById(`planner-${it}`);
         return {
           said: part("said").textContent, found: !part("found").hidden, verdict: part("verdict").textContent, chance: part("chance").textContent,
-          about: part("about").textContent, files: [part("save").download, part("report").download],
+          about: part("about").textContent, files: [part("save").download, part("report").download, part("made").download],
         };"""
     )
     return said | drawn(visit)
@@ -177,7 +177,7 @@ def in_planner(seen_by, page, folder):
     seen = {"nothing": press(visit, "plan")}
     visit.element("#planner-example").send_keys("drifting-grid")
     seen["example"] = press(visit, "plan")
-    for link in ("save", "report"):
+    for link in ("save", "report", "made"):
         visit.element(f"#planner-{link}").click()
     visit.run("document.getElementById('period').focus()")
     visit.press(*[Keys.ARROW_RIGHT] * 4)
