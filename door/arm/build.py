@@ -4,7 +4,6 @@ The kit builds the program for aarch64, as it builds it for x86-64. OUT is made 
 for byte, and hands clang the same module for aarch64, line by line, but for what alike.py names. OUT.sums has the checksums of the
 program for x86-64 and of OUT.
 """
-import glob
 import os
 import sys
 
