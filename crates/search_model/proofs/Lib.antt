@@ -19,6 +19,7 @@ pub mod PlainSteps
 pub mod Rates
 pub mod SameParts
 pub mod SameSearch
+pub mod SameExchanges
 pub mod Totals
 pub mod TrackMembers
 pub mod TrackSums

@@ -19,8 +19,8 @@ use Rattle.search_model.proofs.Children.{child_is_legal}
 use Rattle.search_model.proofs.PlainSteps.{positions_follow}
 use Rattle.search_model.proofs.WalkLemmas.{listed_walk, front_is_legal}
 use Rattle.list_laws.proofs.Agreeing.{map_agree}
-use Rattle.list_laws.proofs.Sums.{sum_by-same_all, sum_by-filter}
-use Rattle.search_model.proofs.TrackMembers.{IsTrack, track_is}
+use Rattle.list_laws.proofs.Sums.{sum_by-filter}
+use Rattle.search_model.proofs.TrackMembers.{IsTrack, sum_tracks-same}
 
 -- each is the same search as the other
 pub AreSame-sym : (p o : Problem) → AreSame p o → AreSame o p
@@ -45,7 +45,7 @@ AreSame-sym p o same =
     }
 
 -- sums along a continuation of rewards that are the same in the periods up to the last
-sum_along-same : (positions last : ℕ) (r w : ℕ → ℕ → ℕ) (t : ℕ) (y : List ℕ) → ((u a : ℕ) → t ≤ u → u ≤ last → a < positions → r u a ≡ w u a) →
+pub sum_along-same : (positions last : ℕ) (r w : ℕ → ℕ → ℕ) (t : ℕ) (y : List ℕ) → ((u a : ℕ) → t ≤ u → u ≤ last → a < positions → r u a ≡ w u a) →
     t + length y ≤ last + 1 → All (λ a. a < positions) y → sum_along r t y ≡ sum_along w t y
 unfolding sum_along
 sum_along-same positions last r w t [] each short within = refl
@@ -103,7 +103,7 @@ module _ (p o : Problem) (same : AreSame p o) where
   whole_same = cc
 
   -- the weight of a track
-  steps_same : (x : List ℕ) (t c : ℕ) → 1 ≤ t → t + length x ≤ p.horizon → c < p.cells → All (λ d. d < p.cells) x → steps_product p t c x ≡ steps_product o t c x
+  pub steps_same : (x : List ℕ) (t c : ℕ) → 1 ≤ t → t + length x ≤ p.horizon → c < p.cells → All (λ d. d < p.cells) x → steps_product p t c x ≡ steps_product o t c x
   unfolding steps_product
   steps_same [] t c from to here within = refl
   steps_same (d ∷ x) t c from to here within =
@@ -111,11 +111,11 @@ module _ (p o : Problem) (same : AreSame p o) where
       let rest = steps_same x (t + 1) d (omega arith) (omega (arith, to)) (All-head (λ d. d < p.cells) d x within) (All-tail (λ d. d < p.cells) d x within) in
       rw (row, rest) refl
 
-  weight_same : (x : List ℕ) → IsTrack p.cells p.horizon x → weight_of p x ≡ weight_of o x
+  pub weight_same : (n : ℕ) (x : List ℕ) → n ≤ p.horizon → IsTrack p.cells n x → weight_of p x ≡ weight_of o x
   unfolding weight_of
-  weight_same [] is = refl
-  weight_same (c ∷ x) is =
-      let steps = steps_same x 1 c (omega arith) (omega (arith, is.size)) (All-head (λ d. d < p.cells) c x is.within) (All-tail (λ d. d < p.cells) c x is.within) in
+  weight_same n [] short is = refl
+  weight_same n (c ∷ x) short is =
+      let steps = steps_same x 1 c (omega arith) (omega (arith, is.size, short)) (All-head (λ d. d < p.cells) c x is.within) (All-tail (λ d. d < p.cells) c x is.within) in
       rw (steps, same.first) refl
 
   -- what looks from positions miss along a track
@@ -130,7 +130,7 @@ module _ (p o : Problem) (same : AreSame p o) where
       let here = same.factors t a c from (omega (arith, to)) (All-head (λ a. a < p.positions) a q places) (All-head (λ d. d < p.cells) c x within) in
       rw (here, rest) refl
 
-  factors_same : (q x : List ℕ) (t : ℕ) → 1 ≤ t → t + length x ≤ p.horizon + 1 → All (λ a. a < p.positions) q → All (λ d. d < p.cells) x → factors_along p t q x ≡ factors_along o t q x
+  pub factors_same : (q x : List ℕ) (t : ℕ) → 1 ≤ t → t + length x ≤ p.horizon + 1 → All (λ a. a < p.positions) q → All (λ d. d < p.cells) x → factors_along p t q x ≡ factors_along o t q x
   unfolding factors_along
   factors_same [] x t from to places within = refl
   factors_same (a ∷ q) [] t from to places within = refl
@@ -143,15 +143,17 @@ module _ (p o : Problem) (same : AreSame p o) where
   look_same : (x : List ℕ) → IsTrack p.cells p.horizon x → (t a : ℕ) → 1 ≤ t → t ≤ p.horizon → a < p.positions → factor_of p.sweep t a (cell_in x t) ≡ factor_of o.sweep t a (cell_in x t)
   look_same x is t a from to place = same.factors t a (cell_in x t) from to place (is.within (t - 1) 0 (omega (arith, is.size, from, to)))
 
-  -- sums over all tracks of terms that are the same on them
+  -- sums over tracks of so many cells of terms that are the same on them
+  pub tracks_same_long : (n : ℕ) (f g : List ℕ → ℕ) → ((x : List ℕ) → IsTrack p.cells n x → f x ≡ g x) → sum_by f (tracks p.cells n) ≡ sum_by g (tracks o.cells n)
+  tracks_same_long n f g each = rw (← same.cells) (sum_tracks-same p.cells n f g each)
+
+  -- and over all tracks
   tracks_same : (f g : List ℕ → ℕ) → ((x : List ℕ) → IsTrack p.cells p.horizon x → f x ≡ g x) → sum_by f (tracks p.cells p.horizon) ≡ sum_by g (tracks o.cells o.horizon)
-  tracks_same f g each =
-      let all = tracks p.cells p.horizon in
-      rw (← same.cells, ← same.horizon) (sum_by-same_all f g all (All-weaker (Contains all) (λ x. f x ≡ g x) (λ x listed. each x (track_is p.cells p.horizon x listed)) all (All-contains_itself all)))
+  tracks_same f g each = rw (← same.horizon) (tracks_same_long p.horizon f g each)
 
   missed_same : (q : List ℕ) → All (λ a. a < p.positions) q → missed_weight p q ≡ missed_weight o q
   unfolding missed_weight
-  missed_same q places = tracks_same _ _ (λ x is. let weight = weight_same x is in let miss = misses_same q x 1 (omega arith) (omega (arith, is.size)) places is.within in rw (weight, miss) refl)
+  missed_same q places = tracks_same _ _ (λ x is. let weight = weight_same p.horizon x (omega arith) is in let miss = misses_same q x 1 (omega arith) (omega (arith, is.size)) places is.within in rw (weight, miss) refl)
 
   value_same : (q : List ℕ) → All (λ a. a < p.positions) q → value_of p q ≡ value_of o q
   value_same q places = rw (whole_same, missed_same q places) refl
@@ -161,7 +163,7 @@ module _ (p o : Problem) (same : AreSame p o) where
   unfolding reward_of
   reward_same q places t a from to place =
       tracks_same _ _ (λ x is.
-      let weight = weight_same x is in
+      let weight = weight_same p.horizon x (omega arith) is in
       let front = factors_same q x 1 (omega arith) (omega (arith, is.size)) places is.within in
       let look = look_same x is t a from to place in
       rw (weight, front, look, same.look_denominator, same.horizon) refl)
@@ -170,7 +172,7 @@ module _ (p o : Problem) (same : AreSame p o) where
   unfolding edge_reward_of
   edge_reward_same q places t a b from to place next =
       tracks_same _ _ (λ x is.
-      let weight = weight_same x is in
+      let weight = weight_same p.horizon x (omega arith) is in
       let front = factors_same q x 1 (omega arith) (omega (arith, is.size)) places is.within in
       let before = look_same x is (t - 1) a (omega (arith, from)) (omega (arith, to)) place in
       let look = look_same x is t b (omega (arith, from)) to next in
@@ -183,7 +185,7 @@ module _ (p o : Problem) (same : AreSame p o) where
       let missed : Problem → List ℕ → ℕ = λ z x. weight_of z x * miss_of z whole x in
       let term : Problem → List ℕ → ℕ = λ z x. missed z x * (if covered z x then 1 else 0) in
       let sums : sum_by (term p) (tracks p.cells p.horizon) ≡ sum_by (term o) (tracks o.cells o.horizon) = tracks_same _ _ (λ x is.
-      let weight = weight_same x is in
+      let weight = weight_same p.horizon x (omega arith) is in
       let miss = misses_same whole x 1 (omega arith) (omega (arith, is.size)) places is.within in
       let look = look_same x is t a from to place in
       rw (weight, miss, look, same.look_denominator) refl) in
@@ -207,7 +209,7 @@ module _ (p o : Problem) (same : AreSame p o) (sound : IsProblem p) where
   start_within = omega (arith, sound.start, sound.grid_positions)
 
   -- a legal prefix holds positions
-  legal_within : (q : List ℕ) → IsLegal p q → All (λ a. a < p.positions) q
+  pub legal_within : (q : List ℕ) → IsLegal p q → All (λ a. a < p.positions) q
   legal_within q legal = positions_follow p sound p.start start_within q legal.follows
 
   pub path_legal : (q : List ℕ) → IsPath p q → IsLegal p q
@@ -272,7 +274,7 @@ module _ (p o : Problem) (same : AreSame p o) (sound : IsProblem p) where
       )
 
   -- the greatest of numbers that are the same for each continuation
-  greatest_same : (q : List ℕ) → IsLegal p q → (f g : List ℕ → ℕ) → ((y : List ℕ) → length q + length y ≤ p.horizon → All (λ a. a < p.positions) y → f y ≡ g y) →
+  pub greatest_same : (q : List ℕ) → IsLegal p q → (f g : List ℕ → ℕ) → ((y : List ℕ) → length q + length y ≤ p.horizon → All (λ a. a < p.positions) y → f y ≡ g y) →
       greatest (map f (continuations p q)) ≡ greatest (map g (continuations o q))
   greatest_same q legal f g each =
       let every : (y : List ℕ) → Contains (continuations p q) y → f y ≡ g y = λ y listed. let inside = continuation_within q y legal listed in each y inside.0 inside.1 in
