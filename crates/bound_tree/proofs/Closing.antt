@@ -1,23 +1,26 @@
 -- What a standing cuts or closes, each better standing does too; and how a prefix is closed.
-use Rattle.std.proofs.Common.{◌≡◌, ◌⊎◌, ℕ, zero, suc, ◌*◌, ◌<◌, ◌≤◌, true, false, List, [], ◌∷◌, length, take, inl, inr, sym, refl, ap, ◌∙◌, arith, Ordering, Less, Equal, Greater, nat_cmp, is_lt, ltb-true, lt-ltb, eqb-true, eq-eqb}
+use Rattle.std.proofs.Common.{◌≡◌, ◌⊎◌, ℕ, zero, suc, ◌*◌, ◌<◌, ◌≤◌, true, false, List, [], ◌∷◌, length, take, inl, inr, sym, refl, ap, subst, ◌∙◌, arith, Ordering, Less, Equal, Greater, nat_cmp, is_lt, ltb-true, lt-ltb, eqb-true, eq-eqb}
 use Rattle.std.specs.Ordering.{ordering_then}
 use Rattle.std.proofs.Math.Nat.{mul-le-mul_left, le_of_mul-le-mul_left}
-use Rattle.std.proofs.lemmas.Bool.{or_cases, or_left, or_right, and_from, true≢false, false_from_ne_true, cases_order, cases_lt, cases_Bool, true_from_ne_false, and_parts}
+use Rattle.std.proofs.lemmas.Bool.{or_cases, or_left, or_right, and_from, true≢false, false_from_ne_true, cases_order, cases_lt, cases_eq, cases_Bool, true_from_ne_false, and_parts}
 use Rattle.search_model.specs.declared.standing.Standing.{Standing}
 use Rattle.search_model.specs.Problem.{Problem, IsProblem}
 use Rattle.search_model.specs.Legal.{IsLegal}
 use Rattle.search_model.specs.Tracks.{value_of}
 use Rattle.search_model.specs.Bounds.{mean_of}
 use Rattle.search_model.specs.Edge.{edge_of}
-use Rattle.search_model.specs.Order.{smaller, better}
+use Rattle.search_model.specs.Exchange.{exchange_of}
+use Rattle.search_model.specs.Order.{smaller, better, standing_of}
 use Rattle.search_model.proofs.Orders.{smaller_order, not_better_parts, not_better_from, same_from_neither, better_order, better_irreflexive, better_one_way}
 use Rattle.bound_tree.specs.declared.node.Kind.{Kind}
-use Rattle.bound_tree.specs.declared.node.Kind.TheVariants.{Branch, Whole, Mean, Tangent, Edge}
+use Rattle.bound_tree.specs.declared.node.Kind.TheVariants.{Branch, Whole, Mean, Tangent, Edge, Exchange}
 use Rattle.bound_tree.specs.Cut.{is_cut, times}
+use Rattle.bound_tree.specs.Exchanges.{HasExchanges, IsBestStandIn, HasNoStandIn, exchanged}
 use Rattle.bound_tree.specs.Close.{IsTangent, IsLeftOpen, IsClosed, IsAtLeast}
 use Rattle.bound_tree.specs.Accepts.{IsGoodKind}
 use Rattle.bound_tree.specs.CutLaws.{CutStays, FinerCutStays, IsBoundKind, ClosedStays, MeanStays, BranchedBefore, ClosesOnce}
 use Rattle.bound_tree.proofs.Tangents.{reference_extends, one_tangent, tangent_or_none}
+use Rattle.bound_tree.proofs.StandIns.{stands-elsewhere, best_or_none}
 
 -- a standing is at least another exactly where the other isn't better
 pub not_worse : (t s : Standing) → IsAtLeast t s → better s t ≡ false
@@ -115,6 +118,7 @@ branch_at_least p s t q sound h closed = (
   closed.0,
   open_at_least p s t q sound h closed.1,
   free_at_least (edge_of p q) q s t h closed.2,
+  closed.3,
 )
 
 pub branched_before : BranchedBefore
@@ -139,6 +143,9 @@ closed_is_good p s t q (Tangent b path) sound legal h whole closed =
       finer_cut_stays p.sweep.denominator b q s t sound.sweep.denominator.0 h closed.3,
     )
 closed_is_good p s t q (Edge b) sound legal h whole closed = (closed.0, closed.2, cut_at_least b q s t h closed.3)
+closed_is_good p s t q (Exchange b u) sound legal h whole closed =
+    let stands = closed.3.stands in
+    (closed.0, stands-elsewhere p q closed.0.long u stands, closed.4, subst (λ n. is_cut n q (standing_of p (exchanged u q)) ≡ true) (sym closed.4) stands.cut)
 
 -- a number that a standing cuts is none that it doesn't cut
 not_both : (s : Standing) (q : List ℕ) (b c : ℕ) → b ≡ c → is_cut b q s ≡ true → is_cut c q s ≡ false → ⊥
@@ -152,6 +159,7 @@ bound_goes_on p s t q sound h (Whole n) other bound closed then = absurd bound
 bound_goes_on p s t q sound h kind (Mean c) bound closed then = tt
 bound_goes_on p s t q sound h kind (Tangent c path) bound closed then = tt
 bound_goes_on p s t q sound h kind (Edge c) bound closed then = tt
+bound_goes_on p s t q sound h kind (Exchange c u) bound closed then = tt
 bound_goes_on p s t q sound h (Mean b) Branch bound closed then =
     let before = branch_at_least p s t q sound h then in
     absurd (not_both s q b (mean_of p q) closed.1 closed.2 before.1.mean)
@@ -161,9 +169,43 @@ bound_goes_on p s t q sound h (Tangent b whole) Branch bound closed then =
 bound_goes_on p s t q sound h (Edge b) Branch bound closed then =
     let before = branch_at_least p s t q sound h then in
     absurd (not_both s q b (edge_of p q) closed.2 closed.3 before.2)
+bound_goes_on p s t q sound h (Exchange b u) Branch bound closed then = absurd (then.3 closed.0 u closed.3.stands)
 bound_goes_on p s t q sound h (Mean b) (Whole n) bound closed then = absurd (omega (arith, closed.0, then.0))
 bound_goes_on p s t q sound h (Tangent b whole) (Whole n) bound closed then = absurd (omega (arith, closed.0, then.0))
 bound_goes_on p s t q sound h (Edge b) (Whole n) bound closed then = absurd (omega (arith, closed.0, then.0))
+bound_goes_on p s t q sound h (Exchange b u) (Whole n) bound closed then = absurd (omega (arith, closed.0.short, then.0))
+
+-- a prefix is asked for one that stands in for it, or not
+asked_or_not : (p : Problem) (q : List ℕ) → HasExchanges p q ⊎ (¬ HasExchanges p q)
+asked_or_not p q = elim (cases_lt 3 p.horizon) [
+  | inr few ↦ inr (λ asked. omega (arith, few, asked.periods))
+  | inl periods ↦ elim (cases_lt 1 (length q)) [
+    | inr first ↦ inr (λ asked. omega (arith, first, asked.long))
+    | inl long ↦ elim (cases_lt (length q) p.horizon) [
+      | inr whole ↦ inr (λ asked. omega (arith, whole, asked.short))
+      | inl short ↦ inl (record { periods = omega (arith, periods); long = omega (arith, long); short = short })
+    ]
+  ]
+]
+
+-- the best of those that stand in for it closes it, or it has none
+exchange_or_branch : (p : Problem) (q : List ℕ) → IsLegal p q → (HasExchanges p q × ((u : ℕ) × IsBestStandIn p q u)) ⊎ HasNoStandIn p q
+exchange_or_branch p q legal = elim (asked_or_not p q) [
+  | inr unasked ↦ inr (λ asked. absurd (unasked asked))
+  | inl asked ↦ elim (best_or_none p q legal asked.long) [
+    | inl (u, best) ↦ inl (asked, (u, best))
+    | inr none ↦ inr (λ _. none)
+  ]
+]
+
+-- two best ones would be better than each other
+one_best_stand_in : (p : Problem) (q : List ℕ) (u v : ℕ) → IsBestStandIn p q u → IsBestStandIn p q v → v ≡ u
+one_best_stand_in p q u v best other = elim (cases_eq v u) [
+  | inl e ↦ e
+  | inr differ ↦
+      let of : ℕ → Standing = λ w. standing_of p (exchanged w q) in
+      absurd (true≢false (sym (other.best u best.stands (λ e. differ (sym e))) ∙ better_one_way (of u) (of v) (best.best v other.stands differ)))
+]
 
 module _ (p : Problem) (s : Standing) (q : List ℕ) (sound : IsProblem p) (legal : IsLegal p q) where
   -- what closes a prefix is one kind
@@ -173,16 +215,19 @@ module _ (p : Problem) (s : Standing) (q : List ℕ) (sound : IsProblem p) (lega
   same_kind Branch (Mean b) h g = absurd (not_both s q b (mean_of p q) g.1 g.2 h.1.mean)
   same_kind Branch (Tangent b whole) h g = absurd (true≢false (sym g.3 ∙ h.1.tangent b whole g.2))
   same_kind Branch (Edge b) h g = absurd (not_both s q b (edge_of p q) g.2 g.3 h.2)
+  same_kind Branch (Exchange b u) h g = absurd (h.3 g.0 u g.3.stands)
   same_kind (Whole n) Branch h g = absurd (omega (arith, h.0, g.0))
   same_kind (Whole n) (Whole m) h g = ap Whole (g.1 ∙ sym h.1)
   same_kind (Whole n) (Mean b) h g = absurd (omega (arith, h.0, g.0))
   same_kind (Whole n) (Tangent b whole) h g = absurd (omega (arith, h.0, g.0))
   same_kind (Whole n) (Edge b) h g = absurd (omega (arith, h.0, g.0))
+  same_kind (Whole n) (Exchange b u) h g = absurd (omega (arith, h.0, g.0.short))
   same_kind (Mean b) Branch h g = absurd (not_both s q b (mean_of p q) h.1 h.2 g.1.mean)
   same_kind (Mean b) (Whole n) h g = absurd (omega (arith, h.0, g.0))
   same_kind (Mean b) (Mean c) h g = ap Mean (g.1 ∙ sym h.1)
   same_kind (Mean b) (Tangent c whole) h g = absurd (not_both s q b (mean_of p q) h.1 h.2 g.1)
   same_kind (Mean b) (Edge c) h g = absurd (not_both s q b (mean_of p q) h.1 h.2 g.1.mean)
+  same_kind (Mean b) (Exchange c u) h g = absurd (not_both s q b (mean_of p q) h.1 h.2 g.1.mean)
   same_kind (Tangent b whole) Branch h g = absurd (true≢false (sym h.3 ∙ g.1.tangent b whole h.2))
   same_kind (Tangent b whole) (Whole n) h g = absurd (omega (arith, h.0, g.0))
   same_kind (Tangent b whole) (Mean c) h g = absurd (not_both s q c (mean_of p q) g.1 g.2 h.1)
@@ -190,11 +235,21 @@ module _ (p : Problem) (s : Standing) (q : List ℕ) (sound : IsProblem p) (lega
       let same = one_tangent p q sound legal c b path whole g.2 h.2 in
       ap (λ (n : ℕ). Tangent n path) same.0 ∙ ap (λ (w : List ℕ). Tangent b w) same.1
   same_kind (Tangent b whole) (Edge c) h g = absurd (true≢false (sym h.3 ∙ g.1.tangent b whole h.2))
+  same_kind (Tangent b whole) (Exchange c u) h g = absurd (true≢false (sym h.3 ∙ g.1.tangent b whole h.2))
   same_kind (Edge b) Branch h g = absurd (not_both s q b (edge_of p q) h.2 h.3 g.2)
   same_kind (Edge b) (Whole n) h g = absurd (omega (arith, h.0, g.0))
   same_kind (Edge b) (Mean c) h g = absurd (not_both s q c (mean_of p q) g.1 g.2 h.1.mean)
   same_kind (Edge b) (Tangent c whole) h g = absurd (true≢false (sym g.3 ∙ h.1.tangent c whole g.2))
   same_kind (Edge b) (Edge c) h g = ap Edge (g.2 ∙ sym h.2)
+  same_kind (Edge b) (Exchange c u) h g = absurd (not_both s q b (edge_of p q) h.2 h.3 g.2)
+  same_kind (Exchange b u) Branch h g = absurd (g.3 h.0 u h.3.stands)
+  same_kind (Exchange b u) (Whole n) h g = absurd (omega (arith, h.0.short, g.0))
+  same_kind (Exchange b u) (Mean c) h g = absurd (not_both s q c (mean_of p q) g.1 g.2 h.1.mean)
+  same_kind (Exchange b u) (Tangent c whole) h g = absurd (true≢false (sym g.3 ∙ h.1.tangent c whole g.2))
+  same_kind (Exchange b u) (Edge c) h g = absurd (not_both s q c (edge_of p q) g.2 g.3 h.2)
+  same_kind (Exchange b u) (Exchange c v) h g =
+      let place = one_best_stand_in p q u v h.3 g.3 in
+      ap (λ (n : ℕ). Exchange n v) (g.4 ∙ ap (λ w. exchange_of p q (exchanged w q)) place ∙ sym h.4) ∙ ap (Exchange b) place
 
   -- what closes a prefix by a bound
   abbrev ByBound : Type 0
@@ -226,7 +281,10 @@ module _ (p : Problem) (s : Standing) (q : List ℕ) (sound : IsProblem p) (lega
     | inl short ↦ elim (open_or_closed short) [
       | inl left ↦ elim (cases_Bool (is_cut (edge_of p q) q s)) [
         | inl cut ↦ (Edge (edge_of p q), (short, left, refl, cut))
-        | inr free ↦ (Branch, (short, left, free))
+        | inr free ↦ elim (exchange_or_branch p q legal) [
+          | inl (asked, (u, best)) ↦ (Exchange (exchange_of p q (exchanged u q)) u, (asked, left, free, best, refl))
+          | inr none ↦ (Branch, (short, left, free, none))
+        ]
       ]
       | inr (kind, bound, closed) ↦ (kind, closed)
     ]
@@ -252,6 +310,14 @@ next_bound p s t q sound legal h (Tangent b whole) bound closed =
 next_bound p s t q sound legal h (Edge b) bound closed =
     elim (open_or_closed p t q sound legal closed.0) [
       | inl left ↦ (Edge b, tt, (closed.0, left, closed.2, cut_at_least b q s t h closed.3))
+      | inr other ↦ other
+    ]
+next_bound p s t q sound legal h (Exchange b u) bound closed =
+    elim (open_or_closed p t q sound legal closed.0.short) [
+      | inl left ↦ elim (cases_Bool (is_cut (edge_of p q) q t)) [
+        | inl cut ↦ (Edge (edge_of p q), tt, (closed.0.short, left, refl, cut))
+        | inr free ↦ (Exchange b u, tt, (closed.0, left, free, closed.3, closed.4))
+      ]
       | inr other ↦ other
     ]
 

@@ -20,7 +20,8 @@ use Rattle.search_model.proofs.MassRewards.{masses_together}
 use Rattle.search_model.proofs.Totals.{nothing_is_cut_off}
 use Rattle.search_model.proofs.WalkLemmas.{follows-append}
 use Rattle.bound_tree.specs.Accepts.{Extends}
-use Rattle.bound_tree.specs.ExchangeLaws.{StandsIn, ExchangeRulesOut}
+use Rattle.bound_tree.specs.Exchanges.{StandsIn}
+use Rattle.bound_tree.specs.ExchangeLaws.{ExchangeRulesOut}
 use Rattle.bound_tree.proofs.Closing.{smaller_by_fronts}
 use Rattle.bound_tree.proofs.Continuing.{rest_of, whole_is, rest_size, rest_listed}
 

@@ -8,14 +8,15 @@ use Rattle.search_model.specs.Problem.{Problem, IsProblem}
 use Rattle.search_model.specs.Tracks.{value_of}
 use Rattle.search_model.specs.Order.{smaller, better, standing_of, IsBest}
 use Rattle.search_model.proofs.Orders.{not_better_parts, not_better_from, smaller_one_way}
-use Rattle.bound_tree.specs.declared.node.Kind.TheVariants.{Branch, Whole, Mean, Tangent, Edge}
+use Rattle.bound_tree.specs.declared.node.Kind.TheVariants.{Branch, Whole, Mean, Tangent, Edge, Exchange}
 use Rattle.bound_tree.specs.declared.gap.Numbers.{Numbers}
 use Rattle.bound_tree.specs.declared.gap.Numbers.TheVariants.{Means, Edges}
 use Rattle.bound_tree.specs.declared.gap.GapKind.{GapKind}
 use Rattle.bound_tree.specs.declared.gap.GapKind.TheVariants.{Closed, Waiting}
 use Rattle.bound_tree.specs.declared.gap.GapNode.{GapNode}
-use Rattle.bound_tree.specs.Accepts.{Extends}
+use Rattle.bound_tree.specs.Accepts.{Extends, IsGoodKind}
 use Rattle.bound_tree.specs.Cut.{is_cut, times}
+use Rattle.bound_tree.specs.Exchanges.{StandsIn, exchanged}
 use Rattle.bound_tree.specs.Places.{opened_by, AreInPlace}
 use Rattle.bound_tree.specs.Gaps.{shape_of_kind, shape_of, open_bound, IsGoodOpenKind, IsGoodOpen}
 use Rattle.bound_tree.specs.GapLaws.{PrefixCeilingIsAbove}
@@ -23,6 +24,8 @@ use Rattle.bound_tree.proofs.Continuing.{front_legal, front_short, whole_front}
 use Rattle.bound_tree.proofs.MeanBound.{mean_is_above}
 use Rattle.bound_tree.proofs.TangentBound.{tangent_is_above}
 use Rattle.bound_tree.proofs.Remembered.{edge_is_above}
+use Rattle.bound_tree.proofs.Exchange.{exchange_rules_out}
+use Rattle.bound_tree.proofs.StandIns.{exchanged-stands}
 use Rattle.bound_tree.proofs.Closing.{smaller_by_fronts}
 use Rattle.bound_tree.proofs.Along.{LeadsTo, from_children, PassesOn, along_tree}
 use Rattle.bound_tree.proofs.Placing.{opened_by_good}
@@ -63,6 +66,11 @@ prefix_ceiling_is_above numbers p q y sound x =
     (λ whole. omega (arith, ap (value_of p) (whole_front p q y x (eqb-true (length q) p.horizon whole))))
     (λ other. open_bound_is_above numbers p q y sound (shorter (length q) p.horizon (front_short p q y x) other) x)
 
+-- with the position of a good exchange a prefix stands in for itself
+good_stands : (p : Problem) (s : Standing) (q : List ℕ) (b u : ℕ) → IsGoodKind p s q (Exchange b u) → StandsIn p (exchanged u q) q
+good_stands p s q b u good =
+    exchanged-stands p q good.0.long u good.1.legal (subst (λ (n : ℕ). is_cut n q (standing_of p (exchanged u q)) ≡ true) good.2 good.3)
+
 -- The best path alone is followed: a kind of leaf that no best path comes to would say nothing of other paths.
 module _ (numbers : Numbers) (p : Problem) (sound : IsProblem p) (s : Standing) (y : List ℕ) (best : IsBest p y) where
   -- what a leaf says of the best path: it isn't better than the standing, or the leaf waits, and it finds at most the number
@@ -89,6 +97,7 @@ module _ (numbers : Numbers) (p : Problem) (sound : IsProblem p) (s : Standing) 
   goes_on E q (Closed (Edge b)) good ends below = λ x.
       let most : value_of p y ≤ b = rw good.1 (edge_is_above p q y sound (front_legal p q y x) good.0 x) in
       ends (below_cut b (value_of p y) q y s x.front most good.2)
+  goes_on E q (Closed (Exchange b u)) good ends below = λ x. absurd (exchange_rules_out p q (exchanged u q) y sound good.0.short (good_stands p s q b u good) best x)
   goes_on E q (Waiting n) good ends below = λ x. ends (omega (arith, good, prefix_ceiling_is_above numbers p q y sound x))
 
   -- the best path ends at one of these nodes, which says this of it

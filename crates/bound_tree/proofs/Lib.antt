@@ -1,6 +1,7 @@
 pub mod Continuing
 pub mod MeanBound
 pub mod Tangents
+pub mod StandIns
 pub mod Closing
 pub mod Longer
 pub mod Convex
@@ -13,6 +14,7 @@ pub mod Remembered
 pub mod Exchange
 pub mod Rooms
 pub mod Placing
+pub mod SameStandIns
 pub mod SamePlans
 pub mod SameLive
 pub mod Ceilings

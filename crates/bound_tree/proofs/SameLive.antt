@@ -5,14 +5,18 @@ use Rattle.search_model.specs.declared.standing.Standing.{Standing}
 use Rattle.search_model.specs.Problem.{Problem, IsProblem}
 use Rattle.search_model.specs.Same.{AreSame}
 use Rattle.search_model.specs.Legal.{IsLegal}
+use Rattle.search_model.specs.Edge.{edge_of}
 use Rattle.search_model.proofs.WalkLemmas.{front_is_legal}
 use Rattle.search_model.proofs.SameSearch.{AreSame-sym, legal_same, rate_same, value_same_legal, mean_same, edge_same, tangent_same, reference_same}
+use Rattle.search_model.proofs.SameExchanges.{exchange_same}
 use Rattle.bound_tree.specs.declared.node.Kind.{Kind}
-use Rattle.bound_tree.specs.declared.node.Kind.TheVariants.{Branch, Whole, Mean, Tangent, Edge}
+use Rattle.bound_tree.specs.declared.node.Kind.TheVariants.{Branch, Whole, Mean, Tangent, Edge, Exchange}
 use Rattle.bound_tree.specs.Cut.{is_cut, times}
+use Rattle.bound_tree.specs.Exchanges.{exchanged}
 use Rattle.bound_tree.specs.Close.{IsTangent, IsLeftOpen, IsClosed, IsLive}
 use Rattle.bound_tree.specs.SameLaws.{SameCloses, SameLive, SameHasMoreLive}
 use Rattle.bound_tree.proofs.Tangents.{reference_extends}
+use Rattle.bound_tree.proofs.SameStandIns.{asked_same, best_stand_in_same, no_stand_in_same}
 
 module _ (p o : Problem) (same : AreSame p o) (sound : IsProblem p) (q : List ℕ) (legal : IsLegal p q) where
   -- a prefix has the same tangent bound, at the same reference
@@ -44,8 +48,12 @@ module _ (p o : Problem) (same : AreSame p o) (sound : IsProblem p) (q : List �
     tangent = λ b whole is. subst (λ (g : ℕ). IsFalse (is_cut b q (times g s))) same.look_denominator (left.tangent b whole (tangent_back b whole is));
   }
 
+  -- nor its edge bound
+  edge_open_same : (s : Standing) → IsFalse (is_cut (edge_of p q) q s) → IsFalse (is_cut (edge_of o q) q s)
+  edge_open_same s free = subst (λ (b : ℕ). IsFalse (is_cut b q s)) (edge_same p o same sound q legal) free
+
   closed_there : (s : Standing) (kind : Kind) → IsClosed p s q kind → IsClosed o s q kind
-  closed_there s Branch closed = (rw (← same.horizon) closed.0, left_open_same s closed.1, subst (λ (b : ℕ). IsFalse (is_cut b q s)) (edge_same p o same sound q legal) closed.2)
+  closed_there s Branch closed = (rw (← same.horizon) closed.0, left_open_same s closed.1, edge_open_same s closed.2, no_stand_in_same p o same sound q legal closed.3)
   closed_there s (Whole n) closed = (closed.0 ∙ same.horizon, closed.1 ∙ value_same_legal p o same sound q legal)
   closed_there s (Mean b) closed = (rw (← same.horizon) closed.0, closed.1 ∙ mean_same p o same sound q legal, closed.2)
   closed_there s (Tangent b whole) closed = (
@@ -55,6 +63,14 @@ module _ (p o : Problem) (same : AreSame p o) (sound : IsProblem p) (q : List �
     subst (λ (g : ℕ). IsTrue (is_cut b q (times g s))) same.look_denominator closed.3,
   )
   closed_there s (Edge b) closed = (rw (← same.horizon) closed.0, left_open_same s closed.1, closed.2 ∙ edge_same p o same sound q legal, closed.3)
+  closed_there s (Exchange b u) closed =
+      let stands = closed.3.stands in (
+        asked_same p o same q closed.0,
+        left_open_same s closed.1,
+        edge_open_same s closed.2,
+        best_stand_in_same p o same sound q legal closed.0.short u closed.3,
+        closed.4 ∙ exchange_same p o same sound q (exchanged u q) legal stands.legal closed.0.short stands.long,
+      )
 
 pub closed_same : SameCloses
 closed_same p o s q kind sound same legal closed = closed_there p o same sound q legal s kind closed

@@ -6,13 +6,17 @@ use Rattle.search_model.specs.Problem.{Problem, IsProblem}
 use Rattle.search_model.specs.Same.{AreSame}
 use Rattle.search_model.specs.Legal.{IsLegal}
 use Rattle.bound_tree.specs.declared.node.Kind.{Kind}
-use Rattle.bound_tree.specs.declared.node.Kind.TheVariants.{Branch, Whole, Mean, Tangent, Edge}
+use Rattle.bound_tree.specs.declared.node.Kind.TheVariants.{Branch, Whole, Mean, Tangent, Edge, Exchange}
 use Rattle.bound_tree.specs.declared.node.TreeNode.{TreeNode}
+use Rattle.bound_tree.specs.Exchanges.{exchanged}
 use Rattle.bound_tree.specs.Accepts.{IsGoodKind, expected_by, AreEaten}
 use Rattle.bound_tree.proofs.Rooms.{legal_expected}
+use Rattle.bound_tree.proofs.StandIns.{exchanged-long}
+use Rattle.bound_tree.proofs.SameStandIns.{asked_same}
 use Rattle.bound_tree.specs.Places.{opened_by, AreInPlace}
 use Rattle.bound_tree.specs.SameLaws.{SameIsAlike, SameAccepts}
 use Rattle.search_model.proofs.SameSearch.{AreSame-sym, legal_same, best_same, path_same, whole_same, rate_same, value_same_legal, mean_same, edge_same, reference_same, tangent_same, opening_same, path_legal}
+use Rattle.search_model.proofs.SameExchanges.{exchange_same}
 
 module _ (p o : Problem) (same : AreSame p o) where
   -- a record makes the same prefixes expected
@@ -22,6 +26,7 @@ module _ (p o : Problem) (same : AreSame p o) where
   expected_same q (Mean b) = refl
   expected_same q (Tangent b whole) = refl
   expected_same q (Edge b) = refl
+  expected_same q (Exchange b u) = refl
 
   -- the same records are in place
   pub in_place_same : (qs : List (List ℕ)) (rs : List TreeNode) → AreInPlace p qs rs → AreInPlace o qs rs
@@ -45,6 +50,13 @@ module _ (p o : Problem) (same : AreSame p o) (sound : IsProblem p) (s : Standin
         rw (← same.look_denominator) good.2,
       )
   good_same q (Edge b) legal good = (rw (← same.horizon) good.0, good.1 ∙ edge_same p o same sound q legal, good.2)
+  good_same q (Exchange b u) legal good =
+      let there = good.1.legal in (
+        asked_same p o same q good.0,
+        record { other = good.1.other; legal = legal_same p o same (exchanged u q) there },
+        good.2 ∙ exchange_same p o same sound q (exchanged u q) legal there good.0.short (exchanged-long p q good.0.long u),
+        rw (← value_same_legal p o same sound (exchanged u q) there) good.3,
+      )
 
   -- the same records are eaten
   eaten_same : (qs : List (List ℕ)) (rs : List TreeNode) → All (IsLegal p) qs → AreEaten p s qs rs → AreEaten o s qs rs
@@ -78,6 +90,7 @@ same_is_alike p o sound same =
       values = value_same_legal p o same sound;
       means = mean_same p o same sound;
       edges = edge_same p o same sound;
+      exchanges = exchange_same p o same sound;
       rates = λ rate. (rate_same p o same rate, rate_same o p back rate);
       references = reference_same p o same sound;
       tangents = tangent_same p o same sound;

@@ -4,21 +4,23 @@ use Rattle.search_model.specs.declared.standing.Standing.{Standing}
 use Rattle.search_model.specs.Problem.{Problem}
 use Rattle.search_model.specs.Legal.{IsPath, moves_after}
 use Rattle.search_model.specs.Tracks.{value_of, whole_weight}
-use Rattle.search_model.specs.Order.{better}
+use Rattle.search_model.specs.Order.{standing_of, better}
 use Rattle.search_model.specs.Bounds.{mean_of, IsRate, tangent_of}
 use Rattle.search_model.specs.Edge.{edge_of}
+use Rattle.search_model.specs.Exchange.{exchange_of}
 use Rattle.bound_tree.specs.declared.node.Kind.{Kind}
-use Rattle.bound_tree.specs.declared.node.Kind.TheVariants.{Branch, Whole, Mean, Tangent, Edge}
+use Rattle.bound_tree.specs.declared.node.Kind.TheVariants.{Branch, Whole, Mean, Tangent, Edge, Exchange}
 use Rattle.bound_tree.specs.declared.node.TreeNode.{TreeNode}
 use Rattle.bound_tree.specs.declared.plan.Plan.{Plan}
 use Rattle.bound_tree.specs.Cut.{is_cut, times}
+use Rattle.bound_tree.specs.Exchanges.{HasExchanges, TakesPlace, exchanged}
 
 -- a path begins with the prefix
 pub record Extends (p : Problem) (q whole : List ℕ) : Type 0 where
   pub path : IsPath p whole
   pub front : take (length q) whole ≡ q
 
--- a record that is right by itself, under the plan's standing
+-- a record that is right by itself, under the plan's standing; an exchange asks that of no standing but its own
 abbrev pub IsGoodKind : Problem → Standing → List ℕ → Kind → Type 0
 IsGoodKind p s q Branch = length q < p.horizon
 IsGoodKind p s q (Whole n) = (length q ≡ p.horizon) × (n ≡ value_of p q) × IsFalse (better (record { path = q; value = n }) s)
@@ -26,6 +28,8 @@ IsGoodKind p s q (Mean b) = (length q < p.horizon) × (b ≡ mean_of p q) × IsT
 IsGoodKind p s q (Tangent b whole) =
     (length q < p.horizon) × ((rate : ℕ) × IsRate p rate × Extends p q whole × (b ≡ tangent_of p rate q whole)) × IsTrue (is_cut b q (times p.sweep.denominator s))
 IsGoodKind p s q (Edge b) = (length q < p.horizon) × (b ≡ edge_of p q) × IsTrue (is_cut b q s)
+IsGoodKind p s q (Exchange b u) =
+    HasExchanges p q × TakesPlace p q u × (b ≡ exchange_of p q (exchanged u q)) × IsTrue (is_cut b q (standing_of p (exchanged u q)))
 
 abbrev pub IsGood : Problem → Standing → TreeNode → Type 0
 IsGood p s r = IsGoodKind p s r.prefix r.kind
@@ -49,6 +53,7 @@ expected_by p q (Whole n) = []
 expected_by p q (Mean b) = []
 expected_by p q (Tangent b whole) = []
 expected_by p q (Edge b) = []
+expected_by p q (Exchange b u) = []
 
 -- the records are the trees of the expected prefixes, one after the other
 abbrev pub AreEaten : Problem → Standing → List (List ℕ) → List TreeNode → Type 0

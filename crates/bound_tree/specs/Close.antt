@@ -7,11 +7,13 @@ use Rattle.search_model.specs.Tracks.{value_of}
 use Rattle.search_model.specs.Order.{smaller, better}
 use Rattle.search_model.specs.Bounds.{mean_of, IsRate, tangent_of}
 use Rattle.search_model.specs.Edge.{edge_of}
+use Rattle.search_model.specs.Exchange.{exchange_of}
 use Rattle.search_model.specs.Reference.{IsReference}
 use Rattle.bound_tree.specs.declared.node.Kind.{Kind}
-use Rattle.bound_tree.specs.declared.node.Kind.TheVariants.{Branch, Whole, Mean, Tangent, Edge}
+use Rattle.bound_tree.specs.declared.node.Kind.TheVariants.{Branch, Whole, Mean, Tangent, Edge, Exchange}
 use Rattle.bound_tree.specs.declared.node.TreeNode.{TreeNode}
 use Rattle.bound_tree.specs.Cut.{is_cut, times}
+use Rattle.bound_tree.specs.Exchanges.{HasExchanges, IsBestStandIn, HasNoStandIn, exchanged}
 
 -- a prefix's tangent bound, at its reference; there is none without one rate
 pub record IsTangent (p : Problem) (q : List ℕ) (b : ℕ) (whole : List ℕ) : Type 0 where
@@ -26,15 +28,17 @@ pub record IsLeftOpen (p : Problem) (s : Standing) (q : List ℕ) : Type 0 where
   pub tangent : (b : ℕ) (whole : List ℕ) → IsTangent p q b whole → IsFalse (is_cut b q (times p.sweep.denominator s))
 
 -- how a legal prefix is closed: a path by its value; a shorter prefix by its mean bound where the standing cuts that, else
--- by its tangent bound where it has one and the standing cuts it, else by its edge bound where the standing cuts that, and
--- else it branches
+-- by its tangent bound where it has one and the standing cuts it, else by its edge bound where the standing cuts that, else
+-- by the best of the prefixes that stand in for it where it is asked for one, and else it branches
 abbrev pub IsClosed : Problem → Standing → List ℕ → Kind → Type 0
-IsClosed p s q Branch = (length q < p.horizon) × IsLeftOpen p s q × IsFalse (is_cut (edge_of p q) q s)
+IsClosed p s q Branch = (length q < p.horizon) × IsLeftOpen p s q × IsFalse (is_cut (edge_of p q) q s) × HasNoStandIn p q
 IsClosed p s q (Whole n) = (length q ≡ p.horizon) × (n ≡ value_of p q)
 IsClosed p s q (Mean b) = (length q < p.horizon) × (b ≡ mean_of p q) × IsTrue (is_cut b q s)
 IsClosed p s q (Tangent b whole) =
     (length q < p.horizon) × IsFalse (is_cut (mean_of p q) q s) × IsTangent p q b whole × IsTrue (is_cut b q (times p.sweep.denominator s))
 IsClosed p s q (Edge b) = (length q < p.horizon) × IsLeftOpen p s q × (b ≡ edge_of p q) × IsTrue (is_cut b q s)
+IsClosed p s q (Exchange b u) =
+    HasExchanges p q × IsLeftOpen p s q × IsFalse (is_cut (edge_of p q) q s) × IsBestStandIn p q u × (b ≡ exchange_of p q (exchanged u q))
 
 -- a legal prefix that no bound above it rules out: under the standing each shorter prefix of it branches
 pub record IsLive (p : Problem) (s : Standing) (q : List ℕ) : Type 0 where

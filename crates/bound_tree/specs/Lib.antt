@@ -1,4 +1,5 @@
 pub mod Cut
+pub mod Exchanges
 pub mod Close
 pub mod Accepts
 pub mod Eat

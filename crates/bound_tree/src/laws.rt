@@ -71,7 +71,7 @@ pub fn cut_stays()
     ensures finer { FinerCutStays }
 {}
 
-/// What is closed by its mean, its tangent or its edge bound is closed by one of the three under better standings, by the
+/// What is closed by a bound, its mean, its tangent, its edge or an exchange bound, is closed by one under better standings, by the
 /// mean bound if it was that, and what branches under a standing branched under the worse ones.
 #[tactic(auto, using(crate::proofs::Closing::closed_stays, crate::proofs::Closing::mean_stays))]
 pub fn closed_stays()

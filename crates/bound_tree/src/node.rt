@@ -16,6 +16,9 @@ pub enum Kind {
     /// The greatest value below the prefix, by the edge bound: the mean bound with each look discounted by the look just
     /// before it.
     Edge(u128),
+    /// The prefix's exchange bound over itself with this position in place of its last but one, which stands in for it:
+    /// whatever follows both, the other makes the better path.
+    Exchange(u128, u8),
 }
 
 /// A record: a prefix and how it was closed.

@@ -11,47 +11,10 @@ use Rattle.search_model.proofs.LegalLemmas.{last_of-push}
 use Rattle.search_model.proofs.Orders.{better_by_value, better_by_path, smaller_at}
 use Rattle.search_model.proofs.WalkLemmas.{follows-append}
 use Rattle.bound_tree.specs.Cut.{is_cut}
-use Rattle.bound_tree.specs.ExchangeLaws.{StandsIn, IsBestStandIn, exchanged}
+use Rattle.bound_tree.specs.Exchanges.{StandsIn, IsBestStandIn, exchanged}
+use Rattle.bound_tree.proofs.StandIns.{exchanged-stands, exchanged-move}
 use Rattle.exchange_bound.specs.declared.stand_in.Exchange.{Exchange}
 use Rattle.exchange_bound.specs.StandIns.{IsExchange, Precedes, Yields, NonePrecedes}
-
--- the last position of a list that has one
-last_at : (a : ℕ) (q : List ℕ) → 1 ≤ length q → last_of a q ≡ slice_index q (length q - 1)
-last_at a [] some = absurd (omega (arith, some))
-last_at a (b ∷ []) some = refl
-last_at a (b ∷ c ∷ q) some =
-    let here : suc (suc (length q)) - 1 ≡ suc (length q) = omega arith in
-    let before : suc (length q) - 1 ≡ length q = omega arith in
-    rw here (rw before at (last_at b (c ∷ q) (omega arith)))
-
-module _ (p : Problem) (q : List ℕ) (long : 2 ≤ length q) (u : ℕ) where
-  -- it is as long
-  exchanged-long : length (exchanged u q) ≡ length q
-  exchanged-long =
-      omega (arith, long, length-append (take (length q - 2) q) (u ∷ slice_index q (length q - 1) ∷ []), length-take-le (length q - 2) q (omega arith))
-
-  -- and ends at the same place
-  exchanged-last : last_of p.start (exchanged u q) ≡ last_of p.start q
-  exchanged-last =
-      let last = slice_index q (length q - 1) in
-      ap (last_of p.start) (sym (append_assoc (take (length q - 2) q) (u ∷ []) (last ∷ [])))
-      ∙ last_of-push p.start (take (length q - 2) q ++ u ∷ []) last
-      ∙ sym (last_at p.start q (omega (arith, long)))
-
-  -- so it stands in where it is legal and cuts the exchange bound
-  pub exchanged-stands : IsLegal p (exchanged u q) → IsTrue (is_cut (exchange_of p q (exchanged u q)) q (standing_of p (exchanged u q))) → StandsIn p (exchanged u q) q
-  exchanged-stands legal cut = record { legal = legal; long = exchanged-long; last = exchanged-last; cut = cut }
-
-  -- where it is legal, the position is a move of the one before it
-  pub exchanged-move : IsLegal p (exchanged u q) → Contains (moves_after p (take (length q - 2) q)) u
-  exchanged-move legal = ((follows-append p.moves p.start (take (length q - 2) q) (u ∷ slice_index q (length q - 1) ∷ [])).0 legal.follows).1.0
-
--- what stands in finds no less than the prefix
-pub stand_in-le : (p : Problem) (r q : List ℕ) → StandsIn p r q → value_of p q ≤ value_of p r
-stand_in-le p r q twin = elim (or_cases _ _ twin.cut) [
-  | inl less ↦ let above = ltb-true (exchange_of p q r) (value_of p r) less in omega (arith, above)
-  | inr level ↦ let same = eqb-true (exchange_of p q r) (value_of p r) (and_parts _ _ level).0 in omega (arith, same)
-]
 
 -- no value goes before itself
 pub yields-itself : (e : Exchange) → Yields e.value e.position (Some e)

@@ -3,7 +3,7 @@ use Rattle.std.specs.Prelude.{ℕ, ◌≡◌, ◌<◌, ◌≤◌, ◌⊎◌, Lis
 use Rattle.search_model.specs.Problem.{Problem}
 use Rattle.search_model.specs.Tracks.{value_of}
 use Rattle.search_model.specs.Exchange.{exchange_of}
-use Rattle.bound_tree.specs.ExchangeLaws.{StandsIn, exchanged}
+use Rattle.bound_tree.specs.Exchanges.{StandsIn, exchanged}
 use Rattle.exchange_bound.specs.declared.stand_in.Exchange.{Exchange}
 
 -- the prefix stands in for itself with the position of an exchange in place of its last but one, with this value and this

@@ -73,7 +73,7 @@ fn bound_by(
 
 impl ExchangeTables {
     ghost use Rattle.std.specs.Prelude.{IfSome, IfNone};
-    ghost use Rattle.bound_tree.specs.ExchangeLaws.{StandsIn, HasExchanges, IsBestStandIn, exchanged};
+    ghost use Rattle.bound_tree.specs.Exchanges.{StandsIn, HasExchanges, IsBestStandIn, exchanged};
     ghost use Rattle.exchange_bound.specs.Exchanges.{IsMadeFor};
     ghost use Rattle.exchange_bound.specs.StandIns.{IsExchange};
 

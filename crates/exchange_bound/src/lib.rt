@@ -8,4 +8,4 @@ mod rewards;
 mod stand_in;
 
 pub use exchange::ExchangeTables;
-pub use stand_in::Exchange;
+pub use stand_in::{Exchange, exchanged};

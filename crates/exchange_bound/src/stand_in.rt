@@ -5,7 +5,7 @@ ghost use Rattle.search_model.specs.Legal.{IsLegal};
 ghost use Rattle.search_model.specs.Tracks.{value_of};
 ghost use Rattle.longest_walk.specs.Near.{AreNear};
 ghost use Rattle.belief_update.specs.Onward.{IsOnward};
-ghost use Rattle.bound_tree.specs.ExchangeLaws.{StandsIn, IsBestStandIn, exchanged as exchanged_lem};
+ghost use Rattle.bound_tree.specs.Exchanges.{StandsIn, IsBestStandIn, exchanged as exchanged_lem};
 ghost use Rattle.exchange_bound.specs.Exchanges.{IsMadeFor};
 ghost use Rattle.exchange_bound.specs.StandIns.{IsExchange, Precedes, Yields};
 
@@ -25,10 +25,11 @@ pub struct Exchange {
     pub position: u8,
 }
 
-// A prefix with position `u` in place of its last but one.
-fn exchanged(prefix: &Path, u: u8) -> Path
+/// A prefix of two positions or more with position `u` in place of its last but one.
+pub fn exchanged(prefix: &Path, u: u8) -> Path
     requires { 2 ≤ length prefix.now }
-    ensures { result ≡ exchanged_lem u prefix.now }
+    ensures prefix { result ≡ exchanged_lem u prefix.now }
+    ensures long { length result ≡ length prefix.now }
 {
     let k = prefix.len();
     let mut other = prefix.first(k - 2);
