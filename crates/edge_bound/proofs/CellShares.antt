@@ -16,7 +16,7 @@ use Rattle.belief_update.specs.Found.{found_in, found_of}
 use Rattle.edge_bound.specs.Found.{one_of}
 use Rattle.edge_bound.specs.After.{through, parts_after, loss_of}
 use Rattle.belief_update.specs.Flows.{IsOwn}
-use Rattle.edge_bound.proofs.Fitting.{found-within, found_parts-within}
+use Rattle.edge_bound.proofs.Fitting.{found-within}
 
 -- each number of a list that ascends is no less than its place
 rises : (xs : List ℕ) → IsStrictlyIncreasing xs → (i : ℕ) → i < length xs → i ≤ slice_index xs i
@@ -54,12 +54,12 @@ module _ (p : Problem) (sound : IsProblem p) (t a : ℕ) where
   share-within q i later last inside =
       omega (arith, sum_by_more_le (found_in p (mass_of p (looks_to t q))) (look_row p.sweep t a) i (misses 0 0) inside, found-within p sound q t a later last)
 
--- nor in the parts of what is to come, where a look follows it
-pub share_parts-within : (p : Problem) → IsProblem p → (q : List ℕ) (t a i : ℕ) → length q + 2 ≤ t → t ≤ p.horizon → i < length (look_row p.sweep (t - 1) a) →
-    found_in p (mass_of p (looks_to (t - 1) q)) (slice_index_or (look_row p.sweep (t - 1) a) i (misses 0 0)) * parts_after p q t ≤ whole_weight p
-share_parts-within p sound q t a i later last inside =
+-- nor in parts in which all that it finds fits
+pub share_parts-within : (p : Problem) (q : List ℕ) (t a parts i : ℕ) → found_of p (t - 1) a (mass_of p (looks_to (t - 1) q)) * parts ≤ whole_weight p → i < length (look_row p.sweep (t - 1) a) →
+    found_in p (mass_of p (looks_to (t - 1) q)) (slice_index_or (look_row p.sweep (t - 1) a) i (misses 0 0)) * parts ≤ whole_weight p
+share_parts-within p q t a parts i fits inside =
     let more = sum_by_more_le (found_in p (mass_of p (looks_to (t - 1) q))) (look_row p.sweep (t - 1) a) i (misses 0 0) inside in
-    omega (arith, mul-le-mul_right (parts_after p q t) more, found_parts-within p sound q t a later last)
+    omega (arith, mul-le-mul_right parts more, fits)
 
 module _ (p : Problem) (q : List ℕ) (t b : ℕ) where
   -- by what it finds in a cell, what it takes there of the next look

@@ -21,7 +21,7 @@ use Rattle.belief_update.specs.Found.{found_of}
 use Rattle.edge_bound.specs.After.{mass_after_look, going_on, parts_after}
 
 -- one more look along a track that goes on
-looked_along-at : (p : Problem) (t : ℕ) (looks : List (Option ℕ)) (a : ℕ) (x : List ℕ) → length looks < length x →
+pub looked_along-at : (p : Problem) (t : ℕ) (looks : List (Option ℕ)) (a : ℕ) (x : List ℕ) → length looks < length x →
     looked_along p t (looks ++ Some a ∷ []) x ≡ looked_along p t looks x * factor_of p.sweep (t + length looks) a (slice_index x (length looks))
 unfolding looked_along
 looked_along-at p t looks a [] h = absurd (omega (arith, h))

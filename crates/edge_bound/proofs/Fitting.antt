@@ -21,7 +21,7 @@ use Rattle.edge_bound.proofs.Discounts.{reward_is, reward_parts, reward_before}
 use Rattle.edge_bound.proofs.Through.{taken_of_reward}
 
 -- what bounds each sum of a walk bounds the greatest
-greatest-within : (f : List ℕ → ℕ) (most : ℕ) (ys : List (List ℕ)) → ((y : List ℕ) → Contains ys y → f y ≤ most) → greatest (map f ys) ≤ most
+pub greatest-within : (f : List ℕ → ℕ) (most : ℕ) (ys : List (List ℕ)) → ((y : List ℕ) → Contains ys y → f y ≤ most) → greatest (map f ys) ≤ most
 greatest-within f most ys each = greatest_below most (map f ys) (All-map (λ v. v ≤ most) f ys (All-weaker (Contains ys) (λ y. f y ≤ most) each ys (All-contains_itself ys)))
 
 module _ (p : Problem) (sound : IsProblem p) (q : List ℕ) where

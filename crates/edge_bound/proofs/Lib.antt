@@ -5,5 +5,5 @@ pub mod Fitting
 pub mod PathSums
 pub mod UnitTable
 pub mod Walking
-mod Reached
-mod CellShares
+pub mod Reached
+pub mod CellShares

@@ -26,7 +26,7 @@ sum_moves-none r t a n x past = at_drop_all (sum_moves r t a) x n past ∙ refl
 
 module _ (p : Problem) (q x : List ℕ) (path : IsPath p x) (front : take (length q) x ≡ q) where
   -- what is left of a path after a prefix is a continuation
-  rest_listed : Contains (continuations p q) (drop (length q) x)
+  pub rest_listed : Contains (continuations p q) (drop (length q) x)
   rest_listed =
       let rest = drop (length q) x in
       let whole : x ≡ q ++ rest = sym (take-append-drop (length q) x) ∙ ap (λ (u : List ℕ). u ++ rest) front in

@@ -14,23 +14,23 @@ use Rattle.edge_bound.proofs.Discounts.{taken_of_mass, reward_parts, edge_reward
 
 module _ (p : Problem) (t b : ℕ) where
   -- of equal masses a look finds the same
-  found-same : (f h : ℕ → ℕ) → ((d : ℕ) → f d ≡ h d) → found_of p t b f ≡ found_of p t b h
+  pub found-same : (f h : ℕ → ℕ) → ((d : ℕ) → f d ≡ h d) → found_of p t b f ≡ found_of p t b h
   found-same f h same = sum_by-same (found_in p f) (found_in p h) (look_row p.sweep t b) (λ e. ap (λ (m : ℕ). m * (p.sweep.denominator - e.part)) (same e.cell))
 
   -- of the sum of two masses it finds the sum of what it finds of each
-  found-plus : (f h : ℕ → ℕ) → found_of p t b (λ d. f d + h d) ≡ found_of p t b f + found_of p t b h
+  pub found-plus : (f h : ℕ → ℕ) → found_of p t b (λ d. f d + h d) ≡ found_of p t b f + found_of p t b h
   found-plus f h =
       sum_by-same (found_in p (λ d. f d + h d)) (λ e. found_in p f e + found_in p h e) (look_row p.sweep t b) (λ e. omega arith)
       ∙ sum_by-plus (found_in p f) (found_in p h) (look_row p.sweep t b)
 
   -- of multiples it finds the multiple
-  found-times : (f : ℕ → ℕ) (k : ℕ) → found_of p t b (λ d. f d * k) ≡ found_of p t b f * k
+  pub found-times : (f : ℕ → ℕ) (k : ℕ) → found_of p t b (λ d. f d * k) ≡ found_of p t b f * k
   found-times f k =
       sum_by-same (found_in p (λ d. f d * k)) (λ e. found_in p f e * k) (look_row p.sweep t b) (λ e. omega arith)
       ∙ sum_by-times (found_in p f) k (look_row p.sweep t b)
 
   -- of sums it finds the sum
-  found-sum : {X : Type 0} (f : X → ℕ → ℕ) (xs : List X) → found_of p t b (λ d. sum_by (λ x. f x d) xs) ≡ sum_by (λ x. found_of p t b (f x)) xs
+  pub found-sum : {X : Type 0} (f : X → ℕ → ℕ) (xs : List X) → found_of p t b (λ d. sum_by (λ x. f x d) xs) ≡ sum_by (λ x. found_of p t b (f x)) xs
   found-sum f xs =
       let g = p.sweep.denominator in
       sum_by-same (found_in p (λ d. sum_by (λ x. f x d) xs)) (λ e. sum_by (λ x. f x e.cell * (g - e.part)) xs) (look_row p.sweep t b)

@@ -45,7 +45,7 @@ pub entries_give : (p : Problem) → IsProblem p → (t c b : ℕ) → IsOwn p b
 entries_give p sound t c b own row is = rw is (sym (one_own p sound t c b own))
 
 -- in a steady problem it is the same in all periods
-steady_one : (p : Problem) → IsSteady p → (t c b : ℕ) → 2 ≤ t → t ≤ p.horizon → c < p.cells → b < p.positions → one_of p t c b ≡ one_of p 2 c b
+pub steady_one : (p : Problem) → IsSteady p → (t c b : ℕ) → 2 ≤ t → t ≤ p.horizon → c < p.cells → b < p.positions → one_of p t c b ≡ one_of p 2 c b
 steady_one p steady t c b first last here there =
     ap (λ (row : List CellPart). sum_by (found_in p (part_in row)) (look_row p.sweep t b)) (steady.steps t c first last here)
     ∙ ap (λ (row : List CellPart). sum_by (found_in p (part_of p.drift 1 c)) row) (steady.looks t b first last there)

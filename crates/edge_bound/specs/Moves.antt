@@ -8,7 +8,6 @@ use Rattle.search_model.specs.Edge.{edge_reward_of, sum_moves}
 use Rattle.longest_walk.specs.Near.{IsNear}
 use Rattle.belief_update.specs.Masses.{mass_of, looks_to}
 use Rattle.belief_update.specs.Found.{found_in}
-use Rattle.edge_bound.specs.After.{parts_after}
 
 -- the greatest sum of rewards on moves over the walks of n cells from a, the first of them in period t
 abbrev pub greatest_moves : List (List ℕ) → (ℕ → ℕ → ℕ → ℕ) → ℕ → ℕ → ℕ → ℕ
@@ -21,10 +20,10 @@ HasGains p q t gains =
     (b n : ℕ) → length q + n ≡ t → IsNear p.moves n (last_of p.start q) b → slice_index gains b ≡ reward_of p q t b + greatest_moves p.moves (edge_reward_of p q) (p.horizon - t) (t + 1) b
 
 -- for each entry of the row of a look from position a in the period before t, what the look finds in its cell with no look
--- between it and the prefix, in the parts of what is to come after period t
-abbrev pub HasShares : Problem → List ℕ → ℕ → ℕ → List ℕ → Type 0
-HasShares p q t a shares =
-    (i : ℕ) → i < length (look_row p.sweep (t - 1) a) → slice_index shares i ≡ found_in p (mass_of p (looks_to (t - 1) q)) (slice_index_or (look_row p.sweep (t - 1) a) i (misses 0 0)) * parts_after p q t
+-- between it and the prefix, in some parts of what is to come
+abbrev pub HasShares : Problem → List ℕ → ℕ → ℕ → ℕ → List ℕ → Type 0
+HasShares p q t a parts shares =
+    (i : ℕ) → i < length (look_row p.sweep (t - 1) a) → slice_index shares i ≡ found_in p (mass_of p (looks_to (t - 1) q)) (slice_index_or (look_row p.sweep (t - 1) a) i (misses 0 0)) * parts
 
 -- a period after the prefix, the first one left out: its looks have another look just before them that isn't the prefix's
 pub record IsLater (p : Problem) (q : List ℕ) (t : ℕ) : Type 0 where

@@ -16,8 +16,8 @@ use crate::units::Units;
 use belief_update::{Onward, later_parts};
 use search_model::{Path, Scenario};
 
-// The reward of a first look after a prefix, at `b`.
-fn first_reward(sc: &Scenario, prefix: &Path, onward: &Onward, b: u8) -> u128
+/// The reward of a first look after a prefix, at `b`.
+pub fn first_reward(sc: &Scenario, prefix: &Path, onward: &Onward, b: u8) -> u128
     requires short { length prefix.now < sc.now.horizon }
     requires to { b < sc.now.positions }
     requires onward { IsOnward sc.now prefix.now onward.now }
@@ -67,6 +67,7 @@ fn taken_by_row(
     ensures loss { result ≡ loss_of sc.now prefix.now t a b }
     ensures shares { length shares.new ≡ length shares.old }
 {
+    sc.recall_sound();
     let look = look_from(sc, t - 1, a);
     fill_shares(shares, sc, prefix, onward, look.parts(), parts, t, a);
     taken_by_shares(sc, prefix, units, shares, look.parts(), t, a, b)
@@ -126,8 +127,8 @@ fn taken(
     }
 }
 
-// The edge reward of a look at `b` in period `t`, after one at `a` in the period before.
-fn next_reward(
+/// The edge reward of a look at `b` in period `t`, after one at `a` in the period before; `shares` is room for a row of cells.
+pub fn next_reward(
     sc: &Scenario,
     prefix: &Path,
     onward: &Onward,

@@ -12,6 +12,11 @@ mod shares;
 mod tables;
 mod units;
 
+pub use along::{first_reward, next_reward};
 pub use edge::Edge;
 pub use laws::worked_edges;
+pub use moves::{look_from, mass_at};
+pub use rows::fill_rewards;
+pub use shares::fill_shares;
 pub use tables::EdgeTables;
+pub use units::{Units, is_steady};

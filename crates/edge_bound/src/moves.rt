@@ -12,7 +12,7 @@ use search_model::{Path, Scenario};
 use sweep_table::Look;
 
 /// The mass of cell `c` in period `t`, with no look after the prefix.
-pub(crate) fn mass_at(sc: &Scenario, prefix: &Path, onward: &Onward, t: u32, c: u8) -> u128
+pub fn mass_at(sc: &Scenario, prefix: &Path, onward: &Onward, t: u32, c: u8) -> u128
     requires later { length prefix.now < t }
     requires last { t ≤ sc.now.horizon }
     requires cell { c < sc.now.cells }
@@ -23,7 +23,7 @@ pub(crate) fn mass_at(sc: &Scenario, prefix: &Path, onward: &Onward, t: u32, c: 
 }
 
 /// The cells that a look from position `a` in period `t` covers, with the parts that it misses.
-pub(crate) fn look_from(sc: &Scenario, t: u32, a: u8) -> Look<'_>
+pub fn look_from(sc: &Scenario, t: u32, a: u8) -> Look<'_>
     requires first { 1 ≤ t }
     requires last { t ≤ sc.now.horizon }
     requires position { a < sc.now.positions }

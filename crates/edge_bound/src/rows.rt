@@ -31,8 +31,8 @@ fn reward_by(sc: &Scenario, prefix: &Path, onward: &Onward, parts: u128, t: u32,
     found_by(sc, prefix, onward, t, b) * parts
 }
 
-// Writes the rewards of looks from some positions in period `t` with no look between them and the prefix.
-fn fill_rewards(
+/// Writes the rewards of looks from some positions in period `t` with no look between them and the prefix.
+pub fn fill_rewards(
     gains: &mut [u128],
     sc: &Scenario,
     prefix: &Path,

@@ -1,7 +1,8 @@
 //! What one look finds in each cell that it covers, for all the looks that may come next.
 
-ghost use Rattle.std.specs.Prelude.{◌≡◌, ◌<◌, ◌-◌, ◌*◌, length};
+ghost use Rattle.std.specs.Prelude.{◌≡◌, ◌<◌, ◌≤◌, ◌-◌, ◌*◌, length};
 ghost use Rattle.sweep_table.specs.LookParts.{look_row};
+ghost use Rattle.search_model.specs.Tracks.{whole_weight};
 ghost use Rattle.belief_update.specs.Masses.{mass_of, looks_to};
 ghost use Rattle.belief_update.specs.Onward.{IsOnward};
 ghost use Rattle.edge_bound.specs.After.{parts_after, loss_of};
@@ -16,8 +17,8 @@ use search_model::{Path, Scenario};
 use sweep_table::LookPart;
 
 /// Writes what a look from position `a` in the period before `t` finds in each cell of its row, with no look between it and the
-/// prefix, in the parts of what is to come after period `t`, and answers their sum.
-pub(crate) fn fill_shares(
+/// prefix, in some parts of what is to come, and answers their sum.
+pub fn fill_shares(
     shares: &mut [u128],
     sc: &Scenario,
     prefix: &Path,
@@ -28,13 +29,13 @@ pub(crate) fn fill_shares(
     a: u8,
 ) -> u128
     requires row { row.now ≡ look_row sc.now.sweep (t - 1) a }
-    requires parts { parts ≡ parts_after sc.now prefix.now t }
+    requires fits { found_of sc.now (t - 1) a (mass_of sc.now (looks_to (t - 1) prefix.now)) * parts ≤ whole_weight sc.now }
     requires period { IsLater sc.now prefix.now t }
     requires onward { IsOnward sc.now prefix.now onward.now }
     requires room { length shares.old ≡ sc.now.cells }
     ensures sum { result ≡
-        found_of sc.now (t - 1) a (mass_of sc.now (looks_to (t - 1) prefix.now)) * parts_after sc.now prefix.now t }
-    ensures each { HasShares sc.now prefix.now t a shares.new }
+        found_of sc.now (t - 1) a (mass_of sc.now (looks_to (t - 1) prefix.now)) * parts }
+    ensures each { HasShares sc.now prefix.now t a parts shares.new }
     ensures room { length shares.new ≡ length shares.old }
 {
     let _from = a;
@@ -66,7 +67,7 @@ pub(crate) fn taken_by_shares(
     requires to { b < sc.now.positions }
     requires units { HasUnits sc.now units.now }
     requires row { row.now ≡ look_row sc.now.sweep (t - 1) a }
-    requires shares { HasShares sc.now prefix.now t a shares.now }
+    requires shares { HasShares sc.now prefix.now t a (parts_after sc.now prefix.now t) shares.now }
     requires room { length shares.now ≡ sc.now.cells }
     ensures { result ≡ loss_of sc.now prefix.now t a b }
 {

@@ -16,11 +16,13 @@ use std::marker::Model;
 /// Per period from the second on, cell and position, what a look from the position finds of a unit that was in the cell a
 /// period before.
 #[derive(Drop)]
-pub(crate) struct Units {
-    positions: usize,
-    // How far the numbers of a period are from those of the period before: 0 where one block of them serves all periods.
-    step: usize,
-    units: Vec<u64>,
+pub struct Units {
+    /// The number of positions.
+    pub positions: usize,
+    /// How far the numbers of a period are from those of the period before: 0 where one block of them serves all periods.
+    pub step: usize,
+    /// The numbers, a row of positions for each cell.
+    pub units: Vec<u64>,
 }
 
 impl Model for Units {
@@ -57,8 +59,8 @@ fn has_second_looks(sc: &Scenario, t: u32) -> bool
     true
 }
 
-// Whether all steps of the drift are as the first one, and all looks after a step as after the first one.
-fn is_steady(sc: &Scenario) -> bool
+/// Whether all steps of the drift are as the first one, and all looks after a step as after the first one.
+pub fn is_steady(sc: &Scenario) -> bool
     ensures { IsTrue result → IsSteady sc.now }
 {
     for t in 1..sc.horizon() {
@@ -247,7 +249,7 @@ impl Units {
     ghost use Rattle.edge_bound.specs.Units.{place_of, unit_at, HasUnits};
 
     /// The table of a scenario: with one block of numbers where no later period differs, else with one a period.
-    pub(crate) fn tables(alloc: Global, sc: &Scenario) -> Result<Units, NoMemory>
+    pub fn tables(alloc: Global, sc: &Scenario) -> Result<Units, NoMemory>
         ensures { IfOk result (HasUnits sc.now) }
     {
         if is_steady(sc) {
@@ -281,7 +283,7 @@ impl Units {
     }
 
     /// What a look from `b` in period `t` finds of a unit that was in cell `c` a period before.
-    pub(crate) fn unit(&self, t: u32, c: u8, b: u8) -> u64
+    pub fn unit(&self, t: u32, c: u8, b: u8) -> u64
         requires first { 2 ≤ t }
         requires inside { place_of self.now t c b < length self.now.units }
         ensures { result ≡ unit_at self.now t c b }
@@ -290,7 +292,7 @@ impl Units {
     }
 
     /// Where the numbers of cell `c` in period `t` begin.
-    pub(crate) fn place(&self, t: u32, c: u8) -> usize
+    pub fn place(&self, t: u32, c: u8) -> usize
         requires first { 2 ≤ t }
         requires inside { place_of self.now t c 0 < length self.now.units }
         ensures { result ≡ place_of self.now t c 0 }
@@ -299,7 +301,7 @@ impl Units {
     }
 
     /// The number of position `b`, where those of its cell and period begin at a place.
-    pub(crate) fn at(&self, place: usize, b: u8) -> u64
+    pub fn at(&self, place: usize, b: u8) -> u64
         requires { place + b < length self.now.units }
         ensures { result ≡ slice_index self.now.units (place + b) }
     {

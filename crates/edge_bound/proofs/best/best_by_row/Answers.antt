@@ -3,6 +3,7 @@ use Rattle.search_grid.specs.Moves.{moves_from}
 use Rattle.search_model.specs.Edge.{edge_reward_of}
 use Rattle.edge_bound.specs.Moves.{greatest_moves}
 use Rattle.longest_walk.proofs.RowSteps.{best_more, best_all}
+use Rattle.edge_bound.proofs.Fitting.{found_parts-within}
 use Rattle.edge_bound.proofs.Walking.{sums_before, listed_move}
 use Rattle.edge_bound.proofs.best.best_by_row.Goals as goal
 
@@ -27,3 +28,10 @@ gain_before-requires-clause-best c =
     let all = best_all f c.moves-moves.result.now c.loop-b.b-index c.loop-b.best _ c.loop-b-test.false c.loop-b.invariant in
     rw moves at all
     ∙ sym (sums_before p q c.args.t c.args.a c.grid.ensures.sound c.requires.period.last c.requires.from)
+
+pub fill_shares-found-requires-clause-fits : goal.fill_shares-found-requires-clause-fits
+fill_shares-found-requires-clause-fits c =
+    rw c.requires.parts (found_parts-within c.args.sc.now c.grid.ensures.sound c.args.prefix.now c.args.t c.args.a c.requires.period.later c.requires.period.last)
+
+pub taken_by_shares-less-requires-clause-shares : goal.taken_by_shares-less-requires-clause-shares
+taken_by_shares-less-requires-clause-shares c = rw c.requires.parts at c.fill_shares-found.ensures.each

@@ -7,8 +7,6 @@ use Rattle.search_model.proofs.LookRows.{covered_cell, covered_part}
 use Rattle.search_model.proofs.Totals.{whole_weight-fits}
 use Rattle.belief_update.specs.Masses.{mass_of, looks_to}
 use Rattle.belief_update.specs.Found.{found_in}
-use Rattle.edge_bound.specs.After.{parts_after}
-use Rattle.edge_bound.proofs.Fitting.{found_parts-within}
 use Rattle.edge_bound.proofs.CellShares.{row_short, share-within, share_parts-within, filled_more}
 use Rattle.edge_bound.proofs.shares.fill_shares.Goals as goal
 
@@ -37,8 +35,8 @@ pub overflow_mul-share : goal.overflow_mul-share
 overflow_mul-share c =
     let p = c.args.sc.now in
     let sound = c.sweep.ensures.sound in
-    let most = share_parts-within p sound c.args.prefix.now c.args.t c.args.a c.loop-i.i c.requires.period.later c.requires.period.last (rw c.requires.row at c.loop-i-test.true) in
-    rw (share_is c, c.requires.parts) (omega (arith, rw (← c.requires.row) at most, whole_weight-fits p sound))
+    let most = share_parts-within p c.args.prefix.now c.args.t c.args.a c.args.parts c.loop-i.i c.requires.fits (rw c.requires.row at c.loop-i-test.true) in
+    rw (share_is c) (omega (arith, rw (← c.requires.row) at most, whole_weight-fits p sound))
 
 pub bounds-shares-i : goal.bounds-shares-i
 bounds-shares-i c =
@@ -50,11 +48,11 @@ loop-i-preserved c =
     let p = c.args.sc.now in
     let short = row_short p c.sweep.ensures.sound (c.args.t - 1) c.args.a in
     let inside : c.loop-i.i < length c.loop-i.shares = omega (arith, c.loop-i-test.true, rw (← c.requires.row) at short, c.requires.room, c.loop-i.invariant.room) in
-    let f : ℕ → ℕ = λ k. found_in p (mass_of p (looks_to (c.args.t - 1) c.args.prefix.now)) (slice_index_or c.args.row.now k (misses 0 0)) * parts_after p c.args.prefix.now c.args.t in
+    let f : ℕ → ℕ = λ k. found_in p (mass_of p (looks_to (c.args.t - 1) c.args.prefix.now)) (slice_index_or c.args.row.now k (misses 0 0)) * c.args.parts in
     let more = sum_by_more (found_in p (mass_of p (looks_to (c.args.t - 1) c.args.prefix.now))) c.args.row.now c.loop-i.i (misses 0 0) c.loop-i-test.true in
     record {
-      sum = rw (share_is c, c.requires.parts) (omega (arith, c.loop-i.invariant.sum, ap (λ (s : ℕ). s * parts_after p c.args.prefix.now c.args.t) more));
-      each = filled_more f c.loop-i.shares c.loop-i.i _ inside (rw (share_is c, c.requires.parts) refl) c.loop-i.invariant.each;
+      sum = rw (share_is c) (omega (arith, c.loop-i.invariant.sum, ap (λ (s : ℕ). s * c.args.parts) more));
+      each = filled_more f c.loop-i.shares c.loop-i.i _ inside (rw (share_is c) refl) c.loop-i.invariant.each;
       room = length-set _ _ _ ∙ c.loop-i.invariant.room;
     }
 
@@ -64,6 +62,5 @@ overflow_add-sum c =
     let q = c.args.prefix.now in
     let sound = c.sweep.ensures.sound in
     let more = sum_by_more_le (found_in p (mass_of p (looks_to (c.args.t - 1) q))) c.args.row.now c.loop-i.i (misses 0 0) c.loop-i-test.true in
-    let most = found_parts-within p sound q c.args.t c.args.a c.requires.period.later c.requires.period.last in
-    rw (share_is c, c.requires.parts)
-    (omega (arith, c.loop-i.invariant.sum, mul-le-mul_right (parts_after p q c.args.t) more, rw (← c.requires.row) at most, whole_weight-fits p sound))
+    rw (share_is c)
+    (omega (arith, c.loop-i.invariant.sum, mul-le-mul_right c.args.parts more, rw (← c.requires.row) at c.requires.fits, whole_weight-fits p sound))

@@ -1,0 +1,51 @@
+use Rattle.std.proofs.Common.{ℕ, ◌≡◌, ◌*◌, ◌<◌, length, slice_index_or, ◌∙◌, arith}
+use Rattle.std.proofs.Math.ListN.{length-set}
+use Rattle.std.proofs.Math.Nat.{mul-le-mul_right}
+use Rattle.std.proofs.lemmas.List.Sums.{sum_by_more_le}
+use Rattle.sweep_table.specs.LookParts.{misses}
+use Rattle.search_model.proofs.LookRows.{covered_cell, covered_part}
+use Rattle.search_model.proofs.Totals.{whole_weight-fits}
+use Rattle.belief_update.specs.Found.{found_in}
+use Rattle.edge_bound.proofs.CellShares.{row_short, filled_more}
+use Rattle.two_look_bound.specs.Taken.{taken_to, parts_after_two}
+use Rattle.two_look_bound.proofs.Fitting.{less-within}
+use Rattle.two_look_bound.proofs.taken.fill_less.Goals as goal
+
+pub taken_mass-mass-requires-clause-cell : goal.taken_mass-mass-requires-clause-cell
+taken_mass-mass-requires-clause-cell c =
+    rw c.requires.row (covered_cell c.args.sc.now c.sweep.ensures.sound c.args.s c.args.b c.loop-i.i (misses 0 0) (rw c.requires.row at c.loop-i-test.true))
+
+pub overflow_sub-whole : goal.overflow_sub-whole
+overflow_sub-whole c =
+    rw (c.requires.row, c.denominator-whole.ensures.value, c.sweep.ensures.value)
+    (covered_part c.args.sc.now c.sweep.ensures.sound c.args.s c.args.b c.loop-i.i (misses 0 0) (rw c.requires.row at c.loop-i-test.true))
+
+-- what would be found in the cell
+less_is : (c : goal.After-from) → let p = c.args.sc.now in
+    c.taken_mass-mass.result * c.from.result ≡ found_in p (taken_to p c.args.prefix.now c.args.s c.args.a) (slice_index_or c.args.row.now c.loop-i.i (misses 0 0)) * parts_after_two p c.args.prefix.now c.args.s
+less_is c = rw (c.taken_mass-mass.ensures, c.from.ensures, c.denominator-whole.ensures.value, c.sweep.ensures.value) (omega arith)
+
+pub overflow_mul-found : goal.overflow_mul-found
+overflow_mul-found c =
+    let p = c.args.sc.now in
+    let q = c.args.prefix.now in
+    let sound = c.sweep.ensures.sound in
+    let more = sum_by_more_le (found_in p (taken_to p q c.args.s c.args.a)) c.args.row.now c.loop-i.i (misses 0 0) c.loop-i-test.true in
+    let most = less-within p sound q c.args.s c.requires.middle c.args.a c.args.b in
+    omega (arith, less_is c, mul-le-mul_right (parts_after_two p q c.args.s) more, rw (← c.requires.row) at most, whole_weight-fits p sound)
+
+pub bounds-less-i : goal.bounds-less-i
+bounds-less-i c =
+    let short = row_short c.args.sc.now c.sweep.ensures.sound c.args.s c.args.b in
+    omega (arith, c.loop-i-test.true, rw (← c.requires.row) at short, c.requires.size, c.loop-i.invariant.size)
+
+pub loop-i-preserved : goal.loop-i-preserved
+loop-i-preserved c =
+    let p = c.args.sc.now in
+    let short = row_short p c.sweep.ensures.sound c.args.s c.args.b in
+    let inside : c.loop-i.i < length c.loop-i.less = omega (arith, c.loop-i-test.true, rw (← c.requires.row) at short, c.requires.size, c.loop-i.invariant.size) in
+    let f : ℕ → ℕ = λ k. found_in p (taken_to p c.args.prefix.now c.args.s c.args.a) (slice_index_or c.args.row.now k (misses 0 0)) * parts_after_two p c.args.prefix.now c.args.s in
+    record {
+      each = filled_more f c.loop-i.less c.loop-i.i _ inside (less_is c) c.loop-i.invariant.each;
+      size = length-set _ _ _ ∙ c.loop-i.invariant.size;
+    }

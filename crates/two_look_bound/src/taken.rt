@@ -1,0 +1,173 @@
+//! What a look takes of the looks one and two periods after it.
+
+ghost use Rattle.std.specs.Prelude.{◌≡◌, ◌<◌, ◌≤◌, ◌+◌, ◌-◌, ◌*◌, ◌^◌, length, All};
+ghost use Rattle.sweep_table.specs.LookParts.{look_row};
+ghost use Rattle.edge_bound.specs.Moves.{HasShares};
+ghost use Rattle.edge_bound.specs.Units.{HasUnits, place_of};
+ghost use Rattle.longest_walk.specs.Near.{AreNear};
+ghost use Rattle.two_look_bound.specs.Pairs.{IsMiddle};
+ghost use Rattle.two_look_bound.specs.Taken.{weighted_sum, taken_to, parts_after_two, skip_of, joint_of, HasLess, HasSkips};
+ghost use Rattle.two_look_bound.specs.Rooms.{HasTwos};
+
+use edge_bound::Units;
+use longest_walk::Near;
+use search_model::{Path, Scenario};
+use sweep_table::LookPart;
+
+/// The sum of some shares, one for each entry of a row, times the numbers of their cells in a table, for position `b` in period
+/// `t`.
+pub(crate) fn weighted(table: &Units, shares: &[u128], row: &[LookPart], t: u32, b: u8) -> u128
+    requires first { 2 ≤ t }
+    requires room { length row.now ≤ length shares.now }
+    requires inside { All (λ e. place_of table.now t e.cell b < length table.now.units) row.now }
+    requires fits { weighted_sum table.now t b row.now shares.now < 2 ^ 127 }
+    ensures { result ≡ weighted_sum table.now t b row.now shares.now }
+{
+    let mut sum = 0;
+    for i in 0..row.len() {
+        let unit = table.unit(t, row[i].cell, b);
+        sum += shares[i] * u128::from(unit);
+    }
+    sum
+}
+
+// What a look from `a` in the period before `s` takes of the mass of a cell in period `s`, by what it finds in each cell of its row,
+// in the parts of what is to come.
+fn taken_mass(
+    sc: &Scenario,
+    prefix: &Path,
+    shares: &[u128],
+    before: &[LookPart],
+    s: u32,
+    a: u8,
+    cell: u8,
+) -> u128
+    requires middle { IsMiddle sc.now prefix.now s }
+    requires cell { cell < sc.now.cells }
+    requires before { before.now ≡ look_row sc.now.sweep (s - 1) a }
+    requires shares { HasShares sc.now prefix.now s a (parts_after_two sc.now prefix.now s) shares.now }
+    requires room { length shares.now ≡ sc.now.cells }
+    ensures { result ≡ taken_to sc.now prefix.now s a cell * parts_after_two sc.now prefix.now s }
+{
+    let _after = prefix;
+    let _from = a;
+    sc.recall_sound();
+    let mut sum = 0;
+    for i in 0..before.len() {
+        let part = sc.drift().part(s - 1, before[i].cell, cell);
+        sum += shares[i] * u128::from(part);
+    }
+    sum
+}
+
+/// Writes what a look from `b` in period `s` would find, in each cell of its row, of what a look from `a` in the period before takes.
+pub(crate) fn fill_less(
+    less: &mut [u128],
+    sc: &Scenario,
+    prefix: &Path,
+    shares: &[u128],
+    before: &[LookPart],
+    row: &[LookPart],
+    s: u32,
+    a: u8,
+    b: u8,
+)
+    requires middle { IsMiddle sc.now prefix.now s }
+    requires before { before.now ≡ look_row sc.now.sweep (s - 1) a }
+    requires row { row.now ≡ look_row sc.now.sweep s b }
+    requires shares { HasShares sc.now prefix.now s a (parts_after_two sc.now prefix.now s) shares.now }
+    requires room { length shares.now ≡ sc.now.cells }
+    requires size { length less.old ≡ sc.now.cells }
+    ensures each { HasLess sc.now prefix.now s a b less.new }
+    ensures size { length less.new ≡ length less.old }
+{
+    let _from = b;
+    let whole = sc.sweep().denominator();
+    for i in 0..row.len() {
+        let mass = taken_mass(sc, prefix, shares, before, s, a, row[i].cell);
+        let found = mass * u128::from(whole - row[i].part);
+        less[i] = found;
+    }
+}
+
+/// What looks from `a` in the period before `s`, `b` in period `s` and `c` in the one after it would find one after the other.
+pub(crate) fn joint(
+    sc: &Scenario,
+    prefix: &Path,
+    units: &Units,
+    less: &[u128],
+    row: &[LookPart],
+    s: u32,
+    a: u8,
+    b: u8,
+    c: u8,
+) -> u128
+    requires middle { IsMiddle sc.now prefix.now s }
+    requires to { c < sc.now.positions }
+    requires units { HasUnits sc.now units.now }
+    requires row { row.now ≡ look_row sc.now.sweep s b }
+    requires less { HasLess sc.now prefix.now s a b less.now }
+    requires room { length less.now ≡ sc.now.cells }
+    ensures { result ≡ joint_of sc.now prefix.now s a b c }
+{
+    let _after = prefix;
+    let _looks = (a, b);
+    sc.recall_sound();
+    weighted(units, less, row, s + 1, c)
+}
+
+/// What looks from `a` in the period before `s` and `c` in the one after it would find one after the other, with none between them.
+pub(crate) fn skip(
+    sc: &Scenario,
+    prefix: &Path,
+    twos: &Units,
+    shares: &[u128],
+    before: &[LookPart],
+    s: u32,
+    a: u8,
+    c: u8,
+) -> u128
+    requires middle { IsMiddle sc.now prefix.now s }
+    requires to { c < sc.now.positions }
+    requires twos { HasTwos sc.now twos.now }
+    requires before { before.now ≡ look_row sc.now.sweep (s - 1) a }
+    requires shares { HasShares sc.now prefix.now s a (parts_after_two sc.now prefix.now s) shares.now }
+    requires room { length shares.now ≡ sc.now.cells }
+    ensures { result ≡ skip_of sc.now prefix.now s a c }
+{
+    let _after = prefix;
+    let _from = a;
+    sc.recall_sound();
+    let sum = weighted(twos, shares, before, s, c);
+    sum * u128::from(sc.sweep().denominator())
+}
+
+/// Writes the same for all `c` within two moves of `a`.
+pub(crate) fn fill_skips(
+    skips: &mut [u128],
+    sc: &Scenario,
+    near: &Near,
+    prefix: &Path,
+    twos: &Units,
+    shares: &[u128],
+    before: &[LookPart],
+    s: u32,
+    a: u8,
+)
+    requires near { AreNear sc.now.moves sc.now.horizon near.now }
+    requires middle { IsMiddle sc.now prefix.now s }
+    requires from { a < sc.now.positions }
+    requires twos { HasTwos sc.now twos.now }
+    requires before { before.now ≡ look_row sc.now.sweep (s - 1) a }
+    requires shares { HasShares sc.now prefix.now s a (parts_after_two sc.now prefix.now s) shares.now }
+    requires room { length shares.now ≡ sc.now.cells }
+    requires size { length skips.old ≡ sc.now.positions }
+    ensures each { HasSkips sc.now prefix.now s a skips.new }
+    ensures size { length skips.new ≡ length skips.old }
+{
+    sc.recall_sound();
+    let two = near.within(sc.grid(), a, 2);
+    for c in two {
+        skips[usize::from(*c)] = skip(sc, prefix, twos, shares, before, s, a, *c);
+    }
+}
