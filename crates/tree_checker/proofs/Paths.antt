@@ -1,33 +1,21 @@
 -- The test of a path tells the paths.
-use Rattle.std.proofs.Common.{◌≡◌, ◌↔◌, ℕ, Bool, true, nat_eq, List, [], ◌∷◌, length, take, inl, inr, sym, refl, arith, Contains, Decides, eqb-true, eq-eqb}
-use Rattle.std.specs.List.{list_any, starts_with}
-use Rattle.std.proofs.lemmas.Bool.{and_parts, and_from, or_cases, or_left, or_right, true≢false}
+use Rattle.std.proofs.Common.{◌≡◌, ◌≢◌, ◌↔◌, ℕ, ◌-◌, Bool, true, not, ◌&&◌, slice_index, ap, ◌∙◌, nat_eq, List, [], ◌∷◌, length, take, sym, refl, arith, Decides, eqb-true, eq-eqb}
+use Rattle.std.specs.List.{starts_with}
+use Rattle.std.proofs.lemmas.Bool.{and_parts, and_from, leb-true, le-leb, ne_eqb}
 use Rattle.std.proofs.lemmas.Bool.Decides.{same_from_decides, Decides-eqb}
+use Rattle.std.proofs.lemmas.Map.Views.{Contains-from_any}
 use Rattle.std.proofs.lemmas.Slice.Eq.{slice_eq-Decides}
 use Rattle.search_grid.specs.Moves.{moves_from}
 use Rattle.search_model.specs.Problem.{Problem}
 use Rattle.search_model.specs.Legal.{Follows, IsLegal, IsPath}
-use Rattle.list_laws.proofs.Members.{Contains-head, Contains-tail, Contains-nil, Contains-cons_cases}
-use Rattle.tree_checker.specs.Reasons.{follows, is_path}
-
-found : (b : ℕ) (xs : List ℕ) → list_any (nat_eq b) xs ≡ true → Contains xs b
-found b [] h = absurd (true≢false (sym h))
-found b (x ∷ xs) h = elim (or_cases _ _ h) [
-  | inl e ↦ rw (eqb-true b x e) (Contains-head x xs)
-  | inr t ↦ Contains-tail x b xs (found b xs t)
-]
-
-finds : (b : ℕ) (xs : List ℕ) → Contains xs b → list_any (nat_eq b) xs ≡ true
-finds b [] h = absurd (Contains-nil b h)
-finds b (x ∷ xs) h = elim (Contains-cons_cases x b xs h) [
-  | inl e ↦ or_left _ _ (eq-eqb b x (sym e))
-  | inr t ↦ or_right _ _ (finds b xs t)
-]
+use Rattle.bound_tree.specs.Exchanges.{exchanged}
+use Rattle.bound_tree.proofs.StandIns.{finds}
+use Rattle.tree_checker.specs.Reasons.{follows, is_path, is_legal, takes_place}
 
 follows_follow : (rows : List (List ℕ)) (a : ℕ) (q : List ℕ) → follows rows a q ≡ true → Follows rows a q
 follows_follow rows a [] h = tt
 follows_follow rows a (b ∷ q) h =
-    let parts = and_parts _ _ h in (found b (moves_from rows a) parts.0, follows_follow rows b q parts.1)
+    let parts = and_parts _ _ h in (Contains-from_any (λ x y. eqb-true x y) b (moves_from rows a) parts.0, follows_follow rows b q parts.1)
 
 follow_follows : (rows : List (List ℕ)) (a : ℕ) (q : List ℕ) → Follows rows a q → follows rows a q ≡ true
 follow_follows rows a [] h = refl
@@ -38,6 +26,22 @@ is_path-Decides p q = (
   (λ h. let parts = and_parts _ _ h in record { follows = follows_follow p.moves p.start q parts.1; whole = eqb-true (length q) p.horizon parts.0 }),
   (λ h. and_from _ _ (eq-eqb (length q) p.horizon h.whole) (follow_follows p.moves p.start q h.follows)),
 )
+
+pub is_legal-Decides : (p : Problem) (q : List ℕ) → Decides (is_legal p q) (IsLegal p q)
+is_legal-Decides p q = (
+  (λ h. let parts = and_parts _ _ h in record { follows = follows_follow p.moves p.start q parts.1; short = leb-true (length q) p.horizon parts.0 }),
+  (λ h. and_from _ _ (le-leb (length q) p.horizon h.short) (follow_follows p.moves p.start q h.follows)),
+)
+
+-- what tells the legal prefixes is the test of one
+pub legal_is_tested : (p : Problem) (q : List ℕ) (r : Bool) → (r ≡ true) ↔ IsLegal p q → r ≡ is_legal p q
+legal_is_tested p q r h = same_from_decides r (is_legal p q) h (is_legal-Decides p q)
+
+-- and with it that of a position in place of a prefix's last but one, where it is another
+pub takes_place_is : (p : Problem) (q : List ℕ) (u : ℕ) (r : Bool) → u ≢ slice_index q (length q - 2) → (r ≡ true) ↔ IsLegal p (exchanged u q) → r ≡ takes_place p q u
+takes_place_is p q u r other h =
+    let legal : Bool = is_legal p (exchanged u q) in
+    legal_is_tested p (exchanged u q) r h ∙ ap (λ (b : Bool). not b && legal) (sym (ne_eqb u (slice_index q (length q - 2)) other))
 
 -- of prefixes as long as the horizon the legal ones are the paths
 pub legal_is_path : (p : Problem) (q : List ℕ) (r : Bool) → length q ≡ p.horizon → (r ≡ true) ↔ IsLegal p q → r ≡ is_path p q

@@ -1,8 +1,8 @@
 -- There is no reason against a plan or gap plan exactly where it is accepted.
-use Rattle.std.proofs.Common.{◌≡◌, ◌↔◌, ℕ, ◌+◌, ◌<◌, ◌==◌, Bool, true, false, not, List, [], ◌∷◌, ◌++◌, map, length, Option, Some, None, refl, sym, ap, ◌∙◌, subst, All, ltb-true, lt-ltb, eqb-true, eq-eqb, if◌then◌else◌, Result, Ok, Err, IfOk, IsTrue}
+use Rattle.std.proofs.Common.{◌≡◌, ◌↔◌, ℕ, ◌+◌, ◌<◌, ◌==◌, Bool, true, false, not, List, [], ◌∷◌, ◌++◌, map, length, Option, Some, None, refl, sym, ap, ◌∙◌, subst, All, ltb-true, lt-ltb, eqb-true, eq-eqb, if◌then◌else◌, Result, Ok, Err, IfOk, IsTrue, Decides, slice_index, ◌-◌}
 use Rattle.std.specs.Prelude.{nat_lt}
 use Rattle.std.specs.Option.{option_or, option_map}
-use Rattle.std.proofs.lemmas.Bool.{not-true, and_parts, and_from, true≢false}
+use Rattle.std.proofs.lemmas.Bool.{not-true, and_parts, and_from, true≢false, leb-true, le-leb, ne_eqb}
 use Rattle.std.proofs.lemmas.List.Elements.{All-nil, All-cons, All-head, All-tail}
 use Rattle.search_model.specs.declared.standing.Standing.{Standing}
 use Rattle.search_model.specs.Problem.{Problem}
@@ -11,9 +11,10 @@ use Rattle.search_model.specs.Tracks.{value_of, whole_weight}
 use Rattle.search_model.specs.Order.{smaller}
 use Rattle.search_model.specs.Bounds.{greatest, mean_of, IsRate, tangent_of}
 use Rattle.search_model.specs.Edge.{edge_of}
+use Rattle.search_model.specs.Exchange.{exchange_of}
 use Rattle.search_model.proofs.Orders.{smaller_irreflexive, same_from_neither}
 use Rattle.bound_tree.specs.declared.node.Kind.{Kind}
-use Rattle.bound_tree.specs.declared.node.Kind.TheVariants.{Branch, Whole, Mean, Tangent, Edge}
+use Rattle.bound_tree.specs.declared.node.Kind.TheVariants.{Branch, Whole, Mean, Tangent, Edge, Exchange}
 use Rattle.bound_tree.specs.declared.plan.Plan.{Plan}
 use Rattle.bound_tree.specs.declared.gap.Numbers.{Numbers}
 use Rattle.bound_tree.specs.declared.gap.Numbers.TheVariants.{Means}
@@ -23,6 +24,7 @@ use Rattle.bound_tree.specs.declared.gap.GapNode.{GapNode}
 use Rattle.bound_tree.specs.declared.gap.GapPlan.{GapPlan}
 use Rattle.bound_tree.specs.Cut.{is_cut, times}
 use Rattle.bound_tree.specs.Close.{IsExact}
+use Rattle.bound_tree.specs.Exchanges.{HasExchanges, TakesPlace, exchanged}
 use Rattle.bound_tree.specs.Accepts.{Extends, IsGoodKind, expected_by, Accepts}
 use Rattle.bound_tree.specs.Places.{opened_by, AreInPlace}
 use Rattle.bound_tree.specs.Gaps.{shape_of_kind, shape_of, ceiling_of, IsGoodOpenKind, IsGoodOpen, open_numbers, gap_of, GapAccepts}
@@ -38,10 +40,10 @@ use Rattle.tree_checker.specs.declared.gap_verdict.GapRejectAt.{GapRejectAt}
 use Rattle.tree_checker.specs.declared.gap_verdict.GapVerdict.{GapVerdict}
 use Rattle.tree_checker.specs.declared.gap_verdict.GapVerdict.TheVariants as gaps
 use Rattle.tree_checker.specs.Rate.{one_rate_of}
-use Rattle.tree_checker.specs.Reasons.{Test, first_failed, path_tests, value_tests, tangent_tests, kind_tests, plain_test, open_tests, node_tests, at_line, head_reason, next_reason, expected_past, nodes_reason, ceiling_reason, reason_from, as_plain, first_reason, verdict_of}
+use Rattle.tree_checker.specs.Reasons.{Test, first_failed, path_tests, value_tests, tangent_tests, has_exchanges, takes_place, exchange_tests, kind_tests, plain_test, open_tests, node_tests, at_line, head_reason, next_reason, expected_past, nodes_reason, ceiling_reason, reason_from, as_plain, first_reason, verdict_of}
 use Rattle.tree_checker.specs.GapReasons.{gap_reason, gap_verdict_of}
 use Rattle.tree_checker.specs.Laws.{AcceptedWithNoReason, GapAcceptedWithNoReason}
-use Rattle.tree_checker.proofs.Paths.{is_path-Decides, starts-Decides}
+use Rattle.tree_checker.proofs.Paths.{is_path-Decides, is_legal-Decides, starts-Decides}
 use Rattle.tree_checker.proofs.Rates.{finds_one_rate}
 
 abbrev pub AllTrue : {W : Type 0} → List (Bool × W) → Type 0
@@ -105,6 +107,35 @@ module _ (p : Problem) (s : Standing) where
       let reference = and_from _ _ ((is_path-Decides p whole).1 extends.path) ((starts-Decides q whole).1 extends.front) in
       subst (λ o. AllTrue (tangent_tests p s q b whole o)) (sym found) (reference, (eq-eqb b (tangent_of p rate q whole) bound, (cut, tt)))
 
+  -- the test of whether a prefix has exchanges tells
+  has_exchanges-Decides : (q : List ℕ) → Decides (has_exchanges p q) (HasExchanges p q)
+  has_exchanges-Decides q = (
+    (λ h.
+        let parts = and_parts _ _ h in
+        let least = and_parts _ _ parts.0 in
+        record { periods = leb-true 4 p.horizon least.0; long = leb-true 2 (length q) least.1; short = ltb-true (length q) p.horizon parts.1 }),
+    (λ x. and_from _ _ (and_from _ _ (le-leb 4 p.horizon x.periods) (le-leb 2 (length q) x.long)) (lt-ltb (length q) p.horizon x.short)),
+  )
+
+  -- and that of whether a position may take the place of the last but one
+  takes_place-Decides : (q : List ℕ) (u : ℕ) → Decides (takes_place p q u) (TakesPlace p q u)
+  takes_place-Decides q u =
+      let old : ℕ = slice_index q (length q - 2) in (
+        (λ h.
+            let parts = and_parts _ _ h in
+            record { other = λ same. true≢false (sym (eq-eqb u old same) ∙ not-true _ parts.0); legal = (is_legal-Decides p (exchanged u q)).0 parts.1 }),
+        (λ x. and_from _ _ (ap not (ne_eqb u old x.other)) ((is_legal-Decides p (exchanged u q)).1 x.legal)),
+      )
+
+  -- so an exchange passes its tests exactly where it is good
+  good_exchange : (q : List ℕ) (b u : ℕ) → AllTrue (exchange_tests p q b u) → IsGoodKind p s q (Exchange b u)
+  good_exchange q b u h =
+      ((has_exchanges-Decides q).0 h.0, (takes_place-Decides q u).0 h.1.0, eqb-true b (exchange_of p q (exchanged u q)) h.1.1.0, h.1.1.1.0)
+
+  exchange_good : (q : List ℕ) (b u : ℕ) → IsGoodKind p s q (Exchange b u) → AllTrue (exchange_tests p q b u)
+  exchange_good q b u (asked, takes, bound, cut) =
+      ((has_exchanges-Decides q).1 asked, ((takes_place-Decides q u).1 takes, (eq-eqb b (exchange_of p q (exchanged u q)) bound, (cut, tt))))
+
   pub good_kind : (q : List ℕ) (kind : Kind) → AllTrue (kind_tests p s q kind) → IsGoodKind p s q kind
   good_kind q Branch h = ltb-true (length q) p.horizon h.0
   good_kind q (Whole n) h = (eqb-true (length q) p.horizon h.0, eqb-true n (value_of p q) h.1.0, not-true _ h.1.1.0)
@@ -113,6 +144,7 @@ module _ (p : Problem) (s : Standing) where
       let tangent = good_tangent q b whole (one_rate_of p) refl h.1 in
       (ltb-true (length q) p.horizon h.0, tangent.0, tangent.1)
   good_kind q (Edge b) h = (ltb-true (length q) p.horizon h.0, eqb-true b (edge_of p q) h.1.0, h.1.1.0)
+  good_kind q (Exchange b u) h = good_exchange q b u h
 
   pub kind_good : (q : List ℕ) (kind : Kind) → IsGoodKind p s q kind → AllTrue (kind_tests p s q kind)
   kind_good q Branch h = (lt-ltb (length q) p.horizon h, tt)
@@ -120,6 +152,7 @@ module _ (p : Problem) (s : Standing) where
   kind_good q (Mean b) h = (lt-ltb (length q) p.horizon h.0, (eq-eqb b (mean_of p q) h.1, (h.2, tt)))
   kind_good q (Tangent b whole) h = (lt-ltb (length q) p.horizon h.0, tangent_good q b whole h.1 h.2)
   kind_good q (Edge b) h = (lt-ltb (length q) p.horizon h.0, (eq-eqb b (edge_of p q) h.1, (h.2, tt)))
+  kind_good q (Exchange b u) h = exchange_good q b u h
 
   -- a branch that passes its tests is shorter than the horizon
   pub short_branch : (q : List ℕ) (kind : Kind) → AllTrue (kind_tests p s q kind) → kind ≡ Branch → length q < p.horizon
@@ -128,6 +161,7 @@ module _ (p : Problem) (s : Standing) where
   short_branch q (Mean b) h e = cc
   short_branch q (Tangent b whole) h e = cc
   short_branch q (Edge b) h e = cc
+  short_branch q (Exchange b u) h e = cc
 
 module _ (numbers : Numbers) (p : Problem) (s : Standing) where
   good_open : (q : List ℕ) (kind : GapKind) → AllTrue (open_tests numbers p s q kind) → IsGoodOpenKind numbers p s q kind

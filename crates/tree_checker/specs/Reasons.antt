@@ -1,17 +1,18 @@
 -- The first reason against a plan or a gap plan, with the line of its text. A plan is seen here as the gap plan of its records, in which
 -- no node waits; specs/Records.antt says the same record by record.
-use Rattle.std.specs.Prelude.{ℕ, ◌+◌, Bool, true, false, not, ◌&&◌, ◌==◌, nat_eq, nat_lt, if◌then◌else◌, List, [], ◌∷◌, ◌++◌, map, length, Option, Some, None}
+use Rattle.std.specs.Prelude.{ℕ, ◌+◌, ◌-◌, Bool, true, false, not, ◌&&◌, ◌==◌, nat_eq, nat_le, nat_lt, if◌then◌else◌, List, [], ◌∷◌, ◌++◌, map, length, slice_index, Option, Some, None}
 use Rattle.std.specs.List.{list_any, starts_with}
 use Rattle.std.specs.Option.{option_or, option_map}
 use Rattle.search_grid.specs.Moves.{moves_from}
 use Rattle.search_model.specs.declared.standing.Standing.{Standing}
 use Rattle.search_model.specs.Problem.{Problem}
 use Rattle.search_model.specs.Tracks.{value_of, whole_weight}
-use Rattle.search_model.specs.Order.{smaller, better}
+use Rattle.search_model.specs.Order.{smaller, better, standing_of}
 use Rattle.search_model.specs.Bounds.{greatest, mean_of, tangent_of}
 use Rattle.search_model.specs.Edge.{edge_of}
+use Rattle.search_model.specs.Exchange.{exchange_of}
 use Rattle.bound_tree.specs.declared.node.Kind.{Kind}
-use Rattle.bound_tree.specs.declared.node.Kind.TheVariants.{Branch, Whole, Mean, Tangent, Edge}
+use Rattle.bound_tree.specs.declared.node.Kind.TheVariants.{Branch, Whole, Mean, Tangent, Edge, Exchange}
 use Rattle.bound_tree.specs.declared.plan.Plan.{Plan}
 use Rattle.bound_tree.specs.declared.gap.Numbers.{Numbers}
 use Rattle.bound_tree.specs.declared.gap.Numbers.TheVariants.{Means}
@@ -20,6 +21,7 @@ use Rattle.bound_tree.specs.declared.gap.GapKind.TheVariants.{Closed, Waiting}
 use Rattle.bound_tree.specs.declared.gap.GapNode.{GapNode}
 use Rattle.bound_tree.specs.declared.gap.GapPlan.{GapPlan}
 use Rattle.bound_tree.specs.Cut.{is_cut, times}
+use Rattle.bound_tree.specs.Exchanges.{exchanged}
 use Rattle.bound_tree.specs.Accepts.{expected_by}
 use Rattle.bound_tree.specs.Gaps.{shape_of_kind, ceiling_of, open_numbers, gap_of}
 use Rattle.tree_checker.specs.Rate.{one_rate_of}
@@ -50,6 +52,10 @@ follows rows a (b ∷ q) = list_any (nat_eq b) (moves_from rows a) && follows ro
 abbrev pub is_path : Problem → List ℕ → Bool
 is_path p q = length q == p.horizon && follows p.moves p.start q
 
+-- whether a prefix is legal
+abbrev pub is_legal : Problem → List ℕ → Bool
+is_legal p q = nat_le (length q) p.horizon && follows p.moves p.start q
+
 -- the tests of the path line
 abbrev pub path_tests : Problem → List ℕ → List Test
 path_tests p q = (is_path p q, PathIllegal) ∷ []
@@ -69,6 +75,20 @@ tangent_tests p s q b whole None = (false, NoOneRate) ∷ []
 tangent_tests p s q b whole (Some rate) =
     (is_path p whole && starts_with nat_eq whole q, ReferenceWrong) ∷ bound_tests (times p.sweep.denominator s) q b (tangent_of p rate q whole)
 
+-- whether a prefix is asked for one that stands in for it
+abbrev pub has_exchanges : Problem → List ℕ → Bool
+has_exchanges p q = nat_le 4 p.horizon && nat_le 2 (length q) && nat_lt (length q) p.horizon
+
+-- whether position u may take the place of a prefix's last but one
+abbrev pub takes_place : Problem → List ℕ → ℕ → Bool
+takes_place p q u = not (u == slice_index q (length q - 2)) && is_legal p (exchanged u q)
+
+-- the tests of an exchange at a prefix with position u in place of its last but one: there are exchanges, u takes that place,
+-- the bound is that over the prefix with u, and this, with its value, cuts it, whatever the plan's standing is
+abbrev pub exchange_tests : Problem → List ℕ → ℕ → ℕ → List Test
+exchange_tests p q b u =
+    (has_exchanges p q, WholeWrong) ∷ (takes_place p q u, ReferenceWrong) ∷ bound_tests (standing_of p (exchanged u q)) q b (exchange_of p q (exchanged u q))
+
 -- the tests of a kind at a prefix, under the plan's standing
 abbrev pub kind_tests : Problem → Standing → List ℕ → Kind → List Test
 kind_tests p s q Branch = (nat_lt (length q) p.horizon, WholeWrong) ∷ []
@@ -77,6 +97,7 @@ kind_tests p s q (Whole n) =
 kind_tests p s q (Mean b) = (nat_lt (length q) p.horizon, WholeWrong) ∷ bound_tests s q b (mean_of p q)
 kind_tests p s q (Tangent b whole) = (nat_lt (length q) p.horizon, WholeWrong) ∷ tangent_tests p s q b whole (one_rate_of p)
 kind_tests p s q (Edge b) = (nat_lt (length q) p.horizon, WholeWrong) ∷ bound_tests s q b (edge_of p q)
+kind_tests p s q (Exchange b u) = exchange_tests p q b u
 
 -- the tests of where a record stands, by its prefix, where prefix q is expected: past both the prefix is q
 abbrev pub place_tests : List ℕ → List ℕ → List Test

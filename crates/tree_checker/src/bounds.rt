@@ -6,13 +6,14 @@ ghost use Rattle.bound_tree.specs.declared.node.Kind.{Kind};
 ghost use Rattle.bound_tree.specs.Close.{IsExact};
 ghost use Rattle.bound_tree.specs.Cut.{times};
 ghost use Rattle.tree_checker.specs.Rate.{one_rate_of};
-ghost use Rattle.tree_checker.specs.Reasons.{first_failed, bound_tests, kind_tests, tangent_tests};
+ghost use Rattle.tree_checker.specs.Reasons.{first_failed, bound_tests, kind_tests, tangent_tests, exchange_tests};
 ghost use Rattle.tree_checker.specs.Tables.{AreMadeFor};
 
-use crate::path_tests::is_path_from;
+use crate::path_tests::{has_exchanges, is_path_from, takes_place};
 use crate::tables::BoundTables;
 use crate::verdict::Why;
 use bound_tree::{cuts, in_parts};
+use exchange_bound::exchanged;
 use search_model::{Path, Scenario, Standing};
 
 // The first reason against a bound's number, where the right one is known.
@@ -127,4 +128,30 @@ pub(crate) fn tangent_reason(
     } else {
         Some(Why::WholeWrong)
     }
+}
+
+/// The first reason against an exchange at a legal prefix, with position `u` in place of its last but one. What comes of
+/// that is to cut the bound with its own value: the plan's path isn't asked.
+pub(crate) fn exchange_reason(
+    sc: &Scenario,
+    tables: &mut BoundTables,
+    prefix: &Path,
+    bound: u128,
+    u: u8,
+) -> Option<Why>
+    requires made { AreMadeFor sc.now tables.old }
+    requires legal { IsLegal sc.now prefix.now }
+    ensures reason { result ≡ first_failed (exchange_tests sc.now prefix.now bound u) }
+    ensures made { AreMadeFor sc.now tables.new }
+{
+    if !has_exchanges(sc, prefix) {
+        return Some(Why::WholeWrong);
+    }
+    let other = exchanged(prefix, u);
+    if !takes_place(sc, prefix, u, &other) {
+        return Some(Why::ReferenceWrong);
+    }
+    let value = tables.exchanged_value(sc, &other);
+    let right = tables.exchange_bound(sc, prefix, &other);
+    bound_reason(&Standing { path: other, value }, prefix, bound, right)
 }

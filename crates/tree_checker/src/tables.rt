@@ -6,6 +6,7 @@ ghost use Rattle.search_model.specs.Legal.{IsLegal, IsPath};
 ghost use Rattle.search_model.specs.Tracks.{value_of};
 ghost use Rattle.search_model.specs.Bounds.{mean_of, IsRate, tangent_of};
 ghost use Rattle.search_model.specs.Edge.{edge_of};
+ghost use Rattle.search_model.specs.Exchange.{exchange_of};
 ghost use Rattle.bound_tree.specs.Gaps.{ceiling_of};
 ghost use Rattle.tree_checker.specs.Rate.{one_rate_of};
 ghost use Rattle.tree_checker.specs.Tables.{AreMadeFor};
@@ -13,16 +14,19 @@ ghost use Rattle.tree_checker.specs.Tables.{AreMadeFor};
 use bound_tree::Numbers;
 use ceiling_bound::Ceilings;
 use exact_parts::NoMemory;
+use exchange_bound::ExchangeTables;
 use search_model::{Path, Scenario};
 use std::alloc::Global;
 use tangent_bound::TangentTables;
 
 /// The tables of the bounds. All values and bounds go by what the mean bound keeps: the positions within reach, and the
-/// beliefs, of which a prefix uses those of the part that it has in common with the one before it.
+/// beliefs, of which a prefix uses those of the part that it has in common with the one before it. The tables of exchanges
+/// keep beliefs of their own after what may stand in for a prefix, so that those of the mean bound stay at the prefix.
 #[derive(Drop)]
 pub(crate) struct BoundTables {
     pub(crate) ceilings: Ceilings,
     pub(crate) tangent: TangentTables,
+    pub(crate) exchange: ExchangeTables,
 }
 
 impl BoundTables {
@@ -31,8 +35,13 @@ impl BoundTables {
         ensures { IfOk result (AreMadeFor sc.now) }
     {
         let tangent = TangentTables::tables(alloc, sc)?;
+        let exchange = ExchangeTables::tables(alloc, sc)?;
         let ceilings = Ceilings::tables(alloc, sc)?;
-        Ok(BoundTables { ceilings, tangent })
+        Ok(BoundTables {
+            ceilings,
+            tangent,
+            exchange,
+        })
     }
 
     /// The value of a legal prefix.
@@ -109,5 +118,30 @@ impl BoundTables {
         ensures made { AreMadeFor sc.now self.new }
     {
         self.ceilings.edge_bound(sc, prefix)
+    }
+
+    /// The value of a legal prefix that may stand in for another.
+    pub(crate) fn exchanged_value(&mut self, sc: &Scenario, other: &Path) -> u128
+        requires made { AreMadeFor sc.now self.old }
+        requires legal { IsLegal sc.now other.now }
+        ensures value { result ≡ value_of sc.now other.now }
+        ensures made { AreMadeFor sc.now self.new }
+    {
+        self.exchange.value(sc, other)
+    }
+
+    /// The exchange bound of a legal prefix that is shorter than the horizon over another as long.
+    pub(crate) fn exchange_bound(&mut self, sc: &Scenario, prefix: &Path, other: &Path) -> u128
+        requires made { AreMadeFor sc.now self.old }
+        requires legal { IsLegal sc.now prefix.now }
+        requires open { length prefix.now < sc.now.horizon }
+        requires other { IsLegal sc.now other.now }
+        requires long { length other.now ≡ length prefix.now }
+        ensures value { result ≡ exchange_of sc.now prefix.now other.now }
+        ensures made { AreMadeFor sc.now self.new }
+    {
+        self.ceilings.mean.go_to(sc, prefix);
+        let (near, onward) = (self.ceilings.mean.near(), self.ceilings.mean.onward());
+        self.exchange.bound(sc, near, onward, prefix, other)
     }
 }

@@ -16,15 +16,17 @@ pub enum Why {
     NotChild,
     /// The record's prefix is greater than the expected one, or the records end before it.
     MissingChild,
-    /// A whole path is shorter than the horizon or has another value, or another record is as long as the horizon.
+    /// A whole path is shorter than the horizon or has another value, or another record is as long as the horizon; or an
+    /// exchange stands where there is none: the horizon is below 4, or the prefix has fewer than two positions.
     WholeWrong,
     /// The bound isn't that of the prefix.
     BoundWrong,
-    /// The record leaves something better than the plan's path.
+    /// The record leaves something better than the plan's path, or than the prefix of an exchange that is to be better.
     NotCut,
     /// A tangent where looks don't have one rate.
     NoOneRate,
-    /// The path of a tangent isn't a path that begins with the prefix.
+    /// The path of a tangent isn't a path that begins with the prefix, or the position of an exchange stands in the prefix
+    /// there, or makes it illegal.
     ReferenceWrong,
 }
 
