@@ -1,5 +1,5 @@
 -- The nodes of a search in preorder, with their numbers, make an accepted gap plan.
-use Rattle.std.proofs.Common.{◌≡◌, ℕ, ◌+◌, ◌*◌, ◌<◌, ◌≤◌, Bool, true, false, cond, List, [], ◌∷◌, ◌++◌, map, length, sym, refl, ap, ◌∙◌, subst, arith, length-append, All, IsPermutation, sum_by}
+use Rattle.std.proofs.Common.{◌≡◌, ℕ, ◌+◌, ◌*◌, ◌<◌, ◌≤◌, Bool, true, false, cond, List, [], ◌∷◌, ◌++◌, map, length, inl, inr, sym, refl, ap, ◌∙◌, subst, arith, length-append, All, IsPermutation, sum_by}
 use Rattle.std.specs.Prelude.{nat_lt}
 use Rattle.std.specs.List.Sorted.{IsSortedBy}
 use Rattle.std.proofs.lemmas.Bool.{cond_both}
@@ -15,7 +15,7 @@ use Rattle.search_model.specs.Tracks.{value_of, whole_weight}
 use Rattle.search_model.specs.Bounds.{greatest}
 use Rattle.search_model.specs.Order.{smaller}
 use Rattle.search_model.proofs.Children.{few_moves}
-use Rattle.bound_tree.specs.declared.node.Kind.TheVariants.{Branch, Whole, Mean, Tangent, Edge}
+use Rattle.bound_tree.specs.declared.node.Kind.TheVariants.{Branch}
 use Rattle.bound_tree.specs.declared.node.TreeNode.{TreeNode}
 use Rattle.bound_tree.specs.declared.gap.Numbers.{Numbers}
 use Rattle.bound_tree.specs.declared.gap.GapKind.{GapKind}
@@ -29,6 +29,7 @@ use Rattle.bound_tree.specs.Places.{opened_by, AreInPlace}
 use Rattle.bound_tree.proofs.Placing.{placed_are_legal}
 use Rattle.search_core.specs.Balance.{MeetsEquation}
 use Rattle.search_core.specs.Laws.{BranchesAreShort}
+use Rattle.search_core.proofs.Children.{branch_or_leaf}
 use Rattle.search_core.proofs.Preorder.{good_are_short, balanced_is_placed}
 use Rattle.tree_gather.proofs.Sorted.{sorted_is_gathered}
 use Rattle.gap_plan.specs.Nodes.{waiting_node, nodes_of, numbered, record_at, closed_in}
@@ -108,14 +109,14 @@ module _ (numbers : Numbers) (p : Problem) (s : Standing) (closed : List TreeNod
 
       -- each closed node opens at most 64 prefixes, and a waiting one none
       few_opened : (q : List ℕ) (kind : GapKind) → IsLegal p q → length (opened_by p q (shape_of_kind kind)) ≤ 64 * length (record_at q kind)
-      few_opened q (Closed Branch) legal =
-          cond_both (nat_lt (length q) p.horizon) (children_of p q) [] (λ (qs : List (List ℕ)). length qs ≤ 64 * 1)
-          (λ _. let few = few_moves p q sound legal in let size : length (children_of p q) ≡ length (moves_after p q) = length-map (moves_after p q) (λ a. q ++ a ∷ []) in omega (arith, few, size))
-          (λ _. omega arith)
-      few_opened q (Closed (Whole n)) legal = omega (arith, none_opened (nat_lt (length q) p.horizon))
-      few_opened q (Closed (Mean b)) legal = omega (arith, none_opened (nat_lt (length q) p.horizon))
-      few_opened q (Closed (Tangent b whole)) legal = omega (arith, none_opened (nat_lt (length q) p.horizon))
-      few_opened q (Closed (Edge b)) legal = omega (arith, none_opened (nat_lt (length q) p.horizon))
+      few_opened q (Closed kind) legal = elim (branch_or_leaf kind) [
+        | inl branch ↦
+            rw branch
+            (cond_both (nat_lt (length q) p.horizon) (children_of p q) [] (λ (qs : List (List ℕ)). length qs ≤ 64 * 1)
+            (λ _. let few = few_moves p q sound legal in let size : length (children_of p q) ≡ length (moves_after p q) = length-map (moves_after p q) (λ a. q ++ a ∷ []) in omega (arith, few, size))
+            (λ _. omega arith))
+        | inr leaf ↦ rw (leaf p q) (omega (arith, none_opened (nat_lt (length q) p.horizon)))
+      ]
       few_opened q (Waiting n) legal = omega (arith, none_opened (nat_lt (length q) p.horizon))
 
       few_by_nodes : (some : List GapNode) → All (λ node. IsLegal p node.prefix) some → sum_by (opened_number p) (shapes_of some) ≤ 64 * length (closed_in some)

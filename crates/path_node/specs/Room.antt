@@ -5,12 +5,14 @@ use Rattle.search_model.specs.Bounds.{IsRate}
 use Rattle.mean_bound.specs.Means.{MeanState, IsMadeFor as IsMeanFor}
 use Rattle.tangent_bound.specs.Room.{TangentRoom, AreTablesFor as AreTangentTablesFor}
 use Rattle.edge_bound.specs.Edges.{EdgeRoom, AreTablesFor as AreEdgeTablesFor}
+use Rattle.exchange_bound.specs.Exchanges.{ExchangeState, IsMadeFor as IsExchangeFor}
 
 -- the tables of the bounds
 pub record NodeTables : Type 0 where
   pub mean : MeanState
   pub tangent : TangentRoom
   pub edge : EdgeRoom
+  pub exchange : ExchangeState
 
 -- whether a problem has one rate
 abbrev pub TellsRate : Problem → Bool → Type 0
@@ -22,3 +24,4 @@ pub record IsMadeFor (p : Problem) (s : NodeTables) : Type 0 where
   pub mean : IsMeanFor p s.mean
   pub tangent : AreTangentTablesFor p s.tangent
   pub edge : AreEdgeTablesFor p s.edge
+  pub exchange : IsExchangeFor p s.exchange

@@ -4,6 +4,7 @@ ghost use Rattle.std.specs.Prelude.{◌≡◌, ◌<◌, ◌≤◌, ◌+◌, ℕ,
 ghost use Rattle.search_model.specs.Problem.{Problem};
 ghost use Rattle.search_model.specs.Legal.{IsLegal, moves_after};
 ghost use Rattle.search_model.specs.Bounds.{IsRate, mean_of, tangent_of};
+ghost use Rattle.search_model.specs.Edge.{edge_of};
 ghost use Rattle.search_model.specs.Reference.{IsReference};
 ghost use Rattle.bound_tree.specs.Close.{IsClosed, IsExact, IsAtLeast, IsLeftOpen};
 ghost use Rattle.bound_tree.specs.Cut.{is_cut};
@@ -14,6 +15,7 @@ ghost use Rattle.path_node.specs.Room.{IsMadeFor, TellsRate};
 use bound_tree::{Kind, TreeNode, cuts, in_parts};
 use edge_bound::EdgeTables;
 use exact_parts::NoMemory;
+use exchange_bound::ExchangeTables;
 use mean_bound::Mean;
 use scout_path::scout;
 use search_model::{Path, Scenario, Standing};
@@ -28,6 +30,7 @@ pub struct Scratch {
     mean: Mean,
     tangent: TangentTables,
     edge: EdgeTables,
+    exchange: ExchangeTables,
 }
 
 impl Model for Scratch {
@@ -35,7 +38,7 @@ impl Model for Scratch {
 
     ghost Value = { NodeTables };
 
-    ghost view = { λ s. record { mean = s.mean; tangent = s.tangent; edge = s.edge } };
+    ghost view = { λ s. record { mean = s.mean; tangent = s.tangent; edge = s.edge; exchange = s.exchange } };
 }
 
 // Whether the looks of the scenario that the tables of a tangent bound were made for have one rate, which they keep.
@@ -51,12 +54,14 @@ impl Scratch {
         ensures { IfOk result (IsMadeFor sc.now) }
     {
         let edge = EdgeTables::tables(alloc, sc)?;
+        let exchange = ExchangeTables::tables(alloc, sc)?;
         let tangent = TangentTables::tables(alloc, sc)?;
         let mean = Mean::tables(alloc, sc)?;
         Ok(Scratch {
             mean,
             tangent,
             edge,
+            exchange,
         })
     }
 
@@ -82,6 +87,28 @@ fn reference_of(mean: &Mean, sc: &Scenario, prefix: &Path) -> Path
     let mut reference = *prefix;
     mean.reference(sc, &mut reference);
     reference
+}
+
+// Closes a prefix whose bounds the standing leaves open, whichever it is: by the best of the prefixes that stand in for it,
+// where it is asked for one.
+fn close_by_exchange(scratch: &mut Scratch, sc: &Scenario, prefix: &Path) -> Kind
+    requires made { IsMadeFor sc.now scratch.old }
+    requires there { IsAlong prefix.now scratch.old.mean }
+    requires legal { IsLegal sc.now prefix.now }
+    requires shorter { length prefix.now < sc.now.horizon }
+    ensures closed { (s : Standing) → IsLeftOpen sc.now s prefix.now → IsFalse (is_cut (edge_of sc.now prefix.now) prefix.now s) →
+        IsClosed sc.now s prefix.now result }
+    ensures made { IsMadeFor sc.now scratch.new }
+{
+    if sc.horizon() < 4 || prefix.len() < 2 {
+        return Kind::Branch;
+    }
+    let near = scratch.mean.near();
+    let onward = scratch.mean.onward();
+    match scratch.exchange.best_stand_in(sc, near, onward, prefix) {
+        Some(found) => Kind::Exchange(found.bound, found.position),
+        None => Kind::Branch,
+    }
 }
 
 // Closes a prefix that neither its mean bound nor a tangent bound rules out: by its edge bound, if the standing cuts
@@ -113,7 +140,7 @@ fn close_by_edge(
     if cuts(standing, edge, prefix) {
         Kind::Edge(edge)
     } else {
-        Kind::Branch
+        close_by_exchange(scratch, sc, prefix)
     }
 }
 
@@ -246,8 +273,9 @@ fn close_shorter(scratch: &mut Scratch, sc: &Scenario, prefix: &Path, standing: 
 
 /// The record of a legal prefix, closed under a standing: a path by its value; a shorter prefix by its mean bound
 /// (Martins 1993) where the standing cuts that, else by its tangent bound where the looks have one rate and the standing
-/// cuts it, else by its edge bound where the standing cuts that, and else it branches. A bound is computed only where
-/// those before it rule nothing out. Takes no memory.
+/// cuts it, else by its edge bound where the standing cuts that, else, where it has two positions and the horizon is 4 or
+/// more, by the best of the prefixes that stand in for it with another position in place of its last but one, and else it
+/// branches. A bound is computed only where those before it rule nothing out. Takes no memory.
 pub fn close(scratch: &mut Scratch, sc: &Scenario, prefix: &Path, standing: &Standing) -> TreeNode
     requires made { IsMadeFor sc.now scratch.old }
     requires legal { IsLegal sc.now prefix.now }

@@ -1,5 +1,5 @@
 -- The children of Branch records, counted.
-use Rattle.std.proofs.Common.{◌≡◌, ◌≢◌, ℕ, ◌+◌, ◌≤◌, ◌<◌, List, [], ◌∷◌, ◌++◌, map, length, inl, inr, sym, refl, ap, subst, arith, Contains, bytes_eq}
+use Rattle.std.proofs.Common.{◌≡◌, ◌≢◌, ◌⊎◌, ℕ, ◌+◌, ◌≤◌, ◌<◌, List, [], ◌∷◌, ◌++◌, map, length, inl, inr, sym, refl, ap, subst, arith, Contains, bytes_eq}
 use Rattle.std.proofs.lemmas.Bool.{cond_both, cases_lt}
 use Rattle.std.proofs.lemmas.List.{same_from_push, get_or_past}
 use Rattle.std.proofs.lemmas.List.Elements.{All-contains}
@@ -11,7 +11,7 @@ use Rattle.search_model.specs.Problem.{Problem, IsProblem}
 use Rattle.search_model.specs.Legal.{last_of, moves_after}
 use Rattle.list_laws.proofs.Members.{Contains-nil, Contains-map_cases}
 use Rattle.bound_tree.specs.declared.node.Kind.{Kind}
-use Rattle.bound_tree.specs.declared.node.Kind.TheVariants.{Branch, Whole, Mean, Tangent, Edge}
+use Rattle.bound_tree.specs.declared.node.Kind.TheVariants.{Branch, Whole, Mean, Tangent, Edge, Exchange}
 use Rattle.bound_tree.specs.declared.node.TreeNode.{TreeNode}
 use Rattle.bound_tree.specs.Accepts.{prefixes_of}
 use Rattle.bound_tree.specs.Accepts.{expected_by}
@@ -45,14 +45,24 @@ pub no_push : (q : List ℕ) (d : ℕ) → q ++ d ∷ [] ≢ []
 no_push [] d e = cc
 no_push (x ∷ q) d e = cc
 
--- the children of a branch, by cases of the kind
+-- a kind is a Branch, or makes nothing expected
+pub branch_or_leaf : (kind : Kind) → (kind ≡ Branch) ⊎ ((p : Problem) (q : List ℕ) → expected_by p q kind ≡ [])
+branch_or_leaf Branch = inl refl
+branch_or_leaf (Whole n) = inr (λ p q. refl)
+branch_or_leaf (Mean b) = inr (λ p q. refl)
+branch_or_leaf (Tangent b whole) = inr (λ p q. refl)
+branch_or_leaf (Edge b) = inr (λ p q. refl)
+branch_or_leaf (Exchange b u) = inr (λ p q. refl)
+
+-- only a branch makes prefixes expected, its children
 pub expected_cases : (p : Problem) (q : List ℕ) (kind : Kind) (r : List ℕ) → Contains (expected_by p q kind) r →
     (kind ≡ Branch) × (d : ℕ) × Contains (moves_after p q) d × (q ++ d ∷ [] ≡ r)
-expected_cases p q Branch r h = let found = Contains-map_cases (λ d. q ++ d ∷ []) (moves_after p q) r h in (refl, found.0, found.1, found.2)
-expected_cases p q (Whole n) r h = absurd (Contains-nil r h)
-expected_cases p q (Mean b) r h = absurd (Contains-nil r h)
-expected_cases p q (Tangent b whole) r h = absurd (Contains-nil r h)
-expected_cases p q (Edge b) r h = absurd (Contains-nil r h)
+expected_cases p q kind r h = elim (branch_or_leaf kind) [
+  | inl branch ↦
+      let found = Contains-map_cases (λ d. q ++ d ∷ []) (moves_after p q) r (subst (λ (k : Kind). Contains (expected_by p q k) r) branch h) in
+      (branch, found.0, found.1, found.2)
+  | inr leaf ↦ absurd (Contains-nil r (subst (λ qs. Contains qs r) (leaf p q) h))
+]
 
 -- a child stands at most once among its siblings, and among no others' children
 children_once : (p q ds : List ℕ) (d : ℕ) → Rises ds → count_of (q ++ d ∷ []) (map (λ e. p ++ e ∷ []) ds) ≤ count_of q (p ∷ [])
@@ -81,11 +91,10 @@ module _ (p : Problem) where
   prefixes-append q (r ∷ rs) ss = omega (arith, prefixes-append q rs ss)
 
   expected_once : IsProblem p → (q : List ℕ) (kind : Kind) (r : List ℕ) (d : ℕ) → count_of (r ++ d ∷ []) (expected_by p q kind) ≤ count_of r (q ∷ [])
-  expected_once sound q Branch r d = children_once q r (moves_after p q) d (moves_rise p q sound)
-  expected_once sound q (Whole n) r d = omega arith
-  expected_once sound q (Mean b) r d = omega arith
-  expected_once sound q (Tangent b whole) r d = omega arith
-  expected_once sound q (Edge b) r d = omega arith
+  expected_once sound q kind r d = elim (branch_or_leaf kind) [
+    | inl branch ↦ rw branch (children_once q r (moves_after p q) d (moves_rise p q sound))
+    | inr leaf ↦ rw (leaf p q) (omega arith)
+  ]
 
   -- a child is expected at most as often as its front has a record
   pub expected_by_records : IsProblem p → (rs : List TreeNode) (q : List ℕ) (d : ℕ) → count_of (q ++ d ∷ []) (expected_of p rs) ≤ count_of q (prefixes_of rs)

@@ -8,7 +8,7 @@ use Rattle.search_model.specs.Tracks.{value_of}
 use Rattle.search_model.specs.Bounds.{mean_of}
 use Rattle.search_model.specs.Edge.{edge_of}
 use Rattle.bound_tree.specs.declared.node.Kind.{Kind}
-use Rattle.bound_tree.specs.declared.node.Kind.TheVariants.{Branch, Whole, Mean, Tangent, Edge}
+use Rattle.bound_tree.specs.declared.node.Kind.TheVariants.{Branch, Whole, Mean, Tangent, Edge, Exchange}
 use Rattle.bound_tree.specs.Accepts.{IsGoodKind, Extends}
 use Rattle.bound_tree.specs.Close.{IsTangent, IsLeftOpen, IsClosed, IsExact, IsAtLeast}
 use Rattle.bound_tree.specs.Cut.{is_cut, times}
@@ -34,6 +34,7 @@ good_at_least p s t q (Mean b) sound least good = (good.0, good.1, cut_at_least 
 good_at_least p s t q (Tangent b whole) sound least good =
     (good.0, good.1, finer_cut_stays p.sweep.denominator b q s t sound.sweep.denominator.0 least good.2)
 good_at_least p s t q (Edge b) sound least good = (good.0, good.1, cut_at_least b q s t least good.2)
+good_at_least p s t q (Exchange b u) sound least good = good
 
 -- what branches is shorter than the horizon
 pub short_from_branch : (p : Problem) (s : Standing) (q : List ℕ) → IsProblem p → IsLegal p q → IsClosed p s q Branch → length q < p.horizon
@@ -61,7 +62,7 @@ empty_branches p s sound exact =
       mean = enough_is_open (mean_of p []) s mean;
       tangent = λ b whole tangent. enough_is_open b (times p.sweep.denominator s) (finer b whole tangent);
     } in
-    (some, left, enough_is_open (edge_of p []) s edge)
+    (some, left, enough_is_open (edge_of p []) s edge, λ has. absurd (omega (arith, has.long)))
 
 -- a path is closed by its value under every standing
 pub path_is_whole : (p : Problem) (s : Standing) (q : List ℕ) (n : ℕ) → IsPath p q → n ≡ value_of p q → IsClosed p s q (Whole n)

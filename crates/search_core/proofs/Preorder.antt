@@ -11,7 +11,7 @@ use Rattle.search_model.specs.Order.{smaller}
 use Rattle.list_laws.proofs.Members.{Contains-map, Contains-map_cases, Contains-cons_cases, Contains-flat_map_cases}
 use Rattle.search_model.proofs.Orders.{smaller_irreflexive, smaller_one_way, smaller_prefix, smaller_at}
 use Rattle.bound_tree.specs.declared.node.Kind.{Kind}
-use Rattle.bound_tree.specs.declared.node.Kind.TheVariants.{Branch, Whole, Mean, Tangent, Edge}
+use Rattle.bound_tree.specs.declared.node.Kind.TheVariants.{Branch}
 use Rattle.bound_tree.specs.declared.node.TreeNode.{TreeNode}
 use Rattle.bound_tree.specs.Accepts.{prefixes_of}
 use Rattle.bound_tree.specs.Accepts.{children_of, expected_by, IsGoodKind, IsGood}
@@ -22,7 +22,7 @@ use Rattle.search_core.specs.Balance.{expected_of}
 use Rattle.search_core.specs.Laws.{IsPreorder, BranchesAreShort, BalancedIsPlaced, BalancedIsAccepted}
 use Rattle.search_core.proofs.Counts.{count_of-append, count_of_here, Contains-counted}
 use Rattle.search_core.proofs.Order.{IsAbove}
-use Rattle.search_core.proofs.Children.{Rises, moves_rise, expected_cases}
+use Rattle.search_core.proofs.Children.{Rises, moves_rise, branch_or_leaf, expected_cases}
 
 -- all that begins with q is smaller than r
 abbrev Before : List ℕ → List ℕ → Type 0
@@ -62,21 +62,20 @@ IsShort p r = r.kind ≡ Branch → length r.prefix < p.horizon
 
 -- it makes the same expected whether its length is asked for or not
 opened_by_short : (p : Problem) (q : List ℕ) (kind : Kind) → (kind ≡ Branch → length q < p.horizon) → opened_by p q kind ≡ expected_by p q kind
-opened_by_short p q Branch short = rw (lt-ltb (length q) p.horizon (short refl)) refl
-opened_by_short p q (Whole n) short = nothing_either_way (nat_lt (length q) p.horizon)
-opened_by_short p q (Mean b) short = nothing_either_way (nat_lt (length q) p.horizon)
-opened_by_short p q (Tangent b whole) short = nothing_either_way (nat_lt (length q) p.horizon)
-opened_by_short p q (Edge b) short = nothing_either_way (nat_lt (length q) p.horizon)
+opened_by_short p q kind short = elim (branch_or_leaf kind) [
+  | inl branch ↦ rw (lt-ltb (length q) p.horizon (short branch)) refl
+  | inr leaf ↦ rw (leaf p q) (nothing_either_way (nat_lt (length q) p.horizon))
+]
 
 module _ (p : Problem) (sound : IsProblem p) where
   expected_ordered : (q : List ℕ) (kind : Kind) (qs : List (List ℕ)) → AreOrdered (q ∷ qs) → AreOrdered (expected_by p q kind ++ qs)
-  expected_ordered q Branch qs h =
-      AllPairs-append Before (children_of p q) qs (children_ordered q (moves_after p q) (moves_rise p q sound)) (AllPairs-tail Before q qs h)
-      (children_before q (moves_after p q) qs (AllPairs-head Before q qs h))
-  expected_ordered q (Whole n) qs h = AllPairs-tail Before q qs h
-  expected_ordered q (Mean b) qs h = AllPairs-tail Before q qs h
-  expected_ordered q (Tangent b whole) qs h = AllPairs-tail Before q qs h
-  expected_ordered q (Edge b) qs h = AllPairs-tail Before q qs h
+  expected_ordered q kind qs h = elim (branch_or_leaf kind) [
+    | inl branch ↦
+        rw branch
+        (AllPairs-append Before (children_of p q) qs (children_ordered q (moves_after p q) (moves_rise p q sound)) (AllPairs-tail Before q qs h)
+        (children_before q (moves_after p q) qs (AllPairs-head Before q qs h)))
+    | inr leaf ↦ rw (leaf p q) (AllPairs-tail Before q qs h)
+  ]
 
   -- the first of a preorder is no one's child
   first_is_no_child : (r : TreeNode) (rs : List TreeNode) → FirstIsLeast r rs → Contains (expected_of p (r ∷ rs)) r.prefix → ⊥

@@ -62,7 +62,8 @@ fn moves_below<'a>(sc: &'a Scenario, node: &TreeNode) -> &'a [u8]
 {
     match node.kind {
         Kind::Branch => sc.moves_after(&node.prefix),
-        Kind::Whole(_) | Kind::Mean(_) | Kind::Tangent(..) | Kind::Edge(_) => &[],
+        Kind::Whole(_) | Kind::Mean(_) | Kind::Tangent(..) | Kind::Edge(_) | Kind::Exchange(..) =>
+            &[],
     }
 }
 

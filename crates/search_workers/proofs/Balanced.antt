@@ -1,15 +1,15 @@
 -- A worker's haul stays balanced.
-use Rattle.std.proofs.Common.{◌≡◌, ◌≢◌, ℕ, ◌+◌, List, [], ◌∷◌, ◌++◌, ap, refl, arith, IsPermutation}
+use Rattle.std.proofs.Common.{◌≡◌, ◌≢◌, ℕ, ◌+◌, List, [], ◌∷◌, ◌++◌, inl, inr, ap, arith, IsPermutation}
 use Rattle.search_model.specs.Problem.{Problem}
 use Rattle.bound_tree.specs.declared.node.Kind.{Kind}
-use Rattle.bound_tree.specs.declared.node.Kind.TheVariants.{Branch, Whole, Mean, Tangent, Edge}
+use Rattle.bound_tree.specs.declared.node.Kind.TheVariants.{Branch}
 use Rattle.bound_tree.specs.declared.node.TreeNode.{TreeNode}
 use Rattle.bound_tree.specs.Accepts.{expected_by, prefixes_of}
 use Rattle.steal_pool.specs.Kits.{KitView, put_of, taken_of}
 use Rattle.search_core.specs.Counts.{count_of, SameItems}
 use Rattle.search_core.specs.Balance.{expected_of}
 use Rattle.search_core.proofs.Counts.{count_of-append, SameItems-permutation}
-use Rattle.search_core.proofs.Children.{expected-append, prefixes-append}
+use Rattle.search_core.proofs.Children.{branch_or_leaf, expected-append, prefixes-append}
 use Rattle.tree_gather.specs.Hauls.{Haul, IsHaulBalanced}
 use Rattle.search_workers.specs.Desks.{DeskView}
 use Rattle.search_workers.specs.Steps.{Records, Stays}
@@ -102,11 +102,10 @@ closed_balanced p kit kit' d d' q kind ws balanced recorded place taken same =
 
 -- what doesn't branch expects nothing
 pub expects_nothing : (p : Problem) (q : List ℕ) (kind : Kind) → kind ≢ Branch → expected_by p q kind ≡ []
-expects_nothing p q Branch other = absurd (other refl)
-expects_nothing p q (Whole n) other = refl
-expects_nothing p q (Mean b) other = refl
-expects_nothing p q (Tangent b whole) other = refl
-expects_nothing p q (Edge b) other = refl
+expects_nothing p q kind other = elim (branch_or_leaf kind) [
+  | inl branch ↦ absurd (other branch)
+  | inr leaf ↦ leaf p q
+]
 
 -- after nothing was recorded
 pub stays_balanced : (p : Problem) (kit : KitView (List ℕ)) (d d' : DeskView) → IsHaulBalanced p (haul_of (record { kit = kit; desk = d })) → Stays d d' →

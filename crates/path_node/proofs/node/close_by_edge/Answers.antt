@@ -8,7 +8,6 @@ use Rattle.path_node.proofs.Cutting.{cut-within, above-open}
 use Rattle.mean_bound.specs.Means.{IsMadeFor as IsMeanFor, IsAlong}
 use Rattle.path_node.specs.Room.{NodeTables}
 use Rattle.path_node.proofs.node.close_by_edge.Goals as goal
-use Rattle.path_node.proofs.node.close_by_edge.Goals.{then-cuts, else-cuts}
 
 pub overflow_add-enough : goal.overflow_add-enough
 overflow_add-enough c = omega (arith, c.requires.exact.value, whole_weight-fits c.args.sc.now c.recall_sound.ensures)
@@ -16,25 +15,25 @@ overflow_add-enough c = omega (arith, c.requires.exact.value, whole_weight-fits 
 pub bound_or_enough-edge-requires-clause-path : goal.bound_or_enough-edge-requires-clause-path
 bound_or_enough-edge-requires-clause-path c = (reference_extends c.args.sc.now c.args.prefix.now c.recall_sound.ensures c.requires.legal c.args.reference.now c.requires.reference).path
 
-pub returns-clause-closed : goal.returns-clause-closed
-returns-clause-closed c =
+pub returns-then-cuts-clause-closed : goal.returns-then-cuts-clause-closed
+returns-then-cuts-clause-closed c =
+    let cut = sym c.cuts.ensures ∙ c.if-cuts.true in
+    let least = cut-within c.bound_or_enough-edge.result c.args.prefix.now c.args.standing.now cut in
+    (c.requires.shorter, c.requires.open, c.bound_or_enough-edge.ensures.bound (omega (arith, least)), cut)
+
+-- a number that shows the bound to be above the standing's value tells as much as the bound
+pub returns-else-cuts-clause-closed : goal.returns-else-cuts-clause-closed
+returns-else-cuts-clause-closed c =
     let p = c.args.sc.now in
     let q = c.args.prefix.now in
     let s = c.args.standing.now in
     let edge = c.bound_or_enough-edge.result in
-    elim c.if-cuts.branch [
-      | then-cuts w ↦
-          let cut = sym c.cuts.ensures ∙ w.if-cuts.true in
-          let least = cut-within edge q s cut in
-          rw w.result-is (c.requires.shorter, c.requires.open, c.bound_or_enough-edge.ensures.bound (omega (arith, least)), cut)
-      | else-cuts w ↦
-          let free : IsFalse (is_cut edge q s) = sym c.cuts.ensures ∙ w.if-cuts.false in
-          let left : IsFalse (is_cut (edge_of p q) q s) = elim (cases_lt edge (s.value + 1)) [
-            | inl below ↦ sym (ap (λ n. is_cut n q s) (c.bound_or_enough-edge.ensures.bound below)) ∙ free
-            | inr enough ↦ let above = c.bound_or_enough-edge.ensures.enough enough in above-open (edge_of p q) q s (omega (arith, above))
-          ] in
-          rw w.result-is (c.requires.shorter, c.requires.open, left)
-    ]
+    let free : IsFalse (is_cut edge q s) = sym c.cuts.ensures ∙ c.if-cuts.false in
+    let left : IsFalse (is_cut (edge_of p q) q s) = elim (cases_lt edge (s.value + 1)) [
+      | inl below ↦ sym (ap (λ n. is_cut n q s) (c.bound_or_enough-edge.ensures.bound below)) ∙ free
+      | inr enough ↦ let above = c.bound_or_enough-edge.ensures.enough enough in above-open (edge_of p q) q s (omega (arith, above))
+    ] in
+    c.close_by_exchange.ensures.closed s c.requires.open left
 
 pub bound_or_enough-edge-requires-clause-onward : goal.bound_or_enough-edge-requires-clause-onward
 bound_or_enough-edge-requires-clause-onward c =
